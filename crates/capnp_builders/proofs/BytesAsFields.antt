@@ -1,4 +1,5 @@
--- Bytes written over those of a segment, as fields of a byte each; and such fields one part after the other.
+-- Bytes that overwrite those of a segment, as fields of one byte each; and such fields split into
+-- consecutive parts.
 use Rattle.std.proofs.Common.{◌≡◌, ℕ, zero, suc, ◌+◌, ◌-◌, ◌*◌, ◌/◌, ◌%◌, ◌^◌, ◌<◌, ◌≤◌, min, List, [], ◌∷◌, length, get_or, set, take, replicate, Some, slice_get, refl, sym, ap, ap₂, ◌∙◌, arith, take-append-drop, set-set, length-take}
 use Rattle.std.proofs.Math.Nat.{mod-eq_of_lt}
 use Rattle.std.proofs.lemmas.List.{length-set, get_or-take, length-replicate}
@@ -14,14 +15,14 @@ use Rattle.capnp_copies.proofs.ElementsLaid.{get_or-zeros}
 use Rattle.capnp_builders.specs.Content.{content_byte, with_fields, fields_from}
 use Rattle.capnp_builders.proofs.ContentWritten.{fields_long}
 
--- the first of the fields apart
+-- the first of the fields by itself
 fields_front : (S : Segments) (s b w : ℕ) (f : ℕ → ℕ) (n : ℕ) → with_fields S s (fields_from b w f) (suc n) ≡ with_fields (with_field S s b w (f 0)) s (fields_from (b + w) w (λ i. f (suc i))) n
 fields_front S s b w f zero = ap (λ k. with_field S s k w (f 0)) (let e : b + 0 * w ≡ b = omega arith in e)
 fields_front S s b w f (suc n) =
     ap (λ (T : Segments). with_field T s (b + suc n * w) w (f (suc n))) (fields_front S s b w f n)
     ∙ ap (λ k. with_field (with_fields (with_field S s b w (f 0)) s (fields_from (b + w) w (λ i. f (suc i))) n) s k w (f (suc n))) (let e : b + suc n * w ≡ b + w + n * w = omega arith in e)
 
--- fields with the same numbers leave the same message
+-- fields with the same values leave the same message
 pub fields_same : (S : Segments) (s b w : ℕ) (f h : ℕ → ℕ) (n : ℕ) → ((i : ℕ) → i < n → f i ≡ h i) → with_fields S s (fields_from b w f) n ≡ with_fields S s (fields_from b w h) n
 fields_same S s b w f h zero e = refl
 fields_same S s b w f h (suc n) e =
@@ -35,7 +36,7 @@ fields_then S s b w f n (suc m) =
     ∙ ap (λ (T : Segments). with_field T s (b + (n + m) * w) w (f (n + m))) (fields_then S s b w f n m)
     ∙ ap (λ k. with_field (with_fields (with_fields S s (fields_from b w f) n) s (fields_from (b + n * w) w (λ i. f (n + i))) m) s k w (f (n + m))) (let e : b + (n + m) * w ≡ b + n * w + m * w = omega arith in e)
 
--- bytes written over others: the first, and then the rest
+-- bytes that overwrite others: the first, and then the rest
 over_first : (bs : List ℕ) (a x : ℕ) (xs : List ℕ) → a < length bs → overwritten bs a (x ∷ xs) ≡ overwritten (set bs a x) (suc a) xs
 over_first [] a x xs l = absurd (omega arith)
 over_first (b ∷ bs) zero x xs l = refl
@@ -88,7 +89,7 @@ zeros_as_fields S s b n =
     ap (with_fields S s (fields_from b 8 (λ i. get_or (replicate {A = ℕ} n 0) i 0))) (length-replicate n 0)
     ∙ fields_same S s b 8 (λ i. get_or (replicate {A = ℕ} n 0) i 0) (λ i. 0) n (λ i l. get_or-zeros n i)
 
--- the bytes of content: those that stand whole, the one that stands in part, and zeros
+-- the bytes of content: the whole ones, the one in part, and zeros
 pub whole_byte : (bits : ℕ) (bytes : List ℕ) (i : ℕ) → get_or bytes i 0 < 256 → i < bits / 8 → get_or bytes i 0 ≡ content_byte bits bytes i
 whole_byte bits bytes i small l =
     sym (ap (λ k. get_or bytes i 0 % 2 ^ k) (let e : min 8 (bits - 8 * i) ≡ 8 = omega (arith, l) in e) ∙ mod-eq_of_lt small)
@@ -103,7 +104,7 @@ front_as_content S s b bits n bytes small l long =
     ap (with_fields S s (fields_from b 8 (λ i. get_or (take n bytes) i 0))) (let e : length (take n bytes) ≡ n = omega (arith, length-take n bytes, long) in e)
     ∙ fields_same S s b 8 (λ i. get_or (take n bytes) i 0) (content_byte bits bytes) n (λ i m. get_or-take n bytes i 0 m ∙ whole_byte bits bytes i (small i) (omega (arith, l, m)))
 
--- The n bytes of a segment from word a on were written.
+-- The n bytes of segment id from word a on were written, with byte i as f i.
 abbrev pub Wrote : View → View → ℕ → ℕ → (ℕ → ℕ) → ℕ → Type 0
 Wrote old new id a f n = new ≡ record old { words = with_fields old.words id (fields_from (8 * a) 8 f) n }
 
@@ -119,7 +120,7 @@ wrote_next old one two id a f n at x e h same is =
     ∙ ap (λ (v : View). record v { words = with_field v.words id (8 * (a + at)) 8 x }) e
     ∙ ap₂ (λ (k y : ℕ). record old { words = with_field (with_fields old.words id (fields_from (8 * a) 8 f) n) id k 8 y }) (let q : 8 * (a + at) ≡ 8 * a + n * 8 = omega (arith, same) in q) is
 
--- zeros behind the bytes that hold something
+-- zeros after the bytes that hold something
 pub wrote_rest : (old two new : View) (id a bits n m at : ℕ) (bytes : List ℕ) → Wrote old two id a (content_byte bits bytes) (suc n) → new ≡ record two { words = with_fields two.words id (fields_from (8 * (a + at + 1)) 8 (λ i. 0)) (m - n - 1) } → at ≡ n → n ≡ bits / 8 → n < m → Wrote old new id a (content_byte bits bytes) m
 wrote_rest old two new id a bits n m at bytes e h same whole l =
     let f : ℕ → ℕ = content_byte bits bytes in

@@ -1,5 +1,6 @@
--- A struct that takes content is stored as one struct: its data is written, its pointers become null, and the first are filled. It is one that a pointer leads
--- to, or another that a value has, as an element of a list.
+-- A struct that takes content is stored as one struct: its data is written, its pointers become
+-- null, and the first of these are filled. A pointer leads to it, or it is part of a value, such as
+-- an element of a list.
 use Rattle.std.proofs.Common.{◌≡◌, inl, inr, ℕ, zero, suc, pred, ◌+◌, ◌-◌, ◌*◌, ◌/◌, ◌%◌, ◌^◌, ◌<◌, ◌≤◌, min, List, [], ◌∷◌, length, get_or, slice_index, refl, sym, ap, ap₂, ◌∙◌, subst, le_of_eq, arith}
 use Rattle.std.proofs.lemmas.Bool.{cases_eq}
 use Rattle.std.proofs.lemmas.List.{length-set}
@@ -29,14 +30,15 @@ use Rattle.capnp_builders.specs.Places.{struct_place}
 use Rattle.capnp_builders.proofs.StructPlaces.{StructStartsAt, struct_starts}
 use Rattle.capnp_making.specs.Memory.{start_of}
 
--- From S to R a place that leads to a gets another struct, and leads to a still.
+-- From S to R the value at a place that leads to a is replaced by another struct, and the place
+-- still leads to a.
 abbrev pub Turns : Segments → Segments → ℕ → ℕ → Target → Tree → Tree → Type 0
 Turns S R s p a t u = IsReplaced S R s p t u × Leads R s p a
 
 turns_again : {S R Q : Segments} {s p : ℕ} {a : Target} {t u w : Tree} → Turns S R s p a t u → Turns R Q s p a u w → Turns S Q s p a t w
 turns_again {S} {R} {Q} {s} {p} {a} {t} {u} {w} x y = (replaced_again S R Q s p t u w x.0 y.0, y.1)
 
--- where the pointer to a struct that is stored leads
+-- where the pointer to a stored struct leads
 leads_of : (S : Segments) (s p : ℕ) (ws : List ℕ) (ts : Trees) → IsStored S s p (Struct ws ts) → Leads S s p (target S s p) × ((target S s p).start + (length ws + count ts) ≤ length (segment S (target S s p).segment))
 leads_of S s p ws ts y = let m = y.means in leads_there m.0 m.1 m.2
   where
@@ -44,7 +46,7 @@ leads_of S s p ws ts y = let m = y.means in leads_there m.0 m.1 m.2
     leads_there n c (b, k, some, o, claim, words, all, g) =
         subst (λ (t : Target). Leads S s p t × (t.start + (length ws + count ts) ≤ length (segment S t.segment))) (sym (ap target_in o.leads_to.1)) (o.leads_to, claim)
 
--- a field of the data section is written
+-- writing a field of the data section
 field_put : (S : Segments) (s p : ℕ) (a : Target) (ws : List ℕ) (ts : Trees) (b w v : ℕ) → Holds (Struct ws) S s p a ts → b < 64 * length ws →
     Turns S (with_field S a.segment (64 * a.start + b) w v) s p a (Struct ws ts) (Struct (put_field ws b w v) ts)
 field_put S s p a ws ts b w v h l =
@@ -63,7 +65,7 @@ field_put S s p a ws ts b w v h l =
           (λ v r z m. put.kept v r (omega (arith, z, word_within a (length ws + count ts) at v r (omega arith) (omega (arith, l))))),
     )
 
--- bytes of the data words are written, one behind the other
+-- the data words after consecutive bytes were written
 abbrev put_bytes : List ℕ → (ℕ → ℕ) → ℕ → List ℕ
 put_bytes ws f zero = ws
 put_bytes ws f (suc n) = put_field (put_bytes ws f n) (n * 8) 8 (f n)
@@ -86,7 +88,8 @@ put_bytes-read ws f (suc n) i small fits l =
           other_stays vs (n * 8) 8 (f n) (8 * i) 8 there (small n) (inr (omega (arith, l, other))) ∙ put_bytes-read ws f n i small (omega (arith, fits)) (omega (arith, l, other)))
     ]
 
--- A place holds a value with a struct of d data words, from position c on, and of q pointers behind them: F ws ts, for these words and children.
+-- A place holds the value F ws ts, which has a struct whose d data words start at position c, with
+-- its q pointers after them; ws and ts are these words and children.
 pub record IsContent (F : List ℕ → Trees → Tree) (path : ℕ → List Step) (s p d q : ℕ) (a : Target) (c n : ℕ) : Type 0 where
   pub holder : (ws : List ℕ) → length ws ≡ d → IsHolder (F ws) path s p q a (c + d) n
   pub field :
@@ -130,7 +133,7 @@ cleared_first F path S R s p q a b o X (suc n) h y len fits (M, first, last) =
     turns_again before
     (holder_put F path M R s p q a b o (clear_first X n) n Null h (record { stored = before.0.stored; leads = before.1 }) (clear_first-count X n ∙ len) (omega (arith, fits)) (last (tree_at (clear_first X n) n)))
 
--- the children that are put one after the other in the stead of nulls
+-- children that replace nulls one after another
 put_behind : (X us : Trees) (x : Tree) (i : ℕ) → put_from (tree x X) (suc i) us ≡ tree x (put_from X i us)
 put_behind X no_trees x i = refl
 put_behind X (tree u us) x i =
@@ -155,14 +158,15 @@ up_to-put zero no_trees = refl
 up_to-put (suc n) no_trees = refl
 up_to-put n (tree u us) = ap (tree u) (up_to-put (pred n) us)
 
--- all of it, at the place of the pointer that leads to the struct
+-- all of this, at the place of the pointer that leads to the struct
 
 small_content : (bits : ℕ) (bytes : List ℕ) (i : ℕ) → content_byte bits bytes i < 2 ^ 8
 small_content bits bytes i =
     let k : ℕ = min 8 (bits - 8 * i) in
     omega (arith, mod_below (slice_index bytes i) (2 ^ k) (pow_pos k), pow-le-pow_right {n = 2} (omega arith) {i = k} {j = 8} (omega arith))
 
--- The value with data words vs and these children, and the words are those of the content.
+-- From S to R the value F ws ts becomes one with data words vs, which are those of the content, and
+-- with these children.
 abbrev pub HasTaken : (List ℕ → Trees → Tree) → Segments → Segments → ℕ → ℕ → ℕ → ℕ → Target → List ℕ → Trees → Trees → ℕ → List ℕ → Type 0
 HasTaken F S R s p d q a ws ts us bits bytes = (vs : List ℕ) × HoldContent vs d bits bytes × Turns S R s p a (F ws ts) (F vs (up_to q us))
 
@@ -191,7 +195,7 @@ filled F path S M R s p d q a c n ws ts us place bits bytes h y wide len (of_seg
       turns_again first (turns_again then (subst (λ X. Turns M R s p a (F vs (nulls q)) (F vs X)) (put_up_to q us few) last)),
     )
 
--- where the copy behind the first ones is refused
+-- the copy after the first ones is refused
 pub stopped : (F : List ℕ → Trees → Tree) (path : ℕ → List Step) (S M K R : Segments) (s p d q : ℕ) (a : Target) (c n : ℕ) (ws : List ℕ) (ts us : Trees) (place : StructPlace) (bits : ℕ) (bytes : List ℕ) → IsContent F path s p d q a c n → Holds (F ws) S s p a ts →
     length ws ≡ d → count ts ≡ q → StructStartsAt place a.segment c d q → TakesBytes S M place bits bytes → AreFilled M K place.segment place.pointers_at us → count us < q →
     IsReplaced K R place.segment (place.pointers_at + count us) Null Null → HasTaken F S R s p d q a ws ts us bits bytes

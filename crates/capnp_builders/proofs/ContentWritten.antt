@@ -1,4 +1,5 @@
--- Content written over the data section of a struct: how long the segments are then, and its bits.
+-- Content written over the data section of a struct: how long the segments are after that, and its
+-- bits.
 use Rattle.std.proofs.Common.{◌≡◌, ℕ, zero, suc, ◌+◌, ◌-◌, ◌*◌, ◌/◌, ◌%◌, ◌^◌, ◌<◌, min, bit_and, cond, nat_eq, List, length, get_or, refl, ap, ◌∙◌, le_trans, arith, Result, Ok, Err, IfOk, IfErr}
 use Rattle.std.proofs.Math.Nat.{mod-eq_of_lt}
 use Rattle.std.proofs.lemmas.Nat.{and_mask, pow_below}
@@ -16,7 +17,7 @@ use Rattle.capnp_copies.specs.Forms.{kept_each}
 use Rattle.capnp_readers.specs.declared.readers.struct_reader.StructPlace.{StructPlace}
 use Rattle.capnp_builders.specs.Content.{content_byte, with_fields, fields_from, with_content}
 
--- fields that are written change no length
+-- writing fields changes no length
 
 pub fields_long : (S : Segments) (s b w : ℕ) (f : ℕ → ℕ) (n v : ℕ) → length (segment (with_fields S s (fields_from b w f) n) v) ≡ length (segment S v)
 fields_long S s b w f zero v = refl
@@ -56,14 +57,15 @@ lowest (suc (suc y)) l = absurd (omega arith)
 pub bit_is : (x : ℕ) → cond (nat_eq (bit_and x 1) 1) 1 0 ≡ x % 2
 bit_is x = ap (λ y. cond (nat_eq y 1) 1 0) (and_mask x 1) ∙ lowest (x % 2) (omega arith)
 
--- the segments, once pointers are copied or one is refused
+-- the segments after pointers were copied or one was refused
 pub each_grows : (r : Reading) (n : ℕ) (c : Change) (result : Result (Unit {0}) ErrorKind) → IfOk result (λ _. CopiesChildren r n c) → IfErr result (CopiesFirst r n c) → Grows c.old.words c.new.words
 each_grows r n c (Ok x) copied refused = filled_grows c.old.words c.new.words c.segment c.at (kept_each c.form copied.children) copied.made
 each_grows r n c (Err k) copied refused =
     let first = filled_grows c.old.words refused.filled c.segment c.at refused.first refused.made in
     record { segments = le_trans first.segments refused.cleared.segments; words = λ v. le_trans (first.words v) (refused.cleared.words v) }
 
--- a struct lies in its segment still when its content was written, pointers became null, and the segments grew
+-- a struct is still inside its segment after its content was written, its pointers became null, and
+-- the segments grew
 pub content_inside : (S M R : Segments) (place : StructPlace) (bits : ℕ) (bytes : List ℕ) → IsPruned (with_content S place bits bytes) M → Grows M R → IsStructPlace S place → IsStructPlace R place
 content_inside S M R place bits bytes pruned grows (there, at_data, at_pointers) =
     let long = content_long S place bits bytes place.segment in

@@ -1,4 +1,4 @@
--- What a place holds once a value was copied to it: one that was null, or was cleared first.
+-- What a place holds after a value was copied to it, if it was null or was cleared first.
 use Rattle.std.proofs.Common.{◌≡◌, inl, inr, ℕ, ◌+◌, ◌<◌, ◌≤◌, zero, suc, List, length, refl, ◌∙◌, Result, Ok, Err, IfOk, IfErr, OnOk, OnErr, [], ◌∷◌, ap, sym, subst, arith}
 use Rattle.capnp_words.specs.declared.error.ErrorKind.{ErrorKind}
 use Rattle.capnp_words.specs.Meter.{Meter}
@@ -24,14 +24,14 @@ use Rattle.capnp_builders.specs.Kept.{PutsCopy, LeavesCleared, FillsSegment, Fil
 use Rattle.capnp_copies.proofs.Copying.{fresh_made}
 use Rattle.capnp_copies.proofs.Originals.{lacks_before}
 
--- a null pointer stores nothing else
+-- a null pointer stores only Null
 pub null_replaced : (S R : Segments) (s p : ℕ) (t : Tree) → IsPlace S s p → word_at S s p ≡ 0 → IsReplaced S R s p Null t → Puts S R s p t
 null_replaced S R s p t place null made = λ u stored.
     (let none = null_stored S s p place null in
     let same : u ≡ Null = (one_value S stored.means.0 none.means.0 s p u Null stored.means.1 none.means.1 stored.means.2 none.means.2).0 in
     subst (λ v. IsReplaced S R s p v t) (sym same) made)
 
--- a segment whose one word was null is the words of the copy
+-- if a segment's only word was null, its words are those of the copy
 pub fresh_copied : {X : Type 0} (o : Result X ErrorKind) (r : Reading) (c : Change) → IsPlace c.old.words c.segment c.at → segment c.old.words c.segment ≡ 0 ∷ [] → IfOk o (λ _. MakesCopy (value_original r) c) → IfOk o (λ _. FillsSegment r c)
 fresh_copied (Ok x) r c place one made = (made.value, made.is_read, λ fits. fresh_made c.old.words c.segment c.at (kept c.form made.value) (place, one) (made.stands fits))
 fresh_copied (Err k) r c place one made = tt
@@ -46,7 +46,7 @@ first_segment : (s p : ℕ) → IsPlace ((0 ∷ []) ∷ []) s p → s ≡ 0
 first_segment zero p place = refl
 first_segment (suc s) p place = absurd (omega (arith, place))
 
--- a message of one word that was null, and has one segment still, is the words of the copy
+-- if a message's only word was null, and it still has one segment, its words are those of the copy
 pub alone_copied : {X : Type 0} (o : Result X ErrorKind) (r : Reading) (c : Change) → IsPlace c.old.words c.segment c.at → c.old.words ≡ (0 ∷ []) ∷ [] → IfOk o (λ _. MakesCopy (value_original r) c) → IfOk o (λ _. FillsMessage r c)
 alone_copied (Ok x) r c place fresh copied =
     let first : c.segment ≡ 0 = first_segment c.segment c.at (subst (λ (S : Segments). IsPlace S c.segment c.at) fresh place) in
@@ -55,7 +55,7 @@ alone_copied (Ok x) r c place fresh copied =
     (made.0, made.1, λ one. only_segment c.new.words (encoding (kept c.form made.0)) one (subst (λ i. segment c.new.words i ≡ encoding (kept c.form made.0)) first (made.2 (inr one))))
 alone_copied (Err k) r c place fresh copied = tt
 
--- what an outcome gives
+-- what follows from a success
 pub on_ok : {X E : Type 0} (result : Result X E) (P Q : Type 0) → IfOk result (λ _. P) → (P → Q) → OnOk result Q
 on_ok (Ok x) P Q h f = f h
 on_ok (Err k) P Q h f = tt
@@ -67,12 +67,12 @@ on_err (Err k) P Q h f = f k h
 pub nothing_zeroed : (S : Segments) → IsPruned S S
 nothing_zeroed S = record { segments = refl; words = λ v. refl; only = λ v r. inl refl }
 
--- the segment of the place gets no shorter, whether the copy is made or refused
+-- the segment of the place becomes no shorter, whether the copy is made or refused
 pub grows_there : {X : Type 0} (result : Result X ErrorKind) (o : Original Tree) (c : Change) → IfOk result (λ _. MakesCopy o c) → IfErr result (StopsCopy o c Null) → length (segment c.old.words c.segment) ≤ length (segment c.new.words c.segment)
 grows_there (Ok x) o c copied refused = copied.made.words c.segment
 grows_there (Err k) o c copied refused = refused.left.words c.segment
 
--- what is refused once the place is cleared was refused before
+-- what is refused after the place is cleared was refused before
 
 pub words_refused_later : (a b c : View) (n : ℕ) (k : ErrorKind) → KeepsLimits a b → RefusesWords b c n k → RefusesWords a c n k
 words_refused_later a b c n k limits x = subst (λ (v : View). RefusesWords v c n k) limits x

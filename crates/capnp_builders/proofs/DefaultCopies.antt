@@ -1,4 +1,5 @@
--- The copy of a default: nothing of a limiter is spent, and each refusal to read is a fault of the default.
+-- The copy of a default spends nothing of a limiter, and each refusal to read it is a fault of the
+-- default.
 use Rattle.std.proofs.Common.{◌≡◌, inl, inr, ℕ, List, None, Result, Ok, Err, IfOk, IfErr, OnOk}
 use Rattle.capnp_words.specs.declared.error.ErrorKind.{ErrorKind}
 use Rattle.capnp_words.specs.Meter.{Meter, unused}
@@ -17,7 +18,7 @@ use Rattle.capnp_builders.specs.Defaults.{default_root, DropsDefault, PutsDefaul
 abbrev pub default_copy : ℕ → ℕ → View → View → Change
 default_copy id at old new = change of_default (call_at id at old new) (unused None) (unused None)
 
--- reading a default spends nothing, whether it ends or breaks off
+-- reading a default spends nothing, whether it ends or stops
 pub nothing_spent : {X E : Type 0} (o : Result X E) (bytes : List ℕ) (id at : ℕ) (old new : View) (m m' : Meter) → TakesAtMost o (value_original (default_root bytes)) (change of_default (call_at id at old new) m m') → m' ≡ m
 nothing_spent (Ok x) bytes id at old new m m' taken = taken.1.spent
 nothing_spent (Err k) bytes id at old new m m' taken = let (g, r, covers, spent, few) = breaks_off_spends taken.0 in spent

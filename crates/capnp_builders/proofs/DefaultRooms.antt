@@ -1,4 +1,5 @@
--- The room that a call with a default has: the copy of the default fits, and then what the call does with a value that stands.
+-- The room for a call with a default: the copy of the default fits, and then what the call does
+-- with the value that is there.
 use Rattle.std.proofs.Common.{◌≡◌, inl, inr, ℕ, ◌<◌, ◌≤◌, Bool, true, false, cond, List, [], ◌∷◌, length, nat_eq, slice_get, if◌then◌else◌, Option, Some, None, Result, Ok, Err, refl, sym, subst, arith}
 use Rattle.std.specs.Borrow.{Bor}
 use Rattle.std.specs.Option.{option_map_or}
@@ -12,11 +13,11 @@ use Rattle.capnp_arena_traits.specs.View.{View}
 use Rattle.capnp_making.specs.Makes.{call_at}
 use Rattle.capnp_builders.specs.Defaults.{DefaultUse, ignored, denied, copied, object_default, DefaultCopyFits, DefaultFits, FitsWithDefault, PutsDefaultOver}
 
--- nothing is put where the default leaves null
+-- if the default leaves null, nothing is put
 pub null_left : (w : DefaultUse) (s p : ℕ) (a m : View) (o : Result (Unit {0}) ErrorKind) → w ≡ ignored → PutsDefaultOver w (call_at s p a m) Null o → m ≡ a
 null_left w s p a m o e put = (let P : DefaultUse → Type 0 = λ u. PutsDefaultOver u (call_at s p a m) Null o in subst P e put).1
 
--- the call has room in the message that stands once its default is put
+-- the call has room in the message after its default is put
 pub then_fits : (w : DefaultUse) (s p : ℕ) (a m : View) (t : Tree) (x : Unit {0}) (Fits : View → Type 0) → FitsWithDefault w a s p Fits → PutsDefaultOver w (call_at s p a m) t (Ok x) → Fits m
 then_fits ignored s p a m t x Fits fits (ok, same) = subst Fits (sym same) fits
 then_fits (denied k) s p a m t x Fits fits o = absurd fits
@@ -59,7 +60,7 @@ copy_fits (Some d) (Flat n ns) bytes v id e fits = absurd (not_copied bytes e)
 copy_fits (Some d) (Pointers ts) bytes v id e fits = absurd (not_copied bytes e)
 copy_fits (Some d) (Structs n q es) bytes v id e fits = absurd (not_copied bytes e)
 
--- where a default is refused although there is room, it is one that is copied, and it fits
+-- if a default is refused although there is room, it is one that is copied, and it fits
 refused_copy : (w : DefaultUse) (s p : ℕ) (a m : View) (t : Tree) (k : ErrorKind) (Fits : View → Type 0) → FitsWithDefault w a s p Fits → PutsDefaultOver w (call_at s p a m) t (Err k) →
     (bytes : List ℕ) × (w ≡ copied bytes) × DefaultCopyFits bytes a s
 refused_copy ignored s p a m t k Fits fits (ok, same) = absurd (false≢true ok)

@@ -1,4 +1,5 @@
--- What a call with a default does: the default first, and then what the call does with a value that stands.
+-- What a call with a default does: it puts the default first, and then does its own work with the
+-- value that is there.
 use Rattle.std.proofs.Common.{◌≡◌, inl, inr, ℕ, Result, Ok, Err, sym, subst}
 use Rattle.capnp_words.specs.declared.error.ErrorKind.{ErrorKind}
 use Rattle.capnp_format.specs.Tree.{Tree}
@@ -7,7 +8,7 @@ use Rattle.capnp_making.specs.Stored.{IsStored}
 use Rattle.capnp_making.specs.Makes.{CallAt, call_at}
 use Rattle.capnp_builders.specs.Defaults.{DefaultUse, ignored, denied, copied, WithDefault, PutsDefaultOver}
 
--- an outcome is one of the two
+-- a result isn't both a success and a refusal
 no_refusal : (x : Unit {0}) (k : ErrorKind) → ◌≡◌ {A = Result (Unit {0}) ErrorKind} (Ok x) (Err k) → ⊥
 no_refusal x k e = cc
 
@@ -21,7 +22,7 @@ then_does (copied bytes) s p a m b t x r P stored (inl (mid, value, put, (ok, sa
     inl (mid, value, put, subst (λ (v : View). P (call_at s p v b) value) same (f value (subst (λ (v : View). IsStored v.words s p value) (sym same) put.replaced.stored)))
 then_does (copied bytes) s p a m b t x r P stored (inr e) f = absurd e
 
--- some value stands once the default is put
+-- the place has some value after the default is put
 pub stands_then : (w : DefaultUse) (s p : ℕ) (a m : View) (t : Tree) (x : Unit {0}) → IsStored a.words s p t → PutsDefaultOver w (call_at s p a m) t (Ok x) → (u : Tree) × IsStored m.words s p u
 stands_then ignored s p a m t x stored (ok, same) = (t, subst (λ (v : View). IsStored v.words s p t) (sym same) stored)
 stands_then (denied k) s p a m t x stored (e, same) = absurd (no_refusal x k e)

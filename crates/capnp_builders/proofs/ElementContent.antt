@@ -1,4 +1,5 @@
--- An element of a list of structs that takes content: the pointer to the list stores the list with that element.
+-- An element of a list of structs that takes content: the pointer to the list stores the list with
+-- that element.
 use Rattle.std.proofs.Common.{◌≡◌, ℕ, zero, suc, pred, ◌+◌, ◌*◌, ◌/◌, ◌<◌, ◌≤◌, List, [], ◌∷◌, length, refl, sym, ap, ◌∙◌, subst, le_of_eq, arith}
 use Rattle.capnp_format.specs.Forest.{target, target_in}
 use Rattle.capnp_format.specs.Means.{Means, MeansElements, Leads}
@@ -24,7 +25,7 @@ put_struct-same no_elements i ws ts e = refl
 put_struct-same (element xs us X) zero ws ts e = let f : element ws ts X ≡ element xs us X = cc in f
 put_struct-same (element xs us X) (suc i) ws ts e = ap (element xs us) (put_struct-same X i ws ts e)
 
--- where the pointer to a list of structs that is stored leads, and what its elements have
+-- where the pointer to a stored list of structs leads, and what its elements have
 list_leads : (S : Segments) (s p d q : ℕ) (X : Elements) → IsStored S s p (Structs d q X) → Leads S s p (target S s p)
 list_leads S s p d q X y = let (n, c, (b, m, k, some, o, claim, tag, fits, all, g)) = y.means in subst (Leads S s p) (sym (ap target_in o.leads_to.1)) o.leads_to
 
@@ -42,7 +43,7 @@ element_long S s p d q X i ws ts y l is = let m = y.means in long_there m.0 m.1 
     long_there : (n c : ℕ) → Means S n s p (Structs d q X) c → (length ws ≡ d) × (count ts ≡ q)
     long_there n c (b, m, k, some, o, claim, tag, fits, all, g) = sections_there S (pred n) b.segment (b.start + 1) d q X k i ws ts all l is
 
--- a field of its data section is written
+-- writing a field of an element's data section
 element_put : (S : Segments) (s p d q : ℕ) (a : Target) (X : Elements) (i : ℕ) (ws : List ℕ) (ts : Trees) (b w v : ℕ) → Holds (λ us. Structs d q (put_struct X i (Struct ws us))) S s p a ts → i < element_count X → length ws ≡ d → count ts ≡ q → b < 64 * d →
     Turns S (with_field S a.segment (64 * (a.start + 1 + i * (d + q)) + b) w v) s p a (Structs d q (put_struct X i (Struct ws ts))) (Structs d q (put_struct X i (Struct (put_field ws b w v) ts)))
 element_put S s p d q a X i ws ts b w v y less long len l =

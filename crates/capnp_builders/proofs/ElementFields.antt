@@ -15,7 +15,7 @@ use Rattle.capnp_builders.proofs.FieldPlaces.{aligned_to, field_aligned}
 use Rattle.capnp_builders.specs.Elements.{lowest_bits}
 use Rattle.capnp_builders.specs.Places.{HasField, WritesField}
 
--- the data of an element lies among the words of all
+-- the data of an element is among the words of all elements
 data_within : (size : ElementSize) (sections : StructSize) (count i : ℕ) → i < count → i * step_bits size sections + data_bits size sections ≤ 64 * elements_words size count (sections.data_words + sections.pointers)
 data_within Void sections count i l = omega arith
 data_within Bit sections count i l = omega (arith, l)
@@ -26,7 +26,7 @@ data_within EightBytes sections count i l = omega (arith, l)
 data_within Pointer sections count i l = omega (arith, l)
 data_within InlineComposite sections count i l = omega (arith, words_within (sections.data_words + sections.pointers) count i l)
 
--- bits of an element that starts at a byte
+-- the bits of an element that starts at a byte
 start_in_bits : (list : ListPlace) (i n : ℕ) → 0 < n → 8 * n ≤ data_bits list.size list.struct_size →
     8 * (list.byte + i * (step_bits list.size list.struct_size / 8)) ≡ 8 * list.byte + i * step_bits list.size list.struct_size
 start_in_bits list i n some wide =
@@ -47,23 +47,23 @@ pub number_read : (view : View) (list : ListPlace) (i n v : ℕ) → 0 < n → 8
     HasField view list.segment list.byte (lowest_bits list i (8 * n) v)
 number_read view list i n v some wide is = rw (start_in_bits list i n some wide) at is
 
--- the lowest bits of an element lie in the list's segment
+-- the lowest bits of an element are inside the list's segment
 pub bits_inside : (S : Segments) (list : ListPlace) (i w : ℕ) → IsListPlace S list → i < list.count → w ≤ data_bits list.size list.struct_size →
     8 * list.byte + i * step_bits list.size list.struct_size + w ≤ 64 * length (segment S list.segment)
 bits_inside S list i w (there, aligned, fits) l wide = omega (arith, fits, wide, data_within list.size list.struct_size list.count i l)
 
--- the lowest bytes of an element lie in the list's segment
+-- the lowest bytes of an element are inside the list's segment
 pub bytes_inside : (S : Segments) (list : ListPlace) (i n : ℕ) → IsListPlace S list → i < list.count → 0 < n → 8 * n ≤ data_bits list.size list.struct_size →
     list.byte + i * (step_bits list.size list.struct_size / 8) + n ≤ 8 * length (segment S list.segment)
 bytes_inside S list i n inside l some wide = omega (arith, start_in_bits list i n some wide, bits_inside S list i (8 * n) inside l wide)
 
--- k widths behind a word
+-- a position k times m bytes after a word is a multiple of n
 behind_word : (b k m n : ℕ) → 0 < n → n ≤ m → m ≤ 8 → 8 % n ≡ 0 → 8 % m ≡ 0 → b % 8 ≡ 0 → (b + k * m) % n ≡ 0
 behind_word b k m n some l small e f g =
     let positive : 0 < m = omega (arith, some, l) in
     aligned_to (b + k * m) n m some l small e f (field_aligned b k m positive small f (aligned_to b m 8 positive small (omega arith) f refl g))
 
--- which start at a multiple of their number
+-- the bytes of an element start at a multiple of n, if it has n bytes
 of_size : (size : ElementSize) (sections : StructSize) (b i n : ℕ) → 0 < n → n ≤ 8 → 8 % n ≡ 0 → b % 8 ≡ 0 → 8 * n ≤ data_bits size sections → (b + i * (step_bits size sections / 8)) % n ≡ 0
 of_size Void sections b i n some small e g wide = absurd (omega arith)
 of_size Bit sections b i n some small e g wide = absurd (omega arith)

@@ -1,4 +1,4 @@
--- Elements of a list that lies in a message lie in it.
+-- Elements of a list that is inside a message are inside it.
 use Rattle.std.proofs.Common.{◌≡◌, ◌≢◌, ℕ, ◌+◌, ◌*◌, ◌/◌, ◌<◌, ◌≤◌, length, refl, ap, ◌∙◌, arith}
 use Rattle.capnp_format.specs.Numbers.{words_for, element_bits}
 use Rattle.capnp_format.specs.Segments.{Segments, segment, IsPlace}
@@ -13,13 +13,13 @@ use Rattle.capnp_readers.proofs.Sections.{words_within, pointers_within, flat_wo
 use Rattle.capnp_builders.specs.Places.{element_place}
 use Rattle.capnp_builders.proofs.StructPlaces.{StructStartsAt, place_parts, struct_starts}
 
--- a struct of whole words that lies in a segment
+-- a struct of whole words that is inside a segment
 whole_inside : (S : Segments) (place : StructPlace) (s p d q : ℕ) → s < length S → StructStartsAt place s p d q → p + (d + q) ≤ length (segment S s) → IsStructPlace S place
 whole_inside S place s p d q there (is_s, is_byte, is_bits, is_pointers, is_count) fits =
     let same : length (segment S place.segment) ≡ length (segment S s) = ap (λ u. length (segment S u)) is_s in
     (omega (arith, there, is_s), omega (arith, same, is_byte, is_bits, fits), omega (arith, same, is_pointers, is_count, fits))
 
--- a number does, as a struct
+-- a number as a struct is inside its segment
 number_inside : (S : Segments) (list : ListPlace) (i : ℕ) (size : ElementSize) (place : StructPlace) → list.size ≡ size → size_number size ≤ 5 → size_number size ≢ 1 → IsListPlace S list → i < list.count →
     (place.segment ≡ list.segment) × (place.byte ≡ list.byte + i * (element_bits (size_number size) / 8)) × (place.bits ≡ element_bits (size_number size)) × (place.pointers_at ≡ list.byte / 8) × (place.pointers ≡ 0) → IsStructPlace S place
 number_inside S list i size place is_size flat whole (there, aligned, fits) l (is_s, is_byte, is_bits, is_pointers, is_count) =
@@ -46,10 +46,10 @@ at_size S list i TwoBytes place is_size whole inside l e = number_inside S list 
 at_size S list i FourBytes place is_size whole inside l e = number_inside S list i FourBytes place is_size (omega arith) whole inside l (place_parts place (element_place FourBytes list i) e)
 at_size S list i EightBytes place is_size whole inside l e = number_inside S list i EightBytes place is_size (omega arith) whole inside l (place_parts place (element_place EightBytes list i) e)
 
--- an element, as a struct
+-- an element as a struct is inside its segment
 pub element_inside : (S : Segments) (list : ListPlace) (i : ℕ) (place : StructPlace) → size_number list.size ≢ 1 → IsListPlace S list → i < list.count → place ≡ element_place list.size list i → IsStructPlace S place
 element_inside S list i place whole inside l e = at_size S list i list.size place refl whole inside l e
 
--- the pointer of an element
+-- the pointer of an element is inside its segment
 pub pointer_inside : (S : Segments) (list : ListPlace) (i : ℕ) → IsListPlace S list → i < list.count → HoldsPointer list.size list.struct_size → IsPlace S list.segment (list.byte / 8 + pointers_behind list.size list.struct_size i)
 pointer_inside S list i (there, aligned, fits) l holds = omega (arith, fits, pointers_within list.size list.struct_size list.count i holds l)

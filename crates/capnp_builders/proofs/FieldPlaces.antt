@@ -28,7 +28,7 @@ widths (suc (suc (suc (suc (suc (suc (suc zero))))))) some l e = absurd (omega a
 widths (suc (suc (suc (suc (suc (suc (suc (suc zero)))))))) some l e = inr (inr (inr refl))
 widths (suc (suc (suc (suc (suc (suc (suc (suc (suc n))))))))) some l e = absurd (omega arith)
 
--- a multiple of a width that divides eight is one of each narrower width
+-- a multiple of a width m that divides eight is a multiple of each narrower width n that does
 pub aligned_to : (b n m : ℕ) → 0 < n → n ≤ m → m ≤ 8 → 8 % n ≡ 0 → 8 % m ≡ 0 → b % m ≡ 0 → b % n ≡ 0
 aligned_to b n m some l small e f g =
     elim (widths n some (omega arith) e) [
@@ -69,14 +69,14 @@ place_aligned place k n aligned some l e inside =
     at_most : (m : ℕ) → min 8 m ≤ 8
     at_most m = omega arith
 
--- that a section is aligned has one proof
+-- there is at most one proof that a section is aligned
 pub aligned_once : (place : StructPlace) (p q : IsAligned place) → p ≡ q
 aligned_once place p q = (let one : IsProp (IsAligned place) = hlevel props in one p q)
 
 pub same_builder : {A : Type 0} (arena : MutBor A) (place : StructPlace) (p q : IsAligned place) → ◌≡◌ {A = StructBuilder A} (record { arena = arena; place = place; aligned = p }) (record { arena = arena; place = place; aligned = q })
 same_builder arena place p q = ap (λ r. record { arena = arena; place = place; aligned = r }) (aligned_once place p q)
 
--- a struct lies in its segment still when a field was written
+-- a struct is still inside its segment after a field was written
 pub still_inside : (old new : View) (place : StructPlace) (id byte : ℕ) (f : Field) → WritesField old new id byte f → IsStructPlace old.words place → IsStructPlace new.words place
 still_inside old new place id byte f written (there, at_data, at_pointers) =
     let words : new.words ≡ with_field old.words id (8 * byte + f.start) f.bits f.value = ap (λ (v : View). v.words) written in

@@ -1,4 +1,4 @@
--- Texts and data that are found in a message lie in it.
+-- Texts and data that are found in a message are inside it.
 use Rattle.std.proofs.Common.{◌≡◌, ℕ, ◌+◌, ◌-◌, ◌<◌, ◌≤◌, Bool, true, false, cond, nat_eq, length, Option, Some, None, IfSome, IfOk, Result, Ok, Err, refl, ap, subst, arith}
 use Rattle.std.proofs.lemmas.Bool.{eqb-true}
 use Rattle.capnp_words.specs.declared.error.ErrorKind.{ErrorKind}
@@ -15,14 +15,14 @@ use Rattle.capnp_making.specs.Stored.{IsStored}
 use Rattle.capnp_making.proofs.Leading.{leads_segment}
 use Rattle.capnp_builders.specs.Found.{bytes_given}
 
--- A call gives the bytes that are found where t stands, and nothing is changed.
+-- The call returns the bytes that are found where t is, and nothing is changed.
 abbrev pub GivesFoundBytes : (Target → Tree → Result (Option ExistingBytes) ErrorKind) → Result ExistingBytes ErrorKind → CallAt → Tree → Type 0
 GivesFoundBytes found_in result c t = (result ≡ bytes_given c.segment (found_in (target c.old.words c.segment c.at) t)) × (c.new ≡ c.old)
 
 abbrev pub Found : Type 0
 Found = Result (Option ExistingBytes) ErrorKind
 
--- what a choice that found bytes has found
+-- if a choice between the bytes b and a refusal has found bytes, it has found b
 picked : (x : Bool) (b found : ExistingBytes) (k : ErrorKind) → ◌≡◌ {A = Found} (cond x (Ok (Some b)) (Err k)) (Ok (Some found)) → (x ≡ true) × (b ≡ found)
 picked true b found k e = (refl, cc)
 picked false b found k e = cc
@@ -31,7 +31,7 @@ picked_first : (x : Bool) (r : Found) (found : ExistingBytes) (k : ErrorKind) �
 picked_first true r found k e = (refl, e)
 picked_first false r found k e = cc
 
--- bytes of a list that a pointer leads to, or fewer
+-- the bytes of a list that a pointer leads to, or fewer of them, are inside the message
 inside : (S : Segments) (s p n m : ℕ) (a : Target) → a.segment < length S → a.start + words_for 2 n ≤ length (segment S a.segment) → m ≤ n → BytesLieIn S (bytes_at a m)
 inside S s p n m a there claim few = (there, omega (arith, claim))
 
@@ -66,13 +66,13 @@ text_inside S s p t b there stored e = let m = stored.means in meant m.0 m.1 t m
     meant n c (Pointers ts) m e = cc
     meant n c (Structs d q es) m e = cc
 
--- bytes that are found lie in the message
+-- if bytes that are found are inside the message, all that is found is
 all_inside : (S : Segments) (q : Found) → ((b : ExistingBytes) → q ≡ Ok (Some b) → BytesLieIn S b) → IfOk q (λ there. IfSome there (BytesLieIn S))
 all_inside S (Ok (Some b)) inside = inside b refl
 all_inside S (Ok None) inside = tt
 all_inside S (Err k) inside = tt
 
--- and then they are what the call gives
+-- and then they are what the call returns
 pub found_given : (S : Segments) (s : ℕ) (q found : Found) (r : Result ExistingBytes ErrorKind) → found ≡ q → ((b : ExistingBytes) → q ≡ Ok (Some b) → BytesLieIn S b) →
     (IfOk found (λ there. IfSome there (BytesLieIn S)) → r ≡ bytes_given s found) → r ≡ bytes_given s q
 found_given S s q found r same inside given =

@@ -1,4 +1,4 @@
--- Lists that are found in a message lie in it.
+-- Lists that are found in a message are inside it.
 use Rattle.std.proofs.Common.{◌≡◌, ℕ, zero, suc, ◌+◌, ◌<◌, ◌≤◌, length, Option, Some, None, Result, Ok, refl, ap, subst, arith}
 use Rattle.capnp_words.specs.declared.error.ErrorKind.{ErrorKind}
 use Rattle.capnp_format.specs.Numbers.{words_for}
@@ -20,7 +20,8 @@ use Rattle.capnp_readers.specs.declared.readers.list_reader.ListPlace.{ListPlace
 use Rattle.capnp_builders.specs.Found.{void_list, list_given}
 use Rattle.capnp_builders.specs.Places.{list_place}
 
--- n words from where a pointer leads are there, at the list l
+-- the elements of the list l start at most one word after the start of a, and are inside the n
+-- words from there on
 record IsAt (S : Segments) (a : Target) (n : ℕ) (l : ExistingList) : Type 0 where
   segment_is : l.segment ≡ a.segment
   start_is : l.start ≤ a.start + 1
@@ -42,7 +43,7 @@ flat_words (suc (suc (suc (suc zero)))) n w l = refl
 flat_words (suc (suc (suc (suc (suc zero))))) n w l = refl
 flat_words (suc (suc (suc (suc (suc (suc k)))))) n w l = absurd (omega arith)
 
--- what a stored value's pointer leads to
+-- the list that a stored value's pointer leads to
 meant : (S : Segments) (n s p c : ℕ) (expected : ElementSize) (t : Tree) (l : ExistingList) → s < length S → Means S n s p t c → list_in (target S s p) expected t ≡ Ok (Some l) → IsListPlace S (list_place l)
 meant S n s p c expected Null l there m e = cc
 meant S n s p c expected (Capability i) l there m e = cc
@@ -66,11 +67,11 @@ meant S n s p c expected (Structs d q es) l there (a, m, k, some, o, claim, tag,
 pub found_inside : (S : Segments) (s p : ℕ) (expected : ElementSize) (t : Tree) (l : ExistingList) → s < length S → IsStored S s p t → list_in (target S s p) expected t ≡ Ok (Some l) → IsListPlace S (list_place l)
 found_inside S s p expected t l there stored e = let m = stored.means in meant S m.0 s p m.1 expected t l there m.2 e
 
--- A call gives the list that is found where t stands, and nothing is changed.
+-- The call returns the list that is found where t is, and nothing is changed.
 abbrev pub GivesFoundList : ElementSize → Result ListPlace ErrorKind → CallAt → Tree → Type 0
 GivesFoundList size result c t = (result ≡ list_given c.segment (list_in (target c.old.words c.segment c.at) size t)) × (c.new ≡ c.old)
 
--- what is given of what is found
+-- two successes with the same list
 same_list : {E : Type 0} (x y : ListPlace) → ◌≡◌ {A = Result ListPlace E} (Ok x) (Ok y) → x ≡ y
 same_list x y e = cc
 

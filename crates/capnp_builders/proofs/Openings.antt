@@ -25,7 +25,7 @@ use Rattle.capnp_builders.specs.Places.{struct_place}
 use Rattle.capnp_builders.proofs.StructPlaces.{struct_starts}
 use Rattle.capnp_builders.proofs.FoundLists.{given_inside}
 
--- another form of what is given, and of a refusal
+-- a result isn't both a success and a refusal; and other forms of results
 
 no_error : {A : Type 0} (x : A) (k : ErrorKind) → ◌≡◌ {A = Result A ErrorKind} (Ok x) (Err k) → ⊥
 no_error x k e = cc
@@ -51,7 +51,7 @@ struct_exists S s p ws ts there stored = at_level stored.means.0 stored.means.1 
     at_level : (n c : ℕ) → Means S n s p (Struct ws ts) c → (target S s p).segment < length S
     at_level n c (a, k, some, o, claim, words, all, g) = subst (λ (b : Target). b.segment < length S) (sym (ap target_in o.leads_to.1)) (leads_segment S s p a there o.leads_to.1)
 
--- What is known of the place of a struct that was opened.
+-- What is known about the place of a struct that was opened.
 pub record PlaceOf (S : Segments) (s : ℕ) (e : ExistingStruct) (place : StructPlace) : Type 0 where
   pub there : s < length S
   pub small : length (segment S e.segment) < 2 ^ 32
@@ -106,7 +106,7 @@ list_refused a b s p (Flat n ns) size k o = refused_as size (call_at s p a b) (F
 list_refused a b s p (Pointers ts) size k o = refused_as size (call_at s p a b) (Pointers ts) (list_widened size.data_words size.pointers (Pointers ts)) LeadsToAll IsListGiven k o
 list_refused a b s p (Structs d q es) size k o = refused_as size (call_at s p a b) (Structs d q es) (list_widened size.data_words size.pointers (Structs d q es)) LeadsToAll IsListGiven k o
 
--- the place is there still, in a message of no fewer words
+-- the place is still there in a message with no fewer words
 
 pub still_there : (a m b : View) (s p : ℕ) → IsPlace a.words s p → Grows a.words m.words → ((v : ℕ) → length (segment m.words v) ≤ length (segment b.words v)) → IsPlace b.words s p
 still_there a m b s p place grows longer = omega (arith, place, grows.words s, longer s)

@@ -45,7 +45,7 @@ returns-then-is_null-clause-stays g c =
     let grows = grows_there c.copy_value.result (value_original (read_by g.B.ReaderArena c.args.from)) (change (form_of c.args.canonicalize) (call_at c.args.self.now.segment c.args.self.now.at (g.A.BuilderArena.view c.args.self.now.arena.now) (g.A.BuilderArena.view c.copy_value.new.arena)) c.args.lim.now c.copy_value.new.lim) (rw (c.pointer-value.ensures.source, c.pointer-value.ensures.place, c.pointer-value.ensures.nesting) at c.copy_value.ensures.copied) (rw (c.pointer-value.ensures.source, c.pointer-value.ensures.place, c.pointer-value.ensures.nesting) at c.copy_value.ensures.refused) in
     record { builder = search rules; there = omega (arith, grows, c.requires.place) }
 
--- What another pointer held becomes zero, and then the value is copied to the null pointer.
+-- What another pointer held is zeroed, and then the value is copied to the null pointer.
 
 pub returns-clause-copied : goal.returns-clause-copied
 returns-clause-copied g c =

@@ -5,7 +5,7 @@ use Rattle.capnp_builders.proofs.FoundLists.{GivesFoundList}
 use Rattle.capnp_builders.proofs.DefaultUses.{then_does}
 use Rattle.capnp_builders.proofs.builders.PointerBuilder.find_list.Goals as goal
 
--- What stands once the default is put.
+-- The value that is there after the default is put.
 pub returns-clause-found : goal.returns-clause-found
 returns-clause-found g c = record {
   finds = record {

@@ -19,7 +19,7 @@ use Rattle.capnp_builders.proofs.Openings.{struct_opens, struct_refused, opens_l
 use Rattle.capnp_builders.proofs.builders.PointerBuilder.find_struct.Goals as goal
 use Rattle.capnp_making.specs.Makes.{call_at}
 
--- What stands once the default is put is opened.
+-- The value that is there after the default is put is opened.
 pub returns-clause-found : goal.returns-clause-found
 returns-clause-found g c = record {
   found = λ t stored.
@@ -62,7 +62,7 @@ returns-in_err-opened-clause-there g c = λ t stored.
     let (u, stands) = stands_then (object_default c.args.default t) s p a m t c.in_ok-put_default.field-0 stored (c.in_ok-put_default.ensures.put.put t stored) in
     still_there a m b s p c.requires.there c.in_ok-put_default.ensures.put.longer (opens_longer c.args.size LeadsToOne m b s p u (struct_opened c.args.size u) (Err c.in_err-opened.field-0.0) (c.in_err-opened.ensures.opened u stands)))
 
--- The call isn't refused where there is room: not for the default, and not once that is put.
+-- The call isn't refused if there is room: not for the default, and not after that is put.
 pub returns-in_err-put_default-clause-fits : goal.returns-in_err-put_default-clause-fits
 returns-in_err-put_default-clause-fits g c = λ h.
     (let (t, stored, fits) = h in
@@ -91,7 +91,7 @@ returns-in_err-opened-clause-set g c = λ some.
     let q = err_from_is_err_and c.from_residual-in_err-opened.result c.from_residual-in_err-opened.ensures.1 in
     rw (q.1, q.2) (subst (λ (v : View). IsNoWider c.args.size (call_at s p v b) c.in_err-opened.field-0.0) same (c.in_err-opened.ensures.named (λ null. some (subst (λ (v : View). word_at v.words s p ≡ 0) same null)))))
 
--- Where null is left by the default, a new struct is made in the message as it was.
+-- If the default leaves null, a new struct is made in the message as it was.
 pub returns-clause-taken : goal.returns-clause-taken
 returns-clause-taken g c = λ null none.
     (let a : View = g.A.BuilderArena.view c.args.self.now.arena.now in

@@ -12,7 +12,7 @@ use Rattle.capnp_builders.proofs.DefaultUses.{then_does, stands_then}
 use Rattle.capnp_builders.proofs.Openings.{list_opens, list_refused, list_longer, still_there}
 use Rattle.capnp_builders.proofs.builders.PointerBuilder.find_struct_list.Goals as goal
 
--- What stands once the default is put is opened.
+-- The value that is there after the default is put is opened.
 pub returns-clause-found : goal.returns-clause-found
 returns-clause-found g c = record {
   found = λ t stored.
@@ -63,7 +63,7 @@ returns-in_err-opened-clause-there g c = λ t stored.
     let (u, stands) = stands_then (object_default c.args.default t) s p a m t c.in_ok-put_default.field-0 stored (c.in_ok-put_default.ensures.put.put t stored) in
     still_there a m b s p c.requires.there c.in_ok-put_default.ensures.put.longer (list_longer c.args.size m b s p u (Err c.in_err-opened.field-0.0) (c.in_err-opened.ensures.opened u stands)))
 
--- The call isn't refused where there is room: not for the default, and not once that is put.
+-- The call isn't refused if there is room: not for the default, and not after that is put.
 pub returns-in_err-put_default-clause-fits : goal.returns-in_err-put_default-clause-fits
 returns-in_err-put_default-clause-fits g c = λ h.
     (let (t, stored, fits) = h in

@@ -8,7 +8,7 @@ use Rattle.capnp_contents.specs.Existing.{text_in}
 use Rattle.capnp_making.proofs.Zeros.{there}
 use Rattle.capnp_builders.proofs.builders.PointerBuilder.find_text.Goals as goal
 
--- What stands once the default is put lies in the message.
+-- The value that is there after the default is put is inside the message.
 pub returns-clause-found : goal.returns-clause-found
 returns-clause-found g c = record {
   finds = record {

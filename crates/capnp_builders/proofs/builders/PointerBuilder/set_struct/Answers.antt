@@ -9,7 +9,7 @@ use Rattle.capnp_builders.proofs.CopiesHeld.{put_copied, put_stopped, can_later,
 use Rattle.capnp_builders.proofs.builders.PointerBuilder.set_struct.Goals as goal
 use Rattle.capnp_making.specs.Makes.{call_at}
 
--- What the pointer held becomes zero, and then the struct is copied to the null pointer.
+-- What the pointer held is zeroed, and then the struct is copied to the null pointer.
 
 pub returns-clause-copied : goal.returns-clause-copied
 returns-clause-copied g c =

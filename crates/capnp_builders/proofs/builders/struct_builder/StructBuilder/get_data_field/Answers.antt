@@ -1,7 +1,7 @@
 use Rattle.capnp_builders.proofs.FieldPlaces.{place_aligned}
 use Rattle.capnp_builders.proofs.builders.struct_builder.StructBuilder.get_data_field.Goals as goal
 
--- The section is aligned, and the field lies in it.
+-- The section is aligned, and the field is inside it.
 pub get_number-requires-clause-aligned : goal.get_number-requires-clause-aligned
 get_number-requires-clause-aligned g c =
     rw c.BYTES.ensures (place_aligned c.args.self.now.place c.args.offset g.T.Primitive.BYTES c.args.self.now.aligned g.T.Primitive.positive g.T.Primitive.small g.T.Primitive.divides c.requires.field)
