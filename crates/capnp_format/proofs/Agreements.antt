@@ -1,4 +1,4 @@
--- The test for canonical form and the canonical copy agree, on both sides.
+-- The test for canonical form and the canonical copy agree, in both directions.
 use Rattle.std.proofs.Common.{◌≡◌, ℕ, ◌<◌, ◌≤◌, List, [], ◌∷◌, ◌++◌, length, get_or, take, drop, refl, sym, ap, ap₂, ◌∙◌, arith, take_at, take-append-drop}
 use Rattle.capnp_format.specs.Segments.{Segments, segment, AreWords}
 use Rattle.capnp_format.specs.Tree.{Tree, depth, capabilities}

@@ -1,5 +1,5 @@
--- Children in two parts, as a loop has them.
--- `means_joined` takes its arguments one by one: another crate cites it so.
+-- Children in two parts, the way a loop has them. `means_joined` takes its arguments one by one,
+-- because another crate cites it in this form.
 use Rattle.std.proofs.Common.{◌≡◌, ℕ, suc, ◌+◌, ◌∷◌, ◌++◌, refl, sym, ap, ap₂, ◌∙◌, subst, arith, append_assoc}
 use Rattle.capnp_format.specs.Segments.{Segments}
 use Rattle.capnp_format.specs.Tree.{Trees, no_trees, tree, count}

@@ -1,5 +1,5 @@
--- How many words a value has, against what it costs; and that what is meant is a value.
--- `means_value` takes its arguments one by one: it is the answer to a law.
+-- The number of words of a value, compared to its cost; and that what a place means is a value.
+-- `means_value` takes its arguments one by one, because it is the answer to a law.
 use Rattle.std.proofs.Common.{ℕ, zero, suc, ◌+◌, ◌*◌, ◌/◌, ◌^◌, ◌<◌, ◌≤◌, Bool, true, false, cond, nat_eq, nat_lt, Option, None, List, [], ◌∷◌, length, get_or, take, drop, Some, IfSome, sym, subst, arith, mod-lt, pow_pos, get_or-drop}
 use Rattle.capnp_format.specs.Word.{kind, is_double, far_position, upper_half, offset_bits}
 use Rattle.capnp_format.specs.Numbers.{digits, element_bits}
@@ -62,7 +62,7 @@ far_word_below S x (suc k) w =
     (λ f. cond (nat_eq (kind v) 2) None (given (nat_lt (upper_half f) (length S)) (record { word = v; segment = upper_half f; start = far_position f; pads = 2 })))
     (λ _. far_or_near (nat_eq (kind v) 2) None _ tt (given_word _ _ (w (upper_half x) (far_position x + 1))))
 
--- where a pointer leads is described by a word of the message
+-- the word that describes where a pointer leads is a word of the message
 pub leads_word : (S : Segments) (s p : ℕ) → AreWords S → IfSome (leads S s p) (λ a. a.word < 2 ^ 64)
 leads_word S s p w = far_or_near (nat_eq (kind (word_at S s p)) 2) _ _ (far_word_below S (word_at S s p) (is_double (word_at S s p)) w) (near_word_below S s p (word_at S s p) 0 (w s p))
 
@@ -79,7 +79,7 @@ below_each limit (x ∷ xs) h = (h 0, below_each limit xs (λ i. h (suc i)))
 pub words_below : (S : Segments) (s p n : ℕ) → HasSmallWords S s → AreBelow (2 ^ 64) (words_at S s p n)
 words_below S s p n w = below_take (2 ^ 64) n (drop p (segment S s)) (below_each (2 ^ 64) (drop p (segment S s)) (λ i. rw (get_or-drop p (segment S s) i 0) (w (p + i))))
 
--- words that stand in a segment of small words are small
+-- the words ws in a segment of small words are small
 pub words_small : (S : Segments) (s p : ℕ) (ws : List ℕ) → HasSmallWords S s → HasWords S s p ws → AreBelow (2 ^ 64) ws
 words_small S s p ws w e = rw e at (words_below S s p (length ws) w)
 

@@ -13,7 +13,8 @@ digit_at base (suc n) x (suc i) l =
     digit_at base n (x / base) i (omega arith)
     ∙ ap (λ y. y % base) (div-div-eq-div-mul x base (base ^ i) ∙ ap (λ y. x / y) (mul_comm base (base ^ i) ∙ sym (pow-suc base i)))
 
--- eight bytes are a word's digits; the words as one number are the bytes as one number
+-- the word of eight bytes has these as its digits; the words as one number are the bytes as one
+-- number
 pub words_are_bytes : (n : ℕ) (bytes : List ℕ) → length bytes ≡ 8 * n → from_digits (2 ^ 64) (words_of bytes) ≡ from_digits (2 ^ 8) bytes
 words_are_bytes zero [] l = refl
 words_are_bytes (suc n) (a ∷ b ∷ c ∷ d ∷ e ∷ f ∷ g ∷ h ∷ rest) l =

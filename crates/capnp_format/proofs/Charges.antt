@@ -1,4 +1,4 @@
--- Canonical words cost no more than their source.
+-- Canonical words cost no more than the value that they come from.
 use Rattle.std.proofs.Common.{◌≡◌, ℕ, zero, suc, ◌+◌, ◌*◌, ◌<◌, ◌≤◌, inl, inr, cond, ap, ◌∙◌, arith, eq-eqb, ne_eqb, length-take}
 use Rattle.std.proofs.lemmas.Bool.{cases_eq}
 use Rattle.capnp_format.specs.Segments.{Segments}
@@ -33,7 +33,7 @@ at_least_each n v l = grind arith
 narrower : (n v w : ℕ) → v ≤ w → n * v ≤ n * w
 narrower n v w l = grind arith
 
--- narrower elements cost no more, also where they become empty
+-- narrower elements cost no more, even if they become empty
 narrower_cost : (n v w : ℕ) → v ≤ w → n * v + count_cost v n ≤ n * w + count_cost w n
 narrower_cost n v w l = elim (cases_eq w 0) [
   | inl e ↦ (let z : v ≡ 0 = omega arith in rw (z, e) (omega arith))

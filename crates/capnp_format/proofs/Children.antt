@@ -1,5 +1,5 @@
--- Children read one after another.
--- `means_more` takes its arguments one by one: another crate cites it so.
+-- Children that are read one after another. `means_more` takes its arguments one by one, because
+-- another crate cites it in this form.
 use Rattle.std.proofs.Common.{◌≡◌, ℕ, suc, ◌+◌, refl, ap, subst, arith}
 use Rattle.capnp_format.specs.Segments.{Segments}
 use Rattle.capnp_format.specs.Tree.{Tree, Trees, no_trees, tree, count}

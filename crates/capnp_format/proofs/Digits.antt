@@ -32,6 +32,6 @@ from_digits-digits base zero x h l = let m : x < 1 = rw pow-zero at l in omega a
 from_digits-digits base (suc n) x h l =
     ap (λ y. x % base + base * y) (from_digits-digits base n (x / base) h ((div-lt_iff_lt-mul h).1 (rw (pow-suc base n) at l))) ∙ mod-add-div x base
 
--- words that read as elements with zeros behind them are packed again as they were
+-- words that are read as elements, with zeros after them, are packed again into the same words
 pub digits_again : (base n : ℕ) (xs : List ℕ) → AreBelow base xs → length xs ≡ n → digits base n (from_digits base xs) ≡ xs
 digits_again base n xs h e = ap (λ m. digits base m (from_digits base xs)) (sym e) ∙ digits-from_digits base xs h

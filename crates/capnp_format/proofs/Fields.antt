@@ -1,4 +1,4 @@
--- Words made again of their fields, and offsets with a sign.
+-- Words that are composed again from their fields, and offsets with a sign.
 use Rattle.std.proofs.Common.{◌≡◌, ℕ, ℤ, pos, negsuc, ◌^◌, ◌<◌, ap, ◌∙◌, arith}
 use Rattle.std.proofs.lemmas.Bool.Decides.{nat_tests}
 use Rattle.capnp_format.specs.Word.{kind, offset_bits, signed, offset_field, IsOffset, lower_half, upper_half, data_words, pointer_count, element_size, list_count, is_double, far_position, struct_word, list_word, far_word, capability_word}
@@ -10,7 +10,7 @@ signed-offset_field (negsuc n) h = grind (arith, nat_tests)
 pub offset_field-signed : (b : ℕ) → b < 2 ^ 30 → offset_field (signed b) ≡ b
 offset_field-signed b h = grind (arith, nat_tests)
 
--- a word of a kind is made of its fields
+-- a word is composed of its fields, for each kind
 pub struct_again : (x : ℕ) → kind x ≡ 0 → struct_word (offset_field (signed (offset_bits x))) (data_words x) (pointer_count x) ≡ x
 struct_again x h = ap (λ b. struct_word b (data_words x) (pointer_count x)) (offset_field-signed (offset_bits x) (omega arith)) ∙ omega arith
 

@@ -1,4 +1,4 @@
--- Where a pointer leads, as facts on numbers.
+-- Where a pointer leads: facts about numbers.
 use Rattle.std.proofs.Common.{◌≡◌, ℕ, zero, suc, ◌+◌, ◌^◌, ◌<◌, ◌≤◌, ◌⊎◌, inl, inr, Bool, true, false, cond, nat_eq, nat_lt, length, Option, Some, None, refl, ap, ◌∙◌, arith, lt-ltb, ltb-true, eqb-true, le_trans, lt_of_lt_of_le, add-zero}
 use Rattle.std.proofs.lemmas.Bool.{cases_lt}
 use Rattle.std.proofs.lemmas.Bool.Decides.{nat_tests}
@@ -6,7 +6,7 @@ pub use Rattle.capnp_format.specs.Segments.{Grows}
 use Rattle.capnp_format.specs.Segments.{Segments, segment, word_at, Target, offset_leads, given, near, far, pad, leads, ◌>>=◌}
 use Rattle.capnp_format.specs.Word.{kind, is_double, far_position, upper_half, offset_bits}
 
--- b is where the offset leads from position p
+-- b is where an offset with these bits leads from position p
 abbrev pub IsOffsetTo : ℕ → ℕ → ℕ → Type 0
 IsOffsetTo p bits b = ((bits < 2 ^ 29) × (b ≡ p + 1 + bits)) ⊎ ((2 ^ 29 ≤ bits) × (b + 2 ^ 30 ≡ p + 1 + bits))
 
@@ -26,7 +26,7 @@ offset_is n p bits b h =
 pub offset_at : (n p bits b : ℕ) → b ≤ n → IsOffsetTo p bits b → offset_leads n p bits ≡ Some b
 offset_at n p bits b le h = grind (arith, nat_tests)
 
--- where a test and what follows it pass, others that pass with them pass too
+-- if a test and what follows it succeed, others succeed that agree with them
 pub bind_kept : {A B : Type 0} {r : Option A} {y : B} (o : Option A) (f g : A → Option B) → ((x : A) → o ≡ Some x → r ≡ Some x) → ((x : A) → o ≡ Some x → f x ≡ Some y → g x ≡ Some y) →
     (o >>= f) ≡ Some y → (r >>= g) ≡ Some y
 bind_kept (Some x) f g same more h = ap (λ o. o >>= g) (same x refl) ∙ more x refl h

@@ -1,4 +1,4 @@
--- Words that a value does not cover may change without changing what its place means.
+-- Words that a value doesn't cover may change without a change of what its place means.
 use Rattle.std.proofs.Common.{◌≡◌, ℕ, ◌+◌, ◌*◌, ◌<◌, ◌≤◌, true, nat_eq, List, [], ◌∷◌, ◌++◌, length, drop, Some, refl, sym, ap, ap₂, ◌∙◌, subst, le_trans, arith, eq-eqb, length-take, length-drop, get_or-take, get_or-drop}
 use Rattle.std.proofs.lemmas.List.{same_lists, get_or_default}
 use Rattle.std.proofs.lemmas.Bool.Decides.{nat_tests}
@@ -11,7 +11,7 @@ use Rattle.capnp_format.specs.Forest.{Interval, holds, row, times, pads_of, obje
 use Rattle.capnp_format.proofs.Meant.{Meant, AllMeant, ElementsMeant}
 use Rattle.capnp_format.proofs.Following.{leads_kept}
 
--- the message R has the words of S in these intervals
+-- R has the same words as S in these intervals
 abbrev pub Agree : Segments → Segments → List Interval → Type 0
 Agree S R is = (u q : ℕ) → 0 < times is u q → word_at R u q ≡ word_at S u q
 
@@ -19,7 +19,7 @@ pub times-append : (is js : List Interval) (u q : ℕ) → times (is ++ js) u q 
 times-append [] js u q = omega arith
 times-append (i ∷ is) js u q = omega (arith, times-append is js u q)
 
--- Whether a row holds a word.
+-- word r of segment v is in a row of n words from position p of segment s on
 pub in_row : (s p n v r : ℕ) → 0 < times (row s p n ∷ []) v r → (v ≡ s) × (p ≤ r) × (r < p + n)
 in_row s p n v r l = (grind (arith, nat_tests), grind (arith, nat_tests), grind (arith, nat_tests))
 
@@ -32,7 +32,7 @@ agree_left S R is js h u q l = h u q (omega (arith, times-append is js u q))
 pub agree_right : (S R : Segments) (is js : List Interval) → Agree S R (is ++ js) → Agree S R js
 agree_right S R is js h u q l = h u q (omega (arith, times-append is js u q))
 
--- R has the words of S from p on, n of them
+-- R has the same n words as S from position p of segment s on
 abbrev pub SameWords : Segments → Segments → ℕ → ℕ → ℕ → Type 0
 SameWords S R s p n = (q : ℕ) → p ≤ q → q < p + n → word_at R s q ≡ word_at S s q
 
@@ -47,12 +47,12 @@ agree_here S R i is h q l m = h i.segment q (held i is q l m)
 pub agree_rest : (S R : Segments) (i : Interval) (is : List Interval) → Agree S R (i ∷ is) → Agree S R is
 agree_rest S R i is h u q l = h u q (omega arith)
 
--- R has grown from S, and keeps its word at a place
+-- R has grown from S, and keeps its word at (s, p)
 pub record KeepsWord (S R : Segments) (s p : ℕ) : Type 0 where
   pub grows : Grows S R
   pub same : word_at R s p ≡ word_at S s p
 
--- the words from a place on
+-- the n words from a place on are kept
 pub words_kept : {S R : Segments} (s p n : ℕ) → Grows S R → p + n ≤ length (segment S s) → SameWords S R s p n → words_at R s p n ≡ words_at S s p n
 words_kept {S = S} {R = R} s p n grows fits h =
     let g : length (segment S s) ≤ length (segment R s) = grows.words s in
@@ -62,7 +62,7 @@ words_kept {S = S} {R = R} s p n grows fits h =
     ∙ h (p + k) (omega arith) (omega arith)
     ∙ get_or_default (segment S s) (p + k) 0 d (omega arith) ∙ sym (get_or-drop p (segment S s) k d) ∙ sym (get_or-take n (drop p (segment S s)) k d small))
 
--- words still stand where they stood
+-- the words ws are still there
 pub has_words_kept : {S R : Segments} {ws : List ℕ} (s p : ℕ) → Grows S R → p + length ws ≤ length (segment S s) → SameWords S R s p (length ws) → HasWords S s p ws → HasWords R s p ws
 has_words_kept {ws = ws} s p grows fits same h = words_kept s p (length ws) grows fits same ∙ h
 
@@ -81,7 +81,7 @@ leads_agree {S = S} {R = R} {s = s} {p = p} {a = a} kept pads l = (
       agree_here S R _ [] here (far_position (word_at S s p) + i) (omega arith) (omega arith)) l.1,
 )
 
--- what one object needs, from what the whole cover says
+-- what one object needs, from what holds for the whole cover
 pub object_agrees : {S R : Segments} {s p : ℕ} {a : Target} (n : ℕ) (more : Target → List Interval) → KeepsWord S R s p → Leads S s p a →
     Agree S R (pads_of (word_at S s p) ++ object_of (target S s p) n ∷ more (target S s p)) → Leads R s p a × SameWords S R a.segment a.start n × Agree S R (more a)
 object_agrees {S = S} {R = R} {s = s} {p = p} {a = a} n more kept l h =
@@ -90,7 +90,7 @@ object_agrees {S = S} {R = R} {s = s} {p = p} {a = a} n more kept l h =
     let rest = agree_right S R (pads_of (word_at S s p)) (object_of a n ∷ more a) whole in
     (leads_agree kept pads l, agree_here S R (object_of a n) (more a) rest, agree_rest S R (object_of a n) (more a) rest)
 
--- the cover is the same where the object's part of it is
+-- the cover is the same if the object's part of it is
 pub same_cover : {S R : Segments} {s p : ℕ} {a : Target} (part part' : Target → List Interval) → KeepsWord S R s p → leads S s p ≡ Some a → leads R s p ≡ Some a → part' a ≡ part a →
     pads_of (word_at R s p) ++ part' (target R s p) ≡ pads_of (word_at S s p) ++ part (target S s p)
 same_cover {S = S} {R = R} {s = s} {p = p} part part' kept l m e =
@@ -159,6 +159,6 @@ mutual
       let others = frame_elements es grows (omega arith) (λ r x y. same r (omega arith) (omega arith)) (agree_right S R (cover_all S s (p + d) ts) (cover_elements S s (p + d + q) d q es) h) (record { means = rest }) in
       ((k, l, long, len, has_words_kept s p grows (omega arith) (λ r x y. same r x (omega arith)) e, first.0, others.0, g), ap₂ (λ x y. x ++ y) first.1 others.1)
 
--- as the law says it
+-- in the form of the law
 pub frame : (S R : Segments) (n s p : ℕ) (t : Tree) (c : ℕ) → Grows S R → word_at R s p ≡ word_at S s p → Agree S R (cover S s p t) → Means S n s p t c → Means R n s p t c × (cover R s p t ≡ cover S s p t)
 frame S R n s p t c grows same h m = frame_one t (record { grows = grows; same = same }) h (record { means = m })

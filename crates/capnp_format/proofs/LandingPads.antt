@@ -1,4 +1,4 @@
--- The landing pads of a word that leads somewhere lie in the message.
+-- The landing pads of a word that leads somewhere are inside the message.
 use Rattle.std.proofs.Common.{◌≡◌, ℕ, zero, suc, ◌+◌, ◌<◌, ◌≤◌, length, Option, Some, None, nat_eq, true, refl, arith, eq-eqb}
 use Rattle.std.proofs.lemmas.Bool.Decides.{nat_tests}
 use Rattle.capnp_format.specs.Word.{kind, is_double, far_position, upper_half}

@@ -1,4 +1,4 @@
--- The laws that are put together from other lemmas.
+-- The laws that are composed of other lemmas.
 use Rattle.std.proofs.Common.{◌≡◌, ◌↔◌, ℕ, ◌*◌, get_or, ◌<◌, ◌≤◌, inl, inr, ◌^◌, List, [], ◌∷◌, ◌++◌, length, replicate, take, Bool, true, false, nat_eq, zero, suc, ◌/◌, ◌%◌, eqb-true, eq-eqb, Option, Some, None, refl, sym, ap, ◌∙◌, subst, arith, length-append, le_trans}
 use Rattle.std.proofs.Math.ListN.{get_or-append, drop_of_length-le}
 use Rattle.std.proofs.Math.Seq.{take-nil}
@@ -31,7 +31,7 @@ levels_from_depth S n m s p t c h = (λ k. depth_within t (record { means = k })
 pub decode_agrees : (S : Segments) (n s p : ℕ) (t : Tree) (c : ℕ) → (decode S n s p ≡ Some (t, c)) ↔ Means S n s p t c
 decode_agrees S n s p t c = (λ e. at_some _ (decode S n s p) (t, c) e (decode_means S n s p), λ h. decode_finds S n s p t h)
 
--- where an option has no value
+-- an option without a value
 no_value : {A : Type 0} (o : Option A) → ((x : A) → o ≡ Some x → ⊥) → o ≡ None
 no_value (Some x) h = absurd (h x refl)
 no_value None h = refl
@@ -91,11 +91,12 @@ canonical_again t u more n c v f h =
     let l = one_value _ n (depth (trim t)) 0 0 u (trim t) c (charge (trim t)) h (encoding_means (trim t) more (trim-value t v) f) in
     ap (λ x. encoding (trim x)) l.0 ∙ ap encoding (trim-trim t)
 
--- behind the end of a segment only an empty body stands
+-- after the end of a segment there is only an empty body
 empty_past : (S : Segments) (s h : ℕ) (ws : List ℕ) → length (segment S s) ≤ h → HasWords S s h ws → ws ≡ []
 empty_past S s h ws past e = sym e ∙ ap (take (length ws)) (drop_of_length-le (segment S s) past) ∙ take-nil (length ws)
 
--- a value whose head is behind its segment stands there too where the segment is longer
+-- canonical words of t with the body at or after the end of their segment are also canonical words
+-- of t in a longer segment
 longer : {S : Segments} {s p h : ℕ} {t : Tree} → length (segment S s) ≤ h → Standing S s p h t → Stands ((segment S s ++ replicate h 0) ∷ []) 0 p h t
 longer {S = S} {s = s} {p = p} {h = h} {t = t} past standing =
     let a = standing.stands in

@@ -1,5 +1,6 @@
--- A place means at most one value, at one cost; more levels keep it, and as many as its depth are enough.
--- `one_value` takes its arguments one by one: it is the answer to a law, and other crates cite it so.
+-- A place means at most one value, at one cost. More levels keep it, and as many as its depth are
+-- enough. `one_value` takes its arguments one by one, because it is the answer to a law, and other
+-- crates cite it in this form.
 use Rattle.std.proofs.Common.{◌≡◌, ℕ, pred, ◌≤◌, max, sym, ◌∙◌, arith}
 use Rattle.std.proofs.lemmas.Option.{some_pair_parts}
 use Rattle.capnp_format.specs.Segments.{Segments}
@@ -8,7 +9,7 @@ use Rattle.capnp_format.specs.Means.{Means, MeansAll, MeansElements}
 use Rattle.capnp_format.proofs.Meant.{Meant, AllMeant, ElementsMeant}
 use Rattle.capnp_format.proofs.Reading.{decode_finds}
 
--- m levels serve as well as n, where they reach the value's depth
+-- m levels are as good as n, if m is at least the value's depth
 mutual
   pub other_levels : {S : Segments} {n s p c : ℕ} (m : ℕ) (t : Tree) → depth t ≤ m → Meant S n s p t c → Means S m s p t c
   other_levels m Null le h = h.means
@@ -38,7 +39,7 @@ mutual
       let (k, l, long, len, e, all, rest, g) = h.means in
       (k, l, long, len, e, other_levels_all m ts (omega arith) (record { means = all }), other_levels_elements m es (omega arith) (record { means = rest }), g)
 
--- no fewer
+-- the levels n are at least the value's depth
 mutual
   pub depth_within : {S : Segments} {n s p c : ℕ} (t : Tree) → Meant S n s p t c → depth t ≤ n
   depth_within Null h = omega arith
@@ -68,7 +69,7 @@ mutual
       let (k, l, long, len, e, all, rest, g) = h.means in
       omega (arith, depth_within_all ts (record { means = all }), depth_within_elements es (record { means = rest }))
 
--- at most one value and one cost, whatever the levels
+-- at most one value and one cost, with any levels
 pub one_value : (S : Segments) (n m s p : ℕ) (t u : Tree) (c e : ℕ) → Means S n s p t c → Means S m s p u e → (t ≡ u) × (c ≡ e)
 one_value S n m s p t u c e h k =
     let left_within : depth t ≤ n = depth_within t (record { means = h }) in

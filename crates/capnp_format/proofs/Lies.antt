@@ -1,4 +1,4 @@
--- Where a value's pointer and body lie, the place means the value.
+-- If a value's pointer and body are at a place, the place means the value.
 use Rattle.std.proofs.Common.{◌≡◌, ◌≢◌, inl, inr, ℕ, zero, suc, pred, ◌+◌, ◌-◌, ◌*◌, ◌^◌, ◌<◌, ◌≤◌, cond, nat_eq, List, [], ◌∷◌, ◌++◌, length, Some, refl, sym, ap, ◌∙◌, subst, arith, length-append, pow-add, pow_mono, pow-suc, lt_of_lt_of_le, ne_eqb, mul-zero}
 use Rattle.std.proofs.lemmas.Bool.{cases_lt}
 use Rattle.std.proofs.Math.Nat.{pow-zero}
@@ -33,7 +33,7 @@ reaches_offset p h r =
     backward : (p h : ℕ) → Reaches p h → h < p + 1 → h + 2 ^ 30 ≡ p + 1 + offset_to p h
     backward p h r l = omega arith
 
--- the offset of the word x, read at p, leads to h, which lies in the segment
+-- the offset of the word x, read at p, leads to h, which is inside the segment
 pub record LandsAt (S : Segments) (s p x h : ℕ) : Type 0 where
   pub inside : h ≤ length (segment S s)
   pub offset : IsOffsetTo p (offset_bits x) h
@@ -59,7 +59,7 @@ unpacked-packed size ns h =
     ap (digits (2 ^ element_bits size) (length ns)) (from_digits-digits (2 ^ 64) (words_for size (length ns)) x (omega arith) fits)
     ∙ digits-from_digits (2 ^ element_bits size) ns h
 
--- the pointer of a value h words along is the one whose bits are k
+-- the pointer of a value with its body k words after it has the offset k
 offset_ahead : (p k : ℕ) → k < 2 ^ 29 → offset_to p (p + 1 + k) ≡ k
 offset_ahead p k l = omega arith
 
@@ -86,12 +86,12 @@ reaches_ahead (Flat size ns) p k l = reach_ahead p k l
 reaches_ahead (Pointers ts) p k l = reach_ahead p k l
 reaches_ahead (Structs d q es) p k l = reach_ahead p k l
 
--- a pointer at p reaches the head h, which lies in the segment
+-- a pointer at p reaches the body at h, which is inside the segment
 record ReachesHead (S : Segments) (s p h : ℕ) : Type 0 where
   inside : h ≤ length (segment S s)
   reaches : Reaches p h
 
--- a struct's word, where it leads
+-- a struct's word, and where it leads
 struct_at : {S : Segments} {s p h d q : ℕ} → d < 2 ^ 16 → q < 2 ^ 16 → 0 < d + q → ReachesHead S s p h → word_at S s p ≡ struct_word (offset_to p h) d q →
     StructAt S s p (record { word = struct_word (offset_to p h) d q; segment = s; start = h; pads = 0 }) d q
 struct_at {S = S} {s = s} {p = p} {h = h} {d = d} {q = q} ld lq some r e =
@@ -113,18 +113,18 @@ list_at {S = S} {s = s} {p = p} {h = h} {size = size} {n = n} ls r e =
 pub tag_is : (n d q : ℕ) → n < 2 ^ 30 → d < 2 ^ 16 → q < 2 ^ 16 → IsTag (struct_word n d q) n d q
 tag_is n d q a b c = record { is_struct = omega arith; counts = omega arith; data_of = omega arith; pointers = omega arith }
 
--- a value lies where there is room for its pointer and its body
+-- S has the pointer of t at (s, p) and its body at h, both inside the segment
 pub record LiesAt (S : Segments) (s p h : ℕ) (t : Tree) : Type 0 where
   pub place : p < length (segment S s)
   pub inside : h ≤ length (segment S s)
   pub lies : Lies S s p h t
 
--- children are meant within one level less than n
+-- the children mean ts with one level less than n
 record InnerMeant (S : Segments) (n s p : ℕ) (ts : Trees) (c : ℕ) : Type 0 where
   some_levels : 0 < n
   means : MeansAll S (pred n) s p ts c
 
--- a struct's pointer and words, once its children are read
+-- a struct's pointer and words, after its children are read
 struct_lies : {S : Segments} {n s p h : ℕ} {ws : List ℕ} {ts : Trees} → length ws < 2 ^ 16 → count ts < 2 ^ 16 → LiesAt S s p h (Struct ws ts) →
     h + (length ws + count ts) ≤ length (segment S s) → InnerMeant S n s (h + length ws) ts (charge_all ts) → Means S n s p (Struct ws ts) (charge (Struct ws ts))
 struct_lies {S = S} {s = s} {p = p} {ws = []} {ts = no_trees} lw lt at claim inner =
@@ -162,14 +162,14 @@ struct_lies {S = S} {s = s} {p = p} {h = h} {ws = x ∷ xs} {ts = ts} lw lt at c
       omega arith,
     )
 
--- pointers from p on, and the bodies k words behind them
+-- the pointers of ts from p on, and their bodies k words after them
 record AllLie (S : Segments) (s p k : ℕ) (ts : Trees) : Type 0 where
   fit : OffsetsFit k ts
   words : HasWords S s p (pointers k ts)
   behind : HasWords S s (p + count ts + k) (bodies ts)
   inside : p + count ts + k ≤ length (segment S s)
 
--- elements from p on, and the bodies of their children k words behind them
+-- elements from p on, and the bodies of their children k words after them
 record RowsLie (S : Segments) (s p d q k : ℕ) (es : Elements) : Type 0 where
   fit : RowsFit d q k es
   words : HasWords S s p (rows d q k es)

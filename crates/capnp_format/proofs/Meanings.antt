@@ -1,5 +1,5 @@
--- What a place means, from the widths that its words say.
--- These lemmas take each part of a meaning by itself: other crates cite them so.
+-- What a place means, by the widths that its words state. These lemmas take each part of a meaning
+-- by itself, because other crates cite them in this form.
 use Rattle.std.proofs.Common.{◌≡◌, ℕ, pred, ◌+◌, ◌<◌, ◌≤◌, List, length, sym, ◌∙◌, arith}
 use Rattle.capnp_format.specs.Numbers.{words_for, unpacked}
 use Rattle.capnp_format.specs.Segments.{Segments, words_at, Target}

@@ -1,4 +1,4 @@
--- Where `decode` reads nothing, the place means nothing.
+-- If `decode` reads nothing, the place means nothing.
 use Rattle.std.proofs.Common.{◌≡◌, ℕ, None}
 use Rattle.capnp_format.specs.Segments.{Segments}
 use Rattle.capnp_format.specs.Tree.{Tree}

@@ -1,4 +1,4 @@
--- The bits behind the elements of a list, by its last word alone.
+-- The bits after the elements of a list, only by its last word.
 use Rattle.std.proofs.Common.{◌≡◌, ◌≢◌, ℕ, zero, suc, ◌+◌, ◌*◌, ◌/◌, ◌%◌, ◌^◌, ◌<◌, ◌≤◌, ◌↔◌, inl, inr, List, [], ◌∷◌, ◌++◌, length, take, drop, refl, sym, ap, ◌∙◌, subst, arith, pow-suc, pow-add, pow_pos, mul-le-mul_left, mul_comm, get_or-drop, length-drop}
 use Rattle.std.proofs.lemmas.List.{take_more}
 use Rattle.std.proofs.Math.Nat.{pow-zero}
@@ -12,11 +12,11 @@ use Rattle.capnp_format.proofs.Digits.{length-digits, from_digits-below, from_di
 use Rattle.capnp_format.proofs.Lies.{pow_pow}
 use Rattle.capnp_format.proofs.Slices.{length_words, has_words_at}
 
--- One digit more in front shifts the others.
+-- One more digit in front shifts the others.
 digit_step : (x b A P Q y : ℕ) → Q ≡ P * b → x + b * (A + P * y) ≡ x + b * A + Q * y
 digit_step x b A P Q y e = rw e (omega arith)
 
--- The last digit counts by the power of its place.
+-- The last digit counts with the power of its position.
 last_digit : (b : ℕ) (xs : List ℕ) (x : ℕ) → from_digits b (xs ++ x ∷ []) ≡ from_digits b xs + b ^ length xs * x
 last_digit b [] x = rw (pow-zero b) (omega arith)
 last_digit b (y ∷ ys) x = ap (λ n. y + b * n) (last_digit b ys x) ∙ digit_step y b (from_digits b ys) (b ^ length ys) (b ^ suc (length ys)) x (pow-suc b (length ys))
@@ -25,11 +25,12 @@ last_digit b (y ∷ ys) x = ap (λ n. y + b * n) (last_digit b ys x) ∙ digit_s
 too_much : (A P x R : ℕ) → R ≤ x → A + P * x < P * R → ⊥
 too_much A P x R l h = omega (arith, mul-le-mul_left P l)
 
--- A high part that is small is small with any low part of its own place.
+-- A small high part is small with any low part below its own unit.
 little : (A P x R : ℕ) → A < P → suc x ≤ R → A + P * x < P * R
 little A P x R a l = omega (arith, mul-le-mul_left P l)
 
--- A number is below a limit of whole high parts exactly where its high part is below the limit's.
+-- A number is below a limit of whole high parts exactly if its high part is below that of the
+-- limit.
 high_part : (A P x R : ℕ) → A < P → (A + P * x < P * R) ↔ (x < R)
 high_part A P x R a = (
   (λ h. elim (cases_lt x R) [
@@ -45,7 +46,8 @@ words_at-last S s h j l =
     let xs = drop h (segment S s) in
     ap (λ n. take n xs) (let e : suc j ≡ j + 1 = omega arith in e) ∙ take_more xs j 0 (omega (arith, length-drop h (segment S s))) ∙ ap (λ x. words_at S s h j ++ x ∷ []) (get_or-drop h (segment S s) j 0)
 
--- Where of the last word the low r bits are used, the bits behind the elements are zero exactly where the word is below 2^r.
+-- If the last word uses its low r bits, the bits after the elements are zero exactly if the word is
+-- below 2^r.
 pub padded_last : (S : Segments) (s h size n j r : ℕ) → HasSmallWords S s → h + suc j ≤ length (segment S s) → words_for size n ≡ suc j → element_bits size * n ≡ 64 * j + r → IsPadded S s h size n ↔ (word_at S s (h + j) < 2 ^ r)
 padded_last S s h size n j r w l e b =
     let ws = words_at S s h j in
@@ -61,14 +63,14 @@ padded_last S s h size n j r w l e b =
       (λ g. subst (λ y. from_digits (2 ^ 64) (words_at S s h (words_for size n)) < y) (sym limit) (subst (λ y. y < P * 2 ^ r) (sym all) (f.1 g))),
     )
 
--- Behind elements of no words there are no bits.
+-- After elements without words there are no bits.
 pub padded_none : (S : Segments) (s h size n : ℕ) → words_for size n ≡ 0 → IsPadded S s h size n
 padded_none S s h size n e = subst (λ m. from_digits (2 ^ 64) (words_at S s h m) < 2 ^ (element_bits size * n)) (sym e) (pow_pos (element_bits size * n))
 
 words_are : (size n : ℕ) → words_for size n ≡ (element_bits size * n + 63) / 64
 words_are size n = ap (λ b. (b + 63) / 64) (mul_comm n (element_bits size))
 
--- Elements that fill their words have no bits behind them.
+-- Elements that fill their words have no bits after them.
 pub no_rest : (S : Segments) (s h size n : ℕ) → HasSmallWords S s → h + words_for size n ≤ length (segment S s) → element_bits size * n % 64 ≡ 0 → IsPadded S s h size n × (words_for size n ≡ element_bits size * n / 64)
 no_rest S s h size n small room rest = go (words_for size n) refl
   where
@@ -79,7 +81,7 @@ no_rest S s h size n small room rest = go (words_for size n) refl
 small_quotient : (x r : ℕ) → x / 2 ^ r ≡ 0 ↔ x < 2 ^ r
 small_quotient x r = ((λ e. grind (arith, e, pow_pos r)), (λ l. grind (arith, l, pow_pos r)))
 
--- Else the bits behind them are those of one word more, above the bits that are used.
+-- Otherwise the bits after them are those of one more word, above the bits that are used.
 pub some_rest : (S : Segments) (s h size n : ℕ) → HasSmallWords S s → h + words_for size n ≤ length (segment S s) → element_bits size * n % 64 ≢ 0 →
     (words_for size n ≡ element_bits size * n / 64 + 1) × (IsPadded S s h size n ↔ (word_at S s (h + element_bits size * n / 64) / 2 ^ (element_bits size * n % 64) ≡ 0))
 some_rest S s h size n small room rest =
@@ -90,7 +92,7 @@ some_rest S s h size n small room rest =
     let g = small_quotient (word_at S s (h + whole)) (bits % 64) in
     (omega (arith, e), ((λ p. g.1 (f.0 p)), (λ x. f.1 (g.0 x))))
 
--- Elements that are read of words, with zeros behind them, are packed into the same words again.
+-- Elements that are read from words, with zeros after them, are packed again into the same words.
 pub packed-unpacked : (size n : ℕ) (ws : List ℕ) → AreBelow (2 ^ 64) ws → length ws ≡ words_for size n → from_digits (2 ^ 64) ws < 2 ^ (element_bits size * n) → packed size (unpacked size n ws) ≡ ws
 packed-unpacked size n ws h e small =
     let x = from_digits (2 ^ 64) ws in

@@ -1,4 +1,4 @@
--- A place means exactly what decode reads there.
+-- A place means exactly what `decode` reads there.
 use Rattle.std.proofs.Common.{◌≡◌, ◌≢◌, ℕ, zero, suc, ◌+◌, ◌*◌, ◌%◌, ◌^◌, ◌≤◌, Bool, true, cond, nat_eq, nat_le, List, length, Option, Some, refl, sym, ap, ap₂, ◌∙◌, arith, ne_eqb, le-leb, eq-eqb}
 use Rattle.capnp_format.specs.Word.{kind, data_words, pointer_count, upper_half, offset_bits}
 use Rattle.capnp_format.specs.Numbers.{words_for, unpacked}
@@ -46,20 +46,20 @@ pointers_there {S = S} {n = n} {k = k} {a = a} {ts = ts} f o claim r g =
     ∙ bind_some _ (ts, k) (λ x. Some (Pointers x.0, a.pads + n + x.1)) r
     ∙ cc g
 
--- n words lie behind the tag of a list of structs, and hold its elements
+-- n words after the tag of a list of structs are in the segment, and hold its elements es
 record RowsAt (S : Segments) (a : Target) (n d q : ℕ) (es : Elements) : Type 0 where
   claims : Claims S a (n + 1)
   tag : IsTag (word_at S a.segment a.start) (element_count es) d q
   fits : element_count es * (d + q) ≤ n
 
--- what a tag's word, its count and its two widths say
+-- a tag's word, its count and its two widths
 record Tag : Type 0 where
   word : ℕ
   elements : ℕ
   data_of : ℕ
   pointers : ℕ
 
--- behind a tag
+-- reading the elements after a tag
 abbrev tagged : Segments → (ℕ → ℕ → Read Tree) → ℕ → Target → Tag → Read Tree
 tagged S f n a g =
     given (nat_eq (kind g.word) 0) g.elements >>= λ _.
@@ -94,7 +94,7 @@ null_found : {c : ℕ} (S : Segments) (f : Target → Read Tree) (s p : ℕ) →
 null_found S f s p e g =
     ap (λ b. cond b (Some (Null, 0)) (leads S s p >>= λ a. cond (nat_eq (a.word % 2 ^ 32) 3) (Some (Capability (upper_half a.word), a.pads)) (f a))) (eq-eqb _ _ e) ∙ cc g
 
--- a capability's meaning is the same at any number of levels
+-- a capability has the same meaning with any number of levels
 capability_found : {i c : ℕ} (S : Segments) (f : Target → Read Tree) (s p : ℕ) → Means S 0 s p (Capability i) c → read_place S f s p ≡ Some (Capability i, c)
 capability_found {i = i} S f s p (a, h, e, g) =
     let is_i : upper_half a.word ≡ i = omega arith in

@@ -1,5 +1,5 @@
--- Words one behind the other in a segment.
--- `moved` takes its arguments one by one: another crate cites it so.
+-- Consecutive words in a segment. `moved` takes its arguments one by one, because another crate
+-- cites it in this form.
 use Rattle.std.proofs.Common.{◌≡◌, ℕ, zero, suc, ◌+◌, ◌<◌, ◌≤◌, List, [], ◌∷◌, ◌++◌, length, get_or, take, drop, refl, sym, ap, ◌∙◌, subst, arith, length-append, length-take, length-drop, take-take, take_at, drop_at, drop-drop, get_or-take, get_or-drop}
 use Rattle.std.proofs.lemmas.List.{drop-take}
 use Rattle.capnp_format.specs.Segments.{Segments, segment, word_at, words_at, HasWords}
@@ -7,7 +7,7 @@ use Rattle.capnp_format.specs.Segments.{Segments, segment, word_at, words_at, Ha
 pub length_words : (S : Segments) (s p n : ℕ) → p + n ≤ length (segment S s) → length (words_at S s p n) ≡ n
 length_words S s p n h = omega (arith, length-take n (drop p (segment S s)), length-drop p (segment S s))
 
--- The words of a segment stand where they are.
+-- A segment has its own words at their places.
 pub has_words_at : (S : Segments) (s h n : ℕ) → h + n ≤ length (segment S s) → HasWords S s h (words_at S s h n)
 has_words_at S s h n l = ap (λ m. words_at S s h m) (length_words S s h n l)
 
@@ -37,7 +37,7 @@ has_words_within S s h xs e l = omega (arith, length-take (length xs) (drop h (s
 pub moved : (S : Segments) (s h i : ℕ) (ws : List ℕ) → h ≡ i → HasWords S s h ws → HasWords S s i ws
 moved S s h i ws e b = subst (λ j. HasWords S s j ws) e b
 
--- A segment that has a word is there.
+-- A segment that has a word exists.
 pub there : (S : Segments) (s p : ℕ) → p < length (segment S s) → s < length S
 there [] s p l = absurd (omega arith)
 there (xs ∷ S) zero p l = omega arith

@@ -1,4 +1,4 @@
--- What decode reads at a place, the place means.
+-- A place means what `decode` reads there.
 use Rattle.std.proofs.Common.{◌≡◌, ℕ, zero, suc, ◌+◌, ◌*◌, ◌%◌, ◌^◌, ◌≤◌, Bool, true, false, cond, nat_eq, length, Option, Some, None, IfSome, refl, sym, ap, subst, arith, eqb-true, leb-true}
 use Rattle.std.proofs.lemmas.Bool.{eqb-false}
 use Rattle.capnp_format.specs.Word.{kind, data_words, pointer_count, element_size, list_count, upper_half, offset_bits}
@@ -31,11 +31,11 @@ pub at_some : {A : Type 0} (P : A → Type 0) (o : Option A) (x : A) → o ≡ S
 at_some P (Some y) x e h = rw (let q : y ≡ x = cc e in q) at h
 at_some P None x e h = absurd (cc e)
 
--- what a reader of places gives is meant there, within n levels
+-- each value that f reads at a place is meant there, within n levels
 record GivesMeant (S : Segments) (n : ℕ) (f : ℕ → ℕ → Read Tree) : Type 0 where
   at : (s p : ℕ) → IfSome (f s p) (λ r. Means S n s p r.0 r.1)
 
--- m elements of d data words and q pointers lie in their segment
+-- m elements of d data words and q pointers are inside their segment
 record HasRows (S : Segments) (s p d q m : ℕ) : Type 0 where
   fits : p + m * (d + q) ≤ length (segment S s)
 

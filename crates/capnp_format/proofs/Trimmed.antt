@@ -1,4 +1,4 @@
--- A trimmed value is a value, has the same levels and capabilities, and fits where its words are few.
+-- A trimmed value is a value, has the same levels and capabilities, and fits if it has few words.
 use Rattle.std.proofs.Common.{◌≡◌, ℕ, zero, suc, ◌+◌, ◌*◌, ◌<◌, ◌≤◌, ◌^◌, max, true, refl, sym, ap, ap₂, ◌∙◌, arith, length-take}
 use Rattle.capnp_format.specs.Tree.{Tree, Null, Capability, Struct, Flat, Pointers, Structs, Trees, no_trees, tree, Elements, no_elements, element, count, element_count, depth, depth_all, depth_elements, capabilities, capabilities_all, capabilities_elements}
 use Rattle.capnp_format.specs.Canonical.{is_null, used_words, used_trees, take_trees, data_width, pointer_width, cut_to, trim, trim_each, trim_elements, word_count, word_count_all, word_count_elements, OffsetsFit, RowsFit, IsEncodable, AreEncodable, AreEncodableElements}
@@ -48,7 +48,7 @@ mutual
   trim_elements-values d q no_elements v = tt
   trim_elements-values d q (element ws ts es) v = (v.0, trim_each-count ts ∙ v.1, v.2, trim_each-values ts v.3, trim_elements-values d q es v.4)
 
--- what is cut off has no level and no capability
+-- what is cut off has no levels and no capabilities
 null_is_nothing : (t : Tree) → is_null t ≡ true → (depth t ≡ 0) × (capabilities t ≡ 0)
 null_is_nothing Null e = (refl, refl)
 null_is_nothing (Capability i) e = absurd (cc e)

@@ -4,7 +4,7 @@ use Rattle.capnp_format.specs.Tree.{Tree, Null, Capability, Struct, Flat, Pointe
 use Rattle.capnp_format.specs.Canonical.{used_from, used_words, is_null, used_trees, take_trees, data_width, pointer_width, cut_to, cut_struct, cut_structs, trim, trim_each, trim_elements, word_count, word_count_all, word_count_elements}
 use Rattle.capnp_format.specs.Value.{IsValue, AreValues, AreElements}
 
--- a part that is used
+-- the part that is used
 
 used_from-le : (b : Bool) (n : ℕ) → used_from b n ≤ suc n
 used_from-le true zero = omega arith
@@ -16,7 +16,7 @@ used_from-rest b zero n l = omega arith
 used_from-rest true (suc k) n l = omega arith
 used_from-rest false (suc k) n l = omega arith
 
--- a list of which nothing is used is empty at its first cell, and nothing of the rest is used
+-- if no part of a list is used, its first cell is empty and nothing of the rest is used
 pub used_from-past : (b : Bool) (k : ℕ) → used_from b k ≤ 0 → (b ≡ true) × (k ≡ 0)
 used_from-past true zero l = (refl, refl)
 used_from-past true (suc k) l = absurd (omega arith)
@@ -137,7 +137,7 @@ widths-le d q no_elements h = (omega arith, omega arith)
 widths-le d q (element ws ts es) h =
     (omega (arith, used_words-le ws, (widths-le d q es h.4).0), omega (arith, used_trees-le (trim_each ts), trim_each-count ts, (widths-le d q es h.4).1))
 
--- e data words and r pointers are no more than d and q
+-- e data words and r pointers are at most d and q
 pub record Narrower (e r d q : ℕ) : Type 0 where
   pub data_words : e ≤ d
   pub pointers : r ≤ q

@@ -1,4 +1,4 @@
--- Words determine the value whose canonical words they are.
+-- Canonical words determine their value.
 use Rattle.std.proofs.Common.{◌≡◌, ℕ, ◌≤◌, List, [], ◌∷◌, ◌++◌, length, refl, subst, arith, take_at}
 use Rattle.capnp_format.specs.Segments.{Segments, segment}
 use Rattle.capnp_format.specs.Tree.{Tree, Null, Capability, Struct, Flat, Pointers, Structs, no_trees, tree, depth}
@@ -28,31 +28,31 @@ encoding_means t more v f =
     } in
     lies_means (depth t) t v f (omega arith) at
 
--- the canonical words of a value that is encodable begin these words
+-- ws begin with the canonical words of t, which is a value and encodable
 pub record BeginsWith (ws : List ℕ) (t : Tree) : Type 0 where
   pub is_value : IsValue t
   pub encodable : IsEncodable t
   pub more : List ℕ
   pub begins : encoding t ++ more ≡ ws
 
--- no value's canonical words begin another one's
+-- the canonical words of one value don't begin those of another
 pub one_encoding : {ws : List ℕ} {t u : Tree} → BeginsWith ws t → BeginsWith ws u → t ≡ u
 one_encoding {ws = ws} {t = t} {u = u} a b =
     (one_value (ws ∷ []) (depth t) (depth u) 0 0 t u (charge t) (charge u)
     (subst (λ vs. Means (vs ∷ []) (depth t) 0 0 t (charge t)) a.begins (encoding_means t a.more a.is_value a.encodable))
     (subst (λ vs. Means (vs ∷ []) (depth u) 0 0 u (charge u)) b.begins (encoding_means u b.more b.is_value b.encodable))).0
 
--- canonical words mean their value, at the cost that their value has
+-- a place with canonical words of t means t, at t's cost
 pub stands_means : (S : Segments) (n s p h : ℕ) (t : Tree) → depth t ≤ n → h ≤ length (segment S s) → Stands S s p h t → Means S n s p t (charge t)
 stands_means S n s p h t levels l a =
     let at : LiesAt S s p h t = record { place = a.0; inside = l; lies = a.5 } in
     lies_means n t a.1 a.4 levels at
 
--- a value stands at a place and a head
+-- S has canonical words of t at (s, p), with the body at h
 pub record Standing (S : Segments) (s p h : ℕ) (t : Tree) : Type 0 where
   pub stands : Stands S s p h t
 
--- at most one value stands at a place
+-- a place has canonical words of at most one value
 pub one_stands : {S : Segments} {s p h : ℕ} {t u : Tree} → h ≤ length (segment S s) → Standing S s p h t → Standing S s p h u → t ≡ u
 one_stands {S = S} {s = s} {p = p} {h = h} {t = t} {u = u} l a b =
     (one_value S (depth t) (depth u) s p t u (charge t) (charge u) (stands_means S (depth t) s p h t (omega arith) l a.stands) (stands_means S (depth u) s p h u (omega arith) l b.stands)).0

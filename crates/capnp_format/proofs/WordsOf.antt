@@ -1,5 +1,6 @@
--- The words of bytes: joined, cut, one read, some written.
--- The lemmas on words put and cut keep their arguments one by one: other crates cite them so, by name and in rule sets.
+-- The words of bytes: joined, cut, one read, some written. The lemmas on words put and cut keep
+-- their arguments one by one, because other crates cite them in this form, by name and in rule
+-- sets.
 use Rattle.std.proofs.Common.{◌≡◌, ℕ, zero, suc, ◌+◌, ◌*◌, ◌/◌, ◌^◌, ◌<◌, ◌≤◌, List, [], ◌∷◌, ◌++◌, length, get_or, set, take, drop, replicate, refl, sym, ap, ◌∙◌, arith, length-take, length-drop, take-append-drop, take_at, drop_at, drop-drop, get_or-drop, add-zero}
 use Rattle.std.proofs.lemmas.List.{set_split, length-replicate}
 use Rattle.std.proofs.lemmas.Nat.{from_le_bytes-to_le_bytes_8}
@@ -7,11 +8,11 @@ use Rattle.std.specs.Int.{from_le_bytes, to_le_bytes, w64}
 use borrow.Rule.Slice.PartMut.{put_mid}
 use Rattle.capnp_format.specs.Bytes.{words_of}
 
--- eight times a successor, as the lists count
+-- eight times a successor, in the form in which lists count
 eights : (n : ℕ) → 8 * suc n ≡ suc (suc (suc (suc (suc (suc (suc (suc (8 * n))))))))
 eights n = omega arith
 
--- bytes of n words before others
+-- n words of bytes before other bytes
 pub words_of-append : (n : ℕ) (xs ys : List ℕ) → length xs ≡ 8 * n → words_of (xs ++ ys) ≡ words_of xs ++ words_of ys
 words_of-append zero [] ys l = refl
 words_of-append (suc n) (a ∷ b ∷ c ∷ d ∷ e ∷ f ∷ g ∷ h ∷ rest) ys l =
@@ -55,7 +56,7 @@ pub words_of-zeros : (n : ℕ) → words_of (replicate (8 * n) 0) ≡ replicate 
 words_of-zeros zero = refl
 words_of-zeros (suc n) = ap (λ k. words_of (replicate k 0)) (eights n) ∙ ap (λ ws. 0 ∷ ws) (words_of-zeros n)
 
--- words written over others
+-- words that overwrite others
 pub words_of-put_mid : (a k : ℕ) (bs ys : List ℕ) → 8 * (a + k) ≤ length bs → length ys ≡ 8 * k → words_of (put_mid (8 * a) (8 * k) bs ys) ≡ put_mid a k (words_of bs) (words_of ys)
 words_of-put_mid a k bs ys l m =
     words_of-append a (take (8 * a) bs) (ys ++ drop (8 * k) (drop (8 * a) bs)) (omega (arith, length-take (8 * a) bs))
@@ -72,7 +73,7 @@ words_of-put {ys = ys} a w bs l m e =
     ∙ ap (λ ws. take a (words_of bs) ++ (w ∷ ws)) (drop-drop 1 a (words_of bs) ∙ ap (λ n. drop n (words_of bs)) (let q : a + 1 ≡ suc a = omega arith in q))
     ∙ sym (set_split (words_of bs) a w (omega (arith, words bs)))
 
--- one word written, in the form that code has it
+-- one word written, in the form that the code has
 pub words_of-put_at : (a w start k : ℕ) (bs ys : List ℕ) → start ≡ 8 * a → k ≡ 8 → 8 * a + 8 ≤ length bs → w < 2 ^ 64 → ys ≡ to_le_bytes w64 w → words_of (put_mid start k bs ys) ≡ set (words_of bs) a w
 words_of-put_at a w start k bs ys s e l m b = rw (s, e) (words_of-put a w bs l m b)
 
@@ -106,7 +107,7 @@ words_of-part a n i j bs e f l =
 
 pub ruleset part_words = (words_of-part, words)
 
--- Each word of bytes is one of 64 bits.
+-- Each word of bytes has 64 bits.
 pub small_word : (bs : List ℕ) → ((i : ℕ) → get_or bs i 0 < 256) → (i : ℕ) → get_or (words_of bs) i 0 < 2 ^ 64
 small_word (a ∷ b ∷ c ∷ d ∷ e ∷ f ∷ g ∷ h ∷ rest) l zero = omega (arith, l 0, l 1, l 2, l 3, l 4, l 5, l 6, l 7)
 small_word (a ∷ b ∷ c ∷ d ∷ e ∷ f ∷ g ∷ h ∷ rest) l (suc i) = small_word rest (λ j. l (suc (suc (suc (suc (suc (suc (suc (suc j))))))))) i

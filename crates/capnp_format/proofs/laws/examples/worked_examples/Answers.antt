@@ -15,7 +15,7 @@ use Rattle.capnp_format.proofs.Sound.{decode_means, at_some}
 use Rattle.capnp_format.proofs.Nulls.{decode_none}
 use Rattle.capnp_format.proofs.ManyEmpty.{many_means}
 
--- what a read value gives
+-- the canonical words and the cost of a value that was read
 abbrev words_and_cost : Option (Tree × ℕ) → Option (List ℕ × ℕ)
 words_and_cost o = option_map {U = List ℕ × ℕ} (λ x. (encoding (trim x.0), x.1)) o
 
@@ -31,7 +31,7 @@ canonical_words S n c words h = from_read S n (decode S n 0 0) refl h
 means_nothing : (S : Segments) (n : ℕ) → decode S n 0 0 ≡ None → MeansNothing S n
 means_nothing S n e t c h = decode_none {S = S} {n = n} {s = 0} {p = 0} {c = c} {t = t} e (record { means = h })
 
--- two children alike, and the message of one struct, of one word
+-- two equal children, and the message of one struct, which has one word
 abbrev two_children : Tree
 two_children = Struct [] (tree (Struct (9 ∷ []) no_trees) (tree (Struct (9 ∷ []) no_trees) no_trees))
 
@@ -48,7 +48,7 @@ not_apart t h =
     let most : times (root ∷ cover shared_child 0 0 two_children) 0 3 ≤ 1 = subst (λ u. times (root ∷ cover shared_child 0 0 u) 0 3 ≤ 1) same (h.apart 0 3) in
     omega arith
 
--- a struct of one word behind the root, and a word of zero
+-- a struct of one word after the root, and a word of zero
 once : (u q : ℕ) → times (root ∷ cover one_word 0 0 (Struct (9 ∷ []) no_trees)) u q ≤ 1
 once u q = grind (arith, nat_tests)
 
