@@ -1,4 +1,4 @@
--- A message that has an answer is not refused one, but for want of memory.
+-- A message that has an answer is refused only for lack of memory.
 use Rattle.std.proofs.Common.{◌≡◌, inl, inr, ℕ, ◌+◌, ◌≤◌, Option, Some, subst, arith}
 use Rattle.capnp_words.specs.Meter.{FitsIn}
 use Rattle.capnp_words.specs.declared.error.ErrorKind.{ErrorKind}
@@ -21,13 +21,13 @@ use Rattle.capnp_messages.specs.declared.messages.command.Command.TheVariants.{C
 use Rattle.capnp_messages.proofs.CanonLemmas.{covers_rest}
 use Rattle.capnp_messages.proofs.TestLemmas.{never_stops}
 
--- a root pointer that the limit covers is not refused
+-- a root pointer that the limit covers isn't refused
 root_refused : {S : Segments} {limit : Option ℕ} {k : ErrorKind} → CoversRoot S limit → RefusesRoot S limit k → ⊥
 root_refused covers (no_root named none) = none covers.root
 root_refused covers (no_budget named root none) =
     let covered : FitsIn (Some 0) 1 = subst (λ (b : Option ℕ). FitsIn b 1) none covers.covered in omega arith
 
--- nor is a copy of a value, whose canonical words fit a segment
+-- the copy of a value isn't refused if its canonical words fit a segment
 pub canon_refused : (S : Segments) (limits : ReaderOptions) (t : Tree) {k : ErrorKind} →
     IsValueOf S limits t → 1 + word_count (trim t) ≤ max_segment_words → RefusesCanon S limits k → ⊥
 canon_refused S limits t value fits (inl root) = root_refused value.root root
@@ -37,13 +37,13 @@ canon_refused S limits t value fits (inr (covers, inr (m, refused))) =
     (unreadable refused).only t value.cost value.means (λ _. value.free)
     (covers_rest limits.traversal_limit_in_words value.cost value.covered)
 
--- where there is one, a refusal is want of memory, which was counted
+-- if there is a canonical copy, a refusal is for lack of memory, which was counted
 pub copy_lacks_memory : (S : Segments) (limits : ReaderOptions) {old new : ℕ} {k : ErrorKind} →
     HasCanonicalCopy S limits → LacksMemoryOr old new k (RefusesCanon S limits k) → (k ≡ AllocationFailed) × (new ≡ one_more old)
 copy_lacks_memory S limits has (inl memory) = memory
 copy_lacks_memory S limits (t, value, fits) (inr (refused, same)) = absurd (canon_refused S limits t value fits refused)
 
--- nor the test of a message that can be read
+-- the test of a message that can be read isn't refused
 pub check_refused : (S : Segments) (limits : ReaderOptions) {k : ErrorKind} →
     IsReadable S limits → RefusesCheck S limits k → ⊥
 check_refused S limits read (one, (m, inl (root, same))) = root_refused read.root root
@@ -56,7 +56,7 @@ pub size_refused : (S : Segments) (limits : ReaderOptions) {k : ErrorKind} →
 size_refused S limits (covers, has) (inl root) = root_refused covers root
 size_refused S limits (covers, has) (inr (same, (m, refused))) = no_size refused has
 
--- where there is an answer, memory alone is refused
+-- if there is an answer, the only refusal is AllocationFailed
 pub answer_refused : (command : Command) (limits : ReaderOptions) (S : Segments) {k : ErrorKind} →
     HasAnswerWithin command limits S → RefusesAnswer command limits S k → k ≡ AllocationFailed
 answer_refused (Canon form) limits S (t, value, fits) (inl memory) = memory

@@ -12,12 +12,12 @@ use Rattle.capnp_messages.specs.CanonicalMessages.{IsCanonicalMessage, IsCanonic
 use Rattle.capnp_messages.specs.Messages.{IsValueOf}
 use Rattle.capnp_messages.proofs.CanonicalMessageLemmas.{has_root, means_its_value}
 
--- a limit that covers more covers less
+-- a limit that covers `more` words covers n of them
 covers_less : (limit : Option ℕ) (n more : ℕ) → n ≤ more → FitsIn limit more → FitsIn limit n
 covers_less None n more less covered = tt
 covers_less (Some left) n more less covered = omega arith
 
--- what the test of a canonical message has found and paid is its value within the limits
+-- what the test of a canonical message found and paid is the message's value within the limits
 value_within : {S : Segments} {limits : ReaderOptions} {n : ℤ} {old new : Meter} → n ≡ limits.nesting_limit →
     old ≡ unused limits.traversal_limit_in_words → IsWithinLevels S (levels n) → IsPaid S old new →
     (t : Tree) × IsValueOf S limits t × IsCanonicalOf S t
@@ -50,20 +50,21 @@ only_bytes [] bytes one got = absurd (omega (arith, one))
 only_bytes (b ∷ []) bytes one got = ap (λ (s : List ℕ). s ∷ []) (let same : b ≡ bytes = cc in same)
 only_bytes (b ∷ d ∷ B) bytes one got = absurd (omega (arith, one))
 
--- Segments are this one alone, and the message is the canonical one of a value that it has within the limits.
+-- The segments are only this one, and the message is the canonical one of a value that it has
+-- within the limits.
 abbrev pub StandsWithin : List (List ℕ) → ReaderOptions → List ℕ → Type 0
 StandsWithin segments limits bytes =
     (segments ≡ bytes ∷ [])
     × ((t : Tree) × IsValueOf (message segments) limits t × IsCanonicalOf (message segments) t)
 
--- where a message is canonical, its first segment is all of it
+-- if a message is canonical, its first segment is all of it
 pub segment_stands : {B : List (List ℕ)} {bytes : List ℕ} {limits : ReaderOptions} {n : ℤ} {old new : Meter} →
     slice_get B 0 ≡ Some bytes → n ≡ limits.nesting_limit → old ≡ unused limits.traversal_limit_in_words →
     IsWithinLevels (message B) (levels n) → IsPaid (message B) old new → StandsWithin B limits bytes
 segment_stands {B} {bytes} got nesting begun within (t, canonical, paid) =
     (only_bytes B bytes (one_segment B (t, canonical)) got, value_within nesting begun within (t, canonical, paid))
 
--- the words of which are the canonical words of that value
+-- the segment's words are the canonical words of that value
 pub own_words : {B : List (List ℕ)} {bytes : List ℕ} (whole : List ℕ) {limits : ReaderOptions} → StandsWithin B limits bytes →
     words_of whole ≡ words_of bytes →
     (t : Tree) × IsValueOf (message B) limits t × (words_of whole ≡ encoding (trim t))
@@ -73,7 +74,7 @@ own_words {bytes = bytes} whole (same, (t, value, canonical)) is =
     let words : words_of bytes ≡ encoding (trim t) = cc in
     (t, value, is ∙ words)
 
--- and the message itself
+-- and they are the message itself
 pub own_message : {B : List (List ℕ)} {bytes : List ℕ} (whole : List ℕ) {limits : ReaderOptions} → StandsWithin B limits bytes →
     words_of whole ≡ words_of bytes → IsCanonicalMessage (message B) × (message B ≡ words_of whole ∷ [])
 own_message whole (same, (t, value, canonical)) is =

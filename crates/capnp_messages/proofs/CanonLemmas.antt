@@ -1,4 +1,5 @@
--- What a copy to the root of a fresh message leaves, and what a refused one says of the message that was read.
+-- What a copy to the root of a fresh message leaves, and what a refused one states about the
+-- message that was read.
 use Rattle.std.proofs.Common.{◌≡◌, ◌⊎◌, inl, inr, Some, None, ℕ, ◌+◌, ◌<◌, ◌≤◌, List, [], ◌∷◌, length, Bool, true, false, IsTrue, Option, IfSome, IsNone, refl, ap, sym, ◌∙◌, subst, arith, length-set}
 use Rattle.capnp_words.specs.declared.error.ErrorKind.{ErrorKind}
 use Rattle.capnp_words.specs.declared.error.ErrorKind.TheVariants.{AllocationFailed, MessageTooLarge}
@@ -40,7 +41,7 @@ only_segment [] ws one e = absurd (omega (arith, one))
 only_segment (x ∷ []) ws one e = ap (λ (s : List ℕ). s ∷ []) e
 only_segment (x ∷ y ∷ S) ws one e = absurd (omega (arith, one))
 
--- a copy to the root is all of the message, if that has one segment afterwards
+-- a copy to the root is the whole message, if the message has one segment afterwards
 pub made_copy : (r : Reading) (left : Option ℕ) (old made : View) (l m : Meter) → old.words ≡ (0 ∷ []) ∷ [] → l ≡ unused left →
     MakesCopy (value_original r) (change canonical (call_at 0 0 old made) l m) → (t : Tree) × Reads canonical r (unused left) m t × (length made.words ≡ 1 → HoldsCanonicalWords made t)
 made_copy r left old made l m fresh begun copied =
@@ -52,7 +53,7 @@ made_copy r left old made l m fresh begun copied =
       λ one. only_segment made.words (encoding (trim t)) one (fresh_made old.words 0 0 (trim t) (place, only) (copied.stands (inr one))),
     )
 
--- where it has more, not all words fit in the first
+-- if it has more, not all words fit in the first
 pub spread_copy : (r : Reading) (old new : View) (l m : Meter) → old.words ≡ (0 ∷ []) ∷ [] →
     MakesCopy (value_original r) (change canonical (call_at 0 0 old new) l m) → (length new.words ≡ 1) ⊎ NeedsMoreRoom r (old.room 0)
 spread_copy r old new l m fresh copied =
@@ -66,19 +67,19 @@ spread_copy r old new l m fresh copied =
           inl (ap length same ∙ length-set old.words 0 _ ∙ ap length fresh)
     ]
 
--- a copy leaves the room of the segment where it begins
+-- a copy leaves the room of its first segment unchanged
 pub kept_room : (old new : View) → old.words ≡ (0 ∷ []) ∷ [] → KeepsMemory old new → new.room 0 ≡ old.room 0
 kept_room old new fresh kept =
     let some : 0 < length old.words = omega (arith, ap length fresh) in
     kept.1 0 some
 
--- the names by which words are refused are want of room
+-- the errors of refused words are for lack of room
 want_of_words : (old new : View) (n : ℕ) (k : ErrorKind) → RefusesWords old new n k → wants_room k ≡ true
 want_of_words old new n k (inl memory, none) = ap wants_room memory.0
 want_of_words old new n k (inr (inl large), none) = ap wants_room large.0
 want_of_words old new n k (inr (inr many), none) = ap wants_room many.0
 
--- what refuses a copy to the root of a fresh message
+-- why a copy to the root of a fresh message is refused
 pub refused_copy : (r : Reading) (left : Option ℕ) (old new : View) (l m : Meter) (k : ErrorKind) → old.words ≡ (0 ∷ []) ∷ [] → l ≡ unused left →
     StopsCopy (value_original r) (change canonical (call_at 0 0 old new) l m) Null k → RefusesCopyAnywhere r left (old.room 0) k
 refused_copy r left old new l m k fresh begun stop =
@@ -95,47 +96,48 @@ refused_copy r left old new l m k fresh begun stop =
       | inr y ↦ elim y [ inl refused ↦ inr (m, subst (λ (x : Meter). Refused canonical r x m k) begun refused) | inr none ↦ absurd none ]
     ]
 
--- words that are taken, if there is room for them, leave the room
+-- allocating words leaves the room unchanged, whether there is room for them or not
 pub room_kept : (o : Option ℕ) {old new : View} (P : ℕ → Type 0) (words : Segments) → IfSome o (λ at. P at × (new ≡ record old { words = words })) → (IsNone o → new ≡ old) → new.room ≡ old.room
 room_kept (Some at) P words some none = ap (λ (v : View). v.room) some.1
 room_kept None P words some none = ap (λ (v : View). v.room) (none refl)
 
--- and what may be offered for further ones
+-- and leaves unchanged what may be offered for more of them
 pub offers_kept : (o : Option ℕ) {old new : View} (P : ℕ → Type 0) (words : Segments) → IfSome o (λ at. P at × (new ≡ record old { words = words })) → (IsNone o → new ≡ old) → new.offers ≡ old.offers
 offers_kept (Some at) P words some none = ap (λ (v : View). v.offers) some.1
 offers_kept None P words some none = ap (λ (v : View). v.offers) (none refl)
 
--- what is offered for a request, where the room is written otherwise
+-- what is offered for a request, with the room written in another form
 pub moved_offer : {old new : ℕ → ℕ → Bool} (asked : ℕ) {room there : ℕ} → old ≡ new → room ≡ there → IsTrue (old asked there) → IsTrue (new asked room)
 moved_offer {new = new} asked {there = there} same kept offered =
     subst (λ n. IsTrue (new asked n)) (sym kept) (subst (λ (offers : ℕ → ℕ → Bool). IsTrue (offers asked there)) same offered)
 
--- want of room is no name of a reading that is refused
+-- a reading isn't refused for lack of room
 pub never_read : {r : Reading} {l m : Meter} (k : ErrorKind) → wants_room k ≡ true → Refused canonical r l m k → ⊥
 never_read AllocationFailed want refused = not_for_memory refused
 never_read (MessageTooLarge w) want refused = not_for_size w refused
 never_read _ want refused = absurd (cc)
 
--- what says that something is too large wants room
+-- an error that something is too large is for lack of room
 pub large_wants : (k : ErrorKind) → is_message_too_large k ≡ true → wants_room k ≡ true
 large_wants (MessageTooLarge w) large = refl
 large_wants _ large = absurd (cc)
 
--- a room that is outgrown is outgrown if it is less
+-- what outgrows a room outgrows a smaller one
 less_outgrown : {r : Reading} {left : Option ℕ} (more room : ℕ) → room ≤ more → OutgrowsRoom r left more → OutgrowsRoom r left room
 less_outgrown more room least (m, (n, stops, full)) = (m, (n, stops, omega (arith, full, least)))
 
--- a copy that finds no room anywhere needs more words than fewer than there are in its segment
+-- a copy that is refused for room, with `more` words in its segment, has too little with `room`
+-- words, if these aren't more
 pub refused_try : {r : Reading} {left : Option ℕ} {k : ErrorKind} (more room : ℕ) → room ≤ more → wants_room k ≡ true → RefusesCopyAnywhere r left more k → RefusesCopy r left room (MessageTooLarge room)
 refused_try more room least want (inl (named, large, out)) = inl (refl, λ t c means. (let beyond = large t c means in omega arith), inr (less_outgrown more room least out))
 refused_try {k = k} more room least want (inr (m, refused)) = absurd (never_read k want refused)
 
--- nor does one that is made in several segments
+-- so has one that is made in several segments
 pub refused_spread : {r : Reading} {left : Option ℕ} {n : ℕ} {m : Meter} {t : Tree} (more room : ℕ) → room ≤ more → (n ≡ 1) ⊎ NeedsMoreRoom r more → (n ≡ 1 → ⊥) → Reads canonical r (unused left) m t → RefusesCopy r left room (MessageTooLarge room)
 refused_spread more room least (inl one) other reads = absurd (other one)
 refused_spread {m = m} {t = t} more room least (inr needs) other reads = inl (refl, λ u c means. (let beyond = needs u c means in omega arith), inl (t, m, reads))
 
--- the last try speaks for all room there can be
+-- the refusal of the last try holds for the largest possible room
 pub last_try : {r : Reading} {left : Option ℕ} {room old new : ℕ} {k : ErrorKind} → (room ≡ max_segment_words) ⊎ (is_message_too_large k ≡ false) → LacksMemoryOr old new k (RefusesCopy r left room k) → LacksMemoryOr old new k (RefusesCopy r left max_segment_words k)
 last_try last (inl memory) = inl memory
 last_try last (inr (inr refused, same)) = inr (inr refused, same)
@@ -146,17 +148,17 @@ pub moved_try : {old new old' new' : ℕ} {k : ErrorKind} {P : Type 0} → old �
 moved_try before after (inl (named, risen)) = inl (named, after ∙ risen ∙ ap one_more before)
 moved_try before after (inr (refused, same)) = inr (refused, after ∙ same ∙ before)
 
--- want of memory that was counted is want of memory
+-- a lack of memory that was counted is a lack of memory
 pub or_memory : {old new : ℕ} {k : ErrorKind} {P : Type 0} → LacksMemoryOr old new k P → (k ≡ AllocationFailed) ⊎ P
 or_memory (inl memory) = inl memory.0
 or_memory (inr refused) = inr refused.0
 
--- what the budget covers beside the word of the root pointer
+-- a budget that covers the word of the root pointer, and then c words, covers 1 + c
 pub covers_root : (budget : Option ℕ) (c : ℕ) → FitsIn budget 1 → FitsIn (less budget 1) c → FitsIn budget (1 + c)
 covers_root None c one rest = tt
 covers_root (Some b) c one rest = omega arith
 
--- what the budget covers besides the root pointer it covers behind it
+-- a budget that covers 1 + c words covers c after the root pointer
 pub covers_rest : (budget : Option ℕ) (c : ℕ) → FitsIn budget (1 + c) → FitsIn (less budget 1) c
 covers_rest None c h = tt
 covers_rest (Some b) c h = omega arith

@@ -1,4 +1,5 @@
--- What writing a canonical frame says, by what its copy says, and what a limiter has left behind a copy.
+-- What writing a canonical frame states, by what its copy states, and what a limiter has left after
+-- a copy.
 use Rattle.std.proofs.Common.{◌≡◌, ℕ, Bool, true, false, List, [], ◌∷◌, Option, Some, None, Result, Ok, Err, OnOk, IfErr, sym, ap, ◌∙◌, subst, arith}
 use Rattle.capnp_words.specs.Meter.{Meter, Affords, FitsIn, less, raised, unused}
 use Rattle.capnp_format.specs.Segments.{Segments}
@@ -16,13 +17,13 @@ use Rattle.capnp_messages.specs.CanonicalErrors.{IsLeftOf}
 use Rattle.capnp_messages.specs.declared.messages.canonical_error.CanonicalError.{CanonicalError}
 use Rattle.capnp_messages.specs.declared.messages.canonical_error.CanonicalError.TheVariants.{Frame, Layout}
 
--- the frame of what was made is that of the canonical words
+-- the frame of the words that were made is that of the canonical words
 pub frame_written : {X E : Type 0} (r : Reading) (words : Segments) (old new : Meter) (o : Result X E) (P : List ℕ → Type 0) → (t : Tree) × Reads canonical r old new t × (words ≡ encoding (trim t) ∷ []) → OnOk o (P (frame words)) →
     OnOk o ((t : Tree) × Reads canonical r old new t × P (frame (encoding (trim t) ∷ [])))
 frame_written r words old new (Ok x) P (t, read, is_made) printed = (t, read, subst (λ (S : Segments). P (frame S)) is_made printed)
 frame_written r words old new (Err k) P copied printed = tt
 
--- a frame that isn't written is no copy that is refused, and is said to be that
+-- a frame that isn't written is refused with WriteFailed, and not with the error of a copy
 pub no_layout : {A : Type 0} (P : Type 0) (Q : ErrorKind → Type 0) (o : Result A CanonicalError) → IfErr o (λ e. (e ≡ Frame WriteFailed) × P) →
     IfErr o (λ e. (k : ErrorKind) → e ≡ Layout k → Q k)
 no_layout P Q (Ok x) failed = tt
@@ -47,7 +48,7 @@ same_left : (l : Option ℕ) → IsLeftOf l l
 same_left None = tt
 same_left (Some left) = omega arith
 
--- a copy leaves no more of a limit than there was
+-- a copy leaves at most as much of a limit as before
 left_within : (charging : Bool) (l : Option ℕ) (n p : ℕ) → Affords charging (unused l) n → IsLeftOf (after charging (unused l) n p).left l
 left_within true l n p covers = less_left l n covers
 left_within false l n p covers = same_left l
@@ -60,7 +61,8 @@ covered : (charging : Bool) (old : Meter) (n : ℕ) → Affords charging (unused
 covered true old n covers = covers
 covered false old n covers = tt
 
--- a limiter that is charged and counts what another of as many words spent has spent the same
+-- if `own` starts with what `old` has left, and `new` gets what `own` has left and counts its
+-- pointers, `new` has spent from `old` what `own` has spent
 settled_after : (charging : Bool) (old own new : Meter) (n p : ℕ) → own ≡ after charging (unused old.left) n p → new.left ≡ own.left → new.followed ≡ raised old.followed own.followed → new ≡ after charging old n p
 settled_after true old own new n p spent left counted =
     let words = left ∙ ap (λ (m : Meter). m.left) spent in

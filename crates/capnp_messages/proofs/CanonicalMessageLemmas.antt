@@ -1,4 +1,4 @@
--- What the test at the root of a message of one segment says of the whole message.
+-- What the test at the root of a message of one segment states about the whole message.
 use Rattle.std.proofs.Common.{◌≡◌, ◌↔◌, inl, inr, ℕ, ◌+◌, ◌-◌, ◌<◌, ◌≤◌, List, [], ◌∷◌, take, drop, get_or, length, Bool, true, false, Option, Some, None, refl, ap, sym, ◌∙◌, subst, arith, length-drop, length-take}
 use Rattle.std.specs.Prelude.{IsNone, IfNone, IfSome, is_some, not}
 use Rattle.std.proofs.lemmas.List.{take_all}
@@ -35,14 +35,14 @@ only_segment [] one = absurd (omega arith)
 only_segment (ws ∷ []) one = refl
 only_segment (ws ∷ vs ∷ S) one = absurd (omega arith)
 
--- words of which the first is w, and all others are these
+-- words whose first is w, and whose others are these
 all_words : (ws vs : List ℕ) (w : ℕ) → length vs + 1 ≡ length ws → get_or ws 0 0 ≡ w → take (length vs) (drop 1 ws) ≡ vs → ws ≡ w ∷ vs
 all_words [] vs w many first behind = absurd (omega arith)
 all_words (x ∷ ws) vs w many first behind =
     let others : ws ≡ vs = sym (take_all (length vs) ws (omega arith)) ∙ behind in
     ap (λ y. y ∷ ws) first ∙ ap (λ (ys : List ℕ). w ∷ ys) others
 
--- canonical words that stand at the root of the only segment, up to its end, are a canonical message
+-- canonical words from the root of the only segment to its end are a canonical message
 pub stands_alone : {S : Segments} {t : Tree} → length S ≡ 1 → Stands S 0 0 1 t → 1 + word_count t ≡ length (segment S 0) → IsCanonicalOf S t
 stands_alone {S} {t} one stands full = record {
   value = stands.1;
@@ -52,7 +52,7 @@ stands_alone {S} {t} one stands full = record {
   is = only_segment S one ∙ ap (λ (ws : List ℕ). ws ∷ []) (all_words (segment S 0) (body t) (pointer t 0) (omega (arith, length-body t stands.1, full)) stands.5.1 stands.5.2);
 }
 
--- and those of a canonical message stand there
+-- a canonical message has canonical words at its root
 pub canonical_stands : {S : Segments} {t : Tree} → IsCanonicalOf S t → Stands S 0 0 1 t
 canonical_stands {t = t} canonical =
     let lies : Lies (encoding t ∷ []) 0 0 1 t = (for_offset t (Reaches 0 1) (omega arith, omega arith), refl, take_all (length (body t)) (body t) (omega arith)) in
@@ -61,14 +61,14 @@ canonical_stands {t = t} canonical =
 pub canonical_length : {S : Segments} {t : Tree} → IsCanonicalOf S t → length (segment S 0) ≡ 1 + word_count t
 canonical_length {t = t} canonical = ap (λ (S : Segments). length (segment S 0)) canonical.is ∙ (let whole : length (encoding t) ≡ 1 + word_count t = omega (arith, length-body t canonical.value) in whole)
 
--- canonical words lie within their segment
+-- canonical words are inside their segment
 within : (S : Segments) (t : Tree) → Stands S 0 0 1 t → 1 + word_count t ≤ length (segment S 0)
 within S t stands =
     let place : 0 < length (segment S 0) = stands.0 in
     let some : length (take (length (body t)) (drop 1 (segment S 0))) ≡ length (body t) = ap length stands.5.2 in
     omega (arith, place, some, length-body t stands.1, length-take (length (body t)) (drop 1 (segment S 0)), length-drop 1 (segment S 0))
 
--- what is charged for the root and behind it
+-- what is charged for the root and after it
 both_less : (budget : Option ℕ) (c : ℕ) → less (less budget 1) c ≡ less budget (1 + c)
 both_less None c = refl
 both_less (Some b) c = ap Some (let same : b - 1 - c ≡ b - (1 + c) = omega arith in same)
@@ -79,11 +79,11 @@ paid_both {m} {c = c} {i = i} one paid = record {
   spent = paid.spent ∙ ap (λ (left : Option ℕ). let now : Meter = record { left = left; followed = raised m.followed i } in now) (both_less m.left c);
 }
 
--- where the test finds a value whose words end with the segment, the message is canonical
+-- if the test finds a value whose words end with the segment, the message is canonical
 pub found_whole : {S : Segments} {n h : ℕ} {m m' : Meter} → length S ≡ 1 → CoversRoot S m.left → IsFound (message_root S n) (progress 1 (spent m 1)) (progress h m') → h ≡ length (segment S 0) → IsPaid S m m'
 found_whole one covers (t, finds) full = (t, stands_alone one finds.stands (sym finds.head_is ∙ full), paid_both covers.covered finds.paid)
 
--- where there are words behind these, it isn't
+-- if words follow after these, the message isn't canonical
 pub found_more : {S : Segments} {n h : ℕ} {m' : Meter} {from : Meter} → IsFound (message_root S n) (progress 1 from) (progress h m') → (h ≡ length (segment S 0) → ⊥) → IsCanonicalMessage S → ⊥
 found_more {S} (t, finds) more (u, canonical) =
     let there : 1 ≤ length (segment S 0) = omega (arith, finds.stands.0) in
@@ -113,17 +113,17 @@ same_canonical_frames S R t u framed as_framed canonical other = (
   λ values. ap frame (canonical.is ∙ ap (λ (v : Tree). encoding v ∷ []) values ∙ sym other.is),
 )
 
--- The root of a message is read: r is its place, m what the limiter has left of what it had.
+-- The root of a message is read: r is its place, m is what the limiter has left of `old`.
 pub record IsRootRead (S : Segments) (n : ℕ) (old : Meter) (r : Reading) (m : Meter) : Type 0 where
   pub place : r ≡ message_root S n
   pub left : m ≡ spent old 1
   pub covers : CoversRoot S old.left
 
--- what holds where the root is read holds at the root
+-- what holds for the place and limiter of a root that is read holds at the root
 pub moved : {S : Segments} {n : ℕ} {old : Meter} {r : Reading} {m : Meter} (P : Reading → Meter → Type 0) → IsRootRead S n old r m → P r m → P (message_root S n) (spent old 1)
 moved {S} {n} {m = m} P root held = subst (P (message_root S n)) root.left (subst (λ (x : Reading). P x m) root.place held)
 
--- where the root's test finds a fault, the message isn't canonical
+-- if the root's test finds a fault, the message isn't canonical
 pub some_exactly : {S : Segments} {n : ℕ} {old : Meter} {r : Reading} {m : Meter} {f : CanonicalFault} (o : Option CanonicalFault) → IsRootRead S n old r m → o ≡ Some f → IsNone o ↔ IsCanonicalAt r 1 → IsNone (Some f) ↔ IsCanonicalMessage S
 some_exactly {S} {n} {r = r} {f = f} o root is same =
     let at_root : IsNone (Some f) ↔ IsCanonicalAt (message_root S n) 1 = moved (λ r m. IsNone (Some f) ↔ IsCanonicalAt r 1) root (subst (λ x. IsNone x ↔ IsCanonicalAt r 1) is same) in
@@ -135,13 +135,13 @@ root_fault {r = r} {m = m} {m' = m'} {f = f} o root is ends =
     let there : TestEnds (IsFault f) r (progress 1 m) m' = subst (λ (x : Option CanonicalFault). IfSome x (λ e. TestEnds (IsFault e) r (progress 1 m) m')) is ends in
     (root.covers, inl (moved (λ r m. TestEnds (IsFault f) r (progress 1 m) m') root there))
 
--- where it finds a value whose words end with the segment, the message is canonical and paid
+-- if the test finds a value whose words end with the segment, the message is canonical and paid
 pub whole_paid : {S : Segments} {n h : ℕ} {old : Meter} {r : Reading} {m m' : Meter} (o : Option CanonicalFault) → IsRootRead S n old r m → length S ≡ 1 → o ≡ None → IfNone o (IsFound r (progress 1 m) (progress h m')) → h ≡ length (segment S 0) → IsPaid S old m'
 whole_paid {h = h} {r = r} {m = m} {m' = m'} o root one is found full =
     let finds : IsFound r (progress 1 m) (progress h m') = subst (λ (x : Option CanonicalFault). IfNone x (IsFound r (progress 1 m) (progress h m'))) is found in
     found_whole one root.covers (moved (λ r m. IsFound r (progress 1 m) (progress h m')) root finds) full
 
--- and no deeper than the levels
+-- and its value isn't deeper than the levels
 pub whole_within : {S : Segments} {n h : ℕ} {old : Meter} {r : Reading} {m : Meter} (m' : Meter) (o : Option CanonicalFault) → IsRootRead S n old r m → length S ≡ 1 → o ≡ None → IfNone o (IsFound r (progress 1 m) (progress h m')) → h ≡ length (segment S 0) → IsWithinLevels S n
 whole_within {S} {n} {h} {r = r} {m = m} m' o root one is found full u canonical =
     let there : IsFound r (progress 1 m) (progress h m') = subst (λ (x : Option CanonicalFault). IfNone x (IsFound r (progress 1 m) (progress h m'))) is found in
@@ -149,7 +149,7 @@ whole_within {S} {n} {h} {r = r} {m = m} m' o root one is found full u canonical
     let same : t ≡ u = one_canonical_value S t u (stands_alone one finds.stands (sym finds.head_is ∙ full)) canonical in
     subst (λ (v : Tree). depth v ≤ n) same finds.levels
 
--- where there are words behind these, it isn't, and the fault is the first of them
+-- if words follow after these, the message isn't canonical, and the fault is the first of them
 pub more_never : {S : Segments} {n h : ℕ} {old : Meter} {r : Reading} {m : Meter} (m' : Meter) (o : Option CanonicalFault) → IsRootRead S n old r m → o ≡ None → IfNone o (IsFound r (progress 1 m) (progress h m')) → (h ≡ length (segment S 0) → ⊥) → IsCanonicalMessage S → ⊥
 more_never {h = h} {r = r} {m = m} m' o root is found more =
     let finds : IsFound r (progress 1 m) (progress h m') = subst (λ (x : Option CanonicalFault). IfNone x (IsFound r (progress 1 m) (progress h m'))) is found in
@@ -160,7 +160,7 @@ more_is_fault {h = h} {r = r} {m = m} {m' = m'} o root is found more fault =
     let finds : IsFound r (progress 1 m) (progress h m') = subst (λ (x : Option CanonicalFault). IfNone x (IsFound r (progress 1 m) (progress h m'))) is found in
     more_fault root.covers (moved (λ r m. IsFound r (progress 1 m) (progress h m')) root finds) more fault
 
--- Where the test of a message says no, it finds a fault.
+-- If the test of a message says no, it finds a fault.
 pub message_fault_found : {S : Segments} {n : ℕ} {m m' : Meter} (o : Option CanonicalFault) (b : Bool) → is_some o ≡ not b → b ≡ false → IfSome o (λ f. IsMessageFault f S n m m') → (f : CanonicalFault) × IsMessageFault f S n m m'
 message_fault_found None b is fails fault = absurd (let wrong : false ≡ true = is ∙ ap not fails in cc)
 message_fault_found (Some f) b is fails fault = (f, fault)
@@ -171,13 +171,13 @@ never_refused {S} {n} {old} {m' = m'} {k = k} root stops (t, canonical, levels, 
     let stopped = moved (λ r m. TestStops k r (progress 1 m) m') root stops in
     stops_never stopped (t, canonical_stands canonical, for_offset t (1 ≤ length (segment S 0)) (has_root canonical), levels, covers_rest old.left (charge t) fits)
 
--- the words of all segments are those of the only one
+-- if a message has one segment, its words are those of all segments
 only_total : (S : Segments) → length S ≡ 1 → total S ≡ length (segment S 0)
 only_total [] one = absurd (omega arith)
 only_total (ws ∷ []) one = omega arith
 only_total (ws ∷ vs ∷ S) one = absurd (omega arith)
 
--- a head is behind the last word of all segments, of which there is one, or elsewhere
+-- the number n of words of all segments is that of the only segment
 only_words : (B : List (List ℕ)) (n : ℕ) → length B ≡ 1 → n ≡ total_words B → n ≡ length (segment (message B) 0)
 only_words B n one all = all ∙ total-message B ∙ only_total (message B) (length-message B ∙ one)
 

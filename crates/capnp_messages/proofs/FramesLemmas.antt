@@ -11,7 +11,7 @@ frame_some S bytes f =
     let four : length number ≡ 4 = refl in
     omega (arith, four, ap length f.is, length-append number (lengths S ++ (f.padding ++ contents S)))
 
--- an input without bytes begins with no frame
+-- an input without bytes doesn't begin with a frame
 pub no_bytes_begin : (most : ℕ) (S : Segments) → BeginsWithFrame [] most S → ⊥
 no_bytes_begin most S begins =
     let some : 0 < length begins.front = frame_some S begins.front begins.framed in

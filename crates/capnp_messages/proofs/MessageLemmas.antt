@@ -1,4 +1,4 @@
--- What reading the root of a message says of the message.
+-- What reading the root of a message states about the message.
 use Rattle.std.proofs.Common.{◌≡◌, ◌↔◌, ◌⊎◌, inl, inr, ℕ, zero, suc, ℤ, List, [], ◌∷◌, length, Option, Some, None, Result, Ok, Err}
 use Rattle.std.proofs.Common.{IsOk, IfOk, IfSome, IfErr, true, false, refl, sym, ap, ◌∙◌, subst, arith}
 use Rattle.capnp_words.specs.declared.error.ErrorKind.{ErrorKind}
@@ -63,7 +63,7 @@ pub copy_of : {S : Segments} {limits : ReaderOptions} {r : Reading} {m after : M
     (t : Tree) × IsValueOf S limits t × (words ≡ encoding (trim t) ∷ [])
 copy_of root (t, read, is_made) = (t, value_of root read, is_made)
 
--- a copy of what the root leads to that is refused refuses the message
+-- if the copy of what the root leads to is refused, so is the message
 pub copy_refused : {S : Segments} {limits : ReaderOptions} {r : Reading} {m : Meter} {old new : ℕ} {k : ErrorKind} →
     AtRoot S limits r m → LacksMemoryOr old new k (RefusesCopy r m.left max_segment_words k) →
     LacksMemoryOr old new k (RefusesCanon S limits k)
@@ -74,7 +74,7 @@ copy_refused {S} {limits} {r} {m} {k = k} root (inr (refused, kept)) =
     let here = subst (λ (l : Option ℕ). RefusesCopy (root_within S limits) l max_segment_words k) left there in
     inr (inr (root.covers, here), kept)
 
--- a copy with a limiter of its own, which gets what the limit has left
+-- a copy with its own limiter, which gets what the limit has left
 pub own_copy_of : {S : Segments} {limits : ReaderOptions} {r : Reading} {m : Meter} {left : Option ℕ} {words : Segments} →
     AtRoot S limits r m → left ≡ m.left →
     (t : Tree) × (after : Meter) × Reads canonical r (unused left) after t × (words ≡ encoding (trim t) ∷ []) →
@@ -129,7 +129,8 @@ check_of_message {S} {limits} {z} {old} (Err k) segments new same nesting begun 
     let here = subst (λ (X : Segments). RefusesTest X (levels limits.nesting_limit) m new k) same within in
     (ap length (sym same) ∙ length-message segments ∙ alone, (new, here))
 
--- what the root leads to has a size exactly if the message has, and is refused one if the message is
+-- what the root leads to has a size exactly if the message has one, and its size is refused if the
+-- message's is
 pub size_at_root : {P : Type 0} {S : Segments} {limits : ReaderOptions} {r : Reading} {m : Meter} → AtRoot S limits r m →
     P ↔ ((to : Tally) × WalksPlace r (tally 0 0 m) to × FitSize to.words to.caps) → P ↔ HasSizeWithin S limits
 size_at_root {P} {S} {limits} {r} {m} root exactly =

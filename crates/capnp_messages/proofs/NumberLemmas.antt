@@ -1,4 +1,4 @@
--- A number is written digit by digit, the last one behind those before it.
+-- A number is written digit by digit, the last one after those before it.
 use Rattle.std.proofs.Common.{◌≡◌, ℕ, ◌+◌, ◌/◌, ◌%◌, ◌<◌, ◌≤◌, ◌^◌, List, [], ◌∷◌, ◌++◌, Option, Some, None, sym, ap, ◌∙◌, subst, arith}
 use Rattle.std.specs.Fmt.{decimal}
 use Rattle.std.specs.Io.KnownBytes.{Appends}
@@ -16,10 +16,10 @@ both {a = Some x} {b = None} w = absurd w.first
 both {a = Some x} {b = Some y} {c = None} w = absurd w.more
 both {a = Some x} {b = Some y} {c = Some z} w = grind (arith, common_steps)
 
--- a last digit behind the others
+-- a last digit after the others
 pub last_digit : {a b c : Option (List ℕ)} (n : ℕ) → 10 ≤ n → n < 2 ^ 64 → AppendsBoth a b c (decimal (n / 10)) ((48 + n % 10) ∷ []) → Appends a c (decimal n)
 last_digit {a = a} {c = c} n more fits w = subst (λ (ds : List ℕ). Appends a c ds) (sym (decimal_step n more fits)) (both w)
 
--- an only digit
+-- a single digit
 pub only_digit : (n : ℕ) → n < 10 → (48 + n % 10) ∷ [] ≡ decimal n
 only_digit n one = ap (λ (d : ℕ). (48 + d) ∷ []) (let small : n % 10 ≡ n = omega arith in small) ∙ sym (decimal_digit n one)

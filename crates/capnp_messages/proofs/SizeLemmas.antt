@@ -1,4 +1,4 @@
--- What the walk from the root says of the message that was read.
+-- What the walk from the root states about the message that was read.
 use Rattle.std.proofs.Common.{◌≡◌, ℕ, ◌+◌, ap, arith, subst}
 use Rattle.capnp_words.specs.Meter.{Meter, unused}
 use Rattle.capnp_format.specs.Segments.{Segments}
@@ -13,7 +13,7 @@ use Rattle.capnp_objects.proofs.Sized.{sized_is_meant}
 use Rattle.capnp_messages.specs.Roots.{CoversRoot, message_root}
 use Rattle.capnp_messages.specs.Messages.{HasSizeOf, left_of, root_within}
 
--- the walk from the root of a message takes the size of the value that the root means
+-- the walk from the root of a message finds the size of the value that the root means
 size_of_value : (S : Segments) (n : ℕ) {m after : Meter} {words caps : ℕ} → WalksPlace (message_root S n) (tally 0 0 m) (tally words caps after)
     → (t : Tree) (l cost : ℕ) → Means S l 0 0 t cost → (words ≡ word_count t) × (caps ≡ capabilities t)
 size_of_value S n {words = words} {caps = caps} walk t l cost means =
@@ -22,7 +22,7 @@ size_of_value S n {words = words} {caps = caps} walk t l cost means =
     let of_caps : caps ≡ 0 + capabilities walk.tree = walk.caps_are in
     (omega (arith, of_words, ap word_count same), omega (arith, of_caps, ap capabilities same))
 
--- the walk of a reading that is that of the root
+-- the walk from the place of a reading is the walk from the root
 pub totals_read : {r : Reading} {S : Segments} {limits : ReaderOptions} {m after : Meter} {words caps : ℕ} → r ≡ root_within S limits → m ≡ unused (left_of limits)
     → CoversRoot S limits.traversal_limit_in_words → WalksPlace r (tally 0 0 m) (tally words caps after) → HasSizeOf S limits words caps
 totals_read {S = S} {limits = limits} {m = m} {after = after} {words = words} {caps = caps} same rest covers totals =

@@ -1,4 +1,5 @@
--- Where the test for canonical form stops, so does a reading of the value: the same objects are read, in the same order.
+-- If the test for canonical form stops, so does a reading of the value: both read the same objects
+-- in the same order.
 use Rattle.std.proofs.Common.{ℕ, ◌+◌, ◌≤◌, length, refl, arith}
 use Rattle.capnp_words.specs.declared.error.ErrorKind.{ErrorKind}
 use Rattle.capnp_words.specs.Meter.{Meter, Affords}
@@ -21,7 +22,7 @@ use Rattle.capnp_pointers.proofs.Chains.{all_within, elements_within, stands_wit
 use Rattle.capnp_pointers.proofs.Takes.{stands_means_at}
 use Rattle.capnp_objects.proofs.Shorthands.{ReadsBefore}
 
--- canonical words that stand one behind the other mean their values
+-- consecutive canonical words mean their values
 all_mean : (S : Segments) (n s p h : ℕ) (ts : Trees) → depth_all ts ≤ n → h ≤ length (segment S s) →
     AllStand S s p h ts → MeansAll S n s p ts (charge_all ts)
 all_mean S n s p h no_trees deep inside stand = refl
@@ -39,7 +40,7 @@ elements_mean S n s p d q h (element ws ts es) deep inside (long, many, words, a
     let others = elements_mean S n s (p + d + q) d q (h + word_count_all ts) es (omega arith) within rest in
     (charge_all ts, charge_elements es, long, many, words, children, others, refl)
 
--- pointers and elements that the test has gone over are read
+-- pointers and elements that the test has passed are read
 all_read : {r : Reading} {from to : Progress} {ts : Trees} → from.head ≤ length (segment_read r) →
     FindsAll r from to ts → ReadsAll plain r from.meter to.meter ts
 all_read {r} {from} {to} {ts} inside f = record {
@@ -83,7 +84,7 @@ stops_refused (below a q near o start exact before rest) =
     let (name, refused) = stops_refused rest in
     (name, refused_below a q o (read_before o.meets.claims before) refused)
 
--- where there is a value that the limits cover, the test doesn't stop
+-- if there is a value that the limits cover, the test doesn't stop
 pub never_stops : {k : ErrorKind} {r : Reading} {from : Progress} {m' : Meter} → TestStops k r from m' →
     (t : Tree) (c : ℕ) → MeansThere r t c → Affords r.charging from.meter c → ⊥
 never_stops stops t c means covers =

@@ -1,4 +1,4 @@
--- How much room a try asks for, and when there is another.
+-- How much room a try requests, and when there is another try.
 use Rattle.std.proofs.Common.{◌≡◌, inl, inr, ℕ, ◌+◌, ◌*◌, ◌/◌, ◌<◌, ◌==◌, suc, max, min, IsTrue, Bool, true, false, List, [], ◌∷◌, length, Option, refl, ap, sym, ◌∙◌, subst, arith}
 use Rattle.std.proofs.lemmas.Bool.{cases_lt}
 use Rattle.capnp_words.specs.declared.error.ErrorKind.{ErrorKind}
@@ -17,7 +17,7 @@ use Rattle.capnp_messages.specs.Copies.{LacksMemoryOr, RefusesCopy, is_message_t
 use Rattle.capnp_messages.specs.Tries.{IsMadeByFirstTry, NeedsMoreRoom, as_asked, room_of_try, words_read}
 use Rattle.capnp_messages.proofs.CanonLemmas.{large_wants, never_read}
 
--- The tries have come to one that asks for this room: what those before it ask for is too little.
+-- The tries have come to one that requests this room: what those before it request is too little.
 pub record ComesTo (r : Reading) (room : ℕ) : Type 0 where
   pub try : ℕ
   pub asks : room ≡ room_of_try (words_read r) try
@@ -35,7 +35,7 @@ next_comes {r} come doubled little = record {
   ];
 }
 
--- and that one has made the words
+-- and this try has made the words
 pub made_by_try : {r : Reading} {offers there : ℕ → ℕ → Bool} {room refusals yet : ℕ} {made : View} → ComesTo r room →
     there ≡ offers → yet ≡ refusals → IsTrue (there room (made.room 0)) → made.refusals ≡ yet → IsMadeByFirstTry r offers refusals made
 made_by_try {r} {offers} {there} {room} {refusals} {yet} {made} come same none asked granted = record {
@@ -48,18 +48,18 @@ made_by_try {r} {offers} {there} {room} {refusals} {yet} {made} come same none a
 offered : (least room asked : ℕ) → least ≡ 0 → IsTrue (room == max least asked) → IsTrue (room == asked)
 offered least room asked none is = grind arith
 
--- the first try that has made the words, where the place is written otherwise
+-- the first try that has made the words, with the place written in another form
 pub moved_tries : {r q : Reading} (offers : ℕ → ℕ → Bool) (refusals : ℕ) (made : View) → r ≡ q → IsMadeByFirstTry r offers refusals made → IsMadeByFirstTry q offers refusals made
 moved_tries offers refusals made place tries = subst (λ (x : Reading). IsMadeByFirstTry x offers refusals made) place tries
 
--- the words that a heap offers which adds none are those that are asked for
+-- a heap that adds no words offers those that are requested
 pub tries_as_asked : {r : Reading} {refusals : ℕ} {made : View} (least : ℕ) → least ≡ 0 → refusals ≡ 0 →
     IsMadeByFirstTry r (λ asked words. words == max least asked) refusals made → IsMadeByFirstTry r as_asked 0 made
 tries_as_asked {r} {refusals} {made} least none yet tries =
     let asks : ℕ = room_of_try (words_read r) tries.try in
     record { try = tries.try; asked = offered least (made.room 0) asks none tries.asked; before = tries.before; granted = tries.granted ∙ yet }
 
--- a try that says that something is too large has too little room
+-- a try that is refused because something is too large has too little room
 pub try_too_small : {r : Reading} {left : Option ℕ} {room old new : ℕ} {k : ErrorKind} → is_message_too_large k ≡ true → LacksMemoryOr old new k (RefusesCopy r left room k) → NeedsMoreRoom r room
 try_too_small large (inl (named, risen)) = absurd (let wrong : false ≡ true = sym (ap is_message_too_large named) ∙ large in cc)
 try_too_small large (inr (inl (named, little, out), same)) = little
@@ -69,7 +69,7 @@ pub try_outgrown : {r : Reading} {left : Option ℕ} {room : ℕ} {k : ErrorKind
 try_outgrown large (inl (named, little, out)) = little
 try_outgrown {k = k} large (inr (m, refused)) = absurd (never_read k (large_wants k large) refused)
 
--- one that says something else says why the value isn't read
+-- a try that is refused with another error says why the value isn't read
 pub try_unread : {r : Reading} {left : Option ℕ} {room : ℕ} {k : ErrorKind} → is_message_too_large k ≡ false → RefusesCopy r left room k → (m : Meter) × Refused canonical r (unused left) m k
 try_unread other (inl (named, little, out)) = absurd (let wrong : true ≡ false = sym (ap is_message_too_large named) ∙ other in cc)
 try_unread other (inr refused) = refused

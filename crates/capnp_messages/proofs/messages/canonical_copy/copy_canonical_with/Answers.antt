@@ -10,7 +10,7 @@ use Rattle.capnp_messages.proofs.TryLemmas.{made_by_try, next_comes, try_is_gran
 use Rattle.capnp_messages.proofs.messages.canonical_copy.copy_canonical_with.Goals as goal
 use Rattle.capnp_messages.proofs.messages.canonical_copy.copy_canonical_with.Goals.{then-room-eq-MAX_SEGMENT_WORDS-via-then-room-eq-MAX_SEGMENT_WORDS, then-room-eq-MAX_SEGMENT_WORDS-via-else-room-eq-MAX_SEGMENT_WORDS+then-not-is_too_large}
 
--- the last try speaks for all the room that there can be
+-- the refusal of the last try holds for the largest possible room
 pub returns-then-room-eq-MAX_SEGMENT_WORDS-clause-refused : goal.returns-then-room-eq-MAX_SEGMENT_WORDS-clause-refused
 returns-then-room-eq-MAX_SEGMENT_WORDS-clause-refused g c =
     let refusals = g.A.Allocator.refusals in
@@ -23,7 +23,7 @@ returns-then-room-eq-MAX_SEGMENT_WORDS-clause-refused g c =
     (moved_try c.loop-made.invariant.granted refl c.in-Err.ensures.refused) in
     subst (λ (m : Meter). LacksMemoryOr (refusals c.args.allocator) (refusals c.in-Err.returned) e (RefusesCopy (reading g.B.ReaderArena c.args.from) m.left max_segment_words e)) c.loop-made.invariant.unread last
 
--- a try that found too little room is followed by one with twice as much
+-- after a try with too little room comes one with twice as much
 pub loop-made-preserved : goal.loop-made-preserved
 loop-made-preserved g c =
     let large : is_message_too_large c.in-Err.kind ≡ true = search rules in

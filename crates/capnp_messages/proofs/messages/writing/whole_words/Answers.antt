@@ -1,4 +1,5 @@
--- The words of the first bytes, eight for each whole word, are all words, and bytes are those of their words.
+-- The first eight bytes for each whole word have all words of the bytes, and they are the bytes of
+-- these words.
 use Rattle.std.proofs.Common.{◌≡◌, ℕ, ◌*◌, ◌/◌, ◌∙◌, List, length, take, sym, ap, arith, take_all, length-take}
 use Rattle.capnp_format.specs.Bytes.{words_of}
 use Rattle.capnp_format.proofs.WordsOf.{words, words_of-take}
