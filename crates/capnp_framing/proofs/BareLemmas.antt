@@ -16,36 +16,36 @@ use Rattle.capnp_framing.specs.declared.framing.frame_error.FrameError.TheVarian
 use Rattle.capnp_framing.proofs.OwnedLemmas.{ends_more}
 use Rattle.capnp_framing.proofs.ReadingLemmas.{bytes-length, filled_behind}
 
--- bytes behind the first n are read into room behind them, which was made longer and lent
+-- bytes after the first n are read into the room after them, which was made longer and lent
 pub read_behind : (a b c : Option (List ℕ)) (n k len : ℕ) (old room lent xs : List ℕ) → length xs ≡ len → take n xs ≡ take n lent → lent ≡ room → take n room ≡ take n old →
     Consumes a b (take n old) → Consumes b c (take k (drop n xs)) → Consumes a c (take (n + k) (take len (xs ++ drop (length xs) room)))
 read_behind a b c n k len old room lent xs long front value kept f g =
     let more : k ≡ n + k - n = omega arith in
     filled_behind a b c n (n + k) len old room lent xs long (omega arith) front value kept f (subst (λ j. Consumes b c (take j (drop n xs))) more g)
 
--- and is as long as that
+-- and the bytes then have that length
 pub behind_long : (len : ℕ) (room xs : List ℕ) → length xs ≡ len → length (take len (xs ++ drop (length xs) room)) ≡ len
 behind_long len room xs long = ap length (take_at xs (drop (length xs) room) len long) ∙ long
 
--- what was read stands at the front of known bytes
+-- what was read is the front of the known bytes
 pub begins_so : (a b : Option (List ℕ)) (front : List ℕ) (P : List ℕ → Type 0) → Consumes a b front → ((rest : List ℕ) → P (front ++ rest)) → IfSome a P
 begins_so None b front P f h = tt
 begins_so (Some x) None front P f h = absurd f
 begins_so (Some x) (Some y) front P f h = subst P (sym f) (h y)
 
--- and is all of them where the input is at its end
+-- and is all of them if the input is at its end
 pub all_so : (a b : Option (List ℕ)) (all : List ℕ) (P : List ℕ → Type 0) → Consumes a b all → IsAtEnd b → P all → IfSome a P
 all_so None b all P f end h = tt
 all_so (Some x) None all P f end h = absurd f
 all_so (Some x) (Some y) all P f end h = subst P (sym (f ∙ ap (λ (ys : List ℕ). all ++ ys) end ∙ append-nil all)) h
 
--- a word too many was read
+-- one word too many was read
 pub beyond : (a b : Option (List ℕ)) (front : List ℕ) (most m : ℕ) → m ≡ most_bare most → Consumes a b front → length front ≡ 8 * m + 8 → IfSome a (λ bytes. NoBareWords bytes most (MessageTooLong (m + 1)))
 beyond a b front most m e f long =
     begins_so a b front (λ bytes. NoBareWords bytes most (MessageTooLong (m + 1))) f
     (λ rest. words_beyond (omega (arith, e, long, length-append front rest)) (ap (λ k. MessageTooLong (k + 1)) e))
 
--- the last word is cut
+-- the last word is cut short
 pub cut : (a b : Option (List ℕ)) (all : List ℕ) (most m : ℕ) → m ≡ most_bare most → Consumes a b all → IsAtEnd b → length all < 8 * m + 8 → (length all % 8 ≡ 0 → ⊥) → IfSome a (λ bytes. NoBareWords bytes most Truncated)
 cut a b all most m e f end less part = all_so a b all (λ bytes. NoBareWords bytes most Truncated) f end (word_cut (omega (arith, e, less)) part refl)
 
@@ -61,7 +61,7 @@ only_ends words table ends told is =
     let kept = ends_more 0 words table [] refl (sym told) (λ k less. absurd (omega arith)) in
     (omega (arith, long), subst (λ (es : List ℕ). (k : ℕ) → k < 1 → slice_index es k ≡ words_told (k + 1) table) (sym is) kept)
 
--- and the segment
+-- and the segment itself
 pub only_part : (size : ℕ) (table bytes : List ℕ) → words_told 1 table ≡ size / 8 → size % 8 ≡ 0 → parts 1 table bytes ≡ take size bytes ∷ []
 only_part size table bytes told whole =
     let same : 8 * first_told table ≡ size = omega (arith, told, whole) in
@@ -74,7 +74,7 @@ only_at bytes short (suc k) s e = absurd (cc e)
 pub only_small : (segments : List (List ℕ)) (bytes : List ℕ) → segments ≡ bytes ∷ [] → length bytes / 8 < 2 ^ 32 → IsSmall segments
 only_small segments bytes only short = subst IsSmall (sym only) (omega arith, only_at bytes short)
 
--- one byte more is kept behind others
+-- one more byte is kept after the others
 pub byte_kept : {new : List ℕ} (list front bytes : List ℕ) (i : ℕ) → i < length bytes → list ≡ front ++ take i bytes → new ≡ list ++ slice_index bytes i ∷ [] → new ≡ front ++ take (i + 1) bytes
 byte_kept list front bytes i there is one =
     one ∙ ap (λ (xs : List ℕ). xs ++ slice_index bytes i ∷ []) is ∙ append_assoc front (take i bytes) (slice_index bytes i ∷ [])
@@ -83,7 +83,7 @@ byte_kept list front bytes i there is one =
     taken : (bytes : List ℕ) (i : ℕ) → i < length bytes → take i bytes ++ slice_index bytes i ∷ [] ≡ take (i + 1) bytes
     taken bytes i there = grind (arith, common_steps)
 
--- whole words within the limit are refused for nothing that they hold
+-- whole words within the limit are never refused for what they hold
 
 pub bare_words_are_read : (bytes : List ℕ) (most : ℕ) (e : FrameError) → AreBareWords bytes most → NoBareWords bytes most e → ⊥
 bare_words_are_read bytes most e is (words_beyond long named) = let short = is.short in omega (arith, short, long)

@@ -6,7 +6,7 @@ use Rattle.capnp_framing.specs.Reading.{HasTable, NoFrame, count_cut, segments_t
 use Rattle.capnp_framing.specs.declared.framing.frame_error.FrameError.TheVariants.{ReadFailed, TooManySegments, Truncated}
 use Rattle.capnp_framing.proofs.BareLemmas.{all_so, begins_so}
 
--- a call that gives one answer doesn't give another
+-- a call that returns true doesn't return false
 pub not_false : {E P : Type 0} {r : Result Bool E} → r ≡ Ok true → r ≡ Ok false → P
 not_false is e = absurd (let wrong : ⊥ = cc in wrong)
 
@@ -26,17 +26,17 @@ end_at_once None b n xs none f end = (tt, end)
 end_at_once (Some x) None n xs none f end = absurd f
 end_at_once (Some x) (Some y) n xs none f end = (f ∙ ap (λ k. take k xs ++ y) none ∙ end, end)
 
--- not all four came
+-- not all four bytes came
 pub short_count : (a b : Option (List ℕ)) (n most : ℕ) (xs : List ℕ) → length xs ≡ 4 → 0 < n → n < 4 → Consumes a b (take n xs) → IsAtEnd b → IfSome a (λ bytes. NoFrame bytes most Truncated)
 short_count a b n most xs long some less f end =
     let size : length (take n xs) ≡ n = omega (arith, length-take n xs, long, less) in
     all_so a b (take n xs) (λ bytes. NoFrame bytes most Truncated) f end (count_cut (omega (arith, size, some)) (omega (arith, size, less)) refl)
 
--- all four came
+-- all four bytes came
 pub four_read : (a b : Option (List ℕ)) (n : ℕ) (xs : List ℕ) → length xs ≡ 4 → n ≡ 4 → Consumes a b (take n xs) → Consumes a b xs
 four_read a b n xs long four f = subst (Consumes a b) (take_all n xs (omega (arith, long, four))) f
 
--- they tell more segments than may be
+-- they tell more segments than are allowed
 pub many_told : (a b : Option (List ℕ)) (most told : ℕ) (xs : List ℕ) → length xs ≡ 4 → told ≡ from_le_bytes w32 xs → 512 < told + 1 → Consumes a b xs → IfSome a (λ bytes. NoFrame bytes most (TooManySegments (told + 1)))
 many_told a b most told xs long is many f =
     begins_so a b xs (λ bytes. NoFrame bytes most (TooManySegments (told + 1))) f
@@ -44,15 +44,15 @@ many_told a b most told xs long is many f =
     (let same : segments_told (xs ++ rest) ≡ told + 1 = ap (λ (ys : List ℕ). from_le_bytes w32 ys + 1) (take_at xs rest 4 long) ∙ ap (λ k. k + 1) (sym is) in
     too_many (omega (arith, long, length-append xs rest)) (omega (arith, same, many)) (ap TooManySegments (sym same))))
 
--- and as many as they tell
+-- the number of segments is the one that they tell
 pub count_told : (told : ℕ) (xs : List ℕ) → length xs ≡ 4 → told ≡ from_le_bytes w32 xs → told + 1 ≡ segments_told xs
 count_told told xs long is = ap (λ k. k + 1) (is ∙ ap (from_le_bytes w32) (sym (take_all 4 xs (omega (arith, long)))))
 
--- fewer bytes came than were wanted, and there are no more
+-- fewer bytes came than were requested, and there are no more
 pub short_read : (a b : Option (List ℕ)) (n m : ℕ) (xs : List ℕ) → n < m → Consumes a b (take n xs) → IsAtEnd b → IfSome a (λ bytes. length bytes < m)
 short_read a b n m xs less f end = all_so a b (take n xs) (λ bytes. length bytes < m) f end (omega (arith, length-take n xs, less))
 
--- The same where the bytes stand in memory: the table is there, and tells w words in n segments.
+-- The same for bytes in memory: the table is there, and tells w words in n segments.
 
 pub table_there : (bytes : List ℕ) (n : ℕ) → 4 ≤ length bytes → n ≡ segments_told bytes → n ≤ 512 → table_size n ≤ length bytes → HasTable bytes
 table_there bytes n four is few room = record { count = four; few = subst (λ k. k ≤ 512) is few; table = subst (λ k. table_size k ≤ length bytes) is room }

@@ -1,4 +1,4 @@
--- Segments that stand one behind the other are those of a frame.
+-- Consecutive segments are those of a frame.
 use Rattle.std.proofs.Common.{◌≡◌, ℕ, zero, suc, ◌+◌, ◌-◌, ◌*◌, ◌^◌, ◌<◌, ◌≤◌, List, [], ◌∷◌, ◌++◌, length, get_or, take, drop, replicate, refl, sym, ap, ap₂, ◌∙◌, subst, arith, length-take, length-drop, get_or-drop, append_assoc, take-add, drop-drop, take-append-drop, slice_get, slice_index, slice_set, Some}
 use Rattle.std.specs.List.{All}
 use Rattle.std.proofs.lemmas.List.{get_or-set_same, get_or-set_other, length-replicate}
@@ -21,11 +21,11 @@ pub length-parts : (n : ℕ) (table bytes : List ℕ) → length (parts n table 
 length-parts zero table bytes = refl
 length-parts (suc n) table bytes = ap suc (length-parts n (drop 4 table) (drop (8 * first_told table) bytes))
 
--- the bytes of segment id, of segments that stand one behind the other, of as many words as a table tells
+-- the bytes of segment id, if the segments are consecutive and as long as a table tells
 abbrev part_at : ℕ → List ℕ → List ℕ → List ℕ
 part_at id table bytes = take (8 * first_told (drop (4 * id) table)) (drop (8 * words_told id table) bytes)
 
--- the segment with a number
+-- the segment with number id
 pub parts-get : (n id : ℕ) (table bytes : List ℕ) → id < n → slice_get (parts n table bytes) id ≡ Some (part_at id table bytes)
 parts-get zero id table bytes h = absurd (omega arith)
 parts-get (suc n) zero table bytes h = refl
@@ -36,7 +36,7 @@ parts-get (suc n) (suc id) table bytes h =
     (drop-drop (4 * id) 4 table ∙ ap (λ k. drop k table) (let e : 4 + 4 * id ≡ 4 * suc id = omega arith in e))
     (drop-drop (8 * words_told id (drop 4 table)) m bytes ∙ ap (λ k. drop k bytes) (let e : m + 8 * words_told id (drop 4 table) ≡ 8 * words_told (suc id) table = omega arith in e))
 
--- One start more is kept.
+-- One more start is kept.
 pub kept_more :
     (table starts : List ℕ) (k sum : ℕ) → k < length starts → sum ≡ words_told (32 * k) table → sum ≤ max_length * (32 * k) →
     ((j : ℕ) → j < k → (slice_index starts j ≡ words_told (32 * j) table) × (slice_index starts j ≤ max_length * (32 * j))) →
@@ -48,7 +48,7 @@ kept_more table starts k sum there is small kept =
     let (at, low) = kept j less in (other ∙ at, omega (arith, other, low))))
     (let same = get_or-set_same starts k sum 0 there in (same ∙ is, omega (arith, same, small)))
 
--- What n segments say of the table and the bytes that they were cut from.
+-- What n segments state about the table and the bytes that they were cut from.
 pub record AreParts (n : ℕ) (table bytes : List ℕ) (S : Segments) : Type 0 where
   pub count : length S ≡ n
   pub told : lengths S ≡ take (4 * n) table
@@ -104,8 +104,8 @@ are_parts (suc n) table bytes t b room whole =
       sum = omega (arith, count, rest.sum);
     }
 
--- Bytes have a table of n lengths, which stands with what is behind it in `table`; behind its padding stands `rest`, which has as
--- many words as the lengths tell.
+-- The bytes begin with the table of n lengths of a frame. `table` is the bytes from the lengths on.
+-- `rest` is the bytes after the padding, and has at least as many words as the lengths tell.
 pub record AtFrame (n : ℕ) (bytes table rest : List ℕ) : Type 0 where
   pub below : AreBytes bytes
   pub told : n ≡ first_told bytes + 1
@@ -123,7 +123,7 @@ cut_parts {n} {bytes} {table} {rest} at =
     (let room = at.room in let long = ap length at.table_is in omega (arith, long, length-drop 4 bytes, room))
     at.whole
 
--- bytes at whose front a frame is found begin with a frame
+-- bytes with a frame at the front begin with a frame
 pub flat_frame : {n : ℕ} {bytes table rest : List ℕ} (most : ℕ) → AtFrame n bytes table rest → words_told n table ≤ most → BeginsWithFrame bytes most (message (parts n table rest))
 flat_frame {n} {bytes} {table} {rest} most at short =
     let size : ℕ = 4 * n + padding_size n in
@@ -155,11 +155,11 @@ flat_frame {n} {bytes} {table} {rest} most at short =
       short = omega (arith, cut.sum, short);
     }
 
--- and its segments are within the limits of a reader
+-- and its segments are within a reader's limits
 pub flat_small : {n : ℕ} {bytes table rest : List ℕ} → AtFrame n bytes table rest → IsSmall (parts n table rest)
 flat_small {n} {table = table} {rest = rest} at = (let few = at.few in omega (arith, length-parts n table rest, few), small_from_short (parts n table rest) (cut_parts at).short)
 
--- how many words the segments have that were cut from such bytes
+-- the number of words of segments that were cut from such bytes
 total-parts : (n : ℕ) (table bytes : List ℕ) → 8 * words_told n table ≤ length bytes → total (message (parts n table bytes)) ≡ words_told n table
 total-parts zero table bytes whole = refl
 total-parts (suc n) table bytes whole =
@@ -167,7 +167,7 @@ total-parts (suc n) table bytes whole =
     let part : List ℕ = take (8 * k) bytes in
     omega (arith, words part, length-take (8 * k) bytes, total-parts n (drop 4 table) (drop (8 * k) bytes) (omega (arith, length-drop (8 * k) bytes)))
 
--- and how many bytes their frame has
+-- and the number of bytes of their frame
 pub length-frame_of_parts : (n : ℕ) (table bytes : List ℕ) → 8 * words_told n table ≤ length bytes → length (frame (message (parts n table bytes))) ≡ table_size n + 8 * words_told n table
 length-frame_of_parts n table bytes whole =
     let S : Segments = message (parts n table bytes) in

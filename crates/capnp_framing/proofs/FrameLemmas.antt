@@ -1,4 +1,5 @@
--- Frames are taken apart from the front: the number of segments, their lengths, the padding, and then the words.
+-- Frames are split from the front: the number of segments, their lengths, the padding, and then the
+-- words.
 use Rattle.std.proofs.Common.{◌≡◌, ℕ, ◌-◌, ◌^◌, ◌<◌, List, [], ◌∷◌, ◌++◌, length, drop, replicate, refl, sym, ap, ap₂, ◌∙◌, subst, arith, append_assoc}
 use Rattle.std.specs.List.{All}
 use Rattle.std.specs.Int.{from_le_bytes, to_le_bytes, w32, w64}
@@ -8,7 +9,7 @@ use Rattle.std.proofs.lemmas.Nat.{from_le_bytes-to_le_bytes_4, from_le_bytes-to_
 use Rattle.capnp_format.specs.Segments.{Segments}
 use Rattle.capnp_framing.specs.Frames.{AreSegmentWords, CanBeFramed, bytes_of_words, lengths, contents, padding_size, IsFrameOf, frame_with, frame}
 
--- two lists with the same front of one length
+-- two equal lists with fronts of one length have the same fronts
 same_front : (xs ys : List ℕ) {us vs : List ℕ} → length xs ≡ length ys → xs ++ us ≡ ys ++ vs → (xs ≡ ys) × (us ≡ vs)
 same_front [] [] l e = (refl, e)
 same_front [] (y ∷ ys) l e = absurd (omega arith)

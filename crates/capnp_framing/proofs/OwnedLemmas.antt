@@ -13,7 +13,7 @@ use Rattle.capnp_framing.specs.Reading.{segments_told, words_told}
 use Rattle.capnp_framing.proofs.FlatLemmas.{AreParts, length-parts}
 use Rattle.capnp_framing.proofs.ReadingLemmas.{AtTable, frame_read, small_from_short}
 
--- The end of one segment more is kept.
+-- The end of one more segment is kept.
 pub ends_more : (i sum : ℕ) (table ends : List ℕ) → length ends ≡ i → sum ≡ words_told (i + 1) table → ((k : ℕ) → k < i → slice_index ends k ≡ words_told (k + 1) table) →
     (k : ℕ) → k < i + 1 → slice_index (ends ++ sum ∷ []) k ≡ words_told (k + 1) table
 ends_more i sum table ends long is kept =
@@ -28,14 +28,15 @@ ends_kept i sum table ends long is kept items = (
   subst (λ (es : List ℕ). (k : ℕ) → k < i + 1 → slice_index es k ≡ words_told (k + 1) table) (sym items) (ends_more i sum table ends long is kept),
 )
 
--- Memory has the lengths of n segments and their words, and what stands behind them.
+-- The four bytes `first` tell n segments, at most 512, and `table` has room for their lengths and
+-- the padding. `words` is the memory of their words.
 pub record AtOwned (first : List ℕ) (n : ℕ) (table words : List ℕ) : Type 0 where
   pub four : length first ≡ 4
   pub told : n ≡ from_le_bytes w32 first + 1
   pub few : n ≤ 512
   pub room : 4 * n + padding_size n ≤ length table
 
--- what is so of a number that was read, and with it
+-- what holds for a number that was read holds for n
 pub of_count : (P : ℕ → Type 0) (m : Option ℕ) {n : ℕ} → m ≡ Some n → IfSome m P → P n
 of_count P None same h = absurd (let wrong : ⊥ = cc in wrong)
 of_count P (Some k) {n} same h = subst P (let e : k ≡ n = cc in e) h
@@ -54,7 +55,7 @@ at_owned first {n} words m same four told few room = record {
   room = room;
 }
 
--- of which the lengths and the padding are read
+-- and their lengths and padding are read
 pub front : {first table words : List ℕ} {n : ℕ} → AtOwned first n table words → AtTable first (take (4 * n + padding_size n) table) n
 front {first} {table} {words} {n} at =
     let room = at.room in

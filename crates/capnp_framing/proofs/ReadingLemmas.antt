@@ -1,4 +1,4 @@
--- What is read piece by piece is read as a whole.
+-- What is read in pieces is read as a whole.
 use Rattle.std.proofs.Common.{Bool, true, false, ◌≡◌, ℕ, zero, suc, ◌+◌, ◌-◌, ◌*◌, ◌/◌, ◌^◌, ◌<◌, ◌≤◌, inl, inr, List, [], ◌∷◌, ◌++◌, length, get_or, take, drop, replicate, refl, sym, ap, ap₂, ◌∙◌, subst, arith, length-append, length-take, length-drop, get_or-drop, append-nil, append_assoc, take-add, take_at, drop_at, drop-drop, take-append-drop, slice_get, Option, Some, None, IfSome}
 use Rattle.std.specs.List.{All}
 use Rattle.std.specs.Int.{from_le_bytes, to_le_bytes, w32, w64}
@@ -18,21 +18,21 @@ use Rattle.capnp_framing.specs.declared.framing.frame_error.FrameError.TheVarian
 use Rattle.capnp_framing.specs.declared.devices.Input.{Ghosts}
 use Rattle.capnp_framing.specs.declared.framing.frame_error.FrameError.{FrameError}
 
--- some bytes are read, and then others
+-- some bytes are read, and then more
 pub consumes_both : (a b c : Option (List ℕ)) (first more : List ℕ) → Consumes a b first → Consumes b c more → Consumes a c (first ++ more)
 consumes_both None b c first more f g = tt
 consumes_both (Some x) None c first more f g = absurd f
 consumes_both (Some x) (Some y) None first more f g = absurd g
 consumes_both (Some x) (Some y) (Some z) first more f g = grind (arith, common_steps)
 
--- an input that ends too early behind some bytes ends too early for these and more
+-- an input that ends too early after some bytes ends too early for these and more
 cut_later : (a b : Option (List ℕ)) (xs : List ℕ) (n m : ℕ) → Consumes a b xs → length xs + n ≤ m → IfSome b (λ bytes. length bytes < n) → IfSome a (λ bytes. length bytes < m)
 cut_later None b xs n m f l h = tt
 cut_later (Some x) None xs n m f l h = absurd f
 cut_later (Some x) (Some y) xs n m f l h = omega (arith, ap length f, length-append xs y, h)
 
 module _ {R : Type 0} (g : Ghosts R) where
-  -- fewer bytes came than were wanted, behind some that had come
+  -- fewer bytes came than were requested, after some that had come
   pub unread_later : (from mid to : R) (xs : List ℕ) (n m : ℕ) (e : FrameError) → Consumes (g.remaining from) (g.remaining mid) xs → length xs + n ≤ m → WhyUnread g mid to n e → WhyUnread g from to m e
   unread_later from mid to xs n m e f l h = record {
     why = elim h.why [
@@ -46,11 +46,11 @@ module _ {R : Type 0} (g : Ghosts R) where
     cut = h.cut;
   }
 
--- what works hasn't failed
+-- a call that works hasn't failed
 pub not_failed : {P : Type 0} (b : Bool) → b ≡ false → b ≡ true → P
 not_failed b works failed = absurd (let wrong : ⊥ = cc in wrong)
 
--- k bytes more, read over those behind the first n
+-- k more bytes are read over those after the first n
 pub read_on : (a b c : Option (List ℕ)) (n k : ℕ) (xs part : List ℕ) → n ≤ length xs → Consumes a b (take n xs) → Consumes b c (take k part) → Consumes a c (take (n + k) (take n xs ++ part))
 read_on a b c n k xs part l f h =
     let size : length (take n xs) ≡ n = omega (arith, length-take n xs) in
@@ -60,13 +60,13 @@ read_on a b c n k xs part l f h =
 pub read_over : (a b c : Option (List ℕ)) (n k m : ℕ) (xs part : List ℕ) → n ≤ length xs → k ≤ length part → Consumes a b (take n xs) → Consumes b c (take k part) → Consumes a c (take (n + k) (put_mid n m xs part))
 read_over a b c n k m xs part l h f g = read_on a b c n k xs (part ++ drop m (drop n xs)) l f (subst (Consumes b c) (sym (take-append-le k part (drop m (drop n xs)) h)) g)
 
--- bytes behind the first n are read, which stay
+-- bytes after the first n are read, and the first n stay
 pub read_more : (a b c : Option (List ℕ)) (n end : ℕ) (xs ys : List ℕ) → n ≤ end → take n ys ≡ take n xs → Consumes a b (take n xs) → Consumes b c (take (end - n) (drop n ys)) → Consumes a c (take end ys)
 read_more a b c n end xs ys l same f g =
     subst (Consumes a c) (sym (ap (λ k. take k ys) (let e : end ≡ n + (end - n) = omega arith in e) ∙ take-add n (end - n) ys))
     (consumes_both a b c (take n ys) (take (end - n) (drop n ys)) (subst (Consumes a b) (sym same) f) g)
 
--- and into room behind them, which was made longer and lent
+-- bytes are read into the room after the first n, which was made longer and lent
 pub filled_behind : (a b c : Option (List ℕ)) (n end len : ℕ) (old room lent xs : List ℕ) → length xs ≡ len → n ≤ end → take n xs ≡ take n lent → lent ≡ room → take n room ≡ take n old →
     Consumes a b (take n old) → Consumes b c (take (end - n) (drop n xs)) → Consumes a c (take end (take len (xs ++ drop (length xs) room)))
 filled_behind a b c n end len old room lent xs long less front value kept f g =
@@ -78,7 +78,7 @@ told_fewer zero n bs h = omega arith
 told_fewer (suc i) zero bs h = absurd (omega arith)
 told_fewer (suc i) (suc n) bs h = omega (arith, told_fewer i n (drop 4 bs) (omega arith))
 
--- one length more
+-- the number of words with one more length
 pub told_more : (i : ℕ) (bs : List ℕ) → words_told (i + 1) bs ≡ words_told i bs + from_le_bytes w32 (take 4 (drop (4 * i) bs))
 told_more i bs = rw (let e : i + 1 ≡ suc i = omega arith in e) (go i bs)
   where
@@ -93,7 +93,7 @@ told_more i bs = rw (let e : i + 1 ≡ suc i = omega arith in e) (go i bs)
 below_drop : (n : ℕ) (bs : List ℕ) → ((i : ℕ) → get_or bs i 0 < 256) → (i : ℕ) → get_or (drop n bs) i 0 < 256
 below_drop n bs l i = omega (arith, get_or-drop n bs i 0, l (n + i))
 
--- only the lengths themselves are looked at
+-- only the lengths themselves are read
 told_front : (n : ℕ) (xs ys zs : List ℕ) → 4 * n ≤ length xs → words_told n (xs ++ ys) ≡ words_told n (xs ++ zs)
 told_front zero xs ys zs h = refl
 told_front (suc n) xs ys zs h =
@@ -101,7 +101,8 @@ told_front (suc n) xs ys zs h =
     (take-append-le 4 xs ys (omega arith) ∙ sym (take-append-le 4 xs zs (omega arith)))
     (ap (words_told n) (drop-append-le 4 xs ys (omega arith)) ∙ told_front n (drop 4 xs) ys zs (omega (arith, length-drop 4 xs)) ∙ ap (words_told n) (sym (drop-append-le 4 xs zs (omega arith))))
 
--- The bytes of a message up to its table: the number of segments less one, the lengths and the padding, and then others.
+-- The bytes of a message up to its table: the number of segments less one, the lengths and the
+-- padding, and then others.
 pub record AtTable (first tab : List ℕ) (n : ℕ) : Type 0 where
   pub four : length first ≡ 4
   pub told : n ≡ from_le_bytes w32 first + 1
@@ -120,7 +121,7 @@ has_table {first} {tab} {n} rest h =
 table_words : {first tab : List ℕ} {n : ℕ} (rest zs : List ℕ) → AtTable first tab n → words_in_table (first ++ (tab ++ rest)) ≡ words_told n (tab ++ zs)
 table_words {first} {tab} {n} rest zs h = ap₂ words_told (table_told rest h) (drop_at first (tab ++ rest) 4 h.four) ∙ told_front n tab rest zs (omega (arith, h.size))
 
--- as long as a table
+-- these bytes are as long as a table
 pub table_long : {first tab : List ℕ} {n : ℕ} → AtTable first tab n → length (first ++ tab) ≡ table_size (segments_told (first ++ tab))
 table_long {first} {tab} {n} h =
     let told : segments_told (first ++ tab) ≡ n = ap (λ xs. from_le_bytes w32 xs + 1) (take_at first tab 4 h.four) ∙ sym h.told in
@@ -136,7 +137,7 @@ cut_table {first} {tab} {n} rest zs w most h e l cut =
     let long : length (first ++ (tab ++ rest)) ≡ 4 + (4 * n + padding_size n) + length rest = omega (arith, length-append first (tab ++ rest), length-append tab rest, h.four, h.size) in
     words_cut (has_table rest h) (omega (arith, same, e)) (subst (λ k. length (first ++ (tab ++ rest)) < table_size k + 8 * words_in_table (first ++ (tab ++ rest))) (sym (table_told rest h)) (omega (arith, long, same, e))) refl
 
--- what was read of known bytes, and what is left
+-- what was read from known bytes, and what is left of them
 pub read_so : (a b c : Option (List ℕ)) (first tab : List ℕ) (Q P : List ℕ → Type 0) → Consumes a b first → Consumes b c tab → IfSome c Q → ((rest : List ℕ) → Q rest → P (first ++ (tab ++ rest))) → IfSome a P
 read_so None b c first tab Q P f g q h = tt
 read_so (Some x) None c first tab Q P f g q h = absurd f
@@ -167,7 +168,7 @@ small_from_short [] h k s e = absurd (cc e)
 small_from_short (b ∷ bs) h zero s e = let same : b ≡ s = cc in let l = All-head (λ (ws : List ℕ). length ws < 2 ^ 32) (words_of b) (message bs) h in omega (arith, words b, ap length same, l)
 small_from_short (b ∷ bs) h (suc k) s e = small_from_short bs (All-tail (λ (ws : List ℕ). length ws < 2 ^ 32) (words_of b) (message bs) h) k s e
 
--- a frame is refused for nothing that it holds
+-- a frame is never refused for what it holds
 
 lengths_told : (S : Segments) (zs : List ℕ) → All (λ ws. length ws < 2 ^ 32) S → words_told (length S) (lengths S ++ zs) ≡ total S
 lengths_told [] zs h = refl
@@ -186,7 +187,7 @@ contents-length : (S : Segments) → length (contents S) ≡ 8 * total S
 contents-length [] = refl
 contents-length (ws ∷ S) = omega (arith, contents-length S, bytes-length ws, length-append (bytes_of_words ws) (contents S))
 
--- how many bytes a frame has
+-- the number of bytes of a frame
 pub length-frame_with : (padding : List ℕ) (S : Segments) → length padding ≡ padding_size (length S) → length (frame_with padding S) ≡ table_size (length S) + 8 * total S
 length-frame_with padding S padded =
     omega (

@@ -15,7 +15,7 @@ pub length-lengths : (S : Segments) → length (lengths S) ≡ 4 * length S
 length-lengths [] = refl
 length-lengths (ws ∷ S) = omega (arith, length-lengths S, length-append (to_le_bytes w32 (length ws)) (lengths S))
 
--- zeros behind a front, the first of which are written over
+-- bytes that overwrite the first zeros after a front
 put_front : (front ys : List ℕ) (n k m : ℕ) → length front ≡ n → k ≤ m → put_mid n k (front ++ replicate m 0) ys ≡ front ++ (ys ++ replicate (m - k) 0)
 put_front front ys n k m e l =
     ap₂ (λ (xs zs : List ℕ). xs ++ (ys ++ zs)) (take_at front (replicate m 0) n e) (ap (drop k) (drop_at front (replicate m 0) n e) ∙ drop-replicate k m 0)
@@ -28,11 +28,12 @@ two_put first second to e =
     ∙ put_front (to_le_bytes w32 first) (to_le_bytes w32 second) 4 4 4 refl (omega arith)
     ∙ ap (λ (xs : List ℕ). to_le_bytes w32 first ++ xs) (append-nil (to_le_bytes w32 second))
 
--- The lengths of the last segments of a message of which an odd number is written, and the padding.
+-- The lengths of the last segments of a message after an odd number of them is written, and the
+-- padding.
 abbrev pub lengths_left : Segments → List ℕ
 lengths_left S = lengths S ++ replicate (4 * (length S % 2)) 0
 
--- the number of segments and the length of the first
+-- the number of segments and the length of the first segment
 pub table_first : (S : Segments) (n : ℕ) → n ≡ length S → 1 ≤ n →
     to_le_bytes w32 (n - 1) ++ (lengths S ++ replicate (padding_size n) 0) ≡ (to_le_bytes w32 (n - 1) ++ to_le_bytes w32 (length (segment S 0))) ++ lengths_left (drop 1 S)
 table_first [] n e h = absurd (omega arith)
@@ -43,7 +44,7 @@ table_first (ws ∷ S) n e h =
     ∙ sym (append_assoc four first (lengths S ++ replicate (padding_size n) 0))
     ∙ ap (λ k. (four ++ first) ++ (lengths S ++ replicate k 0)) (let k : padding_size n ≡ 4 * (length S % 2) = omega (arith, e) in k)
 
--- two lengths more, or one and the padding
+-- two more lengths, or one and the padding
 pub table_next : (S : Segments) (i : ℕ) → i < length S →
     lengths_left (drop i S) ≡ (to_le_bytes w32 (length (segment S i)) ++ to_le_bytes w32 (length (segment S (suc i)))) ++ lengths_left (drop (suc (suc i)) S)
 table_next [] i h = absurd (omega arith)
@@ -55,7 +56,7 @@ table_next (ws ∷ vs ∷ S) zero h =
     ∙ append_assoc (a ++ b) (lengths S) (replicate (4 * (length S % 2)) 0)
 table_next (ws ∷ S) (suc i) h = table_next S i (omega arith)
 
--- all are written
+-- all lengths are written
 pub table_end : (S : Segments) (i : ℕ) → length S ≤ i → lengths_left (drop i S) ≡ []
 table_end S i h = ap lengths_left (drop_all i S h)
 

@@ -1,4 +1,4 @@
--- What is known of where bytes end stays so, over several reads too.
+-- What is known about where bytes end still holds after one or several reads.
 use Rattle.std.proofs.Common.{Bool, Option, Some, None, refl, subst}
 use Rattle.capnp_framing.specs.Wholeness.{KeepsWhole}
 

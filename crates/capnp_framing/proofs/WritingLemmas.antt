@@ -1,22 +1,22 @@
--- Bytes are written one after the other.
+-- Bytes are written one after another.
 use Rattle.std.proofs.Common.{◌≡◌, ℕ, Result, Err, List, [], ◌++◌, Option, Some, None, refl, sym, ap, ◌∙◌, append-nil, arith}
 use Rattle.std.specs.Io.KnownBytes.{Appends}
 use Rattle.capnp_framing.specs.declared.framing.frame_error.FrameError.{FrameError}
 use Rattle.capnp_framing.specs.declared.framing.frame_error.FrameError.TheVariants.{NoSegments, TooManySegments, WriteFailed}
 use Rattle.std.proofs.lemmas.Grind.{common_steps}
 
--- Of known bytes that some more were to be appended to, those that are left over.
+-- Of `more`, which is written after known bytes, `rest` is left over.
 abbrev pub IsLeftOver : Option (List ℕ) → Option (List ℕ) → List ℕ → List ℕ → Type 0
 IsLeftOver None new more rest = Unit {0}
 IsLeftOver (Some xs) None more rest = ⊥
 IsLeftOver (Some xs) (Some ys) more rest = ys ++ rest ≡ xs ++ more
 
--- Of bytes that were to be appended, some are left over, and then more is appended.
+-- Of `all`, which is written after known bytes, `rest` is left over, and then `more` is appended.
 pub record Writes (a b c : Option (List ℕ)) (all rest more : List ℕ) : Type 0 where
   pub left_over : IsLeftOver a b all rest
   pub appended : Appends b c more
 
--- more of what is left over is written
+-- more is written of what is left over
 pub left_over_less : {a b c : Option (List ℕ)} {all rest more : List ℕ} (less : List ℕ) → Writes a b c all rest more → rest ≡ more ++ less → IsLeftOver a c all less
 left_over_less {a = None} less w e = tt
 left_over_less {a = Some x} {b = None} less w e = absurd w.left_over
@@ -33,7 +33,7 @@ pub left_over_all : (a : Option (List ℕ)) (all : List ℕ) → IsLeftOver a a 
 left_over_all None all = tt
 left_over_all (Some x) all = refl
 
--- some bytes are written, and then others
+-- some bytes are written, and then more
 pub appends_both : (a b c : Option (List ℕ)) (first more : List ℕ) → Appends a b first → Appends b c more → Appends a c (first ++ more)
 appends_both None b c first more f g = tt
 appends_both (Some x) None c first more f g = absurd f

@@ -1,4 +1,4 @@
--- The words of a segment end within those of all.
+-- The words of a segment end inside those of all segments.
 use Rattle.std.proofs.Common.{◌≡◌, ◌+◌, ◌-◌, ◌*◌, ◌∙◌, ℕ, List, Some, take, drop, ap, ap₂, refl, sym, arith}
 use Rattle.std.proofs.lemmas.Bool.{false≢true}
 use Rattle.capnp_framing.specs.Flat.{first_told}
