@@ -1,4 +1,4 @@
--- The copy and the test agree, and speak of one value.
+-- The copy and the test agree, and are about the same value.
 use Rattle.std.proofs.Common.{◌≡◌, ◌↔◌, Bool, IsTrue, ◌++◌, ℕ, zero, suc, ◌+◌, ◌<◌, ◌≤◌, List, [], ◌∷◌, length, Option, Some, None, refl, sym, ap, ◌∙◌, subst, arith}
 use Rattle.std.proofs.lemmas.Grind.{common_steps}
 use Rattle.std.proofs.lemmas.List.{append-nil}
@@ -27,11 +27,11 @@ pub only_value : (S : Segments) (limits others : ReaderOptions) (t u : Tree) →
 only_value S limits others t u a b =
     (one_value S (levels limits.nesting_limit) (levels others.nesting_limit) 0 0 t u a.cost b.cost a.means b.means).0
 
--- what a message of 64-bit words has for its value
+-- the value of a message of 64-bit words is a value
 is_value : {S : Segments} {limits : ReaderOptions} {t : Tree} → AreWords S → IsValueOf S limits t → IsValue t
 is_value {S} {limits} {t} words a = means_value S (levels limits.nesting_limit) 0 0 t a.cost words a.means
 
--- its offsets fit, where its canonical words fit a segment
+-- the offsets of a value fit, if its canonical words fit a segment
 fits : (t : Tree) → IsValue t → 1 + word_count (trim t) ≤ max_segment_words → IsEncodable (trim t)
 fits t value short = small_fits (trim t) (trim-value t value) (omega (arith, short))
 
@@ -41,7 +41,7 @@ same_copies S R limits others t u words wide a b short brief =
     same_canonical_words S R (levels limits.nesting_limit) 0 0 (levels others.nesting_limit) 0 0 a.cost b.cost t u words wide a.means b.means
     (fits t (is_value words a) short) (fits u (is_value wide b) brief)
 
--- no value's words begin another's
+-- the words of one value don't begin those of another
 pub none_begins : (S R : Segments) (limits others : ReaderOptions) (t u : Tree) (more : List ℕ) → AreWords S → AreWords R → IsValueOf S limits t → IsValueOf R others u →
     1 + word_count (trim t) ≤ max_segment_words → 1 + word_count (trim u) ≤ max_segment_words → encoding (trim t) ++ more ≡ encoding (trim u) → more ≡ []
 none_begins S R limits others t u more words wide a b short brief begins =
@@ -49,7 +49,7 @@ none_begins S R limits others t u more words wide a b short brief begins =
     let w = is_value wide b in
     no_encoding_begins (trim t) (trim u) more (trim-value t v) (fits t v short) (trim-value u w) (fits u w brief) begins
 
--- whether two copies are the same says whether the trimmed values are
+-- two copies are the same exactly if the trimmed values are
 pub two_same : (S R : Segments) (limits : ReaderOptions) (same : Bool) (V W : Segments) →
     (t : Tree) × IsValueOf S limits t × (1 + word_count (trim t) ≤ max_segment_words) × (V ≡ encoding (trim t) ∷ []) →
     (u : Tree) × IsValueOf R limits u × (1 + word_count (trim u) ≤ max_segment_words) × (W ≡ encoding (trim u) ∷ []) →
@@ -108,7 +108,7 @@ canonical_is_own_copy S limits t words a short = (
   λ own. (trim t, subst (λ R. IsCanonicalOf R (trim t)) (sym own) (copy_is_canonical S limits t words a short).0),
 )
 
--- the message of a null root
+-- the message with a null root
 abbrev fresh : Segments
 fresh = (0 ∷ []) ∷ []
 

@@ -1,4 +1,4 @@
--- What a copy has asked for; and where a message can be read, the test answers.
+-- What a copy has requested; and that the test answers if the message can be read.
 use Rattle.std.proofs.Common.{◌≡◌, ◌⊎◌, inl, inr, refl, arith, ℕ, zero, suc, ◌+◌, ◌*◌, ◌<◌, ◌≤◌, [], ◌∷◌, map, sum, Bool, Result, Ok, Err, IsOk, IfErr, length}
 use Rattle.std.proofs.lemmas.Grind.{common_steps}
 use Rattle.capnp_words.specs.declared.error.ErrorKind.{ErrorKind}
@@ -9,7 +9,7 @@ use Rattle.capnp_messages.specs.Tries.{room_of_try}
 use Rattle.capnp_messages.specs.Messages.{IsReadable, RefusesCheck}
 use Rattle.capnp_messages.proofs.AnsweredLemmas.{check_refused}
 
--- a test is answered where its message can be read, or hasn't one segment
+-- a test is answered if its message can be read, or doesn't have one segment
 pub is_tested : (S : Segments) (limits : ReaderOptions) (r : Result Bool ErrorKind) → (length S ≡ 1 → IsReadable S limits) →
     IfErr r (RefusesCheck S limits) → IsOk r
 is_tested S limits (Ok holds) can refused = refl
@@ -19,7 +19,8 @@ total_is : (S : Segments) → total S ≡ sum (map length S)
 total_is [] = refl
 total_is (ws ∷ S) = grind (arith, common_steps, total_is S)
 
--- what the tries ask for: the words of the source and one, or less than twice the words that are made
+-- what the tries request: the words of the source and one more, or less than twice the words that
+-- are made
 pub asked_no_more : (S : Segments) {words : ℕ} (try : ℕ) → ((j : ℕ) → j < try → room_of_try (total S) j < words) →
     (room_of_try (total S) try ≤ sum (map length S) + 1) ⊎ (room_of_try (total S) try < 2 * words)
 asked_no_more S zero little = inl (omega (arith, total_is S))

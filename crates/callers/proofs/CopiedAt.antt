@@ -1,4 +1,4 @@
--- What a canonical copy of a pointer says of the message that the pointer is in.
+-- What a canonical copy of a pointer states about the pointer's message.
 use Rattle.std.proofs.Common.{◌≡◌, ◌⊎◌, inl, inr, true, sym, subst, arith, ℕ, ◌+◌, ◌*◌, ◌<◌, ◌≤◌, [], ◌∷◌, length, map, sum, Bool, IsTrue, Option}
 use Rattle.capnp_words.specs.Meter.{FitsIn, Meter, unused}
 use Rattle.capnp_words.specs.declared.error.ErrorKind.{ErrorKind}
@@ -30,7 +30,7 @@ copied_at {S = S} {n = n} {s = s} {p = p} {m = m} {after = after} same (t, reads
     let here = subst (λ (x : Reading). Reads canonical x m after t) same reads in
     (t, here.cost, here.means, here.takes (λ e. absurd (cc e)), record { covers = here.covers; spent = here.spent }, words)
 
--- such a value isn't refused
+-- the copy of such a value isn't refused for its value
 never_refused : {r : Reading} {S : Segments} {n s p : ℕ} {left : Option ℕ} {k : ErrorKind} → r ≡ read_at S n s p → (t : Tree) (c : ℕ) → Means S n s p t c →
     capabilities t ≡ 0 → FitsIn left c → 1 + word_count (trim t) ≤ max_segment_words → RefusesCopy r left max_segment_words k → ⊥
 never_refused {r} {S} {n} {s} {p} {left} {k} same t c means free covers fits (inl (named, large, out)) =
@@ -39,21 +39,21 @@ never_refused {r} {S} {n} {s} {p} {left} {k} same t c means free covers fits (in
     let here = subst (λ (x : Reading). Refused canonical x (unused left) after k) same refused in
     (unreadable here).only t c means (λ _. free) covers
 
--- but for want of memory, which is counted
+-- it is refused only for lack of memory, which is counted
 pub lacks_memory_at : {r : Reading} {S : Segments} {n s p : ℕ} {left : Option ℕ} {old new : ℕ} {k : ErrorKind} → r ≡ read_at S n s p → (t : Tree) (c : ℕ) → Means S n s p t c →
     capabilities t ≡ 0 → FitsIn left c → 1 + word_count (trim t) ≤ max_segment_words → LacksMemoryOr old new k (RefusesCopy r left max_segment_words k) →
     (k ≡ AllocationFailed) × (new ≡ one_more old)
 lacks_memory_at same t c means free covers fits (inl memory) = memory
 lacks_memory_at same t c means free covers fits (inr (refused, kept)) = absurd (never_refused same t c means free covers fits refused)
 
--- or isn't
+-- it is refused only for lack of memory, counted or not
 pub no_memory_at : {r : Reading} {S : Segments} {n s p : ℕ} {left : Option ℕ} {k : ErrorKind} → r ≡ read_at S n s p → (t : Tree) (c : ℕ) → Means S n s p t c →
     capabilities t ≡ 0 → FitsIn left c → 1 + word_count (trim t) ≤ max_segment_words → (k ≡ AllocationFailed) ⊎ RefusesCopy r left max_segment_words k →
     k ≡ AllocationFailed
 no_memory_at same t c means free covers fits (inl memory) = memory
 no_memory_at same t c means free covers fits (inr refused) = absurd (never_refused same t c means free covers fits refused)
 
--- what the tries ask for
+-- what the tries request
 pub asked_at : {r : Reading} {S : Segments} {n s p : ℕ} (offers : ℕ → ℕ → Bool) (refusals : ℕ) (made : View) → r ≡ read_at S n s p → IsMadeByFirstTry r offers refusals made →
     (k : ℕ) × IsTrue (offers k (made.room 0)) × ((t : Tree) (c : ℕ) → Means S n s p t c → (k ≤ sum (map length S) + 1) ⊎ (k < 2 * (1 + word_count (trim t))))
 asked_at {S = S} offers refusals made same tries =
@@ -63,7 +63,7 @@ asked_at {S = S} offers refusals made same tries =
 just_asked : (k room : ℕ) → IsTrue (as_asked k room) → room ≡ k
 just_asked k room is = grind arith
 
--- and get from a heap, which gives just that
+-- and what a heap grants them, which is exactly that
 pub room_at : {r : Reading} {S : Segments} {n s p : ℕ} (made : View) → r ≡ read_at S n s p → IsMadeByFirstTry r as_asked 0 made →
     (t : Tree) (c : ℕ) → Means S n s p t c → (made.room 0 ≤ sum (map length S) + 1) ⊎ (made.room 0 < 2 * (1 + word_count (trim t)))
 room_at {S = S} made same tries t c means =

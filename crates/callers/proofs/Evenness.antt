@@ -1,4 +1,5 @@
--- How long canonical words are, of whatever a message means, also where its words aren't of 64 bits.
+-- The length of canonical words, for any value that a message means, even if the message's words
+-- don't have 64 bits.
 use Rattle.std.proofs.Common.{◌≡◌, ℕ, zero, suc, ◌+◌, ◌*◌, ◌≤◌, ◌++◌, length, refl, ◌∙◌, arith, length-append, length-take}
 use Rattle.std.specs.Bool.{⊤}
 use Rattle.capnp_format.specs.Numbers.{words_for}
@@ -10,7 +11,7 @@ use Rattle.capnp_format.proofs.Digits.{length-digits}
 use Rattle.capnp_format.proofs.Lengths.{length-pointers}
 use Rattle.capnp_format.proofs.Trimming.{used_words-le, used_trees-le, take_trees-count, trim_each-count}
 
--- The elements of each list of structs have as many data words and children as it says.
+-- The elements of each list of structs have as many data words and children as the list says.
 abbrev mutual
   pub IsEven : Tree → Type 0
   IsEven Null = ⊤

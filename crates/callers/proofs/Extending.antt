@@ -1,4 +1,4 @@
--- Words put behind others.
+-- Words added after others.
 use Rattle.std.proofs.Common.{◌≡◌, ℕ, zero, suc, ◌+◌, ◌<◌, List, [], ◌∷◌, ◌++◌, length, replicate, slice_set, refl, ap, ◌∙◌, arith}
 use Rattle.std.proofs.lemmas.List.{append_assoc, length-append}
 use Rattle.capnp_format.specs.Segments.{Segments, segment}
@@ -9,13 +9,13 @@ set_last : (xs : List ℕ) (old x : ℕ) → slice_set (xs ++ old ∷ []) (lengt
 set_last [] old x = refl
 set_last (y ∷ xs) old x = ap (λ zs. y ∷ zs) (set_last xs old x)
 
--- a word taken and then written
+-- a word is allocated and then written
 pub written_last : (S : Segments) (s p x : ℕ) → s < length S → p ≡ length (segment S s) → with_word (extended S s (replicate 1 0)) s p x ≡ extended S s (x ∷ [])
 written_last [] s p x l e = absurd (omega arith)
 written_last (t ∷ S) zero p x l e = ap (λ u. u ∷ S) (ap (λ i. slice_set (t ++ 0 ∷ []) i x) e ∙ set_last t 0 x)
 written_last (t ∷ S) (suc s) p x l e = ap (λ T. t ∷ T) (written_last S s p x (omega arith) e)
 
--- words put behind others twice
+-- words are added after others twice
 pub extended_twice : (S : Segments) (s : ℕ) (xs ys : List ℕ) → extended (extended S s xs) s ys ≡ extended S s (xs ++ ys)
 extended_twice [] s xs ys = refl
 extended_twice (t ∷ S) zero xs ys = ap (λ u. u ∷ S) (append_assoc t xs ys)

@@ -35,11 +35,11 @@ field_put S M R t y size place forest first leads some puts =
     let path : PathLeads M (node 0 0 (zero_struct size)) (Child 0 ∷ []) (node place.segment (place.pointers_at) Null) = (omega (arith, count-nulls size.pointers), node_of_parts (sym is_segment) at (null_first size.pointers)) in
     forest_updated M R (zero_struct size) (Child 0 ∷ []) place.segment (place.pointers_at) Null y made path (puts Null (stored_within M 0 0 (zero_struct size) (Child 0 ∷ []) place.segment (place.pointers_at) Null path (forest_stored M (zero_struct size) made)))
 
--- what is put at a pointer, wherever in a tree it is
+-- what is put at a pointer anywhere in a tree
 pub put_where_it_leads : (S R : Segments) (s p : ℕ) (y : Tree) → Puts S R s p y → (t x : Tree) (path : List Step) → IsForest S t → PathLeads S (node 0 0 t) path (node s p x) → IsForest R (update t path y)
 put_where_it_leads S R s p y puts t x path forest leads = forest_updated S R t path s p x y forest leads (puts x (stored_within S 0 0 t path s p x leads (forest_stored S t forest)))
 
--- where the sections of a struct are that a pointer leads to
+-- where the sections of a struct are, if a pointer leads to it
 pub place_leads : {c : CallAt} {size : StructSize} {place : StructPlace} → IsStructOf c size place →
     (place.segment ≡ (target c.new.words c.segment c.at).segment) × (place.byte ≡ 8 * (target c.new.words c.segment c.at).start) × (place.bits ≡ 64 * size.data_words) ×
     (place.pointers_at ≡ (target c.new.words c.segment c.at).start + size.data_words) × (place.pointers ≡ size.pointers)

@@ -1,4 +1,4 @@
--- A frame that stands in memory alone is read as its message.
+-- A frame in memory is read as its message.
 use Rattle.std.proofs.Common.{◌≡◌, ℕ, ◌*◌, ◌^◌, ◌<◌, ◌≤◌, List, [], ◌∷◌, All, length, Option, Some, Result, Ok, Err, IfOk, IfErr, IsOkAnd, sym, subst, ◌∙◌, arith}
 use Rattle.std.proofs.lemmas.List.{append-nil}
 use Rattle.std.proofs.lemmas.List.Elements.{All-head, All-tail}
@@ -12,7 +12,7 @@ use Rattle.capnp_framing.proofs.FrameLemmas.{one_frame_begins, written_is_frame}
 use Rattle.capnp_framing.proofs.ReadingLemmas.{frame_is_read}
 use Rattle.callers.specs.Meaning.{MeansTheSame}
 
--- how many words a budget counts at most
+-- the greatest budget of words
 abbrev greatest_budget : ℕ
 greatest_budget = 18446744073709551615
 
@@ -32,13 +32,13 @@ pub is_no_fault : (S : Segments) (bytes : List ℕ) (e : FrameError) → IsFrame
 is_no_fault S bytes e framed none =
     frame_is_read S bytes [] greatest_budget e framed (total_small S framed.message) (subst (λ (xs : List ℕ). NoFrame xs greatest_budget e) (sym (append-nil bytes)) none)
 
--- bytes that are all of an output are those that were written there
+-- bytes that are an output's whole content are those that were written there
 pub is_frame : (S : Segments) (bytes : List ℕ) (contents : Option (List ℕ)) → CanBeFramed S → contents ≡ Some (frame S) → Some bytes ≡ contents → IsFrameOf S bytes
 is_frame S bytes contents can written all =
     let same : frame S ≡ bytes = cc in
     subst (λ (xs : List ℕ). IsFrameOf S xs) same (written_is_frame S can)
 
--- what is read as a message means the same as it
+-- what is read as a message means the same as the message
 pub means_there : {A E : Type 0} (r : Result A E) (read : A → Segments) (S : Segments) → IsOkAnd r (λ f. read f ≡ S) → IfOk r (λ f. MeansTheSame S (read f))
 means_there (Ok f) read S same = λ n s p c t means. subst (λ (R : Segments). Means R n s p t c) (sym same) means
 means_there (Err e) read S none = tt

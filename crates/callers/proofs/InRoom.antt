@@ -1,4 +1,5 @@
--- Where a message has a canonical copy whose words fit a segment, it can be copied there; and what a copy leaves there.
+-- If a message has a canonical copy whose words fit a segment, it can be copied there; and what a
+-- copy leaves there.
 use Rattle.std.proofs.Common.{◌≡◌, ◌↔◌, inl, inr, true, ℕ, zero, suc, ◌+◌, ◌≤◌, [], ◌∷◌, length, refl, sym, ap, subst, arith, Result, Ok, Err, IfErr, OnErr, OnOk, IfOk}
 use Rattle.std.proofs.lemmas.Grind.{common_steps}
 use Rattle.capnp_words.specs.declared.error.ErrorKind.{ErrorKind}
@@ -53,7 +54,7 @@ fits_there {S} {limits} {r} {m} v at is t value fits =
     subst (λ (x : Reading). CanBeCopied (value_original x) canonical m v 0) (sym at.place)
     (subst (λ (y : Meter). CanBeCopied (value_original (root_within S limits)) canonical y v 0) (sym at.left) here)
 
--- the same where the segment and what it holds are told by other names
+-- the same with other names for the segment and its content
 pub fits_at : {S : Segments} {limits : ReaderOptions} {r : Reading} {m : Meter} (v w : View) (id : ℕ) → AtRoot S limits r m →
     w ≡ v → id ≡ 0 → v.words ≡ (0 ∷ []) ∷ [] → (t : Tree) → IsValueOf S limits t → 1 + word_count (trim t) ≤ v.room 0 →
     CanBeCopied (value_original r) canonical m w id
@@ -61,24 +62,24 @@ fits_at {S} {limits} {r} {m} v w id at same first is t value fits =
     subst (λ (x : View). CanBeCopied (value_original r) canonical m x id) (sym same)
     (subst (λ (i : ℕ). CanBeCopied (value_original r) canonical m v i) (sym first) (fits_there v at is t value fits))
 
--- A builder of the root of a fresh message v: its place, and the message that it has.
+-- A builder of the root of a fresh message v: its place (s, p), and w, which is its message.
 pub record IsFreshRoot (v w : View) (s p : ℕ) : Type 0 where
   pub same : w ≡ v
   pub segment : s ≡ 0
   pub at : p ≡ 0
   pub fresh : v.words ≡ (0 ∷ []) ∷ []
 
--- what is so of that place is so of the first one
+-- what holds at that place holds at the first one
 at_first : {v w : View} {s p : ℕ} (P : View → ℕ → ℕ → Type 0) → IsFreshRoot v w s p → P w s p → P v 0 0
 at_first {v} {w} {s} {p} P root is = subst (λ x. P x 0 0) root.same (subst (λ i. P w 0 i) root.at (subst (λ i. P w i p) root.segment is))
 
--- its word is null
+-- the word of that place is null
 pub null_root : {v w : View} {s p : ℕ} → IsFreshRoot v w s p → word_at w.words s p ≡ 0
 null_root {v} {w} {s} {p} root =
     subst (λ (x : View). word_at x.words s p ≡ 0) (sym root.same)
     (subst (λ i. word_at v.words s i ≡ 0) (sym root.at) (subst (λ i. word_at v.words i 0 ≡ 0) (sym root.segment) (root_null v.words root.fresh)))
 
--- what is made there is the copy of the value, which is all of the message exactly if it fits
+-- what is made there is the copy of the value; it is the whole message exactly if it fits
 pub made_there : {S : Segments} {limits : ReaderOptions} {r : Reading} {m after : Meter} {v w : View} {s p : ℕ} (made : View) → AtRoot S limits r m →
     IsFreshRoot v w s p → length (segment made.words 0) ≤ made.room 0 →
     MakesCopy (value_original r) (change canonical (call_at s p w made) m after) →
@@ -101,7 +102,7 @@ made_there {S} {limits} {r} {m} {after} {v} made at root within makes =
       ),
     )
 
--- no request is refused then
+-- and no request is refused then
 pub unasked_there : {r : Reading} {m after : Meter} {v w : View} {s p : ℕ} (made : View) → IsFreshRoot v w s p →
     MakesCopy (value_original r) (change canonical (call_at s p w made) m after) → made.refusals ≡ v.refusals
 unasked_there {r} {m} {after} {v} made root makes =
@@ -109,19 +110,19 @@ unasked_there {r} {m} {after} {v} made root makes =
     at_first (λ x s p. MakesCopy (value_original r) (change canonical (call_at s p x made) m after)) root makes in
     ap (λ (x : View). x.refusals) here.memory.0
 
--- where all words are those of null, they are zero
+-- if a message stores only null, all its words are zero
 zeros : (S : Segments) → IsForest S Null → (s p : ℕ) → word_at S s p ≡ 0
 zeros S forest zero zero = forest.means.2.0
 zeros S forest zero (suc p) = forest.zero_elsewhere 0 (suc p) (grind (arith, common_steps))
 zeros S forest (suc s) p = forest.zero_elsewhere (suc s) p (grind (arith, common_steps))
 
--- a copy that is refused leaves nothing but zeros
+-- a copy that is refused leaves only zeros
 pub zeros_there : {v w : View} {s p : ℕ} (new : View) → IsFreshRoot v w s p → Puts w.words new.words s p Null → (u q : ℕ) → word_at new.words u q ≡ 0
 zeros_there {v} new root puts =
     let forest : IsForest v.words Null = subst (λ (S : Segments). IsForest S Null) (sym root.fresh) fresh_forest in
     zeros new.words (root_put v.words new.words Null Null forest (at_first (λ x s p. Puts x.words new.words s p Null) root puts))
 
--- and is refused truly
+-- and its refusal is true of the message that was read
 pub refused_there : {S : Segments} {limits : ReaderOptions} {r : Reading} {m after : Meter} {v w : View} {s p : ℕ} (new : View) (k : ErrorKind) → AtRoot S limits r m →
     IsFreshRoot v w s p → LeavesCleared (value_original r) (change canonical (call_at s p w new) m after) k →
     RefusesAt S limits k (RefusesCopyAnywhere (root_within S limits) (left_of limits) (v.room 0) k)
@@ -132,13 +133,13 @@ refused_there {S} {limits} {r} {m} {after} {v} new k at root leaves =
     let why = refused_copy r (left_of limits) v new m after k root.fresh at.left (record { why = here.why; left = here.cleared Null null; memory = here.memory }) in
     inr (at.covers, subst (λ (x : Reading). RefusesCopyAnywhere x (left_of limits) (v.room 0) k) at.place why)
 
--- a root that isn't read is no message's that has a value
+-- a message whose root the limit doesn't cover has no value
 pub never_unread : {S T : Segments} {limits : ReaderOptions} {before : Meter} {t : Tree} → T ≡ S → before ≡ unused limits.traversal_limit_in_words →
     (CoversRoot T before.left → ⊥) → IsValueOf S limits t → ⊥
 never_unread {S} {T} {limits} {before} same begun none value =
     none (subst (λ (m : Meter). CoversRoot T m.left) (sym begun) (subst (λ (X : Segments). CoversRoot X limits.traversal_limit_in_words) (sym same) value.root))
 
--- what holds of each refusal holds of a refusal
+-- what holds for each refusal holds for a refusal
 pub on_err : {A E : Type 0} (P : Type 0) (r : Result A E) → IfErr r (λ _. P) → OnErr r P
 on_err P (Ok x) is = tt
 on_err P (Err e) is = is

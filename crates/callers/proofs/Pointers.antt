@@ -1,4 +1,4 @@
--- The test at a pointer answers where canonical words stand.
+-- The test at a pointer has an answer if there are canonical words.
 use Rattle.std.proofs.Common.{◌≡◌, Bool, ℕ, Result, Ok, Err, IsOk, IfErr, refl, sym, subst}
 use Rattle.capnp_words.specs.declared.error.ErrorKind.{ErrorKind}
 use Rattle.capnp_words.specs.Meter.{Meter}

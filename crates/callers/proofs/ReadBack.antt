@@ -1,4 +1,4 @@
--- What edits lead to is read back.
+-- What edits lead to can be read back.
 use Rattle.std.proofs.Common.{ℕ, List, Option, Result, Ok, Err, IfOk}
 use Rattle.capnp_words.specs.declared.error.ErrorKind.{ErrorKind}
 use Rattle.capnp_format.specs.Bytes.{message}

@@ -1,4 +1,4 @@
--- What the steps of edits say of memory.
+-- What the steps of edits state about memory.
 use Rattle.std.proofs.Common.{◌≡◌, ◌⊎◌, ◌++◌, inl, inr, sym, ℕ, ◌+◌, ◌*◌, ◌-◌, ◌^◌, ◌&&◌, nat_le, nat_lt, ◌<◌, ◌≤◌, Bool, true, false, if◌then◌else◌, List, [], ◌∷◌, length, Option, Some, None, IfSome, IsSomeAnd, refl, ap, ◌∙◌, subst, arith, map}
 use Rattle.capnp_words.specs.declared.error.ErrorKind.{ErrorKind}
 use Rattle.capnp_words.specs.declared.error.ErrorKind.TheVariants.{AllocationFailed, MessageTooLarge}
@@ -24,26 +24,26 @@ use Rattle.capnp_edits.specs.Tasks.{task_of}
 use Rattle.capnp_edits.proofs.Stepped.{step_is_there}
 use Rattle.callers.specs.Truly.{AreRefusedTruly, IsRefusedTruly, object_made}
 
--- nothing is counted but want of memory
+-- only a lack of memory is counted
 uncounted : (r : Option ErrorKind) (n : ℕ) → (r ≡ Some AllocationFailed → ⊥) → refusals_after r n ≡ n
 uncounted None n other = refl
 uncounted (Some AllocationFailed) n other = absurd (other refl)
 uncounted (Some _) n other = refl
 
--- a name that is one of a path is none of memory
+-- an error of a path isn't an error of memory
 no_memory : (k : ErrorKind) → is_of_path k ≡ true → is_allocation_name k ≡ false
 no_memory AllocationFailed of_path = absurd (cc)
 no_memory (MessageTooLarge n) of_path = absurd (cc)
 no_memory _ of_path = refl
 
--- the number that tells how much was asked for
+-- the number in an error says how much was requested
 number : (old new : View) (segments amount n : ℕ) → IsAllocationRefusal old new segments amount (MessageTooLarge n) →
     ((n ≡ amount) × (max_segment_words < n)) ⊎ ((n ≡ 2 ^ 64 - 1) × (segments ≡ 2 ^ 32 - 1))
 number old new segments amount n (inl memory) = absurd (let wrong = memory.0 in cc)
 number old new segments amount n (inr (inl large)) = inl (let same = large.0 in let is : n ≡ amount = cc in (is, omega (arith, is, large.1)))
 number old new segments amount n (inr (inr many)) = inr (let same = many.0 in cc, many.1)
 
--- what holds where a test holds
+-- what holds for the value of a choice, if its test holds
 where_some : {T : Type 0} (b : Bool) (x : T) (P : T → Type 0) → IsSomeAnd (if b then Some x else None) P → P x
 where_some true x P h = h
 where_some false x P h = absurd h
@@ -58,7 +58,7 @@ same_tree x y e = cc
 no_tree : (y : Tree) → None ≡ Some y → ⊥
 no_tree y e = cc
 
--- an object that an edit makes is refused as its words are
+-- an object that an edit makes is refused in the same way as its words
 asked_by : (old new : View) (e : Edit) (r : Option ErrorKind) (step : IsStep old new e r) (op : Op) → e.op ≡ op → (object t x : Tree) (s p : ℕ) (k : ErrorKind) → object_made op ≡ Some object → IsForest old.words t →
     PathLeads old.words (node 0 0 t) (map step_of e.path.now) (node s p x) → IsSomeAnd step.path_end (λ place. IsSomeAnd (task_of e.op) (λ task. IsRefusedAt old new task k place)) → IsRefusedFor old new (word_count object) k
 asked_by old new e r step (InitStruct size) same object t x s p k is forest leads named =
@@ -104,7 +104,7 @@ asked_by old new e r step (SetData bytes) same object t x s p k is forest leads 
     subst (λ (o : Tree). IsRefusedFor old new (word_count o) k) (same_tree (Flat 2 bytes.now) object is) v
 asked_by old new e r step _ same object t x s p k is forest leads named = absurd (no_tree object is)
 
--- and has room where they have
+-- and has room if its words have
 fits_by : (old new : View) (e : Edit) (r : Option ErrorKind) (step : IsStep old new e r) (op : Op) → e.op ≡ op → (object t x : Tree) (s p : ℕ) → object_made op ≡ Some object → IsForest old.words t →
     PathLeads old.words (node 0 0 t) (map step_of e.path.now) (node s p x) → length (segment old.words s) + word_count object ≤ old.room s →
     IfSome step.path_end (λ place. IfSome (task_of e.op) (λ task. FitsAt old task place))

@@ -10,7 +10,7 @@ returns-in-Ok-field_struct-clause-both g c =
     let (t, forest) = c.requires.forest in
     λ e. field_put _ _ _ t _ c.args.outer c.in-Ok.place forest c.in-Ok.ensures.made c.in-Ok.ensures.leads.is c.requires.some c.in-Ok-field_struct.ensures.made
 
--- The second one is refused.
+-- The second struct is refused.
 pub returns-in-Err-field_struct-clause-root : goal.returns-in-Err-field_struct-clause-root
 returns-in-Err-field_struct-clause-root g c =
     let (t, forest) = c.requires.forest in
