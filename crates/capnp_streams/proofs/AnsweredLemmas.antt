@@ -1,4 +1,4 @@
--- Of messages that have an answer none is refused: a fault is that of memory or of a device.
+-- Messages that have an answer aren't refused: a fault is one of memory or of a device.
 use Rattle.std.proofs.Common.{◌≡◌, ◌⊎◌, inl, inr, ℕ, ◌++◌, List, [], ◌∷◌, Bool, Option, Some, None}
 use Rattle.std.proofs.Common.{All, IsSomeAnd, Result, Ok, Err, OnOk, OnErr}
 use Rattle.std.proofs.Common.{refl, sym, ◌∙◌, subst}
@@ -63,7 +63,7 @@ all_behind : (P : Segments → Type 0) (done more : List Segments) → All P (do
 all_behind P [] more all = all
 all_behind P (S ∷ done) more all = all_behind P done more (All-tail P S (done ++ more) all)
 
--- a run over such messages stops for nothing else
+-- a run over such messages stops only for memory or a device
 pub step_answerable : {task : Task} {summary : Summary} {P Q : Type 0} (old : Stage)
     (left between after : Option (List ℕ)) (failed : Bool) (fault : Fault) →
     AreDone task old (record { input = left; output = between }) summary →
@@ -85,14 +85,14 @@ step_answerable {task} old left between after failed fault done (inr (stops, sam
         (subst (All (HasAnswerWithin task.command task.limits)) is all) in
         stops_so task more y after failed fault others rest stopped
 
--- a run ends where a message isn't answered
+-- a run ends at a message that isn't answered
 pub ends_behind : {W : Type 0} (task : Task) (old new : Stage) (failed : Bool) (stop : Stop) →
     W ⊎ (StopsAt task old.input new.input failed stop.fault × Keeps old.output new.output) →
     W ⊎ EndsBehind task old new failed stop
 ends_behind task old new failed stop (inl written) = inl written
 ends_behind task old new failed stop (inr (stops, kept)) = inr (kept, inl stops)
 
--- where a copy is refused memory lacked, or it is refused for what the message holds
+-- if a copy is refused, memory ran out, or it is refused for what the message holds
 pub copy_refused : {old new : ℕ} {k : ErrorKind} {P : Type 0} → LacksMemoryOr old new k P → (k ≡ AllocationFailed) ⊎ P
 copy_refused (inl (lacks, counted)) = inl lacks
 copy_refused (inr (refused, counted)) = inr refused
@@ -115,7 +115,7 @@ answer_written g from to q (Err e) holds bytes writes is failed answer =
       refused = inl (refl, writes.fails);
     })
 
--- a command refuses a message, of which nothing was written
+-- a command refuses a message, and nothing was written of it
 pub answer_refuses : {W : Type 0} (g : Ghosts W) (from : W) (q : Question) (k : ErrorKind) →
     RefusesAnswer q.command q.task.limits q.asked_of k → Answers g from from q (Err (Layout k))
 answer_refuses g from q k why = record {

@@ -1,4 +1,4 @@
--- What words ask for, one behind the other.
+-- What words ask for, one after another.
 use Rattle.std.proofs.Common.{◌≡◌, ◌∙◌, inl, inr, ℕ, zero, suc, ◌+◌, ◌*◌, ◌<◌, ℤ, List, [], ◌∷◌, Bool, true, false, not, ◌&&◌, Option, Some, None}
 use Rattle.std.proofs.Common.{String, Global, codes, length, map, string_bytes}
 use Rattle.std.proofs.Common.{ap, sym, subst, refl, arith}
@@ -41,7 +41,7 @@ is_one Quiet = (13, omega arith, refl)
 is_one Nesting = (14, omega arith, refl)
 is_one Words = (15, omega arith, refl)
 
--- a number for the first so many bytes of a text
+-- a number for the first n bytes of a text
 abbrev key : ℕ → List ℕ → ℕ
 key zero text = 0
 key (suc n) [] = 0
@@ -50,7 +50,7 @@ key (suc n) (b ∷ text) = b + 256 * key n text
 abbrev key_of : Word → ℕ
 key_of word = key 8 (text_of_word word)
 
--- the word of such a number
+-- the word with such a number
 abbrev word_at : ℕ → Word
 word_at k =
     if nat_eq k (key_of Help) then Help else
@@ -126,14 +126,14 @@ setting_one SetWords SetWords text is same = refl
 no_numeral : IsNumeral 10 (codes "none") → ⊥
 no_numeral (some, digits) = omega (arith, digits.0)
 
--- a text is one budget at most
+-- a text is at most one budget
 budget_one : (text : List ℕ) (a b : Option ℕ) → IsBudget text a → IsBudget text b → a ≡ b
 budget_one text None None is same = refl
 budget_one text (Some a) (Some b) (n, is, f) (m, same, g) = cc
 budget_one text None (Some b) is (m, same, g) = absurd (no_numeral (subst (IsNumeral 10) is m))
 budget_one text (Some a) None (n, same, f) is = absurd (no_numeral (subst (IsNumeral 10) is n))
 
--- a value makes one line of another, and a word does
+-- a value makes a single line of another, and so does a word
 sets_one : (setting : Setting) (value : List ℕ) (from a b : Line) → Sets setting value from a →
     Sets setting value from b → a ≡ b
 sets_one SetNesting value from a b (x, text, is) (y, other, same) =
@@ -159,16 +159,16 @@ read_one : (expects : Option Setting) (text : List ℕ) (from a b : Line) →
 read_one None text from a b is same = alone_one text from a b is same
 read_one (Some setting) text from a b is same = sets_one setting text from a b is same
 
--- the texts of a word and of those behind it
+-- the texts of a word and of those after it
 texts : {words more : List (String Global)} {word : String Global} {name : List ℕ} →
     words ≡ word ∷ more → string_bytes word ≡ name → map string_bytes words ≡ name ∷ map string_bytes more
 texts {more = more} same named =
     ap (map string_bytes) same ∙ ap (λ (x : List ℕ). x ∷ map string_bytes more) named
 
--- words behind a line, of which the first has this text, and what they ask for
+-- words after a line, if the first of them has this text, and what they ask for
 module _ {words more : List (String Global)} {word : String Global} {text : List ℕ} (from : Line)
     (same : words ≡ word ∷ more) (named : string_bytes word ≡ text) where
-  -- if that is a file
+  -- if the first is a file
   pub asks_for_files : (r : Request) → is_first_file from text ≡ true → AsksForFiles from (map string_bytes words) r →
       AsksForBehind from (map string_bytes words) r
   asks_for_files r first asks =
@@ -184,7 +184,7 @@ module _ {words more : List (String Global)} {word : String Global} {text : List
       go (inl (is, files)) = none (subst (λ (ws : List (List ℕ)). AsksForFiles from ws r) (sym (texts same named)) files)
       go (inr (later, others)) = let wrong : true ≡ false = sym first ∙ later in cc
 
-  -- if it isn't
+  -- if the first isn't a file
   pub asks_at_stop : (behind : ℕ) (r : Request) → is_first_file from text ≡ false → behind ≡ length more →
       Stops from behind text r → AsksForBehind from (map string_bytes words) r
   asks_at_stop behind r later is stops =
@@ -219,10 +219,10 @@ module _ {words more : List (String Global)} {word : String Global} {text : List
   asks_nothing_behind next r read none other too asks =
       none (subst (λ (x : Line). AsksForBehind x (map string_bytes more) r) (read_one from.expects text from other next too read) asks)
 
--- words of which the first has this text are files
+-- words are files, if the first of them has this text
 module _ {words more : List (String Global)} {word : String Global} {text : List ℕ}
     (same : words ≡ word ∷ more) (named : string_bytes word ≡ text) where
-  -- where those behind it are, if it is one
+  -- exactly if those after it are, if the first isn't an option
   pub files_as_behind : is_option text ≡ false → are_files (map string_bytes words) ≡ are_files (map string_bytes more)
   files_as_behind later =
       ap are_files (texts same named) ∙ ap (λ (b : Bool). not b && are_files (map string_bytes more)) later
@@ -231,7 +231,7 @@ module _ {words more : List (String Global)} {word : String Global} {text : List
   first_is_option is =
       ap are_files (texts same named) ∙ ap (λ (b : Bool). not b && are_files (map string_bytes more)) is
 
--- no words are files
+-- an empty list of words is one of files
 pub none_are_files : (words : List (String Global)) → length words ≡ 0 → are_files (map string_bytes words) ≡ true
 none_are_files [] none = refl
 none_are_files (word ∷ more) none = absurd (omega arith)

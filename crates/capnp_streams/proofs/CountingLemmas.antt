@@ -1,4 +1,4 @@
--- A copy that isn't made is counted where memory was wanting, and else not.
+-- A copy that isn't made is counted if memory ran out, and otherwise not.
 use Rattle.std.proofs.Common.{◌≡◌, ◌∙◌, inl, inr, ℕ, Bool, true, false, if◌then◌else◌, length, nat_lt, ap, refl, sym, subst}
 use Rattle.std.proofs.Common.{Option, IsSome, Result, Ok, Err, OnOk, OnErr, IfErr}
 use Rattle.std.specs.Option.{option_map_or}
@@ -18,13 +18,13 @@ use Rattle.capnp_streams.specs.Streams.{CountsRefusals, refusals_behind}
 use Rattle.capnp_streams.specs.declared.streams.fault.Fault.{Fault}
 use Rattle.capnp_streams.specs.declared.streams.fault.Fault.TheVariants.{Frame}
 
--- what is at no place has another name
+-- AllocationFailed isn't the error of a place that isn't there
 not_misplaced : (b : Bool) (id : ℕ) →
     AllocationFailed ≡ (if b then MessageContainsOutOfBoundsPointer else InvalidSegmentId id) → ⊥
 not_misplaced true id same = cc
 not_misplaced false id same = cc
 
--- a message is refused by another name
+-- a message isn't refused with AllocationFailed for what it holds
 never_canon : (S : Segments) (limits : ReaderOptions) → RefusesCanon S limits AllocationFailed → ⊥
 never_canon S limits (inl (no_root named none)) = not_misplaced (nat_lt 0 (length S)) 0 named
 never_canon S limits (inl (no_budget named root none)) = cc
@@ -46,7 +46,8 @@ written_uncounted command result (Ok x) holds is failed =
 written_uncounted command result (Err e) holds is failed =
     subst (λ (r : Result Bool Fault). IfErr r (λ fault. (n : ℕ) → refusals_behind command fault n ≡ n)) (sym failed) (λ n. refl)
 
--- a command behind which as many refusals are counted as before, for a fault that isn't for want of memory
+-- a command after which as many refusals are counted as before, for a fault that isn't a lack of
+-- memory
 pub memory_counted : {A : Type 0} (refusals : A → ℕ) (old new : Option A) (command : Command) (result : Result Bool Fault) →
     IsSome new → option_map_or refusals new 0 ≡ option_map_or refusals old 0 →
     IfErr result (λ fault. (n : ℕ) → refusals_behind command fault n ≡ n) → CountsRefusals refusals old new command result

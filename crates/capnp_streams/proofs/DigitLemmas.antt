@@ -1,8 +1,8 @@
--- Bytes are written as hex digits piece by piece.
+-- Bytes are written as hex digits in pieces.
 use Rattle.std.proofs.Common.{◌≡◌, ◌∙◌, ℕ, ◌-◌, ◌/◌, ◌%◌, List, [], ◌∷◌, ◌++◌, length, take, drop, slice_index, refl, sym, ap, arith, length-drop, take_all, take-append-drop}
 use Rattle.hex.specs.Hex.{encode_lower, encode_with, lower_digits}
 
--- the digits of bytes are those of one part behind the other
+-- the digits of bytes in two parts are those of the parts, one after the other
 digits_both : (xs ys : List ℕ) → encode_lower (xs ++ ys) ≡ encode_lower xs ++ encode_lower ys
 unfolding encode_with
 digits_both [] ys = refl

@@ -40,7 +40,7 @@ flat_refused task from to segments bytes failed (Layout k) bare consumed end onl
     inr ((bytes, all, bare, why), kept)
 flat_refused task from to segments bytes failed TooManyMessages bare consumed end only (inr (refused, kept)) = absurd refused
 
--- all of it was taken
+-- the whole input was consumed
 pub flat_taken : {R P Q : Type 0} (g : Ghosts R) (task : Task) (from to : R) (segments : List (List ℕ)) (bytes : List ℕ) (fault : Fault) →
     IsAtEnd (g.remaining to) → segments ≡ bytes ∷ [] →
     ((fault ≡ Frame WriteFailed) × P) ⊎ (RefusesBy task.command task.limits (message segments) fault × Q) →
@@ -50,7 +50,7 @@ flat_taken g task from to segments bytes (Frame e) end only (inr (refused, kept)
 flat_taken g task from to segments bytes (Layout k) end only (inr (refused, kept)) = end
 flat_taken g task from to segments bytes TooManyMessages end only (inr (refused, kept)) = absurd refused
 
--- a message that has an answer is refused for nothing that it holds
+-- a message that has an answer is never refused for what it holds
 answerable_so : (task : Task) (bytes : List ℕ) (failed : Bool) (fault : Fault) → CanFlatBeAnswered task bytes →
     StopsFlat task (Some bytes) failed fault → IsOfDevices fault
 answerable_so task bytes failed (Frame e) can (inl memory) = inl memory

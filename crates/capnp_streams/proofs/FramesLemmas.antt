@@ -1,4 +1,4 @@
--- Which messages stand in a stream, behind those that were read.
+-- Which messages are in a stream, after those that were read.
 use Rattle.std.proofs.Common.{◌≡◌, ◌<◌, ℕ, List, [], ◌∷◌, ◌++◌, length}
 use Rattle.std.proofs.Common.{refl, sym, ap, ap₂, ◌∙◌, subst}
 use Rattle.std.proofs.Common.{append_assoc, arith, length-append}
@@ -9,7 +9,7 @@ use Rattle.capnp_framing.proofs.FrameLemmas.{one_frame_begins}
 use Rattle.capnp_messages.proofs.FramesLemmas.{frame_some}
 use Rattle.capnp_streams.specs.Streams.{AreFrames}
 
--- what stands behind frames that were read are those of the other messages
+-- what comes after frames that were read is the frames of the other messages
 pub frames_behind : (most : ℕ) (done all : List Segments) (front left bytes : List ℕ) →
     AreFrames most done front → AreFrames most all bytes → bytes ≡ front ++ left →
     (more : List Segments) × (all ≡ done ++ more) × AreFrames most more left
@@ -27,7 +27,7 @@ frames_behind most (S ∷ done) (T ∷ all) front left bytes
     let (others, all_is, are) = frames_behind most done all rest left rest' more more' (sym behind) in
     (others, ap₂ (λ (x : Segments) (xs : List Segments). x ∷ xs) (sym one) all_is, are)
 
--- no bytes are no frame, and none is cut in them
+-- an empty input isn't refused as a frame
 pub no_bytes_refused : (most : ℕ) (e : FrameError) → NoFrame [] most e → ⊥
 no_bytes_refused most e (count_cut some few named) = omega arith
 no_bytes_refused most e (too_many four many named) = omega arith

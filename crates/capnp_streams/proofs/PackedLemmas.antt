@@ -1,4 +1,4 @@
--- What a run over what packed bytes stand for says of the packed bytes.
+-- What a run over unpacked bytes states about the packed bytes that they come from.
 use Rattle.std.proofs.Common.{◌≡◌, ◌∙◌, ◌⊎◌, inl, inr, ℕ, List, [], Bool, true, false, ◌&&◌, Option, Some, None, IfSome, ap, refl, sym, subst}
 use Rattle.std.specs.Option.{option_map}
 use Rattle.std.specs.Io.KnownBytes.{Consumes}
@@ -26,7 +26,7 @@ are_cut (Some bytes) kept = λ whole.
     let wrong : false ≡ true = same ∙ ap is_tag whole in
     cc
 
--- all messages that a packed input gives are answered
+-- all messages that a packed input unpacks to are answered
 packed_answered : {task : Task} (packed given output after : Option (List ℕ)) (summary : Summary) (stop : Stop) →
     given ≡ option_map (unpacked_bytes Tag) packed →
     AreDone task (record { input = given; output = output }) (record { input = Some []; output = after }) summary →
@@ -40,7 +40,7 @@ packed_answered {task} packed given output after summary stop same done answered
     subst (λ (i : Option (List ℕ)). AreDone task (record { input = i; output = output }) end summary) same done in
     (summary.holds, rw (answered, byte) there)
 
--- behind these it is cut
+-- the input is cut short after these
 pub cut_behind : {P : Type 0} {Q : Stage → Type 0} {task : Task} (packed given output after : Option (List ℕ)) (before behind : Option Bool)
     (summary : Summary) (stop : Stop) → given ≡ option_map (unpacked_bytes Tag) packed → before ≡ whole_behind Tag packed →
     KeepsWhole before behind → KeepsWhole behind (Some false) →
@@ -54,7 +54,7 @@ cut_behind packed given output after before behind summary stop same whole kept 
     let cut = are_cut packed (subst (λ (o : Option Bool). KeepsWhole o (Some false)) whole both) in
     (record { input = Some []; output = after }, packed_answered packed given output after summary stop same done answered byte, inr (inl (fault, cut, refl, keeps_same after)))
 
--- or can't be read
+-- or it can't be read after these
 pub fails_behind : {P : Type 0} {Q : Stage → Type 0} {task : Task} (packed given output after : Option (List ℕ))
     (summary : Summary) (stop : Stop) → given ≡ option_map (unpacked_bytes Tag) packed →
     AreDone task (record { input = given; output = output }) (record { input = Some []; output = after }) summary →
@@ -67,7 +67,7 @@ fails_behind {task = task} packed given output after summary stop same done answ
     subst (λ (f : Fault). StopsAt task (Some []) None true f) (sym fault) (inr (inl (refl, refl))) in
     (record { input = Some []; output = after }, packed_answered packed given output after summary stop same done answered byte, inr (inr (None, (keeps_same after, inl stops))))
 
--- a run over what a packed input gives ends where a frame isn't read, or a message isn't answered
+-- a run over what a packed input unpacks to ends if a frame isn't read, or a message isn't answered
 stops_failed : (task : Task) (left after : Option (List ℕ)) (failed : Bool) (fault : Fault) →
     StopsAt task left after failed fault → StopsAt task left after true fault
 stops_failed task left after failed (Frame e) (inl memory) = inl memory
@@ -92,7 +92,7 @@ ends_packed {P} {Q} {task} packed given output left after failed stop same (end,
     go (inr (kept, inl stops)) = inr (inr (left, (kept, inl (stops_failed task end.input left failed stop.fault stops))))
     go (inr (kept, inr many)) = inr (inr (left, (kept, inr many)))
 
--- no bytes are refused by the name of a failed read
+-- known bytes are never refused with ReadFailed
 bytes_are_read : {bytes : List ℕ} {most : ℕ} → NoFrame bytes most ReadFailed → ⊥
 bytes_are_read (count_cut some cut is) = cc
 bytes_are_read (too_many long many is) = cc
@@ -114,7 +114,7 @@ left_known old left xs taken some takes none =
     subst (λ (l : Option (List ℕ)). Consumes (Some xs) l taken) none
     (subst (λ (o : Option (List ℕ)). Consumes o left taken) some takes)
 
--- an input over packed bytes has failed where the packed input has
+-- an input over packed bytes has failed only if the packed input has
 failed_below : (told failed : Bool) → (told && failed) ≡ true → failed ≡ true
 failed_below true failed is = is
 failed_below false failed is = cc
@@ -124,7 +124,7 @@ pub device_failed : {R : Type 0} (has_failed : R → Bool) (told : Bool) (device
 device_failed has_failed told device None is = tt
 device_failed has_failed told device (Some bytes) is = (device, failed_below told (has_failed device) is)
 
--- where a run over known packed bytes stops by the name of a failed read, the packed input has failed
+-- if a run over known packed bytes stops with ReadFailed, the packed input has failed
 pub read_failed : {P R : Type 0} {task : Task} (has_failed : R → Bool) (told : Bool) (device : R)
     (packed given output left after : Option (List ℕ)) (stop : Stop) → given ≡ option_map (unpacked_bytes Tag) packed →
     ((end : Stage) × WereAnswered task (record { input = given; output = output }) end stop
@@ -142,6 +142,6 @@ read_failed {task = task} has_failed told device (Some bytes) given output left 
     (subst (λ (f : Fault). StopsAt task end.input left (told && has_failed device) f) is stops) in
     device_failed has_failed told device (Some bytes) failed
 
--- a cut is no failed read
+-- a cut isn't a failed read
 pub cut_not_failed : {f : Fault} → f ≡ Frame Truncated → f ≡ Frame ReadFailed → ⊥
 cut_not_failed cut failed = let wrong : Frame Truncated ≡ Frame ReadFailed = sym cut ∙ failed in cc

@@ -14,7 +14,7 @@ use Rattle.capnp_streams.specs.Streams.{AnswerIs, AreAnswered, AreDone, AreFrame
 use Rattle.capnp_streams.specs.declared.streams.runs.Summary.{Summary}
 use Rattle.capnp_streams.specs.declared.streams.task.Task.{Task}
 
--- frames behind others
+-- frames after others
 frames_both : (most : ℕ) (Ss Ts : List Segments) (bytes others : List ℕ) → AreFrames most Ss bytes →
     AreFrames most Ts others → AreFrames most (Ss ++ Ts) (bytes ++ others)
 frames_both most [] Ts bytes others none framed =
@@ -27,7 +27,7 @@ and_assoc : (a b c : Bool) → (a && b) && c ≡ a && (b && c)
 and_assoc true b c = refl
 and_assoc false b c = refl
 
--- answers behind others
+-- answers after others
 answers_both : (task : Task) (Ss Ts : List Segments) (all holds : Bool) (bytes others : List ℕ) →
     AreAnswered task Ss all bytes → AreAnswered task Ts holds others →
     AreAnswered task (Ss ++ Ts) (all && holds) (bytes ++ others)
@@ -62,7 +62,7 @@ none_done task from = record {
     appends_none None = tt
     appends_none (Some x) = sym (append-nil x)
 
--- a frame is as long whatever its padding holds
+-- the length of a frame doesn't depend on the content of its padding
 length_framed : (S : Segments) (bytes : List ℕ) → IsFrameOf S bytes → length (frame S) ≡ length bytes
 length_framed S bytes framed =
     length-frame_with (replicate (padding_size (length S)) 0) S (length-replicate _ _)
@@ -115,7 +115,7 @@ begins (Some x) None consumed framed short = absurd consumed
 begins (Some x) (Some y) {bytes = bytes} consumed framed short =
     record { front = bytes; behind = y; is = consumed; framed = framed; short = short }
 
--- all messages are done where an input is at its end, and its output keeps what it had
+-- all messages are done if an input is at its end, and its output keeps what it had
 appends_keeps : (a b c : Option (List ℕ)) (bytes : List ℕ) → Appends a b bytes → Keeps b c → Appends a c bytes
 appends_keeps None b c bytes written kept = tt
 appends_keeps (Some x) None c bytes written kept = absurd written
@@ -142,14 +142,14 @@ all_done {old = old} left between after end kept done = record {
   written = appends_keeps old.output between after done.answers done.written kept;
 }
 
--- an output that kept what it had, and to which more was written then
+-- an output that kept what it had, and then got more
 pub keeps_appends : (a b c : Option (List ℕ)) (bytes : List ℕ) → Keeps a b → Appends b c bytes → Appends a c bytes
 keeps_appends None b c bytes kept written = tt
 keeps_appends (Some x) None c bytes kept written = absurd kept
 keeps_appends (Some x) (Some y) None bytes kept written = absurd written
 keeps_appends (Some x) (Some y) (Some z) bytes kept written = written ∙ ap (λ (bs : List ℕ). bs ++ bytes) kept
 
--- what isn't touched keeps what it had
+-- what isn't changed keeps what it had
 pub keeps_same : (a : Option (List ℕ)) → Keeps a a
 keeps_same None = tt
 keeps_same (Some x) = refl
