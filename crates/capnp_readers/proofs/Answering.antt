@@ -1,4 +1,4 @@
--- Where a call reads, and that it is one place: the pointer's own, or a default's.
+-- The place that a call reads is one place: the pointer's own, or a default's.
 use Rattle.std.proofs.Common.{◌≡◌, ◌↔◌, inl, inr, ℕ, zero, suc, ◌<◌, ◌≤◌, Bool, true, false, not, ◌&&◌, ◌||◌, cond, nat_eq, nat_lt, eqb-true, eq-eqb, lt-ltb, List, Option, Some, None, Result, Ok, Err, ℤ, refl, sym, ap, ap₂, ◌∙◌, subst, arith}
 use Rattle.std.specs.Borrow.{Bor}
 use Rattle.capnp_words.specs.declared.error.ErrorKind.{ErrorKind}
@@ -28,7 +28,8 @@ use Rattle.capnp_objects.proofs.Expecting.{IsReadAt, struct_or_null, list_or_nul
 use Rattle.capnp_objects.proofs.Faultless.{same_target}
 use Rattle.capnp_objects.proofs.Followed.{entered_leads, leads_there}
 
--- Elements of a size, with sections where they are structs, are as wide as those of an expected size, or wider.
+-- Elements of the size `found`, with these sections if they are structs, are at least as wide as
+-- those of the expected size.
 abbrev IsWide : ElementSize → ElementSize → StructSize → Type 0
 IsWide expected found sections = (element_bits (size_number expected) ≤ data_bits found sections) × (size_number expected ≡ 6 → HoldsPointer found sections) × (size_number found ≡ 1 → size_number expected ≡ 1)
 
@@ -123,21 +124,21 @@ module _ {A : Type 0} (g : Ghosts A) where
   not_unread (short_default null has less e) h = absurd (cc (e))
   not_unread (of_null_default null has whole none named e) h = absurd (cc (e))
 
-  -- a call is answered exactly where it can be answered at the place that it reads
+  -- a call is answered exactly if it can be answered at the place that it reads
   pub answered : {c : Call g} {p : PointerReader A g} (m : Meter) {B : Type 0} → IsRead g c (Ok p) → (B ↔ CanBeGiven c.expected (read_by g p) m) → B ↔ WhereRead g c (λ q. CanBeGiven c.expected (read_by g q) m)
   answered {c} {p = p} m there same =
       ((λ b. (p, there, same.0 b)), (λ (q, here, can). same.1 (subst (λ r. CanBeGiven c.expected r m) (one_read here there) can)))
 
-  -- what can be given at the pointer that is read
+  -- what can be returned at the pointer that is read
   pub given_there : {c : Call g} {p : PointerReader A g} (m : Meter) → IsRead g c (Ok p) → WhereRead g c (λ q. CanBeGiven c.expected (read_by g q) m) → CanBeGiven c.expected (read_by g p) m
   given_there {c} m there (q, here, can) = subst (λ r. CanBeGiven c.expected r m) (one_read here there) can
 
-  -- An object was read of a pointer, from m to m', and is shown as a target.
+  -- The object x was read through the pointer p, from m to m', and is shown as the target t.
   pub record IsShown (p : PointerReader A g) (m m' : Meter) (x : Object) (t : ReadTarget A g) : Type 0 where
     pub read : IsReadAt (read_by g p) m m' x
     pub target : IsTarget g p m m' t
 
-  -- a target of another kind than the object that was read is null
+  -- if the target isn't of the kind that was expected, the pointer is null
   pub no_struct : {p : PointerReader A g} {m m' : Meter} {x : Object} (t : ReadTarget A g) → IsGiven ExpectsStruct (read_by g p).levels x → IsShown p m m' x t → ((r : StructReader A g) → t ≡ StructTarget r → ⊥) → (word_of (read_by g p) ≡ 0) × (m' ≡ m)
   no_struct NullTarget given h other = h.target
   no_struct {p} {x = x} (CapTarget i) given h other = elim (struct_or_null x given h.read) [

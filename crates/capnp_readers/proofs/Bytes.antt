@@ -1,4 +1,4 @@
--- The bytes of a text or of data, in place.
+-- The bytes of a text or data, in place.
 use Rattle.std.proofs.Common.{◌≡◌, ℕ, ◌+◌, ◌-◌, ◌*◌, ◌≤◌, List, take, drop, length, refl, sym, ap, ◌∙◌, subst, arith, length-take, length-drop}
 use Rattle.std.proofs.lemmas.List.{take-take}
 use Rattle.capnp_words.specs.Meter.{Meter}

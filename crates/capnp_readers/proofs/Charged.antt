@@ -1,4 +1,4 @@
--- What a test for canonical form has charged that ends in a no or a refusal.
+-- What a test for canonical form has charged if it ends in a no or a refusal.
 use Rattle.std.proofs.Common.{ℕ, sym, subst}
 use Rattle.capnp_words.specs.Meter.{Meter}
 use Rattle.capnp_words.specs.declared.error.ErrorKind.{ErrorKind}
@@ -14,17 +14,17 @@ use Rattle.capnp_pointers.specs.Checking.{Progress, FindsAll, FindsElements, Tes
 use Rattle.capnp_pointers.specs.declared.pointers.canonical_fault.CanonicalFault.{CanonicalFault}
 use Rattle.capnp_objects.specs.Spending.{Paid}
 
--- From m to m' some words were granted and some pointers counted.
+-- From m to m' g words were granted and i pointers counted.
 abbrev IsCharged : Reading → Meter → Meter → Type 0
 IsCharged r m m' = (g : ℕ) × (i : ℕ) × Paid r.charging m m' g i
 
--- The pointers before one of an object's are charged.
+-- The pointers of an object before one of them are charged.
 before_charged : {r : Reading} {a : Target} {q : ℕ} {from to : Progress} → GoesBefore FindsAll FindsElements r a q from to → IsCharged r from.meter to.meter
 before_charged (in_struct ts z less e all) = (_, _, all.paid)
 before_charged (in_pointers ts z six less e all) = (_, _, all.paid)
 before_charged (in_element es ts between list fewer less e rows all) = (_, _, paid_both rows.paid all.paid)
 
--- If what P says of a place is charged, so is a test that ends there.
+-- If a place with P has charged, so has a test that ends there.
 pub ends_charged : {P : Reading → Progress → Meter → Type 0} {r : Reading} {from : Progress} {m' : Meter} → ((s : Reading) (at : Progress) (m : Meter) → P s at m → IsCharged s at.meter m) → TestEnds P r from m' → IsCharged r from.meter m'
 ends_charged {r = r} {from = from} {m' = m'} f (here p) = f r from m' p
 ends_charged f (below a q near o start exact before ends) =
@@ -37,7 +37,7 @@ pointers_charged f h =
     let (g, i, rest) = ends_charged f h.ends in
     (_, _, paid_both h.are_found.paid rest)
 
--- A place that isn't canonical by itself is charged.
+-- A place that by itself isn't canonical has charged.
 fault_charged : (f : CanonicalFault) (r : Reading) (from : Progress) (m' : Meter) → IsFault f r from m' → IsCharged r from.meter m'
 fault_charged f r from m' (no_pointer fault none same) = subst (λ m. IsCharged r from.meter m) (sym same) (0, 0, paid_none r from.meter)
 fault_charged f r from m' (other_pointer fault there other same) = subst (λ m. IsCharged r from.meter m) (sym same) (0, 0, paid_none r from.meter)
@@ -51,7 +51,7 @@ fault_charged f r from m' (wide_elements a e near o start list exact (es, len, a
 pub unfit_charged : (r : Reading) (from : Progress) (m' : Meter) → IsUnfit r from m' → IsCharged r from.meter m'
 unfit_charged r from m' (f, fails) = fault_charged f r from m' fails
 
--- An object that can't be read is charged.
+-- An object that can't be read has charged.
 stopped_charged : (r : Reading) (m m' : Meter) (k : ErrorKind) → Stopped Value plain r m m' k → IsCharged r m m'
 stopped_charged r m m' k (no_target (exceeding some over paid named)) = (_, _, paid)
 stopped_charged r m m' k (no_target (leading_nowhere some leads paid)) = (_, _, paid)

@@ -1,5 +1,5 @@
--- What the test for canonical form tells of the values that it finds, and when two of them are the same.
--- The lemmas take a place, a head and what stands there one by one, as `Stands` has them.
+-- What the test for canonical form shows about the values that it finds, and when two of them are
+-- the same. The lemmas take a place, a head and the value there one by one, like `Stands`.
 use Rattle.std.proofs.Common.{◌≡◌, ◌↔◌, ℕ, ◌-◌, ◌≤◌, List, ◌∷◌, length, sym, ap, ap₂, ◌∙◌, subst, arith}
 use Rattle.capnp_format.specs.Segments.{Segments, words_at, HasWords, AreWords}
 use Rattle.capnp_format.specs.Tree.{Tree, depth}
@@ -29,26 +29,27 @@ copy_is_answered r q m m' h t words read levels charging inside stands =
 pub found_is_meant : (r : Reading) (from to : Progress) (t : Tree) → Finds r from to t → MeansThere r t (charge t)
 found_is_meant r from to t f = stands_means_at r.segments r.levels r.segment r.at from.head t f.levels f.inside f.stands
 
--- The canonical words of a value where its pointer is at position p and its body at the head h.
+-- The canonical words of a value whose pointer is at position p, and whose body is at the head h.
 abbrev standing_words : ℕ → ℕ → Tree → List ℕ
 standing_words p h t = pointer t (offset_to p h) ∷ body t
 
--- Lists of at least one element are the same only if their first elements are, and so are the rests.
+-- Lists of at least one element are the same only if their first elements are the same, and so are
+-- the rests.
 same_first : (x y : ℕ) (xs ys : List ℕ) → x ∷ xs ≡ y ∷ ys → x ≡ y
 same_first x y xs ys e = cc
 
 same_rest : (x y : ℕ) (xs ys : List ℕ) → x ∷ xs ≡ y ∷ ys → xs ≡ ys
 same_rest x y xs ys e = cc
 
--- As many words as a body has are the body.
+-- The n words at the place of a body are the body, if it has n words.
 words_of_body : (S : Segments) (s h n : ℕ) (ws : List ℕ) → HasWords S s h ws → n ≡ length ws → words_at S s h n ≡ ws
 words_of_body S s h n ws a e = ap (λ m. words_at S s h m) e ∙ a
 
--- The words that a test has gone over: the pointer's, and those between the heads.
+-- The words that a test has passed: the pointer's, and those between the heads.
 abbrev pub words_tested : Reading → Progress → Progress → List ℕ
 words_tested r from to = word_of r ∷ words_at r.segments r.segment from.head (to.head - from.head)
 
--- The words that a test has gone over are the canonical words of the value that it has found.
+-- The words that a test has passed are the canonical words of the value that it has found.
 tested_words : (r : Reading) (from to : Progress) (t : Tree) → Finds r from to t → words_tested r from to ≡ standing_words r.at from.head t
 tested_words r from to t f =
     let a = f.stands in
@@ -57,7 +58,8 @@ tested_words r from to t f =
     let n : to.head - from.head ≡ length (body t) = omega (arith, l, e) in
     ap₂ (λ (x : ℕ) (xs : List ℕ). x ∷ xs) (a.5.1) (words_of_body r.segments r.segment from.head (to.head - from.head) (body t) (a.5.2) n)
 
--- A value that has the same canonical words as one that stands at a place stands there too, if it stands so in any message.
+-- If u is canonical in some message, with the same canonical words as the value t at a place, u is
+-- canonical at that place too.
 stands_by_words : {S R : Segments} {s i p h : ℕ} {t u : Tree} → Standing S s p h t → Standing R i p h u → standing_words p h t ≡ standing_words p h u → Standing S s p h u
 stands_by_words {S = S} {s = s} {p = p} {h = h} {t = t} {u = u} left right e =
     let a = left.stands in
@@ -66,7 +68,7 @@ stands_by_words {S = S} {s = s} {p = p} {h = h} {t = t} {u = u} left right e =
     let rest : body t ≡ body u = same_rest (pointer t (offset_to p h)) (pointer u (offset_to p h)) (body t) (body u) e in
     record { stands = (a.0, b.1, b.2, b.3, b.4, (b.5.0, a.5.1 ∙ first, subst (λ ws. HasWords S s h ws) rest (a.5.2))) }
 
--- Two values that stand with the same canonical words are the same value.
+-- Two canonical values with the same canonical words are the same value.
 same_by_words : {S R : Segments} {s i p h : ℕ} {t u : Tree} → Standing S s p h t → Standing R i p h u → standing_words p h t ≡ standing_words p h u → t ≡ u
 same_by_words {S = S} {s = s} {p = p} {h = h} {t = t} {u = u} left right e =
     let other = stands_by_words left right e in

@@ -30,13 +30,13 @@ default_whole bytes =
 pub default_length : (bytes : List ℕ) → length (take (8 * (length bytes / 8)) bytes) ≡ 8 * length (segment (default_segments bytes) (2 ^ 32))
 default_length bytes = omega (arith, length-take (8 * (length bytes / 8)) bytes, words bytes, ap length (default_at bytes))
 
--- a field within its section, by its bytes
+-- a field inside its section, by its bytes
 pub inside_bytes : (bits n offset : ℕ) → 0 < n → IsInside bits (8 * n) offset → offset < bits / 8 / n
 inside_bytes bits n offset some h =
     let bytes : (offset + 1) * n * 8 ≤ bits = omega (arith, h) in
     omega (arith, le-div (offset + 1) (bits / 8) n some (le-div ((offset + 1) * n) bits 8 (omega arith) bytes))
 
--- the pointers of an element lie among the elements' words
+-- the pointers of an element are among the elements' words
 pub pointers_within : (size : ElementSize) (sections : StructSize) (count i : ℕ) → HoldsPointer size sections → i < count → pointers_behind size sections i < elements_words size count (sections.data_words + sections.pointers)
 pointers_within Pointer sections count i h l = l
 pointers_within InlineComposite sections count i h l =
@@ -48,11 +48,11 @@ pointers_within TwoBytes sections count i h l = absurd h
 pointers_within FourBytes sections count i h l = absurd h
 pointers_within EightBytes sections count i h l = absurd h
 
--- the words of a held segment are counted in 32 bits
+-- the number of words of a held segment has 32 bits
 pub held_words : (S : Segments) (start : Place) → IsHeld S start → length (segment S start.segment) < 2 ^ 32
 held_words S start (words_are, whole, small) = omega (arith, whole, small)
 
--- an element of a number of words lies among all
+-- an element of `width` words is among all words
 pub words_within : (width count i : ℕ) → i < count → i * width + width ≤ count * width
 words_within width count i h = grind (arith, rows)
 
@@ -69,7 +69,7 @@ flat_words TwoBytes n width h = refl
 flat_words FourBytes n width h = refl
 flat_words EightBytes n width h = refl
 
--- a number lies among the words of its list
+-- a number is among the words of its list
 pub number_within : (size : ElementSize) (n i : ℕ) → size_number size ≤ 5 → i < n → i * (element_bits (size_number size) / 8) + element_bits (size_number size) / 8 ≤ 8 * words_for (size_number size) n
 number_within Pointer n i h l = absurd (omega arith)
 number_within InlineComposite n i h l = absurd (omega arith)

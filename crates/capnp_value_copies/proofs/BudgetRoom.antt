@@ -1,4 +1,4 @@
--- Under a budget for which the segment of the place has room, a copy comes to no object for which there is none.
+-- With a budget for which the place's segment has room, a copy comes to no object without room.
 use Rattle.std.proofs.Common.{◌≡◌, inl, inr, true, Some, ℕ, zero, suc, pred, ◌+◌, ◌≤◌, List, take, drop, length-take, subst, arith}
 use Rattle.capnp_words.specs.declared.wire_pointer.StructSize.{StructSize}
 use Rattle.capnp_words.specs.Meter.{Meter, Affords}
@@ -24,7 +24,7 @@ use Rattle.capnp_copies.specs.Widths.{most_used, widths_kept}
 use Rattle.capnp_copies.proofs.KeptForms.{kept_count-le}
 use Rattle.capnp_copies.proofs.Growth.{covered_below, covered_by, no_wider}
 
--- A copy keeps no more of an element than there is.
+-- A copy keeps at most the words that an element has.
 most_used-le : (ws : List ℕ) (p words stride n : ℕ) → most_used ws p words stride n ≤ words
 most_used-le ws p words stride zero = omega arith
 most_used-le ws p words stride (suc n) = omega (arith, used_words-le (take words (drop p ws)), length-take words (drop p ws), most_used-le ws (p + stride) words stride n)
@@ -34,7 +34,7 @@ widths_less canonical r size i =
     (most_used-le (segment_read r) r.at size.data_words (size.data_words + size.pointers) i, most_used-le (segment_read r) (r.at + size.data_words) size.pointers (size.data_words + size.pointers) i)
 widths_less _ r size i = (omega arith, omega arith)
 
--- The words that are made of an object are no more than its reading is charged.
+-- The words that are made of an object are at most those that its reading is charged.
 made_within_own : {form : Form} {r : Reading} {m m' : Meter} {a : Target} {n : ℕ} → Entered Value r m m' a → IsMadeOf form r a n → n ≤ own Value r.segments a
 made_within_own {form} {r} {a = a} o (as_struct z e) = omega (
   arith,
@@ -54,7 +54,7 @@ made_within_own {form} {r} {a = a} o (as_structs (z, seven) e) =
     let w = widths_less form first size n in
     omega (arith, e, own_structs r.segments a z seven, (o.meets.tagged (z, seven)).1, no_wider n (widths_kept form first size n).data_words (widths_kept form first size n).pointers size.data_words size.pointers w.0 w.1)
 
--- All that is spent until an object is made is covered.
+-- All that is spent before an object is made is within the limit.
 covered_wanted : {form : Form} (n : ℕ) {r : Reading} {m m' : Meter} (off : StopsWithin form (WantsWords form n) r m m') → Affords r.charging m ((spent_until off).words + n)
 covered_wanted n {r = r} {m} (here stops) = affords_less r.charging m (0 + n) (own Value r.segments stops.0) (omega (arith, made_within_own stops.1 stops.2)) stops.1.covers
 covered_wanted n {r = r} {m} (below a q o before rest) =

@@ -65,7 +65,7 @@ all_words k bits bytes long more l =
     let len = section_long bits bytes long in
     ap (λ xs. take (bits / 64) (words_of bytes) ++ xs) (sym (some_left (bits % 64) (drop (8 * (bits / 64)) bytes) (omega arith))) ∙ sym (take_all k (section_words bits bytes) (omega arith))
 
--- the bits behind its whole words, from the last byte on
+-- the bits after its whole words, from the last byte on
 
 pub each_below : (bs : List ℕ) → ((i : ℕ) → get_or bs i 0 < 256) → AreBelow 256 bs
 each_below [] h = tt
@@ -84,7 +84,7 @@ digits_small i bs below l =
     let limit : 256 ^ length ds ≤ 2 ^ 64 = subst (λ x. x ≤ 2 ^ 64) (sym (pow_pow 8 (length ds))) (let f : 8 * length ds ≤ 64 = omega arith in pow_mono f) in
     omega (arith, from_digits-below 256 ds (below_drop 256 i bs below), limit)
 
--- a word behind words that were written
+-- a word after words that were written
 
 word_more : (xs ws : List ℕ) (p x : ℕ) → p + length ws < length xs → set (overwritten xs p ws) (p + length ws) x ≡ overwritten xs p (ws ++ x ∷ [])
 word_more xs ws p x l =

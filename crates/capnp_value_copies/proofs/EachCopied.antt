@@ -1,4 +1,5 @@
--- The copy of pointers one behind the other, each of which is copied or stays null: one more, and where one is refused.
+-- The copy of consecutive pointers, each of which is copied or stays null: one more, and the one
+-- that is refused.
 use Rattle.std.proofs.Common.{inl, inr, ℕ, ◌+◌, ◌<◌, length, sym, ◌∙◌, subst, arith}
 use Rattle.capnp_words.specs.declared.error.ErrorKind.{ErrorKind}
 use Rattle.capnp_words.specs.Meter.{Meter}
@@ -51,7 +52,7 @@ each_stops {r} {s} {p} {i} {n} {old} {mid} {new} {m} {m'} {m''} {k} place less f
   memory = keeps_then_spends old mid new k (children_grow first).segments first.memory stop.memory;
 }
 
--- pointers that can be read, and of which what is kept has room, are not refused
+-- pointers aren't refused if they can be read, and there is room for what is kept of them
 pub each_refused_rightly : {r : Reading} {s p i : ℕ} {old new : View} {m m' : Meter} {k : ErrorKind} → CopiesFirst r i (change plain (call_at s p old new) m m') k → CanBeCopied (children_original r i) plain m old s → ⊥
 each_refused_rightly {m = m} stop can = elim stop.why [
   | inl x ↦ (let beyond = x.1 plain m can.after can.value can.is_read in omega (arith, beyond, can.room))

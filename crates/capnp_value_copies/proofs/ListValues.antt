@@ -39,7 +39,7 @@ use Rattle.capnp_making.specs.Makes.{call_at}
 abbrev pub first_read : {A : Type 0} (g : Ghosts A) → ListReader A g → Reading
 first_read g value = reading_at g value.source value.start value.nesting_limit
 
--- one that is too long leaves all as it was
+-- a list that is too long leaves everything unchanged
 pub too_long : (size : ElementSize) (sections : StructSize) (n : ℕ) (r : Reading) {b : Form} {s p : ℕ} {v : View} {m : Meter} → IsPlace v.words s p → word_at v.words s p ≡ 0 → (FitsListPointer size n (sections.data_words + sections.pointers) → ⊥) →
     StopsCopy (list_original size sections n r) (change b (call_at s p v v) m m) Null (MessageTooLarge (2 ^ 64 - 1))
 too_long size sections n r {b} {s} {p} {v} place null long = record {
@@ -70,7 +70,7 @@ few_numbers TwoBytes n width flat fits = fits
 few_numbers FourBytes n width flat fits = fits
 few_numbers EightBytes n width flat fits = fits
 
--- The n words from a place on are held as bytes.
+-- The n words from a place on are these bytes.
 pub record AreHeld (S : Segments) (start : Place) (n : ℕ) (bytes : List ℕ) : Type 0 where
   pub whole : length bytes ≡ 8 * length (words_of bytes)
   pub counts : length (words_of bytes) ≡ n
@@ -110,7 +110,7 @@ numbers_copied size n r c bytes (Ok x) stand free f =
     }
 numbers_copied size n r c bytes (Err k) stand free f = tt
 
--- where they find no room, they don't fit
+-- if they find no room, they exceed it
 numbers_exceed : (size : ElementSize) (n : ℕ) (r : Reading) (c : Change) (bytes : List ℕ) → words_of bytes ≡ words_from r (words_for (size_number size) n) →
     (HasOwnRoom c.old c.segment (word_count (Flat (size_number size) (unpacked (size_number size) n (words_of bytes)))) → ⊥) → ExceedsRoom c.form (numbers_original size n r) (length (segment c.old.words c.segment)) (c.old.room c.segment)
 numbers_exceed size n r c bytes stand full any m m' t is_read =

@@ -1,4 +1,4 @@
--- What can be read of a struct or a list is not where reading stops.
+-- The reading of a struct or a list that can be read doesn't stop.
 use Rattle.std.proofs.Common.{ℕ, List}
 use Rattle.capnp_words.specs.Meter.{Meter}
 use Rattle.capnp_words.specs.declared.wire_pointer.StructSize.{StructSize}

@@ -29,7 +29,7 @@ use Rattle.capnp_making.proofs.Memory.{keeps_itself, spends_nothing, made_refuse
 use Rattle.capnp_copies.proofs.Growth.{none_itself, none_written, none_refused, taken_so, made_none, all_within, among_within, sections_behind, sections_stop_behind, sections_until_more}
 use Rattle.capnp_value_copies.proofs.copy.struct_value.copy_struct_value.Goals as goal
 
--- A struct of more data words than a struct can have, and one that the arena refuses.
+-- A struct with more data words than a struct can have, and one that the arena refuses.
 
 pub returns-in_err-kept : goal.returns-in_err-kept
 returns-in_err-kept g c =
@@ -96,7 +96,7 @@ copy_children-copied-requires g c =
       inside = rw c.from-pointers.ensures (sections_inside begun);
     }
 
--- The copy of its pointers ends it.
+-- The copy of its pointers is the last step.
 
 pub clear_refused-requires : goal.clear_refused-requires
 clear_refused-requires g c =
