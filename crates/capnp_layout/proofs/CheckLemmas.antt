@@ -1,4 +1,4 @@
--- What the test at the root says of the message that was read.
+-- What the test at the root states about the message that was read.
 use Rattle.std.proofs.Common.{◌≡◌, ◌≤◌, ◌↔◌, inr, Result, Ok, Err, IfOk, IfErr, IsOk, Bool, true, false, IsTrue, length, refl, subst, arith}
 use Rattle.capnp_words.specs.declared.error.ErrorKind.{ErrorKind}
 use Rattle.capnp_words.specs.Meter.{Meter, unused}
@@ -15,13 +15,13 @@ use Rattle.capnp_messages.specs.Messages.{left_of, root_within}
 use Rattle.capnp_messages.proofs.CanonLemmas.{covers_rest, covers_root}
 use Rattle.capnp_messages.proofs.MessageLemmas.{AtRoot}
 
--- what holds where the root is read holds at the root
+-- what holds for the place and limiter of a root that is read holds at the root
 moved : {S : Segments} {options : ReaderOptions} {r : Reading} {m : Meter} (P : Reading → Meter → Type 0) → AtRoot S options r m → P r m
     → P (root_within S options) (unused (left_of options))
 moved {S = S} {options = options} {m = m} P root held =
     subst (P (root_within S options)) root.left (subst (λ (x : Reading). P x m) root.place held)
 
--- what the test answers is so
+-- the answer of the test is true
 check_read : {S : Segments} {options : ReaderOptions} {r : Reading} {m : Meter} {to : Progress} (b : Bool) → AtRoot S options r m
     → (IsTrue b ↔ IsCanonicalAt r 1) → (IsTrue b → IsFound r (progress 1 m) to) → CheckOf S options b
 check_read {options = options} {to = to} true root same found =
@@ -36,7 +36,7 @@ pub check_answers : {S : Segments} {options : ReaderOptions} {r : Reading} {m : 
 check_answers (Ok b) to root same found = check_read b root same found
 check_answers (Err k) to root same found = tt
 
--- where the test stops the message is refused
+-- if the test stops, the message is refused
 pub check_refused : {S : Segments} {options : ReaderOptions} {r : Reading} {m m' : Meter} {k : ErrorKind} → AtRoot S options r m
     → TestStops k r (progress 1 m) m' → RefusesCommand (Check options) S k
 check_refused {m' = m'} {k = k} root stops = inr (root.covers, (m', moved (λ r m. TestStops k r (progress 1 m) m') root stops))

@@ -1,4 +1,4 @@
--- One word or three are a command, and three its limits.
+-- One word is a command; three words are a command and its limits.
 use Rattle.std.proofs.Common.{◌≡◌, ◌∙◌, ◌<◌, ◌≤◌, ℕ, List, [], ◌∷◌, Option, Some, None, IfSome, String, Global, codes, length, map, slice_index_or, string_bytes, refl, ap, sym, subst, arith}
 use Rattle.capnp_arena.specs.declared.arena.reader_arena_impl.ReaderOptions.{ReaderOptions}
 use Rattle.capnp_layout.specs.Arguments.{AreArguments, IsCommand, IsNamed, IsNamedAlone}
@@ -23,7 +23,7 @@ is_command {words} {command} {nesting} {budget} name options read named same =
       read.is_budget,
     )
 
--- what a name asks for within limits is what the words ask for
+-- what a name requests within limits is what the words request
 are_arguments : {words : List (String Global)} {command nesting budget : String Global} {limits : ReaderOptions} → IsRead words command nesting budget limits → (a : Args) → IsNamed (string_bytes command) limits a → AreArguments (map string_bytes words) a
 are_arguments read (Canon o) (named, same) = is_command (codes "canon") o read named same
 are_arguments read (Check o) (named, same) = is_command (codes "check") o read named same
@@ -37,7 +37,7 @@ pub limited_read : {words : List (String Global)} {command nesting budget : Stri
 limited_read (Some a) read named = are_arguments read a named
 limited_read None read named = tt
 
--- three words ask for nothing else
+-- three words request no other command
 of_three : (name nesting budget : List ℕ) (a : Args) → AreArguments (name ∷ nesting ∷ budget ∷ []) a → (limits : ReaderOptions) × IsNamed name limits a
 of_three name nesting budget (Canon o) (n, b, e, nesting', budget') = (o, (let same : name ≡ codes "canon" = cc in same, refl))
 of_three name nesting budget (Check o) (n, b, e, nesting', budget') = (o, (let same : name ≡ codes "check" = cc in same, refl))
@@ -52,7 +52,7 @@ limited_none {command = command} {nesting = nesting} {budget = budget} all none 
     let (limits, named) = of_three (string_bytes command) (string_bytes nesting) (string_bytes budget) a (subst (λ (ws : List (List ℕ)). AreArguments ws a) (ap (map string_bytes) all) asked) in
     none a limits named
 
--- and so one word
+-- nor does one word
 of_one : (name : List ℕ) (a : Args) → AreArguments (name ∷ []) a → IsNamedAlone name a
 of_one name (Canon o) (n, b, e, nesting', budget') = absurd (cc)
 of_one name (Check o) (n, b, e, nesting', budget') = absurd (cc)
@@ -65,7 +65,7 @@ of_one name (FramedCheck o) (n, b, e, nesting', budget') = absurd (cc)
 pub alone_none : {words : List (String Global)} {command : String Global} → words ≡ command ∷ [] → ((a : Args) → IsNamedAlone (string_bytes command) a → ⊥) → (a : Args) → AreArguments (map string_bytes words) a → ⊥
 alone_none {command = command} all none a asked = none a (of_one (string_bytes command) a (subst (λ (ws : List (List ℕ)). AreArguments ws a) (ap (map string_bytes) all) asked))
 
--- a list of one element, by that
+-- a list of one element, by that element
 pub one : {A : Type 0} (xs : List A) {x : A} → 1 ≤ length xs → length xs < 2 → slice_index_or xs 0 x ≡ x → xs ≡ x ∷ []
 one [] least most a = absurd (omega arith)
 one (p ∷ []) least most a = cc

@@ -1,4 +1,4 @@
--- What the commands on frames answer and refuse follows from the lines that they are given.
+-- What the commands on frames answer and refuse follows from the lines that they get.
 use Rattle.std.proofs.Common.{◌≡◌, inl, inr, ℕ, ◌<◌, ◌≤◌, List, [], ◌∷◌, ◌∙◌, length, slice_get, Some, sym, ap, subst, arith, length-append}
 use Rattle.capnp_format.specs.Segments.{Segments}
 use Rattle.capnp_framing.specs.Reading.{NoFrame}
@@ -15,14 +15,14 @@ only_line [] line few e = absurd (cc e)
 only_line (x ∷ []) line few e = cc
 only_line (x ∷ y ∷ lines) line few e = absurd (omega arith)
 
--- a line that holds a frame is not empty
+-- a line that holds a frame isn't empty
 not_empty : {lines : List (List ℕ)} {S : Segments} (holds : HoldsFrame lines S) → 0 < length holds.line
 not_empty holds =
     let whole = ap length holds.begins.is in
     let front = ap length holds.begins.framed.is in
     omega (arith, whole, front, length-append holds.begins.front holds.begins.behind)
 
--- a frame that the only line holds is not refused
+-- a frame that the only line holds isn't refused
 pub frame_not_refused : {lines : List (List ℕ)} {S : Segments} {r : Refusal} → HoldsFrame lines S → RefusesFrame lines r → ⊥
 frame_not_refused holds (no_line named none) = let wrong : holds.line ∷ [] ≡ [] = sym holds.only ∙ none in cc
 frame_not_refused holds (empty_line named none) =
@@ -41,7 +41,7 @@ one_message {S = S} {R = R} a b =
     let same : a.line ≡ b.line = (let lines : a.line ∷ [] ≡ b.line ∷ [] = sym a.only ∙ b.only in cc) in
     (one_frame_begins S R a.begins.front b.begins.front a.begins.behind b.begins.behind a.begins.framed b.begins.framed (sym a.begins.is ∙ same ∙ b.begins.is)).0
 
--- as many segments as a frame holds are not refused one
+-- a number of segments that a frame can hold isn't refused
 pub count_not_refused : {lines : List (List ℕ)} {r : Refusal} → IsSmall lines → (1 ≤ length lines) × (length lines ≤ max_frame_segments) → RefusesToFrame lines r → ⊥
 count_not_refused small few (beyond_limits named large) = large small
 count_not_refused small few (wrong_number e named (inl (is, none))) = omega (arith, few.0, none)

@@ -1,4 +1,4 @@
--- Frames and segments are written as hex digits piece by piece.
+-- Frames and segments are written as hex digits in pieces.
 use Rattle.std.proofs.Common.{◌≡◌, ℕ, ◌+◌, ◌-◌, ◌/◌, ◌%◌, ◌<◌, ◌≤◌, List, [], ◌∷◌, ◌++◌, Option, Some, None, length, drop, replicate, slice_index, refl, sym, ap, ◌∙◌, subst, arith, append-nil}
 use Rattle.std.specs.Int.{to_le_bytes, w32, w64}
 use Rattle.std.specs.Io.KnownBytes.{Appends}
@@ -10,7 +10,7 @@ use Rattle.capnp_framing.proofs.WritingLemmas.{appends_both}
 use Rattle.capnp_layout.specs.Answers.{digits_of, word_digits}
 use Rattle.capnp_layout.specs.Commands.{frame_line, segment_lines}
 
--- The digits of bytes are those of one behind the other.
+-- The digits of bytes in two parts are those of the parts, one after the other.
 pub encode-append : (xs ys : List ℕ) → encode_lower (xs ++ ys) ≡ encode_lower xs ++ encode_lower ys
 unfolding encode_with
 encode-append [] ys = refl
@@ -48,7 +48,7 @@ lines-drop S i h = ap segment_lines (drop_more S i [] h)
 pub lines-end : (S : Segments) (i : ℕ) → length S ≤ i → segment_lines (drop i S) ≡ []
 lines-end S i h = ap segment_lines (drop_all i S h)
 
--- nothing is written for no padding
+-- nothing is written if there is no padding
 pub no_padding : (a : Option (List ℕ)) (n : ℕ) → 0 < n % 2 → Appends a a (encode_lower (replicate (padding_size n) 0))
 unfolding encode_with
 no_padding a n odd = rw (let none : padding_size n ≡ 0 = omega arith in none) (nothing a)
@@ -57,7 +57,7 @@ no_padding a n odd = rw (let none : padding_size n ≡ 0 = omega arith in none) 
     nothing None = tt
     nothing (Some x) = sym (append-nil x)
 
--- The pieces of a frame, and a line feed, are written one after the other.
+-- The pieces of a frame, and a line feed, are written one after another.
 pub record IsWritten (S : Segments) (a b c d e f : Option (List ℕ)) (n : ℕ) : Type 0 where
   pub counts : n ≡ length S
   pub number : Appends a b (encode_lower (to_le_bytes w32 (n - 1)))

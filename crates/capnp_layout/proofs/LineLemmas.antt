@@ -1,4 +1,4 @@
--- Lines are cut from a text one after the other.
+-- Lines are cut from a text one after another.
 use Rattle.std.proofs.Common.{◌≡◌, ℕ, suc, zero, ◌+◌, ◌-◌, ◌<◌, ◌≤◌, ◌==◌, not, cond, if◌then◌else◌, Bool, true, false, List, [], ◌∷◌, ◌++◌, length, take, drop, Option, Some, None, Result, Ok, Err, IsErr, refl, ap, sym, ◌∙◌, arith, subst, ◌/◌, ◌^◌, map}
 use Rattle.std.specs.List.{All, slice_get, position, position_or_len, prefix_len}
 use Rattle.std.proofs.lemmas.Grind.{common_steps}
@@ -7,7 +7,7 @@ use Rattle.hex.specs.Hex.{decode_of}
 use Rattle.hex.specs.declared.error.FromHexError.{FromHexError}
 use Rattle.std.proofs.Common.{rules}
 
--- some segments, and then those that are still to be read
+-- some segments, and then those that still have to be read
 abbrev pub in_front : List (List ℕ) → Option (List (List ℕ)) → Option (List (List ℕ))
 in_front read (Some more) = Some (read ++ more)
 in_front read None = None
@@ -61,7 +61,7 @@ no_feed xs e = let most = prefix_len-le (λ c. not (feed c)) xs in grind (arith,
     prefix_len-le p [] = omega arith
     prefix_len-le p (y ∷ ys) = elim (p y) as (λ v. cond v (1 + prefix_len p ys) 0 ≤ suc (length ys)) [ true ↦ omega (arith, prefix_len-le p ys) | false ↦ omega arith ]
 
--- All segments are these and those of a text, whose first line is known, and so what stands behind it.
+-- All segments are these and those of a text, whose first line and rest are known.
 pub record AtLine (done : List (List ℕ)) (line rest text : List ℕ) (all : Option (List (List ℕ))) : Type 0 where
   pub read : all ≡ in_front done (segments_of text)
   pub lines : lines_of text ≡ line ∷ lines_of rest
@@ -70,7 +70,7 @@ at_line : {done : List (List ℕ)} {line rest text : List ℕ} {all : Option (Li
 unfolding segments_of_lines
 at_line {done = done} h = h.read ∙ ap (λ (ls : List (List ℕ)). in_front done (segments_of_lines ls)) h.lines
 
--- one line is read, and the others are still to be read
+-- one line is read, and the others still have to be read
 pub next_line : {done : List (List ℕ)} {line segment rest text : List ℕ} {all : Option (List (List ℕ))} → AtLine done line rest text all → decode_of line ≡ Ok segment → all ≡ in_front (done ++ segment ∷ []) (segments_of rest)
 next_line {done = done} {segment = segment} {rest = rest} h decoded =
     at_line h ∙ ap (λ r. in_front done (onto_segments r (segments_of rest))) decoded ∙ step (segments_of rest)
@@ -79,7 +79,7 @@ next_line {done = done} {segment = segment} {rest = rest} h decoded =
     step (Some more) = grind (arith, common_steps)
     step None = refl
 
--- a line that is not pairs of hex digits spoils the text
+-- a line that isn't pairs of hex digits makes the text invalid
 pub bad_line : {done : List (List ℕ)} {line rest text : List ℕ} {all : Option (List (List ℕ))} → AtLine done line rest text all → IsErr (decode_of line) → all ≡ None
 bad_line {done = done} {line = line} {rest = rest} h bad = at_line h ∙ ap (in_front done) (spoiled (decode_of line) bad)
   where
@@ -87,7 +87,7 @@ bad_line {done = done} {line = line} {rest = rest} h bad = at_line h ∙ ap (in_
     spoiled (Ok x) bad = absurd (search rules)
     spoiled (Err k) bad = refl
 
--- nothing is left to be read
+-- nothing is left to read
 pub all_lines : (done : List (List ℕ)) (all : Option (List (List ℕ))) (rest : List ℕ) → all ≡ in_front done (segments_of rest) → length rest ≡ 0 → all ≡ Some done
 unfolding lines_of segments_of_lines
 all_lines done all [] e none = e ∙ ap Some (append-nil done)
@@ -97,7 +97,7 @@ all_lines done all [] e none = e ∙ ap Some (append-nil done)
     append-nil (x ∷ xs) = ap (λ (ys : List (List ℕ)). x ∷ ys) (append-nil xs)
 all_lines done all (c ∷ rest) e none = absurd (omega arith)
 
--- a line is read, and its segment was put behind the others
+-- a line is read, and its segment was added after the others
 pub kept_line : {A : Type 0} (f : A → List ℕ) (rows : List A) {new : List A} (row : A) {line rest text : List ℕ} {all : Option (List (List ℕ))}
     → new ≡ rows ++ row ∷ [] → AtLine (map f rows) line rest text all → decode_of line ≡ Ok (f row) → all ≡ in_front (map f new) (segments_of rest)
 kept_line {A} f rows row {rest = rest} e h decoded = next_line h decoded ∙ ap (λ (xs : List (List ℕ)). in_front xs (segments_of rest)) (sym (ap (map f) e ∙ snoc rows))

@@ -26,13 +26,13 @@ use Rattle.capnp_layout.specs.Answers.{RefusesMessage}
 use Rattle.capnp_messages.specs.Copies.{LacksMemoryOr}
 use Rattle.capnp_layout.specs.Commands.{HasAnswer, IsAnswer, IsWithin, WhyRefused, canonical_args, form_line}
 
--- what refuses a message, or the memory that it lacks, refuses its segments
+-- what refuses a message refuses its segments, and so does the memory that it lacks
 pub refuses_segments : (options : ReaderOptions) (segments : List (List ℕ)) {old new : ℕ} {k : ErrorKind}
     → LacksMemoryOr old new k (RefusesCanon (message segments) options k) → LacksMemoryOr old new k (RefusesMessage segments (Canon options) k)
 refuses_segments options segments (inl memory) = inl memory
 refuses_segments options segments (inr (refused, same)) = inr (inr refused, same)
 
--- segments that have a canonical copy are refused one for want of memory alone
+-- segments that have a canonical copy are refused only for lack of memory
 only_memory : (options : ReaderOptions) (segments : List (List ℕ)) {old new : ℕ} {k : ErrorKind}
     → IsSmall segments → HasAnswer segments (Canon options) → LacksMemoryOr old new k (RefusesMessage segments (Canon options) k)
     → (Layout k ≡ Layout AllocationFailed) × (new ≡ one_more old)
@@ -42,7 +42,8 @@ only_memory options segments small has (inr (inr refused, same)) =
     let (named, risen) = copy_lacks_memory (message segments) options has (inr (refused, same)) in
     (ap Layout named, risen)
 
--- What a command that answers with canonical words says of its lines, in whichever form: by cases of the form.
+-- What a command that answers with canonical words states about its lines, in any form: by cases of
+-- the form.
 pub canonical_memory : (form : Form) (options : ReaderOptions) (lines : List (List ℕ)) {old new : ℕ} {k : ErrorKind}
     → LacksMemoryOr old new k (RefusesMessage lines (Canon options) k)
     → IsWithin (canonical_args form options) lines → HasAnswer lines (canonical_args form options)
@@ -117,13 +118,13 @@ refused_run g from to r (inr is) written works failed why memory = record {
   failed = failed;
 }
 
--- a run of a command that is known by another name
+-- a run of a command with another name
 pub named_run : {W : Type 0} (g : Ghosts W) (from to : W) {lines : List (List ℕ)} {args other : Args} {outcome : Outcome} {before after : ℕ}
     → args ≡ other → Responds g from to (run_of lines other outcome before after) → Responds g from to (run_of lines args outcome before after)
 named_run g from to {lines} {outcome = outcome} {before} {after} same responds =
     subst (λ (a : Args). Responds g from to (run_of lines a outcome before after)) (sym same) responds
 
--- a run of a command that is known by another name and counts nothing, beside an allocator that has counted n
+-- a run of a command with another name that counts nothing, with an allocator that has counted n
 pub uncounted_run : {W : Type 0} (g : Ghosts W) (from to : W) {lines : List (List ℕ)} {args other : Args} {outcome : Outcome} (n : ℕ)
     → args ≡ other → Responds g from to (run_of lines other outcome 0 0) → Responds g from to (run_of lines args outcome n n)
 uncounted_run g from to {lines} {args} {other} {outcome} n same responds = named_run g from to same (record {
@@ -148,7 +149,7 @@ uncounted_run g from to {lines} {args} {other} {outcome} n same responds = named
     ends (inr (inl failed)) = inr (inl failed)
     ends (inr (inr (is, risen, printed))) = absurd (never risen)
 
--- the lines of a text that is known are those that were read
+-- the lines of a known text are those that were read
 lines_read : (text : Option (List ℕ)) (args : Args) (lines : List (List ℕ)) → AreLinesOf text lines → TextHasAnswer text args
     → IsWithin args lines × HasAnswer lines args
 lines_read None args lines held has = absurd has
@@ -156,7 +157,7 @@ lines_read (Some text) args lines held (given, found, within, answered) =
     let same : given ≡ lines = (let both : Some given ≡ Some lines = sym found ∙ held in cc) in
     (subst (IsWithin args) same within, subst (λ (ls : List (List ℕ)). HasAnswer ls args) same answered)
 
--- where the lines of a text have an answer, memory alone is refused
+-- if the lines of a text have an answer, the only refusal is of memory
 pub text_memory : (text : Option (List ℕ)) {W : Type 0} (g : Ghosts W) (from to : W) {lines : List (List ℕ)} {args : Args} {outcome : Outcome} {first before after : ℕ}
     → AreLinesOf text lines → Responds g from to (run_of lines args outcome before after) → before ≡ first → TextHasAnswer text args → outcome ≡ RefusedOutcome
     → (after ≡ one_more first) × Prints g from to (refusal_line (Layout AllocationFailed))

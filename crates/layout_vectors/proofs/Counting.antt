@@ -1,4 +1,4 @@
--- Places that are looked at in another order, and places put behind the others.
+-- Places that are visited in another order, and places added after the others.
 use Rattle.std.proofs.Common.{◌≡◌, ℕ, zero, suc, ◌+◌, ◌*◌, ◌≤◌, List, [], ◌∷◌, ◌++◌, length, refl, sym, ap, ◌∙◌, subst, arith, append_assoc, append-nil}
 use Rattle.capnp_format.specs.Segments.{Segments, segment, words_at}
 use Rattle.capnp_format.specs.Tree.{Trees, no_trees, tree, count, Elements, no_elements, element, element_count}
@@ -15,12 +15,12 @@ counts_same S M N (j ∷ J) F e (t, r, h) =
     let c = times (cover S j.segment j.at t) in
     (t, r, counts_same S (plus M c) (plus N c) J F (λ u q. ap (λ x. x + c u q) (e u q)) h)
 
--- what is counted is at least what was there before
+-- what is counted is at least what was counted before
 pub counts_least : (S : Segments) (M : Counting) (J : List Spot) (F : Counting) (u q : ℕ) → Counts S M J F → M u q ≤ F u q
 counts_least S M [] F u q h = omega (arith, h u q)
 counts_least S M (j ∷ J) F u q (t, r, h) = omega (arith, counts_least S (plus M (times (cover S j.segment j.at t))) J F u q h)
 
--- the last place may be looked at first
+-- the last place may be visited first
 pub last_first : (S : Segments) (M : Counting) (J : List Spot) (j : Spot) (F : Counting) → Counts S M (J ++ j ∷ []) F → Counts S M (j ∷ J) F
 last_first S M [] j F h = h
 last_first S M (i ∷ J) j F (v, r, h) =
@@ -36,7 +36,7 @@ first_last S M (i ∷ J) j F (t, k, (v, r, g)) =
     let d = times (cover S j.segment j.at t) in
     (v, r, first_last S (plus M c) J j F (t, k, counts_same S (plus (plus M d) c) (plus (plus M c) d) J F (λ u q. omega arith) g))
 
--- pointers one behind the other, put behind the others
+-- consecutive pointers, added after the others
 pub record Children (S : Segments) (M : Counting) (J : List Spot) (s p n : ℕ) (F : Counting) : Type 0 where
   pub children : Trees
   pub number : count children ≡ n
@@ -70,7 +70,7 @@ read_pushed S M J s p F (tree t ts) (k, ks) h =
     (first_last S (plus M (times rest)) J (record { segment = s; at = p }) F
     (t, k, counts_same S (plus M (times (cover S s p t ++ rest))) (plus (plus M (times rest)) (times (cover S s p t))) J F (λ u q. omega (arith, times-append (cover S s p t) rest u q)) h)))
 
--- elements one behind the other, whose words lie in their segment
+-- consecutive elements, whose words are inside their segment
 pub record Rows (S : Segments) (M : Counting) (J : List Spot) (s p d q n : ℕ) (F : Counting) : Type 0 where
   pub elements : Elements
   pub number : element_count elements ≡ n

@@ -10,7 +10,8 @@ use Rattle.capnp_format.proofs.Levels.{other_levels, depth_within}
 use Rattle.capnp_format.specs.Forest.{object_cover}
 use Rattle.layout_vectors.specs.Counts.{MeansTidily, AreRead, AreElementsRead, IsTidyObject}
 
--- pointers one behind the other, each within levels of its own, mean their values within levels together
+-- consecutive pointers, each within its own levels, mean their values within a common number of
+-- levels
 levels_of : (S : Segments) (s p : ℕ) (ts : Trees) → AreRead S s p ts → ℕ
 levels_of S s p no_trees k = 0
 levels_of S s p (tree t ts) (k, ks) = k.means.0 + levels_of S s (p + 1) ts ks
@@ -34,7 +35,7 @@ pub all_read : (S : Segments) (n s p : ℕ) (ts : Trees) (c : ℕ) → MeansAll 
 all_read S n s p no_trees c m y = tt
 all_read S n s p (tree t ts) c (k, l, one, rest, g) y = (record { means = (n, k, one); tidy = y.0 }, all_read S n s (p + 1) ts l rest y.1)
 
--- elements one behind the other mean their values within levels together
+-- consecutive elements mean their values within a common number of levels
 element_levels : (S : Segments) (s p d q : ℕ) (es : Elements) → AreElementsRead S s p d q es → ℕ
 element_levels S s p d q no_elements k = 0
 element_levels S s p d q (element ws ts es) k = levels_of S s (p + d) ts k.3 + element_levels S s (p + d + q) d q es k.4
@@ -58,7 +59,7 @@ pub elements_read : (S : Segments) (n s p d q : ℕ) (es : Elements) (c : ℕ) �
 elements_read S n s p d q no_elements c m y = tt
 elements_read S n s p d q (element ws ts es) c (k, l, long, len, e, all, rest, g) y = (long, len, e, all_read S n s (p + d) ts k all y.0, elements_read S n s (p + d + q) d q es l rest y.1)
 
--- the object that a pointer leads to which means a value
+-- a pointer that means a value leads to an object
 pub there_is : (S : Segments) (n s p : ℕ) (t : Tree) (c : ℕ) → word_at S s p ≢ 0 → Means S n s p t c → IsTidy S s p t → (a : Target) × (leads S s p ≡ Some a) × IsTidyObject S a t
 there_is S n s p Null c some m y = absurd (some m.0)
 there_is S n s p (Capability i) c some (a, l, e, g) y = (a, l.1, e)
@@ -109,7 +110,7 @@ object_of_read S s p a t some l k =
     let (b, f, o) = there_is S m.0 s p t m.1 some m.2 k.tidy in
     (subst (λ x. IsTidyObject S x t) (same_target b a S s p f l) o, covered S s p t a some l k)
 
--- and back
+-- and a pointer that leads to an object means its value
 pub read_of_object : (S : Segments) (s p : ℕ) (a : Target) (t : Tree) → word_at S s p ≢ 0 → leads S s p ≡ Some a → IsTidyObject S a t → MeansTidily S s p t
 read_of_object S s p a Null some l o = absurd o
 read_of_object S s p a (Capability i) some l o = record { means = (0, a.pads, (a, (some, l), o, refl)); tidy = tt }

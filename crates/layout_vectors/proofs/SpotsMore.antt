@@ -1,4 +1,4 @@
--- Places put one behind the other.
+-- Places added one after another.
 use Rattle.std.proofs.Common.{◌≡◌, ℕ, zero, suc, ◌+◌, ◌*◌, [], ◌++◌, refl, sym, ap, ◌∙◌, arith, append_assoc, append-nil}
 use Rattle.layout_vectors.specs.Spots.{spots, element_spots}
 

@@ -1,4 +1,5 @@
--- One object taken: what is counted with it before is what is counted without it afterwards; or nothing can be counted.
+-- One object is marked: what is counted with it before is what is counted without it afterwards; or
+-- nothing can be counted.
 use Rattle.std.proofs.Common.{◌≡◌, ◌≢◌, ◌↔◌, ℕ, zero, suc, length-append, ◌+◌, ◌*◌, ◌^◌, ◌<◌, ◌≤◌, List, [], ◌∷◌, ◌++◌, length, Some, None, refl, sym, ap, ap₂, ◌∙◌, subst, arith, pow_pos, pow_mono, lt_of_lt_of_le}
 use Rattle.capnp_format.specs.Word.{kind, lower_half, upper_half, data_words, pointer_count, element_size, list_count, capability_word}
 use Rattle.capnp_format.specs.Numbers.{words_for, unpacked, packed, element_bits, from_digits}
@@ -29,7 +30,7 @@ use Rattle.layout_vectors.proofs.Taken.{keeps_itself, keeps_again}
 use Rattle.std.specs.Prelude.{Result, Ok, Err, IfOk, Bool, true, false}
 use Rattle.layout_vectors.proofs.Leading.{there_is, object_of_read, read_of_object}
 
--- one of the words is taken already
+-- one of the words is marked already
 abbrev pub IsTakenAlready : Segments → (ℕ → ℕ → ℕ) → Type 0
 IsTakenAlready M is = (u : ℕ) × (q : ℕ) × (0 < is u q) × (0 < word_at M u q)
 
@@ -135,7 +136,7 @@ structs_goes S a M N J n d q x seven tag exact claim is F = (λ h. to h.0 h.1 h.
           counts_same S (plus N (times below)) (plus M (times (object_of a (1 + element_count c.elements * (d + q)) ∷ below))) J F (λ u v. omega (arith, same (1 + element_count c.elements * (d + q)) u v (omega (arith, count_is)))) c.counts,
         )
 
--- packed elements leave zeros behind them
+-- packed elements leave zeros after them
 packed_below : (size : ℕ) (ns : List ℕ) → AreBelow (2 ^ element_bits size) ns → from_digits (2 ^ 64) (packed size ns) < 2 ^ (element_bits size * length ns)
 packed_below size ns h =
     let x = from_digits (2 ^ element_bits size) ns in
@@ -194,7 +195,7 @@ not_padded S a M J size n es en x small fails F h = to h.0 h.1
     to (Pointers ts) o = omega (arith, es, small, o.1)
     to (Structs e f gs) o = omega (arith, es, small, o.1)
 
--- a capability, and what is none
+-- a capability, and a word that isn't one
 pub capability_goes : (S : Segments) (a : Target) (M : Counting) (J : List Spot) → lower_half a.word ≡ 3 → (F : Counting) → ObjectCounts S a M J F ↔ Counts S M J F
 capability_goes S a M J x F = (λ h. to h.0 h.1 h.2, λ h. (Capability (upper_half a.word), sym (capability_again a.word x), counts_same S M (plus M (times [])) J F (λ u v. omega arith) h))
   where
@@ -206,7 +207,7 @@ capability_goes S a M J x F = (λ h. to h.0 h.1 h.2, λ h. (Capability (upper_ha
     to (Pointers ts) o h = absurd (omega (arith, x, o.0))
     to (Structs e f es) o h = absurd (omega (arith, x, o.0))
 
--- how many words an object has by itself
+-- the number of words that an object has by itself
 abbrev pub own_words : Tree → ℕ
 own_words Null = 0
 own_words (Capability i) = 0
@@ -231,7 +232,7 @@ own_held S a (Flat size ns) u v k o = omega arith
 own_held S a (Pointers ts) u v k o = omega arith
 own_held S a (Structs d q es) u v k o = omega arith
 
--- one of its words is taken already, or it doesn't lie in its segment
+-- one of its words is marked already, or it isn't inside its segment
 pub object_refused : (S : Segments) (a : Target) (w : Walk) (n : ℕ) → FitsRows S w.marks → kind a.word < 2 → ((t : Tree) → IsTidyObject S a t → own_words t ≡ n) →
     (a.start + n ≤ length (segment w.marks a.segment) → IsMarkedWithin (segment w.marks a.segment) a.start n) → HasNoObject S a w
 object_refused S a w n fits k size marked F (t, o, h) once =
@@ -287,7 +288,7 @@ null_goes S M j J e F = (to, from)
     from : Counts S M J F → Counts S M (j ∷ J) F
     from h = (Null, record { means = (0, 0, (e, refl)); tidy = tt }, counts_same S M (plus M (times [])) J F (λ u v. omega arith) h)
 
--- the landing pads of a pointer are taken first
+-- the landing pads of a pointer are marked first
 pub pointer_goes : (S : Segments) (M N : Counting) (j : Spot) (J : List Spot) (a : Target) → word_at S j.segment j.at ≢ 0 → leads S j.segment j.at ≡ Some a →
     ((u v : ℕ) → N u v ≡ M u v + times (pads_of (word_at S j.segment j.at)) u v) → (F : Counting) → Counts S M (j ∷ J) F ↔ ObjectCounts S a N J F
 pointer_goes S M N j J a some l is F = (to, from)
@@ -314,7 +315,7 @@ nowhere_fails S w j some l F (t, k, h) once =
     let x = there_is S m.0 j.segment j.at t m.1 some m.2 k.tidy in
     let e : Some x.0 ≡ None = sym x.1 ∙ l in cc
 
--- a pointer whose landing pads are taken already
+-- a pointer whose landing pads are marked already
 pub pads_refused : (S : Segments) (w : Walk) (j : Spot) (a : Target) → FitsRows S w.marks → word_at S j.segment j.at ≢ 0 → leads S j.segment j.at ≡ Some a →
     (PadsInside w.marks (word_at S j.segment j.at) → IsTakenAlready w.marks (times (pads_of (word_at S j.segment j.at)))) → FailsWalk S j w
 pads_refused S w j a fits some l already F (t, k, h) once =
@@ -338,7 +339,7 @@ length-element_spots s p d q (suc n) = length-append (spots s (p + d) q) (elemen
 few_pointers : (n d q : ℕ) → n * q ≤ n * (d + q)
 few_pointers n d q = grind arith
 
--- words are taken, and places put behind the others, no more than words
+-- words are marked, and at most as many places are added after the others
 proceeds_so : (w v : Walk) (s p n : ℕ) (K : List Spot) → TakesRow w.marks v.marks s p n → v.pending ≡ w.pending ++ K → length K ≤ n → Proceeds w v
 proceeds_so w v s p n K t e few = record { keeps = t.keeps; fewer = omega (arith, t.fewer, few, ap length e, length-append w.pending K) }
 
@@ -399,7 +400,7 @@ pub ok_map : {E : Type 0} (r : Result Bool E) (P Q : Bool → Type 0) → ((b : 
 ok_map (Ok b) P Q f h = f b h
 ok_map (Err e) P Q f h = h
 
--- an object is taken, or there is none, by the answer
+-- an object is marked, or there is none, by the answer
 pub takes_by : {S : Segments} {a : Target} {w v : Walk} (b : Bool) → (b ≡ true → TakesTarget S a w v) → (b ≡ false → HasNoObject S a w) → TakesObject S a w v b
 takes_by true if_so if_not = if_so refl
 takes_by false if_so if_not = if_not refl

@@ -24,7 +24,7 @@ use Rattle.layout_vectors.specs.Counts.{IsOnce}
 use Rattle.layout_vectors.specs.Marks.{AreFreeWithin, free, KeepsRows, TakesRow}
 use Rattle.layout_vectors.specs.Walks.{FitsRows}
 
--- how many words of a row are free
+-- the number of free words of a row
 abbrev free_words : List ℕ → ℕ
 free_words xs = count_by (λ mark. nat_eq mark 0) xs
 
@@ -78,7 +78,7 @@ row_beside : (s p n q : ℕ) → (q < p) ⊎ (p + n ≤ q) → times (row s p n 
 row_beside s p n q (inl l) = grind (arith, nat_tests)
 row_beside s p n q (inr l) = grind (arith, nat_tests)
 
--- whether a word is among so many
+-- whether q is among the n words from p on
 data Among (p n q : ℕ) : Type 0 where
   within : p ≤ q → q < p + n → Among p n q
   beside : (q < p) ⊎ (p + n ≤ q) → Among p n q
@@ -89,7 +89,7 @@ among p n q = elim (cases_lt q p) [
   | inr l ↦ elim (cases_lt q (p + n)) [ inl m ↦ within l m | inr m ↦ beside (inr m) ]
 ]
 
--- words that were free are taken
+-- words that were free are marked
 pub taken : (M N : Segments) (s p n : ℕ) → 0 < n → p + n ≤ length (segment M s) → AreFreeWithin (segment M s) p n → N ≡ with_words M s p (replicate n 1) → TakesRow M N s p n
 taken M N s p n some fits empty e = subst (λ T. TakesRow M T s p n) (sym e) (record { keeps = record { segments = length-set M s (overwritten (segment M s) p (replicate n 1)); words = same; once = λ h u q. once u q h (marks u q) }; marks = marks; fewer = omega (arith, fewer_rows M s (overwritten (segment M s) p (replicate n 1)) here, fewer_words (segment M s) p n fits empty) })
   where
@@ -125,7 +125,7 @@ taken M N s p n some fits empty e = subst (λ T. TakesRow M T s p n) (sym e) (re
       | inr g ↦ omega (arith, f, h u q, row_elsewhere s p n u q g)
     ]
 
--- no word is taken
+-- no word is marked
 pub nothing_taken : (M : Segments) (s p : ℕ) → TakesRow M M s p 0
 nothing_taken M s p = record { keeps = record { segments = refl; words = λ u. refl; once = λ h. h }; marks = λ u q. omega (arith, none u q); fewer = omega arith }
   where
@@ -141,7 +141,7 @@ keeps_itself M = record { segments = refl; words = λ u. refl; once = λ h. h }
 pub fits_kept : (S M N : Segments) → FitsRows S M → KeepsRows M N → FitsRows S N
 fits_kept S M N f k = record { segments = k.segments ∙ f.segments; words = λ u. k.words u ∙ f.words u; few = f.few; small = f.small }
 
--- the rows of segments of which no word is taken
+-- the rows of segments without marked words
 abbrev blank_rows : List (Bor (List ℕ)) → Segments
 blank_rows segments = map (λ s. replicate (length s.now / 8) 0) segments
 
@@ -178,7 +178,7 @@ blank_free (s ∷ ss) zero q = zeros (length s.now / 8) q
     zeros (suc n) (suc q) = zeros n q
 blank_free (s ∷ ss) (suc u) q = blank_free ss u q
 
--- a row of the marks in which words are taken
+-- a row of the marks after words in it are marked
 pub row_taken : (v : Vec (Vec ℕ)) (r : Vec ℕ) (i p n : ℕ) (old new : List ℕ) → 0 < n → p + n ≤ length (segment (map vec_items v.items) i) → r ≡ get_or v.items i r → old ≡ r.items → AreFreeWithin old p n →
     new ≡ put_mid p n old (replicate n 1) → length new ≡ r.len → TakesRow (map vec_items v.items) (map vec_items (with_item v i (with_items r new)).items) i p n
 row_taken v r i p n old new some fits is same empty made long =

@@ -1,4 +1,4 @@
--- The whole walk: from the root alone, to no place that is left.
+-- The whole walk: from only the root, until no place is left.
 use Rattle.std.proofs.Common.{inl, inr, ◌≡◌, ℕ, ◌<◌, [], ◌∷◌, length, sym, ◌∙◌, arith}
 use Rattle.std.proofs.lemmas.Bool.{cases_lt}
 use Rattle.std.proofs.lemmas.List.{get_or_past}
@@ -23,7 +23,7 @@ marked_inside S M u q fits l = elim (cases_lt q (length (segment M u))) [
   | inr m ↦ absurd (omega (arith, get_or_past (segment M u) q 0 m))
 ]
 
--- and where the words counted are those that are marked, and all others are zero, there is a forest
+-- and if the counted words are those that are marked, and all others are zero, there is a forest
 pub counts_forest : (S M N : Segments) → OnlyRoot M → Counts S (word_at M) (spots 0 0 1) (word_at N) → FitsRows S N → IsOnce (word_at N) → ((u q : ℕ) → word_at N u q ≡ 0 → word_at S u q ≡ 0) → (t : Tree) × IsForest S t
 counts_forest S M N only (t, k, h) fits marks zero =
     let same : (u q : ℕ) → times (root ∷ cover S 0 0 t) u q ≡ word_at N u q = λ u q. omega (arith, only u q, h u q) in (

@@ -11,7 +11,7 @@ returns-in-len1-clause-none c = λ none.
     alone_none (one c.args.args.now c.in-len1.len_at_least c.in-len1.len_below (sym c.command-item.is))
     (rw c.as_str.ensures.value at (c.without_limits.ensures.none none))
 
--- the three arguments, of which the first is the command
+-- the three arguments: the first is the command
 pub returns-in_ok-parse_budget-in-len3-clause-read : goal.returns-in_ok-parse_budget-in-len3-clause-read
 returns-in_ok-parse_budget-in-len3-clause-read c =
     limited_read c.within_limits.result
