@@ -1,4 +1,4 @@
--- What an input of packed bytes gives at once, behind what it took before.
+-- What an input of packed bytes unpacks in one step, after what it took before.
 use Rattle.std.proofs.Common.{◌≡◌, ◌∙◌, ℕ, List, [], take, Result, Ok, Err, ap, arith}
 use Rattle.capnp_framing.specs.declared.devices.Input.{Ghosts}
 use Rattle.capnp_packing.specs.Unpacking.{UnpacksAhead, UnpacksSome, packed_left}
@@ -6,7 +6,7 @@ use Rattle.capnp_packing.specs.declared.packing.unpacking_input.UnpackingInput.{
 use Rattle.capnp_packing.proofs.UnpackingLemmas.{Unpacks, then_takes}
 
 module _ {R : Type 0} (g : Ghosts R) where
-  -- bytes are given behind packed bytes that gave none
+  -- bytes come after packed bytes that unpacked to none
   pub some_later : {E : Type 0} (result : Result ℕ E) (first from to : UnpackingInput R) (room : List ℕ) →
       Unpacks first.zeros first.place (packed_left g first) from.zeros from.place (packed_left g from) [] →
       g.has_failed from.packed.input ≡ g.has_failed first.packed.input → from.told ≡ first.told →
@@ -18,7 +18,7 @@ module _ {R : Type 0} (g : Ghosts R) where
       let both = then_takes _ _ _ _ _ _ _ _ _ [] [] before (h.kept, h.place) in
       record { bound = tt; bytes = tt; kept = both.0; place = both.1; end = tt; works = tt; fails = h.fails; told = h.told ∙ told }
 
-  -- some are ahead
+  -- some bytes are ahead
   pub ahead_some : {E : Type 0} (n : ℕ) (from to : UnpackingInput R) (room : List ℕ) → UnpacksAhead g n from to room → UnpacksSome g {E = E} (Ok n) from to room
   ahead_some n from to room h = record {
     bound = h.bound;

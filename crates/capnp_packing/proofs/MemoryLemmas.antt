@@ -1,4 +1,4 @@
--- Words packed and packed bytes unpacked in memory, part by part.
+-- Words packed and packed bytes unpacked in memory, in parts.
 use Rattle.std.proofs.Common.{◌≡◌, ℕ, ◌+◌, ◌-◌, ◌≤◌, List, ◌++◌, length, take, drop, take-add, take_all, Option, Some, None, sym, ◌∙◌, append-nil}
 use Rattle.std.specs.Io.KnownBytes.{IsAtEnd}
 use Rattle.std.proofs.lemmas.List.{take_rest}

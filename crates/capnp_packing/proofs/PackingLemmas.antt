@@ -1,4 +1,4 @@
--- Packed bytes unpack to what was packed, also behind what was packed before.
+-- Packed bytes unpack to what was packed, also after what was packed before.
 use Rattle.std.proofs.Common.{◌≡◌, ℕ, zero, suc, ◌+◌, ◌-◌, ◌*◌, ◌/◌, ◌%◌, ◌^◌, ◌<◌, ◌≤◌, ◌≢◌, List, [], ◌∷◌, ◌++◌, replicate, map, length, take, drop, set, take-add, take-append-drop, take_all, ap₂, Option, Some, None, refl, sym, ap, ◌∙◌, arith, add-one, append_assoc, append-nil, length-append, length-drop, length-set, length-take}
 use Rattle.std.specs.Prelude.{cond, if◌then◌else◌, nat_eq, slice_range, Bool, not}
 use Rattle.std.specs.Io.KnownBytes.{Appends, Keeps, append_known}
@@ -22,7 +22,7 @@ use Rattle.capnp_packing.proofs.UnpackingLemmas.{
 use Rattle.capnp_packing.specs.declared.packing.place.Place.{Place}
 use Rattle.capnp_packing.specs.declared.packing.place.Place.TheVariants.{Tag, Kept, Zeros, Whole, Count, Raw}
 
--- ---- a word behind its tag
+-- ---- a word after its tag
 
 half_even : (n : ℕ) → (0 + 2 * n) / 2 ≡ n
 half_even n = omega arith
@@ -76,13 +76,13 @@ gives_zeros n = (
   refl,
 )
 
--- ---- words as they are
+-- ---- words copied unchanged
 
 gives_full : (word run : List ℕ) (n : ℕ) → length word ≡ 8 → length run ≡ 8 * n
     → Packs (255 ∷ (word ++ n ∷ run)) (word ++ run)
 gives_full word run n l m = let leads = leads_full word run n l m in (leads.0 ∙ append-nil (word ++ run), leads.1)
 
--- ---- behind what was packed before
+-- ---- after what was packed before
 
 grown : (place : Place) (old more bytes : List ℕ) → place_at_end Tag old ≡ place → Packs more bytes
     → Appends (if is_tag place then Some (unpacked_bytes Tag old) else None) (unpacked_known (Some (old ++ more))) bytes
@@ -217,7 +217,7 @@ word_packed to from new n t k room l is some few inside there =
     ∙ ap (λ x. x ∷ nonzero_bytes (take 8 from)) is in
     rw packed (gives_word (take 8 from) (length_front 8 from l) (λ h. some (is ∙ h)) (λ h. few (is ∙ h)))
 
--- the bytes of a word that aren't zero, behind its last one
+-- the bytes of a word that aren't zero, after its last one
 pub all_kept : (to word : List ℕ) (i n : ℕ) → length word ≤ i → take n to ++ nonzero_bytes (drop i word) ≡ nonzero_bytes word
     → take n to ≡ nonzero_bytes word
 all_kept to word i n h before =
@@ -234,7 +234,7 @@ none_kept [] h = refl
 none_kept (zero ∷ bs) h = none_kept bs (omega (arith, h))
 none_kept (suc b ∷ bs) h = let e = rw (eqb-suc-zero b) at h in absurd (omega (arith, e))
 
--- a tag below 32 says that none is packed behind the fifth byte
+-- a tag below 32 says that nothing is packed after the fifth byte
 none_behind : (word : List ℕ) → 5 ≤ length word → tag_of_word word < 32 → tag_of_word (drop 5 word) ≡ 0
 none_behind [] l h = absurd (omega (arith, l))
 none_behind (a ∷ []) l h = absurd (omega (arith, l))
@@ -261,7 +261,7 @@ kept_both to new word n m k l inside front behind =
     ∙ ap₂ (λ (us vs : List ℕ). us ++ vs) front (behind ∙ ap nonzero_bytes (take_rest word 5))
     ∙ sym (kept_parts word)
 
--- ---- one behind another
+-- ---- one after another
 
 pub unit_packed : (from to new : List ℕ) (taken given t n : ℕ) → given ≤ length to → n ≤ length new
     → Packs (take given to) (take taken from) → Packs (take n new) (take t (take (length from - taken) (drop taken from)))

@@ -1,4 +1,5 @@
--- Packed bytes that are unpacked to a slice, and how many bytes they stand for, one packed byte behind another.
+-- Packed bytes that are unpacked to a slice, and the number of bytes that they unpack to, one
+-- packed byte after another.
 use Rattle.std.proofs.Common.{◌≡◌, ℕ, suc, ◌+◌, ◌-◌, ◌<◌, ◌≤◌, List, [], ◌∷◌, ◌++◌, replicate, length, take, drop, set, Option, Some, None, sym, ap, ap₂, ◌∙◌, arith, append_assoc, append-nil, take_all, drop-cons, length-append, length-drop, length-set, length-take}
 use Rattle.std.specs.Prelude.{option_to_list, slice_index}
 use Rattle.std.proofs.lemmas.List.{drop_all, length-replicate, take-append-drop, take_more, take_rest}
@@ -9,7 +10,7 @@ use Rattle.capnp_packing.proofs.UnpackingLemmas.{place_at_end-append, take_one, 
 use Rattle.capnp_packing.specs.declared.packing.place.Place.{Place}
 use Rattle.capnp_packing.specs.declared.packing.place.Place.TheVariants.{Tag}
 
--- ---- what one packed byte gives
+-- ---- what one packed byte unpacks to
 
 pub given_as : (place : Place) (b zeros : ℕ) (itself : Option ℕ) → itself ≡ byte_given place b → zeros ≡ zeros_given place b
     → all_given place b ≡ option_to_list itself ++ replicate zeros 0
@@ -72,7 +73,7 @@ filled place packed to all i given h l long before =
     sym (append-nil (take given to)) ∙ ap (λ l. take given to ++ unpacked_bytes place l) (sym (drop_all i packed h)) ∙ before in
     sym (take_all given to (omega (arith, ap length front, length_front given to l, long))) ∙ front
 
--- ---- how many bytes there are
+-- ---- the number of bytes
 
 pub counted : (packed : List ℕ) (i size n : ℕ) (place : Place) → i < length packed
     → size ≡ length (unpacked_bytes Tag (take i packed)) → place ≡ place_at_end Tag (take i packed)
@@ -103,7 +104,7 @@ beyond packed n most size is l =
     ap (unpacked_bytes Tag) (sym (take-append-drop n packed)) ∙ unpacked-append Tag (take n packed) (drop n packed) in
     omega (arith, ap length parts, length-append front rest, is, l)
 
--- ---- words at the front, and what stands behind them
+-- ---- words at the front, and what comes after them
 
 pub all_parts : (packed to : List ℕ) (t g z : ℕ) (place : Place) → GivesAndLeads Tag (take t packed) (take g to) z place
     → unpacked_bytes Tag packed ≡ (take g to ++ replicate z 0) ++ unpacked_bytes place (drop t packed)

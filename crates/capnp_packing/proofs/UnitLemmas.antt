@@ -1,4 +1,4 @@
--- What a tag and the bytes behind it give, where they are parts of slices.
+-- What a tag and the bytes after it unpack to, if they are parts of slices.
 use Rattle.std.proofs.Common.{◌≡◌, ℕ, suc, ◌+◌, ◌-◌, ◌*◌, ◌<◌, ◌≤◌, ◌≢◌, List, [], ◌∷◌, ◌++◌, replicate, length, take, drop, take-add, take_at, drop_at, take-take, drop-drop, drop-cons, ap₂, Option, Some, None, sym, ap, subst, ◌∙◌, arith, append_assoc, append-nil, length-append, length-take, length-drop}
 use Rattle.std.specs.Prelude.{slice_index, slice_range}
 use Rattle.std.specs.Io.KnownBytes.{Consumes, prepend_known}
@@ -46,7 +46,7 @@ parts_of bytes at end n l =
     ∙ ap₂ (λ (us vs : List ℕ). us ++ take (end - (at + n)) vs) (sym (take-take n (end - at) rest (omega (arith, l))))
     (drop-drop n at bytes)
 
--- n bytes that are ahead are taken
+-- n bytes that are ahead are consumed
 pub consumed : (bytes : List ℕ) (at end n : ℕ) (known : Option (List ℕ)) → at + n ≤ end
     → Consumes (prepend_known (slice_range bytes at end) known) (prepend_known (slice_range bytes (at + n) end) known)
     (take n (slice_range bytes at end))
@@ -55,7 +55,7 @@ consumed bytes at end n (Some more) l =
     ap (λ l. l ++ more) (parts_of bytes at end n l)
     ∙ append_assoc (take n (slice_range bytes at end)) (slice_range bytes (at + n) end) more
 
--- the first byte that is ahead is taken
+-- the first byte that is ahead is consumed
 pub byte_ahead : (bytes : List ℕ) (at end : ℕ) (known : Option (List ℕ)) → at < end → at < length bytes
     → Consumes (prepend_known (slice_range bytes at end) known) (prepend_known (slice_range bytes (at + 1) end) known)
     (slice_index bytes at ∷ [])
@@ -78,7 +78,7 @@ copied_ahead bytes copied rest to at end n l room long is =
     take_at copied rest n (long ∙ length_front n to room)
     ∙ is ∙ ap (λ m. take m (drop at bytes)) many ∙ sym (take-take n (end - at) (drop at bytes) (omega (arith, l)))
 
--- ---- words of zero
+-- ---- zero words
 
 pub zeros_unit : (more n : ℕ) (new rest to : List ℕ) → n ≤ length to → n ≤ 8 + 8 * more
     → new ≡ replicate (length (take n to)) 0
@@ -94,7 +94,7 @@ pub zeros_due : (place : Place) (n due : ℕ) (known : Option (List ℕ)) (new r
 zeros_due place n due known new rest to l m is =
     rw (zeros_written n new rest to l is) (takes_zeros place n due known m)
 
--- ---- words as they are
+-- ---- words copied unchanged
 
 whole_front : (packed : List ℕ) (k : ℕ) → 10 ≤ length packed
     → take (10 + k) packed ≡ slice_index packed 0 ∷ (take 8 (drop 1 packed) ++ slice_index packed 9 ∷ take k (drop 10 packed))
@@ -151,7 +151,7 @@ whole_run packed copied rest run m l full is mid there =
     full all
     (leads_counted (take (8 * slice_index packed 9) (drop 10 packed)) (slice_index packed 9) (ap length (sym there) ∙ many))
 
--- ---- a word behind its tag
+-- ---- a word after its tag
 
 pub word_unit : (packed new rest : List ℕ) (n : ℕ) → 10 ≤ length packed → slice_index packed 0 ≢ 0
     → slice_index packed 0 ≢ 255 → n ≡ ones 8 (slice_index packed 0) → n ≤ 8 → length new ≡ 8
@@ -166,7 +166,7 @@ word_unit packed new rest n l some few many most long is =
     rw (front, word, many)
     (leads_word (slice_index packed 0) (take 8 (drop 1 packed)) some few (omega (arith, word_long packed l, many, most)))
 
--- ---- one behind another
+-- ---- one after another
 
 pub unit_more : (packed to new : List ℕ) (taken given t n tail : ℕ) (place : Place) → given ≤ length to
     → n ≤ length new → GivesAndLeads Tag (take taken packed) (take given to) 0 Tag

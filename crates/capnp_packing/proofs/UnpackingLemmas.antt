@@ -1,4 +1,4 @@
--- What packed bytes give is the front of what is to come.
+-- What packed bytes unpack to is the front of the bytes to come.
 use Rattle.std.proofs.Common.{◌≡◌, ℕ, zero, suc, ◌+◌, ◌-◌, ◌*◌, ◌/◌, ◌%◌, ◌<◌, ◌≤◌, ◌≢◌, List, [], ◌∷◌, ◌++◌, replicate, length, take, Option, Some, None, refl, sym, ap, ◌∙◌, subst, arith, add-one, set, append_assoc, append-nil}
 use Rattle.std.specs.Prelude.{if◌then◌else◌, cond, nat_eq, nat_lt, option_to_list, slice_index}
 use Rattle.std.proofs.Math.Dec.{eqb-suc-zero}
@@ -10,20 +10,20 @@ use Rattle.capnp_packing.specs.Packing.{GivesAndLeads, KeepsEnd, all_given, byte
 use Rattle.capnp_packing.specs.declared.packing.place.Place.{Place}
 use Rattle.capnp_packing.specs.declared.packing.place.Place.TheVariants.{Tag, Kept, Zeros, Whole, Count, Raw}
 
--- Some bytes are taken from those to come, where so many bytes of zero are due before a place, and packed bytes stand
--- behind it.
+-- From one state to the other, `bytes` are consumed from the bytes to come. In the first state
+-- `due` zero bytes come first, and then what the packed bytes `old` unpack to from `place` on.
 abbrev pub Unpacks : ℕ → Place → Option (List ℕ) → ℕ → Place → Option (List ℕ) → List ℕ → Type 0
 Unpacks due place old more next new bytes =
     Consumes (bytes_behind due place old) (bytes_behind more next new) bytes × KeepsEnd place old next new
 
--- At most so many packed bytes give nothing from a place on.
+-- At most this many packed bytes in a row unpack to nothing, from a place on.
 abbrev pub rank : Place → ℕ
 rank Zeros = 2
 rank Count = 2
 rank Tag = 1
 rank _ = 0
 
--- ---- packed bytes behind others
+-- ---- packed bytes after others
 
 pub unpacked-append : (place : Place) (xs ys : List ℕ)
     → unpacked_bytes place (xs ++ ys) ≡ unpacked_bytes place xs ++ unpacked_bytes (place_at_end place xs) ys
@@ -57,7 +57,7 @@ front_given : (place next : Place) (xs ys bytes : List ℕ) (tail : ℕ) → Giv
 front_given place next xs ys bytes tail (a, b) =
     unpacked-append place xs ys ∙ rw (a, b) (append_assoc bytes (replicate tail 0) (unpacked_bytes next ys))
 
--- packed bytes are taken
+-- packed bytes are consumed
 pub takes : (place next : Place) (xs bytes : List ℕ) (tail : ℕ) (old new : Option (List ℕ))
     → GivesAndLeads place xs bytes tail next → Consumes old new xs → Unpacks 0 place old tail next new bytes
 takes place next xs bytes tail None new leads h = (tt, tt)
@@ -67,7 +67,7 @@ takes place next xs bytes tail (Some all) (Some rest) leads h = (
   sym (ap (place_at_end place) h ∙ place_at_end-append place xs rest ∙ ap (λ p. place_at_end p rest) leads.1),
 )
 
--- bytes of zero that are due are taken
+-- n zero bytes that are due are consumed
 pub takes_zeros : (place : Place) (n due : ℕ) (known : Option (List ℕ)) → n ≤ due
     → Unpacks due place known (due - n) place known (replicate n 0)
 takes_zeros place n due None l = (tt, tt)
@@ -79,7 +79,7 @@ takes_zeros place n due (Some packed) l =
       refl,
     )
 
--- packed bytes stay as they were
+-- packed bytes stay unchanged
 pub takes_none : (due : ℕ) (place : Place) (old new : Option (List ℕ)) → Keeps old new
     → Unpacks due place old due place new []
 takes_none due place None new h = (tt, tt)
@@ -132,7 +132,7 @@ byte_taken due more tail first place next all old mid new b itself none i t n be
     (then_none due 0 0 first place place all old mid [] (rw none at before) (takes_none 0 place old mid kept))
     (takes place (place_after place b) (b ∷ []) _ _ mid new (leads_byte place b) taken))
 
--- How many packed bytes give nothing at most, where so many zeros are due.
+-- The most packed bytes in a row that unpack to nothing, if `due` zero bytes are due.
 abbrev pub idle : ℕ → Place → ℕ
 idle due place = cond (nat_eq due 0) (suc (rank place)) 0
 
@@ -140,9 +140,9 @@ pub take_one : (xs : List ℕ) (b : ℕ) → 0 < length xs → take 1 (set xs 0 
 take_one [] b h = absurd (omega (arith, h))
 take_one (x ∷ xs) b h = refl
 
--- ---- words that are given as they stand
+-- ---- words copied unchanged
 
--- the place behind so many bytes of them, where so many were behind the first
+-- the place after `taken` of these bytes, if `left` come after the first of them
 abbrev pub place_behind : ℕ → ℕ → Place
 place_behind left taken = if nat_lt left taken then Tag else Raw (left - taken)
 
@@ -192,7 +192,7 @@ leads_whole (b ∷ c ∷ word) more bytes (suc n) place l h =
     leads_one (Whole (suc n)) (Whole n) place b ((c ∷ word) ++ more) ((c ∷ word) ++ bytes) 0 refl next
     (leads_whole (c ∷ word) more bytes n place (omega (arith, l)) h)
 
--- the word behind a tag of 255
+-- the word after a tag of 255
 pub full_word : (word more bytes : List ℕ) (place : Place) → length word ≡ 8 → GivesAndLeads Count more bytes 0 place
     → GivesAndLeads Tag (255 ∷ (word ++ more)) (word ++ bytes) 0 place
 unfolding unpacked_bytes place_at_end
@@ -223,12 +223,12 @@ pub leads_full : (word run : List ℕ) (n : ℕ) → length word ≡ 8 → lengt
     → GivesAndLeads Tag (255 ∷ (word ++ n ∷ run)) (word ++ run) 0 Tag
 leads_full word run n l m = full_word word (n ∷ run) run Tag l (leads_counted run n m)
 
--- ---- a word behind its tag
+-- ---- a word after its tag
 
 bit_below : (bits : ℕ) → bits % 2 < 2
 bit_below bits = omega arith
 
--- packed bytes from a bit on give the bytes of the word
+-- packed bytes from a bit on unpack to the bytes of the word
 abbrev Expands : ℕ → ℕ → List ℕ → Type 0
 Expands n bits packed =
     (replicate (lead n bits) 0 ++ unpacked_bytes (place_within n bits) (take (ones n bits) packed) ≡ expanded n bits packed)
@@ -280,7 +280,7 @@ leads_word t packed some few l =
       ap (λ p. place_at_end p (take (ones 8 t) packed)) next ∙ known.1,
     )
 
--- ---- words of zero
+-- ---- zero words
 
 pub leads_zeros : (n m : ℕ) (bytes : List ℕ) → m ≤ 8 + 8 * n → bytes ≡ replicate m 0
     → GivesAndLeads Tag (0 ∷ n ∷ []) bytes (8 + 8 * n - m) Tag

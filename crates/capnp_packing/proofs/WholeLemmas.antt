@@ -1,4 +1,4 @@
--- Packed bytes are as whole as before, whatever was taken of them.
+-- Packed bytes are as whole as before, after any of them are consumed.
 use Rattle.std.proofs.Common.{[], ◌≡◌, ◌↔◌, ◌∙◌, ℕ, List, Bool, true, false, Option, Some, None, IsTrue, ap, refl, sym}
 use Rattle.std.specs.Io.KnownBytes.{Consumes, IsAtEnd, Keeps}
 use Rattle.capnp_framing.specs.Wholeness.{KeepsWhole}
@@ -20,7 +20,7 @@ tag_tested false (Whole left) same = refl
 tag_tested false Count same = refl
 tag_tested false (Raw left) same = refl
 
--- where they have ended, the place says whether they are whole
+-- if they have ended, the place says whether they are whole
 pub whole_at_end : (place next : Place) (old new : Option (List ℕ)) (whole : Bool) → KeepsEnd place old next new → IsAtEnd new →
     IsTrue whole ↔ (next ≡ Tag) → KeepsWhole (whole_behind place old) (Some whole)
 unfolding place_at_end
@@ -30,7 +30,7 @@ whole_at_end place next (Some packed) (Some rest) whole kept end same =
     let there : next ≡ place_at_end place packed = sym (ap (place_at_end next) end) ∙ kept in
     ap (λ (b : Bool). Some b) (tag_tested whole next same) ∙ ap (λ (p : Place). Some (is_tag p)) there
 
--- what stays is taken from by no bytes
+-- if an input stays, no bytes of it are consumed
 pub none_taken : (old new : Option (List ℕ)) → Keeps old new → Consumes old new []
 none_taken None new kept = tt
 none_taken (Some bytes) None kept = absurd kept

@@ -1,4 +1,5 @@
--- A word behind its tag, four bytes at a time: each of the next packed bytes is multiplied into the place where its bit is set.
+-- A word after its tag, four bytes at a time: each of the next packed bytes is multiplied into the
+-- place of its bit in the tag.
 use Rattle.std.proofs.Common.{◌≡◌, ℕ, zero, suc, ◌+◌, ◌-◌, ◌*◌, ◌/◌, ◌%◌, ◌^◌, ◌<◌, ◌≤◌, List, [], ◌∷◌, ◌++◌, length, take, drop, Fits, w8, refl, sym, ap, ap₂, ◌∙◌, arith, append-nil, take_at, drop-drop, get_or-drop, length-drop}
 use Rattle.std.specs.Prelude.{slice_index, slice_index_or}
 use Rattle.std.specs.Int.{from_le_bytes, to_le_bytes, w32}
@@ -96,7 +97,7 @@ last_is bits x b packed few fits is same =
     rw same (le_bytes_4 (expanded 4 bits packed) _ (length-expanded 4 bits packed) (expanded_small 4 bits packed small)
     (last_small bits x packed few (small 0) is))
 
--- ---- how many are packed
+-- ---- the number of packed bytes
 
 abbrev bound : ℕ → ℕ
 bound zero = 1
@@ -110,7 +111,7 @@ counted (suc n) bits h = omega (arith, ones_step bits, counted n (bits / 2) (ome
 pub counted_word : (tag : ℕ) → tag < 256 → count_ones tag ≡ ones 8 tag
 counted_word tag h = counted 8 tag h
 
--- what is behind the low half is long enough for the other
+-- what comes after the low half is long enough for the other
 pub behind_long : (tag : ℕ) (packed : List ℕ) → length packed ≡ 8
     → 4 ≤ length (take (length packed - count_ones (tag % 16)) (drop (count_ones (tag % 16)) packed))
 behind_long tag packed long =
