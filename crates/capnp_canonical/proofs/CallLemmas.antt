@@ -1,4 +1,5 @@
--- A call isn't refused where there is an answer, nor for want of room where the size says that there is enough.
+-- A call isn't refused if there is an answer, nor for lack of room if the size says that there is
+-- enough.
 use Rattle.std.proofs.Common.{◌≡◌, ◌≢◌, ◌⊎◌, inl, inr, ℕ, zero, suc, ◌+◌, ◌*◌, ◌<◌, ◌≤◌, ◌^◌, List, [], ◌∷◌, All, length, get_or, take, Result, Ok, Err}
 use Rattle.std.proofs.Common.{◌↔◌, Bool, true, false, Option, None, Some, IfSome, IsNone, is_some, not}
 use Rattle.std.proofs.Common.{refl, sym, ap, ◌∙◌, subst, arith}
@@ -35,7 +36,7 @@ use Rattle.capnp_canonical.specs.declared.refusal.Refusal.TheVariants.{Layout}
 use Rattle.capnp_canonical.proofs.FrameLemmas.{length-bytes, length_frame}
 use Rattle.capnp_canonical.proofs.NumberLemmas.{error_number_above}
 
--- bytes that are put to the front of a buffer, where more is said of them
+-- if Q follows from P, a buffer that is filled with bytes for P is filled with bytes for Q
 pub fills_weaker : {result : Result ℕ Refusal} {old new : List ℕ} {P Q : List ℕ → Type 0} →
     ((bytes : List ℕ) → P bytes → Q bytes) → Fills result old new P → Fills result old new Q
 fills_weaker {result = result} {new = new} more fills = record {
@@ -64,7 +65,7 @@ fills_refused fills some = record {
   kept = λ refused. fills.kept;
 }
 
--- the words of a message that has a frame are of 64 bits
+-- the words of a message that has a frame have 64 bits
 word_small : (ws : List ℕ) (p : ℕ) → AreSegmentWords ws → get_or ws p 0 < 2 ^ 64
 word_small [] p all = omega arith
 word_small (w ∷ ws) zero all = all 0 0 (omega arith)
@@ -75,7 +76,7 @@ are_words [] all s p = omega arith
 are_words (ws ∷ S) all zero p = word_small ws p (all 0 [] (omega arith))
 are_words (ws ∷ S) all (suc s) p = are_words S (λ k d less. all (suc k) d (omega arith)) s p
 
--- bytes begin with the frame of one message at most, and are not refused then
+-- bytes begin with the frame of at most one message, and then aren't refused
 same_message : {bytes : List ℕ} {words : ℕ} {S T : Segments} →
     BeginsWithFrame bytes words S → BeginsWithFrame bytes words T → S ≡ T
 same_message {S = S} {T = T} s t =
@@ -89,7 +90,7 @@ frame_begins {words = words} {S = S} (inr (e, named, none)) begins =
     frame_is_read S begins.front begins.behind words e begins.framed begins.short
     (subst (λ (bs : List ℕ). NoFrame bs words e) begins.is none)
 
--- A refusal and an answer speak of one message.
+-- A refusal and an answer are about the same message.
 pub where_framed : {bytes : List ℕ} {words : ℕ} {r : Refusal} {P Q : Segments → Type 0} {X : Type 0} →
     ((S : Segments) → AreWords S → P S → Q S → X) →
     RefusesBytes bytes words r ⊎ InFrame bytes words P → InFrame bytes words Q → X
@@ -110,7 +111,7 @@ where_words bytes both (inl (inl (named, uneven))) (one, q) = absurd (uneven one
 where_words bytes both (inl (inr (named, large))) (one, q) = absurd (large one.1)
 where_words bytes both (inr (same, p)) (one, q) = both p q
 
--- what the test of a message finds, and what is told of it
+-- what the test of a message finds, and what is reported about it
 pub test_finds : (limits : ReaderOptions) (S : Segments) (o : Option CanonicalFault) →
     (IsNone o ↔ IsCanonicalMessage S) → IfSome o (IsFaultOf S limits) → TestFinds limits o S
 test_finds limits S None exactly fault = exactly.0 refl
@@ -124,14 +125,14 @@ test_told limits S told None false e m n h = absurd (let wrong : false ≡ true 
 test_told limits S told (Some f) true e m n h = absurd (let wrong : true ≡ false = e in cc)
 test_told limits S told (Some f) false e m n h = (h.0, (f, h.1, m))
 
--- a copy of a value that fits is refused for want of memory or of room alone
+-- the copy of a value that fits is refused only for lack of memory or room
 pub room_granted : (form : Form) (limits : ReaderOptions) (room : ℕ) {r : Refusal} (S : Segments) →
     RefusesRoom form limits room S r → HasAnswerWithin (Canon form) limits S → IsGranted (answer_number r)
 room_granted form limits room S (inl (k, named, refused)) can =
     inr (inr (ap answer_number (named ∙ ap Layout (answer_refused (Canon form) limits S can refused))))
 room_granted form limits room S (inr (bytes, copy, named, less)) can = inr (inl (ap answer_number named))
 
--- and not for want of room where the size says that there is enough
+-- and not for lack of room if the size says that there is enough
 pub copy_bytes : (form : Form) (words : List ℕ) → length (form_bytes form words) ≡ table_bytes form + 8 * length words
 copy_bytes Framed words = omega (arith, length_frame words (bytes_of_words words) refl, length-bytes words)
 copy_bytes Flat words = omega (arith, length-bytes words)
@@ -154,7 +155,7 @@ room_enough form limits room n caps wide S words (inl (k, named, refused)) size 
 room_enough form limits room n caps wide S words (inr (bytes, copy, named, less)) size =
     λ is. omega (arith, copy_within form limits n caps S words copy size)
 
--- a test of a message that can be read is not refused, nor is a size that there is
+-- the test of a message that can be read isn't refused, nor is a size that exists
 pub check_granted : (limits : ReaderOptions) {r : Refusal} (S : Segments) →
     RefusesMeaning Check limits S r → HasAnswerWithin Check limits S → ⊥
 check_granted limits S (k, named, refused) can = check_refused S limits (can refused.0) refused
@@ -163,7 +164,7 @@ pub size_granted : (limits : ReaderOptions) {r : Refusal} (S : Segments) →
     RefusesMeaning Size limits S r → HasAnswerWithin Size limits S → ⊥
 size_granted limits S (k, named, refused) has = size_refused S limits has refused
 
--- where all that is asked is that there is a frame
+-- a call that requires only a frame isn't refused if there is one
 pub frame_granted : {bytes : List ℕ} {words : ℕ} {r : Refusal} {P : Segments → Type 0} →
     RefusesBytes bytes words r → InFrame bytes words P → ⊥
 frame_granted none (S, begins, p) = frame_begins none begins

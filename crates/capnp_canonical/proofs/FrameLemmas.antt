@@ -23,7 +23,7 @@ frame_put words seg to h same table =
     ∙ ap (λ (xs : List ℕ). xs ++ seg) (table ∙ ap (λ n. 0 ∷ 0 ∷ 0 ∷ 0 ∷ to_le_bytes w32 n) count)
     ∙ ap (λ (xs : List ℕ). 0 ∷ 0 ∷ 0 ∷ 0 ∷ (to_le_bytes w32 (length words) ++ xs)) (same ∙ sym (append-nil (bytes_of_words words)))
 
--- what stands behind it stays
+-- what comes after it stays
 pub frame_behind : (seg to h : List ℕ) → length h ≡ 8
     → drop (8 + length seg) (put_mid 8 (8 + length seg - 8) (h ++ drop 8 to) seg) ≡ drop (8 + length seg) to
 frame_behind seg to h eight =

@@ -1,4 +1,4 @@
--- The number of a refusal, and of a reason, is that of its place among all of them.
+-- The number of a refusal, and of a reason, is its position among all of them.
 use Rattle.std.proofs.Common.{◌≡◌, ℕ, zero, suc, ◌+◌, ◌-◌, ◌<◌, ◌≤◌, List, [], ◌∷◌, length, slice_index_or}
 use Rattle.std.proofs.Common.{refl, subst, arith}
 use Rattle.capnp_words.specs.Names.{name_of}
@@ -96,7 +96,7 @@ frame_error_below ReadFailed = omega arith
 frame_error_below WriteFailed = omega arith
 frame_error_below NoMemory = omega arith
 
--- a refusal of what a message means is none for want of room
+-- a refusal for what a message means isn't one for lack of room
 pub error_number_above : (k : ErrorKind) → 32 ≤ error_number k
 error_number_above AllocationFailed = omega arith
 error_number_above CannotCreateACanonicalMessageWithACapability = omega arith
@@ -143,7 +143,7 @@ kind_named n d (Frame e) low is = absurd (omega (arith, frame_error_below e))
 kind_named n d (Layout k) low is =
     subst (λ m. name_of (slice_index_or kinds (m - 32) d) ≡ name_of k) is (kind_at d k)
 
--- the refusal of what a message means that has a number
+-- the refusal for what a message means, by its number
 pub kind_found : (n : ℕ) (d : ErrorKind) → 32 ≤ n → n ≤ 66 →
     (error_number (slice_index_or kinds (n - 32) d) ≡ n)
     × ((r : Refusal) → answer_number r ≡ n → name_of (slice_index_or kinds (n - 32) d) ≡ answer_name r)
@@ -250,7 +250,7 @@ reason_at d ElementData = refl
 reason_at d ElementPointers = refl
 reason_at d WordsBehind = refl
 
--- the text of the reason that has a number
+-- the text of a reason, by its number
 pub reason_found : (n : ℕ) (d : CanonicalFaultReason) → 1 ≤ n → n ≤ 14 →
     IsTextOf reason_number fault_reason_text n (fault_reason_text (slice_index_or reasons (n - 1) d))
 reason_found n d low high = (

@@ -1,4 +1,4 @@
--- Zero bytes, part by part, and what is written part by part.
+-- Zero bytes in parts, and what is written in parts.
 use Rattle.std.proofs.Common.{◌≡◌, ◌↔◌, ℕ, zero, suc, ◌+◌, ◌-◌, ◌*◌, ◌/◌, ◌≤◌, Bool, false, IsTrue, List, [], ◌∷◌, ◌++◌, length, take, drop, replicate, refl, sym, ap, ap₂, ◌∙◌, arith, length-take, length-drop, take-append-drop, take-add, take_all, append-nil, append_assoc}
 use Rattle.std.specs.List.{All}
 use Rattle.std.proofs.lemmas.Bool.{false≢true}
@@ -16,7 +16,7 @@ use lib.Lanes.{fold_l, chunk, put_chunk}
 abbrev pub IsZeroByte : ℕ → Type 0
 IsZeroByte byte = byte ≡ 0
 
--- All lanes or-ed are zero exactly where each is.
+-- All lanes combined by or are zero exactly if each is zero.
 or_zero : (a : ℕ) (xs : List ℕ) → fold_l bit_or a xs ≡ 0 → (a ≡ 0) × All IsZeroByte xs
 or_zero a [] e = (e, All-nil IsZeroByte)
 or_zero a (x ∷ xs) e =
@@ -30,22 +30,22 @@ zero_or a (x ∷ xs) e h = zero_or (bit_or a x) xs (ap₂ bit_or e (All-head IsZ
 pub all_or : (xs : List ℕ) → (fold_l bit_or 0 xs ≡ 0) ↔ All IsZeroByte xs
 all_or xs = ((λ e. (or_zero 0 xs e).1), (λ h. zero_or 0 xs refl h))
 
--- a part more
+-- one part more
 pub zero_so_far : (at n : ℕ) (bs : List ℕ) → All IsZeroByte (take at bs) → All IsZeroByte (take n (drop at bs)) → All IsZeroByte (take (at + n) bs)
 zero_so_far at n bs h k = All-same IsZeroByte (take (at + n) bs) (take at bs ++ take n (drop at bs)) (take-add at n bs) (All-append IsZeroByte (take at bs) (take n (drop at bs)) h k)
 
--- a part that is not zero
+-- a part that isn't zero
 pub not_zero : {b : Bool} (at n : ℕ) (bs : List ℕ) → IsTrue b ↔ All IsZeroByte (take n (drop at bs)) → b ≡ false → IsTrue false ↔ All IsZeroByte bs
 not_zero at n bs f e = ((λ t. absurd (false≢true t)), (λ a. absurd (false≢true (sym e ∙ f.1 (All-take IsZeroByte n (drop at bs) (All-drop IsZeroByte at bs a))))))
 
--- all behind parts that are zero
+-- all bytes after parts that are zero
 pub zero_behind : {b : Bool} {rest : List ℕ} (at : ℕ) (bs : List ℕ) → All IsZeroByte (take at bs) → rest ≡ drop at bs → IsTrue b ↔ All IsZeroByte rest → IsTrue b ↔ All IsZeroByte bs
 zero_behind {rest = rest} at bs h e f = (
   (λ t. All-same IsZeroByte bs (take at bs ++ rest) (sym (take-append-drop at bs) ∙ ap (λ xs. take at bs ++ xs) (sym e)) (All-append IsZeroByte (take at bs) rest h (f.0 t))),
   (λ a. f.1 (All-same IsZeroByte rest (drop at bs) e (All-drop IsZeroByte at bs a))),
 )
 
--- words of zero at the end
+-- zero words at the end
 
 zeros : (bs : List ℕ) → All IsZeroByte bs → bs ≡ replicate (length bs) 0
 zeros [] h = refl
@@ -70,11 +70,11 @@ used_before_block end bs some l h =
     ∙ ap (λ xs. used_words (take m ws ++ xs)) eight
     ∙ used-zeros 8 (take m ws)
 
--- all words are those before their end
+-- the used words are those of the whole words
 pub used_all : (bs : List ℕ) → used_words (words_of bs) ≡ used_words (take (length bs / 8) (words_of bs))
 used_all bs = ap used_words (sym (take_all (length bs / 8) (words_of bs) (omega (arith, words bs))))
 
--- bytes that are written part by part, the last part up to the end
+-- bytes that are written in parts, the last part up to the end
 
 pub zeroed_last : (at n : ℕ) (bs : List ℕ) → n ≤ length bs → length bs ≤ at + n → at ≤ length bs → take at bs ≡ replicate at 0 → put_chunk (length bs - n) bs (replicate n 0) ≡ replicate (length bs) 0
 zeroed_last at n bs l m inside e =
@@ -87,7 +87,7 @@ zeroed_last at n bs l m inside e =
     ∙ replicate-append-replicate i n 0
     ∙ ap (λ k. replicate k 0) (let g : i + n ≡ length bs = omega arith in g)
 
--- by two parts, from the front and up to the end
+-- bytes zeroed in two parts, from the front and up to the end
 pub zeroed_ends : (n : ℕ) (bs : List ℕ) → n ≤ length bs → length bs ≤ n + n → put_chunk (length bs - n) (put_chunk 0 bs (replicate n 0)) (replicate n 0) ≡ replicate (length bs) 0
 zeroed_ends n bs l m =
     let cs : List ℕ = put_chunk 0 bs (replicate n 0) in

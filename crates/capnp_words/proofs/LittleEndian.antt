@@ -33,7 +33,7 @@ one_set _ x l = absurd (omega arith)
 
 pub ruleset little_endian = (one_byte, two_bytes, four_bytes, eight_bytes, one_written)
 
--- what is read of bytes
+-- what reading the bytes bs with width w shows
 pub record Read (w : Width) (bs : List ℕ) : Type 0 where
   pub again : to_le_bytes w (from_le_bytes w bs) ≡ bs
   pub number : from_le_bytes w bs ≡ from_digits 256 bs
@@ -52,7 +52,7 @@ read_4 bs l small = record { again = le_bytes_4 bs _ l small refl; number = four
 pub read_8 : (bs : List ℕ) → length bs ≡ 8 → ((i : ℕ) → get_or bs i 0 < 256) → Read w64 bs
 read_8 bs l small = record { again = le_bytes_8 bs _ l small refl; number = eight_bytes bs l; below = omega (arith, small 0, small 1, small 2, small 3, small 4, small 5, small 6, small 7) }
 
--- what is written of a number
+-- what writing the number n with width w shows
 pub record Written (w : Width) (n : ℕ) : Type 0 where
   pub again : from_le_bytes w (to_le_bytes w n) ≡ n
   pub number : from_digits 256 (to_le_bytes w n) ≡ n
@@ -75,13 +75,13 @@ written_8 n l =
     let e = from_le_bytes-to_le_bytes_8 n l in
     record { again = e; number = sym (eight_bytes (to_le_bytes w64 n) refl) ∙ e }
 
--- a number with a sign that is read of bits
+-- a signed number that is read from bits
 pub signed_value : (w : Width) (z : ℤ) (n : ℕ) → z ≡ to_z w n → n < 2 ^ bits w → to_z w (of_z w z) ≡ to_z w n
 signed_value w z n e l = ap (λ y. to_z w (of_z w y)) e ∙ ap (to_z w) (of_z-to_z w n l)
 
 pub signed_bits : (w : Width) (z : ℤ) (n : ℕ) → z ≡ to_z w n → n < 2 ^ bits w → of_z w (to_z w (of_z w z)) ≡ n
 signed_bits w z n e l = ap (of_z w) (signed_value w z n e l) ∙ of_z-to_z w n l
 
--- the bits of one that is passed on
+-- the bits of a signed number that is passed on
 pub passed_bits : (w : Width) (z : ℤ) → SFits w z → of_z w (to_z w (of_z w z)) ≡ of_z w z
 passed_bits w z f = ap (of_z w) (to_z-of_z w z f)

@@ -1,4 +1,4 @@
--- Pointer words put together of their fields, and offsets.
+-- Pointer words composed from their fields, and offsets.
 use Rattle.std.proofs.Common.{◌≡◌, ℕ, suc, ◌+◌, ◌*◌, ◌%◌, ◌^◌, ◌<◌, ◌≤◌, ℤ, pos, negsuc, ◌+ℤ◌, ◌-ℤ◌, to_z, of_z, ap, ap₂, ◌∙◌, arith}
 use Rattle.std.specs.Int.{w32, w64}
 use Rattle.std.proofs.lemmas.Bool.Decides.{nat_tests}
@@ -18,7 +18,7 @@ halves low upper l m =
     ∙ or_shifted upper 32 low l
     ∙ (let e : upper * 2 ^ 32 + low ≡ low + 2 ^ 32 * upper = omega arith in e)
 
--- lower bits beside a number that is shifted past them
+-- lower bits next to a number that is shifted past them
 pub beside : (n k m : ℕ) (low : ℕ) → n < 2 ^ m → m + k ≤ 64 → low < 2 ^ k → bit_or (n * 2 ^ k % 2 ^ 64) low ≡ n * 2 ^ k + low
 beside n k m low l fits small = ap (λ x. bit_or x low) (shl_whole n m k 64 l fits) ∙ or_shifted n k low small
 

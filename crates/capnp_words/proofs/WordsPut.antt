@@ -43,7 +43,7 @@ part_of_front i k m bs l =
     let e : m ≡ i + (m - i) = omega arith in
     ap (λ j. take k (drop i (take j bs))) e ∙ ap (take k) (drop-take i (m - i) bs) ∙ take-take k (m - i) (drop i bs) (omega arith)
 
--- words copied to a place behind them
+-- words copied to a later place
 pub words_of-copied_behind : (f t n k : ℕ) (bs ys : List ℕ) → ys ≡ take k (drop (8 * f) (take (8 * t) bs)) → k ≡ 8 * n → f + n ≤ t → 8 * (t + n) ≤ length bs → words_of (put_mid (8 * t) (8 * n) bs ys) ≡ put_mid t n (words_of bs) (take n (drop f (words_of bs)))
 words_of-copied_behind f t n k bs ys e m below l =
     let part : ys ≡ take k (drop (8 * f) bs) = e ∙ part_of_front (8 * f) k (8 * t) bs (omega arith) in

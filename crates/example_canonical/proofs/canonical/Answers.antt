@@ -2,7 +2,7 @@ use Rattle.std.proofs.Common.{rules}
 use Rattle.std.proofs.lemmas.List.{length-map}
 use Rattle.example_canonical.proofs.canonical.Goals as goal
 
--- The copy is all of a message of one word that has one segment still.
+-- The copy is the whole message, which had one word and still has one segment.
 pub returns : goal.returns
 returns c =
     let whole = c.in_ok-copy_from.ensures.alone (search rules) in

@@ -4,7 +4,7 @@ use Rattle.capnp_format.specs.Canonical.{used_words}
 use Rattle.capnp_format.proofs.WordsOf.{words, words_of-take}
 use Rattle.capnp_words.proofs.words.used.Goals as goal
 
--- what is found in the whole words is found in all
+-- what is found in the whole words is found in all words
 found : (n : ℕ) (bs : List ℕ) → n + used_words (words_of (take (8 * (length bs / 8)) bs)) ≡ length (words_of (take (8 * (length bs / 8)) bs)) → n + used_words (words_of bs) ≡ length (words_of bs)
 found n bs h =
     let same : words_of (take (8 * (length bs / 8)) bs) ≡ words_of bs = words_of-take (length bs / 8) bs (omega arith) ∙ take_all (length bs / 8) (words_of bs) (omega (arith, words bs)) in
