@@ -1,21 +1,21 @@
 #!/usr/bin/env python3
-"""The gate: the names of definitions, what pages quote of the sources, what the header for C says, `rt ci`, and then the
-must-fail edits over the libraries, and the outside vectors, the rows, the hostile runs and the streams over the programs
-that it has just proved and built.
+"""The gate. Checks the names of definitions, the quotations in pages and the header for C. Then runs `rt ci`, which proves
+and builds everything; tries the mutants with the libraries that it built; and runs the outside vectors, the cases, the
+hostile runs and the streams with the programs that it built.
 
     gate.py [--anew]
 
-With --anew `rt ci` proves all again, also what passed before on this machine. A toolchain that keeps nothing between runs
-doesn't have the word, and always does so.
+With --anew, `rt ci` proves everything again, including what passed before on this machine. A toolchain that keeps nothing
+between runs doesn't know the option, and proves everything anyway.
 
-Shows what all print. Each ends in a line `N passed, M failed`, which is shown behind its name; the last line of
-all is `N passed, M failed` of them together, and the exit status is 0 exactly where M is 0.
+Shows what each part prints. Each part ends with a line `N passed, M failed`, which is shown after the name of the part.
+The last line is the sum of all. The exit status is 0 exactly if nothing failed.
 
-`rt ci` begins with no `out/` folder, and leaves there the programs that it built. A program of an earlier run is
-removed before, so that the new one is run or none: then that is one failure.
+`rt ci` starts without `out/` folders and leaves there the programs that it built. Programs of earlier runs are removed
+first, so that no old program is tested. A part whose program is missing counts as one failure.
 
-It is told to check one crate a processor, in one job each (RT_JOBS, where that isn't set already): shared among four
-jobs, the first check of capnp_words took a third more of the processors' time."""
+`rt ci` checks one crate per processor, each in one job (RT_JOBS, unless that is set already). With four jobs for one
+crate, the first check of capnp_words took a third more processor time."""
 import os
 import pathlib
 import re
@@ -23,17 +23,17 @@ import shutil
 import subprocess
 import sys
 
-from edits.run import side_by_side
+from mutants.run import side_by_side
 
 TOP = pathlib.Path(__file__).resolve().parents[1]
-TOOL, ROWS, RUNS, CANON, STREAM_RUNS = PROGRAMS = [
+TOOL, CASES, RUNS, CANON, STREAM_RUNS = PROGRAMS = [
     TOP / f'crates/{name}/out/{name}' for name in ('layout_tool', 'layout_rows', 'layout_runs', 'capnp_canon', 'stream_runs')
 ]
-# What is run over programs that `rt ci` built: its name, the script, and the programs.
+# What runs with programs that `rt ci` built: the name of the part, its script and the programs.
 OVER_PROGRAMS = (
     ('vectors', TOP / 'tests/vectors/run.py', (TOOL,)),
-    ('rows', TOP / 'tests/rows/run.py', (ROWS,)),
-    ('hostile', TOP / 'tests/hostile/run.py', (RUNS, ROWS)),
+    ('cases', TOP / 'tests/cases/run.py', (CASES,)),
+    ('hostile', TOP / 'tests/hostile/run.py', (RUNS, CASES)),
     ('streams', TOP / 'tests/streams/run.py', (CANON, STREAM_RUNS)),
 )
 COUNTS = re.compile(r'(\d+) passed, (\d+) failed')
@@ -51,8 +51,8 @@ def remove(path):
 
 
 def counted(name, command, **settings):
-    """Runs a command, shows what it prints, and returns how many passed and failed, by its last line. An exit status
-    that says otherwise, or a run that counts nothing, is one more failure."""
+    """Runs a command, shows what it prints, and returns how many passed and failed according to its last line. If the exit
+    status contradicts that, or nothing was counted, that is one more failure."""
     last = ''
     try:
         with subprocess.Popen(command, cwd=TOP, env={**settings, **os.environ}, stdin=subprocess.DEVNULL, stdout=subprocess.PIPE, encoding='utf-8', errors='surrogateescape') as run:
@@ -64,17 +64,17 @@ def counted(name, command, **settings):
         return 0, 1
     found = COUNTS.fullmatch(last)
     if not found:
-        say(f'{name}: ended with status {run.returncode}, and no count in its last line')
+        say(f'{name}: ended with status {run.returncode}, without a count in its last line')
         return 0, 1
     passed, failed = int(found[1]), int(found[2])
     if failed == 0 and (run.returncode or not passed):
-        say(f'{name}: ended with status {run.returncode} where {passed} passed and none failed, which is a failure')
+        say(f'{name}: ended with status {run.returncode} although {passed} passed and none failed, which is a failure')
         failed = 1
     return passed, failed
 
 
 def proving(words):
-    """The command that proves all, with those of these words that the toolchain has."""
+    """The command that proves everything, with those of these options that the toolchain knows."""
     told = subprocess.run(['rt', 'help'], stdin=subprocess.DEVNULL, stdout=subprocess.PIPE, stderr=subprocess.STDOUT, encoding='utf-8', errors='replace').stdout
     return ['rt', 'ci', *(word for word in words if word in told)]
 
@@ -82,13 +82,13 @@ def proving(words):
 def over_programs(name, script, programs):
     for program in programs:
         if not program.is_file():
-            say(f'{name}: not run, since no {program.relative_to(TOP)} was built')
+            say(f'{name}: not run, because {program.relative_to(TOP)} was not built')
             return 0, 1
     return counted(name, [sys.executable, str(script), *map(str, programs)])
 
 
 def main():
-    # as it came, whatever the locale
+    # bytes pass unchanged in every locale
     sys.stdout.reconfigure(encoding='utf-8', errors='surrogateescape')
     if sys.argv[1:] not in ([], ['--anew']):
         sys.exit(__doc__)
@@ -99,7 +99,7 @@ def main():
         counted('pages', [sys.executable, str(TOP / 'tools/theorem.py'), '--check']),
         counted('header', [sys.executable, str(TOP / 'tests/library/header.py')]),
         counted('rt ci', proving(sys.argv[1:]), RT_JOBS=str(side_by_side())),
-        counted('edits', [sys.executable, str(TOP / 'tests/edits/run.py')]),
+        counted('mutants', [sys.executable, str(TOP / 'tests/mutants/run.py')]),
         *(over_programs(*it) for it in OVER_PROGRAMS),
     ]
     passed, failed = (sum(it) for it in zip(*parts))

@@ -49,7 +49,7 @@ PHRASES = {
     ', as ..': (22, r', as (?!if\b|an? |well\b|in\b|of\b|the \w+ of\b)\w+'),
 }
 COMMENT = {'.rt': '//', '.rs': '//', '.antt': '--', '.c': '//', '.h': '//', '.hpp': '//', '.cpp': '//', '.c++': '//', '.js': '//', '.sh': '#', '.bash': '#', '': '#', '.toml': '#', '.txt': '#'}
-LEFT_OUT = re.compile(r'(?:^|/)(?:out|generated)/|^LICENSE$|^HANDLES$|\.(?:jsonl|edit|in|json)$')
+LEFT_OUT = re.compile(r'(?:^|/)(?:out|generated)/|^LICENSE$|^HANDLES$|\.(?:jsonl|mutant|in|json)$')
 
 
 def files(within):

@@ -16,7 +16,7 @@ A page says what is quoted in a line of its own; the quotation stands behind tha
     <!-- notation -->                           of docs/THEOREM.md: the words of the standard library in these definitions and clauses
     <!-- elsewhere N -->                        of docs/THEOREM.md: what the clauses of section N cite that isn't printed there, and where it stands
     <!-- count N -->                            how many definitions that are, in how many lines; all parts, without a number
-    <!-- tries -->                              how many edits, vectors, rows and streams the gate tries
+    <!-- tries -->                              a table of the tests: how many mutants, vectors, cases and streams there are
 """
 import functools
 import re
@@ -225,11 +225,11 @@ def lines_of(pattern, without=''):
 
 def tries():
     rows = (
-        ('bugs that the prover refuses, tried by `./test --every-edit`', '`tests/edits/`', len(list(TOP.glob('tests/edits/*/*.edit')))),
-        ('of these, tried by the gate', '`tests/edits/gate.txt`', len((TOP / 'tests/edits/gate.txt').read_text(encoding='utf-8').split())),
-        ('outside vectors', '`tests/vectors/`', lines_of('tests/vectors/*.jsonl', 'worked.jsonl')),
+        ('mutants: bugs planted in the source, each refused by the prover (`./test --every-mutant` tries all)', '`tests/mutants/`', len(list(TOP.glob('tests/mutants/*/*.mutant')))),
+        ('mutants that the gate tries', '`tests/mutants/gate.txt`', len((TOP / 'tests/mutants/gate.txt').read_text(encoding='utf-8').split())),
+        ('vectors: messages with answers from outside of this repository', '`tests/vectors/`', lines_of('tests/vectors/*.jsonl', 'worked.jsonl')),
         ('worked runs of `layout_tool`', '`tests/vectors/worked.jsonl`', lines_of('tests/vectors/worked.jsonl')),
-        ('rows: calls of readers, builders and edits', '`tests/rows/`', lines_of('tests/rows/*.jsonl')),
+        ('cases: calls of readers and builders, and edits, as lines of text', '`tests/cases/`', lines_of('tests/cases/*.jsonl')),
         ('runs of `capnp_canon`', '`tests/streams/`', lines_of('tests/streams/*.jsonl')),
     )
     return ['| What | Where | How many |', '|---|---|---|', *(f'| {what} | {where} | {number:,} |' for what, where, number in rows)]

@@ -1,16 +1,17 @@
 #!/usr/bin/env python3
-"""Runs a built capnp_canon over streams of messages, and prints what differs.
+"""Runs a built capnp_canon on streams of messages, and prints the runs that went wrong.
 
     run.py CAPNP_CANON STREAM_RUNS [--limit SECONDS] [--show N]
 
-- Each line of a .jsonl file is one run: its arguments, its whole input, its files where it has any, and the output that is
-  wanted, all three in hex digits, standard error and the exit status. Those of peer.jsonl are real messages, with what C++ Cap'n Proto 0.9.2 answers
-  (tests/peer/rows.py). Those of worked.jsonl were worked out by hand from the encoding specification.
-- vectors.py makes streams of the vectors of tests/vectors, whose answers were made apart from this repository.
-- devices.py has standard input and output that fail, little memory, and how much of it a run takes.
-- coprocess.py asks for each answer before it writes more.
-- hostile.py has STREAM_RUNS, a program over the same engine, make runs whose devices fail at each call in turn, of a
-  stream that is cut behind each byte and has each bit turned."""
+- Each line of a .jsonl file is one case: a run with its arguments, its input, its files if it has any, and the expected
+  output (these three in hex digits), standard error and exit status. The cases of peer.jsonl are real messages with the
+  answers of C++ Cap'n Proto 0.9.2 (tests/peer/cases.py). Those of worked.jsonl were worked out by hand from the encoding
+  specification.
+- vectors.py makes streams from the vectors of tests/vectors, whose answers were made outside of this repository.
+- devices.py lets standard input and output fail, limits memory, and checks how much memory a run takes.
+- coprocess.py waits for each answer before it writes the next message.
+- hostile.py uses STREAM_RUNS, a program with the same engine. Its devices fail at each call in turn, and its streams are
+  cut short after each byte and have each bit flipped."""
 import argparse
 import pathlib
 import sys
@@ -36,7 +37,7 @@ def main():
     program = Program(options.canon, options.limit)
     counts = Counts(options.show)
     for name, part in (
-        ('rows', lambda: stored(program, counts)),
+        ('cases', lambda: stored(program, counts)),
         ('vectors as streams', lambda: vectors.streams(program, counts)),
         ('devices', lambda: devices.failing(program, counts)),
         ('little memory', lambda: devices.scarce(program, counts)),

@@ -21,17 +21,17 @@ class Program:
             return b'', 'no end', ''
         return run.stdout, run.returncode, run.stderr.decode('utf-8', 'replace')
 
-    def run_row(self, row):
-        """The run that a row of a .jsonl file asks for, in a folder that has its files and no others."""
-        data = bytes.fromhex(row['input'])
-        if 'files' not in row:
-            return self.run(row['args'], data)
+    def run_case(self, case):
+        """The run that a case of a .jsonl file describes, in a folder that has its files and no others."""
+        data = bytes.fromhex(case['input'])
+        if 'files' not in case:
+            return self.run(case['args'], data)
         with tempfile.TemporaryDirectory(prefix='streams-') as folder:
-            for name, content in row['files'].items():
+            for name, content in case['files'].items():
                 path = pathlib.Path(folder) / name
                 path.parent.mkdir(exist_ok=True)
                 path.write_bytes(bytes.fromhex(content))
-            return self.run(row['args'], data, cwd=folder)
+            return self.run(case['args'], data, cwd=folder)
 
 
 def same(counts, what, args, wanted, got):
@@ -46,10 +46,10 @@ def stored(program, counts):
     """Makes the stored runs."""
     for path in sorted(HERE.glob('*.jsonl')):
         for number, line in enumerate(path.open(encoding='utf-8'), 1):
-            row = json.loads(line)
-            wanted = bytes.fromhex(row['output']), row['status'], row['stderr']
-            got = program.run_row(row)
-            same(counts, f'{path.name}:{number} {row["name"]}: {row["args"]}', row['args'], wanted, got)
+            case = json.loads(line)
+            wanted = bytes.fromhex(case['output']), case['status'], case['stderr']
+            got = program.run_case(case)
+            same(counts, f'{path.name}:{number} {case["name"]}: {case["args"]}', case['args'], wanted, got)
 
 
 def without_reasons(wanted, got):

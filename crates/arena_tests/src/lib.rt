@@ -1,6 +1,6 @@
 //! Tests of capnp_arena, by its public calls: places and words of segments being read, messages
 //! being built, and refused memory. Also tests of capnp_words, capnp_framing and capnp_packing.
-//! What rows, streams and runs of programs show isn't shown here again.
+//! What cases, streams and runs of programs show isn't shown here again.
 #![tactic(auto)]
 
 #[cfg(test)]

@@ -1,4 +1,4 @@
-//! Copies of what no row names: of nothing, of a message being built, of data sections that aren't
+//! Copies of what no case names: of nothing, of a message being built, of data sections that aren't
 //! whole words, and of a list that is too long.
 use crate::edits::messages::{check_outcomes, edit};
 use crate::messages::{ONE_EACH, STRUCT, STRUCT_APART, arena_of_root, root, struct_at};

@@ -1,6 +1,6 @@
-//! The program `layout_rows`: answers rows of reading and building calls, and audits messages.
-//! Answers each line of standard input with a line of standard output. docs/ROWS.md says what a
-//! line holds.
+//! The program `layout_rows`: answers cases of reading and building calls, and audits messages.
+//! Answers each line of standard input with a line of standard output. tests/cases/README.md says
+//! what a line holds.
 #![tactic(auto)]
 
 mod audits;

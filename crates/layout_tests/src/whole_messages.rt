@@ -1,5 +1,5 @@
-//! Whole messages by calls that no row makes: the root, canonical copies and the test for them, and
-//! words without a frame.
+//! Whole messages by calls that no case makes: the root, canonical copies and the test for them,
+//! and words without a frame.
 use capnp_layout::arena::{
     Allocator, BuilderArenaImpl, HeapAllocator, OutputSegments, ReaderOptions, ReaderSegments,
 };

@@ -1,4 +1,4 @@
-//! The fields of readers, the calls and the laws that no row names, and readers of other arenas.
+//! The fields of readers, the calls and the laws that no case names, and readers of other arenas.
 use super::messages::*;
 use capnp_arena::arena::NullArena;
 use capnp_readers::laws::*;

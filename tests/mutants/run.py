@@ -1,23 +1,25 @@
 #!/usr/bin/env python3
-"""Tries must-fail edits: bugs of a line or two, which the prover has to refuse.
+"""Tries mutants: small bugs planted in the sources, each of which the prover must refuse.
 
     run.py [--every] [CRATE..]
 
-Without --every these are the edits that `gate.txt` beside this file names, else all in the folders beside it; of these
-crates, or of all. The libraries below each crate have to be there, as `./test` or `rt check` leaves them.
+Tries the mutants that `gate.txt` in this folder names; with --every, all mutants in the subfolders. With CRATE.., only
+those of these crates. The libraries that each crate depends on must be built first: `./test` or `rt check` does that.
 
-An edit is a file CRATE/WHAT_IS_WRONG.edit with a line `file: src/..`, and then pairs of lines `old: TEXT` and `new: TEXT`,
-each old text standing once in that file. It is refused where the function in which it stands is no longer proved, by a goal
-of that function's own. A line `in: PATH` names another function, as `reading::read_into`, where what is changed stands in
-none or is promised by another one alone; `in: all` asks whether any function of the crate is refused.
+A mutant is a file CRATE/WHAT_IS_WRONG.mutant. It has a line `file: src/..`, and then pairs of lines `old: TEXT` and
+`new: TEXT`; each old text must occur exactly once in that file. The mutant is refused if the function that contains it
+can no longer be proved, because of a goal of its own. A line `in: PATH` (such as `in: reading::read_into`) names another
+function: for a change outside of functions, or of a fact that only the other function promises. `in: all` asks for a
+refusal of any function of the crate.
 
-All edits of a crate that stand in different functions are put together and tried in one check, of these functions alone:
-a function is proved from the contracts of what it calls, whatever their bodies. So there are as many checks as a function,
-or a cycle of functions, has edits; each takes from the one before what no edit changes. An edit of a definition is tried by
-itself.
+The mutants of a crate that are in different functions are applied together, and one check proves these functions only.
+That is sound because a function is proved from the contracts of what it calls, whatever their bodies are. So the number
+of checks is the largest number of mutants in one function or cycle of functions. Each check reuses what an earlier one
+kept of unchanged functions. A mutant of a definition is tried on its own.
 
-Prints for each edit the function that is refused and the first goal that stays open, and at last `N passed, M failed`. What
-isn't refused fails, and so do an edit that can't be applied, compiled or read, and a check that is killed."""
+Prints for each mutant the function that is refused and the first goal that stays open, and in the last line
+`N passed, M failed`. A mutant fails if it isn't refused, if it can't be applied, compiled or read, or if its check is
+killed."""
 import dataclasses
 import os
 import pathlib
@@ -36,11 +38,11 @@ from libraries import PARTS, Crates
 FUNCTION = re.compile(r'( *)(?:pub(?:\([a-z]+\))? )?(?:const )?(?:unsafe )?(?:extern "C" )?fn (\w+)')
 BLOCK = re.compile(r'( *)(?:unsafe )?(?:impl(?:<.*?>)?|(?:pub(?:\([a-z]+\))? )?trait) (.*)')
 CYCLE = re.compile(r' *#\[cycle\((\w+)\)\]')
-# What the prover says of a goal, or of an answer, and where.
+# A line of the prover about a goal or an answer: its file, its line number and the message.
 SAID = re.compile(r'(?:note: )?(?:\./)?((?:src|specs|proofs)/\S+?):(\d+):\d+: (.*)')
-# What says that a text can't be read, for which no contract is the reason.
+# Messages that a text can't be read, whatever the contracts say.
 UNREAD = re.compile(r'is not in scope|has no field|is no name|operand is missing|expected the end|cannot continue')
-# What stands in a proof of a name that the edit took away, or of a proof that cites such a one.
+# Messages about a proof that uses a name which the mutant removed, or that cites such a proof.
 NAMES = re.compile(r'has no field|is not in scope|has no `|was not admitted|declarations? that depends? on')
 
 
@@ -48,14 +50,14 @@ def say(text):
     print(text, flush=True)
 
 
-class BadEdit(Exception):
-    """Why an edit can't be tried."""
+class BadMutant(Exception):
+    """A mutant can't be tried; the text says why."""
 
 
 @dataclasses.dataclass(frozen=True)
 class Function:
-    """A function in which an edit stands: its path, of which a method has the end from its type on, wherever that is declared; its file, its first and last
-    line, and the cycle of functions that it is proved with."""
+    """A function that contains a mutant: its path (for a method only from the type on, wherever that is declared), its file,
+    its first and last line, and the cycle of functions that it is proved in."""
     path: str
     file: str
     first: int
@@ -63,17 +65,17 @@ class Function:
     cycle: str
 
     def has_answer(self, file):
-        """Whether an answer for it stands in this file, which those of a cycle share."""
+        """Whether this file has answers for it; functions of a cycle share one."""
         return f'/{self.path.replace("::", "/")}/' in file or self.cycle and f'/+{self.cycle}/' in file
 
     def has_goal(self, line):
-        """Whether the goal that a line names is one of this function, and not of another one of its cycle."""
+        """Whether the goal that a line names belongs to this function, not to another one of its cycle."""
         return not self.cycle or re.search(rf'`(?:\w+::)*{self.path.rpartition("::")[2]}-', line)
 
 
 @dataclasses.dataclass
-class Edit:
-    """An edit: its crate and name, the texts that it changes by file, and the functions in which it is to be refused."""
+class Mutant:
+    """A mutant: its crate and name, the texts that it changes with their files, and the functions that must be refused."""
     crate: str
     name: str
     pairs: list
@@ -84,21 +86,21 @@ class Edit:
         return f'{self.crate}/{self.name}'
 
     def applied(self, texts):
-        """The texts of the crate's files with this edit, where texts has those that others have changed."""
+        """The texts of the crate's files with this mutant applied; `texts` has the files that other mutants have changed."""
         changed = dict(texts)
         for file, old, new in self.pairs:
             path = TOP / 'crates' / self.crate / file
             if file not in changed and not path.is_file():
-                raise BadEdit(f'there is no file {file}')
+                raise BadMutant(f'there is no file {file}')
             text = changed[file] if file in changed else path.read_text(encoding='utf-8')
             if text.count(old) != 1:
-                raise BadEdit(f'an old text stands in {file} {text.count(old)} times, and not once')
+                raise BadMutant(f'an old text occurs {text.count(old)} times in {file}, not once')
             changed[file] = text.replace(old, new)
         return changed
 
 
 def enclosing(lines, number, form):
-    """The innermost item of this form that has the line: in the layout of `rt fmt` it ends at the brace under its first letter."""
+    """The innermost item of this form that contains the line. `rt fmt` puts its last brace under its first letter."""
     for first in range(number, -1, -1):
         if found := form.match(lines[first]):
             for last in range(first, len(lines)):
@@ -110,7 +112,7 @@ def enclosing(lines, number, form):
 
 
 def type_of(block):
-    """The segment of a path that an impl or a trait has."""
+    """The segment that an impl or a trait has in the path of its functions."""
     head = re.sub(r'\bwhere\b.*|\{.*', '', block)
     trait, _, of = head.rpartition(' for ')
     name = re.match(r"\s*(?:&(?:'\w+ )?(?:mut )?)?(?:dyn )?(?:\w+::)*\[?(\w+)", of)[1]
@@ -120,7 +122,7 @@ def type_of(block):
 
 
 def function_at(file, lines, number):
-    """The function of a source that has the line, if there is one."""
+    """The function of a source that contains the line, or None."""
     found = enclosing(lines, number, FUNCTION)
     if not found:
         return None
@@ -144,11 +146,11 @@ def function_named(crate, path):
         for number, line in enumerate(lines):
             if FUNCTION.match(line) and (found := function_at(file, lines, number)) and found.path == path:
                 return found
-    raise BadEdit(f'there is no function {path}')
+    raise BadMutant(f'there is no function {path}')
 
 
 def read(path):
-    """Reads an edit."""
+    """Reads a mutant from its file."""
     crate, named, pairs, file, old, anywhere = path.parent.name, [], [], '', '', False
     for line in path.read_text(encoding='utf-8').split('\n'):
         word, _, text = line.partition(':')
@@ -163,64 +165,64 @@ def read(path):
             old = text
         elif word == 'new':
             if not old or not file.startswith(tuple(f'{it}/' for it in PARTS)):
-                raise BadEdit('a new text stands before a file of the crate or an old text')
+                raise BadMutant('a line `new:` comes before a line `old:` or a valid line `file:`')
             pairs.append((file, old, text))
             old = ''
     if not pairs or all(old == new for _, old, new in pairs):
-        raise BadEdit('it changes nothing')
-    edit = Edit(crate, path.name, pairs, named, anywhere)
-    edit.applied({})
+        raise BadMutant('it changes nothing')
+    mutant = Mutant(crate, path.name, pairs, named, anywhere)
+    mutant.applied({})
     if not named and not anywhere:
-        edit.functions = functions_of(edit)
-    return edit
+        mutant.functions = functions_of(mutant)
+    return mutant
 
 
-def functions_of(edit):
-    """The functions in which an edit stands."""
+def functions_of(mutant):
+    """The functions that contain a mutant."""
     found = {}
-    for file, old, _ in edit.pairs:
+    for file, old, _ in mutant.pairs:
         if file.startswith('src/'):
-            text = (TOP / 'crates' / edit.crate / file).read_text(encoding='utf-8')
+            text = (TOP / 'crates' / mutant.crate / file).read_text(encoding='utf-8')
             at = text.index(old) + len(old) - len(old.lstrip())
             function = function_at(file, text.split('\n'), text.count('\n', 0, at))
             if function:
                 found[function.path] = function
     if not found:
-        raise BadEdit('it stands in no function, and no line `in: PATH` names one')
+        raise BadMutant('it is outside of all functions, and no line `in: PATH` names one')
     return list(found.values())
 
 
-def rounds_of(edits):
-    """Parts the edits of a crate, so that those of one part stand in different functions and cycles, and can be put together."""
+def rounds_of(mutants):
+    """Sorts the mutants of a crate into rounds. Those of a round are in different functions and cycles, so they can be applied together."""
     rounds = []
-    for edit in edits:
-        if edit.anywhere or any(not file.startswith(('src/', 'proofs/')) for file, _, _ in edit.pairs):
-            rounds.append(([edit], None, None))
+    for mutant in mutants:
+        if mutant.anywhere or any(not file.startswith(('src/', 'proofs/')) for file, _, _ in mutant.pairs):
+            rounds.append(([mutant], None, None))
             continue
-        held = {it.cycle and (it.file, it.cycle) or it.path for it in edit.functions}
+        held = {it.cycle and (it.file, it.cycle) or it.path for it in mutant.functions}
         for at, (others, names, texts) in enumerate(rounds):
             if names is not None and not names & held:
                 try:
-                    rounds[at] = [*others, edit], names | held, edit.applied(texts)
+                    rounds[at] = [*others, mutant], names | held, mutant.applied(texts)
                     break
-                except BadEdit:
+                except BadMutant:
                     pass
         else:
-            rounds.append(([edit], held, edit.applied({})))
-    return [edits for edits, _, _ in rounds]
+            rounds.append(([mutant], held, mutant.applied({})))
+    return [mutants for mutants, _, _ in rounds]
 
 
-def checked(crates, edits, kept):
-    """Checks the functions of these edits in a copy of their crate with all of them, and returns the status and the lines that the check printed. What a check
-    before has kept in this folder, and no edit touches, isn't checked again."""
-    name = edits[0].crate
+def checked(crates, mutants, kept):
+    """Applies these mutants to a copy of their crate and checks the functions that contain them. Returns the status and the
+    lines that the check printed. The folder `kept` has what earlier checks kept, which isn't checked again if unchanged."""
+    name = mutants[0].crate
     texts = {}
-    for edit in edits:
-        texts = edit.applied(texts)
+    for mutant in mutants:
+        texts = mutant.applied(texts)
     words = [f'{crates.kit}/bin/rattle', 'check', *crates.words(name), '--incremental', kept, '--jobs', '1']
-    for path in dict.fromkeys(it.path for edit in edits for it in edit.functions):
+    for path in dict.fromkeys(it.path for mutant in mutants for it in mutant.functions):
         words += ['--only', path]
-    with tempfile.TemporaryDirectory(prefix='edits-') as room:
+    with tempfile.TemporaryDirectory(prefix='mutants-') as room:
         for part in PARTS:
             if (TOP / 'crates' / name / part).is_dir():
                 shutil.copytree(TOP / 'crates' / name / part, f'{room}/{part}')
@@ -231,8 +233,9 @@ def checked(crates, edits, kept):
 
 
 def open_goal(function, lines, is_alone):
-    """What the check says first of a goal of this function that stays open, or of an answer to it: a goal, before a name that a proof has and the edited
-    function hasn't. Of a cycle of functions in which other edits stand too, only what names this function counts."""
+    """The first line about an open goal of this function, or about an answer to one. Prefers a line about a goal to one about
+    a name that a proof uses and the changed function lacks. If other mutants are in the same cycle of functions, only lines
+    that name this function count."""
     found = []
     for line in lines:
         said = SAID.match(line)
@@ -241,27 +244,27 @@ def open_goal(function, lines, is_alone):
         is_within = said and said[1] == function.file and function.first <= int(said[2]) <= function.last
         if is_within or said and function.has_answer(said[1]) and (is_alone or function.has_goal(line)):
             found.append(line.removeprefix('note: ').removeprefix('./'))
-    # the line of the function names its own goals too
+    # the line about the function also names its goals
     own = (it for it in lines if it.startswith('fn ') and f'::{function.path}: ' in it)
     told = (it for it in own if is_alone or function.has_goal(it))
     named = next((it for it in told if '` did not prove `' in it or ': could not tell' in it), None)
     return next((it for it in found if not NAMES.search(it)), None) or next(iter(found), named)
 
 
-def verdict(edit, lines, is_alone):
-    """Whether an edit is refused, and what to say of it; is_alone: whether no other one is tried with it."""
-    if edit.anywhere:
+def verdict(mutant, lines, is_alone):
+    """Whether a mutant is refused, and what to print about it. `is_alone`: no other mutant is tried with it."""
+    if mutant.anywhere:
         goal = next((it.removeprefix('note: ') for it in lines if SAID.match(it) and ('error' in it or it.startswith('note: '))), None)
         return (True, goal) if goal and lines[-1].startswith('logic=not-proved') else (False, 'NOT REFUSED: the crate is still proved')
-    for function in edit.functions:
+    for function in mutant.functions:
         if goal := open_goal(function, lines, is_alone):
             return True, f'{function.path}: {goal}'
-    return False, f'NOT REFUSED: {", ".join(it.path for it in edit.functions)} is still proved'
+    return False, f'NOT REFUSED: {", ".join(it.path for it in mutant.functions)} is still proved'
 
 
-def unread(edits, lines):
-    """What the check says of a text that it can't read."""
-    changed = {file for edit in edits for file, _, _ in edit.pairs}
+def unread(mutants, lines):
+    """The first line that says that a text can't be read, or None."""
+    changed = {file for mutant in mutants for file, _, _ in mutant.pairs}
     for line in lines:
         said = SAID.match(line)
         if said and not line.startswith('note: ') and 'error' in said[3] and (said[1] in changed or said[1].startswith(('src/', 'specs/'))):
@@ -271,85 +274,86 @@ def unread(edits, lines):
     return None
 
 
-def tried(crates, edits, kept):
-    """Tries edits of one crate together, and returns for each whether it is refused, and what to say of it. A check prints only so many goals: edits of which it names none are
-    tried again without the others. Where it comes to no verdict at all, each half is tried."""
-    status, lines = checked(crates, edits, kept)
+def tried(crates, mutants, kept):
+    """Tries mutants of one crate together. Returns for each whether it is refused, and what to print about it. A check prints a
+    limited number of goals, so mutants without one are tried again without the others. If there is no verdict at all, tries
+    each half."""
+    status, lines = checked(crates, mutants, kept)
     if status == -signal.SIGKILL:
-        return [(it, False, 'NOT TRIED: its check was killed, most likely for memory') for it in edits]
-    bad = unread(edits, lines)
+        return [(it, False, 'NOT TRIED: its check was killed, probably because memory ran out') for it in mutants]
+    bad = unread(mutants, lines)
     if not bad and (lines[-1].startswith(('logic=', 'rattle: no verdict')) or any(it.startswith('fn ') for it in lines)):
-        told = [(it, *verdict(it, lines, len(edits) == 1)) for it in edits]
-        left = [edit for edit, is_refused, _ in told if not is_refused]
-        if not left or len(edits) == 1:
+        told = [(it, *verdict(it, lines, len(mutants) == 1)) for it in mutants]
+        left = [mutant for mutant, is_refused, _ in told if not is_refused]
+        if not left or len(mutants) == 1:
             return told
-        if len(left) < len(edits):
+        if len(left) < len(mutants):
             return [it for it in told if it[1]] + tried(crates, left, kept)
-    if len(edits) > 1:
-        half = len(edits) // 2
-        return tried(crates, edits[:half], kept) + tried(crates, edits[half:], kept)
+    if len(mutants) > 1:
+        half = len(mutants) // 2
+        return tried(crates, mutants[:half], kept) + tried(crates, mutants[half:], kept)
     why = bad or next((it for it in lines if re.search(r'\berror[:\[]', it)), lines[0])
-    return [(edits[0], False, f'BAD EDIT: it did not reach the prover: {why}')]
+    return [(mutants[0], False, f'BAD MUTANT: it did not reach the prover: {why}')]
 
 
 def all_tried(crates, rounds):
-    """Tries the edits of one crate, one part behind the other: what they leave as it is is checked once."""
-    with tempfile.TemporaryDirectory(prefix='edits-kept-') as kept:
-        return [it for edits in rounds for it in tried(crates, edits, kept)]
+    """Tries the rounds of one crate in order. What they don't change is checked once."""
+    with tempfile.TemporaryDirectory(prefix='mutants-kept-') as kept:
+        return [it for mutants in rounds for it in tried(crates, mutants, kept)]
 
 
 def side_by_side():
-    """How many checks run side by side: one a processor, and no more than memory holds at 4 GB each."""
+    """The number of checks that run at the same time: one for each processor, and at most what memory holds at 4 GB each."""
     free = re.search(r'MemAvailable:\s*(\d+)', pathlib.Path('/proc/meminfo').read_text(encoding='utf-8'))
     held = int(free[1]) // 4_000_000 if free else 1
     return max(min(len(os.sched_getaffinity(0)), held), 1)
 
 
 def wanted(words):
-    """The files of the edits that are to be tried."""
+    """The files of the mutants that have to be tried."""
     every, names = '--every' in words, [it for it in words if it != '--every']
     for name in names:
         if not (TOP / 'crates' / name / 'src').is_dir():
-            raise BadEdit(f'{name}: there is no such crate')
-    listed = [HERE / f'{line}.edit' for line in (HERE / 'gate.txt').read_text(encoding='utf-8').split()]
-    files = sorted(HERE.glob('*/*.edit')) if every else listed
+            raise BadMutant(f'{name}: there is no such crate')
+    listed = [HERE / f'{line}.mutant' for line in (HERE / 'gate.txt').read_text(encoding='utf-8').split()]
+    files = sorted(HERE.glob('*/*.mutant')) if every else listed
     return [it for it in files if not names or it.parent.name in names]
 
 
 def main():
-    # as it came, whatever the locale
+    # bytes pass unchanged in every locale
     sys.stdout.reconfigure(encoding='utf-8', errors='surrogateescape')
     crates, by_crate, passed, failed = Crates(), {}, 0, 0
 
-    def tell(edit, is_refused, text):
+    def tell(mutant, is_refused, text):
         nonlocal passed, failed
         passed, failed = passed + is_refused, failed + (not is_refused)
-        say(f'{edit}: {"refused: " if is_refused else ""}{text[:240]}')
+        say(f'{mutant}: {"refused: " if is_refused else ""}{text[:240]}')
 
     try:
         files = wanted(sys.argv[1:])
-    except (BadEdit, OSError) as error:
+    except (BadMutant, OSError) as error:
         say(f'not tried: {error}')
         say('0 passed, 1 failed')
         return 1
     for path in files:
         try:
-            edit = read(path)
-            by_crate.setdefault(edit.crate, []).append(edit)
-        except (BadEdit, OSError) as error:
-            tell(f'{path.parent.name}/{path.name}', False, f'BAD EDIT: {error}')
+            mutant = read(path)
+            by_crate.setdefault(mutant.crate, []).append(mutant)
+        except (BadMutant, OSError) as error:
+            tell(f'{path.parent.name}/{path.name}', False, f'BAD MUTANT: {error}')
     tasks = []
-    for name, edits in by_crate.items():
+    for name, mutants in by_crate.items():
         if lacking := crates.lacking(name):
-            for edit in edits:
-                tell(edit.label(), False, f'NOT TRIED: {lacking} is not built of the sources as they stand: run ./test, or rt check in crates/{name}')
+            for mutant in mutants:
+                tell(mutant.label(), False, f'NOT TRIED: {lacking} is not built from the current sources: run ./test, or rt check in crates/{name}')
         else:
-            tasks.append(rounds_of(edits))
+            tasks.append(rounds_of(mutants))
     tasks.sort(key=lambda it: -sum(map(len, it)))
     with ThreadPoolExecutor(side_by_side()) as pool:
         for results in pool.map(lambda it: all_tried(crates, it), tasks):
-            for edit, is_refused, text in results:
-                tell(edit.label(), is_refused, text)
+            for mutant, is_refused, text in results:
+                tell(mutant.label(), is_refused, text)
     say(f'{sum(map(len, tasks))} checks')
     say(f'{passed} passed, {failed} failed')
     return 1 if failed else 0
