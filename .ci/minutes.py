@@ -6,8 +6,8 @@ command and everything that it started, and their ratio to the first proof of a 
 
 The crate depends on no other crate of the repository. It is proved from nothing five times before the command and five
 times after it, in a folder of its own, and the ratio is to the median of the ten. Minutes differ from machine to
-machine; the ratio is what two machines can compare. One first proof alone isn't enough: it has taken half as much again
-as another one, on an idle machine.
+machine; the ratio is what two machines can compare. One first proof isn't enough: on an idle machine one has taken half
+as much again as another.
 
 The exit status is the command's. If the command ends without such a line, the last line is `0 passed, 1 failed`."""
 import pathlib
@@ -24,13 +24,13 @@ COUNTS = re.compile(r'\d+ passed, \d+ failed\n')
 
 
 def minutes():
-    """The processor minutes of all that this one started and that has ended."""
+    """The processor minutes of all processes that this one started and that have ended."""
     used = resource.getrusage(resource.RUSAGE_CHILDREN)
     return (used.ru_utime + used.ru_stime) / 60
 
 
 def first_proof(crate):
-    """The processor minutes of a proof of the crate alone, or None if it isn't proved. `rt verdict` takes nothing that an earlier check kept."""
+    """The processor minutes of a proof of this crate on its own, or None if it isn't proved. `rt verdict` reuses nothing."""
     with tempfile.TemporaryDirectory(prefix='first-proof-') as room:
         top = pathlib.Path(room)
         shutil.copytree(TOP / 'crates' / crate, top / 'crates' / crate, ignore=shutil.ignore_patterns('out'))
@@ -51,7 +51,7 @@ def first_proofs(crate):
 
 
 def ratio(used, crate, before, after):
-    """How many first proofs that is, as text."""
+    """The ratio of these minutes to a first proof, as text."""
     if not before or not after:
         return f'{crate} was not proved'
     taken = sorted(before + after)

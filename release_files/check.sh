@@ -1,6 +1,6 @@
 #!/bin/sh
-# check.sh: tries the library, in both forms, and the program, as `make check` calls it: one message through each, the C test
-# over its messages, and, where python3 is there, all vectors through the library.
+# check.sh: tests the library, in both forms, and the program; `make check` calls it. Passes one message through each, runs the
+# C test on its messages and, if python3 is there, runs all vectors through the library.
 set -eu
 build=${BUILD:-build}
 python=${PYTHON:-python3}
@@ -17,7 +17,7 @@ compile() {
     ${CC:-cc} -std=c11 -Ibindings/c ${FLAGS-} -o "$build/$output" "$source" "$@"
 }
 
-# Runs a command where the shared library is found.
+# Runs a command that finds the shared library.
 run() {
     # shellcheck disable=SC2086
     LD_LIBRARY_PATH="$build${LD_LIBRARY_PATH:+:$LD_LIBRARY_PATH}" ${RUNNER-} "$@"
@@ -36,7 +36,7 @@ echo 'one message: passed'
 compile test_shared tests/library/test.c -L"$build" -lcapnp_canonical
 run "$build/test_shared" tests/library/messages.txt
 if command -v "$python" >/dev/null; then
-    # messages of up to 3,000 levels, which take more than the usual stack where the compiler doesn't optimise
+    # messages have up to 3,000 levels, which need more than the usual stack if the compiler doesn't optimise
     ulimit -s 131072 2>/dev/null || true
     compile vectors tests/release/vectors.c "$build/libcapnp_canonical.a"
     "$python" -B tests/release/lines.py >"$build/vectors.txt"

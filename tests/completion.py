@@ -1,10 +1,10 @@
 #!/usr/bin/env python3
-"""Whether what is said of capnp_canon's words is said alike: by `--help` (crates/capnp_canon/src/texts.rt), the completion for bash
-and zsh (share/), the man page and docs/PROGRAM.md. Where bash is there its completion is asked.
+"""Checks that the same commands and options of capnp_canon are in `--help` (crates/capnp_canon/src/texts.rt), the completion
+for bash and zsh (share/), the man page and docs/PROGRAM.md. If bash is installed, also tests its completion.
 
     completion.py
 
-Prints what differs, and at last `N passed, M failed`."""
+Prints what differs. The last line is `N passed, M failed`."""
 import pathlib
 import re
 import shutil
@@ -21,13 +21,13 @@ def file(name):
 
 
 def words(text):
-    """The options that a text names, and which of their letters."""
+    """The options that a text names, long ones and letters."""
     found = set(re.findall(r'(?<![\w-])(--[a-z][a-z-]*[a-z]|-[a-zA-Z])\b', text))
     return {it for it in found if it.startswith('--') or it in LETTERS}
 
 
 def of_help():
-    """The commands and options of `--help`, by the words that its lines begin with."""
+    """The commands and the options of `--help`: the words at the start of its lines."""
     text = re.search(r'pub const HELP: &str =\s*"(.*?)";', file('crates/capnp_canon/src/texts.rt'), re.S)[1]
     lines = re.findall(r'^ *((?:-[a-zA-Z], *)?(?:--)?[a-z][a-z-]*)(?: N)?  +\S', text, re.M)
     found = {word for line in lines for word in re.split(', *', line.strip())}
@@ -35,7 +35,7 @@ def of_help():
 
 
 def offered(*line):
-    """What bash offers at the end of a line."""
+    """What bash offers as the last word of a line."""
     script = 'source "$1"; shift; COMP_WORDS=(capnp_canon "$@"); COMP_CWORD=$#; _capnp_canon; printf "%s\\n" "${COMPREPLY[@]}"'
     run = subprocess.run(['bash', '-c', script, 'bash', str(TOP / 'share/capnp_canon.bash'), *line], stdout=subprocess.PIPE, text=True)
     return set(run.stdout.split())
@@ -63,7 +63,7 @@ def facts():
     yield 'the first option for bash', offered('-') == long
     for command, own in COMMANDS.items():
         yield f'the options of {command} for bash', offered(command, '--') == common | own
-    yield 'a front for bash', offered('canon', '--fr') == {'--from-flat'}
+    yield 'the start of an option for bash', offered('canon', '--fr') == {'--from-flat'}
     yield 'the value of --words for bash', offered('canon', '--words', '') == {'none'}
     yield 'the value of --nesting for bash', offered('canon', '--nesting', '') == set()
 
@@ -72,7 +72,7 @@ def main():
     found = list(facts())
     failed = [what for what, holds in found if not holds]
     for what in failed:
-        print(f'not so: {what}')
+        print(f'differs: {what}')
     print(f'{len(found) - len(failed)} passed, {len(failed)} failed')
     return 1 if failed else 0
 

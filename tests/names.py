@@ -1,13 +1,15 @@
 #!/usr/bin/env python3
-"""Whether each name that a definition of `crates/*/specs/` has is that of one definition alone, in all crates; whether what
-a proof or a definition imports of this repository stands where it imports it from; and whether each type of a library
-crate's `src/` has a name of its own among these crates. The checker says the second too, but only when it comes to that
-file, which in the gate is after many minutes.
+"""Checks three things about names:
+
+- Each name of a definition in `crates/*/specs/` is defined once in all crates.
+- What a definition or a proof imports from this repository is in the file that it names. The checker reports this too,
+  but only when it reaches that file, which in the gate takes many minutes.
+- Each type in the `src/` of a library crate has a name that no other library crate uses.
 
     names.py
 
-Prints each name that stands twice, with the files, and each import of what isn't there, and at last `N passed, M failed`: a
-file is one count, and fails where a name of it stands twice or an import leads nowhere."""
+Prints each name that occurs twice, with its files, and each import of something that isn't there. The last line is
+`N passed, M failed`, which counts files: a file fails if one of its names occurs twice or one of its imports fails."""
 import collections
 import pathlib
 import re
@@ -17,20 +19,20 @@ TOP = pathlib.Path(__file__).resolve().parents[1]
 TYPE = re.compile(r'( *)(?:abbrev |unfoldable )?pub (record|data) (\S+)')
 FUNCTION = re.compile(r'( *)(?:abbrev |unfoldable )?pub (\S+) :')
 SOURCE_TYPE = re.compile(r'^(?:pub(?:\([a-z]+\))? )?(?:struct|enum|trait|type) (\w+)', re.MULTILINE)
-# Types of one name in several library crates: each is public in one of them at least, so it keeps its name.
+# Type names that several library crates share. Each is public in at least one of them, so it keeps its name.
 SHARED = {
-    'Fault': 'why a message isn\'t canonical, as C gets it; why a message of a stream isn\'t answered',
-    'Place': 'a word of a segment that is read; where a reader of packed bytes stands',
-    'PrimitiveElement': 'what an element of a list can be read as; what it can be read as and written from',
-    'Refusal': 'why a call of the library for C is refused; why a command of layout_tool is',
-    'Source': 'where a reader reads; another message, which an edit copies from',
-    'Task': 'what is asked of each message of a stream; an edit whose numbers are in range',
+    'Fault': 'why a message isn\'t canonical, in the library for C; why a message of a stream is refused',
+    'Place': 'a word of a segment that is read; the position of a reader of packed bytes',
+    'PrimitiveElement': 'the types that an element of a list can be read as; the same for reading and writing',
+    'Refusal': 'why a call of the library for C is refused; why a command of layout_tool is refused',
+    'Source': 'what a reader reads from; another message that an edit copies from',
+    'Task': 'what to do with each message of a stream; an edit whose numbers are in range',
 }
 IMPORT = re.compile(r'^ *use Rattle\.(\w+)\.(specs|proofs)\.([\w.]+)\.\{([^}]*)\}', re.MULTILINE)
 
 
 def names_of(path):
-    """The names that a file defines. What a record has inside of it are its parts, and no definitions."""
+    """The names that a file defines. The fields of a record aren't definitions."""
     inside = None
     for line in path.read_text(encoding='utf-8').split('\n'):
         indent = len(line) - len(line.lstrip(' '))
@@ -44,13 +46,13 @@ def names_of(path):
 
 
 def imported_file(crate, folder, module):
-    """The file of a module of this repository; none where the module is another's, or is made from a source."""
+    """The file of a module of this repository; None if the module is from elsewhere, or is generated from a source."""
     path = TOP / 'crates' / crate / folder / (module.replace('.', '/') + '.antt')
     return path if path.is_file() else None
 
 
 def nowhere(path):
-    """What a file imports of a file of this repository that hasn't the name."""
+    """The imports of a file whose name isn't in the file of this repository that they import from."""
     for crate, folder, module, names in IMPORT.findall(path.read_text(encoding='utf-8')):
         if (source := imported_file(crate, folder, module)) is None:
             continue
@@ -61,7 +63,7 @@ def nowhere(path):
 
 
 def twice(files):
-    """The files of `specs/` with a name that another one has too."""
+    """The files of `specs/` that define a name which is also defined elsewhere."""
     places = collections.defaultdict(list)
     for path in files:
         for name in names_of(path):
@@ -73,14 +75,14 @@ def twice(files):
 
 
 def types_twice(files):
-    """The files of library crates with a type whose name a type of another one has too, and isn't told above."""
+    """The files of library crates with a type whose name another library crate uses too, except for SHARED."""
     places = collections.defaultdict(list)
     for path in files:
         for name in SOURCE_TYPE.findall(path.read_text(encoding='utf-8')):
             places[name].append(path)
     shared = {name: found for name, found in places.items() if len({it.relative_to(TOP).parts[1] for it in found}) > 1}
     for name in sorted(SHARED.keys() - shared.keys()):
-        raise SystemExit(f'tests/names.py: {name} is no type of two library crates any more: take it out of SHARED')
+        raise SystemExit(f'tests/names.py: {name} is no longer a type of two library crates: remove it from SHARED')
     for name, found in sorted(shared.items()):
         if name not in SHARED:
             print(f'{name} is a type of more than one library crate: {", ".join(str(it.relative_to(TOP)) for it in found)}')

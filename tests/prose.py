@@ -59,13 +59,13 @@ def files(within):
 
 
 def of_page(text):
-    """The lines of a page, code blocks and code spans blank."""
+    """The lines of a page, with its code blocks blank and its code spans replaced."""
     text = re.sub(r'^( *)(```|~~~).*?^\1\2', lambda it: '\n' * it[0].count('\n'), text, flags=re.S | re.M)
     return [re.sub(r'``.+?``|`[^`]*`', '`..`', line) if not line.startswith('    ') else '' for line in text.split('\n')]
 
 
 def of_python(text):
-    """The lines of a script with its comments and docstrings alone."""
+    """The comments and docstrings of a script, line by line."""
     lines = [''] * (text.count('\n') + 2)
     before = None
     for token in tokenize.generate_tokens(io.StringIO(text).readline):
@@ -79,7 +79,7 @@ def of_python(text):
 
 
 def of_source(text, mark):
-    """The lines of a source with its comments alone."""
+    """The comments of a source, line by line."""
     if mark == '//':
         text = re.sub(r'/\*.*?\*/', lambda it: '\n'.join('// ' + line for line in it[0].split('\n')), text, flags=re.S)
     found = (re.search(rf'(?:^|\s){re.escape(mark)}(.*)', line) for line in text.split('\n'))
@@ -87,7 +87,7 @@ def of_source(text, mark):
 
 
 def prose(path):
-    """The lines of a file, each with its prose alone."""
+    """The prose of a file, line by line."""
     suffix = pathlib.PurePath(path).suffix
     try:
         text = (TOP / path).read_text(encoding='utf-8')
@@ -103,7 +103,7 @@ def prose(path):
 
 
 def found(paths):
-    """Each phrase that these files have, with its place: a phrase may go from one line to the next."""
+    """Each phrase found in these files, with its place. A phrase may be split over two lines."""
     for path in paths:
         lines = prose(path)
         text, starts = '', []

@@ -1,9 +1,10 @@
 #!/bin/sh
-# shell.sh [PROGRAM]: runs the commands of docs/PROGRAM.md as they stand there, one part behind the other in one folder, and
-# compares what each writes with the page. PROGRAM is a built capnp_canon; if it is left out ./capnp_canon at the top is run, and
-# so is ./layout_tool, each proved and built first where that isn't done yet. Where a tool isn't there the part is skipped.
+# shell.sh [PROGRAM]: runs the commands of docs/PROGRAM.md, part by part in one folder, and compares the output of each part
+# with the page. PROGRAM is a built capnp_canon. Without it, runs ./capnp_canon at the top of the repository and also
+# ./layout_tool; each is proved and built first if that isn't done yet. A part whose tools are missing is skipped.
 #
-# A line `ok: COMMAND`, `FAILED: COMMAND` or `skipped: COMMAND: no TOOL` for each part; the last line is `N passed, M failed`.
+# Prints a line `ok: COMMAND`, `FAILED: COMMAND` or `skipped: COMMAND: no TOOL` for each part; the last line is
+# `N passed, M failed`.
 set -u
 top=$(cd "$(dirname "$0")/.." && pwd) || exit 2
 case ${1-} in '' | /*) program=${1-$top/capnp_canon} ;; *) program=$(pwd)/$1 ;; esac
@@ -11,12 +12,12 @@ work=$(mktemp -d) || exit 2
 trap 'rm -rf "$work"' EXIT
 mkdir "$work/parts" "$work/folder" || exit 2
 
-# A script of this name in the folder that runs a program.
+# Makes a script of this name in the folder; the script runs a program.
 run_by() {
     printf '#!/bin/sh\nexec "%s" "$@"\n' "$2" >"$work/folder/$1" && chmod +x "$work/folder/$1"
 }
 
-# Writes the parts of the page: N.sh or N.bash is one, and N.text what it writes.
+# Writes each part of the page to N.sh or N.bash, and its expected output to N.text.
 take_apart() {
     awk -v to="$work/parts/" '
         /^```(sh|bash)$/ { number++; file = to sprintf("%02d", number) "." substr($0, 4); next }
@@ -25,7 +26,7 @@ take_apart() {
         file { print >file }' "$top/docs/PROGRAM.md"
 }
 
-# What isn't there of what a part needs.
+# The tools that a part needs and that are missing.
 lacking() {
     grep -q layout_tool "$1" && [ ! -e "$work/folder/layout_tool" ] && echo layout_tool
     for tool in bash openssl sha256sum xxd; do
@@ -35,7 +36,7 @@ lacking() {
 
 run_by capnp_canon "$program"
 [ $# -gt 0 ] || run_by layout_tool "$top/layout_tool"
-# what is built first says so here
+# a build that is needed prints its progress here
 "$program" --version >"$work/log" || exit 2
 take_apart
 cd "$work/folder" || exit 2
@@ -48,7 +49,7 @@ for part in "$work"/parts/*.*sh; do
         continue
     fi
     touch "${part%.*}.text"
-    # a command that waits for ever is ended
+    # end a command that waits forever
     LC_ALL=C timeout 60 "${part##*.}" -e "$part" >"$work/written" 2>"$work/error"
     status=$?
     if [ $status = 0 ] && cmp -s "$work/written" "${part%.*}.text"; then

@@ -1,11 +1,12 @@
 #!/usr/bin/env python3
-"""Writes crates of this repository in C, as their proved sources compile to it.
+"""Translates the compiled form of crates of this repository to C.
 
     generate.py FOLDER CRATE..
 
-writes FOLDER/CRATE.c for the library `capnp_canonical` and for programs, of the last commit. proved.py proves them, but for what the
-toolchain keeps of earlier runs. `rattle build` lowers a crate to an LLVM module, which it gives to a clang. Here that is a script,
-which also has the toolchain's clang write the module as text, optimised. c_of_module writes that in C."""
+Writes FOLDER/CRATE.c for the library `capnp_canonical` or a program, from the last commit. proved.py proves the crates first,
+except for what the toolchain kept from earlier runs. `rattle build` lowers a crate to an LLVM module and passes it to clang.
+Here a script takes the place of clang: it also makes the toolchain's clang write the module as optimised text.
+c_of_module translates that text to C."""
 import pathlib
 import subprocess
 import sys
@@ -15,8 +16,8 @@ import proved
 sys.path.append(str(proved.TOP / 'tools/c_of_module'))
 import constants
 
-# No vectors that the processor might not have, and nothing that is longer than its loop: the C compiler does that. Nothing
-# that stands on where code is loaded.
+# Options that leave vector instructions and longer loops to the C compiler, and make no code that depends on where it is
+# loaded.
 OPTIMISED = '--target=x86_64-unknown-linux-gnu --no-default-config -O2 -fno-vectorize -fno-slp-vectorize -fno-unroll-loops -fno-pic -fno-pie'
 CLANG = '''#!/bin/sh
 case " $* " in *" -x ir module.bc "*) {clang} {flags} -S -emit-llvm -o {kept} -x ir module.bc || exit ;; esac
@@ -25,7 +26,7 @@ exec {clang} "$@"
 
 
 def with_script(real, room, kept):
-    """A toolchain that is the real one in all but its clang."""
+    """Makes a toolchain that is the real one except for its clang."""
     (room / 'bin').mkdir(parents=True)
     (room / 'lib').symlink_to(real / 'toolchain/lib')
     for it in (real / 'toolchain/bin').iterdir():
@@ -38,7 +39,7 @@ def with_script(real, room, kept):
 
 
 def in_c(room, crate):
-    """The C of a crate. Its module says nothing of a processor: it is compiled for the first one of x86-64."""
+    """The C of a crate. Its module is compiled for the oldest x86-64 processor, so it depends on no newer one."""
     module = room.at / f'{crate}.ll'
     room.build(crate, room.at / f'{crate}.built', with_script(room.crates.kit, room.at / f'toolchain_of_{crate}', module), '--cpu', 'x86-64')
     writer = [sys.executable, '-B', str(proved.TOP / 'tools/c_of_module'), str(module), str(proved.TOP / 'bindings/c/capnp_canonical.h')]

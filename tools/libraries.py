@@ -1,16 +1,16 @@
-"""The crates that `crates.txt` lists, the libraries of them that a run of `rt ci` or `rt check` has left, and the words by
-which the toolchain's program `rattle` is told of a crate over these. `rt check` and `rt lib` don't look at what `rt ci`
+"""The crates that `crates.txt` lists, their libraries as a run of `rt ci` or `rt check` left them, and the arguments that make
+the toolchain's program `rattle` check or build a crate with these libraries. `rt check` and `rt lib` ignore what `rt ci`
 left, and would prove it again."""
 import pathlib
 import subprocess
 
 TOP = pathlib.Path(__file__).resolve().parents[1]
-# What a check reads of a crate.
+# The folders of a crate that a check reads.
 PARTS = 'src', 'specs', 'proofs'
 
 
 class Crates:
-    """The crates of a tree, which is this one if left out: what each stands on, and of what kind it is; and the folder of the toolchain."""
+    """The crates of a tree (by default this one): what each depends on and its kind; and the folder of the toolchain."""
 
     def __init__(self, top=TOP):
         self.top = top
@@ -24,7 +24,7 @@ class Crates:
                 self.stands_on[name], self.kind[name] = words.split(), kind
 
     def below(self, name):
-        """The repository's crates that a crate stands on, by others too, lowest first."""
+        """The crates of the repository that a crate depends on, directly or not, lowest first."""
         found = {}
         for word in self.stands_on[name]:
             if word in self.stands_on:
@@ -32,11 +32,11 @@ class Crates:
         return found
 
     def rlib(self, name):
-        """Where the library of a crate lies, or of the toolchain."""
+        """The path of the library of a crate, or of one of the toolchain."""
         return self.top / f'crates/{name}/out/rlib/{name}.rlib' if name in self.stands_on else self.kit / f'rlibs/{name}.rlib'
 
     def lacking(self, name):
-        """The first library below a crate that isn't built of the sources as they stand, or None."""
+        """The first library that a crate depends on and that isn't built from the current sources, or None."""
         for below in self.below(name):
             if not (self.rlib(below) / 'format').is_file():
                 return below
@@ -47,7 +47,7 @@ class Crates:
         return None
 
     def words(self, name):
-        """What `rattle check` and `rattle build` are told of a crate, in its folder or in a copy of that."""
+        """The arguments of `rattle check` and `rattle build` for a crate, run in its folder or in a copy of that."""
         yield from ('--crate-name', name, 'src/main.rt' if (self.top / f'crates/{name}/src/main.rt').is_file() else 'src/lib.rt')
         for library in dict.fromkeys(['std', *self.stands_on[name]]):
             yield from ('--extern', f'{library}={self.rlib(library)}')

@@ -1,5 +1,5 @@
-// Preloaded into a program: refuses its request for memory of the number REFUSED, counted from 1, and writes how many
-// requests there were, and the bytes of the greatest, to the file that REQUESTS names.
+// Preloaded into a program: refuses its request for memory number REFUSED, counted from 1. Writes the number of requests and
+// the size of the largest one in bytes to the file that REQUESTS names.
 #include <errno.h>
 #include <fcntl.h>
 #include <stdio.h>

@@ -2,10 +2,12 @@
 
     memory.py [PROGRAM]
 
-Needs gcc, and a PROGRAM that is built: crates/capnp_canon/out/capnp_canon if left out. After a refused request the output
-is that of the messages before, and standard error says `refused AllocationFailed`, with the message's number where one
-was begun; or less was asked for next, as where a list isn't made longer by a piece and is by a byte, and all is as
-without a refusal. The last line is `N passed, M failed`."""
+Needs gcc. PROGRAM must be built; it is crates/capnp_canon/out/capnp_canon if left out.
+
+After a refused request, a run must do one of two things. It may stop: then the output is the answers to the messages
+before, and standard error says `refused AllocationFailed`, with the number of the message if it had begun one. Or it may
+request less instead, for example one more byte for a list instead of a larger piece: then the run must end as without a
+refusal. The last line is `N passed, M failed`."""
 import os
 import pathlib
 import re
@@ -31,14 +33,14 @@ class Preloaded:
         subprocess.run(['gcc', '-shared', '-fPIC', '-O1', '-o', self.library, str(HERE / 'memory.c')], check=True)
 
     def run(self, args, data, refused=0):
-        """The run, how many requests it made, and the bytes of the greatest."""
+        """Makes a run. Returns it with its number of requests and the size of the largest one in bytes."""
         environment = {'LD_PRELOAD': self.library, 'REFUSED': str(refused), 'REQUESTS': str(self.told)}
         run = subprocess.run([self.program, *args], input=data, capture_output=True, env=environment)
         return run, *map(int, self.told.read_text().split())
 
 
 def refusals(preloaded, args, data):
-    """Whether each refused request ends the run as it should, one by one."""
+    """Refuses each request of a run in turn, and says whether the run ends as it should."""
     whole, requests, _ = preloaded.run(args, data)
     for number in range(1, requests + 1):
         run, made, _ = preloaded.run(args, data, number)
@@ -59,7 +61,7 @@ def main():
                     print(*what)
             _, once, greatest = preloaded.run(args, data)
             _, often, _ = preloaded.run(args, STREAM * 100 if data == STREAM else data * 100)
-            print(f'{" ".join(args)}: {once} requests, {(often - once) / 594:.2f} for each further message, the greatest of {greatest} bytes')
+            print(f'{" ".join(args)}: {once} requests, {(often - once) / 594:.2f} for each further message, the largest of {greatest} bytes')
     print(f'{passed} passed, {failed} failed')
     return 1 if failed else 0
 

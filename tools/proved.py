@@ -3,10 +3,11 @@
 
     proved.py FOLDER CRATE..
 
-builds the crates as they stand: the program FOLDER/CRATE, or the static library FOLDER/libCRATE.a. Where the libraries below all of them
-lie in this tree, built of the sources as they stand, as `./test` leaves them and an earlier run of this script, `rattle build` proves and
-compiles the crates over these. Else `rt ci` proves the libraries first, in a folder of its own, and they are left in this tree for the next
-run. What both say is shown."""
+Builds each crate from the current sources: the program FOLDER/CRATE, or the static library FOLDER/libCRATE.a.
+
+`./test` and earlier runs of this script leave libraries in this tree. If all libraries that the crates depend on are there,
+built from the current sources, `rattle build` proves and compiles the crates with these. Otherwise `rt ci` proves the
+libraries first, in a folder of its own, and this script leaves them in this tree for the next run. Shows what both print."""
 import io
 import os
 import pathlib
@@ -24,11 +25,11 @@ COUNTS = re.compile(r'[1-9]\d* passed, 0 failed')
 
 
 class Stopped(Exception):
-    """Why nothing is written."""
+    """Nothing is written; the text says why."""
 
 
 def said(*command, **how):
-    """What a command writes, which is shown too, and its exit status."""
+    """Runs a command and shows its output. Returns that and the exit status."""
     lines = []
     with subprocess.Popen(command, stdin=subprocess.DEVNULL, stdout=subprocess.PIPE, stderr=subprocess.STDOUT, encoding='utf-8', errors='replace', **how) as run:
         for line in run.stdout:
@@ -38,14 +39,14 @@ def said(*command, **how):
 
 
 def committed(room, paths):
-    """Puts files and folders of the last commit into a folder."""
+    """Copies files and folders of the last commit into a folder."""
     run = subprocess.run(['git', '-C', str(TOP), 'archive', 'HEAD', *paths], stdout=subprocess.PIPE, check=True)
     with tarfile.open(fileobj=io.BytesIO(run.stdout)) as archive:
         archive.extractall(room)
 
 
 def as_they_stand(room, paths):
-    """Copies files and folders, without what was built of them."""
+    """Copies files and folders as they are now, without what was built from them."""
     for path in paths:
         if (TOP / path).is_dir():
             shutil.copytree(TOP / path, room / path, ignore=shutil.ignore_patterns('out'))
@@ -54,7 +55,7 @@ def as_they_stand(room, paths):
 
 
 class Room:
-    """A folder in which crates are proved, and what fills it: `committed` or `as_they_stand`."""
+    """A temporary folder in which crates are proved, and the function that fills it: `committed` or `as_they_stand`."""
 
     def __init__(self, fill):
         self.at, self.fill = pathlib.Path(tempfile.mkdtemp(prefix='proved-')).resolve(), fill
@@ -68,7 +69,8 @@ class Room:
         shutil.rmtree(self.at, ignore_errors=True)
 
     def take(self, wanted):
-        """Takes the libraries below these crates from this tree, if they lie there and are built of the sources as they stand."""
+        """Uses the libraries in this tree that these crates depend on, if all are built from the current sources. Returns whether
+        they are."""
         left = Crates()
         if any(it not in left.stands_on or left.lacking(it) for it in wanted):
             return False
@@ -76,7 +78,7 @@ class Room:
         return True
 
     def prove(self, wanted):
-        """Has `rt ci` prove the libraries below these crates, or take them from an earlier run, and leave them built."""
+        """Makes `rt ci` prove and build the libraries that these crates depend on, or take them from its earlier runs."""
         lacking = [it for it in wanted if it not in self.crates.stands_on]
         if lacking:
             raise Stopped(f'crates.txt has no {lacking[0]}')
@@ -84,14 +86,15 @@ class Room:
         self.fill(self.at, [f'crates/{it}' for it in proved])
         lines = (f'{it}: {" ".join(self.crates.stands_on[it])}\n' for it in proved)
         (self.at / 'crates.txt').write_text(''.join(lines), encoding='utf-8')
-        # it is the top of a repository
+        # `rt ci` wants the top of a repository
         (self.at / '.git').mkdir()
         text, _ = said('rt', 'ci', cwd=self.at)
         if not COUNTS.fullmatch(text.rstrip('\n').rpartition('\n')[2]):
             raise Stopped('not all is proved')
 
     def leave(self, wanted, begun):
-        """Puts the libraries below these crates into this tree, in place of what lies there, as old as the sources that they were proved of."""
+        """Replaces the libraries in this tree that these crates depend on. Dates them as old as the start of this run, so that a
+        source that was changed since then is newer."""
         for crate in dict.fromkeys(it for crate in wanted for it in self.crates.below(crate)):
             to = TOP / f'crates/{crate}/out/rlib'
             shutil.rmtree(to, ignore_errors=True)
@@ -138,7 +141,7 @@ def main(given):
             except Stopped as why:
                 if not has_left:
                     sys.exit(f'proved.py: {why}')
-                print(f'proved.py: over the libraries that lie here {why}; now all is proved')
+                print(f'proved.py: with the libraries that are here, {why}; now everything is proved again')
 
 
 if __name__ == '__main__':

@@ -1,12 +1,12 @@
-# proving.sh: what the scripts that prove and build a crate share. It is read by them, with `.`; `top` is the top of the
+# proving.sh: functions for the scripts that prove and build a crate, which read this file with `.`. `top` is the top of the
 # repository and `name` the crate.
 
-# Says a line of this script's own.
+# Prints a line on standard error, after the name.
 say() {
     printf '%s\n' "$name: $1" >&2
 }
 
-# The crates that the program stands on, lowest first, and itself: crates.txt names each before those that use it.
+# The crate and the crates that it depends on, lowest first: crates.txt names each crate before those that use it.
 crates_below() {
     awk -v name="$name" '!/^#/ { sub(":", "", $1); line[++n] = $0 }
         END {
@@ -21,7 +21,8 @@ crates_below() {
         }' "$top/crates.txt"
 }
 
-# Shows how far it is: over the line before on a terminal, else where so many seconds have passed since the last line.
+# Shows the progress. On a terminal it replaces the last line; otherwise it prints a line if $1 seconds have passed since the
+# last one.
 show() {
     now=$(date +%s)
     if [ -t 2 ]; then
@@ -32,8 +33,8 @@ show() {
     fi
 }
 
-# Reads what `rt` says while it works, and a line `tick` each second: which crate it is at, and how many of the
-# crate's functions are checked.
+# Reads the output of `rt`, and a line `tick` each second. Shows which crate `rt` checks, and how many of its functions are
+# checked.
 progress() {
     start=$(date +%s) shown=0 at=begun
     crates=$(crates_below)
@@ -68,7 +69,8 @@ progress() {
     if [ -t 2 ]; then printf '\r\033[K' >&2; fi
 }
 
-# Does some work, shows how far it is, and keeps what it says in a file, whose last line is then its exit status.
+# Runs a command and copies its output to standard output and to a file. Adds a line with the exit status, and a line `tick`
+# each second to standard output.
 #
 #     work FILE COMMAND..
 work() {
@@ -79,10 +81,10 @@ work() {
     { kill $! && wait $!; } 2>/dev/null
 }
 
-# Says what is done first, that nothing is proved yet.
+# Says that something is proved and built first, and how long that takes.
 #
 #     announce WHAT
 announce() {
-    say "the $1 is proved and built first. Where nothing is proved yet that is the first proof of each of"
-    say "$(crates_below | wc -w) crates, which takes minutes on all processors; after a change it is less"
+    say "the $1 is proved and built first. If nothing is proved yet, $(crates_below | wc -w) crates are proved,"
+    say "which takes minutes on all processors. After a change it takes less"
 }

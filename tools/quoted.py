@@ -1,4 +1,4 @@
-"""What pages quote of the sources: definitions of `crates/*/specs/`, and items of `crates/*/src/`."""
+"""Finds what pages quote from the sources: definitions of `crates/*/specs/`, and items of `crates/*/src/`."""
 import dataclasses
 import functools
 import pathlib
@@ -13,7 +13,7 @@ NOT_NAMES = {'abbrev', 'unfoldable', 'pub', 'mutual', 'where', 'record', 'data',
 
 @dataclasses.dataclass(frozen=True)
 class Definition:
-    """One definition, or several that name one another: the comment and the text, as they stand."""
+    """One definition, or several that cite one another: their comments and their text."""
 
     crate: str
     module: str
@@ -31,7 +31,7 @@ class Definition:
 
 
 def imported(text):
-    """Where each name comes from that a file imports of specs/: the crate, the module, and its name there."""
+    """For each name that a file imports from specs/: the crate, the module, and its name there."""
     found = {}
     for crate, module, names in IMPORT.findall(text):
         for name in filter(None, (part.strip() for part in names.split(','))):
@@ -41,8 +41,8 @@ def imported(text):
 
 
 def names_of(lines):
-    """The names that a definition gives: its own, those that are defined with it, and the cases of a `data`. The fields of a
-    record are none: whoever has a value of it has named the record, and a variable or another record's field may have that name."""
+    """The names that a definition introduces: its own, those defined together with it, and the cases of a `data`. Fields of a
+    record don't count: a text that uses one has named the record, and variables may have the same name."""
     inside, kind = None, ''
     for line in lines:
         indent = len(line) - len(line.lstrip(' '))
@@ -63,7 +63,7 @@ def names_of(lines):
 
 @dataclasses.dataclass(frozen=True)
 class Specs:
-    """A file of specs/: its first comment, its definitions in order, and what it imports."""
+    """A file of specs/: its first comment, its definitions in order, and its imports."""
 
     crate: str
     module: str
@@ -100,7 +100,7 @@ def specs(crate, module):
 
 
 def said_of(definition, name):
-    """The comment above a name of a definition; where it has none, that of the last one before it in its file."""
+    """The comment above a name of a definition; if there is none, the last comment before it in the file."""
     lines = (TOP / f'crates/{definition.crate}/specs/{definition.module}.antt').read_text(encoding='utf-8').split('\n')
     at = next(i for i in range(definition.line - 1, len(lines)) if re.match(rf' *(?:abbrev )?(?:pub )?(?:(?:record|data) )?{re.escape(name)}(?= )', lines[i]))
     while not lines[at - 1].strip().startswith('--'):
@@ -113,7 +113,7 @@ def said_of(definition, name):
 
 @functools.cache
 def defining(crate, module, name):
-    """The definition of a name, where the sources of this repository have it."""
+    """The definition of a name in the sources of this repository, or None."""
     module = module.split('.')[0]
     if not (TOP / f'crates/{crate}/specs/{module}.antt').is_file():
         return None
@@ -124,14 +124,14 @@ def defining(crate, module, name):
 
 
 def words_in(code):
-    """Each name that a text has, operators with a sign for each operand."""
+    """The names in a text. An operator also counts with `◌` for each operand."""
     names = set(PARTS.findall(code))
     signs = {word for word in re.split(r'[\s(){},;]+', code) if word and not PARTS.search(word) and not word[0].isdigit()}
     return names | {f'◌{sign}◌' for sign in signs} | signs
 
 
 def cited(code, imports, own=None):
-    """What a text cites: definitions, types of the program, and words of the standard library."""
+    """The definitions, the types of the program and the words of the standard library that a text cites."""
     found, types, words = set(), set(), set()
     for name in words_in(code):
         if own and (here := defining(own.crate, own.module, name)):
@@ -148,7 +148,7 @@ def cited(code, imports, own=None):
 
 
 def closure(begin, without=frozenset()):
-    """Definitions and all that they rest on, but for those of another closure."""
+    """These definitions and all that they rest on, without the definitions of another closure."""
     found, types, words = set(), set(), set()
     waiting = list(begin)
     while waiting:
@@ -166,7 +166,7 @@ def closure(begin, without=frozenset()):
 
 @dataclasses.dataclass(frozen=True)
 class Function:
-    """A function of the program: its signature, its clauses, the file's imports, and its lines with the comment above it."""
+    """A function of the program: its signature, its clauses, its lines with the comment above it, and the imports of its file."""
 
     name: str
     signature: tuple
@@ -176,7 +176,7 @@ class Function:
 
     @property
     def head(self):
-        """The signature in one line, with the type that a method is of."""
+        """The signature in one line, with the type of a method in front of its name."""
         text = re.sub(r'\( ', '(', re.sub(r',? \)', ')', ' '.join(line.strip() for line in self.signature)))
         return re.sub(r'(?:pub(?:\([^)]*\))? )?(?:extern "C" )?fn \w+', f'fn {self.name}', text, count=1)
 
@@ -194,7 +194,7 @@ def without_indent(lines, indent):
 
 
 def owner(lines, number):
-    """What an `impl` or a `trait` is of that a line stands in: `A for B` is B."""
+    """The type of the `impl` or `trait` that contains a line: B for `impl A for B`."""
     if not lines[number].startswith(' '):
         return ''
     for line in reversed(lines[:number]):
@@ -207,7 +207,7 @@ def owner(lines, number):
 
 
 def function(path, name):
-    """A function of a file, or a method of a type or trait of it, as `Type::name`."""
+    """A function of a file, or a method of one of its types or traits, which is named `Type::name`."""
     text = (TOP / path).read_text(encoding='utf-8')
     lines = text.split('\n')
     of, _, last_name = name.rpartition('::')
@@ -240,7 +240,7 @@ def function(path, name):
 
 
 def ends(lines, start, number, indent):
-    """Whether a function's signature and clauses end at a line: in its body's first brace, or in a semicolon."""
+    """Whether the signature and the clauses of a function end at a line: with the first brace of its body, or a semicolon."""
     line = lines[number]
     if line in (' ' * indent + '{', ' ' * indent + '{}') or line.endswith('};') or line.endswith(';'):
         return True
@@ -249,7 +249,7 @@ def ends(lines, start, number, indent):
 
 
 def item(path, name):
-    """A struct, enum or trait of a file, with what stands above it, up to the brace that ends it."""
+    """A struct, enum, trait, constant or type of a file, with the comments and attributes above it, up to its last brace."""
     lines = (TOP / path).read_text(encoding='utf-8').split('\n')
     start = next((i for i, line in enumerate(lines) if re.match(rf' *(?:pub(?:\([^)]*\))? )?(?:struct|enum|trait|const|type) {name}\b', line)), None)
     if start is None:
@@ -265,7 +265,7 @@ def item(path, name):
 
 
 def declared_in(crate, path):
-    """The file of a crate that has a type, by the modules that lead to it: `edit.tasks.Task` stands in `edit/tasks.rt` or `edit.rt`."""
+    """The file of a crate that declares a type, from its path: `edit.tasks.Task` is in `edit/tasks.rt` or `edit.rt`."""
     *modules, name = path.split('.')
     for kept in range(len(modules), -1, -1):
         file = f'crates/{crate}/src/{"/".join(modules[:kept])}.rt'

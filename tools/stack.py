@@ -1,11 +1,11 @@
 #!/usr/bin/env python3
-"""Measures how many bytes of the machine's stack a built layout_tool takes for each level of a message.
+"""Measures how many bytes of stack a built layout_tool takes for each level of a message.
 
     stack.py BINARY
 
-Of each kind of chain (structs, lists of pointers, lists of structs, one inside the other) it looks for the deepest one
-that the program still answers under a small stack and under a greater one, for each command, and prints their
-difference by levels. A deeper message ends the program by a signal."""
+There are three kinds of chains of nested objects: structs, lists of pointers, lists of structs. For each kind and each
+command, this script finds the deepest chain that the program answers with a small stack, and with a larger one. It prints
+the difference of the stacks divided by the difference of the levels. A deeper message ends the program by a signal."""
 import itertools
 import resource
 import subprocess
@@ -13,7 +13,7 @@ import sys
 
 STACKS = (1 << 20, 8 << 20)
 COMMANDS = ('canon', 'check', 'size')
-# A struct of one pointer, a list of one pointer, and a list of one such struct, each with what lies in it right behind.
+# One level of each kind: a struct of one pointer, a list of one pointer, a list of one such struct. Its content comes next.
 CHAINS = {
     'structs': [1 << 48],
     'lists of pointers': [1 | 6 << 32 | 1 << 35],
@@ -22,7 +22,7 @@ CHAINS = {
 
 
 def is_answered(binary, command, words, levels, stack):
-    """Whether a command answers to a chain of so many levels, with a null pointer in the last, under so many bytes of stack."""
+    """Whether a command answers a chain of `levels` levels that ends in a null pointer, with `stack` bytes of stack."""
     def limit():
         resource.setrlimit(resource.RLIMIT_STACK, (stack, stack))
         resource.setrlimit(resource.RLIMIT_CORE, (0, 0))
@@ -34,7 +34,7 @@ def is_answered(binary, command, words, levels, stack):
 
 
 def deepest(binary, command, words, stack):
-    """The deepest chain that a command answers to, to one part in 2000."""
+    """The number of levels of the deepest chain that a command answers, with an error of at most one part in 2000."""
     least, most = 1, 2
     while is_answered(binary, command, words, most, stack):
         least, most = most, 2 * most
@@ -46,4 +46,4 @@ def deepest(binary, command, words, stack):
 
 for command, (name, words) in itertools.product(COMMANDS, CHAINS.items()):
     small, great = (deepest(sys.argv[1], command, words, stack) for stack in STACKS)
-    print(f'{command}, {name}: {small} levels in {STACKS[0] >> 10} KiB, {great} in {STACKS[1] >> 10} KiB: {(STACKS[1] - STACKS[0]) / (great - small):.0f} bytes a level')
+    print(f'{command}, {name}: {small} levels in {STACKS[0] >> 10} KiB, {great} in {STACKS[1] >> 10} KiB: {(STACKS[1] - STACKS[0]) / (great - small):.0f} bytes per level')

@@ -1,22 +1,24 @@
 #!/usr/bin/env python3
-"""Writes into pages what they quote of the sources: `docs/THEOREM.md`, the README, and `crates/*/CALLING.md`.
+"""Updates what pages quote from the sources: `docs/THEOREM.md`, the README, and `crates/*/CALLING.md`.
 
-    theorem.py             writes each page anew that differs
-    theorem.py --check     says which differ, and at last `N passed, M failed`, a page being one count
+    theorem.py             rewrites each page that differs
+    theorem.py --check     says which pages differ. The last line is `N passed, M failed`, which counts pages
     theorem.py --words     counts the words of README.md and docs/*.md, without what is quoted
 
-A page says what is quoted in a line of its own; the quotation stands behind that, and ends in `<!-- end -->`:
+A line of a page says what is quoted. The quotation comes after it, and ends with `<!-- end -->`:
 
-    <!-- clauses PATH NAME: LABEL, LABEL -->    a function's signature and these clauses, or all
-    <!-- function PATH NAME -->                 a function as a whole
+    <!-- clauses PATH NAME: LABEL, LABEL -->    the signature of a function and these clauses, or all
+    <!-- function PATH NAME -->                 a whole function
     <!-- item PATH NAME -->                     a struct, an enum or a constant
     <!-- definition CRATE MODULE NAME -->       a definition with its comment
-    <!-- definitions N -->                      of docs/THEOREM.md: what the clauses that are quoted in the sections of part N rest on
-    <!-- types N -->                            of docs/THEOREM.md: the types of the program that these definitions and clauses name
-    <!-- notation -->                           of docs/THEOREM.md: the words of the standard library in these definitions and clauses
-    <!-- elsewhere N -->                        of docs/THEOREM.md: what the clauses of section N cite that isn't printed there, and where it stands
-    <!-- count N -->                            how many definitions that are, in how many lines; all parts, without a number
+    <!-- definitions N -->                      all definitions that the clauses quoted in the sections of part N rest on
+    <!-- types N -->                            the types of the program that these definitions and clauses name
+    <!-- notation -->                           the notation of these definitions and clauses
+    <!-- elsewhere N -->                        the definitions that the clauses of section N cite and the page doesn't print, with their files
+    <!-- count N -->                            what a reader has to read: the number of definitions and of their lines; without N, of both parts
     <!-- tries -->                              a table of the tests: how many mutants, vectors, cases and streams there are
+
+The marks `definitions`, `types`, `notation` and `elsewhere` are for docs/THEOREM.md.
 """
 import functools
 import re
@@ -26,10 +28,9 @@ import quoted
 from quoted import TOP
 
 PAGE = TOP / 'docs/THEOREM.md'
-# The sections of the page whose clauses a part's definitions are for. What a part has, later ones don't repeat.
+# The sections of the page whose clauses rest on the definitions of a part. A part doesn't repeat those of earlier ones.
 PARTS = {'1': ('1', '2', '3'), '2': ('4', '5')}
-# The files of the definitions, in the order in which one reads them, and with which each part begins; those that aren't named
-# come at the end.
+# The first file of definitions of each part, and the order of files. Files that aren't named come last.
 BEGIN = {'1': 'capnp_messages/Messages', '2': 'capnp_format/Forest'}
 ORDER = (
     'capnp_messages/Messages', 'capnp_messages/CanonicalMessages', 'capnp_messages/Roots', 'capnp_words/Meter', 'capnp_objects/Source',
@@ -41,45 +42,101 @@ ORDER = (
     'capnp_objects/Reading', 'capnp_objects/Outcomes', 'capnp_objects/Spending', 'capnp_objects/Wanted', 'capnp_objects/Faults', 'capnp_objects/Demands',
     'capnp_objects/Refusals', 'capnp_objects/Expected', 'capnp_objects/Follow', 'capnp_words/Sizes', 'capnp_arena_traits/View', 'capnp_arena_traits/Checks',
 )
-# What the words of the standard library mean that the definitions use: the words, how they are written, what that means.
+# The notation of the definitions: the words of the standard library that a line explains, how they are written, what that means.
 WORDS = (
-    ('ℕ zero suc pred', 'ℕ, 0, `suc n`', 'whole numbers from 0 without an upper bound; `suc n` is n + 1, `pred n` is n - 1, or 0 for 0'),
-    ('◌+◌', '+ - * / % ^', 'as on whole numbers, but `a - b` is 0 if b is greater; `/` and `%` are quotient and remainder; `^` is a power'),
-    ('max min', '`max`, `min`', 'the greater and the lesser of two'),
-    ('ℤ pos negsuc', 'ℤ, `pos n`, `negsuc n`', 'whole numbers with a sign: n, and -(n + 1)'),
-    ('Bool true false not', '`true`, `false`, `&&`, <code>&#124;&#124;</code>, `not`', 'the two truth values; both, either, not'),
-    ('nat_eq nat_lt nat_le', '`nat_eq`, `nat_lt`, `nat_le`', 'whether two numbers are equal, the first is less, or at most the second'),
-    ('if◌then◌else◌', '`if b then x else y`', 'x if b is true, else y'),
-    ('List []', '`[]`, `x ∷ xs`, `xs ++ ys`', 'the empty list; x followed by xs; one list after the other'),
-    ('length take drop map replicate sum', '`length`, `take n`, `drop n`, `map f`, `replicate n x`, `sum`', 'of lists: the length, the first n, all but the first n, f of each, n times x, the sum'),
+    ('ℕ zero', 'ℕ', 'the whole numbers from 0 on, without an upper bound'),
+    ('suc', '`suc n`', 'n + 1'),
+    ('pred', '`pred n`', 'n - 1, or 0 if n is 0'),
+    ('◌+◌', '`a + b`', 'the sum'),
+    ('', '`a - b`', 'the difference, or 0 if b is greater than a'),
+    ('', '`a * b`', 'the product'),
+    ('', '`a / b`', 'the quotient, without a remainder'),
+    ('', '`a % b`', 'the remainder of that division'),
+    ('', '`a ^ b`', 'a to the power of b'),
+    ('max', '`max a b`', 'the greater one of two numbers'),
+    ('min', '`min a b`', 'the lesser one of two numbers'),
+    ('ℤ', 'ℤ', 'whole numbers with a sign'),
+    ('pos', '`pos n`', 'the number n in ℤ'),
+    ('negsuc', '`negsuc n`', 'the number -(n + 1) in ℤ'),
+    ('Bool true false', '`true`, `false`', 'the two truth values, of type `Bool`'),
+    ('', '`a && b`', 'whether both are true'),
+    ('', '<code>a &#124;&#124; b</code>', 'whether one of them is true, or both'),
+    ('not', '`not a`', 'whether a is false'),
+    ('nat_eq', '`nat_eq a b`', 'whether a and b are equal'),
+    ('nat_lt', '`nat_lt a b`', 'whether a is less than b'),
+    ('nat_le', '`nat_le a b`', 'whether a is at most b'),
+    ('if◌then◌else◌', '`if b then x else y`', 'x if b is true, otherwise y'),
+    ('List', '`List A`', 'the lists with elements of type A'),
+    ('[]', '`[]`', 'the empty list'),
+    ('', '`x ∷ xs`', 'the list of x followed by the elements of xs'),
+    ('', '`xs ++ ys`', 'the elements of xs followed by those of ys'),
+    ('length', '`length xs`', 'the number of elements'),
+    ('take', '`take n xs`', 'the first n elements'),
+    ('drop', '`drop n xs`', 'all elements except the first n'),
+    ('map', '`map f xs`', 'the list of f x for each element x'),
+    ('replicate', '`replicate n x`', 'the list of n times x'),
+    ('sum', '`sum xs`', 'the sum of the elements'),
     ('get_or', '`get_or xs i d`', 'the element at index i, counted from 0, or d if there is none'),
-    ('slice_get', '`slice_get xs i`', '`Some` of the element at index i, `None` if there is none'),
+    ('slice_get', '`slice_get xs i`', '`Some` of the element at index i, or `None` if there is none'),
     ('slice_set', '`slice_set xs i x`', 'xs with x at index i, or xs if there is no such index'),
     ('slice_index', '`slice_index xs i`', 'the number at index i, or 0 if there is none'),
-    ('Option Some None is_some unwrap_or ok_or', '`Option A`: `Some x`, `None`',
-     'an x, or nothing; `is_some o` says which, `unwrap_or o d` is x or d, `ok_or o e` is `Ok x` or `Err e`'),
-    ('option_map_or', '`option_map_or f o d`', 'f of what is there, and d where nothing is'),
-    ('Result Ok Err result_ok', '`Result A E`: `Ok x`, `Err e`', 'an answer, or a refusal; `result_ok` is the answer as an `Option`'),
-    ('IfOk IfErr', '`IfOk r P`, `IfErr r P`', 'if r is `Ok x`, P x; if r is `Err e`, P e'),
-    ('OnOk OnErr', '`OnOk r P`, `OnErr r P`', 'P, if r is an `Ok`; P, if it is an `Err`'),
-    ('MatchOption', '`MatchOption o P Q`', 'P, if o is `None`; Q x, if o is `Some x`'),
-    ('IsOk IsTrue', '`IsOk r`, `IsTrue b`', 'r is `Ok` of something; b is true'),
-    ('AllByRecursion', '`AllByRecursion P xs`', 'P of each element'),
-    ('from_le_bytes w64', '`from_le_bytes w64`', 'the number with these eight bytes, the lowest first'),
-    ('◌≡◌', '`≡`, `≢`, `<`, `≤`', 'equal, not equal, less, at most'),
-    ('◌⊎◌', '`P × Q`, `P ⊎ Q`, `P → Q`, `P ↔ Q`', 'both; one of them; Q follows from P; each from the other'),
-    ('', '`(x : A) → P`, `(x : A) × P`', 'P for every x; there is an x with P. With `{x : A}` for `(x : A)`, calls leave x out'),
-    ('⊤', '`⊤`, `⊥`, `Type 0`', 'what always holds, and what never does; `Type 0` as a result says that a definition is a statement, and `A : Type 0` is any type'),
-    ('', '`λ x. e`, `f x y`, `let x = e in y`', 'the function that gives e for x; f called with x and y; y, in which x is e'),
-    ('', '`x.0`, `x.1`, `x.field`', 'the first and the second part of a pair; a field of a record or struct'),
-    ('', '`record`, `data`', 'named facts, all of which hold, or named values: `record { a = x }` is a value, and `record r { a = x }` is r with x as its a; '
-     'the forms that a value can have, or the ways in which a statement can hold'),
-    ('', '`◌`, `_`', 'in the name of an operator, the place of an operand; in an equation, anything'),
+    ('Option', '`Option A`', 'a value of type A, or none'),
+    ('Some', '`Some x`', 'the option with the value x'),
+    ('None', '`None`', 'the option without a value'),
+    ('is_some', '`is_some o`', 'whether o has a value'),
+    ('unwrap_or', '`unwrap_or o d`', 'the value of o, or d if it has none'),
+    ('ok_or', '`ok_or o e`', '`Ok` of the value of o, or `Err e` if it has none'),
+    ('option_map_or', '`option_map_or f o d`', 'f of the value of o, or d if it has none'),
+    ('Result', '`Result A E`', 'an answer of type A, or a refusal of type E'),
+    ('Ok', '`Ok x`', 'the answer x'),
+    ('Err', '`Err e`', 'the refusal e'),
+    ('result_ok', '`result_ok r`', '`Some` of the answer, or `None` for a refusal'),
+    ('IfOk', '`IfOk r P`', 'if r is `Ok x`, then P x'),
+    ('IfErr', '`IfErr r P`', 'if r is `Err e`, then P e'),
+    ('OnOk', '`OnOk r P`', 'if r is an `Ok`, then P'),
+    ('OnErr', '`OnErr r P`', 'if r is an `Err`, then P'),
+    ('MatchOption', '`MatchOption o P Q`', 'P if o is `None`; Q x if o is `Some x`'),
+    ('IsOk', '`IsOk r`', 'r is `Ok x` for some x'),
+    ('IsTrue', '`IsTrue b`', 'b is true'),
+    ('AllByRecursion', '`AllByRecursion P xs`', 'P holds for each element of xs'),
+    ('from_le_bytes w64', '`from_le_bytes w64 bs`', 'the number with these eight bytes, the lowest first'),
+    ('◌≡◌', '`a ≡ b`', 'a equals b'),
+    ('', '`a ≢ b`', 'a differs from b'),
+    ('', '`a < b`', 'a is less than b'),
+    ('', '`a ≤ b`', 'a is at most b'),
+    ('', '`P × Q`', 'P and Q'),
+    ('◌⊎◌', '`P ⊎ Q`', 'P or Q'),
+    ('', '`P → Q`', 'if P, then Q'),
+    ('', '`P ↔ Q`', 'P exactly if Q'),
+    ('', '`(x : A) → P`', 'P for every x of type A'),
+    ('', '`{x : A} → P`', 'the same; calls leave x out'),
+    ('', '`(x : A) × P`', 'there is an x of type A with P'),
+    ('⊤', '`⊤`', 'the statement that always holds'),
+    ('', '`⊥`', 'the statement that never holds'),
+    ('', '`Type 0`', 'as the result of a definition: it is a statement. `A : Type 0` is any type'),
+    ('', '`λ x. e`', 'the function whose result for x is e'),
+    ('', '`f x y`', 'the result of f for x and y'),
+    ('', '`let x = e in y`', 'y, in which x is e'),
+    ('', '`x.0`', 'the first part of a pair'),
+    ('', '`x.1`', 'the second part of a pair'),
+    ('', '`x.field`', 'a field of a record or a struct'),
+    ('', '`record`', 'named facts, all of which hold; or named values'),
+    ('', '`record { a = x }`', 'the record with x as its a'),
+    ('', '`record r { a = x }`', 'r with x as its a'),
+    ('', '`data`', 'the forms that a value can have, or the ways in which a statement can hold'),
+    ('', '`◌`', 'in the name of an operator, the place of an operand'),
+    ('', '`_`', 'in an equation, anything'),
     ('', '`abbrev`, `pub`, `unfoldable`, `mutual`, `infixl 10`', 'don\'t change the meaning'),
-    ('', '`fn f<A: T>(x: X) -> R`', 'a Rust function, for every type A that has the trait T, from an x to `result`'),
-    ('', '`requires { P }`, `ensures NAME { P }`', 'P holds when it is called; P holds when it returns, which is proved. NAME is how the text refers to it'),
-    ('Bor', '`x.old`, `x.new`, `x.now`, `Bor A`', 'what a `&mut` refers to when the call begins, and when it ends; what a `&` refers to; a reference to an A. What is passed by value has its plain name'),
-    ('', '`A.view x`, `⟦<A as T>⟧.view x`', 'what the type A says of x as a T, by the name `view`'),
+    ('', '`fn f<A: T>(x: X) -> R`', 'a Rust function, for every type A that has the trait T; in clauses its result is `result`'),
+    ('', '`requires { P }`', 'P must hold when the function is called'),
+    ('', '`ensures NAME { P }`', 'P holds when the function returns, which is proved. The text refers to it as NAME'),
+    ('', '`x`', 'an argument that is passed by value'),
+    ('', '`x.old`', 'what the `&mut` x refers to when the call begins'),
+    ('', '`x.new`', 'what the `&mut` x refers to when the call ends'),
+    ('', '`x.now`', 'what the `&` x refers to'),
+    ('Bor', '`Bor A`', 'a reference to an A'),
+    ('', '`A.view x`', 'what the type A says about x, under the name `view`'),
+    ('', '`⟦<A as T>⟧.view x`', 'the same, for the trait T of A'),
 )
 MARK = re.compile(r'<!-- (clauses|function|item|definitions|definition|types|notation|elsewhere|count|tries)\b ?(.*?) ?-->')
 END = '<!-- end -->'
@@ -87,7 +144,7 @@ END = '<!-- end -->'
 
 @functools.cache
 def statements(sections):
-    """The clauses that the page quotes in these sections: of each function the lines, and what its file imports."""
+    """The clauses that the page quotes in these sections: the lines of each function, and the imports of its file."""
     found, section = [], None
     for line in PAGE.read_text(encoding='utf-8').split('\n'):
         if heading := re.match(r'## (\d+)?', line):
@@ -111,7 +168,7 @@ def rests_on(sections, without=frozenset()):
 
 @functools.cache
 def parts():
-    """The definitions, types and words of each part, without the definitions and types of those before it."""
+    """The definitions, types and words of each part, without the definitions and types of earlier parts."""
     done, named, found = frozenset(), frozenset(), {}
     for number, sections in PARTS.items():
         definitions_of, types, words = rests_on(sections, done)
@@ -122,7 +179,7 @@ def parts():
 
 
 def elsewhere(section):
-    """What the clauses of a section cite that no part prints: each name with its file and what is said of it there."""
+    """The definitions that the clauses of a section cite and that no part prints: each name with its file and its comment."""
     printed = frozenset().union(*(found for found, _, _ in parts().values()))
     rests, _, _ = rests_on((section,), printed)
     cited = {}
@@ -136,11 +193,11 @@ def elsewhere(section):
             says = quoted.said_of(definition, name).replace('|', '&#124;')
             lines.append(f'| `{name}` | `{definition.crate}/specs/{definition.module}.antt` | {says} |')
     files = len({(definition.crate, definition.module) for definition in rests})
-    return [*lines, '', f'With what these rest on they are {len(rests)} definitions in {length(rests)} lines of {files} files.']
+    return [*lines, '', f'With everything that they rest on, these are {len(rests)} definitions: {length(rests):,} lines in {files} files.']
 
 
 def in_order(found, number):
-    """The definitions as one reads them: by files, those of a part from its first file on, and as they stand there."""
+    """The definitions in the order in which to read them: by files, from the first file of the part on, and by their lines."""
     first = ORDER.index(BEGIN[number])
 
     def place(definition):
@@ -151,7 +208,7 @@ def in_order(found, number):
 
 
 def renamed(file, found):
-    """A line on the names under which a file has those of others, where its definitions use them."""
+    """A line about the names that a file imports under another name, if its definitions use them."""
     used = set().union(*(quoted.words_in(definition.code) for definition in found if (definition.crate, definition.module) == file))
     names = [(here, there, module) for here, (_, module, there) in quoted.specs(*file).imports.items() if here != there and here in used]
     names = [f'`{here}` is {origin(module, there)}' for here, there, module in sorted(names)]
@@ -159,7 +216,7 @@ def renamed(file, found):
 
 
 def origin(module, name):
-    """What a name is where it comes from: a type of the program, a variant of one, or a definition."""
+    """The origin of a name: a type of the program, a variant of one, or a definition."""
     of = module.removesuffix('.TheVariants').split('.')[-1]
     if not module.startswith('declared.'):
         return f'`{name}` of `{of}`'
@@ -183,7 +240,7 @@ def definitions(number):
 
 
 def types(number):
-    """The types of the program that a part names, each as its file has it."""
+    """The types of the program that a part names, as they are in their files."""
     lines = ['```rust']
     for crate, path in sorted(parts()[number][1]):
         lines += quoted.item(quoted.declared_in(crate, path), path.split('.')[-1]) + ['']
@@ -195,9 +252,9 @@ def notation():
     told = {word for words, _, _ in WORDS for word in words.split()}
     signs = re.compile(r'[◌+\-*/%^<≤≡≢∷↔⊎&|=ℤ]+')
     if untold := sorted(word for word in used - told if not signs.fullmatch(word)):
-        raise SystemExit(f'tools/theorem.py: say in WORDS what these mean: {", ".join(untold)}')
+        raise SystemExit(f'tools/theorem.py: explain these in WORDS: {", ".join(untold)}')
     if unused := sorted(word for word in told - used if not signs.fullmatch(word) and word != 'if◌then◌else◌'):
-        raise SystemExit(f'tools/theorem.py: nothing uses these of WORDS: {", ".join(unused)}')
+        raise SystemExit(f'tools/theorem.py: no definition uses these words of WORDS: {", ".join(unused)}')
     return ['| Written | Means |', '|---|---|', *(f'| {written} | {meaning} |' for _, written, meaning in WORDS)]
 
 
@@ -208,14 +265,15 @@ def length(definitions_found):
 def count(number):
     found = parts()[number][0]
     files = len({(definition.crate, definition.module) for definition in found})
-    return [f'{len(found)} definitions (those that name one another being one) in {length(found)} lines of {files} files.']
+    what = 'Parts 1 to 3 rest on these' if number == '1' else 'Parts 4 and 5 also rest on these'
+    return [f'{what} {len(found)} definitions, {length(found):,} lines without comments, from {files} files. Definitions that cite each', 'other count as one.']
 
 
 def both_counts():
     first, second = (found for found, _, _ in parts().values())
     return [
-        f'{len(first)} definitions in {length(first)} lines for the copy and the test, and another {len(second)} in '
-        f'{length(second)} lines for both at a pointer and for edits.'
+        f'To judge the claims about copies and the test, you have to read {len(first)} definitions, {length(first):,} lines in all. For the claim',
+        f'about builders, and for copies and the test at any pointer, read {len(second)} further ones, {length(second):,} lines.',
     ]
 
 
@@ -224,7 +282,7 @@ def lines_of(pattern, without=''):
 
 
 def tries():
-    rows = (
+    table = (
         ('mutants: bugs planted in the source, each refused by the prover (`./test --every-mutant` tries all)', '`tests/mutants/`', len(list(TOP.glob('tests/mutants/*/*.mutant')))),
         ('mutants that the gate tries', '`tests/mutants/gate.txt`', len((TOP / 'tests/mutants/gate.txt').read_text(encoding='utf-8').split())),
         ('vectors: messages with answers from outside of this repository', '`tests/vectors/`', lines_of('tests/vectors/*.jsonl', 'worked.jsonl')),
@@ -232,11 +290,11 @@ def tries():
         ('cases: calls of readers and builders, and edits, as lines of text', '`tests/cases/`', lines_of('tests/cases/*.jsonl')),
         ('runs of `capnp_canon`', '`tests/streams/`', lines_of('tests/streams/*.jsonl')),
     )
-    return ['| What | Where | How many |', '|---|---|---|', *(f'| {what} | {where} | {number:,} |' for what, where, number in rows)]
+    return ['| What | Where | How many |', '|---|---|---|', *(f'| {what} | {where} | {number:,} |' for what, where, number in table)]
 
 
 def chosen(rest):
-    """The function of a mark, and the labels of the clauses that it wants."""
+    """The function that a mark names, and the labels of the clauses to quote."""
     wanted, _, labels = rest.partition(': ')
     return quoted.function(*wanted.split()), [label.strip() for label in labels.split(',')] if labels else ()
 
@@ -266,7 +324,7 @@ def quotation(kind, rest):
 
 
 def written(text):
-    """A page with what it quotes as the sources have it."""
+    """The text of a page with its quotations as they are in the sources now."""
     lines, left = [], iter(text.split('\n'))
     for line in left:
         lines.append(line)
@@ -276,7 +334,7 @@ def written(text):
                 if old == END:
                     break
             else:
-                raise SystemExit(f'no {END} behind {line}')
+                raise SystemExit(f'no {END} after {line}')
     return '\n'.join(lines)
 
 
@@ -285,7 +343,7 @@ def pages():
 
 
 def prose(text):
-    """The words that a page has besides what it quotes by this script."""
+    """The number of words of a page, without what this script writes."""
     return len(re.sub(r'<!-- (?:clauses|function|item|definitions?|types|notation|elsewhere|count|tries)\b.*?<!-- end -->', '', text, flags=re.S).split())
 
 
@@ -314,7 +372,7 @@ def main():
             print(f'{page.relative_to(TOP)} differs from the sources: run python3 tools/theorem.py')
         else:
             page.write_text(new, encoding='utf-8')
-            print(f'{page.relative_to(TOP)} is written anew')
+            print(f'{page.relative_to(TOP)} is updated')
     if sys.argv[1:] == ['--check']:
         print(f'{len(pages()) - failed} passed, {failed} failed')
         return 1 if failed else 0

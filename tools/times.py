@@ -1,10 +1,11 @@
-"""Prints how long the program capnp_canon takes beside C++ Cap'n Proto, and the memory of both, as a table.
+"""Prints a table of the times and the memory of the program capnp_canon and of C++ Cap'n Proto.
 
     times.py [PROGRAM] [RUNS]
 
-PROGRAM is `crates/capnp_canon/out/capnp_canon` if left out, since the script at the top takes 13 milliseconds of its own.
-The peer is a program over the C++ library with buffers of the same size, and for packed messages the command `capnp
-convert` too. Times are processor seconds, the best of RUNS runs (5 if left out), memory is the greatest resident size."""
+PROGRAM is `crates/capnp_canon/out/capnp_canon` if left out: the script at the top of the repository would add 13
+milliseconds. The peer is a program that uses the C++ library, with buffers of the same size; for packed messages also the
+command `capnp convert`. Times are processor seconds, the best of RUNS runs (5 if left out). Memory is the largest
+resident size."""
 import multiprocessing
 import os
 import pathlib
@@ -17,7 +18,7 @@ from peer import BOOK, PERSON, TOP, Peer
 
 
 def measured(words, path, folder, runs):
-    """The processor seconds of the best run, and the greatest resident size in MiB."""
+    """The processor seconds of the best run, and the largest resident size in MiB."""
     seconds, size = [], 0
     for _ in range(runs):
         with open(path, 'rb') as given, open(os.devnull, 'wb') as taken:
@@ -31,7 +32,7 @@ def measured(words, path, folder, runs):
 
 
 def with_words_behind(data):
-    """Frames of one segment, each with a word behind the value: a fault that is met at the very end."""
+    """These frames of one segment, each with one word added after the value: a fault at the very end."""
     out, at = [], 0
     while at < len(data):
         count = int.from_bytes(data[at + 4:at + 8], 'little')
@@ -41,7 +42,7 @@ def with_words_behind(data):
 
 
 def made(peer, words):
-    """Writes a stream into the peer's folder, as it is, in canonical form, so with words behind, and packed."""
+    """Writes a stream into the peer's folder in four forms: plain, canonical, canonical with a word after each value, packed."""
     data = peer.book(*words) if isinstance(words[0], str) else peer.people(*words)
     forms = {'plain': data, 'canonical': peer.copied(['canon'], data), 'packed': peer.copied(['copy', 'pack'], data)}
     forms['late'] = with_words_behind(forms['canonical'])
@@ -50,7 +51,7 @@ def made(peer, words):
 
 
 def apart(work, *args):
-    """Does this in a process of its own: the size of the one that measures is the least that it can measure."""
+    """Does this in a separate process, because the measuring process can't measure a size below its own."""
     process = multiprocessing.Process(target=work, args=args)
     process.start()
     process.join()
@@ -59,10 +60,10 @@ def apart(work, *args):
 
 
 def rows(name, of, converted):
-    """What is measured of a stream: a title, our arguments, the peer's command, and which form of the stream is read."""
+    """What to measure on a stream: a title, our arguments, the peer's command, and the form of the stream that both read."""
     yield f'`canon`, {name}', ['canon'], ['./peer', 'canon'], 'plain'
     yield f'`canon`, {name} in canonical form', ['canon'], ['./peer', 'canon'], 'canonical'
-    yield f'`canon`, {name} in canonical form with a word behind', ['canon'], ['./peer', 'canon'], 'late'
+    yield f'`canon`, {name} in canonical form with a word after it', ['canon'], ['./peer', 'canon'], 'late'
     yield f'`check`, {name}', ['check'], ['./peer', 'check'], 'plain'
     yield f'`check`, {name} in canonical form', ['check'], ['./peer', 'check'], 'canonical'
     yield f'`size`, {name}', ['size'], ['./peer', 'size'], 'plain'
@@ -76,7 +77,7 @@ FLAT = ['canon', '--flat'], 'binary:canonical', 'plain'
 UNPACK_SMALL = ['canon', '--packed'], 'packed:canonical', 'packed'
 UNPACK = ['canon', '--packed'], 'packed:binary', 'packed'
 PACK = ['canon', '--pack'], 'binary:packed', 'plain'
-# Each stream: its name, its type, what it is made of, and what `capnp convert` is measured on.
+# Each stream: its name, its type, the arguments to make it, and what to measure with `capnp convert`.
 STREAMS = (
     ('small messages', PERSON, (9, 100_000, 0), (FLAT, UNPACK_SMALL, PACK)),
     ('a large one', BOOK, ('7100000',), (UNPACK, PACK)),

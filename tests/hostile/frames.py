@@ -1,4 +1,5 @@
-"""Frames of messages, by the encoding's own description ("Serialization Over a Stream"), apart from the crates."""
+"""Writes and reads frames as the encoding specification describes them ("Serialization Over a Stream"), independently of the
+crates."""
 
 MOST_SEGMENTS = 512
 MOST_WORDS = 8_388_608
@@ -9,12 +10,12 @@ def whole_words(segment):
 
 
 def number_at(frame, at):
-    """The number of four bytes, or None where they aren't all there."""
+    """The number in the four bytes at a position, or None if the frame ends before."""
     return int.from_bytes(frame[at:at + 4], 'little') if at + 4 <= len(frame) else None
 
 
 def framed(segments):
-    """The hex digits of a message's frame."""
+    """The frame of a message as hex digits."""
     segments = [whole_words(it) for it in segments]
     table = [len(segments) - 1, *(len(it) // 8 for it in segments)]
     padding = bytes(4 * (len(table) % 2))
@@ -22,7 +23,7 @@ def framed(segments):
 
 
 def table_of(frame):
-    """The lengths of a frame's segments in words, and where their words begin, or the name of what is amiss."""
+    """The lengths of a frame's segments in words, and where their words begin; or the name of the refusal."""
     if not frame:
         return 'NoMessage'
     count = number_at(frame, 0)
@@ -37,7 +38,7 @@ def table_of(frame):
 
 
 def refusal(frame):
-    """The name by which a frame is refused, or None where a message stands there."""
+    """The name of the refusal of a frame, or None if it holds a message."""
     table = table_of(frame)
     if isinstance(table, str):
         return table

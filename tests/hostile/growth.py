@@ -1,4 +1,5 @@
-"""Messages that are built while segments are refused: what stands is what the calls leave, and the audit passes it."""
+"""Builds messages while segments are refused. Checks that each message has the value that the calls should leave, and passes
+the audit."""
 import copy
 import itertools
 import json
@@ -9,17 +10,17 @@ from trees import segments_of, value
 
 WORDS = 1, 2, 3, 7
 SEGMENTS = range(8)
-# Rows that ask for objects of so many elements, or bytes, are left out.
+# Cases that request an object of this many elements or bytes, or more, are left out.
 MANY = 10_000
 REFUSED = 'AllocationFailed'
 STRUCT = '0000000001000100070000000000000001000000120000006100000000000000'
-# What is built in a scratch space alone: a text, a struct and its own, and a canonical copy of these.
+# What is built in a scratch space only: a text; a struct with a text; and a canonical copy of that.
 ALONE = {
     '-:st,48656c6c6f2c20576f726c6421': 'ok 010000007200000048656c6c6f2c20576f726c6421000000',
     '-:is,1,1;-:sf,2,0,7;c0:st,61': f'ok;ok;ok {STRUCT}',
     f'-:cf,{STRUCT},64,8,1': f'ok {STRUCT}',
 }
-# Edits, and builder calls, that leave null where they are refused memory; the others leave what was there.
+# Edits and builder calls that leave null if memory is refused; all others leave what was there.
 MAKING = {'is', 'il', 'isl', 'it', 'id', 'st', 'sd', 'cf', 'ss', 'sl'}
 MAKING_CALLS = {
     'put_struct', 'init_struct', 'put_list', 'init_list', 'put_struct_list', 'init_struct_list', 'init_text', 'init_data',
@@ -27,7 +28,7 @@ MAKING_CALLS = {
 }
 # The calls that open a struct or a list of structs. Their last argument may be a default.
 OPENING_CALLS = {'find_struct', 'get_struct', 'find_struct_list', 'get_struct_list'}
-# Which argument of an edit or of a builder call is a number of elements or bytes.
+# The position of the argument of an edit or a builder call that is a number of elements or bytes.
 COUNTS = {
     'il': 1, 'isl': 0, 'it': 0, 'id': 0,
     'put_list': 1, 'init_list': 1, 'put_struct_list': 0, 'init_struct_list': 0, 'init_text': 0, 'init_data': 0,
@@ -39,19 +40,20 @@ def operation(edit):
 
 
 def instead(edit):
-    """What may stand where an edit is refused memory, as edits with ample memory, each with its outcome where that matters."""
+    """The lists of edits, one of which has the same effect with ample memory as this edit without memory. Each edit has its
+    outcome, or None if that doesn't matter."""
     path, _, call = edit.partition(':')
     if operation(edit) in MAKING:
         return [[(f'{path}:cl', 'ok')]]
     default = call.split(',')[-1]
     if operation(edit) in {'gs', 'gsl'} and default != 'none':
-        # the default's copy is refused; or it is put, and what is opened is refused more words
+        # either the copy of the default is refused, or it is stored and the opened object is refused more words
         return [[], [(f'{path}:gt,{default}', None)]]
     return [[]]
 
 
 def replacements(edits, outcomes):
-    """The lists of edits, with outcomes, one of which leaves with ample memory what these edits leave."""
+    """The lists of edits with outcomes, one of which has the same effect with ample memory as these edits."""
     choices = [instead(edit) if outcome == REFUSED else [[(edit, outcome)]] for edit, outcome in zip(edits, outcomes)]
     return [list(itertools.chain(*choice)) or [('-:cl', 'ok')] for choice in itertools.product(*choices)]
 
@@ -67,30 +69,30 @@ def run_edits(program, lines):
 
 
 def lent(program, command, calls, counts):
-    """Whether the same is answered, refusals too, where the first segment is in memory that the caller lends, whatever that
-    memory held; and where not a segment is refused but the row of one."""
+    """Checks that the answers, refusals included, are the same if the first segment is in memory that the caller lends, whatever
+    that memory held; and if the arena's row of a segment is refused instead of the segment."""
     runs = [(words, segments, it) for it in calls for words in WORDS for segments in (*SEGMENTS, 'none')]
     heap = answers([*program, command], [f'{words} {segments} {it}' for words, segments, it in runs])
     scratch = answers([*program, command], [f'{words}/{words} {segments} {it}' for words, segments, it in runs])
     for run, wanted, got in zip(runs, heap, scratch):
         counts.told(got == wanted, 'other answers in scratch space', run, wanted, got)
-    # on the heap each segment has a row that is asked for, in scratch space each but the first
+    # on the heap a row is requested for each segment; in scratch space, for each except the first
     refused = [(run, wanted) for run, wanted in zip(runs, heap) if REFUSED in wanted]
     lines = [(f'{words} none/{rows} {it}', wanted) for (words, rows, it), wanted in refused]
     lines += [(f'{words}/{words} none/{segments - 1} {it}', wanted) for (words, segments, it), wanted in refused if segments]
     for (line, wanted), got in zip(lines, answers([*program, command], [line for line, _ in lines])):
-        counts.told(got == wanted, 'other answers where rows are refused', line, wanted, got)
+        counts.told(got == wanted, 'other answers if rows are refused', line, wanted, got)
 
 
 def is_large(call):
-    """Whether an edit or a builder call asks for an object of very many elements."""
+    """Whether an edit or a builder call requests an object of MANY elements or more."""
     name, *arguments = re.split('[:.]', call)[-1].split(',')
     at = COUNTS.get(name)
     return at is not None and int(arguments[at]) >= MANY
 
 
 def lists(paths, left_out):
-    """The lists of edits of rows, each once, but for those of very large objects, which are added to those left out."""
+    """The lists of edits of all cases, each once. Those with very large objects are added to `left_out` instead."""
     found = {}
     for path in paths:
         for line in path.open(encoding='utf-8'):
@@ -100,8 +102,8 @@ def lists(paths, left_out):
 
 
 def refusals(program, command, texts, counts):
-    """The runs of these texts in which a segment is refused, with the words of the allocator's segments before them, and their
-    answers: from no segment on, one more each time, until none is refused."""
+    """Runs these texts with 0, 1, 2 .. segments granted, until no segment is refused. Yields each run in which a segment was
+    refused: the start of its line (words of a segment, number of segments), its text and its answer."""
     runs = [(f'{words} ', text) for text in texts for words in WORDS]
     for segments in itertools.count():
         found = answers([*program, command], [f'{words}{segments} {text}' for words, text in runs])
@@ -122,9 +124,10 @@ def is_told(choice, answer):
 
 
 def edited(program, edits, counts):
-    """Lists of edits, with segments refused: each refused edit leaves what it says, and the others do as they do else."""
+    """Runs lists of edits with segments refused. A refused edit must leave what `instead` says; the others must do what they
+    always do."""
     runs = [(start, edits.split(';'), *parted(answer)) for start, edits, answer in refusals(program, 'edits', edits, counts)]
-    # content that is refused leaves some of it: the list up to there is looked at by itself
+    # refused content leaves a part of it, so `content` checks the list of edits up to there on its own
     parts, whole = [], []
     for run in runs:
         refused = [i for i, (edit, outcome) in enumerate(zip(run[1], run[2])) if outcome == REFUSED and operation(edit) == 'cc']
@@ -135,17 +138,17 @@ def edited(program, edits, counts):
 
 
 def told(program, runs, counts):
-    """Whether each message has the value that edits with ample memory leave in place of those that were refused."""
+    """Checks that each message has the value that the replacements of the refused edits leave with ample memory."""
     choices = [(run, choice) for run in runs for choice in replacements(run[1], run[2])]
     ample = run_edits(program, ['1024 none ' + ';'.join(edit for edit, _ in choice) for _, choice in choices])
     for run, group in itertools.groupby(zip(choices, ample), key=lambda it: it[0][0]):
         found = value(segments_of(run[3]))
         holds = any(is_told(choice, answer) and value(segments_of(answer[1])) == found for (_, choice), answer in group)
-        counts.told(holds, 'another value stands, or another outcome', run)
+        counts.told(holds, 'another value or another outcome', run)
 
 
 def part(whole, path):
-    """The data and the pointers of the struct to which a path leads."""
+    """The data and the pointers of the struct that a path leads to."""
     for step in path.split('.') if path != '-' else ():
         kind, number = step[0], int(step[1:])
         if kind == 'c':
@@ -156,7 +159,8 @@ def part(whole, path):
 
 
 def content(program, runs, counts):
-    """Whether content that was refused memory has left the data and some first pointers, and nulls behind these."""
+    """Checks that content that was refused memory has left its data, its first pointers up to some point, and null pointers
+    after them."""
     fronts = [(start, edits[:at + 1], outcomes[:at + 1]) for (start, edits, outcomes, _), at in runs]
     limited = run_edits(program, [start + ';'.join(edits) for start, edits, _ in fronts])
     choices = [(front, choice) for front in zip(fronts, limited) for choice in replacements(front[0][1][:-1], front[0][2][:-1])]
@@ -168,7 +172,8 @@ def content(program, runs, counts):
 
 
 def cut(whole, path):
-    """A value with the pointers of the struct at a path null from one on, for each; none where there is no such struct."""
+    """For each pointer of the struct at a path, from the last to the first: the value with this pointer and all after it null.
+    Nothing if there is no such struct."""
     try:
         pointers = part(whole, path)[1]
     except (IndexError, TypeError):
@@ -179,8 +184,8 @@ def cut(whole, path):
 
 
 def builder_calls(paths, left_out):
-    """The lists of builder calls of rows, each once, but for those of segments as bytes, and for those of very large objects,
-    which are added to those left out."""
+    """The lists of builder calls of all cases, each once, except for those that use segments as bytes. Those with very large
+    objects are added to `left_out` instead."""
     calls = {}
     for path in paths:
         for line in path.open(encoding='utf-8'):
@@ -191,21 +196,21 @@ def builder_calls(paths, left_out):
 
 
 def in_scratch(program, edits, builds, counts):
-    """Lists of edits and of builder calls, with segments refused, and the first one on the heap and in scratch space."""
+    """Compares runs with the first segment in scratch space to runs with it on the heap, with segments refused."""
     lent(program, 'edits', edits, counts)
     lent(program, 'builds', builds, counts)
 
 
 def alone(program, counts):
-    """Whether a scratch space of 1,024 words is enough for a small message where every other segment is refused."""
+    """Checks that a scratch space of 1,024 words is enough for a small message if every other segment is refused."""
     lines = [f'0/1024 1 {edits}' for edits in ALONE]
     for line, wanted, got in zip(lines, ALONE.values(), answers([*program, 'edits'], lines)):
-        counts.told(got == wanted, 'not built in scratch space alone', line, wanted, got)
+        counts.told(got == wanted, 'not built in scratch space only', line, wanted, got)
 
 
 def calls_instead(call):
-    """What may stand where a builder call is refused memory, as calls with ample memory, which keep no place either; none where
-    it leaves a part of what it copies."""
+    """The lists of builder calls, one of which has the same effect with ample memory as this call without memory; they keep no
+    place either. None for a call that leaves a part of what it copies."""
     place, point, rest = call.rpartition('.')
     name, *arguments = rest.split(',')
     if name == 'content':
@@ -213,20 +218,20 @@ def calls_instead(call):
     if name in MAKING_CALLS:
         return [[f'{place}{point}clear']]
     if name in OPENING_CALLS and len(arguments) == 3:
-        # the default's copy is refused; or it is put, and what is opened is refused more words
+        # either the copy of the default is refused, or it is stored and the opened object is refused more words
         return [[], [f'{place}{point}put_default,{arguments[2]}']]
     return [[]]
 
 
 def calls_replaced(calls, outcomes):
-    """The lists of calls, one of which leaves with ample memory what these calls leave."""
+    """The lists of calls, one of which has the same effect with ample memory as these calls."""
     choices = [calls_instead(call) if outcome.startswith(REFUSED) else [[call]] for call, outcome in zip(calls, outcomes)]
     return [list(itertools.chain(*choice)) or ['clear'] for choice in itertools.product(*choices)]
 
 
 def built(program, calls, counts):
-    """Lists of builder calls, with segments refused: what stands is a message that a builder makes, and the value that calls
-    with ample memory leave in place of those that were refused."""
+    """Runs lists of builder calls with segments refused. Checks that each message passes the audit, and has the value that the
+    replacements of the refused calls leave with ample memory."""
     runs = [(start + calls, calls, *answer.rsplit(';', 1)) for start, calls, answer in refusals(program, 'builds', calls, counts)]
     audited(program, [(line, words) for line, _, _, words in runs], counts)
     choices = [((line, words), choice) for line, calls, outcomes, words in runs for choice in calls_replaced(calls.split(), outcomes.split(';'))]
@@ -234,17 +239,17 @@ def built(program, calls, counts):
     for (line, words), group in itertools.groupby(zip(choices, ample), key=lambda it: it[0][0]):
         found = value(segments_of(words))
         holds = any(value(segments_of(answer.rpartition(';')[2])) == found for _, answer in group)
-        counts.told(holds, 'another value stands', line, words)
+        counts.told(holds, 'another value', line, words)
 
 
 def deep(program, counts):
-    """A message of many levels, which the audit goes through with no recursion."""
+    """Audits a message of very many levels: the audit has no recursion."""
     word = (1 << 48).to_bytes(8, 'little').hex()
     audited(program, [('2^20 structs, one inside the other', word * (1 << 20) + '00' * 8)], counts)
 
 
 def audited(program, messages, counts):
-    """Whether the audit passes messages, each behind the line that made it."""
+    """Checks that the audit passes these messages, each given with the line that made it."""
     found = answers([*program, 'audits'], [words for _, words in messages])
     for (line, words), answer in zip(messages, found):
         counts.told(answer == '1', 'not a message that a builder makes', line, words, answer)

@@ -1,4 +1,4 @@
-"""Programs that answer a line by a line, and what is counted of them."""
+"""Runs programs that answer each line with a line, and counts right and wrong answers."""
 import subprocess
 import sys
 
@@ -6,7 +6,7 @@ LIMIT = 120
 
 
 class Counts:
-    """How many runs were made, and how many didn't answer as they should."""
+    """The numbers of runs that passed and that failed. Prints the first `show` failures."""
 
     def __init__(self, show):
         self.passed = self.failed = 0
@@ -22,7 +22,7 @@ class Counts:
 
 
 def answers(command, lines):
-    """The answers of a program to these lines. A run that fails ends all."""
+    """The answers of a program to these lines. Exits if the run fails."""
     text = ''.join(line + '\n' for line in lines)
     run = subprocess.run(command, input=text, stdout=subprocess.PIPE, timeout=LIMIT, encoding='latin-1')
     found = run.stdout.split('\n')[:-1]

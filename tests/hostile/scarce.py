@@ -1,5 +1,5 @@
-"""Messages of many segments that are built, asked for, written, read and audited under a limit on a process's address space:
-the memory of these calls is the global allocator's, which no program can refuse."""
+"""Builds, writes, reads and audits messages of many segments under a limit on the address space of the process. The memory of
+these calls comes from the global allocator, which a test program can't make refuse a request."""
 import resource
 import subprocess
 
@@ -10,22 +10,22 @@ from trees import segments_of, value
 
 REFUSED = 'AllocationFailed'
 UNWRITTEN = 'WriteFailed'
-# How many bytes are held until all is asked for, so that the answer has room.
+# The number of bytes that the program holds and frees before it answers, so that there is memory for the answer.
 HELD = 1 << 24
-# The list of segments takes 16 bytes for each, so a step is sure to end where it alone is refused.
+# The list of segments takes 16 bytes for each. So for one of the limits, a step apart, only that list is refused.
 COUNT = 1 << 15
 STEP = 1 << 18
-# A message of so many objects of so many bytes is written and read in pieces that are larger than these steps.
+# A message of OBJECTS objects of SIZE bytes each is written and read in pieces that are larger than these steps.
 OBJECTS, SIZE = 3, 1 << 19
 SMALL_STEP = 1 << 17
-# How many words may be read of a message that is written as a frame.
+# The traversal limit, in words, for a message that is written as a frame.
 BUDGET = 1 << 23
-# The audit takes a byte for each of so many words, and eight for each as a pointer.
+# The number of words of an audited message. The audit takes a byte for each, and eight if it is a pointer.
 AUDITED = 1 << 19
 
 
 def answered(program, line, most):
-    """The words of the answer to a line, where the address space is so many bytes; None where the program itself has no room."""
+    """The answer to a line, split at spaces, with an address space of `most` bytes; None if the program can't run in that."""
     try:
         run = subprocess.run(
             program,
@@ -42,15 +42,16 @@ def answered(program, line, most):
 
 
 def is_built(set_, refused, words):
-    """Whether these are the words of a list of pointers, as many of which are set as there was memory for."""
+    """Whether these are the words of a list of pointers, the first `set_` of which are set, and a request was refused exactly if
+    not all are."""
     found = value(segments_of(words)) if words else None
     wanted = [('list', 2, 8, i.to_bytes(8, 'little')) if i < set_ else None for i in range(COUNT)]
     return (set_ == COUNT) == (refused == 0) and (found == ('pointers', wanted) or set_ == 0 and found is None)
 
 
 def output(runs, rows, counts):
-    """Whether a refusal is the name that it has to be, and leaves the message as it was: for each limit from one at which
-    nothing is answered up to one at which nothing is refused."""
+    """Requests the segments of a message under each limit, from one at which the program can't answer up to one at which nothing
+    is refused. Checks that a refusal has the right name and leaves the message unchanged."""
     found = set()
     most = HELD
     while (COUNT, 'ok') not in found and most < 4 * HELD:
@@ -63,8 +64,8 @@ def output(runs, rows, counts):
         counts.told(answer in ('ok', REFUSED) and is_built(set_, refused, words), 'with little memory', most, set_, refused, answer)
         if words:
             audited(rows, [(f'{most} bytes of memory', words)], counts)
-    counts.told((COUNT, REFUSED) in found, 'the list of segments alone was never refused', found)
-    counts.told((COUNT, 'ok') in found, 'all was refused', found)
+    counts.told((COUNT, REFUSED) in found, 'the list of segments was never the only refused request', found)
+    counts.told((COUNT, 'ok') in found, 'each run had a refusal', found)
 
 
 def data_of(i, size):
@@ -72,7 +73,7 @@ def data_of(i, size):
 
 
 def canonical(count, set_, size):
-    """The canonical words of a list of pointers, so many of which lead to data of this size."""
+    """The canonical words of a list of `count` pointers, the first `set_` of which lead to data of this size."""
     words = (size + 7) // 8
     pointers = [(count - 1 - i + i * words) << 2 | 1 | (2 | size << 3) << 32 if i < set_ else 0 for i in range(count)]
     table = b''.join(it.to_bytes(8, 'little') for it in [1 | (6 | count << 3) << 32, *pointers])
@@ -80,20 +81,20 @@ def canonical(count, set_, size):
 
 
 def is_framed(frame, count, set_, size):
-    """Whether a frame is one of a list of pointers, so many of which lead to data of this size."""
+    """Whether a frame holds a list of `count` pointers, the first `set_` of which lead to data of this size."""
     data = [('list', 2, size, data_of(i, size)) if i < set_ else None for i in range(count)]
     segments = frames.parted(bytes.fromhex(frame))
     return frames.framed(segments) == frame and value(segments) == ('pointers', data)
 
 
 def cost(count, set_, size):
-    """How many words it costs to read the root pointer, the list behind its landing pad, and each of the data behind its own."""
+    """The number of words charged for reading the root pointer, the list with its landing pad, and each data with its own."""
     return 1 + (count + 1 if count else 0) + set_ * ((size + 7) // 8 + 1)
 
 
 def is_handled(run, count, size):
-    """Whether an answer to a message that is written as a frame, read back and made canonical is right: up to the first step
-    that is refused for want of memory all is as it is to be, and nothing stands of those behind."""
+    """Whether the answer is right for a message that is written as a frame, read back and made canonical. Up to the first step
+    that is refused because memory runs out, everything must be right; the steps after it must have left nothing."""
     set_, refused, written, flat, read, copied, left, frame, copy = run
     set_, left, frame, copy = int(set_), int(left), frame[1:], copy[1:]
     if (set_ == count) != (refused == '0') or written not in ('ok', UNWRITTEN, REFUSED):
@@ -111,8 +112,8 @@ def is_handled(run, count, size):
 
 
 def written(runs, counts):
-    """Whether the segments of a message that is built, written as a frame and read back, mean what they did, and the canonical
-    copy is right: with ample memory for each number of segments up to one too many, and with little memory."""
+    """Checks that a message means the same after it was written as a frame and read back, and that its canonical copy is right.
+    With ample memory, for several numbers of segments up to one too many; and with little memory."""
     lines = [(count, size) for count in (0, 1, 2, 3, 31, 32, 509, 510) for size in (8, 20)]
     for (count, size), answer in zip(lines, answers(runs, [f'framed {count} {size} 0' for count, size in lines])):
         run = answer.split(' ')
@@ -127,11 +128,12 @@ def written(runs, counts):
         found.add((run[2], run[4], run[5]))
         counts.told(is_handled(run, OBJECTS, SIZE), 'with little memory', most, *run)
     for steps in ((UNWRITTEN, '-', '-'), ('ok', REFUSED, '-'), ('ok', 'ok', REFUSED), ('ok', 'ok', UNWRITTEN), ('ok', 'ok', 'ok')):
-        counts.told(steps in found, 'never so with little memory', steps, found)
+        counts.told(steps in found, 'no run with little memory ended like this', steps, found)
 
 
 def audits(rows, counts):
-    """Whether the audit of a long list of null pointers is refused by its name where there is little memory, else passes."""
+    """Checks that the audit of a long list of null pointers is refused with the right name if memory runs out, and otherwise
+    passes."""
     line = (1 | (6 | AUDITED << 3) << 32).to_bytes(8, 'little').hex() + '00' * 8 * AUDITED
     found = set()
     most = HELD
@@ -141,4 +143,4 @@ def audits(rows, counts):
         if run is not None:
             found.add(run[0])
             counts.told(run in (['1'], [REFUSED]), 'audited with little memory', most, *run)
-    counts.told(found == {'1', REFUSED}, 'never so with little memory', found)
+    counts.told(found == {'1', REFUSED}, 'not both answers with little memory', found)

@@ -1,4 +1,4 @@
-"""Values of messages, by the encoding's own description, apart from the crates: a message that was built is read back."""
+"""Reads the value of a message that was built, as the encoding specification describes it, independently of the crates."""
 
 
 def word_at(segments, segment, at):
@@ -6,13 +6,13 @@ def word_at(segments, segment, at):
 
 
 def signed(word, bits):
-    """The signed number in the 30 bits behind the kind."""
+    """The signed number in the 30 bits after the kind of the pointer."""
     offset = word >> 2 & 0x3fffffff
     return offset - (1 << bits) if offset >> bits - 1 else offset
 
 
 def landed(segments, segment, at):
-    """The word that describes an object, and where the object starts: a far pointer is followed."""
+    """The word that describes an object, and where the object starts. Follows far pointers."""
     word = word_at(segments, segment, at)
     if word & 3 != 2:
         return word, segment, at + 1 + signed(word, 30)
@@ -25,7 +25,7 @@ def landed(segments, segment, at):
 
 
 def structs(segments, segment, at, words, pointers, count):
-    """The `count` structs of this size from a place on."""
+    """The `count` consecutive structs of this size, starting at a place."""
     size = words + pointers
     return [struct(segments, segment, at + i * size, words, pointers) for i in range(count)]
 
@@ -36,7 +36,7 @@ def struct(segments, segment, at, words, pointers):
 
 
 def value(segments, segment=0, at=0):
-    """The value that a pointer word leads to. The message is one that a builder made."""
+    """The value that a pointer word leads to, in a message that a builder made."""
     if not word_at(segments, segment, at):
         return None
     word, segment, at = landed(segments, segment, at)
@@ -56,5 +56,5 @@ def value(segments, segment=0, at=0):
 
 
 def segments_of(text):
-    """The segments of hex digits, parted by commas."""
+    """The segments given as hex digits, separated by commas."""
     return [bytes.fromhex(segment) for segment in text.split(',')]

@@ -1,6 +1,6 @@
 #!/bin/sh
-# c.sh PREFIX: the C example and the C test over the library that ./install put below PREFIX. A part whose tools aren't there
-# is skipped, which a line says. The last line is `N passed, M failed`.
+# c.sh PREFIX: runs the C example and the C test with the library that ./install put below PREFIX. If the tools for a part are
+# missing, the part is skipped, and a line says so. The last line is `N passed, M failed`.
 set -u
 here=$(cd "$(dirname "$0")" && pwd) || exit 2
 top=$here/../..
@@ -13,7 +13,7 @@ trap 'rm -rf "$folder"' EXIT
 passed=0 failed=0
 flags='-std=c99 -Wall -Wextra -Werror -O1 -g'
 
-# Counts a part by its exit status, and shows what it says where it failed.
+# Counts a part by its exit status, and shows its output if it fails.
 #
 #     part NAME COMMAND..
 part() {
@@ -30,10 +30,10 @@ part() {
 }
 
 has() {
-    command -v "$1" >/dev/null || { echo "skipped, since $1 isn't there: $2"; return 1; }
+    command -v "$1" >/dev/null || { echo "skipped, because $1 isn't there: $2"; return 1; }
 }
 
-# Builds a source against the library.
+# Builds a source with the library.
 #
 #     build OUTPUT SOURCE WHICH FLAG..    WHICH is static or shared
 build() {
@@ -46,7 +46,7 @@ build() {
     "$CC" $flags "$@" $(pkg-config --cflags capnp_canonical) -o "$output" "$source" $library
 }
 
-# Each message of the data file that is copied, through the example and through C++ Cap'n Proto.
+# Runs the example on each message of the data file that has a copy, and compares with C++ Cap'n Proto.
 example() {
     grep -v '^#' "$here/messages.txt" | while read -r name frame copy flat rest; do
         [ "$copy" = Done ] || continue
@@ -59,7 +59,7 @@ example() {
     done
 }
 
-# What the example says of each mistake: one line, with what and where, and what was answered before.
+# Checks what the example prints about a mistake: one line that says what and where, after the answers before it.
 #
 #     says EXAMPLE LINE BYTES..    the bytes as hex digits
 says() {
@@ -84,7 +84,7 @@ mistakes() {
     [ "$(cat "$folder/error")" = 'standard output: No space left on device' ]
 }
 
-# No name of the shared library is visible but those of the header.
+# Checks that the shared library has no visible names except those of the header.
 names() {
     sed -n 's/^[a-z].* \(capnp_canonical_[a-z_]*\)(.*/\1/p' "$top/bindings/c/capnp_canonical.h" | sort >"$folder/declared"
     nm -D --defined-only "$prefix/lib/libcapnp_canonical.so" | awk '$2 == "T" { sub("@.*", "", $3); print $3 }' | sort | cmp - "$folder/declared" \

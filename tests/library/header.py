@@ -1,10 +1,10 @@
 #!/usr/bin/env python3
-"""Whether bindings/c/capnp_canonical.h says what crates/capnp_canonical does: the numbers and names of answers and
-reasons, the functions, and the version; and whether the bindings have the header's numbers, texts and version.
+"""Checks that bindings/c/capnp_canonical.h agrees with crates/capnp_canonical: the numbers and names of answers and reasons,
+the functions and the version; and that the other bindings have the header's numbers, texts and version.
 
     header.py
 
-Prints what differs, and at last `N passed, M failed`: a number, a function, a text and a version are one count each."""
+Prints what differs. The last line is `N passed, M failed`; a number, a function, a text and a version count one each."""
 import pathlib
 import re
 import sys
@@ -14,22 +14,22 @@ HEADER = (TOP / 'bindings/c/capnp_canonical.h').read_text(encoding='utf-8')
 NUMBERS = (TOP / 'crates/capnp_canonical/specs/Numbers.antt').read_text(encoding='utf-8')
 EXPORTS = (TOP / 'crates/capnp_canonical/src/lib.rt').read_text(encoding='utf-8')
 PREFIX = 'CAPNP_CANONICAL_'
-# Where the header's version stands too.
+# The other files that have the header's version.
 VERSIONS = {
     'bindings/python/pyproject.toml': r'^version = "(.*)"$', 'bindings/rust/Cargo.toml': r'^version = "(.*)"$',
     'bindings/rust/capnp/Cargo.toml': r'^version = "(.*)"$', 'share/capnp_canon.1': r'"capnp_canon (.*)"$',
 }
-# What the package for cargo has of the repository.
+# The files of the repository that the package for cargo has a copy of.
 PACKAGED = {'LICENSE': 'LICENSE', **{f'tests/{it}': f'tests/library/{it}' for it in ('messages.txt', 'packed.txt')}}
 
 
 def in_capitals(name):
-    """The name of a variant as C writes it: AListOfNULBytes is A_LIST_OF_NUL_BYTES."""
+    """The C name of a variant: AListOfNULBytes is A_LIST_OF_NUL_BYTES."""
     return re.sub(r'(?<=[a-z0-9])(?=[A-Z])|(?<=[A-Z])(?=[A-Z][a-z])', '_', name).upper()
 
 
 def numbers(*functions):
-    """What functions of Numbers.antt make of each variant, by its name in C. Two errors of want of memory have one name."""
+    """The number of each variant, from functions of Numbers.antt, with its C name. The two errors for lack of memory share one."""
     pattern = rf'^(?:{"|".join(functions)}) \(?(\w+)(?: _\))? = (\d+)$'
     renamed = {'NoMemory': 'AllocationFailed'}
     return [(in_capitals(renamed.get(name, name)), int(number)) for name, number in re.findall(pattern, NUMBERS, re.M)]
@@ -41,7 +41,7 @@ def enumerators(enum):
 
 
 def constants(function):
-    """What a function of constant texts in the header gives of each name of a number."""
+    """The texts that a function of the header returns, by the names of the numbers."""
     body = re.search(rf'const char \*{function}\(.*?\n\}}\n', HEADER, re.S)[0]
     return dict(re.findall(rf'case {PREFIX}(\w+): return "(.*)";', body))
 
@@ -51,7 +51,7 @@ def file(name):
 
 
 def of_python():
-    """The numbers and texts of the package for Python."""
+    """The numbers and the texts of the package for Python."""
     answers = file('bindings/python/capnp_canonical/_answers.py')
     enums = {name: re.findall(r'^    ([A-Z_]+) = (\d+)$', body, re.M)
              for name, body in re.findall(r'^class (\w+)\(enum\.IntEnum\):\n(.*?)\n\n\n', answers, re.M | re.S)}
@@ -60,7 +60,7 @@ def of_python():
 
 
 def of_rust():
-    """The numbers of the crate for Rust, and the names and texts."""
+    """The numbers, the names and the texts of the crate for Rust."""
     answers, texts = file('bindings/rust/src/answers.rs'), file('bindings/rust/src/texts.rs')
     errors = re.findall(r'pub const (\w+): Error = Error\((\d+)\);', answers)
     reasons = re.findall(r'pub const (\w+): Reason = Reason\((\d+)\);', answers)
@@ -69,14 +69,14 @@ def of_rust():
 
 
 def facts_of_bindings():
-    """The header's constants, each in Python and in Rust."""
+    """Compares the header's constants with those of Python and Rust."""
     answers = {name: str(it) for name, it in enumerators('capnp_canonical_answer') if name != 'DONE'}
     reasons = {name: str(it) for name, it in enumerators('capnp_canonical_reason') if name != 'REASON_NONE'}
     names, texts, faults = (constants(f'capnp_canonical_{it}') for it in ('error_name', 'error_text', 'fault_text'))
     refusals, fault_reasons, python_texts = of_python()
     errors, rust_reasons, of_errors, of_reasons = of_rust()
     short = {name.replace('REASON_', ''): it for name, it in reasons.items()}
-    # what the wrappers answer themselves has no constant in Rust
+    # errors that only wrappers return have no constant in Rust
     constant = {name: it for name, it in answers.items() if name != 'NO_ROOM'}
     yield 'Refusal of Python', dict(refusals) == answers
     yield 'Reason of Python', dict(fault_reasons) == short
@@ -105,7 +105,7 @@ def main():
     facts += [(f'{text} is the version that the library gives', re.search(text, EXPORTS)) for text in (rf'result ≡ {version[0]} ', f'put_text\\("{version[1]}", to\\)')]
     facts += list(facts_of_bindings())
     facts += [(f'{name} has the version', re.findall(pattern, file(name), re.M) == [version[1]]) for name, pattern in VERSIONS.items()]
-    # what a package for cargo has of the repository stands in its folder, since the gate takes no links
+    # the package for cargo has copies of these files in its folder, because the gate takes no links
     facts += [(f'bindings/rust/{name} is {of}', file(f'bindings/rust/{name}') == file(of)) for name, of in PACKAGED.items()]
     failed = [what for what, holds in facts if not holds]
     for what in failed:

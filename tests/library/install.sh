@@ -1,20 +1,21 @@
 #!/bin/sh
-# install.sh: tests ./install: a staged installation with a folder of its own for libraries, over itself, and its removal. The
-# library and the program are built where that isn't done yet. A line `ok: TEST` or `FAILED: TEST` for each test.
+# install.sh: tests ./install: a staged installation with its own folder for libraries, the same again over itself, and its
+# removal. Builds the library and the program first if that isn't done yet. Prints a line `ok: TEST` or `FAILED: TEST` for
+# each test.
 set -u
 top=$(cd "$(dirname "$0")/../.." && pwd) || exit 2
 work=$(mktemp -d) || exit 2
 trap 'rm -rf "$work"' EXIT
 failed=0
 
-# Whether a command says yes.
+# Runs a test: a command that succeeds or fails.
 test_that() {
     what=$1
     shift
     if "$@"; then echo "ok: $what"; else echo "FAILED: $what" && failed=1; fi
 }
 
-# Whether two texts are the same.
+# Whether two texts are equal.
 same() {
     [ "$1" = "$2" ] || { printf 'not so: %s, and %s is wanted\n' "$1" "$2"; return 1; }
 }
@@ -50,7 +51,7 @@ test_that 'the completion for bash' cmp "$top/share/capnp_canon.bash" "$stage/us
 test_that 'the completion for zsh' cmp "$top/share/_capnp_canon" "$stage/usr/share/zsh/site-functions/_capnp_canon"
 test_that 'the licence' cmp "$top/LICENSE" "$stage/usr/share/doc/capnp_canonical/LICENSE"
 echo kept >"$stage/usr/lib/python3/dist-packages/other"
-# as an older version may have left it
+# a file that an older version may have left
 echo old >"$stage/usr/include/older.h" && echo /usr/include/older.h >>"$stage/usr/share/capnp_canonical/installed"
 test_that 'again, over itself' install_staged
 test_that 'what is no longer there is removed' [ ! -e "$stage/usr/include/older.h" ]

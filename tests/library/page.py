@@ -1,10 +1,10 @@
-"""Runs docs/LIBRARY.md over an installed library.
+"""Runs the examples of docs/LIBRARY.md with an installed library.
 
     page.py PREFIX FOLDER
 
-A program of the page, which the end of the line above names, is written to the folder, or is that file of the repository.
-Each command runs in the folder. Where it makes canonical words they are hashed, and what it prints is the page's one line of
-output. A line `ok: COMMAND`, `FAILED: COMMAND` or `skipped: COMMAND: no TOOL` is printed for each."""
+The line above a program ends with its name. The program is written to the folder, or, if the name has a `/`, compared with
+that file of the repository. Each command runs in the folder. If it makes canonical words, the hash of these must be the
+page's one line of output. Prints a line `ok: COMMAND`, `FAILED: COMMAND` or `skipped: COMMAND: no TOOL` for each."""
 import importlib.util
 import os
 import pathlib
@@ -21,7 +21,7 @@ CAPNP = pathlib.Path('/usr/include/capnp/message.h')
 
 
 def blocks():
-    """Of each block the line above it, its language and its text."""
+    """The code blocks of the page: for each the line above it, its language and its text."""
     above, language, text = '', None, []
     for line in PAGE.read_text().splitlines():
         if language is None and line.startswith('```'):
@@ -40,7 +40,7 @@ def report(holds, what):
 
 
 def lacking(text):
-    """What isn't there of what a command needs."""
+    """The tools that a command needs and that are missing."""
     tools = {tool for tool in TOOLS.findall(text) if not shutil.which(tool)}
     if 'reader.cpp' in text and not CAPNP.exists():
         tools.add(str(CAPNP))
@@ -51,7 +51,7 @@ def lacking(text):
 
 def program(name, text):
     if '/' in name:
-        report((TOP / name).read_text() == text, f'{name} is as the page has it')
+        report((TOP / name).read_text() == text, f'{name} is the same as in the page')
     else:
         pathlib.Path(name).write_text(text)
 
@@ -71,7 +71,7 @@ def main():
     os.chdir(folder)
     for name in 'bindings', 'tests':
         os.symlink(TOP / name, name)
-    # what C++ Cap'n Proto reads of the current folder
+    # C++ Cap'n Proto takes the current folder from this variable
     environment = {**os.environ, 'PREFIX': prefix, 'PKG_CONFIG_PATH': f'{prefix}/lib/pkgconfig', 'PWD': folder}
     found = list(blocks())
     line = next(text for _, language, text in found if language == 'text')

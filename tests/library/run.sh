@@ -1,7 +1,7 @@
 #!/bin/sh
-# run.sh [PREFIX]: tests the library that is installed at PREFIX, in C, C++, Rust and Python, over the messages of
-# messages.txt; without PREFIX it is installed into a temporary folder. Where the tools for a part aren't there it is
-# skipped, and a line says so. The last line is `N passed, M failed`, with what was skipped.
+# run.sh [PREFIX]: tests the library installed at PREFIX in C, C++, Rust and Python, with the messages of messages.txt.
+# Without PREFIX, installs it into a temporary folder first. If the tools for a part are missing, the part is skipped, and a
+# line says so. The last line is `N passed, M failed`, with what was skipped.
 set -u
 here=$(cd "$(dirname "$0")" && pwd)
 top=$(cd "$here/../.." && pwd)
@@ -11,7 +11,7 @@ trap 'exit 1' INT TERM
 passed=0 failed=0 skipped=
 cxx=${CXX:-c++}
 
-# Whether each tool is there.
+# Whether all of these tools are there.
 has() {
     for tool; do
         command -v "$tool" >/dev/null || return 1
@@ -23,10 +23,10 @@ skip() {
     skipped="$skipped${skipped:+, }$1"
 }
 
-# What a part answered: its name, how many tests passed and failed, and the status of its command.
+# Counts a part: its name, how many tests passed and failed, and the status of its command.
 count() {
     good=$2 bad=$3
-    # a command that failed before a test did, or that ran none
+    # the command failed although no test did, or it ran no test
     if [ "$bad" = 0 ] && { [ "$4" != 0 ] || [ "$good" = 0 ]; }; then bad=1; fi
     [ "$bad" = 0 ] || cat "$work/log"
     echo "$1: $good passed, $bad failed"
@@ -34,7 +34,7 @@ count() {
     passed=$((passed + good)) failed=$((failed + bad))
 }
 
-# Runs a command that writes a line for each test: `ok: TEST` or `FAILED: TEST`, or as cargo and unittest do.
+# Runs a command that prints a line for each test: `ok: TEST` or `FAILED: TEST`, or lines like those of cargo and unittest.
 part() {
     name=$1
     shift
@@ -61,7 +61,7 @@ cxx_messages() {
         "$work/messages" "$here/messages.txt" "$here/packed.txt"
 }
 
-# Random messages, flat ones and nested ones, and their canonical words by C++ Cap'n Proto.
+# Makes random messages, flat ones and nested ones, and their canonical words with C++ Cap'n Proto.
 people() {
     cp "$top/tests/peer/people.capnp" . &&
         python3 "$top/tests/peer/people.py" 9 100000 0 | capnp encode people.capnp Person >people.bin &&
@@ -71,7 +71,7 @@ people() {
         echo 'ok: messages are made'
 }
 
-# Each form in which a program has a message of C++ Cap'n Proto.
+# Tests each form in which a program can have a message of C++ Cap'n Proto.
 cxx_types() {
     capnp compile -oc++ people.capnp &&
         "$cxx" -std="$1" -Wall -Wextra -O1 -I"$prefix/include" -I. -o types "$here/capnp_types.cpp" people.capnp.c++ \
@@ -89,7 +89,7 @@ same() {
     if cmp "$2" "$3"; then echo "ok: $1, sha256 $(sha256sum <"$2" | cut -c 1-16)"; else echo "FAILED: $1"; fi
 }
 
-# Runs an example on the nested people; its output is that of `capnp convert binary:canonical`.
+# Runs an example on the nested people, and compares its output with that of `capnp convert binary:canonical`.
 example() {
     "$@" <nested.bin >ours && same 'nested people' ours nested.canonical
 }
@@ -120,10 +120,10 @@ cargo_test() {
     CAPNP_CANONICAL_LIB_DIR=$prefix/lib cargo test --offline --locked --manifest-path "$top/bindings/rust/Cargo.toml"
 }
 
-# With the library and without the features, as a package, and the documentation without a library.
+# Tests the crate with the library, without its features and as a package, and makes its documentation without the library.
 cargo_package() {
     cd "$work" && cp -RL "$top/bindings/rust" crate && rm -rf crate/target && cd crate || return 1
-    # without a library: documentation, and a build that isn't linked
+    # without the library: documentation, and a build that isn't linked
     env -u PKG_CONFIG_PATH PKG_CONFIG_LIBDIR="$work" cargo doc --offline --locked --no-deps && echo 'ok: cargo doc without the library'
     CAPNP_CANONICAL_LIB_DIR=$prefix/lib cargo build --offline --locked --no-default-features && echo 'ok: no_std'
     CAPNP_CANONICAL_LIB_DIR=$prefix/lib cargo package --offline --allow-dirty && echo 'ok: cargo package' || return 1
@@ -133,7 +133,7 @@ cargo_package() {
         cargo test --offline --test library
 }
 
-# The crate over the crate `capnp`, which has to be where Debian puts it.
+# Tests the crate that uses the crate `capnp`, which must be where Debian puts it.
 debian_crates=/usr/share/cargo/registry
 cargo_capnp() {
     cd "$work" && mkdir -p capnp_crate/bindings capnp_crate/tests/library && cp -RL "$top/bindings/rust" capnp_crate/bindings/rust &&
@@ -142,19 +142,19 @@ cargo_capnp() {
         --config "source.debian.directory='$debian_crates'"
 }
 
-# The package as pip installs it, in an environment of its own.
+# Tests the package as pip installs it, in its own environment.
 wheel() {
     python3 -m venv "$work/venv" && mkdir "$work/wheel_of" && cp -R "$top/bindings" "$top/LICENSE" "$work/wheel_of" || return 1
     CAPNP_CANONICAL_LIBRARY=$prefix/lib/libcapnp_canonical.so "$work/venv/bin/pip" install --no-index "$work/wheel_of/bindings/python" || return 1
     cd "$here" && env -u PYTHONPATH -u CAPNP_CANONICAL_LIBRARY "$work/venv/bin/python" -B -m unittest -v test_capnp_canonical test_commands
 }
 
-# The types of the package, as a program sees them that uses it.
+# Checks the types of the package like a program that uses it.
 types_of_python() {
     cd "$prefix/python" && "$(python_with mypy)" -m mypy --strict --cache-dir "$work/mypy" -p capnp_canonical && echo 'ok: mypy --strict'
 }
 
-# A program that finds the library by CMake.
+# Builds a program that finds the library with CMake.
 by_cmake() {
     mkdir "$work/cmake" && cp "$top/bindings/c/example.c" "$work/cmake" && cat >"$work/cmake/CMakeLists.txt" <<'END' || return 1
 cmake_minimum_required(VERSION 3.13)
@@ -172,7 +172,7 @@ END
     done
 }
 
-# The python3 that has Dask, of the system or in the path.
+# The python3 that has a module, of the system or in the path.
 python_with() {
     for python in python3 /usr/bin/python3; do
         "$python" -c "import $1" 2>/dev/null && echo "$python" && return

@@ -1,4 +1,4 @@
-"""Tests of the module capnp_canonical, over the messages of messages.txt and what that file can't say."""
+"""Tests the module capnp_canonical with the messages of messages.txt, and in cases that this file can't express."""
 import array
 import concurrent.futures
 import importlib.util
@@ -47,7 +47,7 @@ def segments_in(frame):
 
 
 def answer(text, call, *arguments):
-    """What a call gives as text, or the name of its refusal."""
+    """The result of a call as text, or the name of its refusal."""
     try:
         return text(call(*arguments))
     except Error as error:
@@ -63,7 +63,7 @@ def size_text(size):
 
 
 class Messages(unittest.TestCase):
-    """The messages of messages.txt, a test for each."""
+    """One test for each message of messages.txt."""
 
     def compare(self, given, calls, copy, flat, check, size):
         words = bytes.fromhex(flat.strip('-'))
@@ -157,8 +157,8 @@ class Calls(unittest.TestCase):
             capnp_canonical.copy_into(b'no buffer to write to', ZERO_WORD)
 
     def test_words_beside_a_frame(self):
-        """Canonical words of a struct of two numbers, 2^32 and 42, given where a frame is expected: they are read as a frame
-        of two words, which hold a struct of the number 42."""
+        """Canonical words of a struct of two numbers, 2^32 and 42, passed as a frame. They are read as a frame of two words, which
+        is a struct of the number 42."""
         words = bytes.fromhex('0000000002000000 0000000001000000 2a00000000000000')
         self.assertEqual(capnp_canonical.words_copy(words), words)
         self.assertEqual(capnp_canonical.copy_flat(words), bytes.fromhex('0000000001000000 2a00000000000000'))
@@ -265,7 +265,7 @@ class Calls(unittest.TestCase):
 
 
 class Packed(unittest.TestCase):
-    """The packed bytes of packed.txt, and what that file can't say."""
+    """The packed bytes of packed.txt, and cases that this file can't express."""
 
     def test_rows(self):
         rows = [line.split() for line in PACKED.read_text().splitlines() if not line.startswith('#')]
@@ -320,7 +320,7 @@ class Packed(unittest.TestCase):
 
 
 class Raw:
-    """A file that gives some bytes at a time, as a socket does."""
+    """A file that returns a few bytes at a time, like a socket."""
 
     def __init__(self, whole, piece):
         self.whole, self.piece, self.given = whole, piece, 0
@@ -388,7 +388,7 @@ class FramesOfFiles(unittest.TestCase):
 
 
 class Places(unittest.TestCase):
-    """Where the library is found."""
+    """How the module finds the library."""
 
     def setUp(self):
         self.folder = pathlib.Path(tempfile.mkdtemp())

@@ -1,5 +1,5 @@
-"""Tests of bindings/python/examples/cluster.py on a cluster of Dask on this machine, whose workers are processes: what it
-writes is what one process writes, and also where a worker is killed half way."""
+"""Tests bindings/python/examples/cluster.py on a cluster of Dask on this machine, whose workers are processes. It must write
+what a single process writes, even if a worker is killed half way."""
 import contextlib
 import io
 import os
@@ -86,7 +86,7 @@ class Cluster(unittest.TestCase):
             status, text = self.written(command, kill)
             self.assertEqual(len(killed), 1)
             self.assertEqual(text, one_process(command, self.files))
-            # another has been started in its stead
+            # another one has been started in its place
             self.client.wait_for_workers(WORKERS, timeout=60)
             self.assertNotIn(killed[0], self.client.run(os.getpid).values())
 

@@ -1,5 +1,5 @@
-"""Tests of `python3 -m capnp_canonical`, over the messages of messages.txt: the names of messages are the SHA-256 of the words
-that the file has of `capnp convert`."""
+"""Tests `python3 -m capnp_canonical` with the messages of messages.txt. The name of a message is the SHA-256 of its canonical
+words, which that file has from `capnp convert`."""
 import hashlib
 import os
 import pathlib
@@ -58,7 +58,7 @@ class Commands(unittest.TestCase):
         self.require(run('digest', self.file('nothing', b'')), 0, [])
 
     def test_sha256sum_reads_it(self):
-        """The words of a message in a file by the message's name are what sha256sum verifies."""
+        """sha256sum verifies the words of a message in a file whose name is the message's name."""
         path = self.file('stream', STREAM)
         for number, name in enumerate(GOOD, 1):
             self.file(f'stream:{number}', WORDS[name])
@@ -150,7 +150,7 @@ class Commands(unittest.TestCase):
         self.require(run('duplicates', other), 0, [])
 
     def test_refused_messages(self):
-        """The others are named, and each mistake is one line that says what and where."""
+        """The good messages get their names, and each mistake one line that says what and where."""
         bad = STREAM + FRAMES['capability'] + FRAMES['book'] + FRAMES['book'][:-1]
         path, count = self.file('bad', bad), len(GOOD)
         at = len(STREAM)
@@ -203,7 +203,7 @@ class Commands(unittest.TestCase):
         self.assertRegex(done.stderr.decode().splitlines()[-1], r'^ImportError: [^\n]*nowhere\.so')
 
     def test_progress(self):
-        """The progress is shown where standard error is a terminal and the work takes longer than a second, and is gone at the end."""
+        """Progress is shown if standard error is a terminal and the work takes longer than a second, and is erased at the end."""
         read, write = os.pipe()
         terminal, other = pty.openpty()
         with open(write, 'wb', buffering=0) as stream:

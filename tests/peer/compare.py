@@ -29,7 +29,7 @@ class Comparison:
             print(f'{what} differs')
 
     def commands(self, name, data):
-        """Each command on a stream."""
+        """Compares each command on a stream."""
         for ours, theirs in (['canon'], ['canon']), (['canon', '--flat'], ['flat']), (['size'], ['size']):
             self.same(f'{name}: {" ".join(ours)}', self.ours(*ours, data=data), self.peer.answer(theirs, data))
         self.check(f'{name}: check', data)
@@ -38,7 +38,7 @@ class Comparison:
         self.packing(name, data, canonical)
 
     def check(self, what, data):
-        """The peer doesn't say why a message isn't canonical."""
+        """Compares `check` without its reasons, because the peer doesn't print any."""
         text, status = self.ours('check', data=data)
         lines = [b'not canonical' if line.startswith(b'not canonical: ') else line for line in text.split(b'\n')]
         self.same(what, (b'\n'.join(lines), status), self.peer.answer(['check'], data))
@@ -55,7 +55,7 @@ class Comparison:
             self.same(f'{name}: canon {" ".join(words)}', self.ours('canon', *words, data=given), (wanted, 0))
 
     def tool(self, name, of, data):
-        """By the command `capnp`: the canonical words, plain and packed, and what it reads of ours."""
+        """Compares with the command `capnp`: the canonical words, plain and packed, and how it reads our output."""
         packed = self.peer.convert('binary:packed', of, data)
         flat = self.peer.convert('binary:canonical', of, data)
         self.same(f'{name}: capnp convert', self.ours('canon', '--flat', data=data), (flat, 0))

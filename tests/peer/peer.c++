@@ -1,8 +1,8 @@
-// What C++ Cap'n Proto answers to each framed message of standard input, one behind the other:
+// Prints what C++ Cap'n Proto answers to each of the consecutive framed messages of standard input:
 //
-//     peer canon|flat|copy|check|size [packed] [pack]     as the commands of capnp_canon; `copy` writes segments as they are
+//     peer canon|flat|copy|check|size [packed] [pack]     like the commands of capnp_canon; `copy` writes the segments unchanged
 //     peer scatter                                        the same messages with their objects in many segments
-//     peer book WORDS [data]                              a message of about so many words; with `data` mostly one block
+//     peer book WORDS [data]                              a message of about WORDS words; with `data`, mostly one block
 #include "people.capnp.h"
 #include <capnp/any.h>
 #include <capnp/message.h>
@@ -54,8 +54,8 @@ void copy(const Task& task, capnp::MessageReader& reader, kj::BufferedOutputStre
     writeSegments(output, segments.asPtr(), task.pack);
 }
 
-// Every object has a segment of its own. Of three messages one has plain far pointers, one a landing pad of two words
-// at its root, and one such landing pads at the pointers of its root.
+// Writes every object in a segment of its own. Of three messages, one has plain far pointers, one has a landing pad of two
+// words at its root, and one has such landing pads at the pointers of its root.
 void scatter(uint number, AnyPointer::Reader from, kj::BufferedOutputStream& output) {
     MallocMessageBuilder to(1, capnp::AllocationStrategy::FIXED_SIZE);
     auto root = to.getRoot<AnyPointer>();
@@ -75,7 +75,7 @@ void scatter(uint number, AnyPointer::Reader from, kj::BufferedOutputStream& out
     writeSegments(output, to.getSegmentsForOutput(), false);
 }
 
-// Gives whether the answer is a yes.
+// Returns whether the answer is a yes.
 bool answer(const Task& task, uint number, capnp::MessageReader& reader, kj::BufferedOutputStream& output) {
     if (task.command == "check") {
         bool canonical = reader.isCanonical();

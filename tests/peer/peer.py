@@ -1,4 +1,4 @@
-"""The C++ peer, built in a temporary folder, and real messages by `capnp encode`; for the scripts beside this one."""
+"""Builds the C++ peer in a temporary folder, and makes real messages with `capnp encode`, for the other scripts here."""
 import os
 import pathlib
 import shutil
@@ -9,14 +9,14 @@ import tempfile
 HERE = pathlib.Path(__file__).resolve().parent
 TOP = HERE.parents[1]
 SCHEMA = 'people.capnp'
-# The type of what `capnp compile -o-` writes, by the schema that comes with Cap'n Proto.
+# The type of what `capnp compile -o-` writes. Its schema comes with Cap'n Proto.
 REQUEST = '/usr/include/capnp/schema.capnp', 'CodeGeneratorRequest'
 COMPILER = 'g++', '-std=c++17', '-O3', '-DNDEBUG'
 PERSON, BOOK = (SCHEMA, 'Person'), (SCHEMA, 'Book')
 
 
 class Peer:
-    """Used as `with Peer() as peer`; the folder is gone behind that."""
+    """Use as `with Peer() as peer`, which removes the folder at its end."""
 
     def __enter__(self):
         self.folder = pathlib.Path(tempfile.mkdtemp(prefix='capnp-peer-'))
@@ -30,21 +30,21 @@ class Peer:
         shutil.rmtree(self.folder)
 
     def run(self, words, data=b''):
-        """What a command writes to this input, and its exit status."""
-        # what C++ Cap'n Proto reads of the current folder
+        """The output of a command for this input, and its exit status."""
+        # C++ Cap'n Proto takes the current folder from this variable
         environment = {**os.environ, 'PWD': str(self.folder)}
         run = subprocess.run(words, input=data, cwd=self.folder, env=environment, stdout=subprocess.PIPE)
         return run.stdout, run.returncode
 
     def bytes_of(self, *words, data=b''):
-        """What a command writes to this input, which has to end with status 0."""
+        """The output of a command for this input. The command must end with status 0."""
         output, status = self.run(words, data)
         if status:
             raise RuntimeError(f'{words[0]} ended with status {status}')
         return output
 
     def answer(self, words, data):
-        """What the C++ library answers to the commands of peer.c++."""
+        """What the C++ library answers to a command of peer.c++, and the exit status."""
         return self.run(['./peer', *words], data)
 
     def copied(self, words, data):
@@ -57,7 +57,7 @@ class Peer:
         return self.bytes_of('capnp', 'decode', *of, data=data)
 
     def people(self, seed, count, deep):
-        """Random messages, `count` of them, one behind the other; `deep` is how far friends have friends."""
+        """`count` consecutive random messages; `deep` is how deep friends of friends are nested."""
         text = self.bytes_of(sys.executable, str(HERE / 'people.py'), str(seed), str(count), str(deep))
         return self.bytes_of('capnp', 'encode', *PERSON, data=text)
 
@@ -69,7 +69,7 @@ class Peer:
         return self.bytes_of('./peer', 'book', *words)
 
     def requests(self):
-        """What `capnp compile -o-` writes of each schema of the system, by the schema's path."""
+        """The path of each schema of the system, with what `capnp compile -o-` writes for it."""
         for path in sorted(pathlib.Path('/usr/include').rglob('*.capnp')):
             data, status = self.run(['capnp', 'compile', '-o-', str(path)])
             if status == 0:

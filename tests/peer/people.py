@@ -1,8 +1,8 @@
-"""Text of random people for `capnp encode people.capnp Person`, one a line.
+"""Writes random people as text for `capnp encode people.capnp Person`, one per line.
 
     people.py SEED COUNT DEEP
 
-DEEP is how far friends have friends."""
+DEEP is how deep friends of friends are nested."""
 import random
 import sys
 
@@ -20,11 +20,11 @@ class People:
         return f'"{"".join(self.random.choice(LETTERS) for _ in range(self.below(24)))}"'
 
     def listed(self, bound, item):
-        """Fewer elements than the bound."""
+        """A list of fewer elements than the bound."""
         return f'[{", ".join(item() for _ in range(self.below(bound)))}]'
 
     def struct(self, fields):
-        """A struct of these fields in turn, each with its chance: a field is a chance, a name and what makes its value."""
+        """A struct of these fields in order. A field is a probability, a name, and a function that makes its value."""
         return f'({", ".join(f"{name} = {value()}" for chance, name, value in fields if self.random.random() < chance)})'
 
     def phone(self):
@@ -45,7 +45,7 @@ class People:
         return f'0x"{" ".join(f"{self.below(256):02x}" for _ in range(1 + self.below(19)))}"'
 
     def union(self):
-        """The field of the union that stands, if one does."""
+        """The fields of the union. At most one has probability 1, the others 0."""
         kind = self.below(5)
         return [(kind == 0, 'note', self.text), (kind == 1, 'number', lambda: self.below(2**32) - 2**31)]
 

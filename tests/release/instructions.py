@@ -1,11 +1,13 @@
 #!/usr/bin/env python3
-"""Tests tools/c_of_module, which writes LLVM modules in C: a function for each instruction that it knows, and what it has to refuse.
+"""Tests tools/c_of_module, which translates LLVM modules to C: functions for each instruction that it knows, and modules that
+it must refuse.
 
     instructions.py [COMPILER..]
 
-Each compiler (gcc and clang, and gcc for aarch64 with qemu, where none is named) compiles the C at -O0, -O2 and -O3, and with the address and undefined-behaviour
-sanitizers, and runs it. What is wanted of each call is counted here by Python, from LLVM's language reference. Where the toolchain
-is there its clang compiles the module itself, and is held to the same. The last line is `N passed, M failed`."""
+Each compiler compiles the C at -O0, -O2 and -O3 and with the address and undefined-behaviour sanitizers, and the programs
+run. Without arguments these are gcc, clang, and gcc for aarch64 with qemu. The expected results are computed in Python, from
+LLVM's language reference. If the toolchain is there, its clang compiles the module itself, with the same expected results.
+The last line is `N passed, M failed`."""
 import itertools
 import pathlib
 import re
@@ -27,18 +29,18 @@ MOST = 2**64 - 1
 FLAGS = '-std=c11 -Wall -Wextra -Werror -Wno-unused-function -Wno-unused-variable -Wno-unused-but-set-variable'.split()
 KINDS = {'-O0': ['-O0'], '-O2': ['-O2'], '-O3': ['-O3'], 'sanitizers': ['-O1', '-g', '-fsanitize=address,undefined', '-fno-sanitize-recover=all']}
 
-# What runs the programs of a compiler for another machine.
+# The commands that run programs for another machine, by compiler.
 RUNNERS = {'aarch64-linux-gnu-gcc': ['qemu-aarch64', '-L', '/usr/aarch64-linux-gnu']}
 
 
 class Cases:
-    """Functions of two numbers, as text of the module, and what is wanted of calls."""
+    """Functions of two numbers, as text of the module, and calls with their expected results."""
 
     def __init__(self):
         self.text, self.calls, self.count = [], [], 0
 
     def add(self, body, wanted, pairs=((0, 0),), before=''):
-        """A function with this body, which may use %a and %b, and a function of Python that counts what it gives."""
+        """Adds a function with this body, which may use %a and %b. `wanted` computes its result in Python."""
         name = f'test_{self.count}'
         self.count += 1
         lines = '\n'.join(it if it[:2] == '  ' or re.match(r'\w+:', it) else f'  {it}' for it in body.strip().split('\n'))
@@ -52,13 +54,13 @@ def signed(number, width):
 
 
 def edges(width):
-    """Pairs of numbers about the ends of what so many bits hold, with more bits above."""
+    """Pairs of numbers near the limits of `width` bits, with further bits above."""
     ends = [0, 1, 2, 3, width - 1, 2**(width - 1) - 1, 2**(width - 1), 2**(width - 1) + 1, 2**width - 2, 2**width - 1, 0x5a5a5a5a5a5a5a5a & 2**width - 1]
     return [(a | 0xc3 << width & MOST, b) for a, b in itertools.product(ends, ends)]
 
 
 def narrowed(width, *names):
-    """Lines that cut %a and %b to so many bits, and the names that they have then."""
+    """Lines that truncate %a and %b to `width` bits, and the names of the results."""
     if width == 64:
         return '', [f'%{it}' for it in names]
     return ''.join(f'%{it}n = trunc i64 %{it} to i{width}\n' for it in names), [f'%{it}n' for it in names]
@@ -69,7 +71,7 @@ def widened(width, name, how='zext'):
 
 
 def quotient(a, b):
-    """Towards zero."""
+    """Divides, rounding towards zero."""
     return abs(a) // abs(b) * (1 if (a < 0) == (b < 0) else -1)
 
 
@@ -100,7 +102,7 @@ JOINED = {
 
 
 def is_defined(word, a, b, width):
-    """Whether the operation has a value: what has none is never asked for by a proved module."""
+    """Whether the operation has a value. A proved module never does one without a value."""
     if word in ('udiv', 'urem'):
         return b != 0
     if word in ('sdiv', 'srem'):
@@ -113,7 +115,7 @@ def arithmetic(cases):
         cut, (a, b) = narrowed(width, 'a', 'b')
         pairs = [(x, y) for x, y in edges(width) if is_defined(word, x % 2**width, y, width)]
         cases.add(f'{cut}%r = {word} i{width} {a}, {b}\n{widened(width, "%r")}', lambda x, y, count=count, width=width: count(x % 2**width, y, width) % 2**width, pairs)
-        # by a constant, and with what LLVM promises of the result
+        # by a constant, and with promises about the result
         constant = next(y for _, y in edges(width) if y > 2 and is_defined(word, 5, y, width))
         pairs = [(x, 0) for x, _ in edges(width)]
         cases.add(f'{cut}%r = {word} i{width} {a}, {constant}\n{widened(width, "%r")}', lambda x, _, count=count, width=width, y=constant: count(x % 2**width, y, width) % 2**width, pairs)
@@ -122,7 +124,7 @@ def arithmetic(cases):
         cases.add(f'%x = trunc i64 %a to i1\n%y = trunc i64 %b to i1\n%r = {word} i1 %x, %y\n%wide = zext i1 %r to i64\nret i64 %wide', lambda a, b, word=word: BINARY[word](a & 1, b & 1, 1), pairs)
     cases.add('%x = trunc i64 %a to i1\n%r = xor i1 %x, true\n%wide = zext i1 %r to i64\nret i64 %wide', lambda a, b: ~a & 1, [(0, 0), (1, 0), (6, 0)])
     cases.add('%x = add nuw nsw i64 %a, 1\n%y = or disjoint i64 %x, 0\n%r = udiv exact i64 %y, 1\nret i64 %r', lambda a, b: a + 1, [(5, 0)])
-    # products of what is shorter than `int` of C, which would overflow there
+    # products of numbers shorter than C's `int`, which would overflow in C
     cases.add('%x = trunc i64 %a to i16\n%y = mul i16 %x, %x\n%z = shl i16 %y, 15\n%r = zext i16 %z to i64\nret i64 %r', lambda a, b: a * a << 15 & 0xffff, [(0xffff, 0), (0x8001, 0)])
 
 
@@ -156,16 +158,16 @@ def remembering(cases):
                   f'{cut}store i{width} {a}, ptr %p, align 1\n%r = load i64, ptr %p, align 1\nret i64 %r',
                   lambda a, b, w=width: a % 2**w | 0x5555555555555555 >> w << w, edges(width)[:12])
         cases.add(f'%at = alloca i64, align 8\nstore i64 %a, ptr %at, align 8\n%v = load i{width}, ptr %at, align 1, !noundef !1\n{widened(width, "%v")}', lambda a, b, w=width: a % 2**w, edges(64)[:12])
-    # numbers that are only moved, cut and lengthened, also by way of a choice
+    # numbers that are only moved, truncated and extended, also through a choice
     for width in (24, 40, 48, 56):
         cases.add(f'%x = alloca i64, align 8\n%y = alloca i64, align 8\nstore i64 %a, ptr %x, align 8\nstore i64 %b, ptr %y, align 8\n%v = load i{width}, ptr %x, align 1\n%w = load i{width}, ptr %y, align 1\n'
                   f'%c = icmp ult i64 %a, %b\n%m = select i1 %c, i{width} %w, i{width} %v\nstore i{width} %m, ptr %y, align 1\n%r = load i64, ptr %y, align 8\nret i64 %r',
                   lambda a, b, w=width: max(a, b) % 2**w | b >> w << w, edges(64)[:40])
         cases.add(f'%x = alloca i64, align 8\nstore i64 %a, ptr %x, align 8\nstore i{width} 0, ptr %x, align 1\n%r = load i64, ptr %x, align 8\nret i64 %r', lambda a, b, w=width: a >> w << w, edges(64)[:12])
         cases.add(f'%v = trunc i64 %a to i{width}\n%r = zext i{width} %v to i64\nret i64 %r', lambda a, b, w=width: a % 2**w, edges(64)[:12])
-    # a cast that nothing uses, nor what is read for it alone
+    # an unused cast, and a value that is read only for it
     cases.add('%at = alloca i64, align 8\nstore i64 %a, ptr %at, align 8\n%v = load i8, ptr %at, align 8\n%u = trunc i8 %v to i1\nret i64 %b', lambda a, b: b, [(5, 8)])
-    # what is read before a write is what stood there before
+    # a read before a write returns the old value
     cases.add('%at = alloca i64, align 8\nstore i64 %a, ptr %at, align 8\n%old = load i64, ptr %at, align 8\nstore i64 %b, ptr %at, align 8\n%new = load i64, ptr %at, align 8\n'
               '%r = sub i64 %old, %new\nret i64 %r', lambda a, b: a - b, [(9, 4), (4, 9)])
     cases.add('%at = alloca i64, align 8\nstore i64 %a, ptr %at, align 8\n%old = load i64, ptr %at, align 8\n%c = call fastcc i64 @writes(ptr %at, i64 %b)\n%r = sub i64 %old, %c\nret i64 %r',
@@ -173,7 +175,7 @@ def remembering(cases):
     cases.add('%at = alloca [2 x ptr], align 8\n%p = inttoptr i64 %a to ptr\nstore ptr %p, ptr %at, align 8\n%q = load ptr, ptr %at, align 8\n%r = ptrtoint ptr %q to i64\nret i64 %r', lambda a, b: a, [(MOST, 0), (5, 0)])
     cases.add('%at = alloca { i64, i64 }, align 8\nstore i64 %a, ptr %at, align 8\n%p = getelementptr inbounds i8, ptr %at, i64 8\nstore i64 %b, ptr %p, align 8\n'
               '%both = load { i64, i64 }, ptr %at, align 8\n%x = extractvalue { i64, i64 } %both, 0\n%y = extractvalue { i64, i64 } %both, 1\n%r = sub i64 %x, %y\nret i64 %r', lambda a, b: a - b, [(1, 2), (7, 3)])
-    # the bytes of one type, read as another one
+    # the bytes of one type, read as another type
     cases.add('%at = alloca i64, align 8\nstore i64 %a, ptr %at, align 8\n%p = getelementptr inbounds i8, ptr %at, i64 2\nstore i16 7, ptr %p, align 2\n%r = load i64, ptr %at, align 8\nret i64 %r',
               lambda a, b: a & ~0xffff0000 | 0x70000, edges(64)[:9])
     cases.add('%x = alloca i64, align 8\n%y = alloca i64, align 8\ncall void @llvm.lifetime.start.p0(ptr nonnull %x)\nstore i64 %a, ptr %x, align 8\n%v = load i64, ptr %x, align 8\n'
@@ -214,7 +216,7 @@ def blocks(cases):
         after = bytes([7] * size) + memory[size:]
         cases.add(f'{fill}call void @llvm.memset.p0.i64(ptr %at, i8 7, i64 {"%a" if variable else size}, i1 false)\n%r = load i64, ptr %at, align 1\nret i64 %r',
                   lambda a, b, after=after: int.from_bytes(after[:8], 'little'), [(size, 0)])
-    # a null pointer beside a count of 0
+    # a null pointer with a count of 0
     cases.add('%p = inttoptr i64 %b to ptr\ncall void @llvm.memset.p0.i64(ptr %p, i8 7, i64 %a, i1 false)\ncall void @llvm.memmove.p0.p0.i64(ptr %p, ptr %p, i64 %a, i1 false)\n'
               'call void @llvm.memcpy.p0.p0.i64(ptr null, ptr null, i64 %a, i1 false)\nret i64 1', lambda a, b: 1)
 
@@ -332,7 +334,7 @@ attributes #1 = { noinline nounwind "probe-stack"="inline-asm" }
 attributes #2 = { cold noinline nounwind }
 !1 = !{}
 '''
-# What has to be refused: what a proved module doesn't have, or what would mean something else in C.
+# Modules that must be refused: with things that no proved module has, or that would mean something else in C.
 BODY = 'define i64 @test_0(i64 %a, i64 %b) #0 {{\nstart:\n  {}\n  ret i64 %a\n}}\n'
 REFUSED = [BODY.format(it) for it in (
     '%x = fadd double 1.0, 2.0', '%x = add i128 1, 2', '%x = add i24 1, 2', '%x = icmp eq i56 0, 0', '%x = sext i40 0 to i64', '%x = ptrtoint ptr null to i56', '%x = alloca i48, align 8', '%x = uitofp i64 %a to double', 'fence seq_cst', '%x = atomicrmw add ptr null, i64 1 seq_cst, align 8',
@@ -358,7 +360,7 @@ KNOWN = 'define i64 @test_0(i64 %a, i64 %b) #0 {\nstart:\n  %x = add i64 %a, %b\
 
 
 def written(room, text, names):
-    """The C of a module, or None and why it is refused."""
+    """The C of a module, or None; and why it is refused."""
     (room / 'module.ll').write_text(text, encoding='latin-1')
     (room / 'capnp_canonical.h').write_text('#include <stdint.h>\n' + ''.join(f'uint64_t {it}(uint64_t a, uint64_t b);\n' for it in names), encoding='utf-8')
     run = subprocess.run([sys.executable, '-B', str(WRITER), str(room / 'module.ll'), str(room / 'capnp_canonical.h')], stdout=subprocess.PIPE, stderr=subprocess.PIPE, encoding='utf-8')
@@ -366,7 +368,7 @@ def written(room, text, names):
 
 
 def lacking(text):
-    """The instructions and intrinsics that the writer knows, and no function here has."""
+    """The instructions and intrinsics that the writer knows and no function here tests."""
     known = {it.removeprefix('do_') for it in dir(writing.Writer) if it.startswith('do_')} | {*writing.BINARY, *writing.SIGNED, *writing.SHIFTS}
     known |= {f'llvm.{it}' for it in (*writing.BLOCKS, *writing.NUMBERS)}
     return sorted(it for it in known if not re.search(rf'(^|[ @]){re.escape(it)}\b', text, re.M))
@@ -401,7 +403,7 @@ class Counts:
 
 
 def compiled_and_run(room, command, runner=()):
-    """Whether it is, and what is said."""
+    """Whether the program passes, and what it prints."""
     run = subprocess.run([*command, '-o', str(room / 'tested')], stdout=subprocess.PIPE, stderr=subprocess.STDOUT, encoding='utf-8', errors='replace')
     if run.returncode:
         return False, run.stdout
@@ -410,7 +412,7 @@ def compiled_and_run(room, command, runner=()):
 
 
 def by_llvm(room, counts):
-    """The module itself, by the toolchain's LLVM."""
+    """Compiles the module itself with the toolchain's LLVM, and runs it."""
     if not shutil.which('rt'):
         print('by the toolchain: skipped, no rt')
         return

@@ -1,13 +1,13 @@
 #!/usr/bin/env python3
-"""Writes the vectors of tests/vectors that calls of the library answer, a line each, for vectors.c:
+"""Writes the vectors of tests/vectors that calls of the library can answer, one per line, for vectors.c:
 
     COMMAND NESTING WORDS PARTS WANTED
 
-PARTS is the segments as hex digits, with a comma between two, or the frame where COMMAND is `framed-check` or `unframe`; `.` is one
-without bytes, and `-` none. WANTED is the answer: hex digits, or `-` for none, `yes`, `no`, `front`, numbers, or `!` and the name of a refusal. `front` is said of a segment that begins
-with canonical words: whether others stand behind them isn't.
+PARTS is the segments as hex digits, separated by commas; for `framed-check` and `unframe`, the frame. `.` is a part without
+bytes, and `-` means no parts. WANTED is the expected answer: hex digits, or `-` for none; `yes`, `no` or `front`; numbers;
+or `!` and the name of a refusal. `front` means that a segment begins with canonical words, whatever comes after them.
 
-What isn't here are the vectors of `frame`, which the library has not, and of arguments and lines that can't be read."""
+Leaves out the vectors of `frame`, which the library doesn't have, and those of arguments and lines that can't be read."""
 import collections
 import json
 import pathlib
@@ -27,7 +27,7 @@ ANSWERS = {'canonical\n': 'front', 'not canonical\n': 'no', 'canonical message\n
 
 
 def wanted(command, parts, words, text):
-    """What the library answers where layout_tool answers by this text."""
+    """What the library answers if layout_tool answers with this text."""
     if command == 'framed-check':
         told = length(parts[0])
         if told and told[1] > words:
@@ -54,7 +54,7 @@ def vectors():
             is_frame = command in ('framed-check', 'unframe')
             parts = (parts or [b'']) if is_frame else [whole_words(part) for part in parts]
             if command == 'check' and len(parts) != 1:
-                # that there are others is a no of the library's, with a reason of its own
+                # further segments: the library answers no, with a reason of its own
                 continue
             nesting, words = limits or ('64', MOST_WORDS)
             words = NO_LIMIT if words == 'none' else int(words)

@@ -1,10 +1,10 @@
 #!/bin/sh
-# run.sh [-s] [TARBALL]: makes two releases of the last commit, from two folders, and holds the one against the other; then unpacks it and
-# tests it with no `rt` in the path: by each compiler, without and with optimisation, under sanitizers and valgrind, for other
-# processors, by make, CMake, cargo and pip. With TARBALL that release is tested and none is made. With -s the streams are run over
-# one build alone. CCS names other compilers than gcc and clang.
+# run.sh [-s] [TARBALL]: makes two releases of the last commit, from two folders, and compares them. Then unpacks one and tests
+# it without `rt` in the path: with each compiler, without and with optimisation, under sanitizers and valgrind, for other
+# processors, with make, CMake, cargo and pip. With TARBALL, tests that release and makes none. With -s, runs the streams
+# with one build only. CCS names the compilers, if not gcc and clang.
 #
-# What isn't there is skipped, and a line says so. The last line is `N passed, M failed`.
+# If a tool is missing, its part is skipped, and a line says so. The last line is `N passed, M failed`.
 set -u
 here=$(cd "$(dirname "$0")" && pwd) || exit 2
 top=$(cd "$here/../.." && pwd) || exit 2
@@ -12,7 +12,7 @@ work=$(mktemp -d) || exit 2
 trap 'rm -rf "$work"' EXIT
 trap 'exit 1' INT TERM
 passed=0 failed=0 is_short=
-# vectors have up to 3,000 levels, which take more than the usual stack where the compiler doesn't optimise
+# vectors have up to 3,000 levels, which need more than the usual stack if the compiler doesn't optimise
 ulimit -s 131072 2>/dev/null
 warnings='-Wall -Wextra -Werror'
 hardened='-O2 -fstack-protector-strong -fstack-clash-protection -D_FORTIFY_SOURCE=2 -Wformat -Werror=format-security -fPIE'
@@ -27,7 +27,7 @@ has() {
     command -v "$1" >/dev/null || { say "$2: skipped, no $1"; return 1; }
 }
 
-# A part that says whether it passed by its exit status.
+# Runs a part that passes or fails by its exit status.
 #
 #     part NAME COMMAND..
 part() {
@@ -43,7 +43,7 @@ part() {
     fi
 }
 
-# A part that counts in its last line.
+# Runs a part that prints its counts in its last line.
 summed() {
     name=$1
     shift
@@ -57,13 +57,13 @@ summed() {
     say "$name: ${sums% *} passed, ${sums#* } failed"
 }
 
-# The release, from here and from a clone elsewhere.
+# Makes the release here and in a clone elsewhere, and compares them.
 releases() {
     git clone -q "$top" "$work/a/folder/elsewhere" && "$top/release" "$work/one" && "$work/a/folder/elsewhere/release" "$work/two" &&
         cmp "$work/one"/*.tar.gz "$work/two"/*.tar.gz
 }
 
-# Takes the command `rt` out of the path, and leaves what else stands in its folder.
+# Removes the command `rt` from the path, and keeps the other commands of its folder.
 without_rt() {
     number=0
     while rt=$(command -v rt); do
@@ -73,7 +73,7 @@ without_rt() {
     done
 }
 
-# Builds into a folder of this name and tries it.
+# Builds in a folder of this name, and runs `make check`.
 #
 #     checked NAME CC CFLAGS [VARIABLE=VALUE..]
 checked() {
@@ -82,7 +82,7 @@ checked() {
     make -C "$release" check BUILD="$work/$name" CC="$cc" CFLAGS="$flags" "$@"
 }
 
-# What a build answers to altered messages, which has to be what the first one did.
+# Checks that a build answers altered messages like the first build did.
 #
 #     same_digest NAME [RUNNER..]
 same_digest() {
@@ -93,7 +93,7 @@ same_digest() {
     cat "$work/digest" && cmp "$work/digest" "$work/digest_wanted"
 }
 
-# The compiler's own build: all that is tried of it.
+# Builds for this machine, and runs all tests of the build.
 #
 #     build NAME CC CFLAGS [VARIABLE=VALUE..]
 build() {
@@ -108,7 +108,7 @@ streams() {
     summed "streams, $name" python3 -B "$release/tests/streams/run.py" "$work/$name/capnp_canon" "$work/$name/stream_runs" --limit 300
 }
 
-# Rows and hostile runs alone: for builds that are slow to start, or want other memory.
+# Runs only the cases and the hostile runs: for builds that are slow to start, or take more memory.
 some_streams() {
     name=$1 runner=$4
     make -C "$release" "$work/$name/stream_runs" BUILD="$work/$name" CC="$2" CFLAGS="$3" >"$work/log" 2>&1
@@ -141,7 +141,7 @@ by_compiler() {
     part "make install, $1" installed "$1-O2" "$1"
     summed "c.sh, $1" env CC="$1" sh "$release/tests/library/c.sh" "$work/prefix_$1-O2"
     part "stack, $1" sh "$here/stack.sh" "$release" "$1"
-    sed -n 's/^\(.* bytes a level.*\)/    \1/p' "$work/log"
+    sed -n 's/^\(.* bytes per level.*\)/    \1/p' "$work/log"
 }
 
 on_aarch64() {
@@ -161,7 +161,7 @@ by_cmake() {
     found "$work/prefix_$first-O2" make
 }
 
-# A project that finds what is installed at a prefix.
+# Builds a CMake project that finds the library installed at a prefix.
 found() {
     mkdir "$work/user_$2" && cat >"$work/user_$2/CMakeLists.txt" <<END
 cmake_minimum_required(VERSION 3.13)
@@ -184,7 +184,7 @@ by_pip() {
         "$work/venv/bin/pip" install --no-index "$work/wheels"/*.whl && cd "$release/tests/library" && "$work/venv/bin/python" -B -m unittest test_capnp_canonical
 }
 
-# The example of the README gives its hash.
+# Checks that the example of the README prints the hash that the README says.
 readme() {
     # shellcheck disable=SC2016
     sed -n '/^    printf/,/sha256sum$/p' "$release/README.md" | sed "s|build/capnp_canon|$work/$first-O2/capnp_canon|" >"$work/readme.sh"
@@ -192,7 +192,7 @@ readme() {
     [ -n "$wanted" ] && [ "$(sh "$work/readme.sh")" = "$wanted  -" ]
 }
 
-# All vectors over layout_tool, which is written in C in the same way, and is in no release.
+# Runs all vectors with layout_tool, which is translated to C in the same way, but is in no release.
 layout_tool() {
     "$top/tools/generate.py" "$work" layout_tool && "$first" -std=c11 -O2 -Wall -Wextra -o "$work/layout_tool" "$work/layout_tool.c" &&
         python3 -B "$top/tests/vectors/run.py" "$work/layout_tool"

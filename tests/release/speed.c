@@ -1,6 +1,6 @@
-/* Compares two builds of the library in one process, in turn, by processor time.
+/* Compares the processor times of two builds of the library, which take turns in one process.
  *
- *     speed ONE.so OTHER.so STREAM        prints the times of the second one over those of the first, the least of 31 rounds each
+ *     speed ONE.so OTHER.so STREAM        prints the times of the second one divided by those of the first, the best of 31 rounds each
  */
 #include "capnp_canonical.h"
 #include <dlfcn.h>

@@ -1,6 +1,7 @@
 #!/bin/sh
-# speed.sh RELEASE PREFIX [CC..]: compares the release's library, built by each compiler at -O2, with the one that ./install put below
-# PREFIX, in one process: messages of some 210 bytes, and nested ones. It takes `capnp`, and an idle processor.
+# speed.sh RELEASE PREFIX [CC..]: compares the speed of the release's library, built by each compiler at -O2, with that of the
+# library that ./install put below PREFIX, in one process: messages of about 210 bytes, and nested ones. Needs `capnp` and an
+# idle processor.
 set -eu
 here=$(cd "$(dirname "$0")" && pwd)
 release=$(cd "$1" && pwd)

@@ -1,4 +1,5 @@
-/* Measures the stack that each call takes for a level, and beside: it is run on a stack of its own, filled with a mark. */
+/* Measures the stack that each call takes per level, and apart from levels. Runs each call on a stack of its own that is filled
+ * with a mark. */
 #include "capnp_canonical.h"
 #include <pthread.h>
 #include <stdio.h>
@@ -10,7 +11,7 @@ static uint8_t *stack, frame[8 + 16 * MANY + 16], written[sizeof frame];
 static size_t frame_size;
 static int which;
 
-/* Of each kind of chain the words of a level, each leading to what lies right behind. */
+/* For each kind of chain, the words of one level, which lead to the words right after them. */
 static const struct {
     const char *name;
     int words;
@@ -44,7 +45,7 @@ static void *call(void *unused) {
     return NULL;
 }
 
-/* How many bytes of the stack are touched. */
+/* The number of bytes of the stack that were written. */
 static size_t taken(void) {
     pthread_t thread;
     pthread_attr_t attributes;
@@ -65,7 +66,7 @@ int main(void) {
             size_t few = taken();
             make(chain, MANY);
             size_t level = (taken() - few) / (MANY - FEW);
-            printf("%s, %s: %zu bytes a level, %zu beside\n", calls[which], chains[chain].name, level, few - FEW * level);
+            printf("%s, %s: %zu bytes per level, %zu in addition\n", calls[which], chains[chain].name, level, few - FEW * level);
         }
     }
     return 0;

@@ -1,6 +1,6 @@
 #!/bin/sh
-# stack.sh RELEASE [CC]: measures how many bytes of stack a level of nesting takes in each call of the library, built by CC at -O2
-# and at -O0: of chains of structs, of lists of pointers and of lists of structs, one inside the other.
+# stack.sh RELEASE [CC]: measures how many bytes of stack each call of the library takes per level of nesting, for chains of
+# structs, of lists of pointers and of lists of structs. The library is built by CC at -O2 and at -O0.
 set -eu
 here=$(cd "$(dirname "$0")" && pwd)
 release=$1

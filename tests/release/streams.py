@@ -1,6 +1,6 @@
 #!/usr/bin/env python3
-"""Runs a capnp_canon over the stored streams, and its engine over hostile runs, and no more of tests/streams/run.py: for builds that are
-slow to start, or take other memory. RUNNER names what runs a program of another machine.
+"""Runs only two parts of tests/streams/run.py, the cases and the hostile runs: for builds that are slow to start, or take more
+memory. The variable RUNNER has the command that runs programs for another machine.
 
     streams.py TESTS_STREAMS CAPNP_CANON STREAM_RUNS"""
 import os

@@ -1,9 +1,9 @@
-/* Answers vectors by the library: lines of lines.py on standard input. Each buffer is a block of the heap of its very size,
- * so that valgrind and the address sanitizer see any byte too many.
+/* Answers vectors with the library: lines of lines.py on standard input. Each buffer is a block of the heap of exactly its size,
+ * so that valgrind and the address sanitizer see any access beyond it.
  *
- *     vectors          compares each answer with the one that is wanted; the last line is `N passed, M failed`
- *     vectors N        alters each message N times, cut, with bits turned and with other limits, has every call answer to it, and
- *                      prints one digest of all answers: whatever the library is built by, it is the same
+ *     vectors          compares each answer with the expected one; the last line is `N passed, M failed`
+ *     vectors N        alters each message N times (cut short, bits flipped, other limits), makes every call answer it, and prints
+ *                      one digest of all answers, which doesn't depend on how the library is built
  */
 #include "capnp_canonical.h"
 #include <inttypes.h>
@@ -39,7 +39,7 @@ static struct block block(size_t size) {
 
 static int digit(int c) { return c <= '9' ? c - '0' : (c | 32) - 'a' + 10; }
 
-/* The bytes of so many hex digits. */
+/* The bytes that these hex digits stand for. */
 static struct block bytes_of(const char *text, size_t digits) {
     struct block made = block(digits / 2);
     for (size_t i = 0; i < made.size; i++) made.at[i] = (uint8_t)(digit(text[2 * i]) << 4 | digit(text[2 * i + 1]));
@@ -70,7 +70,7 @@ static int is_refusal(uint32_t answer, const char *wanted) {
     return answer != CAPNP_CANONICAL_DONE && wanted[0] == '!' && strcmp(name, wanted + 1) == 0;
 }
 
-/* Both times: without room, for the size, and into a buffer of that size. */
+/* Calls it twice: without a buffer, for the size, and then with a buffer of that size. */
 static uint32_t copied(const struct parts *parts, const struct vector *of, int is_flat, struct block *to) {
     size_t written;
     uint32_t (*copy)(const struct capnp_canonical_segment *, size_t, int32_t, uint64_t, uint8_t *, size_t, size_t *) =
@@ -133,7 +133,7 @@ static int holds(const struct vector *of) {
     return it;
 }
 
-/* The digest: FNV-1a over all that a call gives. */
+/* The digest: FNV-1a of all that a call returns. */
 static uint64_t digest = 14695981039346656037u, calls;
 
 static void seen(const void *bytes, size_t size) {
@@ -142,7 +142,7 @@ static void seen(const void *bytes, size_t size) {
 
 static void number(uint64_t it) { seen(&it, sizeof it); }
 
-/* Numbers in an order that looks like chance, and is the same each time. */
+/* Pseudo-random numbers, the same ones in each run. */
 static uint64_t drawn(uint64_t below) {
     static uint64_t state = 0x9e3779b97f4a7c15u;
     state ^= state << 13;
@@ -151,7 +151,7 @@ static uint64_t drawn(uint64_t below) {
     return below ? (state >> 11) % below : 0;
 }
 
-/* Turns some bits of a segment, or cuts it. */
+/* Flips some bits of a segment, or cuts it short. */
 static void alter(struct capnp_canonical_segment *segment, int is_frame) {
     uint8_t *bytes = (uint8_t *)(uintptr_t)segment->bytes;
     for (uint64_t turns = drawn(3); turns && segment->size; turns--) bytes[drawn(segment->size)] ^= (uint8_t)(1u << drawn(8));
@@ -214,7 +214,7 @@ static void altered(const struct vector *from, unsigned long times) {
     }
 }
 
-/* The next line, without its end, in a buffer that grows; null behind the last one. */
+/* The next line, without its end, in a buffer that grows; null after the last one. */
 static char *line(void) {
     static char *text;
     static size_t room;

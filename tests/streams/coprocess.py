@@ -1,5 +1,5 @@
-"""Runs that are asked as coprocesses are: whoever writes reads the answers so far before it writes on. Each has to come
-within a second, though the input is still open."""
+"""Uses the program as a coprocess: reads each answer before it writes the next message. Each answer must come within a
+second, while the input is still open."""
 import os
 import pathlib
 import select
@@ -18,7 +18,7 @@ class Coprocess:
         self.run = subprocess.Popen([program.path, *args], stdin=subprocess.PIPE, stdout=subprocess.PIPE, bufsize=0)
 
     def asked(self, data, enough):
-        """What it answers to these bytes, read until there is enough or the time is over."""
+        """Writes these bytes, and returns the answer, read until there is enough or the time is over."""
         self.run.stdin.write(data)
         got, end = b'', time.monotonic() + SECONDS
         while not enough(got):
@@ -30,14 +30,14 @@ class Coprocess:
         return got
 
     def ended(self, limit):
-        """What it writes behind the end of its input, and its status."""
+        """Closes the input, and returns what the program writes after that, and its exit status."""
         self.run.stdin.close()
         with self.run.stdout:
             return self.run.stdout.read(), self.run.wait(limit)
 
 
 def parts(messages):
-    """Each message by itself; then each with the front of the next, whose rest comes later."""
+    """Two ways to write the messages: each on its own; and each together with the first half of the next one."""
     yield list(messages)
     cut = [len(it) // 2 for it in messages]
     fronts = [it[:n] for it, n in zip(messages, cut)]
@@ -50,16 +50,16 @@ def without_reason(line):
 
 
 def conversation(program, counts, args, asked, wanted, read=lambda got: got):
-    """Asks for each answer in turn."""
+    """Writes each part of the input and compares the answer to it."""
     process = Coprocess(program, args)
     for number, (data, want) in enumerate(zip(asked, wanted)):
         got = read(process.asked(data, lambda got: len(read(got)) >= len(want)))
         counts.told(without_reason(got) == want, 'a coprocess', args, number, got, want)
-    counts.told(process.ended(program.limit)[0] == b'', 'a coprocess', args, 'behind the end')
+    counts.told(process.ended(program.limit)[0] == b'', 'a coprocess', args, 'after the end')
 
 
 def whole(got):
-    """What packed bytes stand for; nothing yet where they are cut."""
+    """The unpacked bytes; none if the packed bytes are cut short."""
     words, is_whole = unpacked(got)
     return words if is_whole else b''
 
@@ -74,7 +74,7 @@ def answered(program, counts):
     digits = [it.hex().encode() + b'\n' for it in WANTED['canon,--flat']]
     conversation(program, counts, ['canon', '--hex'], MESSAGES, digits)
     with tempfile.TemporaryDirectory(prefix='streams-') as folder:
-        # the answers to a file before it are written before standard input is waited for
+        # the answers to an earlier file must come before the program waits for standard input
         path = pathlib.Path(folder) / 'first'
         path.write_bytes(MESSAGES[0])
         wanted = [digits[0] + digits[1], *digits[2:]]

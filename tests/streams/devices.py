@@ -1,24 +1,25 @@
-"""Runs whose standard input or output fails or ends early, and runs with little memory. The program is to end with a
-status and a name, and by no signal; and it is to take memory for what came, and not for what a table announces."""
+"""Makes runs whose standard input or output fails or ends early, and runs with little memory. The program must end with an exit
+status and the name of the refusal, not by a signal. It must take memory for the bytes that came, not for what a table
+announces."""
 import os
 import pathlib
 import resource
 import subprocess
 import tempfile
 
-# 1,000 messages of null, which take 16 bytes each, as their answers do.
+# 1,000 messages with a null root. Each takes 16 bytes, and so does its answer.
 NULL = bytes.fromhex('0000000001000000') + bytes(8)
 MANY = NULL * 1000
 FORMS = ['canon'], ['canon', '--flat'], ['canon', '--pack'], ['canon', '--hex'], ['check'], ['size']
 FULL = 2, 'refused WriteFailed: No space left on device (os error 28)\n'
-# Whoever leaves the pipe knows it.
+# After a closed pipe nothing is printed: the reader closed it.
 LEFT = 2, ''
 FOLDER = pathlib.Path(__file__).resolve().parent
 IS_FOLDER = 'message 1 at byte 0: refused ReadFailed: Is a directory (os error 21)\n'
-# A message of so many words: a list of bytes, none of them zero.
+# The number of words of a message that is a list of bytes, none of which is zero.
 WORDS = 1 << 17
 HELD, STEP, MOST = 1 << 21, 1 << 12, 1 << 26
-# By how many bytes a run may want more than was asked for, for what the system takes beside it.
+# The number of bytes that a run may take in addition to its requests, because the system needs some.
 ROOM = 1 << 20
 
 
@@ -29,7 +30,7 @@ def ended(program, args, given, taken):
 
 
 def input_of(data):
-    """A file to be read from its front."""
+    """A file with this content, to be read from its start."""
     given = tempfile.TemporaryFile()
     given.write(data)
     given.seek(0)
@@ -37,13 +38,13 @@ def input_of(data):
 
 
 def full(program, args, data):
-    """The run on a full disk."""
+    """Runs the program with a full disk as its output."""
     with input_of(data) as given, open('/dev/full', 'wb') as taken:
         return ended(program, args, given, taken)
 
 
 def closed(program, args, data):
-    """The run to a pipe that nobody reads."""
+    """Runs the program with a closed pipe as its output."""
     reading, writing = os.pipe()
     os.close(reading)
     with input_of(data) as given, os.fdopen(writing, 'wb', buffering=0) as taken:
@@ -51,7 +52,7 @@ def closed(program, args, data):
 
 
 def front(program, args, data, count):
-    """The run to a reader that takes so many bytes and leaves: these, the status and standard error."""
+    """Runs the program into a pipe that is closed after `count` bytes. Returns these, the exit status and standard error."""
     with input_of(data) as given:
         run = subprocess.Popen([program.path, *args], stdin=given, stdout=subprocess.PIPE, stderr=subprocess.PIPE)
         taken = run.stdout.read(count)
@@ -62,7 +63,7 @@ def front(program, args, data, count):
 
 
 def unread(program, args):
-    """The run on a folder as its input."""
+    """Runs the program with a folder as its input."""
     folder = os.open(FOLDER, os.O_RDONLY)
     try:
         return ended(program, args, folder, subprocess.DEVNULL)
@@ -71,14 +72,14 @@ def unread(program, args):
 
 
 def shut(program, args):
-    """The run with no standard input."""
+    """Runs the program without standard input."""
     run = subprocess.run([program.path, *args], stdout=subprocess.DEVNULL, stderr=subprocess.PIPE, timeout=program.limit,
                          preexec_fn=lambda: os.close(0))
     return run.returncode, run.stderr.decode()
 
 
 def of_files(program, counts):
-    """A full disk, a closed pipe and no more files than may be open, where files are named."""
+    """Runs with file arguments: a full disk, a closed pipe, and a limit on the number of open files."""
     with tempfile.TemporaryDirectory(prefix='streams-') as folder:
         names = [f'{folder}/{number}' for number in range(40)]
         for name in names:
@@ -90,7 +91,7 @@ def of_files(program, counts):
             counts.told(program.run([*args, *names], b'', **few)[1:] == (0, ''), 'few files are open at a time', args)
         got = program.run(['size', names[0], folder, names[1]], b'')
         lines = f'{names[0]}: words 0 caps 0\n'.encode() * 1000
-        counts.told(got == (lines, 2, f'{folder}: {IS_FOLDER}'), 'a folder behind a file', got)
+        counts.told(got == (lines, 2, f'{folder}: {IS_FOLDER}'), 'a folder after a file', got)
 
 
 def failing(program, counts):
@@ -115,8 +116,8 @@ def failing(program, counts):
 
 
 def scarce(program, counts):
-    """A small message and a large one, for each limit on the address space from one at which nothing is answered up to
-    one at which all is. What is refused is refused by its name, and what is written is the answers before."""
+    """Runs the program on a small message and a large one, under each limit on the address space from one at which nothing is
+    answered up to one at which both are. A refusal must have the right name, and the answers before it must be written."""
     body = (1 | 2 << 32 | 8 * WORDS << 35).to_bytes(8, 'little') + b'\x11' * 8 * WORDS
     large = bytes(4) + (WORDS + 1).to_bytes(4, 'little') + body
     wanted = {NULL: 'message 2 at byte 16: refused AllocationFailed\n', b'': 'refused AllocationFailed\n', NULL + large: ''}
@@ -128,7 +129,7 @@ def scarce(program, counts):
         except (OSError, subprocess.SubprocessError):
             continue
         if status not in (0, 2):
-            # the system had no room for the program itself
+            # there was no memory to start the program
             continue
         found.add(error)
         answers = [it for it, name in wanted.items() if name == error]
@@ -139,7 +140,7 @@ def scarce(program, counts):
 
 
 def least(program, args, data):
-    """The least limit on the address space, in steps, at which no request of a run is refused."""
+    """The smallest limit on the address space, a multiple of STEP, at which no request of a run is refused."""
     low, high = HELD // STEP, MOST // STEP
     while low < high:
         most = (low + high) // 2
@@ -156,14 +157,14 @@ def least(program, args, data):
 
 
 def table(*lengths):
-    """The table of a frame of segments of so many words."""
+    """The table of a frame whose segments have these lengths in words."""
     numbers = b''.join(it.to_bytes(4, 'little') for it in (len(lengths) - 1, *lengths))
     return numbers + bytes(-len(numbers) % 8)
 
 
 def bounded(program, counts):
-    """The memory of a run, over that for a message of one word: at most twice what came, and for `canon` as many words
-    more as came, or twice the canonical ones, however much is announced."""
+    """Checks how much more memory a run takes than one on a message of one word. It may take at most twice the bytes that came;
+    for `canon`, at most four times. What the table of a frame announces must not matter."""
     announced = {'64 MiB': table((1 << 23) - 1), '512 segments': table(*[1 << 14] * 511, (1 << 14) - 1)}
     for form in FORMS:
         base = least(program, form, NULL)
@@ -173,7 +174,7 @@ def bounded(program, counts):
         front = table((1 << 32) - 1)
         want = least(program, [*form, '--words', 'none'], front + bytes(8))
         counts.told(want <= base + ROOM, 'announced 32 GiB', form, want - base)
-        # a list of bytes, which is as long in canonical form; and one that nothing leads to
+        # a list of bytes, which is as long in canonical form; and the same bytes with nothing that leads to them
         used = (1 | 2 << 32 | 8 * WORDS << 35).to_bytes(8, 'little') + b'\x11' * 8 * WORDS
         for name, body in ('a list of bytes', used), ('words that nothing leads to', bytes(8) + used[8:]):
             data = table(WORDS + 1) + body

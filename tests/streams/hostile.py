@@ -1,10 +1,10 @@
-"""Runs of the engine over six messages, one behind the other, by STREAM_RUNS: devices that move few bytes and fail at each
-call in turn, the stream cut behind each byte, each of its bits turned; plain and packed. What is answered before is the
-answers of the messages before, and nothing of the one that is refused is written.
+"""Runs the engine of capnp_canon on a stream of six messages, with the program stream_runs. Its devices move few bytes at a
+time and fail at each call in turn; the stream is cut short after each byte and has each bit flipped; all of this plain
+and packed. The answers to the messages before a refused one must be written, and nothing of the refused one.
 
-What is wanted of the six was worked out by hand. What an altered message is answered is what it is answered by itself, as
-a stream of one; where a stream is cut or altered its frames are found by tests/hostile/frames.py, and packed bytes are
-unpacked by packing.py."""
+The expected answers to the six messages were worked out by hand. The expected answer to an altered message is what the
+program answers to a stream of this message only. tests/hostile/frames.py finds the frames of an altered stream, and
+packing.py unpacks packed bytes."""
 import collections
 import re
 
@@ -13,9 +13,9 @@ from packing import packed, unpacked
 from program import answers
 from runs import without_reasons
 
-# The segments of each message, its canonical words, and how many words it has without its root and landing pads.
+# The segments of each message, its canonical words, and its number of words without the root pointer and landing pads.
 SIX = (
-    # data of three words, the last of them zero
+    # a struct of three data words, the last of which is zero
     ('0000000003000000111111111111111100000000000000800000000000000000', '000000000200000011111111111111110000000000000080', 3),
     ('0000000000000000', '0000000000000000', 0),
     # a landing pad of two words
@@ -42,7 +42,7 @@ def message(row):
 
 
 def wanted(form, row):
-    """What is answered to one of the six."""
+    """The expected answer to one of the six messages."""
     segments, words, size = row
     if form == 'check':
         return b'canonical\n' if segments == words else b'not canonical\n'
@@ -57,7 +57,7 @@ WANTED = {form: [wanted(form, row) for row in SIX] for form in FORMS}
 
 
 def ends(parts):
-    """How many bytes the first so many parts take, for each number of them."""
+    """The total size in bytes of the first n parts, for each n from 0 on."""
     found = [0]
     for part in parts:
         found.append(found[-1] + len(part))
@@ -65,7 +65,7 @@ def ends(parts):
 
 
 def whole_below(parts, count):
-    """How many of the parts lie wholly in so many bytes."""
+    """The number of parts that are complete within the first `count` bytes."""
     return sum(end <= count for end in ends(parts)) - 1
 
 
@@ -86,12 +86,12 @@ def line(form, data, reads=ALL, writes=ALL):
 
 
 def holds(form, number=len(SIX)):
-    """The word behind a run to the end: whether each answer is a yes."""
+    """The last word of a run that reaches the end: `true` if every answer is a yes, otherwise `false`."""
     return 'false' if form == 'check' and b'not canonical\n' in WANTED[form][:number] else 'true'
 
 
 def is_front(form, answer):
-    """Whether what is written is the answers to as many messages as were answered."""
+    """Whether the output is the answers to the messages that the run says it answered."""
     front = b''.join(WANTED[form][:answer.number])
     return without_reasons(front, answer.written) == front
 
@@ -114,7 +114,7 @@ class Runs:
             self.counts.told(good, 'few bytes at a time', text, got)
 
     def failed_reads(self):
-        """A read that fails, of one byte each: the messages that were read before are answered."""
+        """Lets each read in turn fail, of reads of one byte. The messages that were read before must be answered."""
         for form in FORMS:
             lines = [line(form, STREAM, f'{calls},1') for calls in range(len(STREAM) + 2)]
             for calls, got in enumerate(asked(self.program, lines)):
@@ -124,7 +124,7 @@ class Runs:
                 self.counts.told((got.how, got.number, got.word) == how and is_front(form, got), 'a failed read', form, calls, got)
 
     def failed_packed_reads(self):
-        """A read of a packed input that fails. More may be read than a message takes, and the end twice."""
+        """Lets each read of a packed input in turn fail. The run may read more than a message takes, and may read the end twice."""
         data = packed(STREAM)
         for form in FORMS:
             lines = [line(form + ',--packed', data, f'{calls},1') for calls in range(len(data) + 3)]
@@ -135,7 +135,7 @@ class Runs:
                 self.counts.told((got.how, got.word) in ways and is_front(form, got), 'a failed packed read', form, calls, got)
 
     def failed_writes(self):
-        """A write that fails, of one byte each: what was taken is the front of the answers."""
+        """Lets each write in turn fail, of writes of one byte. The output must be the first bytes of the answers."""
         for form in FORMS:
             output = asked(self.program, [line(form, STREAM)])[0].written
             lines = [line(form, STREAM, ALL, f'{calls},1') for calls in range(len(output) + 1)]
@@ -150,7 +150,7 @@ class Runs:
                 self.counts.told(good, 'a failed write', form, calls, got)
 
     def failed_packed_writes(self):
-        """A write of packed output that fails: where all of it is taken, it unpacks to the answers."""
+        """Lets each write of packed output in turn fail. The complete output must unpack to the answers."""
         for form in 'canon', 'canon,--flat':
             output = asked(self.program, [line(form + ',--pack', STREAM)])[0].written
             self.counts.told(unpacked(output) == (b''.join(WANTED[form]), True), 'packed output', form, output)
@@ -160,7 +160,7 @@ class Runs:
                 self.counts.told(got.how == how and got.written == output[:calls], 'a failed packed write', form, calls, got)
 
     def cut(self):
-        """The stream cut behind each byte."""
+        """Cuts the stream short after each byte."""
         for form in FORMS:
             found = asked(self.program, [line(form, STREAM[:end]) for end in range(len(STREAM) + 1)])
             for end, got in enumerate(found):
@@ -170,7 +170,7 @@ class Runs:
                 self.counts.told((got.how, got.number, got.word) == how and is_front(form, got), 'a cut stream', form, end, got)
 
     def cut_packed(self):
-        """The packed stream cut behind each byte. Of a word whose number is missing the eight bytes may be given or not."""
+        """Cuts the packed stream short after each byte. If the count after a word is missing, that word may be used or not."""
         data = packed(STREAM)
         for form in FORMS:
             found = asked(self.program, [line(form + ',--packed', data[:end]) for end in range(len(data) + 1)])
@@ -185,7 +185,7 @@ class Runs:
                 self.counts.told(good and is_front(form, got), 'a cut packed stream', form, end, got)
 
     def turned(self):
-        """Each bit of the stream turned, plain and packed."""
+        """Flips each bit of the stream, plain and packed."""
         altered, data = {}, packed(STREAM)
         for bit in range(8 * len(STREAM)):
             altered[turn(STREAM, bit)] = None
@@ -197,12 +197,12 @@ class Runs:
             alone = dict(zip(single, asked(self.program, [line(form, it) for it in single])))
             for given, got in zip(altered, asked(self.program, [line(form, it) for it in altered])):
                 want = expected(form, *parts[given], alone)
-                self.counts.told(got == want, 'a turned bit', form, given.hex(), want, got)
+                self.counts.told(got == want, 'a flipped bit', form, given.hex(), want, got)
             found = asked(self.program, [line(form + ',--packed', it) for it, _ in pairs])
             for (_, (given, is_whole)), got in zip(pairs, found):
                 want = expected(form, *parts[given], alone)
                 good = got == want if is_whole else is_cut(got, want)
-                self.counts.told(good, 'a turned packed bit', form, is_whole, want, got)
+                self.counts.told(good, 'a flipped packed bit', form, is_whole, want, got)
 
 
 def turn(data, bit):
@@ -212,7 +212,7 @@ def turn(data, bit):
 
 
 def frames(data):
-    """The frames at the front of a stream, and why none is behind them, or None at its end."""
+    """The whole frames at the start of a stream, and the name of the refusal of the next one, or None at the end."""
     found = []
     while data:
         name = refusal(data)
@@ -226,7 +226,7 @@ def frames(data):
 
 
 def expected(form, found, name, alone):
-    """What is answered to a stream of these frames, by what is answered to each alone."""
+    """The expected answer to a stream of these frames, from the answers to each one on its own."""
     written, word = b'', 'true'
     for number, frame in enumerate(found):
         answer = alone[frame]
@@ -240,8 +240,8 @@ def expected(form, found, name, alone):
 
 
 def is_cut(got, want):
-    """Whether a packed stream that is cut short, and would else be answered so, is. Of a word whose number is missing the
-    eight bytes may be given or not."""
+    """Whether the answer to a packed stream that is cut short is right; `want` is the answer to what it unpacks to. If the count
+    after a word is missing, that word may be used or not."""
     if got.how != 'stopped' or got.number > want.number or not want.written.startswith(got.written):
         return False
     return got.word == 'Truncated' or got == want

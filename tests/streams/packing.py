@@ -1,4 +1,4 @@
-"""Packed bytes, by the encoding specification ("Packing"), apart from the crates."""
+"""Packs and unpacks bytes as the encoding specification describes it ("Packing"), independently of the crates."""
 
 
 def words_of(data):
@@ -6,7 +6,7 @@ def words_of(data):
 
 
 def packed(data, most=255):
-    """Whole words, packed, with runs of at most so many words."""
+    """Packs whole words, with at most `most` words in each run."""
     words = words_of(data)
     out, i = bytearray(), 0
     while i < len(words):
@@ -26,7 +26,7 @@ def packed(data, most=255):
 
 
 def unpacked(data):
-    """The bytes that packed bytes stand for, as far as these go, and whether they end behind a word or its run."""
+    """The unpacked bytes, as far as the packed ones go, and whether these end after a whole word or its run."""
     out, rest = bytearray(), iter(data)
     try:
         for tag in rest:

@@ -1,4 +1,4 @@
-"""Runs of the program, and whether they ended as they should."""
+"""Runs the program, and compares how the runs ended with what is expected."""
 import json
 import os
 import pathlib
@@ -14,7 +14,7 @@ class Program:
         self.path, self.limit = os.path.abspath(path), limit
 
     def run(self, args, data, **how):
-        """The output, the exit status, and standard error."""
+        """The output, the exit status and standard error of a run."""
         try:
             run = subprocess.run([self.path, *args], input=data, capture_output=True, timeout=self.limit, **how)
         except subprocess.TimeoutExpired:
@@ -22,7 +22,7 @@ class Program:
         return run.stdout, run.returncode, run.stderr.decode('utf-8', 'replace')
 
     def run_case(self, case):
-        """The run that a case of a .jsonl file describes, in a folder that has its files and no others."""
+        """Makes the run that a case of a .jsonl file describes, in a folder that has its files and no others."""
         data = bytes.fromhex(case['input'])
         if 'files' not in case:
             return self.run(case['args'], data)
@@ -35,7 +35,7 @@ class Program:
 
 
 def same(counts, what, args, wanted, got):
-    """Counts a run. Where the line of a message that isn't canonical is wanted without a reason, any reason will do."""
+    """Counts a run. If `not canonical` is expected without a reason, any reason is right."""
     output, *others = got
     if args[:1] == ['check']:
         output = without_reasons(wanted[0], output)
@@ -43,7 +43,7 @@ def same(counts, what, args, wanted, got):
 
 
 def stored(program, counts):
-    """Makes the stored runs."""
+    """Runs all cases of the .jsonl files."""
     for path in sorted(HERE.glob('*.jsonl')):
         for number, line in enumerate(path.open(encoding='utf-8'), 1):
             case = json.loads(line)

@@ -1,5 +1,6 @@
-"""The vectors of tests/vectors as streams: those of `canon` and `size`, and of `framed-check`, one behind the other up to
-one that is refused. Their answers are of one message each, and in hex digits; here they are those of a whole stream."""
+"""Makes streams from the vectors of tests/vectors. A stream has the messages of several vectors of `canon`, `size` or
+`framed-check` in order, up to one that is refused. Vectors have one message each and answers in hex digits; here the
+answers are put together to that of the stream."""
 import itertools
 import json
 import pathlib
@@ -17,7 +18,7 @@ MOST_MESSAGES = 40
 
 
 def messages():
-    """Each message that a vector has: its command, its limits, its frame, and the answer or refusal."""
+    """Each message of a vector: its command, its limits, its frame, and the answer or refusal."""
     for path in sorted(FILES.glob('*.jsonl')):
         for line in path.open(encoding='utf-8'):
             vector = json.loads(line)
@@ -32,7 +33,7 @@ def messages():
 
 
 def length(frame):
-    """How many bytes a frame takes by its table, and how many words it holds; None where that isn't told."""
+    """The size in bytes of a frame according to its table, and its number of words; None if the table is cut short or too long."""
     count = int.from_bytes(frame[:4], 'little') + 1
     start = (4 * (count + 1) + 7) // 8 * 8
     if len(frame) < start or count > MOST_SEGMENTS:
@@ -42,8 +43,8 @@ def length(frame):
 
 
 def answered(command, limit, frame, text):
-    """The frame without what stands behind it, and what a stream answers to it: bytes, or the name of a refusal. A frame
-    of more words than the limit is refused as such."""
+    """The frame without the bytes after it, and what a stream answers to it: bytes, or the name of a refusal. A frame of more
+    words than the limit is refused for that."""
     told = length(frame)
     if told and limit != 'none' and told[1] > int(limit):
         return frame, 'MessageTooLong'
@@ -57,7 +58,7 @@ def answered(command, limit, frame, text):
 
 
 def chains(given):
-    """The messages in parts, each with at most one that is refused, which is the last."""
+    """Splits the messages into parts. In each part at most one message is refused, the last one."""
     chain = []
     for frame, answer in given:
         chain.append((frame, answer))
@@ -69,7 +70,7 @@ def chains(given):
 
 
 def stream(chain):
-    """The bytes of the messages, and what is wanted."""
+    """The bytes of the messages, and the expected answer to the stream."""
     data = b''.join(frame for frame, _ in chain)
     output = b''.join(answer for _, answer in chain if not isinstance(answer, str))
     last = chain[-1][1]
@@ -80,7 +81,7 @@ def stream(chain):
 
 
 def runs():
-    """Each run: its arguments, its input and what is wanted; plain, and packed where it is whole words."""
+    """Each run: its arguments, its input and the expected answer; plain, and also packed if the input is whole words."""
     given = sorted(messages(), key=lambda it: it[:2])
     for (command, (nesting, words)), group in itertools.groupby(given, key=lambda it: it[:2]):
         found = [answered(command, words, frame, text) for _, _, frame, text in group if frame]
@@ -93,7 +94,7 @@ def runs():
 
 
 def without_guess(output, status, error):
-    """An answer without what the input looks like, which is a guess."""
+    """An answer without the lines that guess what the input looks like."""
     return output, status, ''.join(it for it in error.splitlines(True) if not it.startswith('the input looks like '))
 
 

@@ -1,14 +1,17 @@
 #!/usr/bin/env python3
-"""Runs a built layout_tool over the vectors beside this file, and prints what differs.
+"""Runs a built layout_tool on the vectors in this folder, and prints the runs that went wrong.
 
     run.py BINARY [--limit SECONDS] [--show N]
 
-Each line of a .jsonl file is one run: its arguments, its standard input, and the standard output and exit status
-that are wanted, with standard error where it is wanted too. The answers were made apart from this repository, by a
-model of the format written in Python from its description, and those of canon, check and size compared with those of
-Rust's capnp 0.27.3 on the same input: worked examples, random values in random layouts, mutated messages, and messages made to be refused.
-heavy.jsonl holds short messages that read much, deep.jsonl messages of many levels, and worked.jsonl runs whose answers
-were worked out by hand. Each command is run, too, with an input that can't be read and with a full disk for its output."""
+Each line of a .jsonl file is one run: its arguments and standard input, and the expected standard output, exit status and,
+for some, standard error. The inputs are worked examples, random values in random layouts, altered messages, and messages
+made to be refused. heavy.jsonl has short messages that take many reads, deep.jsonl messages of many levels, and
+worked.jsonl runs whose answers were worked out by hand.
+
+The other answers come from a model of the format outside of this repository, written in Python from the specification.
+Those of canon, check and size were compared with the answers of Rust's capnp 0.27.3 to the same input.
+
+Each command also runs with an input that can't be read, and with a full disk for its output."""
 import argparse
 import json
 import os
@@ -18,7 +21,7 @@ import sys
 
 
 def answer(binary, vector, limit):
-    """The output, status and error of one run."""
+    """The standard output, exit status and standard error of one run."""
     try:
         run = subprocess.run([binary, *vector['args']], input=vector['stdin'].encode('latin-1'), capture_output=True, timeout=limit)
     except subprocess.TimeoutExpired:
@@ -26,7 +29,7 @@ def answer(binary, vector, limit):
     return run.stdout.decode('latin-1'), run.returncode, run.stderr.decode('latin-1').strip()
 
 
-# Each command as it is run with devices that fail, and what a null root, or its frame, makes it write more than nothing.
+# The commands to run with devices that fail, each with an input for which it writes something: a null root, or its frame.
 LIMITS = '64', '8388608'
 ON_DEVICES = [(['frame'], '00' * 8), (['unframe'], '00000000010000000000000000000000')] + [
     ([command, *LIMITS], '00' * 8) for command in ('canon', 'check', 'size', 'framed-canon')
@@ -34,7 +37,7 @@ ON_DEVICES = [(['frame'], '00' * 8), (['unframe'], '0000000001000000000000000000
 
 
 def on_devices(binary, limit):
-    """Runs whose input can't be read, and runs whose output can't be written: each with its outcome and the wanted one."""
+    """Runs whose input can't be read, and runs whose output can't be written: each with its outcome and the expected one."""
     for args, line in ON_DEVICES:
         with open('/dev/full', 'wb') as full:
             run = subprocess.run([binary, *args], input=f'{line}\n'.encode(), stdout=full, stderr=subprocess.DEVNULL, timeout=limit)

@@ -1,15 +1,19 @@
-"""Writes an LLVM module, as text, in C: one file, for gcc and clang.
+"""Translates the text of an LLVM module to C: one file, for gcc and clang.
 
     c_of_module MODULE.ll HEADER
 
-HEADER declares the functions that the module exports. The file includes it, so the C compiler holds one against the other.
-Nothing is guessed: what isn't known here ends the run, with the line that it was met at.
+HEADER declares the functions that the module exports. The C file includes it, so the C compiler compares the two.
+Nothing is guessed: anything unknown ends the run, and the line where it occurs is printed.
 
-How the two go together. An integer of N bits is an unsigned one, and what is counted with it is cast back to N bits. A pointer
-is an `u8 *`. Memory is read and written by `ld64`, `st64` and the like, which take any address and may alias all. A block is a
-label, and locals are arrays of bytes, which those share that are in use at other times. A value has a variable, or stands where it is used: where that is one place, in its own
-block, and it reads no memory that is written before. Where a block chooses a value by where it is come from (`phi`), the
-variable is set on the way there.
+How LLVM becomes C:
+
+- An integer of N bits is an unsigned one. Results of arithmetic are cast back to N bits. A pointer is an `u8 *`.
+- Memory is read and written by `ld64`, `st64` and the like, which take any address and may alias everything.
+- A block is a label. Locals are arrays of bytes; locals that aren't in use at the same time may share one.
+- A value has a variable, or its expression is written where it is used. The latter only if it is used once, in its own
+  block, and reads no memory that is written in between.
+- A `phi` chooses a value by the block from which control comes. Its variable is set in each of these blocks, before the
+  jump.
 """
 import pathlib
 import re
@@ -19,8 +23,8 @@ from functions import Function, Signature
 from reading import ZERO, Line, Names, Unknown, bits, c_type, declared, struct_name
 from writing import offset
 
-ABOUT = '''/* This file is generated, and not to be edited. It is what the proved sources of the repository compile to, written in C by
- * tools/c_of_module there. The README of the release says what is trusted. */'''
+ABOUT = '''/* This file is generated: don't edit it. It is the compiled form of the repository's proved sources, translated to C by
+ * tools/c_of_module. The README of the release says what you have to trust. */'''
 STRUCTS_OUTSIDE = {'s_i64_i64'}
 
 
@@ -65,7 +69,7 @@ class Module:
         it.next('constant')
         kind = it.type()
         if kind[0] != 'array':
-            raise Unknown('a constant that is no row')
+            raise Unknown('a constant that is no array')
         _, count, of = kind
         if of == 'i8':
             value = it.next()
@@ -92,18 +96,18 @@ class Module:
         for name in sorted(self.structs.keys() - STRUCTS_OUTSIDE):
             fields = ' '.join(f'{declared(it, f"f{number}")};' for number, it in enumerate(self.structs[name][1]))
             yield f'struct {name} {{ {fields} }};'
-        yield from ('', '/* Moves so many bytes between places that may overlap. */', *map(move, sorted(self.moves)), '', *self.statics, '')
+        yield from ('', '/* mvN moves N bytes between places that may overlap. */', *map(move, sorted(self.moves)), '', *self.statics, '')
         yield from (f'{it.signature.text(Names())};' for it in self.functions if it.signature.is_internal)
         yield '\n' + written
 
 
 def text_of(value, count):
-    """A row of bytes: a text where that can be read, else numbers."""
+    """Bytes as a C initializer: a text if all of them are printable, otherwise numbers."""
     if value in ZERO:
         return '{ 0 }'
     data = re.sub(rb'\\(\\|[0-9A-Fa-f]{2})', lambda hit: hit[1] if hit[1] == b'\\' else bytes([int(hit[1], 16)]), value[2:-1].encode('latin-1'))
     if len(data) != count:
-        raise Unknown(f'{len(data)} bytes in a row of {count}')
+        raise Unknown(f'{len(data)} bytes in an array of {count}')
     if not all(32 <= it < 127 or it == 10 for it in data):
         return '{ ' + ', '.join(map(str, data)) + ' }'
     shown = re.sub(r'([\\"?])', r'\\\1', data.decode()).replace('\n', '\\n"\n    "')
@@ -111,7 +115,7 @@ def text_of(value, count):
 
 
 def move(size):
-    """All is read before any is written."""
+    """A function that moves `size` bytes: it reads all of them before it writes any."""
     at, loads, stores = 0, [], []
     for width in 8, 4, 2, 1:
         while size - at >= width:

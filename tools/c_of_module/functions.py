@@ -1,4 +1,4 @@
-"""The functions of a module: their signatures, their blocks, where values are used, and which locals can share bytes."""
+"""Reads the functions of a module: their signatures, their blocks, where values are used, and which locals can share bytes."""
 import re
 import sys
 from collections import Counter
@@ -6,10 +6,10 @@ from collections import Counter
 from reading import PROMISES, Line, Names, Unknown, declared, size_of
 from writing import Writer
 
-# Attributes of functions: those that a C compiler is told, by these names, and those that C may do without.
+# Attributes of functions: those that are passed to the C compiler, under these names, and those that C can do without.
 ADVICE = {'noinline': 'NEVER', 'cold': 'COLD'}
 SILENT = {'alwaysinline', 'inlinehint', 'memory', 'mustprogress', 'nobuiltin', 'nofree', 'norecurse', 'nosync', 'nounwind', 'willreturn'}
-# Functions that the module calls, as runtime.h and program.h have them.
+# Functions that the module calls, and their names in runtime.h and program.h.
 OUTSIDE = {
     **{name: name for name in ('rattle_alloc', 'rattle_realloc', 'rattle_dealloc', 'rattle_arg', 'rattle_arg_count', 'rattle_env',
                                'rattle_env_at', 'rattle_errno', 'rattle_set_errno')},
@@ -58,7 +58,7 @@ class Signature:
             if word[0] == '#':
                 said = self.module.attributes.get(word, '')
             elif word not in PROMISES:
-                raise Unknown(f'{word} behind a signature')
+                raise Unknown(f'{word} after a signature')
         words = {re.match(r'"|\w*', it)[0] for it in re.findall(r'"[^"]*"(?:="[^"]*")?|\w+(?:\([^)]*\))?', said)}
         if not self.name.startswith('llvm.') and words - {'"', *ADVICE, *SILENT}:
             raise Unknown(f'attributes {words}')
@@ -92,7 +92,7 @@ class Function:
 
     @staticmethod
     def choice(line):
-        """A `phi`: its name and type, and its value by the block that it is come from."""
+        """A `phi`: its name, its type, and its value for each block from which control comes."""
         it = Line(line)
         name = it.next()
         it.next('=')
@@ -103,14 +103,14 @@ class Function:
             it.next(',')
             before = it.next().strip('%"')
             if values.setdefault(before, value) != value:
-                raise Unknown('two values for one way')
+                raise Unknown('two values for one block before')
             it.next(']')
             it.takes(',')
         it.end()
         return name, kind, values
 
     def leave_unused_casts(self):
-        """Takes out the casts of numbers whose result nothing uses, so that nothing is kept for these alone; and counts what is used."""
+        """Removes casts of numbers whose result isn't used, so that no variable is kept only for them; and counts the uses."""
         while True:
             self.count_uses()
             unused = {line for lines in self.blocks.values() for line in lines if (cast := CAST.match(line)) and not self.uses[cast[1]]}
@@ -131,7 +131,7 @@ class Function:
 
     @staticmethod
     def local(it):
-        """A local's name, and its size and alignment."""
+        """The name of a local, with its size and alignment."""
         name = it.next()
         it.next('=')
         it.next('alloca')
@@ -143,7 +143,7 @@ class Function:
         return name, (size, align)
 
     def shared(self):
-        """Rows of bytes, each with the locals that share it, no two of which are in use at once."""
+        """Arrays of bytes, each with the locals that share it. No two of these are in use at the same time."""
         marks = {label: re.findall(r'@llvm\.lifetime\.(start|end)\.p0\(ptr nonnull (%[-\w.$]+)\)', '\n'.join(lines)) for label, lines in self.blocks.items()}
         marked = {name for found in marks.values() for _, name in found}
         said = sum('@llvm.lifetime.' in line for lines in self.blocks.values() for line in lines)

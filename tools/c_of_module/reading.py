@@ -2,23 +2,23 @@
 import re
 
 TOKEN = re.compile(r'''c"[^"]*"|[%@](?:"[^"]*"|[-\w.$]+)|"[^"]*"|!\w+|\#\d+|-?\d+(?![\w.])|[A-Za-z_][\w.]*|\.\.\.|[][(){}<>,=:]''')
-# What is promised of a value or a call, and advice how to call: C may do without.
+# Promises about a value or a call, and advice how to call: C can do without them.
 PROMISES = {
     'align', 'captures', 'ccc', 'dereferenceable', 'dereferenceable_or_null', 'disjoint', 'dso_local', 'exact', 'fastcc',
     'immarg', 'inbounds', 'initializes', 'internal', 'local_unnamed_addr', 'nneg', 'noalias', 'nofree', 'nonnull', 'notail',
     'noundef', 'nsw', 'nuw', 'nusw', 'private', 'range', 'readnone', 'readonly', 'returned', 'samesign', 'tail', 'unnamed_addr',
     'writeonly', 'zeroext',
 }
-# The promises that may have something in brackets.
+# The promises that may have an argument in brackets.
 BRACKETED = {'captures', 'dereferenceable', 'dereferenceable_or_null', 'initializes', 'range'}
 ZERO = ('zeroinitializer', 'undef', 'poison')
 
 
 class Unknown(Exception):
-    """Something of the module is met that isn't known here."""
+    """The module has something that isn't known here; the text says what."""
 
 
-# Numbers of widths that C hasn't, which are only moved, cut and lengthened: in C they stand in one of 64 bits.
+# Numbers of widths that C doesn't have. They are only moved, truncated and extended, so C keeps them in 64 bits.
 UNCOUNTED = 'i24', 'i40', 'i48', 'i56'
 
 
@@ -28,7 +28,7 @@ def bits(kind):
 
 
 def size_of(kind):
-    """The size in bytes and the alignment: the module's are those of C."""
+    """The size in bytes and the alignment, which are the same in the module and in C."""
     if kind in UNCOUNTED:
         raise Unknown(f'{kind} in memory')
     if isinstance(kind, str):
@@ -44,7 +44,7 @@ def size_of(kind):
 
 
 def laid_out(kind):
-    """The fields of a struct, each behind its offset."""
+    """The fields of a struct, each with its offset before it."""
     at = 0
     for it in kind[1]:
         size, align = size_of(it)
@@ -75,14 +75,14 @@ def declared(kind, name):
 
 
 def suffix(kind):
-    """What the name of a function that reads or writes such a number ends in."""
+    """The end of the names of the functions that read or write such a number."""
     if kind == 'i1':
         raise Unknown('a bit in memory')
     return 'p' if kind == 'ptr' else bits(kind)
 
 
 class Line:
-    """A line of the module, as tokens that are read from the front."""
+    """A line of the module, as tokens that are read in order."""
 
     def __init__(self, text):
         text = text.split(' ; ')[0]
@@ -121,7 +121,7 @@ class Line:
                 self.next()
 
     def end(self):
-        """What may stand behind an instruction: an alignment, and notes."""
+        """Reads what may come after an instruction: an alignment and notes."""
         while self.peek() is not None:
             it = self.next()
             if it == 'align':
@@ -148,7 +148,7 @@ class Line:
         raise Unknown(f'type {it}')
 
     def skip_parameters(self):
-        """The types of the parameters, which stand in a call of a function that takes more than these."""
+        """Skips the types of the parameters in a call of a function with further, variable parameters."""
         if self.takes('('):
             while self.next() != ')':
                 pass
@@ -191,13 +191,13 @@ class Line:
 
 
 def c_name(name):
-    """The C name of a value or a function, which may also be that of another one."""
+    """The C name of a value or a function; another one may have the same."""
     plain = re.sub(r'[^A-Za-z0-9]+', '_', name.strip('%@"')).strip('_')
     return plain if re.match('[A-Za-z]', plain) else f't{plain}'
 
 
 class Names:
-    """C names for those of the module, each for one: the same for the same module."""
+    """Unique C names for the names of the module: always the same ones for the same module."""
 
     def __init__(self):
         self.of, self.taken = {}, set()

@@ -1,4 +1,4 @@
-"""Writes a function in C."""
+"""Translates a function to C."""
 import re
 
 from reading import UNCOUNTED, ZERO, Line, Unknown, bits, c_name, c_type, declared, laid_out, size_of, suffix
@@ -7,20 +7,20 @@ BINARY = {'add': '+', 'sub': '-', 'mul': '*', 'udiv': '/', 'urem': '%', 'and': '
 SIGNED = {'sdiv': '/', 'srem': '%'}
 SHIFTS = {'shl': '<<', 'lshr': '>>', 'ashr': '>>'}
 COMPARED = {'eq': '==', 'ne': '!=', 'lt': '<', 'le': '<=', 'gt': '>', 'ge': '>='}
-# Intrinsics: what moves and sets blocks, and functions of numbers, each with how many it takes.
+# Intrinsics: those that move or set blocks of memory, and functions of numbers, each with its number of arguments.
 BLOCKS = 'memset.p0.i64', 'memmove.p0.p0.i64', 'memcpy.p0.p0.i64'
 NUMBERS = {'abs': 1, 'ctpop': 1, 'cttz': 1, 'ctlz': 1, 'bswap': 1, 'umin': 2, 'umax': 2, 'smin': 2, 'smax': 2, 'uadd.sat': 2, 'usub.sat': 2, 'fshl': 3, 'fshr': 3}
-# The largest block that is moved by reading all of it before any is written.
+# The size of the largest block that is moved by reading all of it before writing any.
 MOVED = 64
 
 
 def away(pointer, by):
-    """A place that is so far away, and may lie out of what the pointer is to: C counts it as a number."""
+    """The place `by` bytes away, which may be outside of the pointer's object: C computes it as a number."""
     return f'away({pointer}, {by})'
 
 
 def offset(pointer, by):
-    """A place within what the pointer is to."""
+    """The place `by` bytes away, inside the pointer's object."""
     found = re.fullmatch(r'\((\w+) \+ (\d+)\)', pointer)
     if found and by > 0:
         return offset(found[1], int(found[2]) + by)
@@ -28,7 +28,7 @@ def offset(pointer, by):
 
 
 class Writer:
-    """Writes a function. What waits is the C of values that stand where they are used, and whether it reads memory."""
+    """Writes a function. `waiting` has the C of values that are written where they are used, and whether they read memory."""
 
     def __init__(self, function):
         self.function, self.module, self.names = function, function.module, function.names
@@ -49,7 +49,7 @@ class Writer:
                 except Unknown as error:
                     raise Unknown(f'{error}: {line}') from None
             if self.waiting:
-                raise Unknown(f'{[*self.waiting]} wait behind their block')
+                raise Unknown(f'{[*self.waiting]} wait after the end of their block')
         body = [f'    {line}' if line else f'{label_name(label)}:;' for label, line in self.out if line or label in self.targets]
         return '\n'.join([*head, *(f'    {it}' for it in self.top), *body, '}'])
 
@@ -80,12 +80,12 @@ class Writer:
             self.slot.update(dict.fromkeys(slot, f'slot{number}'))
             self.top.append(f'A({max(aligns)}) u8 slot{number}[{max(*sizes, 1)}];')
 
-    # What is written.
+    # Writing.
     def emit(self, line):
         self.out.append((None, line))
 
     def settle(self):
-        """Memory is written now: what waits and reads it is evaluated before."""
+        """Evaluates the waiting values that read memory, because memory is written next."""
         for name in [name for name, (_, _, reads) in self.waiting.items() if reads]:
             kind, text, _ = self.waiting.pop(name)
             self.assign(name, kind, text)
@@ -104,7 +104,7 @@ class Writer:
         elif uses:
             self.assign(name, kind, text)
 
-    # What is read.
+    # Reading.
     def get(self, kind, value):
         """The C of a value, and whether it reads memory."""
         self.module.needs(kind)
@@ -113,7 +113,7 @@ class Writer:
             return (offset(address, value[2]) if value[0] == 'address' else f'(u64)(uptr){address}'), False
         if isinstance(value, list):
             if kind[0] != 'struct':
-                raise Unknown('a row of constants')
+                raise Unknown('an array of constants')
             parts = [self.get(*it)[0] for it in zip(kind[1], value)]
             return f'({c_type(kind)}){{ {", ".join(parts)} }}', False
         if value in self.slot:
@@ -166,10 +166,10 @@ class Writer:
         if kind == 'i1':
             return self.define(name, kind, f'(u8)((u8){a} {BINARY[word]} (u8){b})', reads)
         to, signed = f'({c_type(kind)})', f'(i{bits(kind)})'
-        # A number that is shorter than `int` becomes one, whose product and whose shift to the left could overflow.
+        # C makes a number that is shorter than `int` an `int`, whose product and shift to the left could overflow.
         wide = f'(u32){a}' if bits(kind) < 32 else a
         if word in SHIFTS:
-            # A shift by the width or more gives anything in the module, and in C nothing: here it is one by less.
+            # A shift by the width or more has any result in the module, but isn't defined in C: shift by less.
             b = b if b.rstrip('ul').isdigit() and int(b.rstrip('ul')) < bits(kind) else f'({b} & {bits(kind) - 1}u)'
             return self.define(name, kind, f'{to}({f"{signed}{a}" if word == "ashr" else wide} {SHIFTS[word]} {b})', reads)
         if word in SIGNED:
@@ -212,7 +212,7 @@ class Writer:
         if kind in UNCOUNTED or to in UNCOUNTED:
             raise Unknown('a cast')
         if to[0] == 'vector':
-            # a mask has a byte for each bit
+            # a mask has one byte for each bit
             return self.define(name, to, text, reads)
         if kind == 'i1':
             return self.define(name, to, f'({c_type(to)})(0 - ({c_type(to)}){text})', reads)
@@ -237,7 +237,7 @@ class Writer:
     def do_inttoptr(self, it, name):
         kind, to, text, reads = self.cast(it)
         if kind != 'i64':
-            raise Unknown('an address that has not 64 bits')
+            raise Unknown('an address that is not of 64 bits')
         self.define(name, to, f'((u8 *)(uptr){text})', reads)
 
     def do_bitcast(self, it, name):
@@ -266,7 +266,7 @@ class Writer:
         no = it.typed()
         it.end()
         if when[0] != 'i1' or yes[0] != no[0]:
-            raise Unknown('a choice by a row of bits')
+            raise Unknown('a choice by a vector of bits')
         found = [self.get(*part) for part in (when, yes, no)]
         (a, _), (b, _), (c, _) = found
         self.define(name, yes[0], f'({a} ? {b} : {c})', any(reads for _, reads in found))
@@ -297,7 +297,7 @@ class Writer:
         by, index = it.typed()
         it.end()
         if by != 'i64':
-            raise Unknown('an offset that has not 64 bits')
+            raise Unknown('an offset that is not of 64 bits')
         text, reads = self.get(kind, base)
         if re.fullmatch(r'-?\d+', index):
             bytes_ = step * int(index)
@@ -333,7 +333,7 @@ class Writer:
         return self.emit(f'st{suffix(kind)}({pointer}, {text});')
 
     def store_bytes(self, count, pointer, text):
-        """Most vectors are only moved, or zero: then they need none in C."""
+        """Most vectors are only moved, or zero: then the C has no vectors."""
         moved = re.fullmatch(rf'ldv{count}\((.*)\)', text)
         if moved and is_bracketed(f'({moved[1]})'):
             self.module.moves.add(count)
@@ -412,11 +412,11 @@ class Writer:
             self.module.moves.add(size)
             return self.emit(f'mv{size}({to}, {what});')
         if size is None:
-            # C forbids a null pointer beside a count of 0, which the module may have
+            # C forbids a null pointer even with a count of 0; the module may have that
             return self.emit(f'{which}_or_none({to}, {what}, {count});')
         return self.emit(f'{which}({to}, {what}, {size});') if size else None
 
-    # Ways from block to block.
+    # Jumps.
     def do_phi(self, _, name):
         for it, kind, _ in self.function.choices[self.label]:
             if it == name and self.function.uses[name]:
@@ -424,7 +424,7 @@ class Writer:
                 self.top.append(f'{declared(kind, self.names(name))};')
 
     def on_the_way(self, label):
-        """The lines that set what a block chooses, on the way there from this one."""
+        """The lines that set the variables of a block's `phi`s, before a jump to it from this block."""
         found = []
         for name, kind, values in self.function.choices[label]:
             text, _ = self.get(kind, values[self.label])
@@ -433,11 +433,11 @@ class Writer:
         names = {name for _, name, _ in found}
         if not any(names & {*re.findall(r'\w+', text)} for _, _, text in found):
             return [f'{name} = {text};' for _, name, text in found]
-        # one may be set to what another one was
+        # a variable may be set to the old value of another one
         return [f'{declared(kind, f"next_{name}")} = {text};' for kind, name, text in found] + [f'{name} = next_{name};' for _, name, _ in found]
 
     def jump(self, label, when=''):
-        """Goes to a block, on a condition or by the arm of a switch."""
+        """Jumps to a block, always or after `when`: a condition, or an arm of a switch."""
         lines = self.on_the_way(label)
         if not when:
             for line in lines:
@@ -504,7 +504,7 @@ def constant(kind, value):
 
 
 def is_bracketed(text):
-    """Whether the bracket that a text begins with ends it."""
+    """Whether the bracket at the start of a text is closed at its end."""
     depth = 0
     for at, it in enumerate(text):
         depth += (it == '(') - (it == ')')
