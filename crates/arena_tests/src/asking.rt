@@ -98,7 +98,7 @@ fn use_all<A: Allocator>(rt: &impl Abort, mut arena: BuilderArenaImpl<A>, segmen
 }
 
 /// Whether each segment of `words` words was requested once, each with its row except for the
-/// `rowless` ones, and nothing else.
+/// `rowless` ones, and no others.
 fn asked_once(requests: &[Request], words: u32, segments: usize, rowless: usize) -> bool {
     let mut asked = requests.iter();
     for id in 0..segments {

@@ -102,8 +102,8 @@ fn first_in_the_arena(rt: HostRuntime) {
     }
 }
 
-/// An arena whose allocator is taken out keeps its segments and gets no more; once the allocator is
-/// in again, they are returned to it, and one that it granted since.
+/// An arena without its allocator keeps its segments and gets no more. Once the allocator is back,
+/// it gets them all back, also one that it granted since.
 #[test]
 fn allocator_taken_out(rt: HostRuntime) {
     let returned = Cell::new(0);

@@ -138,7 +138,7 @@ pub fn edited<'a, L: Allocator>(
     read_back(built)
 }
 
-/// Makes the root a struct, of at least one word.
+/// Makes the root a struct of at least one word.
 fn root_with_room<A: BuilderArena>(
     arena: &mut A,
     size: StructSize,

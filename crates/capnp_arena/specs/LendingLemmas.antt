@@ -49,8 +49,8 @@ module _ {S : Type 0} (g : Ghosts S) where
       g.holds r.segment (with_front (8 * r.used) (g.ready r.segment) ws)
       (length-with_front (8 * r.used) (g.ready r.segment) ws r.clear.0)
 
-  -- Bytes written over the allocated words of a row, as many as these, are then its allocated
-  -- words.
+  -- If bytes are written over the allocated words of a row, and are as many, they are then its
+  -- allocated words.
   pub over : (r : Row S g) (ws : List ℕ) → length ws ≡ length (allocated g r) →
       allocated g (with_allocated g r ws) ≡ ws
   over r ws l =

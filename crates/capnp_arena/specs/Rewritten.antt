@@ -8,8 +8,8 @@ use Rattle.capnp_arena.specs.declared.arena.row.Row.{Row}
 use Rattle.capnp_arena.specs.declared.arena.allocator.Segment.{Ghosts}
 
 module _ {S : Type 0} (g : Ghosts S) where
-  -- From old to new the allocated words of a row become ws, as many as they were. Its capacity
-  -- stays.
+  -- From old to new the allocated words of a row become ws, which has the same number of words. Its
+  -- capacity stays.
   pub record RewritesRow (old new : Row S g) (ws : List ℕ) : Type 0 where
     pub words : words_of (allocated g new) ≡ ws
     pub used : new.used ≡ old.used

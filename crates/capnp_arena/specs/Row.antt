@@ -9,7 +9,7 @@ use Rattle.capnp_arena.specs.ClearLemmas.{clear_behind}
 use Rattle.capnp_arena.specs.declared.arena.row.Row.{Row}
 use Rattle.capnp_arena.specs.declared.arena.allocator.Segment.{Ghosts}
 
--- How many rows there can be besides the first: none if the first isn't there.
+-- How many rows there can be in addition to the first: none if the first isn't there.
 abbrev pub most_others : Bool → ℕ
 most_others false = 0
 most_others true = max_segments - 1

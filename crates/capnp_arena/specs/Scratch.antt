@@ -37,12 +37,12 @@ abbrev pub bytes_of : ScratchSegment (MutBor (List ℕ)) → List ℕ
 bytes_of (Borrowed bytes) = bytes.now
 bytes_of (Owned segment) = segment.bytes.items
 
--- The number of words of a scratch space that are a segment.
+-- The number of words of the segment that a scratch space provides.
 abbrev pub whole_words : List ℕ → ℕ
 whole_words bytes = min (length bytes / 8) max_segment_words
 
--- An allocator with a scratch space: whether the space is here, or else in use; how many of its
--- bytes are at hand, all of them zero; how many words it has; and the allocator of the other
+-- An allocator with a scratch space: whether the space is here, not in use; how many of its bytes
+-- the allocator holds, all of them zero; how many words it has; and the allocator of the other
 -- segments.
 pub record Scratch : Type 0 where
   pub here : Bool

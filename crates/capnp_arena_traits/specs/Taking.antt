@@ -45,8 +45,8 @@ IsTaken S T amount s p =
 abbrev pub SameRoomBelow : ℕ → (ℕ → ℕ) → (ℕ → ℕ) → Type 0
 SameRoomBelow n old new = (k : ℕ) → k < n → new k ≡ old k
 
--- From old to new a request for `amount` words in a segment of their own, where there are
--- `segments` segments, is refused with e.
+-- From old to new a request for `amount` words in a segment of their own is refused with e. There
+-- are `segments` segments.
 abbrev pub IsAllocationRefusal : View → View → ℕ → ℕ → ErrorKind → Type 0
 IsAllocationRefusal old new segments amount e =
     ((e ≡ AllocationFailed) × (amount ≤ max_segment_words) × (segments < max_segments) ×

@@ -20,7 +20,7 @@ use Rattle.capnp_copies.specs.Originals.{children_original}
 use Rattle.capnp_making.specs.Makes.{call_at}
 use Rattle.capnp_builders.specs.Places.{Field}
 
--- Byte i of content of `bits` bits: the bits after these are zero.
+-- Byte i of content that is `bits` bits long, with zeros for the bits after its end.
 abbrev pub content_byte : ℕ → List ℕ → ℕ → ℕ
 content_byte bits bytes i = slice_index bytes i % 2 ^ min 8 (bits - 8 * i)
 
@@ -58,7 +58,7 @@ abbrev pub TakesBytes : Segments → Segments → StructPlace → ℕ → List �
 TakesBytes S M place bits bytes =
     AreCleared (with_content S place bits bytes) M place.segment place.pointers_at place.pointers
 
--- ws are d data words, each byte of which is that of the content.
+-- ws are d data words. Each byte of them is that of the content.
 abbrev pub HoldContent : List ℕ → ℕ → ℕ → List ℕ → Type 0
 HoldContent ws d bits bytes =
     (length ws ≡ d) × ((i : ℕ) → i < 8 * d → field_in ws (8 * i) 8 ≡ content_byte bits bytes i)
@@ -69,15 +69,15 @@ up_to n no_trees = nulls n
 up_to n (tree t ts) = tree t (up_to (pred n) ts)
 
 module _ {A : Type 0} (g : Ghosts A) where
-  -- From old to new the data section of a struct takes the data of the struct that `value` reads,
-  -- as much as both have, followed by zeros. Then its pointers become null.
+  -- From old to new the data of the struct that `value` reads is copied to the data section of a
+  -- struct, as far as both reach, followed by zeros. Then the pointers of that struct become null.
   pub record TakesData (value : StructReader A g) (place : StructPlace) (old new : View) : Type 0 where
     pub cleared : TakesBytes old.words new.words place value.bits value.content.now
     pub null : (i : ℕ) → i < place.pointers → word_at new.words place.segment (place.pointers_at + i) ≡ 0
     pub limits : KeepsLimits old new
 
-  -- The data is taken, and then as many pointers are copied as both structs have; or copying these
-  -- is refused with k.
+  -- The data is copied, and then as many pointers as both structs have; or copying these is refused
+  -- with k.
   abbrev pub TakesContent : StructReader A g → StructPlace → Change → Type 0
   TakesContent value place c = (mid : View) × TakesData value place c.old mid ×
       CopiesChildren (pointers_read g value) (min place.pointers value.pointer_count)

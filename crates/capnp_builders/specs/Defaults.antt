@@ -128,7 +128,7 @@ abbrev pub DefaultFits : Option (Bor (List ℕ)) → View → ℕ → Type 0
 DefaultFits default v id = IfSome default (λ d. (8 ≤ length d.now) × DefaultCopyFits d.now v id)
 
 -- A call at (s, p) has room, by its use of a default. Without one, `Fits` holds for the message v.
--- With one, the default's copy fits, and `Fits` holds for whatever message that can leave. A
+-- With one, the default's copy fits, and `Fits` holds for every message that this can leave. A
 -- default that is refused fits nowhere.
 abbrev pub FitsWithDefault : DefaultUse → View → ℕ → ℕ → (View → Type 0) → Type 0
 FitsWithDefault ignored v s p Fits = Fits v
@@ -137,12 +137,12 @@ FitsWithDefault (copied bytes) v s p Fits =
     DefaultCopyFits bytes v s × ((m : View) (u : Tree) → PutsDefault bytes (call_at s p v m) u →
     Fits m)
 
--- The call puts its default if it uses one, and does nothing else.
+-- The call stores its default if it uses one, and does nothing else.
 abbrev pub PutsDefaultOver : DefaultUse → CallAt → Tree → Result ⊤ ErrorKind → Type 0
 PutsDefaultOver w c t result = WithDefault w c t (λ d u. IsOk result × (d.new ≡ d.old)) result
 
--- The call puts a default in place of null, by its use of one for the value that is there, whatever
--- it is. What isn't null stays, and no segment becomes shorter.
+-- The call puts a default in place of null. For any value t that is there, `use_of t` says whether
+-- it uses one. What isn't null stays, and no segment becomes shorter.
 pub record PutsDefaultBy (use_of : Tree → DefaultUse) (c : CallAt) (result : Result ⊤ ErrorKind)
     : Type 0 where
   pub put : (t : Tree) → IsStored c.old.words c.segment c.at t → PutsDefaultOver (use_of t) c t result

@@ -14,7 +14,7 @@ use Rattle.capnp_copies.specs.Changes.{Change, StayInSegment, IsCopiedInRoom, Re
 use Rattle.capnp_copies.specs.Forms.{kept}
 use Rattle.capnp_copies.specs.Originals.{Original}
 
--- What is copied is read, and what is kept of its value replaces whatever value the place had. The
+-- What is copied is read, and what is kept of its value replaces the value that the place had. The
 -- place's old words are zeroed first, and stay allocated. Then, if they fit, the words of what is
 -- kept come after those of the segment.
 pub record PutsCopy (o : Original Tree) (c : Change) : Type 0 where
@@ -28,7 +28,7 @@ pub record PutsCopy (o : Original Tree) (c : Change) : Type 0 where
   pub null : Puts c.old.words cleared.words c.segment c.at Null
   pub stands : IsCopiedInRoom cleared c.new c.segment c.at (kept c.form value)
 
--- The copy is refused with k, and replaces whatever value the place had by null.
+-- The copy is refused with k, and null replaces the value that the place had.
 pub record LeavesCleared (o : Original Tree) (c : Change) (k : ErrorKind) : Type 0 where
   pub why : RefusesToCopy o c k
   pub cleared : Puts c.old.words c.new.words c.segment c.at Null

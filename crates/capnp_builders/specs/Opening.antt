@@ -37,8 +37,8 @@ OpensList size result c Null = (result ≡ Ok (void_list c.segment)) × (c.new �
 OpensList size result c t =
     Opens size IsListGiven c t (list_widened size.data_words size.pointers t) result
 
--- The call puts its default in place of null, if it has to, and then opens the struct that is
--- there, or the list.
+-- If the pointer is null, the call first puts its default there, if it has one. It then opens the
+-- struct or the list that is there.
 abbrev pub FindsStruct : StructSize → Option (Bor (List ℕ)) → Result StructPlace ErrorKind →
     CallAt → Tree → Type 0
 FindsStruct size default result c t =

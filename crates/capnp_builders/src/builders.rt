@@ -158,8 +158,9 @@ impl<'a, A: BuilderArena> PointerBuilder<'a, A> {
         initializing::set_capability(&mut *self.arena, self.segment, self.at, index);
     }
 
-    /// Makes the pointer lead to a new struct, all zero, and returns its place; `into_struct` gives
-    /// its builder. `init_struct` is made of both; this call's contract covers success and refusal.
+    /// Makes the pointer lead to a new struct, all zero, and returns its place; `into_struct`
+    /// returns its builder. `init_struct` is made of both; this call's contract covers success and
+    /// refusal.
     ///
     /// Refusals: `AllocationFailed`, or `MessageTooLarge` with the struct's words plus one; the
     /// pointer is null then.
@@ -225,7 +226,7 @@ impl<'a, A: BuilderArena> PointerBuilder<'a, A> {
     }
 
     /// Makes the pointer lead to a new list of `count` elements that aren't structs, all zero or
-    /// null, and returns its place; `into_list` gives its builder. `init_list` is made of both;
+    /// null, and returns its place; `into_list` returns its builder. `init_list` is made of both;
     /// this call's contract covers success and refusal.
     ///
     /// Refusals: `AllocationFailed`, or `MessageTooLarge` with the list's words plus one; the
@@ -296,7 +297,7 @@ impl<'a, A: BuilderArena> PointerBuilder<'a, A> {
     }
 
     /// Makes the pointer lead to a new list of `count` structs, all zero, and returns its place;
-    /// `into_list` gives its builder. `init_struct_list` is made of both; this call's contract
+    /// `into_list` returns its builder. `init_struct_list` is made of both; this call's contract
     /// covers success and refusal.
     ///
     /// Refusals: `AllocationFailed`, or `MessageTooLarge` with the words of the structs and the tag
@@ -471,8 +472,8 @@ impl<'a, A: BuilderArena> PointerBuilder<'a, A> {
     /// segment.
     ///
     /// After a refusal the pointer is null, the words taken are zero and stay allocated, and what
-    /// was charged stays charged. Takes at most as many words as reading the value costs (if
-    /// refused, as reading it up to the object that failed), plus one landing pad for each object
+    /// was charged stays charged. Takes at most as many words as reading the value costs (after a
+    /// refusal: as reading it up to the object that failed), plus one landing pad for each object
     /// for which the segment of its pointer had no room.
     pub fn copy_from<B: ReaderArena>(
         &mut self,

@@ -13,9 +13,9 @@ ghost use Rattle.capnp_widening.specs.Opening.{existing_struct};
 ghost use Rattle.capnp_builders.specs.Content.{TakesBytes, HoldContent, up_to};
 ghost use Rattle.capnp_builders.specs.Places.{struct_place};
 
-/// If content is taken and the pointers are copied, the pointer that leads to the struct stores one
-/// struct: its data words are those of the content, its children the copies, followed by nulls. It
-/// starts where it did, and nothing else of the message is changed ("Structs").
+/// If the data of the content and its pointers are copied, the pointer that leads to the struct
+/// stores one struct: its data words are those of the content, its children the copies, followed by
+/// nulls. It starts where it did, and nothing else of the message is changed ("Structs").
 pub fn content_taken()
     ensures { (S M R : Segments) (s p : ℕ) (ws : List ℕ) (ts us : Trees) (place : StructPlace)
         (bits : ℕ) (bytes : List ℕ) → IsStored S s p (Struct ws ts)

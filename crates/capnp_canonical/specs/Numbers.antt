@@ -114,7 +114,7 @@ error_number TriedToReadFromNullArena = 64
 error_number UnexpectedFarPointer = 65
 error_number UnknownPointerType = 66
 
--- The number of a refusal; 0 is none.
+-- The number of a refusal; 0 means no refusal.
 abbrev pub answer_number : Refusal → ℕ
 answer_number (NoRoom _) = 1
 answer_number NoMessage = 2
@@ -135,7 +135,7 @@ abbrev pub wanted_room : Refusal → ℕ
 wanted_room (NoRoom size) = size
 wanted_room _ = 0
 
--- The number of a reason; 0 is none.
+-- The number of a reason; 0 means no reason.
 abbrev pub reason_number : CanonicalFaultReason → ℕ
 reason_number SegmentCount = 1
 reason_number NoPointer = 2

@@ -1,5 +1,5 @@
--- What a pointer gives to a call that looks for a list, data, a text or a capability, by the value
--- that it means ("Lists", "Capabilities (Interfaces)").
+-- What a call that looks for a list, data, a text or a capability finds at a pointer, from the
+-- value that the pointer means ("Lists", "Capabilities (Interfaces)").
 use Rattle.std.specs.Prelude.{ℕ, ◌+◌, ◌-◌, ◌<◌, ◌≤◌, Bool, true, false, if◌then◌else◌, ◌&&◌, nat_eq}
 use Rattle.std.specs.Prelude.{nat_le, List, [], ◌∷◌, length, get_or, take, drop, Option, Some, None}
 use Rattle.std.specs.Prelude.{◌≡◌, ◌^◌, Result, Ok, Err, IfErr, IfOk, IfSome}

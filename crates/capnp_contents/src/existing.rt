@@ -31,7 +31,7 @@ pub struct ExistingList {
     pub start: u32,
     /// Its element size.
     pub size: ElementSize,
-    /// The sections of each element; 0 and 0 if elements aren't structs.
+    /// The sizes of the two sections of each element; 0 and 0 if elements aren't structs.
     pub struct_size: StructSize,
     /// The number of elements.
     pub count: u32,

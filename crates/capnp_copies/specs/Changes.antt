@@ -116,8 +116,8 @@ pub data IsMadeOf (form : Form) (r : Reading) (a : Target) (n : ℕ) : Type 0 wh
       (offset_bits (tag r.segments a))) →
       IsMadeOf form r a n
 
--- Reading comes to an object that was read and of which n words have to be made. P holds for n, and
--- for the sum of n and all words spent before.
+-- Reading comes to an object, and the copy has to make n words for it. P holds for n, and for the
+-- sum of n and all words spent before.
 abbrev pub ComesToObject : {V : Type 0} → Original V → Form → Meter → Meter → (ℕ → ℕ → Type 0) → Type 0
 ComesToObject o form m m' P =
     (n : ℕ) × (x : o.stops form
@@ -129,16 +129,16 @@ abbrev pub FindsNoRoom : Change → ErrorKind → ℕ → ℕ → Type 0
 FindsNoRoom c k n all = RefusesWords c.old c.new n k ×
     (c.old.room c.segment < length (segment c.old.words c.segment) + all)
 
--- The arena has no room, which it refuses with k, for an object: of words that are at hand, before
--- anything is read; or one that reading leads to, which together with the words spent before is
--- more than the segment of the place has room for.
+-- The arena has no room for an object, and refuses it with k. Either the words of the object were
+-- read before, and nothing else is read; or reading leads to it, and with the words spent before it
+-- needs more than the segment of the place has room for.
 abbrev pub LacksRoom : {V : Type 0} → Original V → Change → ErrorKind → Type 0
 LacksRoom o c k =
     ((n : ℕ) × (c.after ≡ c.before) × o.makes c.form n × FindsNoRoom c k n n) ⊎
     ComesToObject o c.form c.before c.after (FindsNoRoom c k)
 
--- Whatever value can be read of it, in any form and with any limiter, the words that are kept of
--- that value don't fit after those of the segment.
+-- For every value that can be read, in any form and with any limiter: the words that are kept of it
+-- don't fit after those of the segment.
 abbrev pub IsTooLarge : {V : Type 0} → Original V → Change → Type 0
 IsTooLarge {V} o c =
     (any : Form) (m m' : Meter) (value : V) → o.reads any m m' value →

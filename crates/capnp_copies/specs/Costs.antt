@@ -42,8 +42,8 @@ spent_until {r = r} (below a q entered before rest) = record {
   pointers = 1 + ((spent_before before).pointers + (spent_until rest).pointers);
 }
 
--- What is spent on consecutive pointers, or on the pointers of elements, before the object where
--- their reading stops.
+-- What is spent on reading consecutive pointers, or the pointers of elements, up to the object
+-- where reading stops.
 abbrev pub spent_among : {form : Form} {P : Reading → Meter → Meter → Type 0} {r : Reading} {i : ℕ}
     {m m' : Meter} → StopsAmong form P r i m m' → Spent
 spent_among x =

@@ -35,22 +35,22 @@ pub record Original (V : Type 0) : Type 1 where
   -- What was spent before that object.
   pub spent : {form : Form} {P : Reading → Meter → Meter → Type 0} {m m' : Meter} →
       stops form P m m' → Spent
-  -- A copy in a form makes an object of this many words, of words that are at hand.
+  -- A copy in a form makes an object of this many words, from words that were read before.
   pub makes : Form → ℕ → Type 0
-  -- A copy in a form has no pointer for so large an object, and is refused with this error.
+  -- The object is too large for a pointer to it in this form. Its copy is refused with this error.
   pub exceeds : Form → ErrorKind → Type 0
   -- How many words of it a copy in a form has, in addition to those that are at the place already.
   pub words : Form → V → ℕ
   -- Reading it in a form takes the limiter from one state to another, and a predicate holds for the
   -- words and pads that its copy takes for that.
   pub takes : Form → Meter → Meter → (ℕ → ℕ → Type 0) → Type 0
-  -- Reading it in a form takes the limiter from one state to another and is broken off at one
-  -- object, or nothing is read of what is at hand; a predicate holds for the words and pads that
+  -- Reading it in a form takes the limiter from one state to another and stops at one object; or
+  -- its words were read before, and nothing is read. A predicate holds for the words and pads that
   -- its copy takes until then.
   pub takes_until : Form → Meter → Meter → (ℕ → ℕ → Type 0) → Type 0
 
--- What a place means: no words of it are at hand. Its copy takes what reading it costs, and a pad
--- for each pointer that is followed.
+-- What a place means, none of which was read before. Its copy takes what reading it costs, and a
+-- pad for each pointer that is followed.
 abbrev pub value_original : Reading → Original Tree
 value_original r = record {
   reads = λ form m m' t. Reads form r m m' t;
@@ -64,7 +64,7 @@ value_original r = record {
       P (spent_until x).words (spent_until x).pointers;
 }
 
--- What n consecutive pointers from a place on mean: no words of it are at hand.
+-- What n consecutive pointers from a place on mean, none of which was read before.
 abbrev pub children_original : Reading → ℕ → Original Trees
 children_original r n = record {
   reads = λ form m m' ts. (count ts ≡ n) × ReadsAll form r m m' ts;
@@ -79,8 +79,8 @@ children_original r n = record {
       P (spent_among x).words (spent_among x).pointers;
 }
 
--- What the pointers of n elements mean, which have one size where they are read and another where
--- they are copied.
+-- What the pointers of n elements mean. The elements have one size in the source and another in the
+-- copy.
 abbrev pub elements_original : Reading → ElementSizes → ℕ → Original Elements
 elements_original r sizes n = record {
   reads = λ form m m' es. (element_count es ≡ n) × ReadsElements form r sizes.source m m' es;

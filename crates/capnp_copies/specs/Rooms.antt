@@ -13,7 +13,7 @@ use Rattle.capnp_copies.specs.Changes.{Change, MakesCopy, StopsCopy}
 use Rattle.capnp_copies.specs.Growth.{TakesAtMost}
 use Rattle.capnp_copies.specs.Originals.{Original}
 
--- What is copied is no larger than an object can be, a limiter lets it be read in this form, and
+-- What is copied isn't larger than an object can be, a limiter lets it be read in this form, and
 -- the words kept of it fit after those of segment id.
 pub record CanBeCopied {V : Type 0} (o : Original V) (form : Form) (m : Meter) (v : View) (id : ℕ)
     : Type 0 where
@@ -34,7 +34,7 @@ pub record CopiesOrClears (result : Result ⊤ ErrorKind) (o : Original Tree) (c
   pub large : (k : ErrorKind) → o.exceeds c.form k → (result ≡ Err k) × (c.after ≡ c.before)
 
 -- A call ends a copy. If that was refused, the pointer at the place becomes null, and what it led
--- to becomes zero; otherwise nothing changes.
+-- to is zeroed; otherwise nothing changes.
 pub record ClearsRefused (copied : Result ⊤ ErrorKind) (c : CallAt) : Type 0 where
   pub kept : OnOk copied (c.new ≡ c.old)
   pub null : OnErr copied (Puts c.old.words c.new.words c.segment c.at Null)

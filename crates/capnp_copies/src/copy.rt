@@ -68,7 +68,7 @@ pub fn copy_value<A: BuilderArena, B: ReaderArena>(
 /// other word changes except the pointer. In plain form, these are all words of the sections and
 /// elements; in canonical form, the trimmed ones.
 ///
-/// Takes at most as many words as reading the value costs (if refused, as reading it up to the
+/// Takes at most as many words as reading the value costs (after a refusal: as reading it up to the
 /// object where the copy stops), plus one landing pad for each object for which the segment of its
 /// pointer had no room. This also holds without a budget, and if nothing is charged.
 ///

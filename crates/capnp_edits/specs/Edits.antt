@@ -122,7 +122,7 @@ with_lowest i w v (Structs d q es) =
     (put_struct es i (struct_with (record { start = 0; bits = w; value = v }) (struct_at es i)))
 with_lowest i w v t = t
 
--- A placeholder, where it doesn't matter where the list of a value is.
+-- A placeholder for the target of a list, if it doesn't matter.
 abbrev pub nowhere : Target
 nowhere = record { word = 0; segment = 0; start = 0; pads = 0 }
 
@@ -131,9 +131,9 @@ abbrev pub made_of_found : {A : Type 0} → (A → Making) → Result A ErrorKin
 made_of_found made_of (Ok x) = made_of x
 made_of_found made_of (Err k) = denied k
 
--- The result of writing element or byte i of what a search found. It is u, if there are that many,
--- and otherwise refused with NoSuchPlace, as it is if the search found null. If the search was
--- refused, it is refused with the same error.
+-- The result of writing element or byte i of what a search found. It is u if there is such an
+-- element or byte. If not, or if the search found null, it is refused with NoSuchPlace. If the
+-- search was refused, it is refused with the same error.
 abbrev pub if_reached : {A : Type 0} → (A → ℕ) → ℕ → Tree → Result (Option A) ErrorKind → Making
 if_reached number i u (Ok (Some x)) = if nat_lt i (number x) then becomes u else denied NoSuchPlace
 if_reached number i u (Ok None) = denied NoSuchPlace
@@ -318,9 +318,9 @@ Yields (fills source d q) r o =
     ⊎ Fails (HasNothingToCopy source AStruct) None r o
 Yields (defaults bytes made_of) r o = ⊥
 
--- The outcome r of an operation, and what it leaves, if a default may be copied first: the default,
--- as the operation leaves it; or null, if the copy of the default is refused for memory or for what
--- it reads. Without a default, the same as `Yields`.
+-- The outcome r of an operation, and what it leaves, if a default may be copied first. It leaves
+-- the default after the operation; or null, if the copy of the default is refused for memory or for
+-- what it reads. Without a default, the same as `Yields`.
 unfoldable pub Leaves : Making → Option ErrorKind → Option Tree → Type 0
 Leaves (defaults bytes made_of) r o =
     ((d : Tree) × (n : ℕ) × (left : Option Tree) × MeansThere (default_root bytes) d n × IsFree d

@@ -123,7 +123,7 @@ pub data LeadsToStruct (r : Reading) (m : Meter) (s : Sections) : Type 0 where
       LeadsToStruct r m s
 
 -- The elements of a list: their size, the sections of each if they are structs, their number, and
--- where the first is read.
+-- the place of the first one.
 pub record ListElements : Type 0 where
   pub size : ElementSize
   pub sections : StructSize

@@ -125,7 +125,7 @@ OpeningHasRoom opened default old place =
     (λ v. (x : Tree) × (u : Tree) × IsStored v.words place.segment place.word x × (opened x ≡ Ok u) ×
     HasRoomFor v place.segment place.word x u)
 
--- There is room for what a task makes at its place, as the builder's call requires it:
+-- There is room for what a task makes at its place, like the builder's call requires:
 -- - `Make`: for the words of the object.
 -- - `Content`: for what the pointers mean that are copied over the struct.
 -- - `Search`: for the default's value, and for what becomes of a struct or a list of structs that
@@ -180,9 +180,9 @@ IsOpeningRefused (ForStructs size) c k =
     (list_widened size.data_words size.pointers) c.old c.new k
 IsOpeningRefused sought c k = c.new ≡ c.old
 
--- From old to new the builder's call is refused with k where the task is done. One that makes an
+-- From old to new the builder's call at the place of the task is refused with k. One that makes an
 -- object is refused only because there is no memory or no room for its words. A search with a
--- default is refused as one without is, perhaps after the default has replaced null; or because the
+-- default is refused like one without, perhaps after the default has replaced null; or because the
 -- copy of the default is refused.
 abbrev pub IsRefusedAt : View → View → Task → ErrorKind → PathEnd → Type 0
 IsRefusedAt old new (Make object) k (AtPointer place) =
@@ -224,9 +224,9 @@ FindsSought (ForStructs size) r c t =
     Opens size (λ S s p u b. ⊤) c t (list_widened size.data_words size.pointers t) (result_of r)
 FindsSought sought r c t = (o : Option Tree) × Yields (looked_for sought t) r o × (c.new ≡ c.old)
 
--- From old to new a task takes words as the builder's call states where it is done, with outcome r.
--- A refused object takes none, nor does a change of bits. Content takes only those of the copies of
--- the pointers that both structs have.
+-- From old to new a task with outcome r takes the words that the contract of the builder's call
+-- states for its place. A refused object takes none, nor does a change of bits. Content takes only
+-- those of the copies of the pointers that both structs have.
 abbrev pub TakesAt : View → View → Task → Option ErrorKind → PathEnd → Type 0
 TakesAt old new (Make object) None (AtPointer place) = TakesForObject old new place object
 TakesAt old new (Make object) (Some k) (AtPointer place) = IsPruned old.words new.words

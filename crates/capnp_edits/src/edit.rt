@@ -44,13 +44,13 @@ pub struct Source<'a> {
 pub enum Op<'a> {
     /// Make a struct, all zero.
     InitStruct(StructSize),
-    /// Make a list of so many elements that aren't structs, all zero or null; fewer than 2^29.
+    /// Make a list of this many elements that aren't structs, all zero or null; fewer than 2^29.
     InitList(ElementSize, u32),
-    /// Make a list of so many structs, all zero; fewer than 2^30, of fewer than 2^29 words.
+    /// Make a list of this many structs, all zero; fewer than 2^30, of fewer than 2^29 words.
     InitStructList(u32, StructSize),
-    /// Make a text of so many bytes, all zero; fewer than 2^29 with the zero byte after them.
+    /// Make a text of this many bytes, all zero; fewer than 2^29 with the zero byte after them.
     InitText(u32),
-    /// Make data of so many bytes, all zero; fewer than 2^29.
+    /// Make data of this many bytes, all zero; fewer than 2^29.
     InitData(u32),
     /// Make a text of these bytes; fewer than 2^29 with the zero byte after them.
     SetText(&'a [u8]),
@@ -65,7 +65,7 @@ pub enum Op<'a> {
     SetField(ElementSize, u32, u64),
     /// Write a bit of a struct's data section, by its index.
     SetBool(u32, bool),
-    /// Write the lowest bits of an element of a list, as many as the size has: a bit, or a number
+    /// Write as many of the lowest bits of an element of a list as the size has: a bit, or a number
     /// of 1, 2, 4 or 8 bytes. Looks for the list like `PointerBuilder::get_list` with that size.
     SetElement(ElementSize, u32, u64),
     /// Write a byte of a text, but not the zero after it.
@@ -118,9 +118,9 @@ pub struct Edit<'a> {
 /// there is nothing to copy, that of `PointerReader::get_root_from_arena`, or of the root's
 /// `get_struct` or `get_list`. Nothing is changed after these.
 ///
-/// `AllocationFailed` and `MessageTooLarge` are the arena's. The pointer is null then, as it is if
-/// a copy is refused for what it reads. If copying a struct's content is refused so, the data and
-/// the pointers before the refused one are copied, and the others are null.
+/// `AllocationFailed` and `MessageTooLarge` are the arena's. The pointer is null then, and also if
+/// a copy is refused for what it reads. If copying a struct's content is refused like this, the
+/// data and the pointers before the refused one are copied, and the others are null.
 ///
 /// A search first replaces null by the value of its default. If that copy is refused, the pointer
 /// is null. If the value's kind is refused afterwards, or memory to make it larger, the value

@@ -67,8 +67,8 @@ cut_structs es =
     Structs (data_width es) (pointer_width es) (cut_to (data_width es) (pointer_width es) es)
 
 -- A value in canonical form: after its children are trimmed, a struct loses the zeros and Nulls at
--- the ends of its sections, and a list of structs gets the least widths. All else stays; a list of
--- pointers keeps its Nulls ("Canonicalization").
+-- the ends of its sections, and a list of structs gets the least widths. Everything else stays; a
+-- list of pointers keeps its Nulls ("Canonicalization").
 abbrev mutual
   pub trim : Tree → Tree
   trim Null = Null

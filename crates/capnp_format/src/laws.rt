@@ -112,8 +112,8 @@ pub fn others_may_change()
         → Means S n s p t c → Means R n s p t c × (cover R s p t ≡ cover S s p t) }
 {}
 
-/// Canonical words cost no more than their source; and without the root pointer, they are no more
-/// than the words that the source cost.
+/// Canonical words cost no more than their source. Without the root pointer, their number is at
+/// most the cost of the source.
 #[tactic(auto, using(crate::proofs::LawLemmas::canonical_cost, crate::proofs::LawLemmas::canonical_length))]
 pub fn canonical_words_are_cheap()
     ensures cost { (S : Segments) (n s p : ℕ) (t : Tree) (c : ℕ) → AreWords S → Means S n s p t c
@@ -172,7 +172,7 @@ pub fn one_arena_value()
 {}
 
 /// What is found canonical at a message's root is what a canonical copy makes of it: if canonical
-/// words are at the root with the head right after it, then whatever the root means within some
+/// words are at the root with the head right after it, then a value that the root means within some
 /// levels has no capability, and its canonical words are a prefix of the first segment.
 #[tactic(auto, using(crate::proofs::Agreements::tested_is_copied))]
 pub fn tested_is_copied()

@@ -45,7 +45,7 @@ module _ {R : Type 0} (g : Ghosts R) where
 
   -- No segment of at most `most` words was read, for the reason e: there was no memory for it; or
   -- the input failed, which excludes every other reason; or its bytes aren't bare words. Also
-  -- states what was taken of it.
+  -- states what it has read of the input.
   pub record NoSegmentRead (from to : R) (most : ℕ) (e : FrameError) : Type 0 where
     pub why : (e ≡ AllocationFailed) ⊎ ((e ≡ ReadFailed) × (g.has_failed to ≡ true)) ⊎
         IfSome (g.remaining from) (λ bytes. NoBareWords bytes most e)

@@ -1,4 +1,4 @@
--- What one read of an input and one write to an output do, as the traits state it.
+-- What one read of an input and one write to an output do, according to the traits.
 use Rattle.std.specs.Prelude.{◌≡◌, ◌<◌, ◌≤◌, ℕ, List, length, Result, IfOk, OnOk, OnErr, true}
 use Rattle.std.specs.Io.KnownBytes.{ReadConsumes, WriteAppends}
 use Rattle.capnp_framing.specs.Wholeness.{KeepsWhole}

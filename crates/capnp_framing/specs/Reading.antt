@@ -51,8 +51,8 @@ pub record HasTable (bytes : List ℕ) : Type 0 where
 abbrev pub words_in_table : List ℕ → ℕ
 words_in_table bytes = words_told (segments_told bytes) (drop 4 bytes)
 
--- The bytes, of which there are some, don't begin with a frame of at most `most` words, for the
--- reason e: the first that applies, in this order.
+-- These bytes, at least one, don't begin with a frame of at most `most` words. The reason e is the
+-- first that applies, in this order.
 pub data NoFrame (bytes : List ℕ) (most : ℕ) (e : FrameError) : Type 0 where
   count_cut : 0 < length bytes → length bytes < 4 → e ≡ Truncated → NoFrame bytes most e
   too_many : 4 ≤ length bytes → max_frame_segments < segments_told bytes →
@@ -100,7 +100,7 @@ module _ {R : Type 0} (g : Ghosts R) where
 
   -- No frame of at most `most` words was read, for the reason e: there was no memory for it; or the
   -- input failed, which excludes every other reason; or it doesn't begin with a frame. Also states
-  -- what was taken of it.
+  -- what was read of the input.
   pub record NoFrameRead (from to : R) (most : ℕ) (e : FrameError) : Type 0 where
     pub why : (e ≡ AllocationFailed) ⊎ ((e ≡ ReadFailed) × (g.has_failed to ≡ true)) ⊎
         IfSome (g.remaining from) (λ bytes. NoFrame bytes most e)

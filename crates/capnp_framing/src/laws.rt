@@ -18,8 +18,8 @@ pub fn one_frame()
         → S ≡ R }
 {}
 
-/// What is written for a message is a frame of it, as long as any other frame of it, whatever that
-/// one's padding holds, and a frame of no other message.
+/// What is written for a message is a frame of it, of the same length as any other frame of it,
+/// whose padding may differ; and it is a frame of no other message.
 pub fn written_frames()
     ensures framed { (S : Segments) → CanBeFramed S → IsFrameOf S (frame S) }
     ensures long { (S : Segments) (bytes : List ℕ) → IsFrameOf S bytes

@@ -21,8 +21,7 @@ onto_segments (Ok segment) (Some segments) = Some (segment ∷ segments)
 onto_segments (Ok segment) None = None
 onto_segments (Err e) segments = None
 
--- The segments of lines, each of pairs of hex digits in either case; None if a line is something
--- else.
+-- The segments of lines of pairs of hex digits in either case; None if a line has anything else.
 unfoldable pub segments_of_lines : List (List ℕ) → Option (List (List ℕ))
 segments_of_lines [] = Some []
 segments_of_lines (line ∷ lines) = onto_segments (decode_of line) (segments_of_lines lines)

@@ -21,8 +21,8 @@ HasOwnRoom v id n = length (segment v.words id) + n ≤ v.room id
 abbrev pub StartsBehind : Segments → ℕ → Start → Type 0
 StartsBehind S id h = (h.segment ≡ id) × (h.at ≡ length (segment S id))
 
--- The call gives the pointer an object of n words, perhaps 0. If the pointer's segment has room for
--- them, the object starts at the end of that segment's old words.
+-- The call makes an object of n words, perhaps 0, for the pointer. If the pointer's segment has
+-- room for them, the object starts at the end of that segment's old words.
 abbrev pub LeadsToEnd : CallAt → ℕ → Type 0
 LeadsToEnd c n = HasOwnRoom c.old c.segment n →
     StartsBehind c.old.words c.segment (start_of (target c.new.words c.segment c.at))

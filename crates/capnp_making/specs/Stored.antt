@@ -28,10 +28,11 @@ pub record IsReplaced (S R : Segments) (s p : ℕ) (t u : Tree) : Type 0 where
   pub kept : (v r : ℕ) → times (extent S s p t) v r ≡ 0 → r < length (segment S v) →
       word_at R v r ≡ word_at S v r
 
--- Whatever value (s, p) stores in S, in R it has u in its place.
+-- For every value t that (s, p) stores in S: from S to R, u replaces t.
 abbrev pub Puts : Segments → Segments → ℕ → ℕ → Tree → Type 0
 Puts S R s p u = (t : Tree) → IsStored S s p t → IsReplaced S R s p t u
 
--- Whatever (s, p) stores in S, words are zeroed first, and then it has u in place of null.
+-- From S to R, words are zeroed first, and then u replaces null at (s, p), whatever that stores in
+-- S.
 abbrev pub PutsOnceZeroed : Segments → Segments → ℕ → ℕ → Tree → Type 0
 PutsOnceZeroed S R s p u = (M : Segments) × IsPruned S M × IsReplaced M R s p Null u

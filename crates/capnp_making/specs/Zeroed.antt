@@ -13,7 +13,7 @@ use Rattle.capnp_words.specs.declared.wire_pointer.StructSize.{StructSize}
 use Rattle.capnp_arena_traits.specs.View.{View, KeepsLimits}
 use Rattle.capnp_making.specs.Path.{word_interval, extent}
 
--- From S to R the words in these intervals become zero; all others stay.
+-- From S to R the words in these intervals are zeroed; all others stay.
 pub record IsZeroed (S R : Segments) (is : List Interval) : Type 0 where
   pub segments : length R ≡ length S
   pub words : (v : ℕ) → length (segment R v) ≡ length (segment S v)

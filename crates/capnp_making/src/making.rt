@@ -28,7 +28,7 @@ use capnp_words::wire_pointer::{
     pointers_per_element,
 };
 
-/// What an object is, as its pointer states.
+/// What an object is, according to its pointer.
 #[derive(Clone, Copy)]
 pub enum Shape {
     /// A struct.

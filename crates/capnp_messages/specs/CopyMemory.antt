@@ -1,4 +1,4 @@
--- Segments of memory for copies, of which only the front is initialized, and the same ones with
+-- Segments of memory for copies. Only their first bytes are initialized. And the same segments with
 -- other bytes.
 use Rattle.std.specs.Prelude.{ℕ, List, ◌++◌, replicate}
 use Rattle.std.specs.Vec.{with_items}

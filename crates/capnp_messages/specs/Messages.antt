@@ -48,10 +48,11 @@ IsFaultOf S limits f =
     (m : Meter)
     × IsMessageFault f S (levels limits.nesting_limit) (unused limits.traversal_limit_in_words) m
 
--- The root of S, and what is left of the traversal limit after its word.
+-- The reading of the root of S, within the nesting limit.
 abbrev pub root_within : Segments → ReaderOptions → Reading
 root_within S limits = message_root S (levels limits.nesting_limit)
 
+-- The words that the traversal limit leaves after the root's word is charged.
 abbrev pub left_of : ReaderOptions → Option ℕ
 left_of limits = less limits.traversal_limit_in_words 1
 

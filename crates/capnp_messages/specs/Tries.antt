@@ -8,7 +8,7 @@ use Rattle.capnp_framing.specs.Reading.{total}
 use Rattle.capnp_objects.specs.Outcomes.{MeansThere}
 use Rattle.capnp_objects.specs.Reading.{Reading}
 
--- Whatever value r means, its canonical words, with the root's word, are more than `room`.
+-- The canonical words of every value that r means, with the root's word, are more than `room`.
 abbrev pub NeedsMoreRoom : Reading → ℕ → Type 0
 NeedsMoreRoom r room = (t : Tree) (c : ℕ) → MeansThere r t c → room < 1 + word_count (trim t)
 

@@ -30,8 +30,8 @@ pub data IsPointer (S : Segments) (a : Target) (q : ℕ) : Type 0 where
 abbrev pub LeadsTo : Reading → Target → Type 0
 LeadsTo r a = Leads r.segments r.segment r.at a
 
--- The place at position q of the segment of the object a, as one of its children, with this many
--- levels.
+-- The place at position q of the segment of the object a, read as one of its children, with this
+-- many levels.
 abbrev pub child_at : Reading → Target → ℕ → ℕ → Reading
 child_at r a levels q = record r { levels = levels; segment = a.segment; at = q }
 

@@ -83,8 +83,8 @@ pub data NotFollowed (f : Following) (m m' : Meter) (k : ErrorKind) : Type 0 whe
   pads_exceed : (Affords f.charging m (landing_words f.segments f.word) → ⊥) → m' ≡ m →
       k ≡ ReadLimitExceeded → NotFollowed f m m' k
 
--- What is to be entered: its message, whether reading there is charged, how many levels are left,
--- and where it is.
+-- An object to enter: its message, whether reading there is charged, how many levels are left, and
+-- its target.
 pub record Arrival : Type 0 where
   pub segments : Segments
   pub charging : Bool
@@ -108,7 +108,7 @@ pub record IsClaimed (o : Arrival) (m m' : Meter) : Type 0 where
   pub covers : Affords o.charging m (claim o.target.word)
   pub paid : m' ≡ charged o.charging m (claim o.target.word)
 
--- An object meets its demands, and its own charge is taken from m to m'.
+-- An object meets its demands, and is charged from m to m'.
 pub record IsEntered (purpose : Purpose) (o : Arrival) (m m' : Meter) : Type 0 where
   pub meets : Meets purpose o.segments o.levels o.target
   pub covers : Affords o.charging m (claim o.target.word + amplified purpose o.segments o.target)

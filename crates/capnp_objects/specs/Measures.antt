@@ -10,8 +10,8 @@ use Rattle.capnp_objects.specs.Demands.{claim, tag, element_words}
 use Rattle.capnp_objects.specs.Reading.{Reading, word_of}
 use Rattle.capnp_objects.specs.Refusals.{NotRead}
 
--- The number of an object's own words that the size counts: those that it claims, but for a list of
--- structs its tag and its elements.
+-- The number of an object's own words that the size counts: those that it claims; of a list of
+-- structs, its tag and its elements.
 abbrev pub counted_words : Segments → Target → ℕ
 counted_words S a = if nat_eq (kind a.word) 1 && nat_eq (element_size a.word) 7 then
     1 + element_words (tag S a) else claim a.word

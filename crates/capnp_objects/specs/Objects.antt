@@ -29,7 +29,7 @@ IsHeld S here =
     (length here.bytes.now ≡ 8 * length (segment S here.segment)) ×
     (length here.bytes.now < 8 * 2 ^ 32)
 
--- The pointer word of a place that is read isn't null, and its segment's bytes are at hand.
+-- The pointer word of a place that is read isn't null, and the place has its segment's bytes.
 pub record IsWordRead (r : Reading) (pointer : PointerWord) : Type 0 where
   pub held : IsHeld r.segments pointer.place
   pub there : pointer.word.0 ≡ word_of r

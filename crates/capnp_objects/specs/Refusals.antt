@@ -74,8 +74,8 @@ pub data Stopped (purpose : Purpose) (form : Form) (r : Reading) (m m' : Meter) 
       k ≡ ReadLimitExceeded →
       Stopped purpose form r m m' k
 
--- The reading of whatever object is at the place, as a plain value, stops with k, and takes the
--- limiter from m to m'.
+-- Reading the object at the place as a plain value stops with k, and takes the limiter from m to
+-- m'.
 abbrev pub NotRead : Purpose → Reading → Meter → Meter → ErrorKind → Type 0
 NotRead purpose r m m' k = Stopped purpose plain r m m' k
 

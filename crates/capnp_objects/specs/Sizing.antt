@@ -101,8 +101,7 @@ pub record WalksAll (r : Reading) (from to : Tally) (ts : Trees) : Type 0 where
   pub words_are : to.words ≡ from.words + word_count_all ts
   pub caps_are : to.caps ≡ from.caps + capabilities_all ts
 
--- The same for the values of the pointers of elements of this size, the first of which starts at
--- the place.
+-- The same for the values of the pointers of elements of this size, from the place on.
 pub record WalksElements (r : Reading) (size : StructSize) (from to : Tally) (es : Elements) : Type 0 where
   pub cost : ℕ
   pub is_sized : SizedElements r.segments r.levels r.segment r.at size.data_words size.pointers es cost

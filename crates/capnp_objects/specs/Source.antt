@@ -13,6 +13,6 @@ levels (negsuc n) = 0
 abbrev pub default_segment : ℕ
 default_segment = 2 ^ 32
 
--- A default, after so many empty segments that no far pointer leads anywhere in it.
+-- A default, after 2^32 empty segments, so that no far pointer leads into it.
 unfoldable pub default_segments : List ℕ → Segments
 default_segments bytes = replicate default_segment [] ++ words_of bytes ∷ []

@@ -1,6 +1,6 @@
--- What a reading requires of whatever object is at a place: which demands it makes there, and the
--- error with which each is refused if it is broken ("Structs", "Lists", "Capabilities
--- (Interfaces)"). `Expected.antt` has the calls that require an object of some kind.
+-- What a reading requires of the object at a place: its demands, and the error for each demand that
+-- is broken ("Structs", "Lists", "Capabilities (Interfaces)"). `Expected.antt` has the calls that
+-- require an object of some kind.
 use Rattle.std.specs.Prelude.{◌≡◌, ◌≢◌, ◌⊎◌, ℕ, ◌%◌, ◌^◌, ◌<◌, if◌then◌else◌, nat_eq, ok_or, Result}
 use Rattle.std.specs.Prelude.{Ok, Err}
 use Rattle.std.specs.Result.{result_ok}
@@ -66,8 +66,8 @@ follow_at r =
 abbrev pub FollowsTo : Reading → Target → Type 0
 FollowsTo r a = (word_of r ≢ 0) × (follow_at r ≡ Ok a)
 
--- The pointer at the place r is followed to the target a by a reading for this purpose. One for the
--- size takes a level for whatever the pointer leads to, even for a capability.
+-- The pointer at the place r is followed to the target a by a reading for this purpose. A reading
+-- for the size takes a level for anything that the pointer leads to, even for a capability.
 abbrev pub FollowsFor : Purpose → Reading → Target → Type 0
 FollowsFor Value r a = FollowsTo r a
 FollowsFor Size r a = FollowsTo r a × (0 < r.levels)

@@ -18,7 +18,7 @@ ghost use Rattle.capnp_objects.specs.Sizing.{SizedThere, tally, WalksPlace};
 ghost use Rattle.capnp_objects.specs.Wanted.{Form, FollowsTo, AllowsCapabilities};
 
 /// A refusal names a demand that a reached place breaks, or the read limit, if a reached place
-/// charges more than is left; and the read limit is named for nothing else.
+/// charges more than is left; and the read limit is named for no other reason.
 pub fn refused_truly()
     ensures named { (form : Form) (r : Reading) (m m' : Meter) (k : ErrorKind)
         → Refused form r m m' k

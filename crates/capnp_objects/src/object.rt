@@ -7,7 +7,7 @@ ghost use Rattle.capnp_format.specs.Bytes.{words_of};
 use capnp_words::wire_pointer::{ElementSize, StructSize, WirePointer};
 use capnp_words::words::word_at;
 
-/// A word of a segment, with the segment's bytes at hand.
+/// A word of a segment, with the segment's bytes.
 #[derive(Clone, Copy)]
 pub struct Place<'a> {
     /// The number of the segment: in an arena below 2^32; 2^32 for a default, so that no far
@@ -102,7 +102,7 @@ pub enum Expected {
     /// A list whose elements are at least as wide as this size: `Void` and `InlineComposite` accept
     /// elements of any width except bits.
     List(ElementSize),
-    /// A list of bytes, the last of which is 0.
+    /// A list of bytes that ends in 0.
     Text,
     /// A list of bytes.
     Data,

@@ -26,7 +26,7 @@ byte_given (Whole left) b = Some b
 byte_given (Raw left) b = Some b
 byte_given _ b = None
 
--- The number of zero bytes that b gives after that.
+-- The number of zero bytes that b unpacks to after that.
 abbrev pub zeros_given : Place → ℕ → ℕ
 zeros_given Tag b = if nat_eq b 0 then 8 else if nat_eq b 255 then 0 else lead 8 b
 zeros_given (Kept bits left) b = lead left bits
@@ -42,11 +42,11 @@ place_after (Whole left) b = if nat_eq left 0 then Count else Whole (left - 1)
 place_after Count b = if nat_eq b 0 then Tag else Raw (8 * b - 1)
 place_after (Raw left) b = if nat_eq left 0 then Tag else Raw (left - 1)
 
--- All bytes that b gives.
+-- All bytes that b unpacks to.
 abbrev pub all_given : Place → ℕ → List ℕ
 all_given place b = option_to_list (byte_given place b) ++ replicate (zeros_given place b) 0
 
--- The bytes that packed bytes give from a place on, as far as they go.
+-- What packed bytes unpack to from a place on, even if they are cut short.
 unfoldable pub unpacked_bytes : Place → List ℕ → List ℕ
 unpacked_bytes place [] = []
 unpacked_bytes place (b ∷ bytes) = all_given place b ++ unpacked_bytes (place_after place b) bytes
@@ -71,7 +71,7 @@ abbrev pub bytes_behind : ℕ → Place → Option (List ℕ) → Option (List �
 bytes_behind due place None = None
 bytes_behind due place (Some packed) = Some (replicate due 0 ++ unpacked_bytes place packed)
 
--- If the packed bytes are known, they still end at the same place after some of them were taken.
+-- If the packed bytes are known, they still end at the same place after some of them were read.
 abbrev pub KeepsEnd : Place → Option (List ℕ) → Place → Option (List ℕ) → Type 0
 KeepsEnd place None next new = ⊤
 KeepsEnd place (Some packed) next None = ⊥

@@ -5,7 +5,7 @@ use Rattle.capnp_framing.specs.declared.devices.Output.{Ghosts}
 use Rattle.capnp_packing.specs.declared.packing.packing_output.PackingOutput.{PackingOutput}
 
 module _ {W : Type 0} (g : Ghosts W) where
-  -- All bytes that were packed, if it is known which were taken.
+  -- All bytes that were packed, if it is known which ones the output took.
   abbrev pub packed_bytes : PackingOutput W → Option (List ℕ)
   packed_bytes p = append_known (g.contents p.packed) (slice_range p.pending p.sent p.end)
 

@@ -1,4 +1,4 @@
--- What an input of packed bytes gives at once, and what it keeps.
+-- What a read of an input of packed bytes returns, and what the input keeps.
 use Rattle.std.specs.Prelude.{◌≡◌, ◌<◌, ◌≤◌, ℕ, List, [], length, take, slice_range, Option, Result, IfOk, OnOk, OnErr, true}
 use Rattle.std.specs.Io.KnownBytes.{Consumes, IsAtEnd, prepend_known}
 use Rattle.capnp_framing.specs.declared.devices.Input.{Ghosts}

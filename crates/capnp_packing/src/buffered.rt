@@ -22,7 +22,7 @@ pub trait BufferedOutput: Output {
     // The number of bytes taken and not flushed yet.
     ghost kept: { Self → ℕ };
 
-    /// Flushes all bytes that were taken.
+    /// Flushes all bytes that it has taken.
     fn pass_on(&mut self) -> Result<(), DeviceFault>
         ensures bytes { Keeps (Self.contents self.old) (Self.contents self.new) }
         ensures none { OnOk result (kept self.new ≡ 0) }

@@ -1,5 +1,5 @@
-//! Packed bytes: unpacked one by one, where each gives some bytes and leads to the next place, and
-//! written a word or a run of words at a time.
+//! Packed bytes. Unpacks them one by one: each unpacks to some bytes and leads to the next place.
+//! Writes them a word or a run of words at a time.
 
 mod in_memory;
 mod packing_error;

@@ -92,7 +92,7 @@ IsFound r from to = (t : Tree) × Finds r from to t
 abbrev pub AreFound : Reading → ℕ → Progress → Progress → Type 0
 AreFound r i from to = (ts : Trees) × (count ts ≡ i) × FindsAll r from to ts
 
--- Canonical words are at the place and the head, whatever the limits; the same for i pointers.
+-- Canonical words are at the place and the head, with any limits; the same for i pointers.
 abbrev pub IsCanonicalAt : Reading → ℕ → Type 0
 IsCanonicalAt r h = (t : Tree) × Stands r.segments r.segment r.at h t
 
@@ -157,9 +157,8 @@ TellsStruct r size m m' None =
     AreUsed r size × AreCanonicalAt (behind r size.data_words) size.pointers
     (r.at + size.data_words + size.pointers) → ⊥
 
--- The same for elements of a list of structs, the first of which starts at the place of r: their
--- pointers are canonical, with the first object at the head, and no smaller size of elements would
--- do.
+-- The same for elements of a list of structs that starts at the place of r: their pointers are
+-- canonical, with the first object at the head, and no smaller size of elements would be enough.
 abbrev pub TellsRows : Reading → Rows → Progress → Meter → Option ℕ → Type 0
 TellsRows r n from m' (Some e) =
     (es : Elements) × (element_count es ≡ n.count) × (data_width es ≡ n.size.data_words) ×

@@ -5,10 +5,10 @@ use Rattle.capnp_objects.specs.Reading.{Reading, reading_at}
 use Rattle.capnp_pointers.specs.declared.pointers.Pointer.{Pointer}
 
 module _ {A : Type 0} (g : Ghosts A) where
-  -- The place of a pointer, as it is read.
+  -- The reading of a pointer at its place.
   abbrev pub reading : Pointer A g → Reading
   reading r = reading_at g r.source r.place r.nesting_limit
 
-  -- The place at position `at` of a pointer's segment, as it is read within a nesting limit.
+  -- The reading of the place at position `at` of a pointer's segment, within a nesting limit.
   abbrev pub reading_on : Pointer A g → ℕ → ℤ → Reading
   reading_on r at nesting = reading_at g r.source (record r.place { at = at }) nesting

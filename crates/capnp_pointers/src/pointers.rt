@@ -34,8 +34,8 @@ pub struct PointerPlace {
     pub word: u32,
 }
 
-/// A pointer being read, with the segment that it is in at hand: a `PointerReader` without the
-/// calls that return what it leads to.
+/// A pointer being read, with the bytes of its segment: a `PointerReader` without the calls that
+/// return what it leads to.
 pub struct Pointer<'a, A: ReaderArena> {
     /// What the pointer is read from.
     pub source: Source<'a, A>,

@@ -96,8 +96,9 @@ module _ {A : Type 0} (g : Ghosts A) where
   abbrev pub read_by : PointerReader A g → Reading
   read_by r = reading_at g r.source r.place r.nesting_limit
 
-  -- The pointer of the reader `from` leads to the struct that r shows, whose words are checked, and
-  -- charged from m to m'. r reads the same source, with one level less.
+  -- The pointer of the reader `from` leads to the struct that r shows. The words of that struct
+  -- have been checked, and charging them took the meter from m to m'. r reads the same source, with
+  -- one level less.
   abbrev pub IsStructThere : PointerReader A g → Meter → Meter → StructReader A g → Type 0
   IsStructThere from m m' r =
       (a : Target) × Entered Value (read_by from) m m' a × (kind a.word ≡ 0)

@@ -13,8 +13,7 @@ use Rattle.capnp_objects.specs.declared.object.Place.{Place}
 abbrev pub bytes_for : ℕ → ℕ
 bytes_for bits = (bits + 7) / 8
 
--- The bytes are those of the place's segment from byte position `byte` on, as many as hold `bits`
--- bits.
+-- The bytes are those of the place's segment from byte position `byte` on, enough for `bits` bits.
 abbrev pub IsPart : Place → ℕ → ℕ → List ℕ → Type 0
 IsPart here byte bits bytes =
     (bytes ≡ take (bytes_for bits) (drop byte here.bytes.now)) × (length bytes ≡ bytes_for bits)

@@ -15,6 +15,6 @@ module _ {A : Type 0} (g : Ghosts A) where
   abbrev pub begun : StructReader A g → Meter → Tally
   begun r m = tally (own_words r) 0 m
 
-  -- The first of a struct's pointers, as it is read.
+  -- The reading of the first pointer of a struct.
   abbrev pub pointers_read : StructReader A g → Reading
   pointers_read r = reading_at g r.source r.pointers r.nesting_limit

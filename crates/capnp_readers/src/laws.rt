@@ -54,7 +54,7 @@ pub fn same_words()
 
 /// A test that answers no or is refused has charged the limiter as reading does: it has fewer words
 /// left by those that it granted, and its count of pointers has grown by those followed. If nothing
-/// is charged, as for a default, the limiter is unchanged.
+/// is charged, for example for a default, the limiter is unchanged.
 pub fn end_is_charged()
     ensures failed { (r : Reading) (from : Progress) (m' : Meter) → TestEnds IsUnfit r from m'
         → (g : ℕ) × (i : ℕ) × Paid r.charging from.meter m' g i }

@@ -48,7 +48,7 @@ const NO_SECTIONS: StructSize = StructSize {
     pointers: 0,
 };
 
-/// A pointer being read, with the segment that it is in at hand.
+/// A pointer being read, with the bytes of its segment.
 pub struct PointerReader<'a, A: ReaderArena> {
     /// What the pointer is read from.
     pub source: Source<'a, A>,

@@ -13,7 +13,7 @@ use Rattle.capnp_streams.specs.declared.streams.fault.Fault.{Fault}
 use Rattle.capnp_streams.specs.declared.streams.fault.Fault.TheVariants.{Frame, Layout, TooManyMessages}
 use Rattle.capnp_streams.specs.declared.streams.task.Task.{Task}
 
--- From old to new all that the input had was taken: bare words, at most as many as the traversal
+-- From old to new everything in the input was read: bare words, at most as many as the traversal
 -- limit. The task's answer to the message that they mean was written after what the output had.
 pub record IsFlatDone (task : Task) (old new : Stage) (holds : Bool) : Type 0 where
   pub bytes : List ℕ

@@ -9,7 +9,7 @@ use Rattle.capnp_streams.specs.Streams.{Stage}
 use Rattle.capnp_streams.specs.declared.streams.fault.Fault.{Fault}
 use Rattle.capnp_streams.specs.declared.streams.fault.Fault.TheVariants.{Frame}
 
--- A stage of a packed input, by the bytes that it unpacks to, as far as they go.
+-- The stage of a packed input, with the bytes that it unpacks to, even if it is cut short.
 abbrev pub unpacked_stage : Stage → Stage
 unpacked_stage stage = record stage { input = option_map (unpacked_bytes Tag) stage.input }
 

@@ -172,7 +172,7 @@ module _ {R W : Type 0} (g : InputGhosts R) (h : OutputGhosts W) where
     pub whole : KeepsWhole (g.ends_whole from) (g.ends_whole to)
     pub work : AreWorking to output
 
--- From old to new the frames of `summary.messages` messages were taken from the front of the input;
+-- From old to new the frames of `summary.messages` messages were read from the front of the input;
 -- `summary.bytes` is their number of bytes, at most what 64 bits count. What the task answers to
 -- these was written after what the output had.
 pub record AreDone (task : Task) (old new : Stage) (summary : Summary) : Type 0 where
@@ -186,16 +186,16 @@ pub record AreDone (task : Task) (old new : Stage) (summary : Summary) : Type 0 
   pub answered : AreAnswered task messages summary.holds answers
   pub written : Appends old.output new.output answers
 
--- From old to new the messages are done that a run has answered before it stops; their frames have
--- as many bytes as it says.
+-- From old to new all messages that a run has answered before it stops are done. Their frames have
+-- the number of bytes that it says.
 abbrev pub WereAnswered : Task → Stage → Stage → Stop → Type 0
 WereAnswered task old new stop =
     (holds : Bool)
     × AreDone task old new (record { messages = stop.answered; bytes = stop.byte; holds = holds })
 
--- Why the message at the front of what is left of the input isn't answered. Either there is no
--- frame of one, or memory or the input fails; or its frame is taken, and nothing after it, and the
--- task refuses the message.
+-- Why the message at the front of the remaining input isn't answered. Either there is no frame, or
+-- memory runs out, or the input fails; or its frame is read, and nothing after it, and the task
+-- refuses the message.
 abbrev pub StopsAt : Task → Option (List ℕ) → Option (List ℕ) → Bool → Fault → Type 0
 StopsAt task old new failed (Frame e) =
     (e ≡ NoMemory) ⊎ ((e ≡ ReadFailed) × (failed ≡ true))

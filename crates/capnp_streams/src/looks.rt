@@ -80,7 +80,7 @@ fn is_of_devices(fault: Fault) -> bool {
     }
 }
 
-/// What begins with these bytes, whatever the task reads.
+/// The kind of input that begins with these bytes, for any task.
 fn by_bytes(first: &[u8]) -> Option<Looks> {
     match first {
         [0x1f, 0x8b, ..] => Some(Looks::Gzip),
@@ -135,8 +135,8 @@ fn unlike_words(first: &[u8]) -> Option<Looks> {
     None
 }
 
-/// Whether `first` begins with a root struct that has only pointers, the first of which leads to
-/// the word after the struct, inside `words` words. The table of a frame looks like this only if
+/// Whether `first` begins with a root struct that has only pointers, and whose first pointer leads
+/// to the word after the struct, inside `words` words. The table of a frame looks like this only if
 /// the frame has 65,536 words or more.
 fn begins_in_order(first: &[u8], words: u64) -> bool {
     let (Some(root), Some(pointer)) = (word(first, 0), word(first, 1)) else {

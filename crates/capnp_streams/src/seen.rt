@@ -76,7 +76,7 @@ impl Seen {
         self.front.get()
     }
 
-    /// Why the device failed, as the system's error; `None` if it didn't fail.
+    /// The system's error with which the device failed; `None` if it didn't fail.
     pub fn fault(&self) -> Option<io::Error> {
         self.fault.get()
     }

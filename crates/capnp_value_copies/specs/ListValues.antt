@@ -1,5 +1,5 @@
--- The copy of a list that is read: the words of its elements are at hand, and its first element is
--- read at its place.
+-- The copy of a list being read: the words of its elements were read before, and its first element
+-- is read at its place.
 use Rattle.capnp_arena_traits.specs.declared.arena.reader_arena.ReaderArena.{Ghosts}
 use Rattle.capnp_format.specs.Tree.{Tree}
 use Rattle.capnp_objects.specs.Reading.{reading_at}

@@ -16,7 +16,7 @@ use Rattle.capnp_making.specs.declared.making.Start.{Start}
 use Rattle.capnp_widening.specs.Rooms.{GrowsByAtMost, HasPadRoom, HasRoomAndPads}
 use Rattle.capnp_widening.specs.declared.widening.Room.{Room}
 
--- From S to T a room for n words is new, all zero: in segment id, or behind a landing pad.
+-- From S to T, space for n words has been added, all zero: in segment id, or behind a landing pad.
 abbrev pub IsRoom : Segments → Segments → ℕ → ℕ → Room → Type 0
 IsRoom S T id n h =
     IsGrown S T h.segment h.at (h.pads + n) × (((h.pads ≡ 0) × (h.segment ≡ id)) ⊎ (h.pads ≡ 1))

@@ -58,7 +58,7 @@ rows_of_moves from to k (suc n) =
     (record { segment = to.segment; at = to.at }) k
     ++ rows_of_moves (record from { at = from.at + from.step }) (record to { at = to.at + to.step }) k n
 
--- The pointers of the object t at a, as they go into the object u at b that it becomes.
+-- The moves of the pointers of the object t at a into the object u at b that it becomes.
 abbrev pub moves_into : Start → Start → Tree → Tree → List Move
 moves_into a b (Struct ws ts) (Struct vs us) =
     row_of_moves (record a { at = a.at + length ws }) (record b { at = b.at + length vs }) (count ts)

@@ -86,8 +86,8 @@ IsNoWider size c k =
     struct_in (target c.old.words c.segment c.at) t ≡ None))
     ⊎ RefusesToBecome (IsStored c.old.words c.segment c.at) (struct_opened size) c.old c.new k
 
--- The call opens the list of structs that is there, after making one of any other list. Null is no
--- list (None), and changes nothing.
+-- The call opens the list of structs that is there, after making one of any other list. For Null
+-- there is no list (None), and nothing changes.
 abbrev pub OpensExistingList : StructSize → Result (Option ExistingList) ErrorKind → CallAt → Tree →
     Type 0
 OpensExistingList size result c Null = (result ≡ Ok None) × (c.new ≡ c.old)

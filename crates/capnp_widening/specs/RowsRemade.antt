@@ -39,7 +39,7 @@ pub record RowCopy : Type 0 where
   pub words : ℕ
   pub count : ℕ
 
--- From S to R the words of rows are copied, and nothing else is written.
+-- From S to R the words of rows are copied, and no other word is written.
 pub record AreRowsCopied (S R : Segments) (c : RowCopy) : Type 0 where
   pub segments : length R ≡ length S
   pub words : (x : ℕ) → length (segment R x) ≡ length (segment S x)
@@ -66,8 +66,8 @@ RowsInside S rows =
     rows.at + (rows.tag + rows.count * (rows.size.data_words + rows.size.pointers))
     ≤ length (segment S rows.segment)
 
--- From S to R the data words of elements are copied into structs of this size, the first of which
--- starts at h.
+-- From S to R the data words of elements are copied into consecutive structs of this size, which
+-- start at h.
 abbrev pub CopiesData : Segments → Segments → ElementRows → Start → StructSize → Type 0
 CopiesData S R old h size =
     AreRowsCopied S R
@@ -98,8 +98,8 @@ element_moves old h size =
     })
     old.size.pointers old.count
 
--- From old to new the data words of elements are copied into structs of this size, the first of
--- which starts at h, and then their pointers are rewritten there.
+-- From old to new the data words of elements are copied into consecutive structs of this size,
+-- which start at h; then their pointers are rewritten there.
 pub record FillsRows (old new : View) (rows : ElementRows) (h : Start) (size : StructSize) : Type 0 where
   pub between : View
   pub copied : CopiesData old.words between.words rows h size
@@ -282,8 +282,8 @@ pub record MakesListWider {B : Type 0} (result : Result B ErrorKind) (Stands : T
   pub few : (t u : Tree) → Stands t → list_widened size.data_words size.pointers t ≡ Ok u →
       GrowsByAtMost c.old.words c.new.words (widened_words u + 1 + 2 * direct_pointers t)
 
--- The call makes the list l at its place one of structs of at least this size, and returns where it
--- is.
+-- The call makes the list l at its place one of structs of at least this size, and returns its
+-- place.
 pub record WidensList (result : Result ExistingList ErrorKind) (l : ExistingList) (size : StructSize)
     (c : CallAt) : Type 0 where
   pub widened : IfOk result (WidensTo l size c)

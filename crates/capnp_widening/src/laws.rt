@@ -17,7 +17,7 @@ pub fn wider_struct()
         → SameCanonicalForm (Struct ws ts) (Struct (fill_words d ws) (fill_trees q ts)) }
 {}
 
-/// A list of structs keeps its canonical words, whatever size of structs it is widened to: what is
+/// A list of structs keeps its canonical words if it is widened to any size of structs: what is
 /// added to each element is after the last word and pointer that any of them uses. It may have no
 /// elements, and these may have no words.
 pub fn wider_list()

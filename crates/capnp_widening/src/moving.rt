@@ -275,7 +275,7 @@ pub struct PointerRows {
     pub step: u32,
 }
 
-/// Rewrites the pointers of `count` rows in other rows, where they are null.
+/// Rewrites the pointers of `count` rows in other rows, whose pointers are null.
 ///
 /// Refuses only if there is no memory for two words; some of the first pointers are written then.
 pub fn move_rows<A: BuilderArena>(

@@ -1,6 +1,6 @@
-//! Widens structs and lists that are too small: gives the object new words, moves its pointers
-//! there, and finally overwrites the pointer to it. Until then the old object is unchanged, and a
-//! refusal leaves nothing but zeros.
+//! Widens structs and lists that are too small: allocates new words for the object, moves its
+//! pointers there, and finally overwrites the pointer to it. Until then the old object is
+//! unchanged, and a refusal leaves nothing but zeros.
 ghost use Rattle.std.specs.Prelude.{ℕ, Some, ◌≡◌, ◌≢◌, ◌↔◌, ◌<◌, ◌≤◌, ◌+◌, ◌*◌, ◌^◌, max, List, IsTrue, length, IsOk, IfOk, OnOk, IfErr, OnErr};
 ghost use Rattle.capnp_arena_traits.specs.View.{KeepsLimits};
 ghost use Rattle.capnp_format.specs.Segments.{segment, IsPlace};
@@ -123,8 +123,8 @@ pub(crate) fn settle<A: BuilderArena>(arena: &mut A, id: u32, at: u32, room: Roo
 }
 
 /// Widens the struct `old`, which the pointer at a place leads to, and which has a section that is
-/// too small: gives it new words, each section as large as the greater of old and wanted. Doesn't
-/// look for the struct again.
+/// too small: allocates new words for it, each section as large as the greater of old and wanted.
+/// Doesn't look for the struct again.
 ///
 /// Refuses if there is no memory for its words or for a landing pad, or with `MessageTooLarge`; the
 /// old struct stays then.

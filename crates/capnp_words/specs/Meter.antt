@@ -10,7 +10,7 @@ pub record Meter : Type 0 where
 abbrev pub unused : Option ℕ → Meter
 unused limit = record { left = limit; followed = 0 }
 
--- A limit covers n words; without a limit, every number is covered ("Security Considerations").
+-- A limit covers n words; without a limit, any number ("Security Considerations").
 abbrev pub FitsIn : Option ℕ → ℕ → Type 0
 FitsIn None n = ⊤
 FitsIn (Some left) n = n ≤ left

@@ -58,7 +58,7 @@ pub enum ErrorKind {
     MessageContainsNonStructPointerWhereStructPointerWasExpected,
     /// A capability was expected, and the pointer is null.
     MessageContainsNullCapabilityPointer,
-    /// A pointer leads out of its segment, or to words some of which are outside.
+    /// A pointer leads out of its segment, or to words that are partly outside.
     MessageContainsOutOfBoundsPointer,
     /// A text has no bytes, or its last byte isn't 0.
     MessageContainsTextThatIsNotNULTerminated,

@@ -1,5 +1,5 @@
 //! Tests bytes for zero, zeroes and copies them with vectors: 64 bytes at a time, and the rest by
-//! words and bytes. Each gives the result of its plain loop, for every length.
+//! words and bytes. Each has the result of its plain loop, for every length.
 ghost use Rattle.std.specs.Prelude.{◌≡◌, ◌↔◌, ◌<◌, ◌≤◌, ◌+◌, ◌*◌, ◌/◌, ◌%◌, All, IsTrue, length, take, drop, replicate};
 ghost use Rattle.capnp_format.specs.Bytes.{words_of};
 ghost use Rattle.capnp_format.specs.Canonical.{used_words};

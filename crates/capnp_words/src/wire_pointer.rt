@@ -139,7 +139,7 @@ impl WirePointer {
         WirePointer(0)
     }
 
-    /// The pointer to a struct of no words, in bytes `fcffffff00000000`. Its offset is -1, as
+    /// The pointer to a struct of no words, in bytes `fcffffff00000000`. Its offset is -1, because
     /// offset 0 would make it null.
     pub fn empty_struct() -> Self
         ensures { result.0 ≡ struct_word (2 ^ 30 - 1) 0 0 }

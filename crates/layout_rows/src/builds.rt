@@ -140,7 +140,7 @@ fn message_call<A: Allocator>(
     Ok(None)
 }
 
-/// Adds the bytes of a segment that are lent for writing, or that there are none.
+/// Appends the bytes of a segment that the arena lends for writing, or a note that there are none.
 fn allocated<A: BuilderArena>(arena: &mut A, segment: u32, out: &mut Output) {
     match arena.allocated_mut(segment) {
         Some(bytes) => out.hex_or_dash(bytes),

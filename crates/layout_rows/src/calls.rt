@@ -129,7 +129,7 @@ pub fn read<'l, T: Copy>(forms: &[Form<T>], text: &'l str) -> Result<(T, Values<
     Ok((call, values_of(letters, arguments)?))
 }
 
-/// The letters of a call's arguments and the call, by its name and number of arguments.
+/// The call with this name and number of arguments, and the letters of its arguments.
 fn find<T: Copy>(forms: &[Form<T>], name: &str, count: usize) -> Option<(&'static str, T)> {
     for (known, letters, least, call) in forms {
         if *known == name && *least <= count && count <= letters.len() {

@@ -27,7 +27,7 @@ use std::process::ExitCode;
 /// What the lines are.
 #[derive(Clone, Copy)]
 enum Command {
-    /// A message, all of which is read in a fixed order.
+    /// A message that is read completely, in a fixed order.
     Walk,
     /// A message, and calls that read it.
     Reads,

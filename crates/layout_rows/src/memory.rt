@@ -23,7 +23,7 @@ pub struct Memory {
 }
 
 impl Memory {
-    /// Parses the memory: segments of at least `words` words, of which `segments` are granted, or
+    /// Parses the memory: segments of at least `words` words. `segments` of them are granted, or
     /// any number for `none`. After a `/`, `words` has the words of a scratch space, if there is
     /// one, and `segments` the number of rows of segments that are kept, if it is limited.
     pub fn new(words: &str, segments: &str) -> Result<Self, Fault> {
@@ -44,7 +44,7 @@ impl Memory {
         })
     }
 
-    /// The bytes of the scratch space, none of which is zero, if there is one.
+    /// The bytes of the scratch space, without a zero, if there is one.
     pub fn scratch(&self, alloc: Global) -> Result<Option<Vec<u8>>, Fault> {
         match self.scratch_words {
             Some(words) => Ok(Some(Vec::from_elem(alloc, 0xff, 8 * words as usize)?)),
@@ -67,7 +67,7 @@ impl Memory {
     }
 }
 
-/// A limit in decimal digits; `none` is no limit.
+/// A limit in decimal digits, or `none` for no limit.
 fn count(text: &str) -> Result<u32, Fault> {
     if text == "none" {
         Ok(u32::MAX)

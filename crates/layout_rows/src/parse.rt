@@ -79,7 +79,7 @@ where
     Ok(())
 }
 
-/// Yes or no, as 1 and 0.
+/// 1 for yes and 0 for no.
 pub fn flag(text: &str) -> Result<bool, Fault> {
     match number(text)? {
         0u8 => Ok(false),
@@ -122,7 +122,7 @@ pub fn is_hex(text: &str) -> bool {
                 .all(|c| matches!(c, b'0'..=b'9' | b'a'..=b'f'))
 }
 
-/// The bytes of lower-case hex digits; `-` is none.
+/// The bytes of lower-case hex digits; `-` for no bytes.
 pub fn bytes(alloc: Global, text: &str) -> Result<Vec<u8>, Fault> {
     if !is_hex(text) {
         return Err(Fault::Malformed);
@@ -135,8 +135,8 @@ pub fn bytes(alloc: Global, text: &str) -> Result<Vec<u8>, Fault> {
     }
 }
 
-/// Segments of hex digits, separated by `separator`. A single `-` is no segment, and `empty` in
-/// place of one is an empty segment.
+/// Segments of hex digits, separated by `separator`. A single `-` means no segments, and `empty`
+/// means an empty segment.
 pub fn segments(
     alloc: Global,
     text: &str,

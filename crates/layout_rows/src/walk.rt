@@ -45,7 +45,7 @@ const STRUCTS: [u8; 32] = [
     0, 0xff, 0, 0, 0, 0, 0, 0, // the second
 ];
 
-/// A default whose root is a list of four bytes, the last of which is 0.
+/// A default whose root is a list of four bytes that ends in 0.
 #[rattlefmt::skip]
 const BYTES: [u8; 16] = [
     1, 0, 0, 0, 0x22, 0, 0, 0, // the root: four bytes at the next word

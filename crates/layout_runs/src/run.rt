@@ -14,10 +14,11 @@ use test_support::{
 enum Asked<'l> {
     /// A run of the tool.
     Run(Run<'l>),
-    /// A message of a list of so many pointers, while so many bytes are held.
+    /// A message of a list of pointers: their number, and the number of bytes that are held
+    /// meanwhile.
     Segments(u32, usize),
-    /// A message of a list of so many pointers to so many bytes each, written as a frame, while so
-    /// many bytes are held.
+    /// A message of a list of pointers to bytes, written as a frame: the number of pointers, of
+    /// bytes for each, and of bytes that are held meanwhile.
     Framed(u32, usize, usize),
 }
 
@@ -106,7 +107,7 @@ fn by_bytes(calls: u64) -> Strain {
     Strain { calls, most: 1 }
 }
 
-/// The bytes of an input: its lines, each with its line feed. `-` is none.
+/// The bytes of an input: its lines, each with its line feed. `-` means no lines.
 fn input_of(alloc: Global, text: &str) -> Result<String, AllocError> {
     let mut lines = String::new(alloc);
     if text != "-" {

@@ -8,8 +8,8 @@ use capnp_layout::readers::PointerReader;
 use std::process::Abort;
 use test_support::arena_of;
 
-/// Eight words that become 23: three structs of two pointers, each of which leads to the next
-/// struct twice, and the last one to the number 9.
+/// Eight words that become 23: three structs of two pointers. Each leads to the next struct twice,
+/// and the last one to the number 9.
 const DOUBLED: &str =
     "0000000000000200 0400000000000200 0000000000000200 0400000000000200 0000000000000200 0400000001000000 0000000001000000 0900000000000000";
 

@@ -9,8 +9,8 @@ use test_support::{NotingAllocator, Request};
 /// One word: a null pointer. Its canonical words are as many.
 const NULL: &[u8] = b"0000000000000000\n";
 
-/// Eight words that become 23: three structs of two pointers, each of which leads to the next
-/// struct twice, and the last one to the number 9.
+/// Eight words that become 23: three structs of two pointers. Each leads to the next struct twice,
+/// and the last one to the number 9.
 const DOUBLED: &[u8] =
     b"00000000000002000400000000000200000000000000020004000000000002000000000000000200040000000100000000000000010000000900000000000000\n";
 

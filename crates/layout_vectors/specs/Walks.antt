@@ -27,8 +27,8 @@ pub record Proceeds (w v : Walk) : Type 0 where
   pub keeps : KeepsRows w.marks v.marks
   pub fewer : free v.marks + length v.pending ≤ free w.marks + length w.pending
 
--- From w to v the object at the target a is taken: what is counted with it before is what is
--- counted without it afterwards.
+-- The step from w to v marks the object at the target a: counting with the object in w gives the
+-- same as counting without it in v.
 pub record TakesTarget (S : Segments) (a : Target) (w v : Walk) : Type 0 where
   pub proceeds : Proceeds w v
   pub same : (F : Counting) → ObjectCounts S a (word_at w.marks) w.pending F
@@ -38,13 +38,13 @@ pub record TakesTarget (S : Segments) (a : Target) (w v : Walk) : Type 0 where
 abbrev pub HasNoObject : Segments → Target → Walk → Type 0
 HasNoObject S a w = (F : Counting) → ObjectCounts S a (word_at w.marks) w.pending F → IsOnce F → ⊥
 
--- From w to v the object at the target a is taken; or there is none.
+-- The step from w to v marks the object at the target a; or there is none.
 abbrev pub TakesObject : Segments → Target → Walk → Walk → Bool → Type 0
 TakesObject S a w v true = TakesTarget S a w v
 TakesObject S a w v false = HasNoObject S a w
 
--- From w to v what the pointer at j leads to is taken: what is counted with j before is what is
--- counted without it afterwards.
+-- The step from w to v takes what the pointer at j leads to: counting with j pending in w gives the
+-- same as counting without it in v.
 pub record Goes (S : Segments) (j : Spot) (w v : Walk) : Type 0 where
   pub proceeds : Proceeds w v
   pub same : (F : Counting) → Counts S (word_at w.marks) (j ∷ w.pending) F
@@ -53,7 +53,7 @@ pub record Goes (S : Segments) (j : Spot) (w v : Walk) : Type 0 where
 abbrev pub FailsWalk : Segments → Spot → Walk → Type 0
 FailsWalk S j w = (F : Counting) → Counts S (word_at w.marks) (j ∷ w.pending) F → IsOnce F → ⊥
 
--- From w to v what the pointer at j leads to is taken; or it can't be.
+-- The step from w to v takes what the pointer at j leads to; or it can't.
 abbrev pub TakesSpot : Segments → Spot → Walk → Walk → Bool → Type 0
 TakesSpot S j w v true = Goes S j w v
 TakesSpot S j w v false = FailsWalk S j w

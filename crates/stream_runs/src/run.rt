@@ -72,7 +72,7 @@ fn read_strain(text: &str) -> Option<Strain> {
     })
 }
 
-/// The bytes of hex digits. `-` is none.
+/// The bytes of hex digits; `-` for no bytes.
 fn read_input(alloc: Global, text: &str) -> Result<Option<Vec<u8>>, AllocError> {
     if text == "-" {
         return Ok(Some(Vec::new(alloc)));

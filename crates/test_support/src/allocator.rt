@@ -5,12 +5,12 @@ use capnp_arena::arena::{Allocator, HeapAllocator, HeapSegment, MAX_SEGMENT_WORD
 use capnp_words::error::ErrorKind;
 use std::cell::Cell;
 
-/// Which requests for memory are granted, as long as the heap has it.
+/// Which requests for memory are granted, if the heap has it.
 #[derive(Clone, Copy)]
 pub enum Granted {
-    /// The first so many requests, whether for segments or for rows.
+    /// The first requests, this many, for segments or for rows.
     Requests(u64),
-    /// All segments, and the first so many rows.
+    /// All segments, and this many rows.
     Rows(u64),
 }
 

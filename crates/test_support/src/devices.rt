@@ -1,4 +1,4 @@
-//! Devices that move few bytes at a time, and fail after so many calls.
+//! Devices that move few bytes at a time, and fail after a given number of calls.
 ghost use Rattle.std.specs.Prelude.{◌≡◌, [], Some, false, true, ⊤};
 
 use capnp_framing::devices::{DeviceFault, Input, Output};

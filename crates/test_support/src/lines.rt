@@ -46,7 +46,7 @@ pub fn arguments(alloc: Global, text: &str) -> Result<Vec<String>, AllocError> {
     Ok(words)
 }
 
-/// A limit in decimal digits; `none` is no limit. Returns `None` if the word is neither.
+/// A limit in decimal digits, or `none` for no limit. Returns `None` if the word is neither.
 pub fn limit(text: &str) -> Option<u64> {
     if text == "none" {
         Some(u64::MAX)

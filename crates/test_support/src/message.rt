@@ -57,8 +57,8 @@ pub fn arena_of_root<A: Allocator>(alloc: Global, allocator: A) -> Option<Builde
     Some(arena)
 }
 
-/// Whether the segments are those of hex digits, separated by commas. A text that holds anything
-/// else stands for none.
+/// Whether the segments are those of hex digits, separated by commas. Returns `false` for a text
+/// that holds anything else.
 pub fn has_words(alloc: Global, arena: &impl ReaderArena, want: &str) -> bool {
     let mut id: u32 = 0;
     for text in want.split(", ") {

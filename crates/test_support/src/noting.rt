@@ -8,7 +8,7 @@ use std::alloc::Global;
 /// A request to an allocator.
 #[derive(Clone, Copy, Debug, PartialEq, Eq)]
 pub enum Request {
-    /// A segment of at least so many words.
+    /// A segment of at least this many words.
     Segment(u32),
     /// Memory for one more row of a list.
     Row,

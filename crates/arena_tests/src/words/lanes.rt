@@ -4,7 +4,7 @@ use std::process::Abort;
 
 const LENGTH: usize = 200;
 
-/// Bytes none of which is zero.
+/// Bytes without a zero.
 fn numbers() -> [u8; LENGTH] {
     let mut bytes = [0; LENGTH];
     for i in 0..LENGTH {

@@ -1,4 +1,4 @@
-//! Worked messages, as hex digits, and the first steps of reading them.
+//! Worked messages in hex digits, and the first steps of reading them.
 use capnp_arena::arena::{ReaderArena, ReaderArenaImpl, ReaderOptions};
 use capnp_readers::readers::{ListReader, PointerReader, StructReader, Target};
 use capnp_words::read_limiter::ReadLimiter;

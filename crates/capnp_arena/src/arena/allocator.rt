@@ -52,7 +52,7 @@ pub trait Segment {
 
 /// Where segments come from and are returned to.
 pub trait Allocator: Drop {
-    /// Returned with `deallocate_segment`. May be dropped if its allocator isn't at hand.
+    /// Returned with `deallocate_segment`. May be dropped if its allocator isn't available.
     type Segment: Segment + Drop;
 
     // Whether an arena keeps the row of its first segment inside itself; by default, it doesn't.
@@ -67,10 +67,10 @@ pub trait Allocator: Drop {
     // How often memory was refused, at most `u64::MAX`.
     ghost refusals: { Self → ℕ };
 
-    // Whether a request for so many words may be met by a segment of so many words.
+    // Whether a segment of the second number of words may answer a request for the first.
     ghost offers: { Self → ℕ → ℕ → Bool };
 
-    // Whether a request for so many words is sure to be met; by default, none is.
+    // Whether a request for this many words is never refused; by default, no request is sure.
     ghost grants: { Self → ℕ → Bool } = { λ _ _. false };
 
     /// A segment of zeros, of at least `min_words` words and at most 536,870,911.

@@ -73,7 +73,8 @@ fn lower<S: Segment>(rows: &mut [Row<S>], at: usize)
     row.bound = greatest;
 }
 
-/// The first row with room for `amount` more words, found by the bounds.
+/// The first row with room for `amount` more words, found through the kept bounds on the room of
+/// rows.
 #[inline(never)]
 pub(crate) fn first_by_bounds<S: Segment>(rows: &mut [Row<S>], amount: u32) -> Option<u32>
     requires few { length rows.old ≤ max_segments }

@@ -47,7 +47,7 @@ impl Segment for HeapSegment {
         self.bytes.as_mut_slice()
     }
 
-    /// All bytes are ready.
+    /// Does nothing: all bytes are initialized from the start.
     #[inline(always)]
     fn make_ready(&mut self, _bytes: usize) {}
 }

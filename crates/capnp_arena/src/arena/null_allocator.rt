@@ -5,8 +5,8 @@ use crate::arena::{Allocator, MAX_SEGMENT_WORDS};
 use capnp_words::error::ErrorKind;
 use std::marker::PhantomData;
 
-/// Refuses every request. An arena over it keeps its segments from an allocator `A` and gets no
-/// more: it allocates words in these, or none.
+/// Refuses every request. An arena over it keeps the segments that it got from an allocator `A`,
+/// and gets no further ones: it can allocate words only in these.
 ///
 /// A request of at most 536,870,911 words is refused with `AllocationFailed`, and counts in
 /// `refused`, which no other allocator sees. A segment returned to it is dropped.

@@ -164,7 +164,7 @@ impl<'a> ZeroBytes<'a> {
 /// it meets each request that it is large enough for: this takes no memory and is never refused.
 /// After it is returned, it can be used again. A scratch space without a whole word is never used.
 ///
-/// An arena over it keeps the row of its first segment in itself. So a message that fits in the
+/// An arena over it holds the row of its first segment itself, so a message that fits in the
 /// scratch space takes no memory at all.
 #[derive(Drop)]
 pub struct ScratchSpaceHeapAllocator<'a> {

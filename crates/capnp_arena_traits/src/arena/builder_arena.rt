@@ -36,8 +36,8 @@ pub trait BuilderArena: ReaderArena + sealed::Closed {
     /// Lends the allocated words of segment `id`, as bytes, for writing; returns `None` exactly if
     /// `id` isn't below the number of segments, and leaves the arena unchanged then.
     ///
-    /// No clause states what the arena is afterwards; only rows show it. `segment_mut` lends the
-    /// same bytes of a segment that exists, and its contract states exactly what the arena is
+    /// No clause states what the arena is afterwards; only test cases show it. `segment_mut` lends
+    /// the same bytes of a segment that exists, and its contract states exactly what the arena is
     /// afterwards.
     fn allocated_mut(&mut self, id: u32) -> Option<&mut [u8]>
         ensures there { IsSome result ↔ (id < length (Self.segments self.old)) }

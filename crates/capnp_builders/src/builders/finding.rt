@@ -59,7 +59,7 @@ impl<'a, A: BuilderArena> PointerBuilder<'a, A> {
     }
 
     /// Finds the struct that the pointer leads to, as `get_struct` does, and returns its place;
-    /// `into_struct` gives its builder. `get_struct` is made of both; this call's contract covers
+    /// `into_struct` returns its builder. `get_struct` is made of both; this call's contract covers
     /// success and refusal.
     #[inline(always)]
     pub fn find_struct(
@@ -142,7 +142,7 @@ impl<'a, A: BuilderArena> PointerBuilder<'a, A> {
     }
 
     /// Finds the list that the pointer leads to, as `get_struct_list` does, and returns its place;
-    /// `into_list` gives its builder. `get_struct_list` is made of both; this call's contract
+    /// `into_list` returns its builder. `get_struct_list` is made of both; this call's contract
     /// covers success and refusal.
     pub fn find_struct_list(
         &mut self,
@@ -199,8 +199,8 @@ impl<'a, A: BuilderArena> PointerBuilder<'a, A> {
     }
 
     /// Finds the list that the pointer leads to, with elements of the expected size or wider, as
-    /// `get_list` does, and returns its place; `into_list` gives its builder. `get_list` is made of
-    /// both; this call's contract covers success and refusal.
+    /// `get_list` does, and returns its place; `into_list` returns its builder. `get_list` is made
+    /// of both; this call's contract covers success and refusal.
     pub fn find_list(
         &mut self,
         size: ElementSize,

@@ -7,7 +7,7 @@ use capnp_readers::readers::{ListPlace, StructPlace};
 
 /// The place of a struct in a message, as `StructBuilder` has it.
 ///
-/// If its pointers would be at word 2^32 or after it, as those of no struct are, they are at the
+/// The pointers of a struct are never at word 2^32 or after it. If they would be, the place has the
 /// last word before that.
 #[inline(always)]
 pub fn struct_place(found: ExistingStruct) -> StructPlace

@@ -42,8 +42,8 @@ pub trait PrimitiveElement {
         ensures { result ≡ value_at list.now.content.now
             (element_start A.ReaderArena list.now index) };
 
-    /// Reads element `index` of a list being built: the lowest bits of the element's data, as many
-    /// as the value has. Same preconditions as `get`.
+    /// Reads element `index` of a list being built: as many of the lowest bits of the element's
+    /// data as the value has. Same preconditions as `get`.
     fn get_from_builder<A: BuilderArena>(list: &ListBuilder<'_, A>, index: u32) -> Self
         requires inside { IsListPlace (A.view list.now.arena.now).words list.now.place }
         requires range { 0 < element_bits (size_number size) → index < list.now.place.count }
@@ -52,10 +52,10 @@ pub trait PrimitiveElement {
         ensures { HasField (A.view list.now.arena.now) list.now.place.segment list.now.place.byte
             (lowest_bits list.now.place index (element_bits (size_number size)) (bits_of result)) };
 
-    /// Writes element `index` of a list: the lowest bits of its data, as many as the value has; of
-    /// a struct, those of its data section. Preconditions: `index` is below the number of elements;
-    /// each has at least as many bits of data as the value. `()` requires neither, and writes
-    /// nothing.
+    /// Writes element `index` of a list: as many of the lowest bits of its data as the value has;
+    /// of a struct, those of its data section. Preconditions: `index` is below the number of
+    /// elements; each has at least as many bits of data as the value. `()` requires neither, and
+    /// writes nothing.
     fn set<A: BuilderArena>(list: &mut ListBuilder<'_, A>, index: u32, value: Self)
         requires inside { IsListPlace (A.view list.old.arena.now).words list.old.place }
         requires range { 0 < element_bits (size_number size) → index < list.old.place.count }

@@ -91,8 +91,8 @@ pub(crate) fn copy_in_line<A: BuilderArena, B: ReaderArena>(
     Ok(())
 }
 
-/// Copies a pointer's value to the null pointer at a place. Judges what is near and small by its
-/// word alone, because passing an object through memory costs more than reading it.
+/// Copies a pointer's value to the null pointer at a place. Judges what is near and small only by
+/// its word, because passing an object through memory costs more than reading it.
 #[cycle(copies)]
 #[inline(always)]
 fn copy_child<A: BuilderArena, B: ReaderArena>(

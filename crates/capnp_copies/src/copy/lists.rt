@@ -19,7 +19,7 @@ use capnp_words::error::ErrorKind;
 use capnp_words::read_limiter::ReadLimiter;
 use capnp_words::wire_pointer::{ElementSize, StructSize};
 
-/// Copies a list of `count` pointers, the first of which is `from`, to the pointer at a place.
+/// Copies a list of `count` pointers, from `from` on, to the pointer at a place.
 #[cycle(copies)]
 #[inline(always)]
 pub fn copy_pointers<A: BuilderArena, B: ReaderArena>(

@@ -72,7 +72,7 @@ fn has_element<A: BuilderArena>(
         && has_words(arena, list.segment, u64::from(list.start) + words_of(list))
 }
 
-/// Writes the lowest bits of element `index` of a list, as many as `size` has.
+/// Writes as many of the lowest bits of element `index` of a list as `size` has.
 fn put_element<A: BuilderArena>(
     list: &mut ListBuilder<'_, A>,
     size: ElementSize,

@@ -13,11 +13,11 @@ use capnp_words::wire_pointer::{ElementSize, StructSize};
 pub(crate) enum NewObject<'a> {
     /// A struct, all zero.
     ZeroStruct(StructSize),
-    /// A list of so many elements that aren't structs, all zero or null.
+    /// A list of this many elements that aren't structs, all zero or null.
     ZeroList(ElementSize, u32),
-    /// A list of so many structs, all zero.
+    /// A list of this many structs, all zero.
     ZeroStructs(u32, StructSize),
-    /// A text of so many bytes, all zero, followed by a zero byte.
+    /// A text of this many bytes, all zero, followed by a zero byte.
     ZeroText(u32),
     /// A text of these bytes, followed by a zero byte.
     Text(&'a [u8]),
@@ -62,7 +62,7 @@ pub(crate) enum Part {
 pub(crate) enum Sought {
     /// A struct at least this large.
     Struct(StructSize),
-    /// A list, as one of elements of this size.
+    /// A list, read as one with elements of this size.
     List(ElementSize),
     /// A list of structs at least this large.
     StructList(StructSize),

@@ -13,8 +13,8 @@ pub enum FrameError {
     NoSegments,
     /// The message has more than 512 segments; with their number.
     TooManySegments(u64),
-    /// The message has more words than `max_words`; with their number, or, for bare words, with the
-    /// number of the first word too many.
+    /// The message has more words than `max_words`. Carries their number; for bare words, the
+    /// number of the first word beyond the limit, counted from 1.
     MessageTooLong(u64),
     /// The input ended inside a frame, or inside a bare word.
     Truncated,

@@ -229,13 +229,14 @@ pub fn run_with<A: Allocator, R: Input, W: Output>(
 /// Reads lines from an input, and writes the answer to a command, or a line with `refused` and the
 /// name of the refusal.
 ///
-/// A line of the input is a segment, as pairs of hex digits in either case; no bytes are no
-/// segments. The root pointer costs one word of the traversal limit. The answers are, by command:
+/// A line of the input is a segment, as pairs of hex digits in either case. Without bytes there are
+/// no segments. The root pointer costs one word of the traversal limit. The answers are, by
+/// command:
 ///
 /// - `Canon`: the canonical words of the message's value as lower case hex digits, each word's
 ///   lowest byte first ("Canonicalization").
 /// - `Check`: `canonical` if such words are at the root, with the first object right after the root
-///   pointer, otherwise `not canonical`; whatever follows them or is in other segments.
+///   pointer, otherwise `not canonical`. Ignores what follows them and other segments.
 /// - `Size`: `words N caps M`, the numbers of words and capabilities that the root leads to,
 ///   without landing pads, in decimal digits ("Structs", "Lists").
 /// - `Frame`: the frame of the message as hex digits ("Serialization Over a Stream"). Refusals:

@@ -10,7 +10,7 @@ use capnp_words::error::ErrorKind;
 pub enum Refusal {
     /// The segments can't be read, or their value can't.
     Layout(ErrorKind),
-    /// The frame can't be read, or the segments have none.
+    /// The frame can't be read, or the segments can't be framed.
     Frame(FrameError),
     /// There is no frame to read: the input has no line, or an empty one.
     NoMessage,

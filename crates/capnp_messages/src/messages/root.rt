@@ -12,7 +12,7 @@ use capnp_words::error::ErrorKind;
 use capnp_words::read_limiter::ReadLimiter;
 
 /// Returns a reader of the message's root and charges its word, like
-/// `Pointer::get_root_from_arena`, whatever holds the segments.
+/// `Pointer::get_root_from_arena`, for any type that holds the segments.
 ///
 /// Refusals, which charge nothing: `InvalidSegmentId(0)` or `MessageContainsOutOfBoundsPointer` if
 /// there is no root pointer; `ReadLimitExceeded` if the limiter has no word left.

@@ -12,11 +12,11 @@ pub enum Place {
     Kept { bits: u8, left: u8 },
     /// Before the count of further zero words.
     Zeros,
-    /// Before a byte of a word that isn't packed, with so many bytes of it to follow.
+    /// Before a byte of a word that isn't packed; this many bytes of the word come after it.
     Whole(u8),
     /// Before the count of further words that aren't packed.
     Count,
-    /// Before a byte of those further words, with so many bytes of them to follow.
+    /// Before a byte of those further words; this many bytes of them come after it.
     Raw(u16),
 }
 

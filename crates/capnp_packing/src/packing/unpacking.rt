@@ -102,7 +102,7 @@ fn put_word(tag: u8, packed: &[u8], to: &mut [u8]) -> usize
     tag.count_ones() as usize
 }
 
-/// Unpacks a zero word and `more` further ones, as far as there is room.
+/// Unpacks a zero word and `more` further ones, or as many as there is room for.
 #[inline(always)]
 fn unpack_zeros(more: u8, to: &mut [u8]) -> Progress
     requires { 8 ≤ length to.old }

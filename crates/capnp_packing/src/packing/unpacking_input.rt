@@ -13,13 +13,13 @@ use super::unpacking::{UNIT, put_zeros, unpack_words};
 use crate::buffered::BufferedInput;
 use capnp_framing::devices::{DeviceFault, Input};
 
-/// Unpacks the bytes of a packed input, as far as they go. Doesn't read on after the packed input
-/// has failed.
+/// Unpacks the bytes of a packed input, up to its end even if that is inside a word. Doesn't read
+/// on after the packed input has failed.
 #[derive(Drop)]
 pub struct UnpackingInput<R> {
     packed: ReadAhead<R>,
     place: Place,
-    // The number of zero bytes to return before the next packed byte is taken.
+    // The number of zero bytes to return before the next packed byte is read.
     zeros: u16,
     // Whether a read has reported that the packed input failed. Bytes from before the failure are
     // returned first.
@@ -166,8 +166,8 @@ impl<R: Input> UnpackingInput<R> {
         n
     }
 
-    /// Reads bytes of further words that aren't packed, `left` of which follow the first one,
-    /// directly into `to`.
+    /// Reads bytes of words that aren't packed straight into `to`. `left` + 1 of these bytes
+    /// remain.
     fn read_raw(&mut self, left: u16, to: &mut [u8]) -> Result<usize, DeviceFault>
         requires place { self.old.place ≡ Place.Raw left }
         requires zeros { self.old.zeros ≡ 0 }
@@ -183,8 +183,8 @@ impl<R: Input> UnpackingInput<R> {
     }
 }
 
-/// The place after the next `taken` bytes of words that aren't packed, if `left` follow the first
-/// of them.
+/// The place after the next `taken` bytes of words that aren't packed, if `left` + 1 of these bytes
+/// remain.
 fn raw_behind(left: u16, taken: usize) -> Place
     requires some { 0 < taken }
     requires inside { taken ≤ left + 1 }

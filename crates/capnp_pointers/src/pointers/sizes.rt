@@ -35,11 +35,11 @@ impl<'a, A: ReaderArena> Pointer<'a, A> {
     /// landing pads, and its capabilities ("Structs", "Lists").
     ///
     /// A null pointer has neither. A list of structs takes its tag and its elements, even if it
-    /// claims more. Each pointer except a null one is counted as followed, takes a level (also one
-    /// to a capability), and is charged the words of its landing pads and those that its object
-    /// claims, each before it is read. Ignores the place of a list of void, and charges nothing for
-    /// elements without width, so an answer doesn't mean that the pointer leads to a value. A
-    /// default and an arena being built count and charge nothing.
+    /// claims more. Each pointer that isn't null counts as followed and takes a level, even one to
+    /// a capability. It is charged the words of its landing pads and the words that its object
+    /// claims, in each case before they are read. Ignores the place of a list of void, and charges
+    /// nothing for elements without width, so an answer doesn't mean that the pointer leads to a
+    /// value. A default and an arena being built count and charge nothing.
     ///
     /// Refuses with the first fault found, and keeps what was charged: `MessageIsTooDeeplyNested`,
     /// `InvalidSegmentId`, `MessageContainsOutOfBoundsPointer`, `MalformedDoubleFarPointer`,
@@ -119,7 +119,7 @@ struct MeasuredRows<'a> {
 }
 
 // Adds the sizes of `count` consecutive pointers from position `at` on. Enters a struct in the same
-// segment by its position alone, with the same reader of the segment.
+// segment with its position only, and the same reader of the segment.
 #[cycle(sizes)]
 #[inline(never)]
 fn add_pointers<A: ReaderArena>(

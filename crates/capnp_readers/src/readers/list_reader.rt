@@ -35,7 +35,7 @@ pub struct ListPlace {
     pub count: u32,
 }
 
-/// A list being read, with the words of its elements at hand.
+/// A list being read, with the words of its elements.
 pub struct ListReader<'a, A: ReaderArena> {
     /// What the list is read from.
     pub source: Source<'a, A>,

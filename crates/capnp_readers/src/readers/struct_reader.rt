@@ -34,7 +34,7 @@ pub struct StructPlace {
     pub pointers: u16,
 }
 
-/// A struct being read, with its data section at hand.
+/// A struct being read, with its data section.
 pub struct StructReader<'a, A: ReaderArena> {
     /// What the struct is read from.
     pub source: Source<'a, A>,
@@ -209,7 +209,7 @@ impl<'a, A: ReaderArena> StructReader<'a, A> {
     }
 
     /// The pointer section as a list of pointers, under the struct's own nesting limit. Its element
-    /// `i` is the struct's pointer `i`; a struct without pointers gives an empty list ("Structs",
+    /// `i` is the struct's pointer `i`; for a struct without pointers the list is empty ("Structs",
     /// "Lists").
     pub fn get_pointer_section_as_list(&self) -> ListReader<'a, A>
         ensures source { result.source ≡ self.now.source }

@@ -31,7 +31,7 @@ pub(super) struct Memory<A: Allocator> {
 }
 
 impl<A: Allocator> Memory<A> {
-    /// Before any message: no memory is taken, and the first message will be tested.
+    /// Before any message: it has no memory yet, and the first message will be tested.
     pub(super) fn new(alloc: Global, allocator: A) -> Self
         ensures { result.allocator ≡ Some allocator }
     {

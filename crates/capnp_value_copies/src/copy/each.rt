@@ -1,4 +1,4 @@
-//! Copies consecutive pointers, each of which is copied or stays null.
+//! Copies consecutive pointers; each is copied or stays null.
 ghost use Rattle.std.specs.Prelude.{◌≡◌, ℕ, ◌+◌, ◌<◌, ◌≤◌, length, IsOk, IfOk, IfErr};
 ghost use Rattle.capnp_format.specs.Segments.{segment, word_at};
 ghost use Rattle.capnp_objects.specs.Reading.{segment_read};

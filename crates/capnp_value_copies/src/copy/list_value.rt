@@ -1,4 +1,4 @@
-//! Copies a list being read, whose words are at hand ("Lists", "Canonicalization").
+//! Copies a list being read, whose words the reader has ("Lists", "Canonicalization").
 ghost use Rattle.std.specs.Prelude.{◌+◌, ◌↔◌, IsTrue};
 ghost use Rattle.capnp_copies.specs.Changes.{change, IsNullPlace};
 ghost use Rattle.capnp_copies.specs.Rooms.{CopiesOrClears};

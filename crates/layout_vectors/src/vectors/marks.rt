@@ -1,4 +1,4 @@
-//! Which words of a message are taken.
+//! Marks of the words of a message.
 ghost use Rattle.std.specs.Prelude.{◌≡◌, ◌≢◌, ℕ, ◌+◌, ◌/◌, ◌<◌, ◌≤◌, List, IsTrue, IfOk, Bool, false, length, map, replicate, slice_index, slice_get, vec_items};
 ghost use borrow.Rule.Slice.PartMut.{put_mid};
 ghost use Rattle.capnp_format.specs.Segments.{segment, word_at};
@@ -7,13 +7,13 @@ ghost use Rattle.layout_vectors.specs.Marks.{rows_of, TakesRow, IsMarkedWithin, 
 
 use std::alloc::{AllocError, Global};
 
-/// A byte for each word of a message: 1 if the word is taken, otherwise 0.
+/// A byte for each word of a message: 1 if the word is marked, otherwise 0.
 #[derive(Drop)]
 pub(crate) struct Marks {
     pub(crate) rows: Vec<Vec<u8>>,
 }
 
-/// Whether none of the `n` words from `start` on is taken.
+/// Whether none of the `n` words from `start` on is marked.
 fn are_free(row: &[u8], start: usize, n: usize) -> bool
     requires { start + n ≤ length row.now }
     ensures free { IsTrue result → AreFreeWithin row.now start n }
@@ -27,7 +27,7 @@ fn are_free(row: &[u8], start: usize, n: usize) -> bool
     true
 }
 
-/// Takes the `n` words from `start` on.
+/// Marks the `n` words from `start` on.
 fn fill(row: &mut [u8], start: usize, n: usize)
     requires { start + n ≤ length row.old }
     ensures { row.new ≡ put_mid start n row.old (replicate n 1) }
@@ -36,7 +36,7 @@ fn fill(row: &mut [u8], start: usize, n: usize)
 }
 
 impl Marks {
-    /// No word of these segments is taken.
+    /// Marks for the words of these segments, none of which is marked.
     pub(crate) fn new(alloc: Global, segments: &[&[u8]]) -> Result<Self, AllocError>
         ensures { IfOk result
             (λ m. rows_of m ≡ map (λ s. replicate (length s.now / 8) 0) segments.now) }
@@ -59,8 +59,8 @@ impl Marks {
         }
     }
 
-    /// Takes the `n` words of segment `id` from `start` on, if they exist and none of them is
-    /// taken.
+    /// Marks the `n` words of segment `id` from `start` on, if they exist and none of them is
+    /// marked. Returns whether it did.
     pub(crate) fn take(&mut self, id: u32, start: u32, n: u32) -> bool
         ensures inside { IsTrue result → start + n ≤ length (segment (rows_of self.old) id) }
         ensures taken { IsTrue result → TakesRow (rows_of self.old) (rows_of self.new) id start n }
@@ -76,8 +76,8 @@ impl Marks {
         self.take_some(id, start as usize, n as usize)
     }
 
-    /// Takes the `n` words of segment `id` from `start` on, if none of them is taken.
-    /// Preconditions: they exist; there is at least one.
+    /// Marks the `n` words of segment `id` from `start` on, if none of them is marked. Returns
+    /// whether it did. Preconditions: they exist; there is at least one.
     fn take_some(&mut self, id: u32, start: usize, n: usize) -> bool
         requires some { 0 < n }
         requires inside { start + n ≤ length (segment (rows_of self.old) id) }

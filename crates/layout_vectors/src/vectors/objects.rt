@@ -19,8 +19,8 @@ use capnp_words::wire_pointer::{ElementSize, WirePointerKind, data_bits_per_elem
 use capnp_words::words::word_at;
 use std::alloc::AllocError;
 
-/// Takes the words of the object that a pointer leads to, and appends the places of its pointers.
-/// Returns `false` if there is no such object, or one of its words is taken already, or it has
+/// Marks the words of the object that a pointer leads to, and appends the places of its pointers.
+/// Returns `false` if there is no such object, or one of its words is marked already, or it has
 /// padding that isn't zero, or claims more than its elements.
 pub(crate) fn take_object<A: ReaderArena>(
     arena: &A,

@@ -51,8 +51,8 @@ pub fn audit(alloc: Global, segments: &[&[u8]]) -> Result<bool, ErrorKind>
     }
 }
 
-/// Whether a message is one that a builder made. `marks` has a mark for each of its words, none of
-/// which is set yet.
+/// Whether a message is one that a builder made. `marks` has a mark for each of its words, and no
+/// mark is set yet.
 fn walk_from_root<A: ReaderArena>(
     alloc: Global,
     arena: &A,
@@ -76,8 +76,9 @@ fn walk_from_root<A: ReaderArena>(
     Ok(rest_is_zero(arena, &marks))
 }
 
-/// Takes what the pointer at a place leads to, with its landing pads. Returns `false` if it leads
-/// nowhere, if a word of a landing pad is taken already, and if `take_object` returns `false`.
+/// Marks the words of what the pointer at a place leads to, with its landing pads. Returns `false`
+/// if it leads nowhere, if a word of a landing pad is marked already, and if `take_object` returns
+/// `false`.
 fn walk_pointer<A: ReaderArena>(
     arena: &A,
     marks: &mut Marks,
