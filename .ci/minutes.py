@@ -51,7 +51,7 @@ def first_proofs(crate):
 
 
 def ratio(used, crate, before, after):
-    """The ratio of these minutes to a first proof, as text."""
+    """Says how many first proofs these minutes are."""
     if not before or not after:
         return f'{crate} was not proved'
     taken = sorted(before + after)

@@ -4,7 +4,7 @@
 set -eu
 build=${BUILD:-build}
 python=${PYTHON:-python3}
-# a struct of three words, the last of which is zero, and its canonical words
+# a struct of three words that ends in a zero word, and its canonical words
 frame='\0\0\0\0\4\0\0\0\0\0\0\0\3\0\0\0\21\21\21\21\21\21\21\21\0\0\0\0\0\0\0\200\0\0\0\0\0\0\0\0'
 words='\0\0\0\0\2\0\0\0\21\21\21\21\21\21\21\21\0\0\0\0\0\0\0\200'
 # shellcheck disable=SC2059

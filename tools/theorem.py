@@ -240,7 +240,7 @@ def definitions(number):
 
 
 def types(number):
-    """The types of the program that a part names, as they are in their files."""
+    """The types of the program that a part names, in the form of their files."""
     lines = ['```rust']
     for crate, path in sorted(parts()[number][1]):
         lines += quoted.item(quoted.declared_in(crate, path), path.split('.')[-1]) + ['']

@@ -1,4 +1,4 @@
-"""Writes and reads frames as the encoding specification describes them ("Serialization Over a Stream"), independently of the
+"""Writes and reads frames. Follows the encoding specification ("Serialization Over a Stream"), and shares no code with the
 crates."""
 
 MOST_SEGMENTS = 512

@@ -40,8 +40,8 @@ def operation(edit):
 
 
 def instead(edit):
-    """The lists of edits, one of which has the same effect with ample memory as this edit without memory. Each edit has its
-    outcome, or None if that doesn't matter."""
+    """Lists of edits. One of them has the same effect with ample memory as this edit without memory. Each edit has its outcome,
+    or None if that doesn't matter."""
     path, _, call = edit.partition(':')
     if operation(edit) in MAKING:
         return [[(f'{path}:cl', 'ok')]]
@@ -53,7 +53,7 @@ def instead(edit):
 
 
 def replacements(edits, outcomes):
-    """The lists of edits with outcomes, one of which has the same effect with ample memory as these edits."""
+    """Lists of edits with outcomes. One of them has the same effect with ample memory as these edits."""
     choices = [instead(edit) if outcome == REFUSED else [[(edit, outcome)]] for edit, outcome in zip(edits, outcomes)]
     return [list(itertools.chain(*choice)) or [('-:cl', 'ok')] for choice in itertools.product(*choices)]
 
@@ -69,8 +69,8 @@ def run_edits(program, lines):
 
 
 def lent(program, command, calls, counts):
-    """Checks that the answers, refusals included, are the same if the first segment is in memory that the caller lends, whatever
-    that memory held; and if the arena's row of a segment is refused instead of the segment."""
+    """Checks that the answers, refusals included, stay the same if the first segment is in memory that the caller lends and has
+    filled; and if the arena's row of a segment is refused instead of the segment."""
     runs = [(words, segments, it) for it in calls for words in WORDS for segments in (*SEGMENTS, 'none')]
     heap = answers([*program, command], [f'{words} {segments} {it}' for words, segments, it in runs])
     scratch = answers([*program, command], [f'{words}/{words} {segments} {it}' for words, segments, it in runs])
@@ -209,8 +209,8 @@ def alone(program, counts):
 
 
 def calls_instead(call):
-    """The lists of builder calls, one of which has the same effect with ample memory as this call without memory; they keep no
-    place either. None for a call that leaves a part of what it copies."""
+    """Lists of builder calls. One of them has the same effect with ample memory as this call without memory, and keeps no place
+    either. There are none for a call that leaves a part of what it copies."""
     place, point, rest = call.rpartition('.')
     name, *arguments = rest.split(',')
     if name == 'content':
@@ -224,7 +224,7 @@ def calls_instead(call):
 
 
 def calls_replaced(calls, outcomes):
-    """The lists of calls, one of which has the same effect with ample memory as these calls."""
+    """Lists of calls. One of them has the same effect with ample memory as these calls."""
     choices = [calls_instead(call) if outcome.startswith(REFUSED) else [[call]] for call, outcome in zip(calls, outcomes)]
     return [list(itertools.chain(*choice)) or ['clear'] for choice in itertools.product(*choices)]
 

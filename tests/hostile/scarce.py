@@ -42,8 +42,8 @@ def answered(program, line, most):
 
 
 def is_built(set_, refused, words):
-    """Whether these are the words of a list of pointers, the first `set_` of which are set, and a request was refused exactly if
-    not all are."""
+    """Whether these are the words of a list of pointers with the first `set_` ones set, and a request was refused exactly if not
+    all are."""
     found = value(segments_of(words)) if words else None
     wanted = [('list', 2, 8, i.to_bytes(8, 'little')) if i < set_ else None for i in range(COUNT)]
     return (set_ == COUNT) == (refused == 0) and (found == ('pointers', wanted) or set_ == 0 and found is None)
@@ -73,7 +73,7 @@ def data_of(i, size):
 
 
 def canonical(count, set_, size):
-    """The canonical words of a list of `count` pointers, the first `set_` of which lead to data of this size."""
+    """The canonical words of a list of `count` pointers. The first `set_` ones lead to data of this size, the others are null."""
     words = (size + 7) // 8
     pointers = [(count - 1 - i + i * words) << 2 | 1 | (2 | size << 3) << 32 if i < set_ else 0 for i in range(count)]
     table = b''.join(it.to_bytes(8, 'little') for it in [1 | (6 | count << 3) << 32, *pointers])
@@ -81,7 +81,7 @@ def canonical(count, set_, size):
 
 
 def is_framed(frame, count, set_, size):
-    """Whether a frame holds a list of `count` pointers, the first `set_` of which lead to data of this size."""
+    """Whether a frame holds a list of `count` pointers. The first `set_` ones must lead to data of this size."""
     data = [('list', 2, size, data_of(i, size)) if i < set_ else None for i in range(count)]
     segments = frames.parted(bytes.fromhex(frame))
     return frames.framed(segments) == frame and value(segments) == ('pointers', data)

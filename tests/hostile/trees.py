@@ -1,4 +1,4 @@
-"""Reads the value of a message that was built, as the encoding specification describes it, independently of the crates."""
+"""Reads the value of a message that was built. Follows the encoding specification, and shares no code with the crates."""
 
 
 def word_at(segments, segment, at):

@@ -13,7 +13,7 @@ BOOK = '''(title = "People", people = [
   (id = 7, name = "Ada", phones = [(number = "12"), (number = "345", kind = 2)], birth = (year = 1815), flags = [true, false, true],
    scores = [[1.5], [], [2.5, -0.0]], blob = "\\x01\\x02", voids = [void, void], note = "first"),
   (id = 8, ages = [1, 2, 3], friends = [(name = "Eve")], number = -5, height = 1.75)])'''
-# The friends of the second person have three data words, all of which are zero.
+# The friends of the second person have three data words, and all are zero.
 BOOK_FAULT = '12,0,50'
 BOOK_SIZE = '67,0'
 HEAD = '''# Ten messages, good and bad, and what each call answers to them. messages.py writes this file. A line is six words:

@@ -20,7 +20,7 @@ from capnp_canonical import Error, Fault, Limits, Reason, Refusal, Size
 MESSAGES = pathlib.Path(__file__).with_name('messages.txt')
 PACKED = pathlib.Path(__file__).with_name('packed.txt')
 LIBRARY = 'CAPNP_CANONICAL_LIBRARY'
-# A struct of three words, the last of which is zero.
+# A struct of three words that ends in a zero word.
 ZERO_WORD = bytes.fromhex('0000000004000000 0000000003000000 1111111111111111 ffffffffffffffff 0000000000000000')
 ZERO_WORD_FLAT = bytes.fromhex('0000000002000000 1111111111111111 ffffffffffffffff')
 TEXT = '6162636465666768 6162636465666700'

@@ -1,5 +1,5 @@
 #!/usr/bin/env python3
-"""Tries mutants: small bugs planted in the sources, each of which the prover must refuse.
+"""Tries mutants: small bugs planted in the sources. The prover must refuse each of them.
 
     run.py [--every] [CRATE..]
 
@@ -13,8 +13,8 @@ function: for a change outside of functions, or of a fact that only the other fu
 refusal of any function of the crate.
 
 The mutants of a crate that are in different functions are applied together, and one check proves these functions only.
-That is sound because a function is proved from the contracts of what it calls, whatever their bodies are. So the number
-of checks is the largest number of mutants in one function or cycle of functions. Each check reuses what an earlier one
+That is sound because a function is proved from the contracts of what it calls, not from their bodies. So the number of
+checks is the largest number of mutants in one function or cycle of functions. Each check reuses what an earlier one
 kept of unchanged functions. A mutant of a definition is tried on its own.
 
 Prints for each mutant the function that is refused and the first goal that stays open, and in the last line
@@ -40,7 +40,7 @@ BLOCK = re.compile(r'( *)(?:unsafe )?(?:impl(?:<.*?>)?|(?:pub(?:\([a-z]+\))? )?t
 CYCLE = re.compile(r' *#\[cycle\((\w+)\)\]')
 # A line of the prover about a goal or an answer: its file, its line number and the message.
 SAID = re.compile(r'(?:note: )?(?:\./)?((?:src|specs|proofs)/\S+?):(\d+):\d+: (.*)')
-# Messages that a text can't be read, whatever the contracts say.
+# Messages that a text can't be read, which has nothing to do with contracts.
 UNREAD = re.compile(r'is not in scope|has no field|is no name|operand is missing|expected the end|cannot continue')
 # Messages about a proof that uses a name which the mutant removed, or that cites such a proof.
 NAMES = re.compile(r'has no field|is not in scope|has no `|was not admitted|declarations? that depends? on')

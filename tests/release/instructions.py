@@ -34,7 +34,7 @@ RUNNERS = {'aarch64-linux-gnu-gcc': ['qemu-aarch64', '-L', '/usr/aarch64-linux-g
 
 
 class Cases:
-    """Functions of two numbers, as text of the module, and calls with their expected results."""
+    """The text of functions of two numbers, and calls with their expected results."""
 
     def __init__(self):
         self.text, self.calls, self.count = [], [], 0
@@ -258,7 +258,7 @@ ret i64 3'''
 
 
 def as_llvm_writes(text):
-    """A constant's bytes as LLVM writes them: a backslash as two, and what isn't printed, or is a quote, as two hex digits."""
+    """A constant's bytes in LLVM's form: two backslashes for one, and two hex digits for a quote or an unprintable byte."""
     return ''.join('\\\\' if it == 92 else chr(it) if 32 <= it < 127 and it != 34 else f'\\{it:02X}' for it in text)
 
 

@@ -5,7 +5,8 @@
 
 PARTS is the segments as hex digits, separated by commas; for `framed-check` and `unframe`, the frame. `.` is a part without
 bytes, and `-` means no parts. WANTED is the expected answer: hex digits, or `-` for none; `yes`, `no` or `front`; numbers;
-or `!` and the name of a refusal. `front` means that a segment begins with canonical words, whatever comes after them.
+or `!` and the name of a refusal. `front` means that a segment begins with canonical words; anything may
+come after them.
 
 Leaves out the vectors of `frame`, which the library doesn't have, and those of arguments and lines that can't be read."""
 import collections

@@ -16,7 +16,7 @@ FULL = 2, 'refused WriteFailed: No space left on device (os error 28)\n'
 LEFT = 2, ''
 FOLDER = pathlib.Path(__file__).resolve().parent
 IS_FOLDER = 'message 1 at byte 0: refused ReadFailed: Is a directory (os error 21)\n'
-# The number of words of a message that is a list of bytes, none of which is zero.
+# The number of words of a message that is a list of bytes without a zero.
 WORDS = 1 << 17
 HELD, STEP, MOST = 1 << 21, 1 << 12, 1 << 26
 # The number of bytes that a run may take in addition to its requests, because the system needs some.

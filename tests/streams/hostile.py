@@ -15,7 +15,7 @@ from runs import without_reasons
 
 # The segments of each message, its canonical words, and its number of words without the root pointer and landing pads.
 SIX = (
-    # a struct of three data words, the last of which is zero
+    # a struct of three data words that ends in a zero word
     ('0000000003000000111111111111111100000000000000800000000000000000', '000000000200000011111111111111110000000000000080', 3),
     ('0000000000000000', '0000000000000000', 0),
     # a landing pad of two words

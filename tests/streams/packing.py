@@ -1,4 +1,4 @@
-"""Packs and unpacks bytes as the encoding specification describes it ("Packing"), independently of the crates."""
+"""Packs and unpacks bytes. Follows the encoding specification ("Packing"), and shares no code with the crates."""
 
 
 def words_of(data):
@@ -26,7 +26,7 @@ def packed(data, most=255):
 
 
 def unpacked(data):
-    """The unpacked bytes, as far as the packed ones go, and whether these end after a whole word or its run."""
+    """The unpacked bytes, and whether the packed ones end after a whole word or its run."""
     out, rest = bytearray(), iter(data)
     try:
         for tag in rest:

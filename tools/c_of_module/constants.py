@@ -1,4 +1,4 @@
-"""Compares the constants of an LLVM module with those of the C that was written of it.
+"""Compares the constants of an LLVM module with those of the C that was made from it.
 
     python3 tools/c_of_module/constants.py MODULE.ll FILE.c
 
@@ -47,7 +47,8 @@ def bytes_of_c(text):
 
 
 def of_module(text):
-    """Each constant of the module: its name, the number of elements, and these, as numbers or as names of other constants."""
+    """Each constant of the module: its name, the number of its elements, and the elements, each a number or the name of another
+    constant."""
     for name, count, kind, value in CONSTANT.findall(text):
         count = int(count)
         if value.startswith('c"'):
@@ -61,7 +62,7 @@ def of_module(text):
 
 
 def of_c(text):
-    """The same of the C file, with the names that it gives them."""
+    """The same for the C file, with the names there."""
     for _, name, count, value in STATIC.findall(text):
         if value.startswith('"'):
             yield name, int(count), bytes_of_c(value)

@@ -82,7 +82,7 @@ def suffix(kind):
 
 
 class Line:
-    """A line of the module, as tokens that are read in order."""
+    """The tokens of a line of the module, which are read in order."""
 
     def __init__(self, text):
         text = text.split(' ; ')[0]

@@ -21,7 +21,7 @@ fn outgrow<A: BuilderArena>(rt: &impl Abort, alloc: Global, arena: &mut A) {
     assert!(rt; arena.refused() == 0);
 }
 
-/// An arena uses the memory for its first segment, whatever it held.
+/// An arena uses the memory for its first segment and ignores what it held.
 fn use_once<'a>(
     rt: &impl Abort,
     alloc: Global,

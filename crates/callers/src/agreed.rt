@@ -11,7 +11,7 @@ ghost use Rattle.capnp_arena.specs.declared.arena.reader_arena_impl.ReaderOption
 ghost use Rattle.capnp_messages.specs.CanonicalMessages.{IsCanonicalMessage, IsCanonicalOf};
 ghost use Rattle.capnp_messages.specs.Messages.{IsValueOf};
 
-/// A message has at most one value, whatever the limits.
+/// A message has at most one value, with any limits.
 pub fn one_value()
     ensures { (S : Segments) (limits others : ReaderOptions) (t u : Tree) → IsValueOf S limits t
         → IsValueOf S others u → t ≡ u }

@@ -7,7 +7,7 @@ use Rattle.capnp_arena.specs.declared.arena.listed.Listed.{Listed}
 use Rattle.capnp_arena.specs.declared.arena.allocator.Segment.{Ghosts}
 
 module _ {S : Type 0} (g : Ghosts S) where
-  -- The rows with ws, as bytes, over the allocated words of row id, if there is one.
+  -- The rows, with the bytes ws over the allocated words of row id, if there is one.
   abbrev pub with_bytes_listed : Listed S g → ℕ → List ℕ → Listed S g
   with_bytes_listed v id ws =
       record v {

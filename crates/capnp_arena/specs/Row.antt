@@ -15,7 +15,7 @@ most_others false = 0
 most_others true = max_segments - 1
 
 module _ {S : Type 0} (g : Ghosts S) where
-  -- The allocated words of a row, as bytes.
+  -- The bytes of the allocated words of a row.
   abbrev pub allocated : Row S g → List ℕ
   allocated r = take (8 * r.used) (g.ready r.segment)
 
@@ -28,7 +28,7 @@ module _ {S : Type 0} (g : Ghosts S) where
   with_first false first others = []
   with_first true first others = first ∷ others
 
-  -- The allocated words of each segment, as bytes.
+  -- The bytes of the allocated words of each segment.
   abbrev pub shown : List (Row S g) → List (List ℕ)
   shown rows = map allocated rows
 
@@ -43,7 +43,7 @@ module _ {S : Type 0} (g : Ghosts S) where
     pub room_there : capacity_at new (length old) ≡ length (g.content segment) / 8
     pub room_below : (k : ℕ) → k < length old → capacity_at new k ≡ capacity_at old k
 
-  -- The row with ws, as bytes, over its allocated words.
+  -- The row with the bytes ws over its allocated words.
   abbrev pub with_allocated : Row S g → List ℕ → Row S g
   with_allocated r ws =
       record r {
@@ -51,7 +51,7 @@ module _ {S : Type 0} (g : Ghosts S) where
         clear = clear_behind g r ws;
       }
 
-  -- The rows with ws, as bytes, over the allocated words of row id, if there is one.
+  -- The rows, with the bytes ws over the allocated words of row id, if there is one.
   abbrev pub with_found : Vec (Row S g) → ℕ → List ℕ → Option (Row S g) → Vec (Row S g)
   with_found v id ws (Some r) = with_item v id (with_allocated r ws)
   with_found v id ws None = v

@@ -10,7 +10,7 @@ module _ {S : Type 0} (g : Ghosts S) where
   abbrev pub all : Rows S g → List (Row S g)
   all b = with_first g b.there b.first b.others.items
 
-  -- The rows with ws, as bytes, over the allocated words of row id, if there is one.
+  -- The rows, with the bytes ws over the allocated words of row id, if there is one.
   abbrev pub with_bytes_apart : Rows S g → ℕ → List ℕ → Rows S g
   with_bytes_apart b zero ws = record b { first = with_allocated g b.first ws }
   with_bytes_apart b (suc k) ws =

@@ -2,7 +2,7 @@
 use Rattle.std.specs.Prelude.{ℕ, List, All, length, take, slice_get, Some, ◌≡◌, ◌*◌, ◌/◌, ◌^◌, ◌<◌}
 use Rattle.std.specs.Borrow.{Bor}
 
--- The whole words of a segment, as bytes.
+-- The bytes of the whole words of a segment.
 abbrev pub whole : List ℕ → List ℕ
 whole bytes = take (8 * (length bytes / 8)) bytes
 

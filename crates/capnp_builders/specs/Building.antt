@@ -103,7 +103,7 @@ calling view b b' = call_at b.segment b.at (view b.arena.now) (view b'.arena.now
 abbrev pub calling_last : {A : Type 0} → (A → View) → PointerBuilder A → A → CallAt
 calling_last view b now = call_at b.segment b.at (view b.arena.now) (view now)
 
--- P holds for the value that is stored at the place, whatever it is.
+-- P holds for every value that is stored at the place.
 abbrev pub OfStored : Building → (Tree → Type 0) → Type 0
 OfStored b P = (t : Tree) → IsStored b.segments b.segment b.at t → P t
 
@@ -114,9 +114,9 @@ GivesStruct now place b = (b.arena.now ≡ now) × (b.place ≡ place)
 abbrev pub GivesList : {A : Type 0} → A → ListPlace → ListBuilder A → Type 0
 GivesList now place b = (b.arena.now ≡ now) × (b.place ≡ place)
 
--- The result of a call on a builder satisfies P for the value that is stored there, whatever it is,
--- and the call changes only words and the room of new segments; if it is refused, also the count of
--- refused requests.
+-- The result of a call on a builder satisfies P for every value that is stored there, and the call
+-- changes only words and the room of new segments; if it is refused, also the count of refused
+-- requests.
 pub record FindsStored {A C : Type 0} (view : A → View)
     (P : Result C ErrorKind → CallAt → Tree → Type 0) (b : PointerBuilder A) (now : A)
     (result : Result C ErrorKind) : Type 0 where

@@ -70,7 +70,8 @@ up_to n (tree t ts) = tree t (up_to (pred n) ts)
 
 module _ {A : Type 0} (g : Ghosts A) where
   -- From old to new the data of the struct that `value` reads is copied to the data section of a
-  -- struct, as far as both reach, followed by zeros. Then the pointers of that struct become null.
+  -- struct, up to the end of the shorter one, followed by zeros. Then the pointers of that struct
+  -- become null.
   pub record TakesData (value : StructReader A g) (place : StructPlace) (old new : View) : Type 0 where
     pub cleared : TakesBytes old.words new.words place value.bits value.content.now
     pub null : (i : ℕ) → i < place.pointers → word_at new.words place.segment (place.pointers_at + i) ≡ 0

@@ -1,4 +1,4 @@
--- Elements of a list of a message being built, as numbers ("Lists").
+-- The elements of a list of a message being built, read as numbers ("Lists").
 use Rattle.std.specs.Prelude.{ℕ, ◌*◌}
 use Rattle.capnp_readers.specs.Sections.{step_bits}
 use Rattle.capnp_readers.specs.declared.readers.list_reader.ListPlace.{ListPlace}

@@ -91,7 +91,7 @@ impl<'a, A: BuilderArena> PointerBuilder<'a, A> {
         }
     }
 
-    /// A builder of this pointer, as long as this one is borrowed.
+    /// A builder of this pointer, which borrows this one.
     pub fn reborrow(&mut self) -> PointerBuilder<'_, A>
         ensures* lends { sem 𝓛 (follows (the_row (record { mir = named 1; lft = [] }) A.row) A.row
             self.entry.ghost_name result.arena.ghost_name

@@ -11,7 +11,7 @@ IsTextOf {X} number_of text_of number text =
 abbrev pub fitting : List ℕ → ℕ → ℕ
 fitting text room = min (length text) (room - 1)
 
--- The text is written over the front of the bytes, as far as there is room, with a zero after it.
+-- The text is written over the front of the bytes, cut to the room, with a zero after it.
 abbrev pub PutsText : List ℕ → List ℕ → List ℕ → Type 0
 PutsText text old new =
     let n = fitting text (length old) in

@@ -1,4 +1,4 @@
-//! The fault of a message that isn't canonical, as C sees it.
+//! The fault of a message that isn't canonical, in the form for C.
 ghost use Rattle.std.specs.Prelude.{◌≡◌, IfSome, IsNone};
 ghost use Rattle.capnp_canonical.specs.Calls.{no_fault, told_fault};
 ghost use Rattle.capnp_canonical.specs.Numbers.{reason_number};

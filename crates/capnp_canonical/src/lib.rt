@@ -448,7 +448,7 @@ pub extern "C" fn capnp_canonical_unpack(packed: &[u8], to: &mut [u8], written: 
     }
 }
 
-/// Writes the name of a refusal and a terminating zero byte, as far as they fit, and returns the
+/// Writes the name of a refusal and a terminating zero byte, cut to the room, and returns the
 /// name's length in bytes; 0 if no refusal has this number.
 #[unsafe(no_mangle)]
 pub extern "C" fn capnp_canonical_name(answer: u32, to: &mut [u8]) -> usize

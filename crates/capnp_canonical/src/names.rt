@@ -114,8 +114,8 @@ pub fn text_of_reason(number: u32) -> &'static str
     }
 }
 
-/// Writes `text` and a terminating zero byte to the front of `to`, as far as they fit, and returns
-/// the length of `text` in bytes. The rest of `to` is unchanged.
+/// Writes `text` and a terminating zero byte to the front of `to`, cut to the room, and returns the
+/// length of `text` in bytes. The rest of `to` is unchanged.
 pub fn put_text(text: &str, to: &mut [u8]) -> usize
     ensures length { result ≡ length text.now }
     ensures text { PutsText text.now to.old to.new }

@@ -49,7 +49,7 @@ pub record Original (V : Type 0) : Type 1 where
   -- its copy takes until then.
   pub takes_until : Form → Meter → Meter → (ℕ → ℕ → Type 0) → Type 0
 
--- What a place means, none of which was read before. Its copy takes what reading it costs, and a
+-- What a place means. Nothing of it was read before. Its copy takes what reading it costs, and a
 -- pad for each pointer that is followed.
 abbrev pub value_original : Reading → Original Tree
 value_original r = record {
@@ -64,7 +64,7 @@ value_original r = record {
       P (spent_until x).words (spent_until x).pointers;
 }
 
--- What n consecutive pointers from a place on mean, none of which was read before.
+-- What n consecutive pointers from a place on mean. Nothing of it was read before.
 abbrev pub children_original : Reading → ℕ → Original Trees
 children_original r n = record {
   reads = λ form m m' ts. (count ts ≡ n) × ReadsAll form r m m' ts;

@@ -1,5 +1,5 @@
-//! Edits: changes of a message being built, as data. Each has a path from the root pointer, and an
-//! operation at the end of the path.
+//! Edits: data that describes changes of a message being built. Each has a path from the root
+//! pointer, and an operation at the end of the path.
 ghost use Rattle.std.specs.Prelude.{◌≡◌, length};
 ghost use Rattle.capnp_edits.specs.Edits.{refusal_of, IsApplied, TakesAll};
 ghost use Rattle.capnp_edits.specs.Steps.{IsStep, AreSteps};

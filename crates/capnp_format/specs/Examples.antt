@@ -17,7 +17,7 @@ HasCanonicalWords S n c words = (t : Tree) × Means S n 0 0 t c × (encoding (tr
 abbrev pub MeansNothing : Segments → ℕ → Type 0
 MeansNothing S n = (t : Tree) (c : ℕ) → Means S n 0 0 t c → ⊥
 
--- A struct of three data words, the last of which is zero.
+-- A struct of three data words, with zero as the last one.
 abbrev pub trimmed_struct : Segments
 trimmed_struct =
     (0x00000003_00000000 ∷ 0x11111111_11111111 ∷ 0x80000000_00000000 ∷ 0x00000000_00000000 ∷ [])

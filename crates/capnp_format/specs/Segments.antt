@@ -1,7 +1,7 @@
 -- Messages, and where a pointer word leads ("Messages", "Inter-Segment Pointers"). A message is a
 -- list of segments, and a segment a list of words. A place (s, p) is a segment's number s and a
 -- word position p in it. All functions here are total: a missing segment has no words, a missing
--- word is 0, and for a pointer that leads nowhere the result is None.
+-- word is 0, and the result for a pointer that leads nowhere is None.
 use Rattle.std.specs.Prelude.{◌≡◌, ℕ, ◌+◌, ◌-◌, ◌<◌, ◌≤◌, ◌^◌, zero, suc, Bool, if◌then◌else◌, ◌&&◌}
 use Rattle.std.specs.Prelude.{List, [], length, get_or, take, drop, nat_lt, nat_le, nat_eq, Option}
 use Rattle.std.specs.Prelude.{Some, None}

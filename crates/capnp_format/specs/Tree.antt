@@ -1,4 +1,4 @@
--- The values that a message can hold, as trees. A value doesn't say where its objects are, in how
+-- The trees of values that a message can hold. A value doesn't say where its objects are, in how
 -- many segments, or by which kind of pointer they are reached. It does say how long its data and
 -- pointer sections are, until it is trimmed ("Canonicalization").
 use Rattle.std.specs.Prelude.{◌≡◌, ◌⊎◌, ℕ, zero, suc, ◌+◌, max, List, [], ⊤}

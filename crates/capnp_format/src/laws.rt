@@ -18,7 +18,7 @@ ghost use Rattle.capnp_format.specs.Forest.{times, cover, ArenaHolds};
 
 pub use examples::worked_examples;
 
-/// A place of a message has at most one value and one cost, whatever the nesting limit.
+/// A place of a message has at most one value and one cost, with any nesting limit.
 #[tactic(auto, using(crate::proofs::Levels::one_value))]
 pub fn one_meaning()
     ensures { (S : Segments) (n m s p : ℕ) (t u : Tree) (c e : ℕ) → Means S n s p t c
@@ -57,7 +57,7 @@ pub fn body_length()
     ensures { (t : Tree) → IsValue t → length (body t) ≡ word_count t }
 {}
 
-/// The canonical words of a value mean that value, whatever follows them, at the value's least
+/// The canonical words of a value mean that value, with anything after them, at the value's least
 /// cost; and do so at any place, in any segment in which the head is a position or the end.
 #[tactic(auto, using(crate::proofs::LawLemmas::canonical_words_mean, crate::proofs::Unique::stands_means))]
 pub fn canonical_words_mean()
@@ -133,8 +133,8 @@ pub fn trimming()
         × (capabilities (trim t) ≡ capabilities t) }
 {}
 
-/// Reading canonical words, whatever follows them, and making them canonical again results in the
-/// same words.
+/// Reading canonical words, with anything after them, and making them canonical again results in
+/// the same words.
 #[tactic(auto, using(crate::proofs::LawLemmas::canonical_again))]
 pub fn canonical_again()
     ensures { (t u : Tree) (more : List ℕ) (n c : ℕ) → IsValue t → IsEncodable (trim t)
@@ -181,7 +181,7 @@ pub fn tested_is_copied()
 {}
 
 /// If a value is read within n levels at a cost of c, what a canonical copy writes of it is found
-/// canonical, whatever follows it, at no more cost and within no more levels (`found`); and a
+/// canonical, with anything after it, at no more cost and within no more levels (`found`); and a
 /// canonical copy of that is the same words, of a value without capabilities (`again`).
 #[tactic(auto, using(crate::proofs::Agreements::copied_again))]
 pub fn copied_is_tested()

@@ -27,7 +27,7 @@ pub fn written_frames()
     ensures same { (S R : Segments) → CanBeFramed S → CanBeFramed R → frame S ≡ frame R → S ≡ R }
 {}
 
-/// A frame of no more words than allowed is never refused for its contents, whatever follows it.
+/// A frame of no more words than allowed is never refused for its contents, with anything after it.
 pub fn frame_is_read()
     ensures { (S : Segments) (bytes rest : List ℕ) (most : ℕ) (e : FrameError) → IsFrameOf S bytes
         → total S ≤ most → NoFrame (bytes ++ rest) most e → ⊥ }

@@ -19,7 +19,7 @@ use Rattle.capnp_pointers.specs.Checking.{progress, TestStops}
 use Rattle.capnp_messages.specs.Roots.{CoversRoot}
 use Rattle.capnp_messages.specs.Messages.{RefusesAt, RefusesCanon, RefusesSize, left_of, root_within}
 
--- The bytes of a word, the lowest first, as lower case hex digits.
+-- The lower case hex digits of a word's bytes, the lowest byte first.
 abbrev pub word_digits : ℕ → List ℕ
 word_digits w = encode_lower (to_le_bytes w64 w)
 

@@ -1,5 +1,5 @@
--- What each command answers to the lines of its input, as bytes, and why it refuses them. A line is
--- a segment, or holds a frame.
+-- The bytes with which each command answers the lines of its input, and why it refuses them. A line
+-- is a segment, or holds a frame.
 use Rattle.std.specs.Prelude.{◌≡◌, ◌⊎◌, ◌↔◌, ℕ, ◌-◌, ◌^◌, ◌≤◌, List, [], ◌∷◌, ◌++◌, Bool, true}
 use Rattle.std.specs.Prelude.{false, IsTrue, codes, length, ⊤}
 use Rattle.hex.specs.Hex.{encode_lower}

@@ -1,4 +1,4 @@
--- The segments that the program's input holds: one line for each, as pairs of hex digits in either
+-- The segments that the program's input holds: one line for each, in pairs of hex digits in either
 -- case.
 use Rattle.std.specs.Prelude.{ℕ, List, [], ◌∷◌, if◌then◌else◌, ◌==◌, Option, Some, None, Result, Ok, Err}
 use Rattle.hex.specs.Hex.{decode_of}
@@ -26,6 +26,6 @@ unfoldable pub segments_of_lines : List (List ℕ) → Option (List (List ℕ))
 segments_of_lines [] = Some []
 segments_of_lines (line ∷ lines) = onto_segments (decode_of line) (segments_of_lines lines)
 
--- The segments that a text holds, as bytes.
+-- The bytes of the segments that a text holds.
 abbrev pub segments_of : List ℕ → Option (List (List ℕ))
 segments_of text = segments_of_lines (lines_of text)

@@ -32,7 +32,7 @@ pub record IsReplaced (S R : Segments) (s p : ℕ) (t u : Tree) : Type 0 where
 abbrev pub Puts : Segments → Segments → ℕ → ℕ → Tree → Type 0
 Puts S R s p u = (t : Tree) → IsStored S s p t → IsReplaced S R s p t u
 
--- From S to R, words are zeroed first, and then u replaces null at (s, p), whatever that stores in
--- S.
+-- From S to R, words are zeroed first, and then u replaces null at (s, p). Nothing is said about
+-- what (s, p) stores in S.
 abbrev pub PutsOnceZeroed : Segments → Segments → ℕ → ℕ → Tree → Type 0
 PutsOnceZeroed S R s p u = (M : Segments) × IsPruned S M × IsReplaced M R s p Null u

@@ -61,8 +61,8 @@ pub fn pointer_to(shape: Shape, position: u32, target: u32) -> WirePointer
     }
 }
 
-/// Makes an object of `amount` words, all zero, and sets the pointer at a place to it, whatever
-/// that held.
+/// Makes an object of `amount` words, all zero, and overwrites the pointer at a place to lead to
+/// it.
 ///
 /// Refuses like `allocate_anywhere` for one word more than the object has, and changes nothing but
 /// `refused` then.
@@ -106,7 +106,7 @@ fn put_object<A: BuilderArena>(
 }
 
 /// Makes an object of `amount` words, all zero, after a landing pad, where the arena finds room for
-/// both, and sets the pointer at a place to it, whatever that held.
+/// both, and overwrites the pointer at a place to lead to it.
 ///
 /// Refuses like `allocate_anywhere` for one word more than the object has, and changes nothing but
 /// `refused` then.
@@ -150,7 +150,7 @@ pub fn clear<A: BuilderArena>(arena: &mut A, id: u32, at: u32)
     zero_object(arena, id, at);
 }
 
-/// Makes a struct, all zero, and sets the pointer at a place to it, whatever that held. One without
+/// Makes a struct, all zero, and overwrites the pointer at a place to lead to it. One without
 /// sections takes no words.
 ///
 /// Refuses if memory runs out, or with `MessageTooLarge`, and changes nothing but `refused` then.
@@ -189,8 +189,8 @@ pub fn make_struct<A: BuilderArena>(
     put_object(arena, id, at, Shape::Struct(size), words)
 }
 
-/// Makes a list of elements that aren't structs, all zero or null, and sets the pointer at a place
-/// to it, whatever that held.
+/// Makes a list of elements that aren't structs, all zero or null, and overwrites the pointer at a
+/// place to lead to it.
 ///
 /// Refuses if memory runs out, or with `MessageTooLarge`, and changes nothing but `refused` then.
 #[inline(always)]
@@ -237,8 +237,8 @@ fn words_of_list(size: ElementSize, count: u32) -> u32
     (u64::from(data_bits_per_element(size)) * u64::from(count)).div_ceil(64) as u32
 }
 
-/// Makes a list of structs, all zero, and sets the pointer at a place to it, whatever that held.
-/// Its first word is the tag.
+/// Makes a list of structs, all zero, and overwrites the pointer at a place to lead to it. Its
+/// first word is the tag.
 ///
 /// Refuses if memory runs out, or with `MessageTooLarge`, and changes nothing but `refused` then.
 pub fn make_struct_list<A: BuilderArena>(

@@ -59,8 +59,8 @@ pub fn few_followed()
         → m'.followed ≤ m.followed + (x + 1) }
 {}
 
-/// If a place means a value, its size is that of this value, whatever the levels of either; and
-/// there are no more canonical words after its pointer than the size counts.
+/// If a place means a value, its size is that of this value, for any levels of either; and there
+/// are no more canonical words after its pointer than the size counts.
 pub fn size_of_value()
     ensures size { (r : Reading) (n : ℕ) (m m' : Meter) (words caps : ℕ) (t : Tree) (c : ℕ)
         → WalksPlace r (tally 0 0 m) (tally words caps m')

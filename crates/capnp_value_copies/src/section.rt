@@ -1,5 +1,5 @@
-//! The data section of a struct being read, as words. It may end inside a word, and inside a byte
-//! ("Structs").
+//! The words of the data section of a struct being read. It may end inside a word, and inside a
+//! byte ("Structs").
 ghost use Rattle.std.specs.Prelude.{◌≡◌, ◌+◌, ◌*◌, ◌/◌, ◌%◌, ◌^◌, ◌≤◌, length, take, drop};
 ghost use Rattle.capnp_format.specs.Numbers.{from_digits};
 ghost use Rattle.capnp_format.specs.Segments.{segment};

@@ -45,7 +45,7 @@ pub record OnlyWrites (old new : View) : Type 0 where
   pub segments : length new.words ≡ length old.words
   pub words : (x : ℕ) → length (segment new.words x) ≡ length (segment old.words x)
 
--- The pointers of S are rewritten, as these words of R.
+-- The pointers of S are rewritten to these words of R.
 abbrev pub AreWrittenAnew : Segments → Segments → List Move → Type 0
 AreWrittenAnew S R [] = ⊤
 AreWrittenAnew S R (m ∷ ms) =

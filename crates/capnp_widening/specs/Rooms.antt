@@ -35,15 +35,15 @@ pub record TakesPad {A : Type 0} (result : Result A ErrorKind) (old new : View) 
   pub longer : Grows old.words new.words
   pub few : GrowsByAtMost old.words new.words 2
 
--- There is room for landing pads of n objects in segment k: one word each in that segment, as long
--- as it has room, and for the others two words each in another one.
+-- There is room for landing pads of n objects in segment k: one word each in that segment while it
+-- has room, and for the others two words each in another one.
 abbrev pub HasPadRoom : View → ℕ → ℕ → Type 0
 HasPadRoom v k n = (j : ℕ) × (j < length v.words) × (j ≢ k)
     × HasOwnRoom v j (2 * (n - (v.room k - length (segment v.words k))))
 
 -- There is room for an object of m words, whose pointer is in segment s, and for landing pads of n
--- objects in segment k: one word each in that segment, as long as it has room, and for the others
--- two words each, next to the object.
+-- objects in segment k: one word each in that segment while it has room, and for the others two
+-- words each, next to the object.
 abbrev pub HasRoomAndPads : View → ℕ → ℕ → ℕ → ℕ → Type 0
 HasRoomAndPads v s m k n = HasRoom v s (m + 2 * (n - (v.room k - length (segment v.words k))))
 

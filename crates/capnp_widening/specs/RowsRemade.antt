@@ -1,4 +1,4 @@
--- Lists of structs made of the elements of other lists, as rows of words ("Lists").
+-- Lists of structs made of the elements of other lists: rows of words ("Lists").
 use Rattle.std.specs.Prelude.{◌≡◌, ◌≢◌, ◌⊎◌, ℕ, zero, suc, ◌+◌, ◌-◌, ◌*◌, ◌^◌, ◌<◌, ◌≤◌, Option, Some, None}
 use Rattle.std.specs.Prelude.{IfErr, IfOk, IsOk, Ok, Err, List, OnErr, OnOk, Result, [], ◌∷◌, length}
 use Rattle.capnp_words.specs.Sizes.{size_number}
@@ -223,8 +223,8 @@ RefusesWider Stands size old new k =
     ((new ≡ old) × ((t : Tree) → Stands t → list_widened size.data_words size.pointers t ≡ Err k))
     ⊎ RefusesToBecome Stands (list_widened size.data_words size.pointers) old new k
 
--- The call makes a new list of the one at its place, as structs of this size made of its elements;
--- or it is refused, and the list stays.
+-- The call makes a new list at its place: structs of this size, made of the elements of the old
+-- list. Or it is refused, and the list stays.
 pub record MakesListAnew (result : Result ExistingList ErrorKind) (Stands : Tree → Type 0)
     (size : StructSize) (c : CallAt) : Type 0 where
   pub remade : IfOk result (λ l. (t : Tree) → Stands t → BecomesList c l t (as_structs size t))
@@ -233,8 +233,8 @@ pub record MakesListAnew (result : Result ExistingList ErrorKind) (Stands : Tree
   pub memory : IfErr result (SpendsMemory c.old c.new)
   pub refused : OnErr result ((t : Tree) → Stands t → GrowsByZeros c.old.words c.new.words)
 
--- The call makes a new list of the list of these elements at its place, as structs of this size. It
--- takes at most the words of the structs, their tag, a pad, and two words for each pointer.
+-- The call makes a new list at its place: structs of this size, made of these elements. It takes at
+-- most the words of the structs, their tag, a pad, and two words for each pointer.
 pub record RemakesRows (result : Result ExistingList ErrorKind) (rows : ElementRows)
     (size : StructSize) (c : CallAt) : Type 0 where
   pub made : MakesListAnew result (StoresRows c.old.words c.segment c.at rows) size c
@@ -249,9 +249,9 @@ RefusesStructs Stands size c k =
     ((c.new ≡ c.old) × ((t : Tree) → Stands t → ⊥))
     ⊎ RefusesToBecome Stands (λ t. Ok (as_structs size t)) c.old c.new k
 
--- The call makes a new list of the one at its place, as structs of this size made of its elements;
--- or it is refused, which never happens if there is room, and the list stays. It takes at most the
--- words of the new list, a pad, and two words for each pointer of the old one.
+-- The call makes a new list at its place: structs of this size, made of the elements of the old
+-- list. Or it is refused, which never happens if there is room, and the list stays. It takes at
+-- most the words of the new list, a pad, and two words for each pointer of the old one.
 pub record MakesListOfStructs (result : Result ExistingList ErrorKind) (Stands : Tree → Type 0)
     (size : StructSize) (c : CallAt) : Type 0 where
   pub made : MakesListAnew result Stands size c

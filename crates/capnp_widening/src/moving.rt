@@ -80,7 +80,7 @@ fn shape_of(word: WirePointer) -> Shape
     }
 }
 
-/// Writes a pointer at a place to the object at another one, whatever the place held.
+/// Overwrites the pointer at a place to lead to the object at another place.
 #[inline(always)]
 fn point_to<A: BuilderArena>(
     arena: &mut A,

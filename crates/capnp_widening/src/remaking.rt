@@ -22,7 +22,7 @@ use capnp_making::zeroing::{zero_pads, zero_part};
 use capnp_words::error::ErrorKind;
 use capnp_words::wire_pointer::{ElementSize, StructSize, WirePointer};
 
-/// The elements of a list, as rows of whole words.
+/// The elements of a list in rows of whole words.
 #[derive(Clone, Copy)]
 pub struct ElementRows {
     /// The segment of the list.

@@ -1,4 +1,4 @@
-//! Pointer words: their bits, as laid out in the encoding specification's sections "Structs",
+//! Pointer words: their bits, in the layout of the encoding specification's sections "Structs",
 //! "Lists", "Inter-Segment Pointers" and "Capabilities (Interfaces)".
 ghost use Rattle.std.specs.Prelude.{◌≡◌, ◌<◌, ◌≤◌, ◌+◌, ◌*◌, ◌-◌, ◌^◌, ◌↔◌, ◌+ℤ◌, pos, IsTrue};
 ghost use Rattle.capnp_format.specs.Canonical.{offset_to, Reaches};

@@ -13,7 +13,7 @@ use capnp_layout::read_limiter::ReadLimiter;
 use std::process::Abort;
 use test_support::{arena_of, bytes_of};
 
-/// A struct of three words, the last of which is zero, followed by a word.
+/// A struct of three words that ends in a zero word, followed by a word.
 const LONG: &str = "0000000003000000 1111111111111111 0000000000000080 0000000000000000";
 
 /// The canonical words of the same value.

@@ -1,4 +1,4 @@
--- Where a pointer leads, as the program represents it.
+-- The program's form of where a pointer leads.
 use Rattle.capnp_format.specs.Segments.{Target}
 use Rattle.layout_vectors.specs.declared.vectors.landing.PointerTarget.{PointerTarget}
 

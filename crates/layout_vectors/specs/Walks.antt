@@ -27,8 +27,8 @@ pub record Proceeds (w v : Walk) : Type 0 where
   pub keeps : KeepsRows w.marks v.marks
   pub fewer : free v.marks + length v.pending ≤ free w.marks + length w.pending
 
--- The step from w to v marks the object at the target a: counting with the object in w gives the
--- same as counting without it in v.
+-- The step from w to v marks the object at the target a: counting with the object in w has the same
+-- result as counting without it in v.
 pub record TakesTarget (S : Segments) (a : Target) (w v : Walk) : Type 0 where
   pub proceeds : Proceeds w v
   pub same : (F : Counting) → ObjectCounts S a (word_at w.marks) w.pending F
@@ -43,8 +43,8 @@ abbrev pub TakesObject : Segments → Target → Walk → Walk → Bool → Type
 TakesObject S a w v true = TakesTarget S a w v
 TakesObject S a w v false = HasNoObject S a w
 
--- The step from w to v takes what the pointer at j leads to: counting with j pending in w gives the
--- same as counting without it in v.
+-- The step from w to v takes what the pointer at j leads to: counting with j pending in w has the
+-- same result as counting without it in v.
 pub record Goes (S : Segments) (j : Spot) (w v : Walk) : Type 0 where
   pub proceeds : Proceeds w v
   pub same : (F : Counting) → Counts S (word_at w.marks) (j ∷ w.pending) F

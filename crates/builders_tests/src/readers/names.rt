@@ -56,7 +56,7 @@ fn fields_of_a_list(rt: HostRuntime) {
     assert!(rt; struct_size.total() == 2 && count == 1 && nesting_limit == 63);
 }
 
-/// Readers are copied, whatever their arena; a null arena isn't.
+/// Readers of every arena can be copied; a null arena can't.
 #[test]
 fn readers_are_copied(rt: HostRuntime) {
     let arena = arena(&rt, rt.alloc(), STRUCTS);

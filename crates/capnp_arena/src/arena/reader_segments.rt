@@ -2,7 +2,7 @@
 ghost use Rattle.std.specs.Prelude.{◌≡◌, ◌<◌, ◌↔◌, ℕ, List, length, map, IsTrue, IsSome, IfSome, Some, slice_get};
 ghost use Rattle.capnp_arena_traits.specs.Limits.{AreSmall, IsSmall};
 
-/// The segments of a message, as bytes. Section "Messages" of the encoding specification.
+/// The segments of a message in bytes. Section "Messages" of the encoding specification.
 pub trait ReaderSegments {
     // The bytes of each segment, including those after its last whole word.
     ghost segments: { Self → List (List ℕ) };

@@ -146,7 +146,7 @@ impl<'a> ZeroBytes<'a> {
         (self.bytes.len() / 8).min(MAX_SEGMENT_WORDS as usize) as u32
     }
 
-    /// The words of the segment, as bytes.
+    /// The bytes of the segment's words.
     fn into_words(self) -> &'a mut [u8]
         ensures fresh { IsFresh 0 result.now }
         ensures words { length result.now / 8 ≡ min (self.entry / 8) max_segment_words }

@@ -25,16 +25,16 @@ pub trait BuilderArena: ReaderArena + sealed::Closed {
     // The arena with other bytes in the allocated words of a segment.
     ghost with_bytes: { Self → ℕ → List ℕ → Self };
 
-    /// Lends the allocated words of segment `id`, as bytes, for writing. Whatever is written, the
-    /// words after them stay zero.
+    /// Lends the bytes of the allocated words of segment `id` for writing. The words after them
+    /// stay zero.
     fn segment_mut(&mut self, id: u32) -> &mut [u8]
         requires { id < length (Self.segments self.old) }
         ensures* lends { sem 𝓛 (Lends Self.row (Array byte 0) self.entry result
             (with_bytes self.old id)) }
         ensures bytes { slice_get (Self.segments self.old) id ≡ Some result.now };
 
-    /// Lends the allocated words of segment `id`, as bytes, for writing; returns `None` exactly if
-    /// `id` isn't below the number of segments, and leaves the arena unchanged then.
+    /// Lends the bytes of the allocated words of segment `id` for writing; returns `None` exactly
+    /// if `id` isn't below the number of segments, and leaves the arena unchanged then.
     ///
     /// No clause states what the arena is afterwards; only test cases show it. `segment_mut` lends
     /// the same bytes of a segment that exists, and its contract states exactly what the arena is
@@ -139,7 +139,7 @@ pub trait BuilderArena: ReaderArena + sealed::Closed {
     // A segment has room for fewer than 2^29 words.
     ghost small: { (a : Self) (id : ℕ) → (view a).room id < 2 ^ 29 };
 
-    // With other bytes, as many as before: that segment has them, and the others are unchanged.
+    // With the same number of other bytes: that segment has them, and the others are unchanged.
     ghost with_bytes_segments: { (a : Self) (id : ℕ) (old ws : List ℕ) → slice_get (Self.ReaderArena.segments a) id ≡ Some old → length ws ≡ length old → Self.ReaderArena.segments (with_bytes a id ws) ≡ slice_set (Self.ReaderArena.segments a) id ws };
 
     // Nothing else changes.

@@ -14,7 +14,7 @@ use capnp_words::read_limiter::ReadLimiter;
 /// what reading costs. Sections "Messages", "Inter-Segment Pointers" and "Security Considerations"
 /// of the encoding specification.
 pub trait ReaderArena {
-    // The whole words of each segment, as bytes.
+    // The bytes of the whole words of each segment.
     ghost segments: { Self → List (List ℕ) };
 
     ghost nesting: { Self → ℤ };
@@ -28,8 +28,7 @@ pub trait ReaderArena {
     // The refusal names the number, or says that there is no segment at all.
     ghost absent_named: { (a : Self) (id : ℕ) → IsUnknown (segments a) id (absent a id) };
 
-    /// The whole words of segment `id`, as bytes, fewer than 2^35 of them. Segments are numbered
-    /// from 0.
+    /// The bytes of the whole words of segment `id`, fewer than 2^35. Segments are numbered from 0.
     ///
     /// Refuses with `InvalidSegmentId(id)` if no segment has this number. Only an arena without any
     /// segment may refuse with `TriedToReadFromNullArena` instead, as `NullArena` does.

@@ -102,7 +102,7 @@ impl<'a, A: BuilderArena> PointerBuilder<'a, A> {
     /// as `size` ("Structs"). A struct that is large enough is returned unchanged. If a section is
     /// too small, the struct is moved to new words, each section as large as the greater of old and
     /// wanted: its data and its children are the same, followed by zeros and nulls. A null pointer
-    /// becomes the default's value, as with `put_default`, or a struct of exactly that size, all
+    /// becomes the default's value, like with `put_default`, or a struct of exactly that size, all
     /// zero.
     ///
     /// Refusals: `MessageContainsNonStructPointerWhereStructPointerWasExpected` if it isn't a
@@ -173,7 +173,7 @@ impl<'a, A: BuilderArena> PointerBuilder<'a, A> {
     /// A list that is large enough is returned unchanged. Any other list is moved to new words as a
     /// list of structs: with sections as large as the greater of old and wanted; from void, of
     /// exactly the wanted size; a number as the lowest bits of a first data word; a pointer as a
-    /// first pointer. A null pointer becomes the default's value, as with `put_default`; if it
+    /// first pointer. A null pointer becomes the default's value, like with `put_default`; if it
     /// stays null, returns a void list without elements, and changes nothing.
     ///
     /// Refusals: `ExistingPointerIsNotAList` if it isn't a list;
@@ -219,7 +219,7 @@ impl<'a, A: BuilderArena> PointerBuilder<'a, A> {
     }
 
     /// Returns the list that the pointer leads to, with elements of the expected size or wider;
-    /// never changes it. A null pointer becomes the default's value, as with `put_default`; if it
+    /// never changes it. A null pointer becomes the default's value, like with `put_default`; if it
     /// stays null, returns a void list without elements.
     ///
     /// Refusals: `ExistingPointerIsNotAList` if it isn't a list;
@@ -260,7 +260,7 @@ impl<'a, A: BuilderArena> PointerBuilder<'a, A> {
     }
 
     /// Lends the data that the pointer leads to, for writing in place ("Lists"). A null pointer
-    /// becomes the default's value, as with `put_default`; without a default, lends no bytes.
+    /// becomes the default's value, like with `put_default`; without a default, lends no bytes.
     ///
     /// Refusals: `ExistingPointerIsNotAList` if it isn't a list, or the default's first word is
     /// null; `ExistingListPointerIsNotByteSized` if the elements aren't bytes; those of
@@ -291,8 +291,8 @@ impl<'a, A: BuilderArena> PointerBuilder<'a, A> {
     }
 
     /// Lends the text that the pointer leads to, without the zero byte after it, for writing in
-    /// place ("Lists"). A null pointer becomes the default's value, as with `put_default`; without
-    /// a default, lends no bytes.
+    /// place ("Lists"). A null pointer becomes the default's value, like with `put_default`;
+    /// without a default, lends no bytes.
     ///
     /// Refuses what isn't data like `get_data`, and bytes that don't end in a zero byte with
     /// `TextBlobMissingNULTerminator`. `find_text` and `bytes_mut` do the same in two steps, and
@@ -306,7 +306,7 @@ impl<'a, A: BuilderArena> PointerBuilder<'a, A> {
         Ok(self.into_bytes(bytes))
     }
 
-    /// Lends bytes of the message, for writing in place, as long as its arena is borrowed.
+    /// Lends bytes of the message for writing in place, while its arena is borrowed.
     #[inline(always)]
     fn into_bytes(self, bytes: ExistingBytes) -> &'a mut [u8]
         requires { BytesLieIn (A.view self.arena.now).words bytes }

@@ -103,7 +103,7 @@ impl<'a, A: BuilderArena> ListBuilder<'a, A> {
     ghost use Rattle.capnp_builders.specs.contracts.builders.list_builder.ListBuilder.{the_row};
     ghost use mir.Syntax.{named};
 
-    /// A builder of this list, as long as this one is borrowed.
+    /// A builder of this list, which borrows this one.
     pub fn reborrow(&mut self) -> ListBuilder<'_, A>
         ensures* lends { sem 𝓛 (follows (the_row (record { mir = named 1; lft = [] }) A.row) A.row
             self.entry.ghost_name result.arena.ghost_name

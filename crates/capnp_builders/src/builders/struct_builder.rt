@@ -41,7 +41,7 @@ impl<'a, A: BuilderArena> StructBuilder<'a, A> {
     ghost use Rattle.capnp_builders.specs.contracts.builders.struct_builder.StructBuilder.{the_row};
     ghost use mir.Syntax.{named};
 
-    /// A builder of this struct, as long as this one is borrowed.
+    /// A builder of this struct, which borrows this one.
     pub fn reborrow(&mut self) -> StructBuilder<'_, A>
         ensures* lends { sem 𝓛 (follows (the_row (record { mir = named 1; lft = [] }) A.row) A.row
             self.entry.ghost_name result.arena.ghost_name

@@ -15,7 +15,7 @@ ghost use Rattle.capnp_format.specs.Forest.{times, cover, root, IsTidy, IsForest
 ghost use Rattle.capnp_format.specs.Bytes.{words_of, message};
 ghost use Rattle.capnp_format.specs.Examples.{HasCanonicalWords, MeansNothing, trimmed_struct, far_pointer, double_far, shared_child, mixed, pair};
 
-/// The definitions on worked messages, values and words, as the check computes them.
+/// The definitions on worked messages, values and words; the check computes them.
 #[tactic(none)]
 pub fn worked_examples()
     // What messages mean, at which cost, and their canonical words.

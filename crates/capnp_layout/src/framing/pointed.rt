@@ -33,7 +33,7 @@ use capnp_words::read_limiter::ReadLimiter;
 use std::alloc::Global;
 
 /// Returns a reader of the message's root and charges its word, like
-/// `PointerReader::get_root_from_arena`, whatever holds the segments.
+/// `PointerReader::get_root_from_arena`, for any type that holds the segments.
 ///
 /// Refusals, which charge nothing: `InvalidSegmentId(0)` or `MessageContainsOutOfBoundsPointer` if
 /// there is no root pointer; `ReadLimitExceeded` if the limiter has no word left.

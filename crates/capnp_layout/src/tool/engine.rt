@@ -229,7 +229,7 @@ pub fn run_with<A: Allocator, R: Input, W: Output>(
 /// Reads lines from an input, and writes the answer to a command, or a line with `refused` and the
 /// name of the refusal.
 ///
-/// A line of the input is a segment, as pairs of hex digits in either case. Without bytes there are
+/// A line of the input is a segment, in pairs of hex digits in either case. Without bytes there are
 /// no segments. The root pointer costs one word of the traversal limit. The answers are, by
 /// command:
 ///

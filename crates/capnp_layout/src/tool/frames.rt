@@ -27,7 +27,7 @@ fn segment_at<S: ReaderSegments>(segments: &S, id: u32) -> &[u8]
     }
 }
 
-/// Writes the bytes of a number, the lowest first, as eight hex digits.
+/// Writes a number in eight hex digits, the lowest byte first.
 fn write_number<W: Output>(output: &mut W, number: u32) -> Result<(), DeviceFault>
     requires { W.has_failed output.old ≡ false }
     ensures { Writes W.Output result output.old output.new

@@ -1,4 +1,4 @@
-//! The lines of the program's input: each is a segment, as pairs of hex digits.
+//! The lines of the program's input: each is a segment, in pairs of hex digits.
 ghost use Rattle.std.specs.Prelude.{◌≡◌, ◌↔◌, ◌<◌, ◌≤◌, ◌+◌, ◌/◌, ◌^◌, ◌++◌, ◌∷◌, ◌==◌, [], ℕ, List, length, map, Some, None, Ok, IsTrue, IsSome, IfSome, IsErr, IfOk, OnOk, OnErr, IfErr, slice_get, vec_items};
 ghost use Rattle.std.specs.List.{All, position, position_or_len};
 ghost use Rattle.hex.specs.Hex.{decode_of};

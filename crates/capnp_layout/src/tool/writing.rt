@@ -11,7 +11,7 @@ use super::refusal::Refusal;
 use crate::devices::{DeviceFault, Output, write_all};
 use capnp_words::words::word_at;
 
-/// Writes the bytes of a word, the lowest first, as 16 hex digits.
+/// Writes a word in 16 hex digits, the lowest byte first.
 fn write_word<W: Output>(output: &mut W, word: u64) -> Result<(), DeviceFault>
     requires { W.has_failed output.old ≡ false }
     ensures { Writes W.Output result output.old output.new (word_digits word) }

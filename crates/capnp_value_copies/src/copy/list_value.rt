@@ -18,9 +18,9 @@ use capnp_words::error::ErrorKind;
 use capnp_words::read_limiter::ReadLimiter;
 use capnp_words::wire_pointer::{ElementSize, StructSize};
 
-/// Copies a list being read to the null pointer at a place, plain or in canonical form: as pointers
-/// if its elements are pointers, as structs, or as numbers with zero padding. Its own words and its
-/// count cost nothing; charges what reading the values of its elements costs.
+/// Copies a list being read to the null pointer at a place, plain or in canonical form: a list of
+/// pointers, of structs, or of numbers with zero padding. Its own words and its count cost nothing;
+/// charges what reading the values of its elements costs.
 ///
 /// If all words of the copy fit the segment of the place, or the message has one segment
 /// afterwards, they come after that segment's words, in the canonical order of objects, and no

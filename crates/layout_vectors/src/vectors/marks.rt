@@ -36,7 +36,7 @@ fn fill(row: &mut [u8], start: usize, n: usize)
 }
 
 impl Marks {
-    /// Marks for the words of these segments, none of which is marked.
+    /// Unset marks for the words of these segments.
     pub(crate) fn new(alloc: Global, segments: &[&[u8]]) -> Result<Self, AllocError>
         ensures { IfOk result
             (λ m. rows_of m ≡ map (λ s. replicate (length s.now / 8) 0) segments.now) }
