@@ -285,10 +285,10 @@ def tries():
     table = (
         ('mutants: bugs planted in the source, each refused by the prover (`./test --every-mutant` tries all)', '`tests/mutants/`', len(list(TOP.glob('tests/mutants/*/*.mutant')))),
         ('mutants that the gate tries', '`tests/mutants/gate.txt`', len((TOP / 'tests/mutants/gate.txt').read_text(encoding='utf-8').split())),
-        ('vectors: messages with answers from outside of this repository', '`tests/vectors/`', lines_of('tests/vectors/*.jsonl', 'worked.jsonl')),
-        ('worked runs of `layout_tool`', '`tests/vectors/worked.jsonl`', lines_of('tests/vectors/worked.jsonl')),
-        ('cases: calls of readers and builders, and edits, as lines of text', '`tests/cases/`', lines_of('tests/cases/*.jsonl')),
-        ('runs of `capnp_canon`', '`tests/streams/`', lines_of('tests/streams/*.jsonl')),
+        ('vectors: runs of `layout_tool`, with answers from outside of this repository', '`tests/vectors/`', lines_of('tests/vectors/*.jsonl', 'worked.jsonl')),
+        ('vectors that were worked out by hand', '`tests/vectors/worked.jsonl`', lines_of('tests/vectors/worked.jsonl')),
+        ('cases: lines of text with calls of readers and builders, and edits', '`tests/cases/`', lines_of('tests/cases/*.jsonl')),
+        ('streams: runs of `capnp_canon`', '`tests/streams/`', lines_of('tests/streams/*.jsonl')),
     )
     return ['| What | Where | How many |', '|---|---|---|', *(f'| {what} | {where} | {number:,} |' for what, where, number in table)]
 
