@@ -41,9 +41,9 @@ bytes_of (Owned segment) = segment.bytes.items
 abbrev pub whole_words : List ℕ → ℕ
 whole_words bytes = min (length bytes / 8) max_segment_words
 
--- An allocator with a scratch space: whether the space is here, not in use; how many of its bytes
--- the allocator holds, all of them zero; how many words it has; and the allocator of the other
--- segments.
+-- An allocator with a scratch space: whether the space is here, and not in use as a segment; its
+-- number of bytes if it is here, all of them zero, otherwise 0; its number of words; and the
+-- allocator of the other segments.
 pub record Scratch : Type 0 where
   pub here : Bool
   pub zeros : ℕ

@@ -34,7 +34,7 @@ object_misfit Text (ObjectFlat start Byte count) =
     Some MessageContainsTextThatIsNotNULTerminated else None
 object_misfit expected object = None
 
--- The words of the elements of a list without pointers are in the bytes that the object has.
+-- The words of the elements of a list without pointers are inside its segment.
 abbrev pub IsAtHand : Object → Type 0
 IsAtHand (ObjectFlat start size count) =
     (size_number size ≤ 5) × (8 * (start.at + words_for (size_number size) count)

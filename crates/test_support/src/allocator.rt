@@ -8,9 +8,9 @@ use std::cell::Cell;
 /// Which requests for memory are granted, if the heap has it.
 #[derive(Clone, Copy)]
 pub enum Granted {
-    /// The first requests, this many, for segments or for rows.
+    /// The first requests, up to this number, for segments or for rows.
     Requests(u64),
-    /// All segments, and this many rows.
+    /// All segments, and the first rows, up to this number.
     Rows(u64),
 }
 

@@ -7,8 +7,8 @@ use capnp_readers::readers::{ListPlace, StructPlace};
 
 /// The place of a struct in a message, as `StructBuilder` has it.
 ///
-/// The pointers of a struct are never at word 2^32 or after it. If they would be, the place has the
-/// last word before that.
+/// No struct of a message has its pointers at word 2^32 or after it. If `found` says so, the place
+/// has the last word before that.
 #[inline(always)]
 pub fn struct_place(found: ExistingStruct) -> StructPlace
     ensures place { found.start + found.size.data_words < 2 ^ 32 → result ≡ struct_place found }
