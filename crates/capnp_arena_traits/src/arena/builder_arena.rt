@@ -16,7 +16,9 @@ pub mod sealed {
     pub trait Closed {}
 }
 
-/// An arena that can be written. Only `capnp_arena` implements it.
+/// An arena that can be written. In this repository only `BuilderArenaImpl` of `capnp_arena`
+/// implements it. `sealed::Closed` is public, so another crate can, if it proves the contracts of
+/// all calls and the laws below.
 pub trait BuilderArena: ReaderArena + sealed::Closed {
     // The words of each segment, how many it has room for, how often memory was refused, and how a
     // request may be met.
