@@ -1,5 +1,5 @@
 #!/usr/bin/env python3
-"""Updates what pages quote from the sources: `docs/THEOREM.md`, the README, and `crates/*/CALLING.md`.
+"""Updates what pages quote from the sources: `docs/THEOREM.md`, `docs/PROVED.md`, the README, and `crates/*/CALLING.md`.
 
     theorem.py             rewrites each page that differs
     theorem.py --check     says which pages differ. The last line is `N passed, M failed`, which counts pages
@@ -339,7 +339,7 @@ def written(text):
 
 
 def pages():
-    return [page for page in (PAGE, TOP / 'README.md', *sorted(TOP.glob('crates/*/CALLING.md'))) if page.is_file()]
+    return [page for page in (PAGE, TOP / 'README.md', TOP / 'docs/PROVED.md', *sorted(TOP.glob('crates/*/CALLING.md'))) if page.is_file()]
 
 
 def prose(text):
