@@ -96,6 +96,7 @@ def main():
         remove(program)
     parts = [
         counted('names', [sys.executable, str(TOP / 'tests/names.py')]),
+        counted('prose', [sys.executable, str(TOP / 'tests/prose.py')]),
         counted('pages', [sys.executable, str(TOP / 'tools/theorem.py'), '--check']),
         counted('header', [sys.executable, str(TOP / 'tests/library/header.py')]),
         counted('rt ci', proving(sys.argv[1:]), RT_JOBS=str(side_by_side())),
