@@ -1,5 +1,5 @@
 //! Unpacks packed bytes to a slice of exactly the unpacked size ("Packing").
-ghost use Rattle.std.specs.Prelude.{◌≡◌, ◌≤◌, ◌+◌, ◌^◌, length, take, IfSome, IsNone};
+ghost use Rattle.std.specs.Prelude.{◌≡◌, ◌≤◌, ◌+◌, ◌^◌, length, take, slice_set, IfSome, IsNone};
 ghost use Rattle.capnp_packing.specs.Packing.{all_given, place_after, place_at_end, unpacked_bytes};
 
 use super::place::{Place, step};
@@ -31,6 +31,28 @@ fn count_given(place: Place, byte: u8) -> Given
     }
 }
 
+/// Returns `count`. A C program may pass packed bytes that overlap `to`, or that another thread
+/// changes, so that they no longer are the ones that were counted. The minimum keeps every write
+/// inside `to` even then.
+#[inline(always)]
+fn within(count: usize, room: usize) -> usize
+    requires { count ≤ room }
+    ensures { result ≡ count }
+{
+    count.min(room)
+}
+
+/// Writes the first byte of `to`, with the same care.
+#[inline(always)]
+fn put_first(byte: u8, to: &mut [u8])
+    requires { 1 ≤ length to.old }
+    ensures { to.new ≡ slice_set to.old 0 byte }
+{
+    if !to.is_empty() {
+        to[0] = byte;
+    }
+}
+
 /// Writes what `byte` unpacks to at `place` to the front of `to`.
 fn put_given(place: Place, byte: u8, to: &mut [u8]) -> Given
     requires { length (all_given place byte) ≤ length to.old }
@@ -43,14 +65,15 @@ fn put_given(place: Place, byte: u8, to: &mut [u8]) -> Given
     let next = taken.next;
     match taken.byte {
         Some(itself) => {
-            let count = 1 + zeros;
-            to[0] = itself;
-            put_zeros(&mut to[1..count]);
+            let count = within(1 + zeros, to.len());
+            put_first(itself, to);
+            put_zeros(&mut to[within(1, count)..count]);
             Given { count, next }
         }
         None => {
-            put_zeros(&mut to[..zeros]);
-            Given { count: zeros, next }
+            let count = within(zeros, to.len());
+            put_zeros(&mut to[..count]);
+            Given { count, next }
         }
     }
 }
@@ -100,7 +123,7 @@ pub fn unpack_to_slice(packed: &[u8], to: &mut [u8])
         return;
     }
     let front = unpack_words(packed, to);
-    let behind = front.given + front.zeros as usize;
+    let behind = within(front.given + front.zeros as usize, to.len());
     put_zeros(&mut to[front.given..behind]);
     unpack_bytes(front.place, &packed[front.taken..], &mut to[behind..]);
 }
