@@ -52,8 +52,8 @@ use Rattle.capnp_edits.specs.Sources.{root_of, once_at_root, as_wanted, HasRoot,
 use Rattle.capnp_edits.specs.Edits.{refusal_of, is_of_path, refusals_after}
 use Rattle.capnp_edits.specs.Steps.{result_of, CopiesWhole, IsDoneAt}
 use Rattle.capnp_edits.proofs.Applied.{Does, of_allocation, of_no_place, named_refusal, never_refused}
-use Rattle.capnp_edits.proofs.CopiedStruct.{CanBeCopiedAs, struct_at, struct_reads, struct_refused, struct_given, struct_fits}
-use Rattle.capnp_edits.proofs.CopiedList.{elements_read, list_at, list_reads, list_refused, list_given, list_small, list_fits}
+use Rattle.capnp_edits.proofs.CopiedStruct.{CanBeCopiedAs, struct_there_given, struct_at, struct_reads, struct_refused, struct_given, struct_fits}
+use Rattle.capnp_edits.proofs.CopiedList.{elements_read, list_there_given, list_at, list_reads, list_refused, list_given, list_small, list_fits}
 use Rattle.capnp_edits.proofs.ListReads.{list_read_as}
 use Rattle.capnp_edits.proofs.Steps.{same_some}
 use Rattle.capnp_edits.proofs.Ways.{as_it_stands, is_copied, is_not_copied, is_unread}
@@ -69,8 +69,8 @@ IsRootReader g source from m = HasRoot source × (read_by g from ≡ root_of sou
 root_copied : {S R : Segments} {place : PointerPlace} {c : Copying} {r : Option ErrorKind} (u : Tree) → Copies c u → r ≡ None → Puts S R place.segment place.word u → Does S R place (CopyRoot c) r
 root_copied {c = c} u copied done puts t stored = record { left = Some u; leaves = as_it_stands (is_copied c u refl copied done refl); stands = puts t stored }
 
-root_not_copied : {S R : Segments} {place : PointerPlace} {c : Copying} {r : Option ErrorKind} (k : ErrorKind) → (is_allocation_name k ≡ true) ⊎ IsUnreadable c k → r ≡ Some k → Puts S R place.segment place.word Null → Does S R place (CopyRoot c) r
-root_not_copied {c = c} k why named puts t stored = record { left = Some Null; leaves = as_it_stands (is_not_copied c k refl why named refl); stands = puts t stored }
+root_not_copied : {S R : Segments} {place : PointerPlace} {c : Copying} {r : Option ErrorKind} (k : ErrorKind) → ((j : ErrorKind) → HasNothingToCopy c.source c.wanted j → ⊥) → (is_allocation_name k ≡ true) ⊎ IsUnreadable c k → r ≡ Some k → Puts S R place.segment place.word Null → Does S R place (CopyRoot c) r
+root_not_copied {c = c} k some why named puts t stored = record { left = Some Null; leaves = as_it_stands (is_not_copied c k refl some why named refl); stands = puts t stored }
 
 pub root_unread : {S R : Segments} {place : PointerPlace} {c : Copying} {r : Option ErrorKind} (k : ErrorKind) → HasNothingToCopy c.source c.wanted k → r ≡ Some k → R ≡ S → Does S R place (CopyRoot c) r
 root_unread {c = c} k why named same t stored = record { left = None; leaves = as_it_stands (is_unread c k refl why named refl); stands = same }
@@ -156,13 +156,24 @@ tried_refused : {A : Type 0} (k : ErrorKind) (c : Copying) (old new : View) (pla
     OfWanted c.wanted (root_of c.source) (change (form_of c.canonicalize) (call_at place.segment place.word old new) (once_at_root c.source) tried.after) (λ o d. RefusesToCopy o d k)
 tried_refused k c old new place tried = wanted_so c.wanted (root_of c.source) _ (Says (Some k)) (λ o d. RefusesToCopy o d k) (λ o d h. h.1) tried.copies
 
+-- if what is wanted was found, there is something to copy
+found_wanted : (w : Wanted) (r : Reading) (d : Change) (So : Original Tree → Change → Type 0) → OfWanted w r d So → (m : Meter) (k : ErrorKind) → IsWithheld w r d.before m k → ⊥
+found_wanted Value r d So h m k withheld = withheld
+found_wanted AStruct r d So (s, leads, h) m k withheld = not_withheld struct_expected r d.before m k (struct_there_given leads) withheld
+found_wanted AList r d So (l, n, leads, h) m k withheld = not_withheld (list_expected Void) r d.before m k (list_there_given leads) withheld
+
+something_to_copy : (c : Copying) (call : CallAt) (after : Meter) (So : Original Tree → Change → Type 0) → HasRoot c.source →
+    OfWanted c.wanted (root_of c.source) (change (form_of c.canonicalize) call (once_at_root c.source) after) So → (k : ErrorKind) → HasNothingToCopy c.source c.wanted k → ⊥
+something_to_copy c call after So has found k (inl rootless) = rootless.0 has
+something_to_copy c call after So has found k (inr (root, (m, withheld))) = found_wanted c.wanted (root_of c.source) (change (form_of c.canonicalize) call (once_at_root c.source) after) So found m k withheld
+
 pub tried_done : {A : Type 0} (result : Result A ErrorKind) (c : Copying) (old new : View) (place : PointerPlace) → Tried result c old new place → OnErr result (Puts old.words new.words place.segment place.word Null) →
     Does old.words new.words place (CopyRoot c) (refusal_of result)
 tried_done (Ok x) c old new place tried cleared =
     let (t, w, reads, is, puts) = tried.done in
     root_copied (kept (form_of c.canonicalize) w) (record { root = tried.root; value = t; after = tried.after; is_read = reads; copied = w; is_wanted = is; is_kept = refl }) refl puts
 tried_done (Err k) c old new place tried cleared =
-    root_not_copied k (elim (copy_refused_as c.wanted c.canonicalize place.segment place.word old new (root_of c.source) (once_at_root c.source) tried.after k (tried_refused k c old new place tried)) [
+    root_not_copied k (something_to_copy c (call_at place.segment place.word old new) tried.after (λ o d. Says (Some k) o d) tried.root tried.copies) (elim (copy_refused_as c.wanted c.canonicalize place.segment place.word old new (root_of c.source) (once_at_root c.source) tried.after k (tried_refused k c old new place tried)) [
       | inl memory ↦ inl memory
       | inr refused ↦ inr (tried.root, (tried.after, refused))
     ]) refl cleared

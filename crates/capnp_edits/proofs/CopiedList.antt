@@ -266,6 +266,24 @@ list_suited r m (Structs d q es) c copied means covers e = given_there r m c (st
 pub list_given : (c : Copying) (r : Reading) (m : Meter) (used room : ℕ) → c.wanted ≡ AList → CanBeCopiedAs c r m used room → CanBeGiven (list_expected Void) r m
 list_given c r m used room is can = list_suited r m can.value can.cost can.copied can.means can.covers (subst (λ w. as_wanted w can.value ≡ Some can.copied) is can.is_wanted)
 
+-- what leads to a list has an answer
+level_read : (r : Reading) (m m' : Meter) (a : Target) → Entered Value r m m' a → kind a.word ≡ 1 → element_size a.word ≤ 7 → nat_eq (element_size a.word) 1 ≡ false → CanBeGiven (list_expected Void) r m
+level_read r m m' a o z size other =
+    fitting {m' = m'} a (level_there r.levels o.meets.levels)
+    (ap (λ i. cond (nat_eq i 1) None (Some MessageContainsNonListPointerWhereListPointerWasExpected)) z)
+    (record {
+      follows = leads_to r a (entered_leads o);
+      meets = record { levels = omega arith; is_object = o.meets.is_object; claims = o.meets.claims; tagged = o.meets.tagged };
+      covers = o.covers;
+      spent = o.spent;
+    })
+    (wide_enough (element_size a.word) size other)
+
+pub list_there_given : {r : Reading} {m m' : Meter} {l : ListElements} → LeadsToList r m m' l → CanBeGiven (list_expected Void) r m
+list_there_given (no_list null void none same) = null_pointer null
+list_there_given {r} {m} {m'} (a_plain_list a o z size few other first counts) = level_read r m m' a o z (omega (arith, size, few)) (ap (λ i. nat_eq i 1) size ∙ other)
+list_there_given {r} {m} {m'} (a_struct_list a o is_list size sections first counts) = level_read r m m' a o is_list.0 (omega (arith, is_list.1)) (ap (λ i. nat_eq i 1) is_list.1)
+
 -- then what its elements lead to can be read, too
 abbrev ListMatches : Form → ListElements → Meter → Tree → Type 0
 ListMatches form l n copied = (end : Meter) × ReadsList form l n end copied

@@ -162,6 +162,11 @@ struct_suited r m (Structs d q es) c copied means covers e = absurd (cc)
 pub struct_given : (c : Copying) (r : Reading) (m : Meter) (used room : ℕ) → c.wanted ≡ AStruct → CanBeCopiedAs c r m used room → CanBeGiven struct_expected r m
 struct_given c r m used room is can = struct_suited r m can.value can.cost can.copied can.means can.covers (subst (λ w. as_wanted w can.value ≡ Some can.copied) is can.is_wanted)
 
+-- what leads to a struct has an answer
+pub struct_there_given : {r : Reading} {m : Meter} {s : Sections} → LeadsToStruct r m s → CanBeGiven struct_expected r m
+struct_there_given (no_struct null ws none same) = null_pointer null
+struct_there_given {r} {m} (a_struct a o z ws start n) = struct_suits r m a (entered_leads o) z o.meets.levels o.meets.claims o.covers
+
 -- then its pointers can be read, too
 record SectionsMatch (form : Form) (s : Sections) (copied : Tree) : Type 0 where
   children : Trees

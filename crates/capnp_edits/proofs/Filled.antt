@@ -23,7 +23,7 @@ use Rattle.capnp_objects.specs.Reading.{Reading, behind}
 use Rattle.capnp_objects.specs.Refusals.{Refused}
 use Rattle.capnp_objects.proofs.Limits.{not_for_place}
 use Rattle.capnp_objects.specs.Demands.{own}
-use Rattle.capnp_objects.specs.Expected.{struct_expected, CanBeGiven, null_pointer}
+use Rattle.capnp_objects.specs.Expected.{struct_expected}
 use Rattle.capnp_objects.specs.Faults.{child_at}
 use Rattle.capnp_objects.specs.Spending.{after}
 use Rattle.capnp_objects.specs.Wanted.{plain}
@@ -67,7 +67,7 @@ use Rattle.capnp_edits.specs.declared.edit.path.PathEnd.TheVariants.{Pointer as 
 use Rattle.capnp_edits.proofs.Taken.{bits_lengths, copy_taken, writes}
 use Rattle.capnp_edits.proofs.Applied.{made, of_allocation, of_no_place, of_place, named_refusal, none_counted, kept_nowhere, refused_there, never_refused, denied_at, no_struct as is_none, written_at, element_struct, element_end, applied_bits}
 use Rattle.capnp_edits.proofs.Copied.{IsRootReader, where_read}
-use Rattle.capnp_edits.proofs.CopiedStruct.{struct_at as source_at, whole_words, whole_bits, struct_suits}
+use Rattle.capnp_edits.proofs.CopiedStruct.{struct_at as source_at, struct_there_given, whole_words, whole_bits}
 use Rattle.capnp_edits.proofs.Steps.{same_some, first, struct_of}
 use Rattle.capnp_edits.proofs.Walks.{update-append}
 use Rattle.capnp_edits.proofs.Ways.{as_it_stands, is_filled, is_half_filled, is_not_filled, leads_to, struct_changed, takes}
@@ -412,16 +412,11 @@ same_struct {r} {m} (a_struct a o k ws start n) (a_struct b i l us at c) some =
       n ∙ ap (λ (x : Target). pointer_count x.word) e ∙ sym c,
     )
 
--- a struct that a place leads to can be returned
-there_given : {r : Reading} {m : Meter} {s : Sections} → LeadsToStruct r m s → CanBeGiven struct_expected r m
-there_given (no_struct null ws none same) = null_pointer null
-there_given {r} {m} (a_struct a o z ws start n) = struct_suits r m a (entered_leads o) z o.meets.levels o.meets.claims o.covers
-
 -- content whose pointers can be read isn't refused for what is read
 pub filled_or_refused : (source : Source) (q : ℕ) (k : ErrorKind) (all : ContentRead source) → count all.children ≡ min q all.from.pointers →
     HasNothingToCopy source AStruct k ⊎ ((some : ContentRead source) × (count some.children < min q some.from.pointers) × IsNextUnreadable source some k) → ⊥
 filled_or_refused source q k whole counts (inl (inl rootless)) = rootless.0 whole.root
-filled_or_refused source q k whole counts (inl (inr (has, (m, withheld)))) = not_withheld struct_expected (root_of source) (once_at_root source) m k (there_given whole.leads) withheld
+filled_or_refused source q k whole counts (inl (inr (has, (m, withheld)))) = not_withheld struct_expected (root_of source) (once_at_root source) m k (struct_there_given whole.leads) withheld
 filled_or_refused source q k whole counts (inr (part, fewer, (m, refused))) =
     let (place, limiter, pointers) = same_struct part.leads whole.leads (omega (arith, fewer)) in
     let x = whole.are_read in

@@ -48,7 +48,7 @@ pub data Way (making : Making) (r : Option ErrorKind) (o : Option Tree) : Type 0
   is_allocated : (t u : Tree) → making ≡ allocates t u → r ≡ None → o ≡ Some u → Way making r o
   is_not_allocated : (t u : Tree) (k : ErrorKind) → making ≡ allocates t u → is_allocation_name k ≡ true → r ≡ Some k → o ≡ Some t → Way making r o
   is_copied : (c : Copying) (u : Tree) → making ≡ copies c → Copies c u → r ≡ None → o ≡ Some u → Way making r o
-  is_not_copied : (c : Copying) (k : ErrorKind) → making ≡ copies c → (is_allocation_name k ≡ true) ⊎ IsUnreadable c k → r ≡ Some k → o ≡ Some Null → Way making r o
+  is_not_copied : (c : Copying) (k : ErrorKind) → making ≡ copies c → ((j : ErrorKind) → HasNothingToCopy c.source c.wanted j → ⊥) → (is_allocation_name k ≡ true) ⊎ IsUnreadable c k → r ≡ Some k → o ≡ Some Null → Way making r o
   is_unread : (c : Copying) (k : ErrorKind) → making ≡ copies c → HasNothingToCopy c.source c.wanted k → r ≡ Some k → o ≡ None → Way making r o
   is_filled : (source : Source) (d q : ℕ) (u : Tree) → making ≡ fills source d q →
       (c : ContentRead source) × Fills source c d q u × (count c.children ≡ min q c.from.pointers) → r ≡ None → o ≡ Some u → Way making r o
@@ -64,7 +64,7 @@ yielded {making} {r} {o} (is_denied k is named left) = subst (λ m. Yields m r o
 yielded {making} {r} {o} (is_allocated t u is done left) = subst (λ m. Yields m r o) (sym is) (inl (done, left))
 yielded {making} {r} {o} (is_not_allocated t u k is lacks named left) = subst (λ m. Yields m r o) (sym is) (inr (k, lacks, named, left))
 yielded {making} {r} {o} (is_copied c u is copied done left) = subst (λ m. Yields m r o) (sym is) (inl (u, copied, done, left))
-yielded {making} {r} {o} (is_not_copied c k is why named left) = subst (λ m. Yields m r o) (sym is) (inr (inl (k, why, named, left)))
+yielded {making} {r} {o} (is_not_copied c k is some why named left) = subst (λ m. Yields m r o) (sym is) (inr (inl (some, (k, why, named, left))))
 yielded {making} {r} {o} (is_unread c k is unread named left) = subst (λ m. Yields m r o) (sym is) (inr (inr (k, unread, named, left)))
 yielded {making} {r} {o} (is_filled source d q u is h done left) = subst (λ m. Yields m r o) (sym is) (inl (h.0, u, h.1.0, h.1.1, h.1.2, inl (h.2, done, left)))
 yielded {making} {r} {o} (is_half_filled source d q k u is h named left) = subst (λ m. Yields m r o) (sym is) (inl (h.0, u, h.1.0, h.1.1, h.1.2, inr (h.2, (k, h.3, named, left))))

@@ -294,8 +294,8 @@ Fails P left r o = (k : ErrorKind) × P k × (r ≡ Some k) × (o ≡ left)
 
 -- The outcome r of an operation that makes this, and what it leaves: o is the value that replaces
 -- the old one, if anything is changed.
--- - `copies`: what is copied; null, if the copy is refused for memory or for what it reads; or
---   nothing is changed, if there is nothing to copy.
+-- - `copies`: what is copied; null, if there is something to copy, but the copy is refused for
+--   memory or for what it reads; or nothing is changed, if there is nothing to copy.
 -- - `fills`: a struct u. It has the data that both structs have, followed by zeros, and the
 --   pointers that were read, followed by nulls. These are as many as both have, or the ones before
 --   a pointer that is refused. Nothing is changed if there is no struct to copy.
@@ -306,7 +306,8 @@ Yields (allocates t u) r o =
     ((r ≡ None) × (o ≡ Some u)) ⊎ Fails (λ k. is_allocation_name k ≡ true) (Some t) r o
 Yields (copies c) r o =
     ((u : Tree) × Copies c u × (r ≡ None) × (o ≡ Some u))
-    ⊎ (Fails (λ k. (is_allocation_name k ≡ true) ⊎ IsUnreadable c k) (Some Null) r o
+    ⊎ ((((k : ErrorKind) → HasNothingToCopy c.source c.wanted k → ⊥)
+    × Fails (λ k. (is_allocation_name k ≡ true) ⊎ IsUnreadable c k) (Some Null) r o)
     ⊎ Fails (HasNothingToCopy c.source c.wanted) None r o)
 Yields (fills source d q) r o =
     ((c : ContentRead source) × (u : Tree) × (section : List ℕ)
