@@ -13,8 +13,10 @@ use capnp_readers::readers::PointerReader;
 use capnp_words::error::ErrorKind;
 use capnp_words::read_limiter::ReadLimiter;
 use capnp_words::wire_pointer::StructSize;
-use std::alloc::Global;
+use std::alloc::{AllocError, Global};
+use std::io;
 use std::process::ExitCode;
+use thiserror::Error;
 
 /// A message being built, in segments on the heap.
 type Built = BuilderArenaImpl<HeapAllocator>;
@@ -24,6 +26,17 @@ const SIZE: StructSize = StructSize {
     data_words: 1,
     pointers: 1,
 };
+
+/// Why the program ends early.
+#[derive(Debug, Drop, Error)]
+enum Failure {
+    #[error(transparent)]
+    Layout(#[from] ErrorKind),
+    #[error(transparent)]
+    Print(#[from] io::Error),
+    #[error(transparent)]
+    Memory(#[from(alloc)] AllocError),
+}
 
 /// A message with a null root, in segments of `words` words, or more if an object needs more.
 fn empty_message(alloc: Global, words: u32) -> Result<Built, ErrorKind>
@@ -57,7 +70,7 @@ fn canonical(alloc: Global, from: &Built) -> Result<Built, ErrorKind> {
 }
 
 /// Prints the words of each segment, one a line.
-fn print_segments(rt: &(impl Print + AllocGlobal), built: &Built) -> anyhow::Result<()> {
+fn print_segments(rt: &(impl Print + AllocGlobal), built: &Built) -> Result<(), Failure> {
     // The output segments are read like any input.
     let output = built.get_segments_for_output()?;
     let arena = ReaderArenaImpl::new(output, ReaderOptions::default());
@@ -71,7 +84,7 @@ fn print_segments(rt: &(impl Print + AllocGlobal), built: &Built) -> anyhow::Res
 }
 
 /// Reads the number and the text back, and prints them.
-fn print_value(rt: &impl Print, built: &Built) -> anyhow::Result<()> {
+fn print_value(rt: &impl Print, built: &Built) -> Result<(), Failure> {
     let mut limiter = ReadLimiter::new(None);
     let root = PointerReader::get_root_from_arena(built, &mut limiter)?;
     let value = root.get_struct(&mut limiter, None)?;
@@ -82,7 +95,7 @@ fn print_value(rt: &impl Print, built: &Built) -> anyhow::Result<()> {
 }
 
 /// Shows the message, what it means, and its canonical form.
-fn show(rt: &(impl Print + AllocGlobal)) -> anyhow::Result<()> {
+fn show(rt: &(impl Print + AllocGlobal)) -> Result<(), Failure> {
     let built = build(rt.alloc())?;
     print_segments(rt, &built)?;
     print_value(rt, &built)?;
@@ -90,7 +103,7 @@ fn show(rt: &(impl Print + AllocGlobal)) -> anyhow::Result<()> {
     print_segments(rt, &canonical(rt.alloc(), &built)?)
 }
 
-fn main(rt: HostRuntime) -> anyhow::Result<ExitCode> {
+fn main(rt: HostRuntime) -> Result<ExitCode, Failure> {
     show(&rt)?;
     Ok(ExitCode::SUCCESS)
 }
