@@ -125,6 +125,11 @@ class Calls(unittest.TestCase):
                 self.assertEqual(capnp_canonical.copy_flat(stream), ZERO_WORD_FLAT)
                 frames = capnp_canonical.frames(stream)
                 self.assertEqual([it.tobytes() for it in frames], [ZERO_WORD, SHARED])
+            # a frame that is still held would keep it open
+            with mmap.mmap(file.fileno(), 0, access=mmap.ACCESS_READ) as stream:
+                for frame in capnp_canonical.frames(stream):
+                    capnp_canonical.copy_flat(frame)
+                    frame.release()
 
     @unittest.skipUnless(importlib.util.find_spec('numpy'), 'no numpy')
     def test_numpy(self):
@@ -155,6 +160,12 @@ class Calls(unittest.TestCase):
         self.assertEqual(str(refused.exception), 'NoRoom: the buffer has too little room, and 24 bytes are wanted')
         with self.assertRaises(BufferError):
             capnp_canonical.copy_into(b'no buffer to write to', ZERO_WORD)
+        whole = bytearray(ZERO_WORD + bytes(40))
+        for call in capnp_canonical.copy_into, capnp_canonical.copy_flat_into:
+            with self.assertRaisesRegex(ValueError, 'overlaps'):
+                call(memoryview(whole)[39:], memoryview(whole)[:40])
+        self.assertEqual(whole, ZERO_WORD + bytes(40))
+        self.assertEqual(capnp_canonical.copy_flat_into(memoryview(whole)[40:], memoryview(whole)[:40]), 24)
 
     def test_words_beside_a_frame(self):
         """Canonical words of a struct of two numbers, 2^32 and 42, passed as a frame. They are read as a frame of two words, which
@@ -305,6 +316,11 @@ class Packed(unittest.TestCase):
             self.assertEqual(buffer, before)
         apart = bytearray(packed + bytes(4096))
         self.assertEqual(capnp_canonical.unpack_into(memoryview(apart)[len(packed):], memoryview(apart)[:len(packed)]), 4096)
+        # nothing overlaps an empty buffer
+        self.assertEqual(capnp_canonical.unpack_into(apart, memoryview(apart)[2:2]), 0)
+        with self.assertRaises(Error) as refused:
+            capnp_canonical.unpack_into(memoryview(buffer)[1:1], memoryview(buffer)[:2])
+        self.assertIs(refused.exception.number, Refusal.NO_ROOM)
 
     def test_limit(self):
         packed = bytes.fromhex('00ff') * 100
@@ -398,10 +414,10 @@ class Places(unittest.TestCase):
         shutil.copytree(
             pathlib.Path(capnp_canonical.__file__).parent, self.package, ignore=shutil.ignore_patterns('__pycache__', '*.so'))
 
-    def run_with(self, **more):
+    def run_with(self, before='', **more):
         kept = {name: value for name, value in os.environ.items() if name not in (LIBRARY, 'LD_LIBRARY_PATH')}
         return subprocess.run(
-            [sys.executable, '-c', 'import capnp_canonical; print(capnp_canonical.version())'],
+            [sys.executable, '-c', f'{before}import capnp_canonical; print(capnp_canonical.version())'],
             env={**kept, 'PYTHONPATH': str(self.module), **more},
             stdout=subprocess.PIPE, stderr=subprocess.PIPE, text=True,
         )
@@ -431,6 +447,11 @@ class Places(unittest.TestCase):
 
     def test_nowhere(self):
         self.assertIn('nowhere.so', self.run_with(**{LIBRARY: 'nowhere.so'}).stderr)
+
+    def test_a_python_without_the_calls_of_cpython(self):
+        """PyPy says what is missing, before the library is looked for."""
+        said = self.run_with('import ctypes; del ctypes.pythonapi; ').stderr.splitlines()[-1]
+        self.assertEqual(said, 'ImportError: capnp_canonical needs CPython: this Python has no ctypes.pythonapi')
 
 
 if __name__ == '__main__':

@@ -82,13 +82,18 @@ class Commands(unittest.TestCase):
         other = '0' * 64 + names[1][64:]
         wrong = self.file('wrong', '\n'.join([names[0], other, names[2].replace(':3', ':99'), 'no line']).encode())
         self.require(run('digest', '--check', wrong), 2, [f'{path}:1: OK', f'{path}:2: FAILED', f'{path}:99: FAILED'],
-                     f'{wrong}: line 4 is not as `digest` writes it (of 1 such)',
-                     '2 of the messages listed are not there, or not as listed')
+                     f'{wrong}: line 4 is not as `digest` writes it', '2 listed messages are missing or differ')
         self.require(run('digest', '--check', '--quiet', input=other.encode()), 1, [f'{path}:2: FAILED'],
-                     '1 of the messages listed is not there, or not as listed')
+                     '1 listed message is missing or differs')
+        self.require(run('digest', '--check', input=b'a\nb\n\nc'), 2, [], '-: line 1 and 2 more are not as `digest` writes them')
+
+    def test_check_of_names_that_no_file_can_have(self):
+        name = name_of(WORDS['book'])
+        self.require(run('digest', '--check', input=f'{name}  a\0b:1\n{name}  :2\n'.encode()), 2, ['a\0b:1: FAILED', ':2: FAILED'],
+                     'a\0b: embedded null byte', ': No such file or directory', '2 listed messages are missing or differ')
 
     def test_check_of_sorted_lists(self):
-        """In any order each file is read once: as often as there are messages it would take minutes."""
+        """The lines are in any order, and each file is read once: once for each line would take minutes."""
         count = 3000
         paths = [self.file(it, FRAMES['canonical'] * count) for it in ('one', 'two')]
         value = name_of(WORDS['canonical'])
@@ -100,17 +105,34 @@ class Commands(unittest.TestCase):
         merged = run('digest', '--check', listed).stdout.decode().splitlines()
         self.assertEqual(merged, [f'{line.partition("  ")[2]}: OK' for line in lines])
 
-    def test_check_of_no_entry(self):
-        empty = self.file('empty', b'')
-        self.require(run('digest', '--check', empty), 1, [], 'no list names a message')
+    def test_check_of_empty_lists(self):
+        """A list that was cut to nothing isn't verified without a word, also among others."""
+        path = self.file('stream', STREAM)
+        good, empty = self.file('good', '\n'.join(self.names(path)).encode()), self.file('empty', b'\n')
+        self.require(run('digest', '--check', '--quiet', os.devnull), 1, [], f'{os.devnull}: no line names a message')
+        self.require(run('digest', '--check', '--quiet', good, empty), 1, [], f'{empty}: no line names a message')
+
+    def test_check_of_duplicates(self):
         path = self.file('stream', FRAMES['canonical'] * 2)
         groups = run('duplicates', path, self.file('book', FRAMES['book'] * 2))
+        self.assertEqual(len(groups.stdout.splitlines()), 5)
         self.require(run('digest', '--check', '--quiet', input=groups.stdout), 0, [])
 
-    def test_closed_output(self):
+    def closed(self, devices, *arguments):
+        """A command with closed devices, such as `>&-`."""
+        return subprocess.run(['sh', '-c', f'"$0" -B -m capnp_canonical "$@" {devices}', sys.executable, *arguments], stdout=subprocess.PIPE,
+                              stderr=subprocess.PIPE)
+
+    def test_closed_devices(self):
         path = self.file('stream', STREAM)
-        done = subprocess.run(['sh', '-c', '"$0" -B -m capnp_canonical digest "$1" >&-', sys.executable, path], stderr=subprocess.PIPE)
-        self.assertEqual((done.stderr, done.returncode), (b'capnp_canonical: standard output: closed\n', 2))
+        listed = self.file('list', '\n'.join(self.names(path)).encode())
+        self.require(self.closed('>&-', 'digest', path), 2, [], 'standard output: Bad file descriptor')
+        self.require(self.closed('>&-', 'digest', self.folder), 2, [], f'{self.folder}: Is a directory')
+        # nothing has to be written
+        self.require(self.closed('>&-', 'digest', '--check', '--quiet', listed), 0, [])
+        self.require(self.closed('2>&-', 'digest', path), 0, self.names(path))
+        self.require(self.closed('2>&-', 'digest', path, self.folder), 2, self.names(path))
+        self.require(self.closed('<&-', 'same', path, '-'), 2, [], '-: Bad file descriptor')
 
     def test_a_file_that_is_cut_while_it_is_read(self):
         path = self.file('stream', FRAMES['canonical'] * 100_000)
@@ -127,7 +149,18 @@ class Commands(unittest.TestCase):
         escaped = str(path).replace('\\', '\\\\').replace('\n', '\\n')
         done = run('digest', path)
         self.require(done, 0, [f'\\{name_of(WORDS["book"])}  {escaped}:1'])
-        self.assertEqual(run('digest', '--check', '--quiet', input=done.stdout).returncode, 0)
+        self.require(run('digest', '--check', input=done.stdout), 0, [f'\\{escaped}:1: OK'])
+        path.unlink()
+        self.require(run('digest', path), 2, [], f'{escaped}: No such file or directory')
+
+    def test_names_that_are_no_text(self):
+        path = self.folder / os.fsdecode(b'\xe4')
+        path.write_bytes(FRAMES['book'])
+        for locale in 'C.UTF-8', 'C':
+            variables = {**os.environ, 'LC_ALL': locale}
+            done = run('digest', path, env=variables)
+            self.assertEqual(done.stdout, f'{name_of(WORDS["book"])}  '.encode() + os.fsencode(path) + b':1\n')
+            self.assertEqual(run('digest', '--check', input=done.stdout, env=variables).stdout, os.fsencode(path) + b':1: OK\n')
 
     def test_same(self):
         first = self.file('first', STREAM)
@@ -181,13 +214,15 @@ class Commands(unittest.TestCase):
 
     def test_arguments(self):
         for arguments, said in (
-            ([], 'the following arguments are required: COMMAND'), (['digist'], "invalid choice: 'digist'"),
-            (['same', 'one'], 'the following arguments are required: FILE'), (['digest', '--words', 'x'], "invalid words_limit value: 'x'"),
-            (['digest', '--nesting', str(2**31)], 'a nesting limit of 2147483648'), (['digest', '--nothing'], '--nothing'),
+            ([], 'the following arguments are required: COMMAND'), (['digist'], "unknown command 'digist'"),
+            (['same', 'one'], 'the following arguments are required: FILE'), (['digest', '--nothing'], 'unrecognized arguments: --nothing'),
+            (['digest', '--words', 'x'], "invalid value 'x' for --words"), (['digest', '--words=-5'], "invalid value '-5' for --words"),
+            (['digest', '--words', str(2**64)], f"invalid value '{2**64}' for --words"),
+            (['digest', '--words', '1' * 5000], f"invalid value '{'1' * 5000}' for --words"),
+            (['digest', '--nesting', str(2**31)], f"invalid value '{2**31}' for --nesting"), (['digest', '--nesting'], '--nesting needs a value'),
+            (['digest', '--check=x'], '--check takes no value'), (['digest', '--quiet'], '--quiet needs --check'),
         ):
-            done = run(*arguments)
-            self.assertEqual((done.returncode, done.stdout), (2, b''))
-            self.assertRegex(done.stderr.decode(), f'^capnp_canonical: [^\n]*{said}[^\n]*\n$')
+            self.require(run(*arguments), 2, [], f'{said}; see --help')
         self.assertIn(b'--check', run('digest', '--help').stdout)
         self.assertRegex(run('--version').stdout.decode(), r'^capnp_canonical \d+\.\d+\.\d+\n$')
 

@@ -116,9 +116,11 @@ def _written_of_segments(call: _Call, segments: Iterable[ReadableBuffer], limits
 
 
 def _must_be_apart(to: Lent, given: _Given) -> None:
-    """The library reads one buffer while it writes the other. An object of type `bytes` shares no memory with a
-    writable one."""
-    if isinstance(given.first, int) and to.address < given.first + given.size and given.first < to.address + to.size:
+    """Refuse buffers that overlap: the library reads one while it writes the other. An object of type `bytes` shares no
+    memory with a writable buffer."""
+    if type(given.first) is bytes:
+        return
+    if max(to.address, given.first) < min(to.address + to.size, given.first + given.size):
         raise ValueError('the buffer to write to overlaps the bytes to read')
 
 

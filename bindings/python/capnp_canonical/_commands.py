@@ -3,6 +3,7 @@ from __future__ import annotations
 
 import argparse
 import contextlib
+import errno
 import hashlib
 import io
 import itertools
@@ -11,7 +12,7 @@ import re
 import sys
 import time
 from dataclasses import dataclass
-from typing import Any, BinaryIO, Dict, Iterator, List, NoReturn, Optional, Set, Tuple
+from typing import Any, BinaryIO, Dict, Iterator, List, NoReturn, Optional, Set, Tuple, Union
 
 from capnp_canonical._answers import Error, Limits
 from capnp_canonical._calls import LIMITS, copy_flat, words_copy
@@ -20,6 +21,10 @@ from capnp_canonical._library import version
 
 NAME = 'capnp_canonical'
 SAME, DIFFERS, TROUBLE = 0, 1, 2
+# Of the names of files, in lists too.
+ENCODING = sys.getfilesystemencoding()
+# What a line of `digest` says: the digest, the name of the file, and the number of the message.
+Entry = Tuple[bytes, str, int]
 ABOUT = '''Names Cap'n Proto messages by the SHA-256 of their canonical words, so that equal values have equal names,
 whatever their layout. FILE holds framed messages, one after the other, as `capnp encode` writes them; `-` is standard
 input. Message N of a file is FILE:N, counted from 1. No schema is needed.'''
@@ -27,17 +32,29 @@ STATUS = '''status: 0 if all is well; 1 if a message differs, isn't as listed, o
 2 if a message or a file can't be read, or an argument is wrong.'''
 
 
+_SPECIAL = re.compile(r'[\\\n\r]')
+_ESCAPES = {'\\': '\\\\', '\n': '\\n', '\r': '\\r'}
+
+
+def escaped(name: str) -> str:
+    """A name in one line, with the escapes of sha256sum."""
+    return _SPECIAL.sub(lambda it: _ESCAPES[it[0]], name)
+
+
 def say(text: str) -> None:
+    """Reports on standard error. Python has no stream for a standard device that was closed when it started."""
     if sys.stdout:
         sys.stdout.flush()
-    print(f'{NAME}: {text}', file=sys.stderr, flush=True)
+    if sys.stderr:
+        with contextlib.suppress(OSError):
+            print(f'{NAME}: {text}', file=sys.stderr, flush=True)
 
 
 class Progress:
     """Shows progress on standard error if that is a terminal, from the first second on."""
 
     def __init__(self, names: List[str]) -> None:
-        self._is_shown = sys.stderr.isatty()
+        self._is_shown = bool(sys.stderr) and sys.stderr.isatty()
         self._total = sum(os.path.getsize(it) for it in names if os.path.isfile(it)) if self._is_shown else 0
         self._start = self._last = time.monotonic()
         self._bytes = self._messages = 0
@@ -68,25 +85,39 @@ class Reading:
     is_flat: bool
     progress: Progress
     status: int = SAME
-    is_empty: bool = True
-    """Whether no list that was verified had an entry."""
 
-    def trouble(self, name: str, error: object) -> None:
+    def trouble(self, name: str, error: object, status: int = TROUBLE) -> None:
         self.progress.end()
-        self.status = TROUBLE
-        say(f'{name}: {error}')
+        self.status = max(self.status, status)
+        say(f'{escaped(name)}: {error}')
 
     def words_of(self, name: str) -> Iterator[Tuple[int, Optional[bytes]]]:
         """The numbers of the messages of a file and their canonical words; None for one that is refused, which is
         reported."""
-        try:
-            yield from self._words_of(name)
-        except OSError as error:
-            self.trouble(name, error.strerror or error)
-        except Error as error:
-            self.trouble(name, error)
+        answers = self._answers_of(name)
+        while True:
+            # an error of standard output, where mistakes are reported, is none of the file
+            try:
+                number, words = next(answers)
+            except StopIteration:
+                return
+            except OSError as error:
+                self.trouble(name, error.strerror or error)
+                return
+            except MemoryError:
+                self.trouble(name, os.strerror(errno.ENOMEM))
+                return
+            except ValueError as error:
+                # the bytes are no frame, or no file can have the name
+                self.trouble(name, error)
+                return
+            if isinstance(words, Error):
+                self.trouble(name, words)
+                yield number, None
+            else:
+                yield number, words
 
-    def _words_of(self, name: str) -> Iterator[Tuple[int, Optional[bytes]]]:
+    def _answers_of(self, name: str) -> Iterator[Tuple[int, Union[bytes, Error]]]:
         with opened(name) as stream:
             if self.is_flat:
                 yield 1, words_copy(stream.read(), self.limits)
@@ -94,13 +125,12 @@ class Reading:
             at = 0
             for number, frame in enumerate(frames(stream, self.limits.words), 1):
                 try:
-                    yield number, copy_flat(frame, self.limits)
+                    answer: Union[bytes, Error] = copy_flat(frame, self.limits)
                 except Error as error:
-                    self.trouble(name, error.at(number, at))
-                    yield number, None
+                    answer = error.at(number, at)
+                yield number, answer
                 at += len(frame)
                 self.progress.add(len(frame))
-                frame.release()
 
     def digests_of(self, name: str) -> Iterator[Tuple[int, bytes]]:
         for number, words in self.words_of(name):
@@ -111,23 +141,24 @@ class Reading:
 def opened(name: str) -> BinaryIO:
     """A file, open for reading. It isn't mapped into memory: if it became shorter, a read there would end the process.
     Standard input gets a number of its own, so that it stays open."""
+    if name == '-' and sys.stdin is None:
+        # another file may have its number
+        raise OSError(errno.EBADF, os.strerror(errno.EBADF))
     return open(os.dup(0) if name == '-' else name, 'rb')
 
 
-_ESCAPED = re.compile(r'[\\\n\r]')
-_ESCAPES = {'\\': '\\\\', '\n': '\\n', '\r': '\\r'}
+def mark_of(name: str) -> str:
+    """What sha256sum puts in front of a line whose name has escapes."""
+    return '\\' if _SPECIAL.search(name) else ''
 
 
 def line_of(digest: bytes, name: str, number: int) -> str:
-    """A line as sha256sum writes it. A backslash in front means that the name has escapes."""
-    whole = f'{name}:{number}'
-    if not _ESCAPED.search(whole):
-        return f'{digest.hex()}  {whole}'
-    return f'\\{digest.hex()}  {_ESCAPED.sub(lambda it: _ESCAPES[it[0]], whole)}'
+    """A line in the layout of sha256sum."""
+    return f'{mark_of(name)}{digest.hex()}  {escaped(name)}:{number}'
 
 
-def read_line(line: str) -> Optional[Tuple[bytes, str, int]]:
-    """What such a line says; None if it isn't one."""
+def read_line(line: str) -> Optional[Entry]:
+    """What a line of `digest` says; None if it isn't one."""
     found = re.fullmatch(r'(\\?)([0-9a-fA-F]{64}) [ *](.*):([1-9][0-9]*)', line)
     if not found:
         return None
@@ -135,7 +166,8 @@ def read_line(line: str) -> Optional[Tuple[bytes, str, int]]:
     if found[1]:
         back = {'\\\\': '\\', '\\n': '\n', '\\r': '\r'}
         name = re.sub(r'\\[\\nr]', lambda it: back[it[0]], name)
-    return bytes.fromhex(found[2]), name, int(found[4])
+    # lists have many lines, and few names
+    return bytes.fromhex(found[2]), sys.intern(name), int(found[4])
 
 
 def digest(reading: Reading, names: List[str]) -> int:
@@ -146,46 +178,54 @@ def digest(reading: Reading, names: List[str]) -> int:
 
 
 def check_lists(reading: Reading, lists: List[str], quiet: bool) -> int:
-    """Verify lists that `digest` has written, in any order. Reads each file that a list names once."""
-    failed = 0
-    for entries in (list(entries_of(reading, it)) for it in lists):
-        listed: Dict[str, Set[int]] = {}
-        for _, name, number in entries:
-            listed.setdefault(name, set()).add(number)
-        found: Dict[str, Dict[int, bytes]] = {}
-        for value, name, number in entries:
-            if name not in found:
-                found[name] = {it: own for it, own in reading.digests_of(name) if it in listed[name]}
-            holds = found[name].get(number) == value
-            failed += not holds
-            if not holds or not quiet:
-                print(f'{name}:{number}: {"OK" if holds else "FAILED"}')
-        reading.is_empty &= not entries
+    """Verify lists that `digest` or `duplicates` has written."""
+    failed = sum(check_list(reading, entries_of(reading, it), quiet) for it in lists)
     if failed:
         reading.progress.end()
-        say(f'{failed} of the messages listed {"is" if failed == 1 else "are"} not there, or not as listed')
-    if reading.is_empty and not reading.status:
-        say('no list names a message')
-        return DIFFERS
+        say('1 listed message is missing or differs' if failed == 1 else f'{failed} listed messages are missing or differ')
     return reading.status or (DIFFERS if failed else SAME)
 
 
-def entries_of(reading: Reading, name: str) -> Iterator[Tuple[bytes, str, int]]:
-    """The lines of a list, except for empty ones, which `duplicates` writes between its groups. Reports how many
-    aren't as `digest` writes them."""
+def check_list(reading: Reading, entries: List[Entry], quiet: bool) -> int:
+    """Verify the entries of a list, in any order, and return how many fail. Reads each file that they name once."""
+    listed: Dict[str, Set[int]] = {}
+    for _, name, number in entries:
+        listed.setdefault(name, set()).add(number)
+    found: Dict[str, Dict[int, bytes]] = {}
+    failed = 0
+    for value, name, number in entries:
+        if name not in found:
+            found[name] = {it: own for it, own in reading.digests_of(name) if it in listed[name]}
+        holds = found[name].get(number) == value
+        failed += not holds
+        if not holds or not quiet:
+            print(f'{mark_of(name)}{escaped(name)}:{number}: {"OK" if holds else "FAILED"}')
+    return failed
+
+
+def entries_of(reading: Reading, name: str) -> List[Entry]:
+    """The lines of a list, except for empty ones, which `duplicates` writes between its groups. Reports lines that
+    aren't as `digest` writes them, and a list without any line that is."""
+    entries: List[Entry] = []
     others: List[int] = []
     try:
-        with open(os.dup(0) if name == '-' else name, encoding='utf-8', errors='surrogateescape', newline='\n') as file:
+        with io.TextIOWrapper(opened(name), encoding=ENCODING, errors='surrogateescape', newline='\n') as file:
             for number, line in enumerate(file, 1):
                 entry = read_line(line.rstrip('\n'))
                 if entry:
-                    yield entry
+                    entries.append(entry)
                 elif line != '\n':
                     others.append(number)
     except OSError as error:
         reading.trouble(name, error.strerror or error)
-    if others:
-        reading.trouble(name, f'line {others[0]} is not as `digest` writes it (of {len(others)} such)')
+        return entries
+    if len(others) == 1:
+        reading.trouble(name, f'line {others[0]} is not as `digest` writes it')
+    elif others:
+        reading.trouble(name, f'line {others[0]} and {len(others) - 1} more are not as `digest` writes them')
+    elif not entries:
+        reading.trouble(name, 'no line names a message', DIFFERS)
+    return entries
 
 
 def same(reading: Reading, first: str, second: str) -> int:
@@ -224,22 +264,33 @@ class Parser(argparse.ArgumentParser):
     """Reports a mistake in one line."""
 
     def error(self, message: str) -> NoReturn:
-        say(f'{message} (--help says what there is)')
+        for pattern, plain in _MISTAKES:
+            message = re.sub(pattern, plain, message)
+        say(f'{message}; see --help')
         sys.exit(TROUBLE)
 
 
+# What argparse says of a mistake, and what is said instead.
+_MISTAKES = (
+    (r'^argument COMMAND: invalid choice: (.*) \(choose from .*', r'unknown command \1'),
+    (r'^argument (?:-\w/)?(--\w+): expected one argument$', r'\1 needs a value'),
+    (r'^argument (?:-\w/)?(--\w+): ignored explicit argument .*', r'\1 takes no value'),
+    (r'^argument (--\w+): (.*)', r'\2 for \1'),
+)
+
+
+def number_below(bound: int, text: str) -> int:
+    if not re.fullmatch('[0-9]{1,20}', text) or int(text) >= bound:
+        raise argparse.ArgumentTypeError(f"invalid value '{text}'")
+    return int(text)
+
+
 def words_limit(text: str) -> int:
-    try:
-        return 2**64 - 1 if text == 'none' else int(text)
-    except ValueError:
-        raise argparse.ArgumentTypeError(f"invalid value '{text}'") from None
+    return 2**64 - 1 if text == 'none' else number_below(2**64, text)
 
 
 def nesting_limit(text: str) -> int:
-    try:
-        return int(text)
-    except ValueError:
-        raise argparse.ArgumentTypeError(f"invalid value '{text}'") from None
+    return number_below(2**31, text)
 
 
 def parser() -> Parser:
@@ -259,44 +310,55 @@ def parser() -> Parser:
         command.add_argument('--words', type=words_limit, default=LIMITS.words, metavar='N', help='the traversal limit of each message, and the most words its frame may have (%(default)s), or `none`')
         command.add_argument('--flat', action='store_true', help='each FILE is the bare words of one message')
         if name == 'digest':
-            command.add_argument('-c', '--check', action='store_true', help='each FILE is a list that `digest` has written: verify it')
+            command.add_argument('-c', '--check', action='store_true', help='each FILE is a list that `digest` or `duplicates` has written: verify it')
             command.add_argument('--quiet', action='store_true', help='with --check, print nothing for a message that is as listed')
     return whole
 
 
 def run(given: Any) -> int:
-    reading = Reading(Limits(given.nesting, given.words), given.flat, Progress(given.files))
+    is_check = given.command == 'digest' and given.check
+    # how long the files are that a list names isn't known
+    progress = Progress([] if is_check else given.files)
+    reading = Reading(Limits(given.nesting, given.words), given.flat, progress)
     names = given.files or ['-']
     try:
         if given.command == 'same':
             return same(reading, *names)
         if given.command == 'duplicates':
             return duplicates(reading, names)
-        return check_lists(reading, names, given.quiet) if given.check else digest(reading, names)
+        return check_lists(reading, names, given.quiet) if is_check else digest(reading, names)
     finally:
-        reading.progress.end()
+        progress.end()
+
+
+class Closed(io.StringIO):
+    """Standard output if it was closed when Python started."""
+
+    def write(self, text: str) -> NoReturn:
+        raise OSError(errno.EBADF, os.strerror(errno.EBADF))
 
 
 def main(arguments: List[str]) -> int:
-    given = parser().parse_args(arguments)
+    known = parser()
+    given = known.parse_args(arguments)
+    if given.command == 'digest' and given.quiet and not given.check:
+        known.error('--quiet needs --check')
     if not sys.stdout:
-        say('standard output: closed')
-        return TROUBLE
-    # names of files are bytes
-    if isinstance(sys.stdout, io.TextIOWrapper):
-        sys.stdout.reconfigure(errors='surrogateescape')
+        sys.stdout = Closed()
+    elif isinstance(sys.stdout, io.TextIOWrapper):
+        # names of files are bytes
+        sys.stdout.reconfigure(encoding=ENCODING, errors='surrogateescape')
     try:
         status = run(given)
         sys.stdout.flush()
         return status
-    except ValueError as error:
-        say(str(error))
     except BrokenPipeError:
         # nobody reads any more: say nothing of it, also when Python ends
         os.dup2(os.open(os.devnull, os.O_WRONLY), 1)
     except OSError as error:
-        say(f'standard output: {error.strerror}')
+        # what could not be written goes nowhere, also when Python ends
         os.dup2(os.open(os.devnull, os.O_WRONLY), 1)
+        say(f'standard output: {error.strerror}')
     except KeyboardInterrupt:
         return 130
     return TROUBLE

@@ -25,7 +25,10 @@ def frames(stream: Union[ReadableBuffer, _Readable], words: int = LIMITS.words) 
     remaining bytes don't start with a frame; it says which message that is, and at which byte.
 
     The stream is bytes, which aren't copied, or a file that is open for reading bytes. A file is read piece by piece,
-    and a frame is yielded as soon as it is there."""
+    and a frame is yielded as soon as it is there.
+
+    A frame of bytes is a view of them: an mmap can't be closed, nor a bytearray change its size, until you release
+    each frame (`frame.release()`) or drop it (`del frame`), and the iterator has ended or is dropped too."""
     words = Limits(words=words).words
     if hasattr(stream, 'read') and not _has_buffer(stream):
         return _frames_of_file(stream, words)
@@ -56,7 +59,7 @@ def _frames_of_bytes(stream: Any, words: int) -> Iterator[memoryview]:
             number += 1
 
 
-def _bytes_wanted(held: memoryview) -> int:
+def _bytes_wanted(held: bytes) -> int:
     """The size in bytes of a frame, or of its table, as far as its first bytes tell."""
     if len(held) < 4:
         return 8
@@ -71,65 +74,45 @@ class _Pieces:
     """A file that is read piece by piece, as far as needed."""
 
     def __init__(self, file: Any) -> None:
-        # what is there, and no more, if the file has a buffer
+        # returns what is there, and no more, if the file has a buffer
         self._read = getattr(file, 'read1', None) or file.read
-        self._held = bytearray()
-        self._start = 0
+        self.has_ended = False
 
-    def take(self, size: int) -> bytes:
-        taken = bytes(self._held[self._start:self._start + size])
-        self._start += size
-        return taken
-
-    def size(self) -> int:
-        return len(self._held) - self._start
-
-    def grow(self, size: int) -> bool:
-        """Read until `size` bytes are there. False if the file ends before."""
-        if self._start and self.size() < size:
-            del self._held[:self._start]
-            self._start = 0
-        while self.size() < size:
-            piece = self._read(min(max(_PIECE, size - self.size()), _MOST))
+    def more(self, held: bytes, wanted: int) -> bytes:
+        """The bytes held and those that follow: `wanted` bytes or more, or fewer if the file ends."""
+        pieces, size = [held], len(held)
+        while size < wanted:
+            piece = self._read(min(max(_PIECE, wanted - size), _MOST))
             if piece is None:
                 raise BlockingIOError('the file has no bytes now, and does not wait for them')
             if isinstance(piece, str):
                 raise TypeError('the file is open for text: frames are bytes')
             if not piece:
-                return False
-            self._held += piece
-        return True
-
-    def measured(self, words: int) -> int:
-        with Lent(self._held) as lent:
-            return measured(lent.address + self._start, lent.size - self._start, words)
-
-    def wanted(self) -> int:
-        with memoryview(self._held) as view, view[self._start:] as rest:
-            return _bytes_wanted(rest)
+                self.has_ended = True
+                break
+            pieces.append(piece)
+            size += len(piece)
+        return b''.join(pieces)
 
 
 def _frames_of_file(file: Any, words: int) -> Iterator[memoryview]:
     pieces = _Pieces(file)
     at, number = 0, 1
-    while pieces.grow(1):
-        try:
-            taken = _whole_frame(pieces, words)
-        except Error as error:
-            raise error.at(number, at) from None
-        yield memoryview(pieces.take(taken))
-        at += taken
-        number += 1
-
-
-def _whole_frame(pieces: _Pieces, words: int) -> int:
-    """Read until the frame at the front is there, and return its size in bytes."""
-    while True:
-        try:
-            return pieces.measured(words)
-        except Error as error:
-            if error.number != Refusal.TRUNCATED:
-                raise
-            if not pieces.grow(pieces.wanted()):
-                # the last bytes may tell more than that they are too few
-                return pieces.measured(words)
+    held = pieces.more(b'', 1)
+    while held:
+        start = 0
+        with Lent(held) as lent:
+            while start < lent.size:
+                try:
+                    taken = measured(lent.address + start, lent.size - start, words)
+                except Error as error:
+                    # at the end of the file, the last bytes may tell more than that they are too few
+                    if error.number == Refusal.TRUNCATED and not pieces.has_ended:
+                        break
+                    raise error.at(number, at) from None
+                yield memoryview(held[start:start + taken])
+                start += taken
+                at += taken
+                number += 1
+        held = held[start:]
+        held = pieces.more(held, max(_bytes_wanted(held), len(held) + 1) if held else 1)
