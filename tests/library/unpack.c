@@ -1,14 +1,20 @@
 /* Calls capnp_canonical_unpack with the packed bytes of a file (see its top), in buffers of each length, cut short everywhere and
- * with each bit turned, and with random bytes; where malloc is wrapped also that it is never called.
+ * with each bit turned, and with random bytes; where malloc is wrapped also that it is never called. Calls it too with buffers
+ * that overlap, and tests that it writes nothing outside of the one that it writes to.
  *
  *     unpack FILE
  *
  * Each buffer is a block of the heap of its very size, so that valgrind and the address sanitizer see any byte too many. The
  * last line is `N passed, M failed`: a count is one comparison. */
+#define _DEFAULT_SOURCE
 #include "capnp_canonical.h"
 #include "blocks.h"
+#include <setjmp.h>
+#include <signal.h>
+#include <sys/mman.h>
+#include <unistd.h>
 
-enum { MOST = 1 << 15, RANDOM = 20000, RUNS = 1000 };
+enum { MOST = 1 << 15, RANDOM = 20000, RUNS = 1000, OVERLAPS = 100000 };
 /* How often malloc and realloc were called, where they are wrapped. */
 static unsigned long blocks;
 
@@ -99,20 +105,104 @@ static void test_row(struct bytes packed, struct bytes wanted) {
     }
 }
 
-/* Bytes by a generator of numbers; more than half of them are such as begin runs and end them. */
-static void test_random(void) {
+/* A generator of numbers. */
+static uint64_t next_number(uint64_t *state) {
+    return *state = *state * UINT64_C(6364136223846793005) + UINT64_C(1442695040888963407);
+}
+
+/* Fills a block with random bytes; more than half of them are such as begin runs and end them. */
+static void fill_at_random(struct bytes packed, uint64_t *state) {
     static const uint8_t often[] = {0, 0, 255, 255, 1, 2, 0x81, 0x10};
+    for (size_t i = 0; i < packed.size; i++) {
+        uint64_t number = next_number(state);
+        packed.at[i] = number >> 63 ? often[number >> 33 & 7] : (uint8_t)(number >> 40);
+    }
+}
+
+static void test_random(void) {
     uint64_t state = 1;
     place = "random bytes";
     for (int round = 0; round < RANDOM; round++) {
         struct bytes packed = block(round % 61);
-        for (size_t i = 0; i < packed.size; i++) {
-            state = state * UINT64_C(6364136223846793005) + UINT64_C(1442695040888963407);
-            packed.at[i] = state >> 63 ? often[state >> 33 & 7] : (uint8_t)(state >> 40);
-        }
+        fill_at_random(packed, &state);
         test_any(packed);
         free(packed.at);
     }
+}
+
+static sigjmp_buf before_call;
+
+static void jump_back(int number) {
+    siglongjmp(before_call, number);
+}
+
+/* Whether a call comes back without a signal. */
+static int comes_back(struct bytes packed, struct bytes to, uint32_t *answer, size_t *written) {
+    if (sigsetjmp(before_call, 1)) return 0;
+    *answer = unpacked(packed, to, written);
+    return 1;
+}
+
+/* A number from `least` to `most`. */
+static size_t between(size_t least, size_t most, uint64_t *state) {
+    return least + (size_t)(next_number(state) >> 32) % (most - least + 1);
+}
+
+/* Packed bytes and the buffer to write to overlap, at any places between pages that can't be touched. The caller has to keep
+ * them apart, so the answer and the bytes in the buffer may be any. But nothing is read outside of the two, nothing is written outside
+ * of the buffer, and the size isn't above the room. */
+static void test_overlaps(void) {
+    enum { GUARD = 1 << 20, SIZE = 1 << 12 };
+    uint8_t *whole = mmap(NULL, 2 * GUARD + SIZE, PROT_NONE, MAP_PRIVATE | MAP_ANONYMOUS, -1, 0), *inner = whole + GUARD;
+    struct bytes before = block(SIZE), none = {NULL, 0};
+    struct sigaction jumping, segv, bus;
+    unsigned long done = 0, signals = 0, outside = 0, sizes = 0;
+    char said[200];
+    uint64_t state = 2;
+    place = "overlapping buffers";
+    if (whole == MAP_FAILED || mprotect(inner, SIZE, PROT_READ | PROT_WRITE)) abort();
+    memset(&jumping, 0, sizeof jumping);
+    jumping.sa_handler = jump_back;
+    sigaction(SIGSEGV, &jumping, &segv);
+    sigaction(SIGBUS, &jumping, &bus);
+    for (int round = 0; round < OVERLAPS; round++) {
+        struct bytes packed = {inner, 0}, to;
+        size_t size, written;
+        uint32_t answer;
+        memset(inner, FILL, SIZE);
+        /* not those that are cut, or that want more than there is */
+        do {
+            packed.size = between(1, 96, &state);
+            fill_at_random(packed, &state);
+        } while (unpacked(packed, none, &size) != CAPNP_CANONICAL_NO_ROOM || size > SIZE);
+        /* just the room that is wanted or more; at the front, at the end or elsewhere */
+        to.size = round % 4 ? size : between(size, SIZE, &state);
+        to.at = inner + (round % 3 == 0 ? 0 : round % 3 == 1 ? SIZE - to.size : between(0, SIZE - to.size, &state));
+        {
+            size_t at = (size_t)(to.at - inner), last = at + to.size - 1;
+            size_t lowest = at < packed.size ? 0 : at - packed.size + 1, highest = last < SIZE - packed.size ? last : SIZE - packed.size;
+            uint8_t *moved = inner + between(lowest, highest, &state);
+            memmove(moved, packed.at, packed.size);
+            packed.at = moved;
+        }
+        memcpy(before.at, inner, SIZE);
+        if (!comes_back(packed, to, &answer, &written)) {
+            signals++;
+            continue;
+        }
+        done += answer == CAPNP_CANONICAL_DONE;
+        sizes += answer == CAPNP_CANONICAL_DONE && written > to.size;
+        memcpy(before.at + (to.at - inner), to.at, to.size);
+        outside += memcmp(before.at, inner, SIZE) != 0;
+    }
+    sigaction(SIGSEGV, &segv, NULL);
+    sigaction(SIGBUS, &bus, NULL);
+    snprintf(said, sizeof said, "of %d calls %lu end in a signal, %lu write outside of the buffer, and %lu give a size above the room", OVERLAPS,
+             signals, outside, sizes);
+    expect(signals == 0 && outside == 0 && sizes == 0, said);
+    expect(done + signals > OVERLAPS / 2, "most calls write");
+    free(before.at);
+    munmap(whole, 2 * GUARD + SIZE);
 }
 
 /* Many runs of zeros: the size is known without room for it. */
@@ -145,6 +235,7 @@ int main(int count, char **words) {
     fclose(file);
     test_random();
     test_runs();
+    test_overlaps();
     printf("%lu passed, %lu failed\n", passed, failed);
     return failed ? 1 : 0;
 }
