@@ -2,6 +2,8 @@
 //! `native/capnp_canonical.c`, if a release has that, with the C compiler `$CC` or `cc`; or else asks `pkg-config`. It
 //! links an installed `libcapnp_canonical.a`, or `libcapnp_canonical.so` if there is no archive or
 //! `CAPNP_CANONICAL_STATIC` is 0. Without a library the crate builds, but can't be linked.
+//!
+//! As in make and CMake, `CC` and `AR` may be several words, such as `ccache gcc`.
 use std::env;
 use std::path::{Path, PathBuf};
 use std::process::Command;
@@ -64,35 +66,47 @@ fn compiled() -> Result<PathBuf, String> {
     let folder = PathBuf::from(env::var_os("OUT_DIR").ok_or("OUT_DIR isn't set")?);
     let object = folder.join("capnp_canonical.o");
     let cflags = env::var("CFLAGS").unwrap_or_default();
-    run(Command::new(tool("CC", "gcc", "cc"))
+    run(tool("CC", "gcc", "cc")
         .args(["-std=gnu11", "-O2", "-fPIC"])
         .args(cflags.split_whitespace())
         .args(["-c", SOURCE, "-o"])
         .arg(&object))?;
     let archive = folder.join("libcapnp_canonical.a");
-    run(Command::new(tool("AR", "ar", "ar"))
-        .arg("crs")
-        .arg(archive)
-        .arg(&object))?;
+    run(tool("AR", "ar", "ar").arg("crs").arg(archive).arg(&object))?;
     Ok(folder)
 }
 
 /// A tool for the target: the one that its variable names, or else the one that Linux distributions have for another
 /// machine, or else the machine's own.
-fn tool(variable: &str, cross: &str, own: &str) -> String {
+fn tool(variable: &str, cross: &str, own: &str) -> Command {
     let of_cargo = |name: &str| env::var(name).unwrap_or_default();
     let (target, host) = (of_cargo("TARGET"), of_cargo("HOST"));
     let named = [
         format!("{variable}_{}", target.replace('-', "_")),
         variable.to_owned(),
     ];
-    if let Some(tool) = named.iter().find_map(|name| env::var(name).ok()) {
-        return tool;
+    if let Some(command) = named
+        .iter()
+        .find_map(|name| command_of(&env::var(name).ok()?))
+    {
+        return command;
     }
-    match target.split_once("-unknown-linux-gnu") {
+    Command::new(match target.split_once("-unknown-linux-gnu") {
         Some((machine, "")) if target != host => format!("{machine}-linux-gnu-{cross}"),
         _ => own.to_owned(),
+    })
+}
+
+/// The command that a variable names: a file, whose name may have spaces, or else a program and its first arguments.
+/// `None` if it names nothing.
+fn command_of(named: &str) -> Option<Command> {
+    if Path::new(named).is_file() {
+        return Some(Command::new(named));
     }
+    let mut words = named.split_whitespace();
+    let mut command = Command::new(words.next()?);
+    command.args(words);
+    Some(command)
 }
 
 fn run(command: &mut Command) -> Result<(), String> {

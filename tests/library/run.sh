@@ -133,13 +133,40 @@ cargo_package() {
         cargo test --offline --test library
 }
 
+# Builds the crate with C to compile, as a release has it. Here the C has no functions.
+cargo_compiling() {
+    cd "$work" && cp -RL "$top/bindings/rust" compiling && mkdir compiling/native && cd compiling || return 1
+    : >native/capnp_canonical.h && echo 'int nothing;' >native/capnp_canonical.c
+    for compiler in cc 'env cc' ''; do
+        CC=$compiler CARGO_TARGET_DIR=$work/compiled cargo build --offline --locked && echo "ok: CC='$compiler'"
+    done
+}
+
+# Copies the crate that uses the crate `capnp` to a folder, in which cargo may write.
+capnp_crate() {
+    mkdir -p "$1/bindings" "$1/tests/library" && cp -RL "$top/bindings/rust" "$1/bindings/rust" && cp "$here/messages.txt" "$1/tests/library" &&
+        cd "$1/bindings/rust/capnp"
+}
+
+# Runs cargo with the crates of a folder and no others.
+cargo_with() {
+    crates=$1
+    shift
+    CAPNP_CANONICAL_LIB_DIR=$prefix/lib cargo "$@" --offline --config 'source.crates-io.replace-with="folder"' \
+        --config "source.folder.directory='$crates'"
+}
+
 # Tests the crate that uses the crate `capnp`, which must be where Debian puts it.
 debian_crates=/usr/share/cargo/registry
 cargo_capnp() {
-    cd "$work" && mkdir -p capnp_crate/bindings capnp_crate/tests/library && cp -RL "$top/bindings/rust" capnp_crate/bindings/rust &&
-        cp "$here/messages.txt" capnp_crate/tests/library && cd capnp_crate/bindings/rust/capnp || return 1
-    CAPNP_CANONICAL_LIB_DIR=$prefix/lib cargo test --offline --config 'source.crates-io.replace-with="debian"' \
-        --config "source.debian.directory='$debian_crates'"
+    capnp_crate "$work/capnp_crate" && cargo_with "$debian_crates" test || return 1
+    cargo_with "$debian_crates" build --no-default-features && echo 'ok: no_std'
+}
+
+# Tests the same crate with a stand-in for the newest version of `capnp`.
+cargo_newest() {
+    capnp_crate "$work/newest_crate" && mkdir "$work/no_crates" && cd tests/newest || return 1
+    cargo_with "$work/no_crates" test && cargo_with "$work/no_crates" test --no-default-features
 }
 
 # Tests the package as pip installs it, in its own environment.
@@ -216,7 +243,9 @@ done
 if [ "$has_cargo" ]; then
     part Rust cargo_test
     part 'package for cargo' cargo_package
+    if [ "$has_cc" ]; then part 'C compiled by cargo' cargo_compiling; else skip 'C compiled by cargo' cc; fi
     if [ -d "$debian_crates" ]; then part 'crate over capnp' cargo_capnp; else skip 'crate over capnp' "$debian_crates"; fi
+    part 'crate over capnp 0.27' cargo_newest
 else
     skip Rust cargo
 fi

@@ -15,14 +15,33 @@
 //! assert!(!is_canonical(&segments, limits(&options)));
 //! # Ok::<(), capnp::Error>(())
 //! ```
+//!
+//! A message that you build is read in place too, as `message::Builder` has its segments. So is one that you read, if
+//! you keep its segments and give them to its reader by reference: `message::Reader::new(&segments, options)`.
+//!
+//! If you have only a `message::Reader` by reference, or the reader of a struct, a list or a text in a message, `capnp`
+//! has no public way to its words. [`canonical_words_of_reader`] and [`canonical_words_of`] copy such a value first.
+//!
+//! **Versions.** The crate takes `capnp` 0.14 to 0.27, and must have the same one as your program. [`capnp`] is the one
+//! that it has. If cargo chose another than yours, so that your types don't fit, run
+//! `cargo update -p capnp@OTHER --precise YOURS`.
+//!
+//! The crate is `no_std` with `alloc`. The calls that copy need its feature `std`, which is on by default and turns on
+//! the default features of `capnp`.
 #![no_std]
 
 extern crate alloc;
 
+#[cfg(feature = "std")]
+mod copied;
+
 use alloc::vec::Vec;
+pub use capnp;
 use capnp::message::{ReaderOptions, ReaderSegments};
 use capnp_canonical::segments::{self, Segments};
 use capnp_canonical::{Error, Fault, Limits, Size};
+#[cfg(feature = "std")]
+pub use copied::{canonical_words_of, canonical_words_of_reader, ValueError};
 
 /// A message of the crate `capnp`, in the form that `capnp_canonical::segments` takes.
 pub struct Of<'a, S: ReaderSegments + ?Sized>(pub &'a S);

@@ -1,8 +1,9 @@
 //! Messages as the crate `capnp` has them, beside its own canonical form.
-use capnp::message::{Builder, ReaderOptions};
+use capnp::message::{Builder, Reader, ReaderOptions, SegmentArray};
 use capnp_canonical::{Error, Limits};
 use capnp_canonical_capnp::{
-    canonical_copy, canonical_words, canonical_words_into, check, is_canonical, limits, size,
+    canonical_copy, canonical_words, canonical_words_into, canonical_words_of,
+    canonical_words_of_reader, check, is_canonical, limits, size, ValueError,
 };
 
 /// The ten messages of the library's tests: NAME FRAME COPY FLAT CHECK SIZE.
@@ -28,8 +29,11 @@ fn messages_that_are_read() {
         let Ok(message) = capnp::serialize::read_message(&mut &frame[..], options) else {
             continue;
         };
+        let copied = canonical_words_of_reader(&message, limits(&options));
         let segments = message.into_segments();
         let words = canonical_words(&segments, limits(&options));
+        // capnp may find another reason first
+        assert_eq!(copied.ok(), words.clone().ok(), "{name}");
         match words {
             Ok(words) => assert_eq!(words, bytes_of(flat), "{name}"),
             Err(error) => assert_eq!(error.name(), copy, "{name}"),
@@ -69,4 +73,56 @@ fn a_message_that_is_built() {
         canonical_words(&message, Limits::new(64, 2)),
         Err(Error::READ_LIMIT_EXCEEDED)
     );
+}
+
+#[test]
+fn values_that_are_copied_first() {
+    let mut message = Builder::new_default();
+    let root: capnp::any_pointer::Builder = message.init_root();
+    let mut names = root.initn_as::<capnp::text_list::Builder>(2);
+    names.set(0, "Ada");
+    names.set(1, "Grace");
+    let message = message.into_reader();
+    let names: capnp::text_list::Reader = message.get_root().unwrap();
+    let ada = [1 | 34 << 32, 0x61_6441].map(u64::to_le_bytes).concat();
+    let limits = Limits::default();
+    let of_text = canonical_words_of(|copy| copy.set_root(names.get(0)?), limits);
+    assert_eq!(of_text.ok(), Some(ada));
+    let of_list = canonical_words_of(|copy| copy.set_root(names), limits).unwrap();
+    let of_all = canonical_words_of_reader(&message, limits).unwrap();
+    assert_eq!(of_list, of_all);
+    assert_eq!(
+        Ok(of_all),
+        canonical_words(&message.into_segments(), limits)
+    );
+}
+
+#[test]
+fn values_that_are_refused() {
+    let refused = canonical_words_of(
+        |_| Err(capnp::Error::failed("no".into())),
+        Limits::default(),
+    );
+    assert!(matches!(&refused, Err(ValueError::Copy(error)) if error.to_string().contains("no")));
+
+    let words = [1 << 32, 7].map(u64::to_le_bytes).concat();
+    let segments = [&words[..]];
+    let options = *ReaderOptions::new().traversal_limit_in_words(Some(6));
+    let message = Reader::new(SegmentArray::new(&segments), options);
+    let refused = canonical_words_of_reader(&message, Limits::new(64, 1)).unwrap_err();
+    assert!(matches!(refused, ValueError::Refused(error) if error == Error::READ_LIMIT_EXCEEDED));
+    let text = Error::READ_LIMIT_EXCEEDED.to_string();
+    assert_eq!(refused.to_string(), text);
+    assert!(capnp::Error::from(refused).to_string().contains(&text));
+    // each copy counts against the limit of the reader
+    let mut copies = 1;
+    let refused = loop {
+        match canonical_words_of_reader(&message, Limits::default()) {
+            Ok(copy) => assert_eq!(copy, words),
+            Err(refused) => break refused,
+        }
+        copies += 1;
+    };
+    assert!((2..=6).contains(&copies), "{copies}");
+    assert!(matches!(refused, ValueError::Copy(_)));
 }
