@@ -55,7 +55,8 @@ def package():
 
 def metadata():
     return (f'Metadata-Version: 2.1\nName: {NAME}\nVersion: {about("version")}\nSummary: {about("description")}\n'
-            f'License: MIT\nRequires-Python: {about("requires-python")}\n').encode()
+            f'License: MIT\nClassifier: Programming Language :: Python :: Implementation :: CPython\n'
+            f'Requires-Python: {about("requires-python")}\n').encode()
 
 
 def compiled(source, header):

@@ -135,7 +135,7 @@ cargo_package() {
 
 # Builds the crate with C to compile, as a release has it. Here the C has no functions.
 cargo_compiling() {
-    cd "$work" && cp -RL "$top/bindings/rust" compiling && mkdir compiling/native && cd compiling || return 1
+    cd "$work" && cp -RL "$top/bindings/rust" compiling && mkdir -p compiling/native && cd compiling || return 1
     : >native/capnp_canonical.h && echo 'int nothing;' >native/capnp_canonical.c
     for compiler in cc 'env cc' ''; do
         CC=$compiler CARGO_TARGET_DIR=$work/compiled cargo build --offline --locked && echo "ok: CC='$compiler'"

@@ -18,9 +18,9 @@ threads may call at once, and other Python threads run during a call. A level of
 
 names each message of a file by a hash, compares two files, and finds equal messages.
 
-The package loads the library that the environment variable CAPNP_CANONICAL_LIBRARY names; or else libcapnp_canonical.so
-from the package's folder, from the folder around it, or from the folder `lib` beside that; or else the one that the
-system's loader finds.
+The package needs CPython. It loads the library that the environment variable CAPNP_CANONICAL_LIBRARY names; or else
+libcapnp_canonical.so from the package's folder, from the folder around it, or from the folder `lib` beside that; or
+else the one that the system's loader finds.
 """
 from capnp_canonical._answers import Error, Fault, Limits, Reason, Refusal, Size
 from capnp_canonical._calls import (

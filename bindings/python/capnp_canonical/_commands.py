@@ -12,7 +12,7 @@ import re
 import sys
 import time
 from dataclasses import dataclass
-from typing import Any, BinaryIO, Dict, Iterator, List, NoReturn, Optional, Set, Tuple, Union
+from typing import Any, BinaryIO, Dict, Iterator, List, NoReturn, Optional, Tuple, Union
 
 from capnp_canonical._answers import Error, Limits
 from capnp_canonical._calls import LIMITS, copy_flat, words_copy
@@ -188,19 +188,18 @@ def check_lists(reading: Reading, lists: List[str], quiet: bool) -> int:
 
 def check_list(reading: Reading, entries: List[Entry], quiet: bool) -> int:
     """Verify the entries of a list, in any order, and return how many fail. Reads each file that they name once."""
-    listed: Dict[str, Set[int]] = {}
-    for _, name, number in entries:
-        listed.setdefault(name, set()).add(number)
-    found: Dict[str, Dict[int, bytes]] = {}
-    failed = 0
-    for value, name, number in entries:
-        if name not in found:
-            found[name] = {it: own for it, own in reading.digests_of(name) if it in listed[name]}
-        holds = found[name].get(number) == value
-        failed += not holds
-        if not holds or not quiet:
-            print(f'{mark_of(name)}{escaped(name)}:{number}: {"OK" if holds else "FAILED"}')
-    return failed
+    places: Dict[str, List[int]] = {}
+    for place, (_, name, _) in enumerate(entries):
+        places.setdefault(name, []).append(place)
+    holds = bytearray(len(entries))
+    for place, (_, name, number) in enumerate(entries):
+        if name in places:
+            found = dict(reading.digests_of(name))
+            for it in places.pop(name):
+                holds[it] = found.get(entries[it][2]) == entries[it][0]
+        if not holds[place] or not quiet:
+            print(f'{mark_of(name)}{escaped(name)}:{number}: {"OK" if holds[place] else "FAILED"}')
+    return holds.count(0)
 
 
 def entries_of(reading: Reading, name: str) -> List[Entry]:
