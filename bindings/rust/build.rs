@@ -14,7 +14,7 @@ const SOURCE: &str = "native/capnp_canonical.c";
 const HEADER: &str = "native/capnp_canonical.h";
 
 fn main() -> Result<(), String> {
-    for name in [FOLDER, STATIC, "PKG_CONFIG_PATH", "CC", "AR", "CFLAGS"] {
+    for name in [FOLDER, STATIC, "PKG_CONFIG_PATH", "CFLAGS"] {
         println!("cargo:rerun-if-env-changed={name}");
     }
     let mut kind = "dylib";
@@ -85,6 +85,9 @@ fn tool(variable: &str, cross: &str, own: &str) -> Command {
         format!("{variable}_{}", target.replace('-', "_")),
         variable.to_owned(),
     ];
+    for name in &named {
+        println!("cargo:rerun-if-env-changed={name}");
+    }
     if let Some(command) = named
         .iter()
         .find_map(|name| command_of(&env::var(name).ok()?))

@@ -85,7 +85,7 @@ def _limits(limits: Limits) -> Tuple[int, int]:
     try:
         return limits.nesting, limits.words
     except AttributeError:
-        raise TypeError(f'limits are of the class Limits, and not {type(limits).__name__}') from None
+        raise TypeError(f'limits must be of the class Limits, not {type(limits).__name__}') from None
 
 
 def _written(call: _Call, given: _Given, limits: Limits, room: int) -> bytes:

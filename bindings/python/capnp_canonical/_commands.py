@@ -28,9 +28,8 @@ Entry = Tuple[bytes, str, int]
 ABOUT = '''Names Cap'n Proto messages by the SHA-256 of their canonical words, so that equal values have equal names,
 whatever their layout. FILE holds framed messages, one after the other, as `capnp encode` writes them; `-` is standard
 input. Message N of a file is FILE:N, counted from 1. No schema is needed.'''
-STATUS = '''status: 0 if all is well; 1 if a message differs, isn't as listed, or has an equal one;
+STATUS = '''status: 0 if all is well; 1 if a message differs, isn't as listed, or has an equal one, or a list names none;
 2 if a message or a file can't be read, or an argument is wrong.'''
-
 
 _SPECIAL = re.compile(r'[\\\n\r]')
 _ESCAPES = {'\\': '\\\\', '\n': '\\n', '\r': '\\r'}

@@ -81,7 +81,7 @@ def _load() -> ctypes.CDLL:
     try:
         library = ctypes.CDLL(named or next((it for it in beside if os.path.exists(it)), _SONAME))
     except OSError as error:
-        raise ImportError(f'{error}; {_VARIABLE} may name the file {_FILE}') from error
+        raise ImportError(f'{error}; set {_VARIABLE} to the path of {_FILE}') from error
     size, pointer, u32, u64, at = ctypes.c_size_t, ctypes.POINTER, ctypes.c_uint32, ctypes.c_uint64, ctypes.c_void_p
     limits: Any = [ctypes.c_int32, u64]
     calls: Any = (
