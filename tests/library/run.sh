@@ -138,7 +138,7 @@ cargo_compiling() {
     cd "$work" && cp -RL "$top/bindings/rust" compiling && mkdir -p compiling/native && cd compiling || return 1
     : >native/capnp_canonical.h && echo 'int nothing;' >native/capnp_canonical.c
     for compiler in cc 'env cc' ''; do
-        CC=$compiler CARGO_TARGET_DIR=$work/compiled cargo build --offline --locked && echo "ok: CC='$compiler'"
+        CC=$compiler CARGO_TARGET_DIR=$work/compiled env -u CAPNP_CANONICAL_LIB_DIR cargo build --offline --locked && echo "ok: CC='$compiler'"
     done
 }
 
