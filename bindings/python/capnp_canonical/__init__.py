@@ -6,8 +6,8 @@
 You pass a message as a frame, which is what `capnp encode`, capnp::writeMessage and pycapnp's `to_bytes` write, or as
 its segments. Bytes after the frame are ignored. Unpack packed bytes first, with `unpack`.
 
-Bare words aren't a frame. Read back what `copy_flat` gives with the calls whose names begin with `words_`. A call that
-takes a frame may SUCCEED on bare words, and then reads ANOTHER value, because the pointer to a root without pointers is
+Raw words aren't a frame. Read back what `copy_flat` gives with the calls whose names begin with `words_`. A call that
+takes a frame may SUCCEED on raw words, and then reads ANOTHER value, because the pointer to a root without pointers is
 also the table of a frame.
 
 Bytes are any object with a buffer: bytes, bytearray, memoryview, mmap, a NumPy array. They are read in place, and

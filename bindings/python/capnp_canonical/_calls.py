@@ -170,7 +170,7 @@ def copy(frame: ReadableBuffer, limits: Limits = LIMITS) -> bytes:
 
 
 def copy_flat(frame: ReadableBuffer, limits: Limits = LIMITS) -> bytes:
-    """Make the message canonical, as bare words without the table of a frame: the bytes to hash or sign. Read stored
+    """Make the message canonical, as raw words without the table of a frame: the bytes to hash or sign. Read stored
     words back with `words_check` and `words_copy`."""
     return _written_of_frame(library.capnp_canonical_copy_flat, frame, limits)
 
@@ -229,22 +229,22 @@ def segments_size(segments: Iterable[ReadableBuffer], limits: Limits = LIMITS) -
 
 
 def words_copy(words: ReadableBuffer, limits: Limits = LIMITS) -> bytes:
-    """Like `copy_flat`, for a message passed as bare words: all of them are its one segment."""
+    """Like `copy_flat`, for a message passed as raw words: all of them are its one segment."""
     return segments_copy_flat([words], limits)
 
 
 def words_check(words: ReadableBuffer, limits: Limits = LIMITS) -> Optional[Fault]:
-    """Like `check`, for a message passed as bare words."""
+    """Like `check`, for a message passed as raw words."""
     return segments_check([words], limits)
 
 
 def words_is_canonical(words: ReadableBuffer, limits: Limits = LIMITS) -> bool:
-    """Like `is_canonical`, for a message passed as bare words."""
+    """Like `is_canonical`, for a message passed as raw words."""
     return segments_is_canonical([words], limits)
 
 
 def words_size(words: ReadableBuffer, limits: Limits = LIMITS) -> Size:
-    """Like `size`, for a message passed as bare words."""
+    """Like `size`, for a message passed as raw words."""
     return segments_size([words], limits)
 
 

@@ -306,7 +306,7 @@ def parser() -> Parser:
         command.add_argument('files', metavar='FILE', nargs=files)
         command.add_argument('--nesting', type=nesting_limit, default=LIMITS.nesting, metavar='N', help='the nesting limit (%(default)s)')
         command.add_argument('--words', type=words_limit, default=LIMITS.words, metavar='N', help='the traversal limit of each message, and the most words its frame may have (%(default)s), or `none`')
-        command.add_argument('--flat', action='store_true', help='each FILE is the bare words of one message')
+        command.add_argument('--flat', action='store_true', help='each FILE is the raw words of one message')
         if name == 'digest':
             command.add_argument('-c', '--check', action='store_true', help='each FILE is a list that `digest` or `duplicates` has written: verify it')
             command.add_argument('--quiet', action='store_true', help='with --check, print nothing for a message that is as listed')

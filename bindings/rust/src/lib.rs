@@ -4,8 +4,8 @@
 //! Bytes may lie at any address, and bytes after the frame are ignored. Unpack packed bytes first, with [`unpack`]. No
 //! call keeps anything, so several threads may call at once. A level of nesting takes up to 720 bytes of stack.
 //!
-//! Bare words aren't a frame. Read back what [`canonical_words`] returns with the module [`words`]. A call that takes a
-//! frame may **succeed** on bare words, and then reads **another** value, because the pointer to a root without
+//! Raw words aren't a frame. Read back what [`canonical_words`] returns with the module [`words`]. A call that takes a
+//! frame may **succeed** on raw words, and then reads **another** value, because the pointer to a root without
 //! pointers is also the table of a frame.
 //!
 //! The crate is `no_std` with `alloc`. The feature `std`, on by default, lets you turn an `Error` into an
@@ -107,7 +107,7 @@ pub fn canonical_copy_into(
     })
 }
 
-/// Makes the message canonical, as bare words without the table of a frame: the bytes to hash or sign. Read stored
+/// Makes the message canonical, as raw words without the table of a frame: the bytes to hash or sign. Read stored
 /// words back with the module [`words`].
 pub fn canonical_words(frame: impl AsRef<[u8]>, limits: Limits) -> Result<Vec<u8>, Error> {
     let mut to = Vec::new();

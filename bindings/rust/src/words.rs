@@ -1,4 +1,4 @@
-//! The same calls, for a message passed as bare words: all of them are its one segment, as [`canonical_words`] returns
+//! The same calls, for a message passed as raw words: all of them are its one segment, as [`canonical_words`] returns
 //! them and you have stored them. If you pass a frame here it is read as words, and is another value.
 //!
 //! [`canonical_words`]: crate::canonical_words

@@ -63,7 +63,7 @@ fn size_text(size: Size) -> String {
     format!("{},{}", size.words, size.capabilities)
 }
 
-/// Canonical words, by the module of bare words.
+/// Canonical words, by the module of raw words.
 fn require_words(flat: &[u8], are_there: bool) {
     if are_there {
         let limits = Limits::default();

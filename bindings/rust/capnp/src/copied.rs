@@ -7,7 +7,7 @@ use capnp::message::{Builder, HeapAllocator, Reader, ReaderSegments};
 use capnp_canonical::{Error, Limits};
 use core::fmt;
 
-/// Makes a value canonical, as bare words: whatever `set_root` sets as the root of a message, such as the reader of a
+/// Makes a value canonical, as raw words: whatever `set_root` sets as the root of a message, such as the reader of a
 /// struct in another message.
 ///
 /// ```
@@ -45,7 +45,7 @@ where
     canonical_words(&copy, limits).map_err(ValueError::Refused)
 }
 
-/// Makes the message of a reader canonical, as bare words. The reader stays yours.
+/// Makes the message of a reader canonical, as raw words. The reader stays yours.
 ///
 /// ```
 /// use capnp::message::ReaderOptions;
