@@ -243,6 +243,24 @@ class Calls(unittest.TestCase):
         self.assertEqual(refused.exception.place, (2, 40))
         self.assertEqual(str(refused.exception), 'message 2 at byte 40: Truncated: the bytes end within a frame')
 
+    def test_size_of_a_frame_that_is_not_whole(self):
+        """Whoever reads just what is wanted has the frame after its table."""
+        many = b''.join(it.to_bytes(4, 'little') for it in (2, 1, 0, 70000)) + bytes(8 * 70001)
+        # its first bytes may be those of packed messages
+        most = (0x110).to_bytes(4, 'little') + bytes(4 * 0x111)
+        for frame, sizes in (ZERO_WORD, [8, 40]), (many, [8, 16, len(many)]), (most, [8, len(most)]):
+            held = [1]
+            while held[-1] < len(frame):
+                with self.assertRaises(Error) as refused:
+                    capnp_canonical.frame_size(frame[:held[-1]])
+                self.assertIs(refused.exception.number, Refusal.TRUNCATED)
+                held.append(refused.exception.wanted)
+            self.assertEqual(held[1:], sizes)
+            self.assertEqual(capnp_canonical.frame_size(frame), len(frame))
+        with self.assertRaises(Error) as refused:
+            capnp_canonical.frame_size(b'')
+        self.assertEqual((refused.exception.number, refused.exception.wanted), (Refusal.NO_MESSAGE, 0))
+
     def test_errors(self):
         error = Error(19)
         self.assertIsInstance(error, ValueError)

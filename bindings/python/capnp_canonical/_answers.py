@@ -111,7 +111,7 @@ class Error(ValueError):
     looks_like: Optional[str]
     """If the bytes are no frame, a guess at what they look like, such as `gzip`; None if there is no guess."""
     wanted: int
-    """How many bytes are needed, if the room is too small."""
+    """How many bytes are needed, if the room is too small, or if `frame_size` gets a part of a frame; else 0."""
 
     def __init__(
         self, number: int, place: Optional[Tuple[int, int]] = None, looks_like: Optional[str] = None, wanted: int = 0

@@ -16,6 +16,8 @@ DONE = 0
 LIMITS = Limits()
 # Up to this size the room for a copy is as large as all bytes passed, and the frame isn't measured first.
 _SMALL = 4096
+# The most bytes of a table, which has up to 512 segments.
+_TABLE = 2056
 _OF_FRAMES = Refusal.TOO_MANY_SEGMENTS, Refusal.MESSAGE_TOO_LONG, Refusal.TRUNCATED
 _Call = Callable[..., int]
 _REASONS = {int(it): it for it in Reason}
@@ -248,10 +250,31 @@ def words_size(words: ReadableBuffer, limits: Limits = LIMITS) -> Size:
     return segments_size([words], limits)
 
 
+def bytes_wanted(held: bytes) -> int:
+    """The size in bytes of a frame that isn't whole, or of its table, as far as its first bytes tell."""
+    if len(held) < 4:
+        return 8
+    count = int.from_bytes(held[:4], 'little') + 1
+    table = (4 + 4 * count + 7) // 8 * 8
+    if len(held) < table:
+        return table
+    return table + 8 * sum(int.from_bytes(held[4 + 4 * it:8 + 4 * it], 'little') for it in range(count))
+
+
 def frame_size(stream: ReadableBuffer, words: int = LIMITS.words) -> int:
-    """The size in bytes of the frame at the front, which may have at most `words` words. Its message isn't read."""
+    """The size in bytes of the frame at the front, which may have at most `words` words. Its message isn't read.
+
+    If the bytes end within the frame, `Error.wanted` is the size of the frame, or of its table if that isn't whole
+    either. `frames` reads a file until each frame is whole."""
+    limit = Limits(words=words).words
     with _frame(stream) as given:
-        return measured(given.first, given.size, Limits(words=words).words)
+        try:
+            return measured(given.first, given.size, limit)
+        except Error as error:
+            if error.number != Refusal.TRUNCATED:
+                raise
+            front = ctypes.string_at(given.first, min(given.size, _TABLE))
+            raise Error(error.number, looks_like=error.looks_like, wanted=bytes_wanted(front)) from None
 
 
 def _unpacked(given: _Given, to: Any, room: int) -> Tuple[bool, int]:

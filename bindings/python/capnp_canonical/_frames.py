@@ -4,7 +4,7 @@ from __future__ import annotations
 from typing import TYPE_CHECKING, Any, Iterator, Optional, Protocol, Union
 
 from capnp_canonical._answers import Error, Limits, Refusal
-from capnp_canonical._calls import LIMITS, measured
+from capnp_canonical._calls import LIMITS, bytes_wanted, measured
 from capnp_canonical._library import Lent
 
 if TYPE_CHECKING:
@@ -59,17 +59,6 @@ def _frames_of_bytes(stream: Any, words: int) -> Iterator[memoryview]:
             number += 1
 
 
-def _bytes_wanted(held: bytes) -> int:
-    """The size in bytes of a frame, or of its table, as far as its first bytes tell."""
-    if len(held) < 4:
-        return 8
-    count = int.from_bytes(held[:4], 'little') + 1
-    table = (4 + 4 * count + 7) // 8 * 8
-    if len(held) < table:
-        return table
-    return table + 8 * sum(int.from_bytes(held[4 + 4 * it:8 + 4 * it], 'little') for it in range(count))
-
-
 class _Pieces:
     """A file that is read piece by piece, as far as needed."""
 
@@ -115,4 +104,4 @@ def _frames_of_file(file: Any, words: int) -> Iterator[memoryview]:
                 at += taken
                 number += 1
         held = held[start:]
-        held = pieces.more(held, max(_bytes_wanted(held), len(held) + 1) if held else 1)
+        held = pieces.more(held, max(bytes_wanted(held), len(held) + 1) if held else 1)
