@@ -61,83 +61,84 @@ extern "C" {
  * zero. */
 #define CAPNP_CANONICAL_TEXT_ROOM 96
 
-/* What a call returns. */
+/* What a call returns. 57, 58 and 60 all mean that the message is nested too deeply: treat them alike. */
 enum capnp_canonical_answer {
     CAPNP_CANONICAL_DONE = 0,
-    /* `room` is too small. The call gives the size that is needed. */
+    /* The buffer is too small. The call writes the size that is needed. */
     CAPNP_CANONICAL_NO_ROOM = 1,
     /* There are no bytes where a frame was expected. */
     CAPNP_CANONICAL_NO_MESSAGE = 2,
-    /* The size of a segment isn't a multiple of 8. */
+    /* The size of a segment isn't a multiple of 8 bytes. */
     CAPNP_CANONICAL_SEGMENT_IS_NOT_WHOLE_WORDS = 3,
-    /* A frame has more than 512 segments. */
+    /* The frame has more than 512 segments. */
     CAPNP_CANONICAL_TOO_MANY_SEGMENTS = 17,
-    /* A frame has more words than the limit. */
+    /* The frame or the unpacked bytes have more words than the limit. */
     CAPNP_CANONICAL_MESSAGE_TOO_LONG = 18,
-    /* The bytes end inside a frame; or packed bytes end inside a word, or before the count that has to follow. */
+    /* The bytes end inside a frame or a packed word. The count after a packed word is a part of it. */
     CAPNP_CANONICAL_TRUNCATED = 19,
-    /* malloc returned null. */
+    /* Memory ran out. */
     CAPNP_CANONICAL_ALLOCATION_FAILED = 32,
-    /* The value to be copied holds a capability. */
+    /* The value contains a capability, so it has no canonical form. */
     CAPNP_CANONICAL_CANNOT_CREATE_A_CANONICAL_MESSAGE_WITH_A_CAPABILITY = 33,
-    /* The tag of a list of structs isn't that of a struct. From the calls that measure. */
+    /* The tag of a list of structs isn't a struct pointer. From the calls that measure. */
     CAPNP_CANONICAL_CANT_HANDLE_NON_STRUCT_INLINE_COMPOSITE = 34,
     /* The elements of a list of structs take more words than its pointer claims. */
     CAPNP_CANONICAL_INLINE_COMPOSITE_LISTS_ELEMENTS_OVERRUN_ITS_WORD_COUNT = 42,
-    /* The tag of a list of structs isn't that of a struct. */
+    /* The tag of a list of structs isn't a struct pointer. From the calls that copy and those that test. */
     CAPNP_CANONICAL_INLINE_COMPOSITE_LISTS_OF_NON_STRUCT_TYPE_ARE_NOT_SUPPORTED = 43,
-    /* A segment is named that the message doesn't have. */
+    /* A far pointer names a segment that doesn't exist, or there are no segments. */
     CAPNP_CANONICAL_INVALID_SEGMENT_ID = 44,
     /* A far pointer leads to a landing pad that is itself a far pointer. */
     CAPNP_CANONICAL_MALFORMED_DOUBLE_FAR_POINTER = 45,
-    /* A pointer points outside of its segment. */
+    /* A pointer points outside its segment. */
     CAPNP_CANONICAL_MESSAGE_CONTAINS_OUT_OF_BOUNDS_POINTER = 55,
-    /* The message is nested too deeply. From the calls that measure. */
+    /* The nesting limit is exceeded. From the calls that measure. */
     CAPNP_CANONICAL_MESSAGE_IS_TOO_DEEPLY_NESTED = 57,
-    /* The message is nested too deeply. From the calls that copy, and from those that test, at a struct. */
+    /* The nesting limit is exceeded, perhaps by a cycle of pointers. From the calls that copy, and from those that
+     * test, at a struct. */
     CAPNP_CANONICAL_MESSAGE_IS_TOO_DEEPLY_NESTED_OR_CONTAINS_CYCLES = 58,
-    /* The canonical message would have more than 536,870,911 words; or there are 2^32 or more segments, or a segment
-     * has 2^32 or more words. */
+    /* The message or its canonical form is larger than the format allows. The canonical message would have more than
+     * 536,870,911 words, there are 2^32 or more segments, or a segment has 2^32 or more words. */
     CAPNP_CANONICAL_MESSAGE_TOO_LARGE = 59,
-    /* The message is nested too deeply. From the calls that test, at a list. */
+    /* The nesting limit is exceeded. From the calls that test, at a list. */
     CAPNP_CANONICAL_NESTING_LIMIT_EXCEEDED = 60,
-    /* The traversal limit doesn't cover what has to be read. */
+    /* The traversal limit is exceeded. */
     CAPNP_CANONICAL_READ_LIMIT_EXCEEDED = 62,
-    /* A pointer is of no known kind. */
+    /* A pointer is of an unknown kind. */
     CAPNP_CANONICAL_UNKNOWN_POINTER_TYPE = 66
 };
 
-/* Why a message isn't canonical. Each comment says which word the fault names. */
+/* Why a message isn't canonical. Each comment has the reason, and after the colon the word that the fault names. */
 enum capnp_canonical_reason {
     /* It is canonical. */
     CAPNP_CANONICAL_REASON_NONE = 0,
-    /* There isn't exactly one segment: the first word of segment 1, or of segment 0 if there is none. */
+    /* A number of segments other than one: the first word of segment 1, or of segment 0 if there is none. */
     CAPNP_CANONICAL_REASON_SEGMENT_COUNT = 1,
-    /* There is no word for a pointer: the place where it would be. */
+    /* No word where a pointer should be: the place of the missing word. */
     CAPNP_CANONICAL_REASON_NO_POINTER = 2,
     /* A far pointer: the word itself. */
     CAPNP_CANONICAL_REASON_FAR_POINTER = 3,
     /* A capability: the word itself. */
     CAPNP_CANONICAL_REASON_CAPABILITY = 4,
-    /* A pointer of no known kind: the word itself. */
+    /* A pointer of an unknown kind: the word itself. */
     CAPNP_CANONICAL_REASON_UNKNOWN_POINTER = 5,
-    /* A struct without words doesn't start at its pointer: the pointer. */
+    /* A pointer to an empty struct with an offset other than -1: the pointer. */
     CAPNP_CANONICAL_REASON_EMPTY_STRUCT_PLACE = 6,
-    /* An object doesn't start where the last one ended: the pointer to it. */
+    /* A pointer to an object that isn't directly next in order: the pointer. */
     CAPNP_CANONICAL_REASON_OBJECT_PLACE = 7,
-    /* The bits after the last element of a list aren't zero: the word with these bits. */
+    /* A list whose padding isn't zero: the word with the padding. */
     CAPNP_CANONICAL_REASON_PADDING = 8,
-    /* The last word of a data section is zero: the word itself. */
+    /* A data section whose last word is zero: the last word. */
     CAPNP_CANONICAL_REASON_DATA_SECTION = 9,
-    /* The last pointer of a pointer section is null: the word itself. */
+    /* A pointer section whose last pointer is null: the last pointer. */
     CAPNP_CANONICAL_REASON_POINTER_SECTION = 10,
-    /* The elements of a list of structs don't take as many words as its pointer claims: the tag. */
+    /* A list of structs whose pointer claims more words than its elements take: the tag. */
     CAPNP_CANONICAL_REASON_ELEMENT_WORDS = 11,
-    /* The elements of a list of structs have more data words than any of them uses: the tag. */
+    /* A list of structs with more data words than any element needs: the tag. */
     CAPNP_CANONICAL_REASON_ELEMENT_DATA = 12,
-    /* The elements of a list of structs have more pointers than any of them uses: the tag. */
+    /* A list of structs with more pointers than any element needs: the tag. */
     CAPNP_CANONICAL_REASON_ELEMENT_POINTERS = 13,
-    /* There are words after the value: the first of these. */
+    /* Words after the value: the first of them. */
     CAPNP_CANONICAL_REASON_WORDS_BEHIND = 14
 };
 
@@ -224,7 +225,7 @@ uint32_t capnp_canonical_unpack(const uint8_t *packed, size_t packed_size, uint8
  * name in bytes, without the zero, or 0 if the number has no name. */
 size_t capnp_canonical_name(uint32_t answer, char *to, size_t room);
 
-/* The same for the text of a reason, such as `padding that isn't zero`. */
+/* The same for the text of a reason, such as `a list whose padding isn't zero`. */
 size_t capnp_canonical_reason_text(uint32_t reason, char *to, size_t room);
 
 /* The version of the linked library, in the form of CAPNP_CANONICAL_VERSION. */
@@ -294,30 +295,30 @@ CAPNP_CANONICAL_INLINE const char *capnp_canonical_error_name(uint32_t answer) {
     }
 }
 
-/* The text of a refusal, such as `the bytes end within a frame`, as a constant. */
+/* The text of a refusal, such as `the bytes end inside a frame or a packed word`, as a constant. */
 CAPNP_CANONICAL_INLINE const char *capnp_canonical_error_text(uint32_t answer) {
     switch (answer) {
     case CAPNP_CANONICAL_DONE: return "the call is done";
-    case CAPNP_CANONICAL_NO_ROOM: return "the buffer has too little room";
-    case CAPNP_CANONICAL_NO_MESSAGE: return "there are no bytes where a frame was to be";
-    case CAPNP_CANONICAL_SEGMENT_IS_NOT_WHOLE_WORDS: return "a segment isn't of whole words of 8 bytes";
-    case CAPNP_CANONICAL_TOO_MANY_SEGMENTS: return "a frame has more than 512 segments";
-    case CAPNP_CANONICAL_MESSAGE_TOO_LONG: return "a frame has more words than the limit";
-    case CAPNP_CANONICAL_TRUNCATED: return "the bytes end within a frame";
-    case CAPNP_CANONICAL_ALLOCATION_FAILED: return "there is no memory";
-    case CAPNP_CANONICAL_CANNOT_CREATE_A_CANONICAL_MESSAGE_WITH_A_CAPABILITY: return "the value holds a capability, so it has no canonical form";
-    case CAPNP_CANONICAL_CANT_HANDLE_NON_STRUCT_INLINE_COMPOSITE: return "the tag word of a list of structs isn't that of a struct";
+    case CAPNP_CANONICAL_NO_ROOM: return "the buffer is too small";
+    case CAPNP_CANONICAL_NO_MESSAGE: return "there are no bytes where a frame was expected";
+    case CAPNP_CANONICAL_SEGMENT_IS_NOT_WHOLE_WORDS: return "the size of a segment isn't a multiple of 8 bytes";
+    case CAPNP_CANONICAL_TOO_MANY_SEGMENTS: return "the frame has more than 512 segments";
+    case CAPNP_CANONICAL_MESSAGE_TOO_LONG: return "the frame or the unpacked bytes have more words than the limit";
+    case CAPNP_CANONICAL_TRUNCATED: return "the bytes end inside a frame or a packed word";
+    case CAPNP_CANONICAL_ALLOCATION_FAILED: return "memory ran out";
+    case CAPNP_CANONICAL_CANNOT_CREATE_A_CANONICAL_MESSAGE_WITH_A_CAPABILITY: return "the value contains a capability, so it has no canonical form";
+    case CAPNP_CANONICAL_CANT_HANDLE_NON_STRUCT_INLINE_COMPOSITE: return "the tag of a list of structs isn't a struct pointer";
     case CAPNP_CANONICAL_INLINE_COMPOSITE_LISTS_ELEMENTS_OVERRUN_ITS_WORD_COUNT: return "the elements of a list of structs take more words than its pointer claims";
-    case CAPNP_CANONICAL_INLINE_COMPOSITE_LISTS_OF_NON_STRUCT_TYPE_ARE_NOT_SUPPORTED: return "the tag word of a list of structs isn't that of a struct";
-    case CAPNP_CANONICAL_INVALID_SEGMENT_ID: return "a segment is named that the message doesn't have";
+    case CAPNP_CANONICAL_INLINE_COMPOSITE_LISTS_OF_NON_STRUCT_TYPE_ARE_NOT_SUPPORTED: return "the tag of a list of structs isn't a struct pointer";
+    case CAPNP_CANONICAL_INVALID_SEGMENT_ID: return "a far pointer names a segment that doesn't exist, or there are no segments";
     case CAPNP_CANONICAL_MALFORMED_DOUBLE_FAR_POINTER: return "a far pointer leads to a landing pad that is itself a far pointer";
-    case CAPNP_CANONICAL_MESSAGE_CONTAINS_OUT_OF_BOUNDS_POINTER: return "a pointer leads out of its segment";
-    case CAPNP_CANONICAL_MESSAGE_IS_TOO_DEEPLY_NESTED: return "the nesting limit is met";
-    case CAPNP_CANONICAL_MESSAGE_IS_TOO_DEEPLY_NESTED_OR_CONTAINS_CYCLES: return "the nesting limit is met, or a pointer leads back";
-    case CAPNP_CANONICAL_MESSAGE_TOO_LARGE: return "the canonical message or its segments are larger than the format allows";
-    case CAPNP_CANONICAL_NESTING_LIMIT_EXCEEDED: return "the nesting limit is met";
-    case CAPNP_CANONICAL_READ_LIMIT_EXCEEDED: return "the traversal limit doesn't cover what is to be read";
-    case CAPNP_CANONICAL_UNKNOWN_POINTER_TYPE: return "a pointer word isn't of a kind that the format knows";
+    case CAPNP_CANONICAL_MESSAGE_CONTAINS_OUT_OF_BOUNDS_POINTER: return "a pointer points outside its segment";
+    case CAPNP_CANONICAL_MESSAGE_IS_TOO_DEEPLY_NESTED: return "the nesting limit is exceeded";
+    case CAPNP_CANONICAL_MESSAGE_IS_TOO_DEEPLY_NESTED_OR_CONTAINS_CYCLES: return "the nesting limit is exceeded, perhaps by a cycle of pointers";
+    case CAPNP_CANONICAL_MESSAGE_TOO_LARGE: return "the message or its canonical form is larger than the format allows";
+    case CAPNP_CANONICAL_NESTING_LIMIT_EXCEEDED: return "the nesting limit is exceeded";
+    case CAPNP_CANONICAL_READ_LIMIT_EXCEEDED: return "the traversal limit is exceeded";
+    case CAPNP_CANONICAL_UNKNOWN_POINTER_TYPE: return "a pointer is of an unknown kind";
     default: return "a refusal that this header doesn't know";
     }
 }
@@ -325,20 +326,20 @@ CAPNP_CANONICAL_INLINE const char *capnp_canonical_error_text(uint32_t answer) {
 /* What capnp_canonical_reason_text writes, as a constant. */
 CAPNP_CANONICAL_INLINE const char *capnp_canonical_fault_text(uint32_t reason) {
     switch (reason) {
-    case CAPNP_CANONICAL_REASON_SEGMENT_COUNT: return "not exactly one segment";
-    case CAPNP_CANONICAL_REASON_NO_POINTER: return "no word for a pointer";
+    case CAPNP_CANONICAL_REASON_SEGMENT_COUNT: return "a number of segments other than one";
+    case CAPNP_CANONICAL_REASON_NO_POINTER: return "no word where a pointer should be";
     case CAPNP_CANONICAL_REASON_FAR_POINTER: return "a far pointer";
     case CAPNP_CANONICAL_REASON_CAPABILITY: return "a capability";
-    case CAPNP_CANONICAL_REASON_UNKNOWN_POINTER: return "a pointer of no known kind";
-    case CAPNP_CANONICAL_REASON_EMPTY_STRUCT_PLACE: return "an empty struct that isn't at its pointer";
-    case CAPNP_CANONICAL_REASON_OBJECT_PLACE: return "an object that isn't where the last one ended";
-    case CAPNP_CANONICAL_REASON_PADDING: return "padding that isn't zero";
+    case CAPNP_CANONICAL_REASON_UNKNOWN_POINTER: return "a pointer of an unknown kind";
+    case CAPNP_CANONICAL_REASON_EMPTY_STRUCT_PLACE: return "a pointer to an empty struct with an offset other than -1";
+    case CAPNP_CANONICAL_REASON_OBJECT_PLACE: return "a pointer to an object that isn't directly next in order";
+    case CAPNP_CANONICAL_REASON_PADDING: return "a list whose padding isn't zero";
     case CAPNP_CANONICAL_REASON_DATA_SECTION: return "a data section whose last word is zero";
     case CAPNP_CANONICAL_REASON_POINTER_SECTION: return "a pointer section whose last pointer is null";
-    case CAPNP_CANONICAL_REASON_ELEMENT_WORDS: return "a struct list that claims other words than it has";
-    case CAPNP_CANONICAL_REASON_ELEMENT_DATA: return "a struct list that could do with less data";
-    case CAPNP_CANONICAL_REASON_ELEMENT_POINTERS: return "a struct list that could do with fewer pointers";
-    case CAPNP_CANONICAL_REASON_WORDS_BEHIND: return "words behind the value";
+    case CAPNP_CANONICAL_REASON_ELEMENT_WORDS: return "a list of structs whose pointer claims more words than its elements take";
+    case CAPNP_CANONICAL_REASON_ELEMENT_DATA: return "a list of structs with more data words than any element needs";
+    case CAPNP_CANONICAL_REASON_ELEMENT_POINTERS: return "a list of structs with more pointers than any element needs";
+    case CAPNP_CANONICAL_REASON_WORDS_BEHIND: return "words after the value";
     default: return "";
     }
 }

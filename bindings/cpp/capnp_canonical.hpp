@@ -55,7 +55,7 @@ struct Place {
     std::uint64_t byte = 0;
 };
 
-// Why a call is refused.
+// Why a call is refused. 57, 58 and 60 all mean that the message is nested too deeply: treat them alike.
 class Error : public std::runtime_error {
 public:
     // `number` is one of enum capnp_canonical_answer; `wanted` is how many bytes are needed, if the room is too small;
@@ -74,7 +74,7 @@ public:
     // How many bytes are needed, if the room is too small.
     std::size_t wanted() const noexcept { return wanted_; }
     // `what` is a sentence, such as
-    // `message 2 at byte 40: Truncated: the bytes end within a frame; they look like text`.
+    // `message 2 at byte 40: Truncated: the bytes end inside a frame or a packed word; they look like text`.
 
 private:
     static std::string sentence(std::uint32_t number, Place place, std::size_t wanted, const char* looks_like) {
@@ -185,9 +185,9 @@ struct Fault {
     // The position in the segment, in words.
     std::uint32_t word;
 
-    // The reason as text, such as `padding that isn't zero`.
+    // The reason as text, such as `a list whose padding isn't zero`.
     std::string reason_text() const { return capnp_canonical_fault_text(reason); }
-    // Such as `padding that isn't zero at segment 0, word 3`.
+    // Such as `a list whose padding isn't zero at segment 0, word 3`.
     std::string text() const {
         return reason_text() + " at segment " + std::to_string(segment) + ", word " + std::to_string(word);
     }
@@ -202,7 +202,7 @@ public:
     bool is_canonical() const noexcept { return !fault_; }
     // Why and where the message isn't canonical. Throws std::bad_optional_access if it is.
     const Fault& fault() const { return fault_.value(); }
-    // `canonical`, or for example `not canonical: padding that isn't zero at segment 0, word 3`.
+    // `canonical`, or for example `not canonical: a list whose padding isn't zero at segment 0, word 3`.
     std::string text() const { return fault_ ? "not canonical: " + fault_->text() : "canonical"; }
 
 private:

@@ -1,6 +1,7 @@
 #!/usr/bin/env python3
-"""Checks that bindings/c/capnp_canonical.h agrees with crates/capnp_canonical: the numbers and names of answers and reasons,
-the functions and the version; and that the other bindings have the header's numbers, texts and version.
+"""Checks that bindings/c/capnp_canonical.h agrees with crates/capnp_canonical: the numbers, names and texts of answers and
+reasons, the functions and the version; and that the other bindings and the pages have the header's numbers, texts and
+version.
 
     header.py
 
@@ -12,6 +13,7 @@ import sys
 TOP = pathlib.Path(__file__).resolve().parents[2]
 HEADER = (TOP / 'bindings/c/capnp_canonical.h').read_text(encoding='utf-8')
 NUMBERS = (TOP / 'crates/capnp_canonical/specs/Numbers.antt').read_text(encoding='utf-8')
+REASONS = (TOP / 'crates/capnp_pointers/specs/Faults.antt').read_text(encoding='utf-8')
 EXPORTS = (TOP / 'crates/capnp_canonical/src/lib.rt').read_text(encoding='utf-8')
 PREFIX = 'CAPNP_CANONICAL_'
 # The other files that have the header's version.
@@ -40,6 +42,13 @@ def enumerators(enum):
     return [(name, int(number)) for name, number in re.findall(rf'^ +{PREFIX}(\w+) = (\d+),?$', body, re.M)]
 
 
+def comments(enum):
+    """The comment above each number of an enum in the header."""
+    body = re.search(rf'enum {enum} \{{(.*?)\n\}};', HEADER, re.S)[1]
+    found = re.findall(rf'/\*((?:(?!\*/).)*)\*/\n +{PREFIX}(\w+) = \d+', body, re.S)
+    return {name: ' '.join(text.replace('\n     *', ' ').split()) for text, name in found}
+
+
 def constants(function):
     """The texts that a function of the header returns, by the names of the numbers."""
     body = re.search(rf'const char \*{function}\(.*?\n\}}\n', HEADER, re.S)[0]
@@ -66,6 +75,36 @@ def of_rust():
     reasons = re.findall(r'pub const (\w+): Reason = Reason\((\d+)\);', answers)
     of_errors = re.findall(r'^ +(\d+) => \(\s*"(.*)",\s*"(.*)",?\s*\),$', texts, re.M)
     return errors, reasons, of_errors, re.findall(r'^ +(\d+) => "(.*)",$', texts, re.M)
+
+
+def comments_of_rust():
+    """The comment above each constant of the crate for Rust, by the kind of constant and its name."""
+    found = re.findall(r'((?: +///.*\n)+) +pub const (\w+): (\w+) = ', file('bindings/rust/src/answers.rs'))
+    return {(kind, name): ' '.join(text.replace('///', ' ').split()) for text, name, kind in found}
+
+
+def sentence(text):
+    return text[0].upper() + text[1:]
+
+
+def facts_of_texts():
+    """Whether each text is the same wherever it is said: in the header's comments, in Rust's, in the sources and on pages."""
+    names, texts, faults = (constants(f'capnp_canonical_{it}') for it in ('error_name', 'error_text', 'fault_text'))
+    answers, reasons = comments('capnp_canonical_answer'), comments('capnp_canonical_reason')
+    rust, library, program = comments_of_rust(), file('docs/LIBRARY.md'), file('docs/PROGRAM.md')
+    of_sources = dict(re.findall(r'^fault_reason_text (\w+) = codes "(.*)"$', REASONS, re.M))
+    for name, number in enumerators('capnp_canonical_answer'):
+        if name == 'DONE':
+            continue
+        yield f'the comment of {name} is its text', answers[name].startswith(f'{sentence(texts[name])}.')
+        # what the wrappers answer themselves has no constant in Rust
+        yield f'the comment of {name} in Rust', name == 'NO_ROOM' or rust['Error', name] == answers[name]
+        yield f'LIBRARY.md has {name}', f'| {number} | `{names[name]}` | {texts[name]} |\n' in library
+    for name, text in faults.items():
+        yield f'the comment of {name} is its text', reasons[name].startswith(f'{sentence(text)}: ')
+        yield f'the comment of {name} in Rust', rust['Reason', name.replace('REASON_', '')] == reasons[name]
+        yield f'PROGRAM.md has {name}', f'`{text}`' in program
+    yield 'the texts of reasons in Faults.antt', {f'REASON_{in_capitals(it)}': text for it, text in of_sources.items()} == faults
 
 
 def facts_of_bindings():
@@ -103,7 +142,7 @@ def main():
     facts += [(f'{name} is declared and exported', name in declared and name in exported) for name in sorted({*declared, *exported})]
     facts += [('the number of the version', int(version[0]) == parts[0] * 10000 + parts[1] * 100 + parts[2])]
     facts += [(f'{text} is the version that the library gives', re.search(text, EXPORTS)) for text in (rf'result ≡ {version[0]} ', f'put_text\\("{version[1]}", to\\)')]
-    facts += list(facts_of_bindings())
+    facts += list(facts_of_bindings()) + list(facts_of_texts())
     facts += [(f'{name} has the version', re.findall(pattern, file(name), re.M) == [version[1]]) for name, pattern in VERSIONS.items()]
     # the package for cargo has copies of these files in its folder, because the gate takes no links
     facts += [(f'bindings/rust/{name} is {of}', file(f'bindings/rust/{name}') == file(of)) for name, of in PACKAGED.items()]

@@ -112,7 +112,7 @@ static void test_texts(void) {
         expect(strcmp(capnp_canonical_fault_text(number), text) == 0, "fault_text", text);
     }
     expect(strcmp(capnp_canonical_error_name(CAPNP_CANONICAL_TRUNCATED), "Truncated") == 0, "error_name", "Truncated");
-    expect(strcmp(capnp_canonical_error_text(CAPNP_CANONICAL_TRUNCATED), "the bytes end within a frame") == 0, "error_text", "Truncated");
+    expect(strcmp(capnp_canonical_error_text(CAPNP_CANONICAL_TRUNCATED), "the bytes end inside a frame or a packed word") == 0, "error_text", "Truncated");
 }
 
 static void expect_looks(const char *digits, const char *wanted) {

@@ -274,14 +274,14 @@ void test_frames() {
     try {
         for (Bytes frame : capnp_canonical::Frames(stream)) count += frame.size();
     } catch (const Error& error) {
-        require_same("what", error.what(), "message 2 at byte 40: Truncated: the bytes end within a frame");
+        require_same("what", error.what(), "message 2 at byte 40: Truncated: the bytes end inside a frame or a packed word");
         require(error.place().message == 2 && error.place().byte == 40, "the place");
     }
     stream = SHARED;
     stream.insert(stream.end(), ZERO_WORD.begin(), ZERO_WORD.end());
     require_same("a message that is refused", what([&] {
                      for (Bytes frame : capnp_canonical::Frames(stream)) capnp_canonical::copy(frame, {64, 6});
-                 }), "message 1 at byte 0: ReadLimitExceeded: the traversal limit doesn't cover what is to be read");
+                 }), "message 1 at byte 0: ReadLimitExceeded: the traversal limit is exceeded");
 }
 
 // The rows of packed.txt.
@@ -326,19 +326,19 @@ void test_errors() {
         require(false, "no refusal");
     } catch (const Error& error) {
         require(error.number() == CAPNP_CANONICAL_NO_MESSAGE, "another number");
-        require_same("what", error.what(), "NoMessage: there are no bytes where a frame was to be");
+        require_same("what", error.what(), "NoMessage: there are no bytes where a frame was expected");
         require_same("name", error.name(), "NoMessage");
     }
     require_same("a number without a name", Error(1000000).name(), "");
     auto refused = [](const char* digits) { return what([&] { capnp_canonical::copy(bytes_of(digits)); }); };
-    const std::string many = "TooManySegments: a frame has more than 512 segments; they look like ";
+    const std::string many = "TooManySegments: the frame has more than 512 segments; they look like ";
     require_same("gzip", refused("1f8b080000000000000348"), many + "gzip");
     require_same("text", refused("2869642031290a20"), many + "text");
     // by capnp convert binary:packed
     require_same("packed", refused("10021001012a00000000"), many + "packed messages");
     require_same("words", refused("fcffffff00000000"), many + "bare canonical words");
     require_same("no room", Error(CAPNP_CANONICAL_NO_ROOM, {}, 24).what(),
-                 "NoRoom: the buffer has too little room, and 24 bytes are wanted");
+                 "NoRoom: the buffer is too small, and 24 bytes are wanted");
 }
 
 int main(int count, char** words) {

@@ -374,8 +374,8 @@ static void test_texts(void) {
     test_text(capnp_canonical_name, CAPNP_CANONICAL_DONE, "");
     test_text(capnp_canonical_name, 15, "");
     test_text(capnp_canonical_name, UINT32_MAX, "");
-    test_text(capnp_canonical_reason_text, CAPNP_CANONICAL_REASON_PADDING, "padding that isn't zero");
-    test_text(capnp_canonical_reason_text, CAPNP_CANONICAL_REASON_WORDS_BEHIND, "words behind the value");
+    test_text(capnp_canonical_reason_text, CAPNP_CANONICAL_REASON_PADDING, "a list whose padding isn't zero");
+    test_text(capnp_canonical_reason_text, CAPNP_CANONICAL_REASON_WORDS_BEHIND, "words after the value");
     test_text(capnp_canonical_reason_text, CAPNP_CANONICAL_REASON_NONE, "");
     test_text(capnp_canonical_reason_text, 15, "");
     test_text(version_text, 0, CAPNP_CANONICAL_VERSION_TEXT);

@@ -157,7 +157,7 @@ class Calls(unittest.TestCase):
         with self.assertRaises(Error) as refused:
             capnp_canonical.copy_flat_into(memoryview(to)[:23], ZERO_WORD)
         self.assertEqual((refused.exception.number, refused.exception.wanted), (Refusal.NO_ROOM, 24))
-        self.assertEqual(str(refused.exception), 'NoRoom: the buffer has too little room, and 24 bytes are wanted')
+        self.assertEqual(str(refused.exception), 'NoRoom: the buffer is too small, and 24 bytes are wanted')
         with self.assertRaises(BufferError):
             capnp_canonical.copy_into(b'no buffer to write to', ZERO_WORD)
         whole = bytearray(ZERO_WORD + bytes(40))
@@ -241,7 +241,7 @@ class Calls(unittest.TestCase):
             next(frames)
         self.assertEqual(refused.exception.name, 'Truncated')
         self.assertEqual(refused.exception.place, (2, 40))
-        self.assertEqual(str(refused.exception), 'message 2 at byte 40: Truncated: the bytes end within a frame')
+        self.assertEqual(str(refused.exception), 'message 2 at byte 40: Truncated: the bytes end inside a frame or a packed word')
 
     def test_size_of_a_frame_that_is_not_whole(self):
         """Whoever reads just what is wanted has the frame after its table."""
@@ -264,7 +264,7 @@ class Calls(unittest.TestCase):
     def test_errors(self):
         error = Error(19)
         self.assertIsInstance(error, ValueError)
-        self.assertEqual((str(error), error.name, error.number), ('Truncated: the bytes end within a frame', 'Truncated', 19))
+        self.assertEqual((str(error), error.name, error.number), ('Truncated: the bytes end inside a frame or a packed word', 'Truncated', 19))
         self.assertIs(error.number, Refusal.TRUNCATED)
         again = pickle.loads(pickle.dumps(error.at(2, 40)))
         self.assertEqual((again.number, again.place, str(again)), (19, (2, 40), str(error.at(2, 40))))
@@ -273,7 +273,7 @@ class Calls(unittest.TestCase):
             self.assertEqual(Error(number).name.lower(), number.name.replace('_', '').lower())
 
     def test_what_refused_bytes_look_like(self):
-        many = 'TooManySegments: a frame has more than 512 segments; they look like '
+        many = 'TooManySegments: the frame has more than 512 segments; they look like '
         for digits, wanted in (
             ('1f8b080000000000', 'gzip'), ('28b52ffd24009900', 'zstd'), ('425a683931415926', 'bzip2'),
             ('fd377a585a000004', 'xz'), ('504b030414000000', 'a zip archive'), ('2869642031290a20', 'text'),

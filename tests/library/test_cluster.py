@@ -101,10 +101,10 @@ class Cluster(unittest.TestCase):
         self.assertEqual([it.split(':')[-1] for it in lines[:2]], ['1', '3'])
         at = len(numbered(1) + deep + numbered(2))
         self.assertEqual(lines[2:], [
-            f'cluster: {bad}: message 4 at byte {at}: Truncated: the bytes end within a frame',
+            f'cluster: {bad}: message 4 at byte {at}: Truncated: the bytes end inside a frame or a packed word',
             f'cluster: {none}: No such file or directory',
             f'cluster: {bad}: message 2 at byte {len(numbered(1))}: CannotCreateACanonicalMessageWithACapability: '
-            'the value holds a capability, so it has no canonical form',
+            'the value contains a capability, so it has no canonical form',
         ])
 
     def test_command(self):

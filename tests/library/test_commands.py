@@ -18,8 +18,8 @@ GOOD = list(WORDS)
 STREAM = b''.join(FRAMES[name] for name in GOOD)
 # of the same value, in other segments
 PAIR = 'book', 'book_in_segments'
-TRUNCATED = 'Truncated: the bytes end within a frame'
-MANY = 'TooManySegments: a frame has more than 512 segments; they look like '
+TRUNCATED = 'Truncated: the bytes end inside a frame or a packed word'
+MANY = 'TooManySegments: the frame has more than 512 segments; they look like '
 
 
 def name_of(words):
@@ -71,7 +71,7 @@ class Commands(unittest.TestCase):
         self.require(run('digest', '--flat', path), 0, [f'{name_of(WORDS["book"])}  {path}:1'])
         self.require(run('digest', '--flat', input=WORDS['book']), 0, [f'{name_of(WORDS["book"])}  -:1'])
         half = self.file('half', WORDS['book'][:-1])
-        self.require(run('digest', '--flat', half), 2, [], f"{half}: SegmentIsNotWholeWords: a segment isn't of whole words of 8 bytes")
+        self.require(run('digest', '--flat', half), 2, [], f"{half}: SegmentIsNotWholeWords: the size of a segment isn't a multiple of 8 bytes")
 
     def test_check(self):
         path = self.file('stream', STREAM)
@@ -191,7 +191,7 @@ class Commands(unittest.TestCase):
         self.require(run('digest', path, self.folder / 'none', self.folder), 2,
                      [*self.names(path), f'{name_of(WORDS["book"])}  {path}:{count + 2}'],
                      f'{path}: message {count + 1} at byte {at}: CannotCreateACanonicalMessageWithACapability: '
-                     'the value holds a capability, so it has no canonical form',
+                     'the value contains a capability, so it has no canonical form',
                      f'{path}: message {count + 3} at byte {after + len(FRAMES["book"])}: {TRUNCATED}',
                      f'{self.folder / "none"}: No such file or directory', f'{self.folder}: Is a directory')
         for content, like in (
@@ -229,7 +229,7 @@ class Commands(unittest.TestCase):
     def test_limits(self):
         path = self.file('stream', FRAMES['canonical'])
         self.require(run('digest', '--words', '2', path), 2, [],
-                     f'{path}: message 1 at byte 0: MessageTooLong: a frame has more words than the limit')
+                     f'{path}: message 1 at byte 0: MessageTooLong: the frame or the unpacked bytes have more words than the limit')
         self.require(run('digest', '--words', 'none', path), 0, [f'{name_of(WORDS["canonical"])}  {path}:1'])
 
     def test_no_library(self):

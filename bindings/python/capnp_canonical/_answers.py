@@ -31,7 +31,8 @@ class Limits:
 
 
 class Refusal(enum.IntEnum):
-    """The numbers of `enum capnp_canonical_answer`. A later library may return further ones."""
+    """The numbers of `enum capnp_canonical_answer`. 57, 58 and 60 all mean that the message is nested too deeply: treat
+    them alike. A later library may return further ones."""
 
     NO_ROOM = 1
     NO_MESSAGE = 2
@@ -56,26 +57,26 @@ class Refusal(enum.IntEnum):
 
 
 _TEXTS = {
-    1: 'the buffer has too little room',
-    2: 'there are no bytes where a frame was to be',
-    3: "a segment isn't of whole words of 8 bytes",
-    17: 'a frame has more than 512 segments',
-    18: 'a frame has more words than the limit',
-    19: 'the bytes end within a frame',
-    32: 'there is no memory',
-    33: 'the value holds a capability, so it has no canonical form',
-    34: "the tag word of a list of structs isn't that of a struct",
+    1: 'the buffer is too small',
+    2: 'there are no bytes where a frame was expected',
+    3: "the size of a segment isn't a multiple of 8 bytes",
+    17: 'the frame has more than 512 segments',
+    18: 'the frame or the unpacked bytes have more words than the limit',
+    19: 'the bytes end inside a frame or a packed word',
+    32: 'memory ran out',
+    33: 'the value contains a capability, so it has no canonical form',
+    34: "the tag of a list of structs isn't a struct pointer",
     42: 'the elements of a list of structs take more words than its pointer claims',
-    43: "the tag word of a list of structs isn't that of a struct",
-    44: "a segment is named that the message doesn't have",
+    43: "the tag of a list of structs isn't a struct pointer",
+    44: "a far pointer names a segment that doesn't exist, or there are no segments",
     45: 'a far pointer leads to a landing pad that is itself a far pointer',
-    55: 'a pointer leads out of its segment',
-    57: 'the nesting limit is met',
-    58: 'the nesting limit is met, or a pointer leads back',
-    59: 'the canonical message or its segments are larger than the format allows',
-    60: 'the nesting limit is met',
-    62: "the traversal limit doesn't cover what is to be read",
-    66: "a pointer word isn't of a kind that the format knows",
+    55: 'a pointer points outside its segment',
+    57: 'the nesting limit is exceeded',
+    58: 'the nesting limit is exceeded, perhaps by a cycle of pointers',
+    59: 'the message or its canonical form is larger than the format allows',
+    60: 'the nesting limit is exceeded',
+    62: 'the traversal limit is exceeded',
+    66: 'a pointer is of an unknown kind',
 }
 
 
@@ -100,7 +101,7 @@ class Reason(enum.IntEnum):
 
 class Error(ValueError):
     """A call was refused. `str` gives a sentence, such as
-    `message 2 at byte 40: Truncated: the bytes end within a frame`."""
+    `message 2 at byte 40: Truncated: the bytes end inside a frame or a packed word`."""
 
     number: int
     """A `Refusal`, or an int if that doesn't have the number."""
@@ -151,7 +152,7 @@ class Fault:
 
     @property
     def reason_text(self) -> str:
-        """The reason as text, such as `padding that isn't zero`."""
+        """The reason as text, such as `a list whose padding isn't zero`."""
         return text_of(library.capnp_canonical_reason_text, self.reason)
 
     def __str__(self) -> str:

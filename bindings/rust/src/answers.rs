@@ -7,7 +7,9 @@ use core::fmt;
 const DONE: u32 = 0;
 pub(crate) const NO_ROOM: u32 = 1;
 
-/// Why a call is refused. `{}` writes its name and text, such as `Truncated: the bytes end within a frame`.
+/// Why a call is refused. `{}` writes its name and text, such as
+/// `Truncated: the bytes end inside a frame or a packed word`. 57, 58 and 60 all mean that the message is nested too
+/// deeply: treat them alike.
 #[derive(Clone, Copy, PartialEq, Eq, Hash)]
 pub struct Error(u32);
 
@@ -15,41 +17,43 @@ pub struct Error(u32);
 impl Error {
     /// There are no bytes where a frame was expected.
     pub const NO_MESSAGE: Error = Error(2);
-    /// The length of a segment isn't a multiple of 8 bytes.
+    /// The size of a segment isn't a multiple of 8 bytes.
     pub const SEGMENT_IS_NOT_WHOLE_WORDS: Error = Error(3);
-    /// A frame has more than 512 segments.
+    /// The frame has more than 512 segments.
     pub const TOO_MANY_SEGMENTS: Error = Error(17);
-    /// A frame has more words than the limit, or packed bytes stand for more.
+    /// The frame or the unpacked bytes have more words than the limit.
     pub const MESSAGE_TOO_LONG: Error = Error(18);
-    /// The bytes end inside a frame; or packed bytes end inside a word, or before a count.
+    /// The bytes end inside a frame or a packed word. The count after a packed word is a part of it.
     pub const TRUNCATED: Error = Error(19);
-    /// There is no memory.
+    /// Memory ran out.
     pub const ALLOCATION_FAILED: Error = Error(32);
-    /// The value to be copied holds a capability.
+    /// The value contains a capability, so it has no canonical form.
     pub const CANNOT_CREATE_A_CANONICAL_MESSAGE_WITH_A_CAPABILITY: Error = Error(33);
-    /// The tag of a list of structs isn't that of a struct. From the calls that measure.
+    /// The tag of a list of structs isn't a struct pointer. From the calls that measure.
     pub const CANT_HANDLE_NON_STRUCT_INLINE_COMPOSITE: Error = Error(34);
     /// The elements of a list of structs take more words than its pointer claims.
     pub const INLINE_COMPOSITE_LISTS_ELEMENTS_OVERRUN_ITS_WORD_COUNT: Error = Error(42);
-    /// The tag of a list of structs isn't that of a struct.
+    /// The tag of a list of structs isn't a struct pointer. From the calls that copy and those that test.
     pub const INLINE_COMPOSITE_LISTS_OF_NON_STRUCT_TYPE_ARE_NOT_SUPPORTED: Error = Error(43);
-    /// A segment is named that the message doesn't have.
+    /// A far pointer names a segment that doesn't exist, or there are no segments.
     pub const INVALID_SEGMENT_ID: Error = Error(44);
     /// A far pointer leads to a landing pad that is itself a far pointer.
     pub const MALFORMED_DOUBLE_FAR_POINTER: Error = Error(45);
-    /// A pointer points outside of its segment.
+    /// A pointer points outside its segment.
     pub const MESSAGE_CONTAINS_OUT_OF_BOUNDS_POINTER: Error = Error(55);
-    /// The message is nested too deeply. From the calls that measure.
+    /// The nesting limit is exceeded. From the calls that measure.
     pub const MESSAGE_IS_TOO_DEEPLY_NESTED: Error = Error(57);
-    /// The message is nested too deeply. From the calls that copy, and from those that test, at a struct.
+    /// The nesting limit is exceeded, perhaps by a cycle of pointers. From the calls that copy, and from those that
+    /// test, at a struct.
     pub const MESSAGE_IS_TOO_DEEPLY_NESTED_OR_CONTAINS_CYCLES: Error = Error(58);
-    /// The canonical message or its segments are larger than the format allows.
+    /// The message or its canonical form is larger than the format allows. The canonical message would have more than
+    /// 536,870,911 words, there are 2^32 or more segments, or a segment has 2^32 or more words.
     pub const MESSAGE_TOO_LARGE: Error = Error(59);
-    /// The message is nested too deeply. From the calls that test, at a list.
+    /// The nesting limit is exceeded. From the calls that test, at a list.
     pub const NESTING_LIMIT_EXCEEDED: Error = Error(60);
-    /// The traversal limit doesn't cover what has to be read.
+    /// The traversal limit is exceeded.
     pub const READ_LIMIT_EXCEEDED: Error = Error(62);
-    /// A pointer is of no known kind.
+    /// A pointer is of an unknown kind.
     pub const UNKNOWN_POINTER_TYPE: Error = Error(66);
 
     /// The number of `enum capnp_canonical_answer`.
@@ -62,7 +66,7 @@ impl Error {
         texts::of_error(self.0).0
     }
 
-    /// The text, such as `the bytes end within a frame`.
+    /// The text, such as `the bytes end inside a frame or a packed word`.
     pub fn text(self) -> &'static str {
         texts::of_error(self.0).1
     }
@@ -102,40 +106,40 @@ impl From<Error> for std::io::Error {
     }
 }
 
-/// Why a message isn't canonical. `{}` writes it as text, such as `padding that isn't zero`. Each constant says which
-/// word the fault names.
+/// Why a message isn't canonical. `{}` writes it as text, such as `a list whose padding isn't zero`. The comment of
+/// each constant has the reason, and after the colon the word that the fault names.
 #[derive(Clone, Copy, PartialEq, Eq, Hash)]
 pub struct Reason(u32);
 
 #[rustfmt::skip]
 impl Reason {
-    /// There isn't exactly one segment: the first word of segment 1, or of segment 0 if there is none.
+    /// A number of segments other than one: the first word of segment 1, or of segment 0 if there is none.
     pub const SEGMENT_COUNT: Reason = Reason(1);
-    /// There is no word for a pointer: the place where it would be.
+    /// No word where a pointer should be: the place of the missing word.
     pub const NO_POINTER: Reason = Reason(2);
     /// A far pointer: the word itself.
     pub const FAR_POINTER: Reason = Reason(3);
     /// A capability: the word itself.
     pub const CAPABILITY: Reason = Reason(4);
-    /// A pointer of no known kind: the word itself.
+    /// A pointer of an unknown kind: the word itself.
     pub const UNKNOWN_POINTER: Reason = Reason(5);
-    /// A struct without words doesn't start at its pointer: the pointer.
+    /// A pointer to an empty struct with an offset other than -1: the pointer.
     pub const EMPTY_STRUCT_PLACE: Reason = Reason(6);
-    /// An object doesn't start where the last one ended: the pointer to it.
+    /// A pointer to an object that isn't directly next in order: the pointer.
     pub const OBJECT_PLACE: Reason = Reason(7);
-    /// The bits after the last element of a list aren't zero: the word with these bits.
+    /// A list whose padding isn't zero: the word with the padding.
     pub const PADDING: Reason = Reason(8);
-    /// The last word of a data section is zero: the word itself.
+    /// A data section whose last word is zero: the last word.
     pub const DATA_SECTION: Reason = Reason(9);
-    /// The last pointer of a pointer section is null: the word itself.
+    /// A pointer section whose last pointer is null: the last pointer.
     pub const POINTER_SECTION: Reason = Reason(10);
-    /// The elements of a list of structs don't take as many words as its pointer claims: the tag.
+    /// A list of structs whose pointer claims more words than its elements take: the tag.
     pub const ELEMENT_WORDS: Reason = Reason(11);
-    /// The elements of a list of structs have more data words than any of them uses: the tag.
+    /// A list of structs with more data words than any element needs: the tag.
     pub const ELEMENT_DATA: Reason = Reason(12);
-    /// The elements of a list of structs have more pointers than any of them uses: the tag.
+    /// A list of structs with more pointers than any element needs: the tag.
     pub const ELEMENT_POINTERS: Reason = Reason(13);
-    /// There are words after the value: the first of these.
+    /// Words after the value: the first of them.
     pub const WORDS_BEHIND: Reason = Reason(14);
 
     /// The number of `enum capnp_canonical_reason`.
@@ -143,7 +147,7 @@ impl Reason {
         self.0
     }
 
-    /// The text, such as `padding that isn't zero`; empty if the number has none.
+    /// The text, such as `a list whose padding isn't zero`; empty if the number has none.
     pub fn text(self) -> &'static str {
         texts::of_reason(self.0)
     }

@@ -90,7 +90,7 @@ impl AsRef<[u8]> for Frame<'_> {
 }
 
 /// Which message of a stream is refused, and why. `{}` writes a sentence, such as
-/// `message 2 at byte 40: Truncated: the bytes end within a frame`.
+/// `message 2 at byte 40: Truncated: the bytes end inside a frame or a packed word`.
 #[derive(Clone, Copy, Debug, PartialEq, Eq, Hash)]
 #[non_exhaustive]
 pub struct StreamError {

@@ -4,23 +4,26 @@
 /// The name and text of a refusal; empty if the number has none.
 pub(crate) fn of_error(number: u32) -> (&'static str, &'static str) {
     match number {
-        1 => ("NoRoom", "the buffer has too little room"),
-        2 => ("NoMessage", "there are no bytes where a frame was to be"),
+        1 => ("NoRoom", "the buffer is too small"),
+        2 => ("NoMessage", "there are no bytes where a frame was expected"),
         3 => (
             "SegmentIsNotWholeWords",
-            "a segment isn't of whole words of 8 bytes",
+            "the size of a segment isn't a multiple of 8 bytes",
         ),
-        17 => ("TooManySegments", "a frame has more than 512 segments"),
-        18 => ("MessageTooLong", "a frame has more words than the limit"),
-        19 => ("Truncated", "the bytes end within a frame"),
-        32 => ("AllocationFailed", "there is no memory"),
+        17 => ("TooManySegments", "the frame has more than 512 segments"),
+        18 => (
+            "MessageTooLong",
+            "the frame or the unpacked bytes have more words than the limit",
+        ),
+        19 => ("Truncated", "the bytes end inside a frame or a packed word"),
+        32 => ("AllocationFailed", "memory ran out"),
         33 => (
             "CannotCreateACanonicalMessageWithACapability",
-            "the value holds a capability, so it has no canonical form",
+            "the value contains a capability, so it has no canonical form",
         ),
         34 => (
             "CantHandleNonStructInlineComposite",
-            "the tag word of a list of structs isn't that of a struct",
+            "the tag of a list of structs isn't a struct pointer",
         ),
         42 => (
             "InlineCompositeListsElementsOverrunItsWordCount",
@@ -28,11 +31,11 @@ pub(crate) fn of_error(number: u32) -> (&'static str, &'static str) {
         ),
         43 => (
             "InlineCompositeListsOfNonStructTypeAreNotSupported",
-            "the tag word of a list of structs isn't that of a struct",
+            "the tag of a list of structs isn't a struct pointer",
         ),
         44 => (
             "InvalidSegmentId",
-            "a segment is named that the message doesn't have",
+            "a far pointer names a segment that doesn't exist, or there are no segments",
         ),
         45 => (
             "MalformedDoubleFarPointer",
@@ -40,26 +43,20 @@ pub(crate) fn of_error(number: u32) -> (&'static str, &'static str) {
         ),
         55 => (
             "MessageContainsOutOfBoundsPointer",
-            "a pointer leads out of its segment",
+            "a pointer points outside its segment",
         ),
-        57 => ("MessageIsTooDeeplyNested", "the nesting limit is met"),
+        57 => ("MessageIsTooDeeplyNested", "the nesting limit is exceeded"),
         58 => (
             "MessageIsTooDeeplyNestedOrContainsCycles",
-            "the nesting limit is met, or a pointer leads back",
+            "the nesting limit is exceeded, perhaps by a cycle of pointers",
         ),
         59 => (
             "MessageTooLarge",
-            "the canonical message or its segments are larger than the format allows",
+            "the message or its canonical form is larger than the format allows",
         ),
-        60 => ("NestingLimitExceeded", "the nesting limit is met"),
-        62 => (
-            "ReadLimitExceeded",
-            "the traversal limit doesn't cover what is to be read",
-        ),
-        66 => (
-            "UnknownPointerType",
-            "a pointer word isn't of a kind that the format knows",
-        ),
+        60 => ("NestingLimitExceeded", "the nesting limit is exceeded"),
+        62 => ("ReadLimitExceeded", "the traversal limit is exceeded"),
+        66 => ("UnknownPointerType", "a pointer is of an unknown kind"),
         _ => ("", "a refusal that this crate doesn't know"),
     }
 }
@@ -67,20 +64,20 @@ pub(crate) fn of_error(number: u32) -> (&'static str, &'static str) {
 /// The text of a reason; empty if the number has none.
 pub(crate) fn of_reason(number: u32) -> &'static str {
     match number {
-        1 => "not exactly one segment",
-        2 => "no word for a pointer",
+        1 => "a number of segments other than one",
+        2 => "no word where a pointer should be",
         3 => "a far pointer",
         4 => "a capability",
-        5 => "a pointer of no known kind",
-        6 => "an empty struct that isn't at its pointer",
-        7 => "an object that isn't where the last one ended",
-        8 => "padding that isn't zero",
+        5 => "a pointer of an unknown kind",
+        6 => "a pointer to an empty struct with an offset other than -1",
+        7 => "a pointer to an object that isn't directly next in order",
+        8 => "a list whose padding isn't zero",
         9 => "a data section whose last word is zero",
         10 => "a pointer section whose last pointer is null",
-        11 => "a struct list that claims other words than it has",
-        12 => "a struct list that could do with less data",
-        13 => "a struct list that could do with fewer pointers",
-        14 => "words behind the value",
+        11 => "a list of structs whose pointer claims more words than its elements take",
+        12 => "a list of structs with more data words than any element needs",
+        13 => "a list of structs with more pointers than any element needs",
+        14 => "words after the value",
         _ => "",
     }
 }

@@ -362,15 +362,18 @@ fn bytes_behind_a_frame_cost_nothing() {
 #[test]
 fn errors_say_what_and_where() {
     let error: Box<dyn std::error::Error + Send + Sync> = Error::TRUNCATED.into();
-    assert_eq!(error.to_string(), "Truncated: the bytes end within a frame");
+    assert_eq!(
+        error.to_string(),
+        "Truncated: the bytes end inside a frame or a packed word"
+    );
     assert_eq!(
         Error::TRUNCATED.at(2, 40).to_string(),
-        "message 2 at byte 40: Truncated: the bytes end within a frame"
+        "message 2 at byte 40: Truncated: the bytes end inside a frame or a packed word"
     );
     let error = std::io::Error::from(Error::READ_LIMIT_EXCEEDED.at(1, 0));
     assert_eq!(error.kind(), std::io::ErrorKind::InvalidData);
     let many =
-        "message 1 at byte 0: TooManySegments: a frame has more than 512 segments; they look like ";
+        "message 1 at byte 0: TooManySegments: the frame has more than 512 segments; they look like ";
     for (digits, wanted) in [
         ("1f8b080000000000", "gzip"),
         ("28b52ffd24009900", "zstd"),
@@ -446,20 +449,20 @@ fn errors_have_their_names() {
 #[test]
 fn reasons_have_their_texts() {
     for (reason, text) in [
-        (Reason::SEGMENT_COUNT, "not exactly one segment"),
-        (Reason::NO_POINTER, "no word for a pointer"),
+        (Reason::SEGMENT_COUNT, "a number of segments other than one"),
+        (Reason::NO_POINTER, "no word where a pointer should be"),
         (Reason::FAR_POINTER, "a far pointer"),
         (Reason::CAPABILITY, "a capability"),
-        (Reason::UNKNOWN_POINTER, "a pointer of no known kind"),
+        (Reason::UNKNOWN_POINTER, "a pointer of an unknown kind"),
         (
             Reason::EMPTY_STRUCT_PLACE,
-            "an empty struct that isn't at its pointer",
+            "a pointer to an empty struct with an offset other than -1",
         ),
         (
             Reason::OBJECT_PLACE,
-            "an object that isn't where the last one ended",
+            "a pointer to an object that isn't directly next in order",
         ),
-        (Reason::PADDING, "padding that isn't zero"),
+        (Reason::PADDING, "a list whose padding isn't zero"),
         (
             Reason::DATA_SECTION,
             "a data section whose last word is zero",
@@ -470,17 +473,17 @@ fn reasons_have_their_texts() {
         ),
         (
             Reason::ELEMENT_WORDS,
-            "a struct list that claims other words than it has",
+            "a list of structs whose pointer claims more words than its elements take",
         ),
         (
             Reason::ELEMENT_DATA,
-            "a struct list that could do with less data",
+            "a list of structs with more data words than any element needs",
         ),
         (
             Reason::ELEMENT_POINTERS,
-            "a struct list that could do with fewer pointers",
+            "a list of structs with more pointers than any element needs",
         ),
-        (Reason::WORDS_BEHIND, "words behind the value"),
+        (Reason::WORDS_BEHIND, "words after the value"),
     ] {
         assert_eq!(reason.to_string(), text);
     }

@@ -20,20 +20,20 @@ use Rattle.capnp_pointers.specs.declared.pointers.canonical_fault.CanonicalFault
 
 -- The text of a reason.
 abbrev pub fault_reason_text : CanonicalFaultReason → List ℕ
-fault_reason_text SegmentCount = codes "not exactly one segment"
-fault_reason_text NoPointer = codes "no word for a pointer"
+fault_reason_text SegmentCount = codes "a number of segments other than one"
+fault_reason_text NoPointer = codes "no word where a pointer should be"
 fault_reason_text FarPointer = codes "a far pointer"
 fault_reason_text Capability = codes "a capability"
-fault_reason_text UnknownPointer = codes "a pointer of no known kind"
-fault_reason_text EmptyStructPlace = codes "an empty struct that isn't at its pointer"
-fault_reason_text ObjectPlace = codes "an object that isn't where the last one ended"
-fault_reason_text Padding = codes "padding that isn't zero"
+fault_reason_text UnknownPointer = codes "a pointer of an unknown kind"
+fault_reason_text EmptyStructPlace = codes "a pointer to an empty struct with an offset other than -1"
+fault_reason_text ObjectPlace = codes "a pointer to an object that isn't directly next in order"
+fault_reason_text Padding = codes "a list whose padding isn't zero"
 fault_reason_text DataSection = codes "a data section whose last word is zero"
 fault_reason_text PointerSection = codes "a pointer section whose last pointer is null"
-fault_reason_text ElementWords = codes "a struct list that claims other words than it has"
-fault_reason_text ElementData = codes "a struct list that could do with less data"
-fault_reason_text ElementPointers = codes "a struct list that could do with fewer pointers"
-fault_reason_text WordsBehind = codes "words behind the value"
+fault_reason_text ElementWords = codes "a list of structs whose pointer claims more words than its elements take"
+fault_reason_text ElementData = codes "a list of structs with more data words than any element needs"
+fault_reason_text ElementPointers = codes "a list of structs with more pointers than any element needs"
+fault_reason_text WordsBehind = codes "words after the value"
 
 -- The fault f names the word at (s, p), for this reason.
 abbrev pub FaultIs : CanonicalFault → CanonicalFaultReason → ℕ → ℕ → Type 0

@@ -30,7 +30,7 @@ pub enum CanonicalFaultReason {
     FarPointer,
     /// The word is a capability.
     Capability,
-    /// The word is a pointer of no known kind.
+    /// The word is a pointer of an unknown kind.
     UnknownPointer,
     /// A struct without words doesn't start at its pointer. The word is the pointer.
     EmptyStructPlace,
@@ -61,22 +61,25 @@ impl CanonicalFaultReason {
         ensures { result.now ≡ fault_reason_text self.now }
     {
         match self {
-            CanonicalFaultReason::SegmentCount => "not exactly one segment",
-            CanonicalFaultReason::NoPointer => "no word for a pointer",
+            CanonicalFaultReason::SegmentCount => "a number of segments other than one",
+            CanonicalFaultReason::NoPointer => "no word where a pointer should be",
             CanonicalFaultReason::FarPointer => "a far pointer",
             CanonicalFaultReason::Capability => "a capability",
-            CanonicalFaultReason::UnknownPointer => "a pointer of no known kind",
-            CanonicalFaultReason::EmptyStructPlace => "an empty struct that isn't at its pointer",
-            CanonicalFaultReason::ObjectPlace => "an object that isn't where the last one ended",
-            CanonicalFaultReason::Padding => "padding that isn't zero",
+            CanonicalFaultReason::UnknownPointer => "a pointer of an unknown kind",
+            CanonicalFaultReason::EmptyStructPlace =>
+                "a pointer to an empty struct with an offset other than -1",
+            CanonicalFaultReason::ObjectPlace =>
+                "a pointer to an object that isn't directly next in order",
+            CanonicalFaultReason::Padding => "a list whose padding isn't zero",
             CanonicalFaultReason::DataSection => "a data section whose last word is zero",
             CanonicalFaultReason::PointerSection => "a pointer section whose last pointer is null",
             CanonicalFaultReason::ElementWords =>
-                "a struct list that claims other words than it has",
-            CanonicalFaultReason::ElementData => "a struct list that could do with less data",
+                "a list of structs whose pointer claims more words than its elements take",
+            CanonicalFaultReason::ElementData =>
+                "a list of structs with more data words than any element needs",
             CanonicalFaultReason::ElementPointers =>
-                "a struct list that could do with fewer pointers",
-            CanonicalFaultReason::WordsBehind => "words behind the value",
+                "a list of structs with more pointers than any element needs",
+            CanonicalFaultReason::WordsBehind => "words after the value",
         }
     }
 }
