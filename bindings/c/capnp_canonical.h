@@ -5,17 +5,18 @@
  *   - as a frame ("Serialization Over a Stream"), as `capnp encode`, capnp::writeMessage and Rust's
  *     serialize::write_message write it;
  *   - as its segments, as MessageReader::getSegment and Rust's ReaderSegments give them: capnp_canonical_segments_*;
- *   - as its bare words, which are one segment without the table of a frame: capnp_canonical_words_*.
+ *   - as its raw words, which are a message of one segment without its segment table: capnp_canonical_words_*. Calls
+ *     named `flat` write raw words.
  * Unpack packed bytes ("Packing") first, with capnp_canonical_unpack.
  *
  * Two messages have the same canonical bytes exactly if their values are equal once zeros and nulls at the ends of
  * structs are dropped (docs/THEOREM.md).
  *
- * WARNING: bare words aren't a frame. Hash, sign and store what capnp_canonical_copy_flat and
+ * WARNING: raw words aren't a frame. Hash, sign and store what capnp_canonical_copy_flat and
  * capnp_canonical_segments_copy_flat write, and read it back with the calls named capnp_canonical_words_*. The calls
- * that take a frame may SUCCEED on bare words, and then read ANOTHER value: the pointer to a root struct of DDDD data
- * words and no pointers, `00 00 00 00 DD DD 00 00`, is also the table of a frame of one segment of DDDD words. Nothing
- * in the bytes says which they are.
+ * that take a frame may SUCCEED on raw words, and then read ANOTHER value: the pointer to a root struct of DDDD data
+ * words and no pointers, `00 00 00 00 DD DD 00 00`, is also the segment table of a frame of one segment of DDDD words.
+ * Nothing in the bytes says which they are.
  *
  * Limits. `nesting` is the nesting limit: how deep structs and lists may be nested. `words` is the traversal limit in
  * words of 8 bytes: how many words may be read, including the root pointer. A frame may not have more words than that
@@ -170,8 +171,8 @@ struct capnp_canonical_segment {
  * them do. */
 uint32_t capnp_canonical_copy(const uint8_t *frame, size_t frame_size, int32_t nesting, uint64_t words, uint8_t *to, size_t room, size_t *written);
 
-/* The same, but writes bare words, without the table of a frame: the bytes to hash or sign. 8 bytes, plus 8 for each
- * word that capnp_canonical_size gives, are always enough. */
+/* The same, but writes raw words, without the segment table: the bytes to hash or sign. 8 bytes, plus 8 for each word
+ * that capnp_canonical_size gives, are always enough. */
 uint32_t capnp_canonical_copy_flat(const uint8_t *frame, size_t frame_size, int32_t nesting, uint64_t words, uint8_t *to, size_t room, size_t *written);
 
 /* Tests whether the message of the frame at the front of `frame_size` bytes is canonical: one segment, which holds the
@@ -186,7 +187,7 @@ uint32_t capnp_canonical_check(const uint8_t *frame, size_t frame_size, int32_t 
 uint32_t capnp_canonical_size(const uint8_t *frame, size_t frame_size, int32_t nesting, uint64_t words, uint64_t *word_count, uint32_t *cap_count);
 
 /* Writes to `*bytes` the size of the frame at the front of `size` bytes; the next frame of a stream starts after it.
- * Reads only the table of the frame, not the message. After a refusal `*bytes` is 0. */
+ * Reads only the segment table, not the message. After a refusal `*bytes` is 0. */
 uint32_t capnp_canonical_frame_size(const uint8_t *frame, size_t size, uint64_t words, size_t *bytes);
 
 /* copy, copy_flat, check and size, for a message of `count` segments. There may be more segments than a frame can have.
@@ -199,8 +200,8 @@ uint32_t capnp_canonical_segments_check(const struct capnp_canonical_segment *se
 
 uint32_t capnp_canonical_segments_size(const struct capnp_canonical_segment *segments, size_t count, int32_t nesting, uint64_t words, uint64_t *word_count, uint32_t *cap_count);
 
-/* The same, for a message given as bare words, as copy_flat writes them: all `size` bytes at `message` are its one
- * segment. The copy is bare words too. If you pass a frame here, its bytes are read as bare words and mean another
+/* The same, for a message given as raw words, as copy_flat writes them: all `size` bytes at `message` are its one
+ * segment. The copy is raw words too. If you pass a frame here, its bytes are read as raw words and mean another
  * value. If `size` is 0, the message has no root, which is refused with
  * CAPNP_CANONICAL_MESSAGE_CONTAINS_OUT_OF_BOUNDS_POINTER. */
 uint32_t capnp_canonical_words_copy(const uint8_t *message, size_t size, int32_t nesting, uint64_t words, uint8_t *to, size_t room, size_t *written);
@@ -251,15 +252,15 @@ CAPNP_CANONICAL_INLINE bool capnp_canonical_segments_is_canonical(const struct c
     return capnp_canonical_segments_check(segments, count, nesting, words, &is_canonical, &fault) == CAPNP_CANONICAL_DONE && is_canonical;
 }
 
-/* The same of a message given as its bare words. */
+/* The same for a message given as raw words. */
 CAPNP_CANONICAL_INLINE bool capnp_canonical_words_is_canonical(const uint8_t *message, size_t size, int32_t nesting, uint64_t words) {
     bool is_canonical = false;
     struct capnp_canonical_fault fault;
     return capnp_canonical_words_check(message, size, nesting, words, &is_canonical, &fault) == CAPNP_CANONICAL_DONE && is_canonical;
 }
 
-/* How many bytes are always enough for a copy within a traversal limit of `words`, framed or flat. The message isn't
- * looked at. For untrusted messages, set the limit to twice the words of the largest message that you accept. The size
+/* How many bytes are always enough for a copy within a traversal limit of `words`, as a frame or as raw words. The
+ * message isn't looked at. For untrusted messages, set the limit to twice the words of the largest message that you accept. The size
  * of a message alone gives no bound: an object that several pointers lead to is copied for each of them, so the
  * canonical form may be larger than its message by any factor, up to this limit. */
 CAPNP_CANONICAL_INLINE uint64_t capnp_canonical_bound(uint64_t words) {
@@ -349,7 +350,7 @@ CAPNP_CANONICAL_INLINE uint32_t capnp_canonical_number_at(const uint8_t *bytes) 
     return (uint32_t)bytes[0] | (uint32_t)bytes[1] << 8 | (uint32_t)bytes[2] << 16 | (uint32_t)bytes[3] << 24;
 }
 
-/* Whether packed bytes start with what may be the table of a frame. */
+/* Whether packed bytes start with what may be the segment table of a frame. */
 CAPNP_CANONICAL_INLINE bool capnp_canonical_looks_packed(const uint8_t *bytes, size_t size) {
     uint8_t word[8] = {0};
     size_t at = 1;
@@ -382,7 +383,7 @@ CAPNP_CANONICAL_INLINE const char *capnp_canonical_looks_like(const uint8_t *byt
     if (bytes[0] == 0xfd && bytes[1] == '7' && bytes[2] == 'z' && bytes[3] == 'X') return "xz";
     if (bytes[0] == 'P' && bytes[1] == 'K' && bytes[2] == 3 && bytes[3] == 4) return "a zip archive";
     if (capnp_canonical_looks_text(bytes, size)) return "text";
-    if (capnp_canonical_words_is_canonical(bytes, size, CAPNP_CANONICAL_NESTING, CAPNP_CANONICAL_WORDS)) return "bare canonical words";
+    if (capnp_canonical_words_is_canonical(bytes, size, CAPNP_CANONICAL_NESTING, CAPNP_CANONICAL_WORDS)) return "raw canonical words";
     if (capnp_canonical_looks_packed(bytes, size)) return "packed messages";
     return NULL;
 }

@@ -1,9 +1,9 @@
 // Canonical form of Cap'n Proto messages, for C++17 and later: capnp_canonical.h with containers and exceptions.
 //
 // You pass a message as a frame, which is what capnp::writeMessage and capnp::messageToFlatArray make, or as its
-// segments. Pass bare words, which copy_flat and capnp::canonicalize make, only to the calls whose names begin with
-// `words_`: a call that takes a frame may SUCCEED on bare words, and then reads ANOTHER value (capnp_canonical.h says
-// why). Unpack packed bytes first, with unpack.
+// segments. Raw words are a message of one segment without its segment table; copy_flat and capnp::canonicalize make
+// them. Pass them only to the calls whose names begin with `words_`: a call that takes a frame may SUCCEED on raw words,
+// and then reads ANOTHER value (capnp_canonical.h says why). Unpack packed bytes first, with unpack.
 //
 // If <capnp/message.h> is available, a message may also be a capnp::MessageReader or a capnp::MessageBuilder, for which
 // no frame is made, or any struct inside a message. To leave that out, define CAPNP_CANONICAL_WITHOUT_CAPNP before this
@@ -361,8 +361,8 @@ inline std::vector<std::uint8_t> copy(const Segments& segments, Limits limits = 
     return detail::copy_of(detail::SegmentSource(segments, limits), detail::Form::framed);
 }
 
-// Makes the message canonical, as bare words without the table of a frame: the bytes to hash or sign. Read stored words
-// back with words_check and words_copy.
+// Makes the message canonical, as raw words: the bytes to hash or sign. Read stored words back with words_check and
+// words_copy.
 inline std::vector<std::uint8_t> copy_flat(Bytes frame, Limits limits = {}) {
     return detail::copy_of(detail::FrameSource(frame, limits), detail::Form::flat);
 }
@@ -407,7 +407,7 @@ inline Size size(const Segments& segments, Limits limits = {}) {
     return detail::size_of(detail::SegmentSource(segments, limits));
 }
 
-// The same, for a message passed as bare words: all of the bytes are its one segment, and its copy is bare words too.
+// The same, for a message passed as raw words: all of the bytes are its one segment, and its copy is raw words too.
 inline std::vector<std::uint8_t> words_copy(Bytes words, Limits limits = {}) { return copy_flat(Segments{words}, limits); }
 inline Checked words_check(Bytes words, Limits limits = {}) { return check(Segments{words}, limits); }
 inline bool words_is_canonical(Bytes words, Limits limits = {}) noexcept {
@@ -620,7 +620,7 @@ Size size(Message& message) {
     return size(message, limits_of(message));
 }
 
-// The bare words in an array of words, as capnp::canonicalize returns them: for a message, for its segments, or for any
+// The raw words in an array of words, as capnp::canonicalize returns them: for a message, for its segments, or for any
 // struct inside a message.
 template <typename Message>
 kj::Array<capnp::word> canonicalize(Message&& message, Limits limits) {

@@ -75,7 +75,7 @@ mistakes() {
     says "$1" "message 1 at byte 0: $many gzip" 1f8b080000000000 &&
         says "$1" "message 2 at byte 32: $many text" $good 2869642031290a20 && [ "$(wc -c <"$folder/written")" = 24 ] &&
         says "$1" "message 2 at byte 32: $many packed messages" $good 10021001012a &&
-        says "$1" "message 1 at byte 0: $many bare canonical words" fcffffff00000000 &&
+        says "$1" "message 1 at byte 0: $many raw canonical words" fcffffff00000000 &&
         says "$1" 'message 2 at byte 32: refused Truncated: the bytes end inside a frame or a packed word' $good 000000000300 &&
         says "$1" 'message 1 at byte 0: refused MessageContainsOutOfBoundsPointer: a pointer points outside its segment' 00000000010000000000000001000000 || return 1
     "$folder/$1" </ 2>"$folder/error"

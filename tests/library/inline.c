@@ -29,7 +29,7 @@ static size_t from_hex(const char *digits, uint8_t *to) {
     return size;
 }
 
-/* The bare canonical words of a message of the file, and the frame of them, by each of the calls for words. */
+/* The raw canonical words of a message of the file, and the frame of them, by each of the calls for words. */
 static void test_canonical_words(const char *name, const uint8_t *flat, size_t size) {
     uint8_t to[ROOM];
     size_t written = 0;
@@ -80,7 +80,7 @@ static void test_hazard(void) {
     static const uint8_t other[] = {0, 0, 0, 0, 1, 0, 0, 0, 42, 0, 0, 0, 0, 0, 0, 0};
     uint8_t to[sizeof words];
     size_t written = 0;
-    const char *place = "bare words beside a frame";
+    const char *place = "raw words beside a frame";
     expect(capnp_canonical_words_copy(words, sizeof words, NESTING, WORDS, to, sizeof to, &written) == 0 && written == sizeof words && memcmp(to, words, written) == 0, place, "the words by their name");
     expect(capnp_canonical_words_is_canonical(words, sizeof words, NESTING, WORDS), place, "the words are canonical by their name");
     expect(capnp_canonical_copy_flat(words, sizeof words, NESTING, WORDS, to, sizeof to, &written) == 0, place, "the words are taken as a frame");
@@ -133,7 +133,7 @@ static void test_looks(void) {
     expect_looks("2869642031290a", "text");
     expect_looks("10021001012a", "packed messages");
     expect_looks("000000000200000000000000010000002a00000000000000", NULL);
-    expect_looks("fcffffff00000000", "bare canonical words");
+    expect_looks("fcffffff00000000", "raw canonical words");
     expect_looks("0000000003000000000000000100000005", NULL);
     expect_looks("0100000003000000000000000100000005", NULL);
     expect_looks("", NULL);

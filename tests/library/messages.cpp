@@ -137,7 +137,7 @@ void require_answers(const Message& message, const std::string& copy, const std:
                  }), size);
 }
 
-// Canonical words, by the calls of bare words.
+// Canonical words, by the calls of raw words.
 void require_words(const Vector& flat) {
     require(capnp_canonical::words_copy(flat) == flat, "words_copy");
     require(capnp_canonical::words_is_canonical(flat) && capnp_canonical::words_check(flat).is_canonical(), "words_check");
@@ -336,7 +336,7 @@ void test_errors() {
     require_same("text", refused("2869642031290a20"), many + "text");
     // by capnp convert binary:packed
     require_same("packed", refused("10021001012a00000000"), many + "packed messages");
-    require_same("words", refused("fcffffff00000000"), many + "bare canonical words");
+    require_same("words", refused("fcffffff00000000"), many + "raw canonical words");
     require_same("no room", Error(CAPNP_CANONICAL_NO_ROOM, {}, 24).what(),
                  "NoRoom: the buffer is too small, and 24 bytes are wanted");
 }
@@ -350,7 +350,7 @@ int main(int count, char** words) {
     test("segments", test_segments);
     test("copies that are longer than their message", test_longer_copies);
     test("limits", test_limits);
-    test("bare words beside a frame", test_hazard);
+    test("raw words beside a frame", test_hazard);
     test("a buffer that is used again", test_buffer);
     test("bytes behind a frame", test_bytes_behind);
     test("faults", test_faults);

@@ -277,7 +277,7 @@ class Calls(unittest.TestCase):
         for digits, wanted in (
             ('1f8b080000000000', 'gzip'), ('28b52ffd24009900', 'zstd'), ('425a683931415926', 'bzip2'),
             ('fd377a585a000004', 'xz'), ('504b030414000000', 'a zip archive'), ('2869642031290a20', 'text'),
-            ('fcffffff00000000', 'bare canonical words'), ('10021001012a0000', 'packed messages'),
+            ('fcffffff00000000', 'raw canonical words'), ('10021001012a0000', 'packed messages'),
         ):
             for refused in (capnp_canonical.copy, capnp_canonical.frame_size):
                 with self.assertRaises(Error) as error:

@@ -196,7 +196,7 @@ class Commands(unittest.TestCase):
                      f'{self.folder / "none"}: No such file or directory', f'{self.folder}: Is a directory')
         for content, like in (
             (b'\x1f\x8b\x08\0\0\0\0\0', 'gzip'), (b'(id = 1)', 'text'), (bytes.fromhex('10021001012a'), 'packed messages'),
-            (WORDS['empty_struct'], 'bare canonical words'),
+            (WORDS['empty_struct'], 'raw canonical words'),
         ):
             self.require(run('digest', input=content), 2, [], f'-: message 1 at byte 0: {MANY}{like}')
 

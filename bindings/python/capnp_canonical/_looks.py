@@ -33,5 +33,5 @@ def looks_like(front: bytes, size: int, is_canonical: Callable[[bytes], bool]) -
     if not _CONTROLS.intersection(front[:64]):
         return 'text'
     if size == len(front) and is_canonical(front):
-        return 'bare canonical words'
+        return 'raw canonical words'
     return 'packed messages' if _looks_packed(front) else None

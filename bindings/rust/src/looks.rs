@@ -22,7 +22,7 @@ pub fn looks_like(bytes: &[u8]) -> Option<&'static str> {
         return Some("text");
     }
     if words::is_canonical(bytes, Limits::default()) {
-        return Some("bare canonical words");
+        return Some("raw canonical words");
     }
     is_packed(bytes).then_some("packed messages")
 }

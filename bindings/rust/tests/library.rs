@@ -381,7 +381,7 @@ fn errors_say_what_and_where() {
         ("fd377a585a000004", "xz"),
         ("504b030414000000", "a zip archive"),
         ("2869642031290a20", "text"),
-        ("fcffffff00000000", "bare canonical words"),
+        ("fcffffff00000000", "raw canonical words"),
         ("10021001012a", "packed messages"),
     ] {
         let bytes = bytes_of(digits);
