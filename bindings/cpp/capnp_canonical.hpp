@@ -2,26 +2,29 @@
 //
 // You pass a message as a frame, which is what capnp::writeMessage and capnp::messageToFlatArray make, or as its
 // segments. Raw words are a message of one segment without its segment table; copy_flat and capnp::canonicalize make
-// them. Pass them only to the calls whose names begin with `words_`: a call that takes a frame may SUCCEED on raw words,
-// and then reads ANOTHER value (capnp_canonical.h says why). Unpack packed bytes first, with unpack.
+// them. Pass them only to the calls whose names begin with `words_`: a call that takes a frame may SUCCEED on raw
+// words, and then reads ANOTHER value (capnp_canonical.h says why). Unpack packed bytes first, with unpack.
 //
 // If <capnp/message.h> is available, a message may also be a capnp::MessageReader or a capnp::MessageBuilder, for which
-// no frame is made, or any struct inside a message. To leave that out, define CAPNP_CANONICAL_WITHOUT_CAPNP before this
-// header. Nothing else here needs Cap'n Proto's own headers or libraries.
+// no frame is made, or the reader or builder of any struct, list or pointer inside a message. To leave that out, define
+// CAPNP_CANONICAL_WITHOUT_CAPNP before this header. Nothing else here needs Cap'n Proto's own headers or libraries.
 //
-// A call that is refused throws Error. It throws std::bad_alloc if there is no memory for a result. No call keeps
-// anything, so several threads may call at once. What capnp_canonical.h says about limits, memory and stack holds here
-// too.
+// A call that is refused throws Error. It throws std::bad_alloc if there is no memory for a result, and
+// std::invalid_argument if what it should write to overlaps what it should read. No call keeps anything, so several
+// threads may call at once. What capnp_canonical.h says about limits, memory and stack holds here too.
 #ifndef CAPNP_CANONICAL_HPP
 #define CAPNP_CANONICAL_HPP
 
 #include "capnp_canonical.h"
 
+#include <algorithm>
 #include <cstddef>
 #include <cstdint>
 #include <cstring>
 #include <initializer_list>
 #include <iterator>
+#include <limits>
+#include <memory>
 #include <optional>
 #include <stdexcept>
 #include <string>
@@ -34,6 +37,23 @@
 #include <capnp/any.h>
 #include <capnp/message.h>
 #define CAPNP_CANONICAL_WITH_CAPNP 1
+#endif
+#endif
+
+// What makes a compiler that knows it warn of a view whose bytes are gone.
+#define CAPNP_CANONICAL_LIFETIMEBOUND
+#define CAPNP_CANONICAL_VIEW
+#ifdef __has_cpp_attribute
+#if __has_cpp_attribute(clang::lifetimebound)
+#undef CAPNP_CANONICAL_LIFETIMEBOUND
+#define CAPNP_CANONICAL_LIFETIMEBOUND [[clang::lifetimebound]]
+#elif __has_cpp_attribute(msvc::lifetimebound)
+#undef CAPNP_CANONICAL_LIFETIMEBOUND
+#define CAPNP_CANONICAL_LIFETIMEBOUND [[msvc::lifetimebound]]
+#endif
+#if __has_cpp_attribute(gsl::Pointer)
+#undef CAPNP_CANONICAL_VIEW
+#define CAPNP_CANONICAL_VIEW [[gsl::Pointer]]
 #endif
 #endif
 
@@ -107,29 +127,54 @@ constexpr bool holds_bytes = false;
 template <typename Range>
 constexpr bool holds_bytes<Range, std::void_t<Element<Range>>> = is_byte<Element<Range>>;
 
+// Whether a range owns its bytes: it has a destructor, or its bytes are constant if it is, as those of a std::array.
+template <typename Range, typename = void>
+constexpr bool is_constant_with_its_bytes = false;
+template <typename Range>
+constexpr bool is_constant_with_its_bytes<Range, std::void_t<decltype(std::data(std::declval<Range&>()))>> =
+    !std::is_same_v<decltype(std::data(std::declval<Range&>())), decltype(std::data(std::declval<const Range&>()))>;
+template <typename Range>
+constexpr bool owns_bytes = !std::is_trivially_destructible_v<Range> || is_constant_with_its_bytes<Range>;
+
 #ifdef CAPNP_CANONICAL_WITH_CAPNP
 // A kj::Array or kj::ArrayPtr of words or bytes.
 template <typename Range>
 constexpr bool holds_words = !holds_bytes<Range> && std::is_class_v<Range> &&
                              (std::is_convertible_v<const Range&, kj::ArrayPtr<const capnp::word>> ||
                               std::is_convertible_v<const Range&, kj::ArrayPtr<const kj::byte>>);
+#else
+template <typename Range>
+constexpr bool holds_words = false;
 #endif
+
+// A range that owns its bytes and that nothing else keeps, such as the result of unpack.
+template <typename Range>
+using IfTemporary =
+    std::enable_if_t<!std::is_lvalue_reference_v<Range> && owns_bytes<std::remove_cv_t<Range>> &&
+                     (holds_bytes<std::remove_cv_t<Range>> || holds_words<std::remove_cv_t<Range>>)>;
 
 }  // namespace detail
 
 // A view of bytes at any address: a pointer and a size. A std::span, std::vector, std::array, std::string or
-// std::string_view of bytes converts to it, and so does a kj::Array or kj::ArrayPtr of words or bytes.
-class Bytes {
+// std::string_view of bytes converts to it, and so does a kj::Array or kj::ArrayPtr of words or bytes. The bytes have
+// to stay where they are as long as the view is used: `Bytes words = copy_flat(frame)` is a view of a vector that is
+// gone.
+class CAPNP_CANONICAL_VIEW Bytes {
 public:
     constexpr Bytes() noexcept = default;
-    Bytes(const void* data, std::size_t size, Place place = {}) noexcept
+    Bytes(const void* data CAPNP_CANONICAL_LIFETIMEBOUND, std::size_t size, Place place = {}) noexcept
         : data_(static_cast<const std::uint8_t*>(data)), size_(size), place_(place) {}
 
-    template <typename Range, typename = std::enable_if_t<detail::holds_bytes<Range>>>
+    template <typename Range, std::enable_if_t<detail::holds_bytes<Range> && detail::owns_bytes<Range>, int> = 0>
+    Bytes(const Range& range CAPNP_CANONICAL_LIFETIMEBOUND) noexcept : Bytes(std::data(range), std::size(range)) {}
+    template <typename Range, std::enable_if_t<detail::holds_bytes<Range> && !detail::owns_bytes<Range>, int> = 0>
     Bytes(const Range& range) noexcept : Bytes(std::data(range), std::size(range)) {}
 
 #ifdef CAPNP_CANONICAL_WITH_CAPNP
-    template <typename Range, typename = std::enable_if_t<detail::holds_words<Range>>, typename = void>
+    template <typename Range, std::enable_if_t<detail::holds_words<Range> && detail::owns_bytes<Range>, int> = 0>
+    Bytes(const Range& range CAPNP_CANONICAL_LIFETIMEBOUND) noexcept
+        : Bytes(range.begin(), range.size() * sizeof(*range.begin())) {}
+    template <typename Range, std::enable_if_t<detail::holds_words<Range> && !detail::owns_bytes<Range>, int> = 0>
     Bytes(const Range& range) noexcept : Bytes(range.begin(), range.size() * sizeof(*range.begin())) {}
 #endif
 
@@ -165,6 +210,9 @@ public:
         segments_.push_back({segment.data(), segment.size()});
         bytes_ += segment.size();
     }
+    // The bytes would be gone before the segments are read.
+    template <typename Range, typename = detail::IfTemporary<Range>>
+    void add(Range&& segment) = delete;
 
     const capnp_canonical_segment* data() const noexcept { return segments_.data(); }
     // The number of segments.
@@ -225,6 +273,16 @@ inline std::size_t frame_size(Bytes stream, std::uint64_t words = CAPNP_CANONICA
 
 namespace detail {
 
+// Whether there is a byte in both of two ranges.
+inline bool overlap(const void* one, std::size_t size, const void* other, std::size_t other_size) noexcept {
+    auto first = reinterpret_cast<std::uintptr_t>(one), second = reinterpret_cast<std::uintptr_t>(other);
+    return size && other_size && first < second + other_size && second < first + size;
+}
+
+[[noreturn]] inline void refuse_overlap() {
+    throw std::invalid_argument("capnp_canonical: what is read is inside what is written to");
+}
+
 enum class Form { framed, flat };
 
 // The frame at the front of some bytes, in the form that the C calls take.
@@ -235,6 +293,9 @@ public:
 
     std::size_t bytes() const noexcept { return frame_.size(); }
     Place place() const noexcept { return frame_.place(); }
+    bool overlaps(const void* to, std::size_t room) const noexcept {
+        return overlap(frame_.data(), frame_.size(), to, room);
+    }
 
     std::uint32_t copy(Form form, std::uint8_t* to, std::size_t room, std::size_t* written) const noexcept {
         auto call = form == Form::flat ? capnp_canonical_copy_flat : capnp_canonical_copy;
@@ -262,6 +323,10 @@ public:
 
     std::size_t bytes() const noexcept { return bytes_; }
     Place place() const noexcept { return {}; }
+    bool overlaps(const void* to, std::size_t room) const noexcept {
+        return std::any_of(segments_, segments_ + count_,
+                           [&](const capnp_canonical_segment& it) { return overlap(it.bytes, it.size, to, room); });
+    }
 
     std::uint32_t copy(Form form, std::uint8_t* to, std::size_t room, std::size_t* written) const noexcept {
         auto call = form == Form::flat ? capnp_canonical_segments_copy_flat : capnp_canonical_segments_copy;
@@ -307,14 +372,45 @@ std::vector<std::uint8_t> copy_of(const Source& source, Form form) {
     return to;
 }
 
-template <typename Source>
-Bytes copy_into(std::vector<std::uint8_t>& buffer, const Source& source, Form form) {
-    std::size_t room = buffer.empty() ? source.bytes() + 8 : buffer.size();
-    std::size_t written = copied(source, form, room, [&](std::size_t more) {
-        if (buffer.size() < more) buffer.resize(more);
-        return buffer.data();
-    });
-    return {buffer.data(), written};
+// A buffer that is cut to what is written to it, so that nothing of an earlier message is after that; to nothing if the
+// call throws.
+class Written {
+public:
+    explicit Written(std::vector<std::uint8_t>& buffer) noexcept : buffer_(buffer) {}
+    Written(const Written&) = delete;
+    Written& operator=(const Written&) = delete;
+    ~Written() { buffer_.resize(size_); }
+
+    // At least `room` bytes.
+    std::uint8_t* grow(std::size_t room) {
+        if (buffer_.size() < room) buffer_.resize(room);
+        return buffer_.data();
+    }
+    Bytes cut(std::size_t size) noexcept {
+        size_ = size;
+        return {buffer_.data(), size};
+    }
+    // Throws if what is read is inside the buffer, which then stays as it is.
+    template <typename Source>
+    void require_apart(const Source& source) {
+        if (!source.overlaps(buffer_.data(), buffer_.capacity())) return;
+        size_ = buffer_.size();
+        refuse_overlap();
+    }
+
+private:
+    std::vector<std::uint8_t>& buffer_;
+    std::size_t size_ = 0;
+};
+
+// `make` makes the source; if that is refused too, the buffer is left empty.
+template <typename Make>
+Bytes copy_into(std::vector<std::uint8_t>& buffer, Form form, Make make) {
+    Written to(buffer);
+    const auto source = make();
+    to.require_apart(source);
+    std::size_t room = std::max(buffer.size(), source.bytes() + 8);
+    return to.cut(copied(source, form, room, [&](std::size_t more) { return to.grow(more); }));
 }
 
 // The unpacked size of packed bytes, which may be at most `words` words.
@@ -370,34 +466,41 @@ inline std::vector<std::uint8_t> copy_flat(const Segments& segments, Limits limi
     return detail::copy_of(detail::SegmentSource(segments, limits), detail::Form::flat);
 }
 
-// The same two into a buffer that you keep from one message to the next: it grows if it is too small, and never
-// shrinks. The returned bytes are those written to its front, and are valid until it changes.
-inline Bytes copy_into(std::vector<std::uint8_t>& buffer, Bytes frame, Limits limits = {}) {
-    return detail::copy_into(buffer, detail::FrameSource(frame, limits), detail::Form::framed);
+// The same two into a buffer that you keep from one message to the next, so that its memory is reused. The buffer then
+// holds the copy and nothing else, and the returned bytes are a view of it. If the call is refused the buffer is empty.
+// Throws std::invalid_argument if the message is inside the buffer, which then stays as it is.
+inline Bytes copy_into(std::vector<std::uint8_t>& buffer CAPNP_CANONICAL_LIFETIMEBOUND, Bytes frame,
+                       Limits limits = {}) {
+    return detail::copy_into(buffer, detail::Form::framed, [&] { return detail::FrameSource(frame, limits); });
 }
-inline Bytes copy_into(std::vector<std::uint8_t>& buffer, const Segments& segments, Limits limits = {}) {
-    return detail::copy_into(buffer, detail::SegmentSource(segments, limits), detail::Form::framed);
+inline Bytes copy_into(std::vector<std::uint8_t>& buffer CAPNP_CANONICAL_LIFETIMEBOUND, const Segments& segments,
+                       Limits limits = {}) {
+    return detail::copy_into(buffer, detail::Form::framed, [&] { return detail::SegmentSource(segments, limits); });
 }
-inline Bytes copy_flat_into(std::vector<std::uint8_t>& buffer, Bytes frame, Limits limits = {}) {
-    return detail::copy_into(buffer, detail::FrameSource(frame, limits), detail::Form::flat);
+inline Bytes copy_flat_into(std::vector<std::uint8_t>& buffer CAPNP_CANONICAL_LIFETIMEBOUND, Bytes frame,
+                            Limits limits = {}) {
+    return detail::copy_into(buffer, detail::Form::flat, [&] { return detail::FrameSource(frame, limits); });
 }
-inline Bytes copy_flat_into(std::vector<std::uint8_t>& buffer, const Segments& segments, Limits limits = {}) {
-    return detail::copy_into(buffer, detail::SegmentSource(segments, limits), detail::Form::flat);
+inline Bytes copy_flat_into(std::vector<std::uint8_t>& buffer CAPNP_CANONICAL_LIFETIMEBOUND, const Segments& segments,
+                            Limits limits = {}) {
+    return detail::copy_into(buffer, detail::Form::flat, [&] { return detail::SegmentSource(segments, limits); });
 }
 
 // Tests whether the message is canonical, and if not, says why and where. Canonical means one segment, which holds the
 // canonical words of a value and nothing else.
-inline Checked check(Bytes frame, Limits limits = {}) { return detail::checked(detail::FrameSource(frame, limits)); }
-inline Checked check(const Segments& segments, Limits limits = {}) {
+[[nodiscard]] inline Checked check(Bytes frame, Limits limits = {}) {
+    return detail::checked(detail::FrameSource(frame, limits));
+}
+[[nodiscard]] inline Checked check(const Segments& segments, Limits limits = {}) {
     return detail::checked(detail::SegmentSource(segments, limits));
 }
 
 // Whether the message is canonical. Also false if it can't be read, because a limit is exceeded or the bytes are no
 // frame.
-inline bool is_canonical(Bytes frame, Limits limits = {}) noexcept {
+[[nodiscard]] inline bool is_canonical(Bytes frame, Limits limits = {}) noexcept {
     return capnp_canonical_is_canonical(frame.data(), frame.size(), limits.nesting, limits.words);
 }
-inline bool is_canonical(const Segments& segments, Limits limits = {}) noexcept {
+[[nodiscard]] inline bool is_canonical(const Segments& segments, Limits limits = {}) noexcept {
     return capnp_canonical_segments_is_canonical(segments.data(), segments.size(), limits.nesting, limits.words);
 }
 
@@ -408,9 +511,11 @@ inline Size size(const Segments& segments, Limits limits = {}) {
 }
 
 // The same, for a message passed as raw words: all of the bytes are its one segment, and its copy is raw words too.
-inline std::vector<std::uint8_t> words_copy(Bytes words, Limits limits = {}) { return copy_flat(Segments{words}, limits); }
-inline Checked words_check(Bytes words, Limits limits = {}) { return check(Segments{words}, limits); }
-inline bool words_is_canonical(Bytes words, Limits limits = {}) noexcept {
+inline std::vector<std::uint8_t> words_copy(Bytes words, Limits limits = {}) {
+    return copy_flat(Segments{words}, limits);
+}
+[[nodiscard]] inline Checked words_check(Bytes words, Limits limits = {}) { return check(Segments{words}, limits); }
+[[nodiscard]] inline bool words_is_canonical(Bytes words, Limits limits = {}) noexcept {
     return capnp_canonical_words_is_canonical(words.data(), words.size(), limits.nesting, limits.words);
 }
 inline Size words_size(Bytes words, Limits limits = {}) { return size(Segments{words}, limits); }
@@ -426,21 +531,30 @@ inline std::vector<std::uint8_t> unpack(Bytes packed, std::uint64_t words = CAPN
 }
 
 // The same into a buffer that you keep, like copy_into.
-inline Bytes unpack_into(std::vector<std::uint8_t>& buffer, Bytes packed, std::uint64_t words = CAPNP_CANONICAL_WORDS) {
+inline Bytes unpack_into(std::vector<std::uint8_t>& buffer CAPNP_CANONICAL_LIFETIMEBOUND, Bytes packed,
+                         std::uint64_t words = CAPNP_CANONICAL_WORDS) {
+    if (detail::overlap(packed.data(), packed.size(), buffer.data(), buffer.capacity())) detail::refuse_overlap();
+    detail::Written to(buffer);
     std::size_t size = detail::unpacked_size(packed, words);
-    if (buffer.size() < size) buffer.resize(size);
+    to.grow(size);
     detail::unpack_to(buffer, packed);
-    return {buffer.data(), size};
+    return to.cut(size);
 }
 
 // The frames of a stream, in order: `for (Bytes frame : Frames(stream))`. Each knows its place, and an Error about it
 // reports that. Throws Error if the remaining bytes don't start with a frame.
 class Frames {
 public:
-    explicit Frames(Bytes stream, std::uint64_t words = CAPNP_CANONICAL_WORDS) noexcept
+    // The bytes of the stream have to stay where they are as long as its frames are used.
+    explicit Frames(Bytes stream CAPNP_CANONICAL_LIFETIMEBOUND, std::uint64_t words = CAPNP_CANONICAL_WORDS) noexcept
         : stream_(stream), words_(words) {}
+    // Keeps a stream that nothing else keeps, as in `for (Bytes frame : Frames(unpack(packed)))`. The frames can be
+    // used as long as this or a copy of it is there.
+    template <typename Range, typename = detail::IfTemporary<Range>>
+    explicit Frames(Range&& stream, std::uint64_t words = CAPNP_CANONICAL_WORDS)
+        : Frames(std::make_shared<const std::remove_cv_t<Range>>(std::forward<Range>(stream)), words, nullptr) {}
 
-    class Iterator {
+    class CAPNP_CANONICAL_VIEW Iterator {
     public:
         using iterator_category = std::input_iterator_tag;
         using value_type = Bytes;
@@ -449,7 +563,9 @@ public:
         using reference = Bytes;
 
         Iterator() = default;
-        Iterator(Bytes rest, std::uint64_t words) : rest_(rest.data(), rest.size(), {1, 0}), words_(words) { measure(); }
+        Iterator(Bytes rest, std::uint64_t words) : rest_(rest.data(), rest.size(), {1, 0}), words_(words) {
+            measure();
+        }
 
         Bytes operator*() const noexcept { return {rest_.data(), size_, rest_.place()}; }
         Iterator& operator++() {
@@ -476,12 +592,17 @@ public:
         std::size_t size_ = 0;
     };
 
-    Iterator begin() const { return {stream_, words_}; }
+    Iterator begin() const CAPNP_CANONICAL_LIFETIMEBOUND { return {stream_, words_}; }
     Iterator end() const noexcept { return {}; }
 
 private:
+    template <typename Range>
+    Frames(std::shared_ptr<const Range> kept, std::uint64_t words, std::nullptr_t)
+        : stream_(*kept), words_(words), kept_(std::move(kept)) {}
+
     Bytes stream_;
     std::uint64_t words_;
+    std::shared_ptr<const void> kept_;
 };
 
 // The version of the linked library: major * 10000 + minor * 100 + patch.
@@ -503,63 +624,93 @@ inline Segments segments_of(capnp::MessageReader& message) {
 inline Segments segments_of(capnp::MessageBuilder& message) { return {message.getSegmentsForOutput()}; }
 inline Segments segments_of(kj::ArrayPtr<const kj::ArrayPtr<const capnp::word>> message) { return {message}; }
 
+namespace detail {
+
+template <typename Message>
+constexpr bool is_message =
+    std::is_base_of_v<capnp::MessageReader, Message> || std::is_base_of_v<capnp::MessageBuilder, Message>;
+template <typename Message>
+using IfMessage = std::enable_if_t<is_message<Message>>;
+
+// A reader of a struct, a list or a pointer. A text or data isn't one: its bytes would be taken for a frame.
+template <typename Value, typename = void>
+constexpr bool is_reader = false;
+template <typename Value>
+constexpr bool is_reader<Value, std::void_t<typename Value::Reads>> =
+    !std::is_same_v<typename Value::Reads, capnp::Text> && !std::is_same_v<typename Value::Reads, capnp::Data>;
+
+// A builder of one.
+template <typename Value, typename = void>
+constexpr bool is_builder = false;
+template <typename Value>
+using ReaderOf = std::decay_t<decltype(std::declval<const Value&>().asReader())>;
+template <typename Value>
+constexpr bool is_builder<Value, std::void_t<typename Value::Builds, ReaderOf<Value>>> = is_reader<ReaderOf<Value>>;
+
+// A value inside a message.
+template <typename Value>
+constexpr bool is_value = !is_message<Value> && (is_reader<Value> || is_builder<Value>);
+
+template <typename Message>
+using IfCopied = std::enable_if_t<is_message<std::remove_cv_t<std::remove_reference_t<Message>>> ||
+                                  is_value<std::remove_cv_t<std::remove_reference_t<Message>>>>;
+
+template <typename Reader, typename = void>
+constexpr bool has_total_size = false;
+template <typename Reader>
+constexpr bool has_total_size<Reader, std::void_t<decltype(std::declval<const Reader&>().totalSize())>> = true;
+
+// The words for the first segment of the copy of a value: all, with the root pointer, if its type says how many.
+template <typename Reader>
+unsigned first_segment(const Reader& value) {
+    std::uint64_t words = 1023;
+    if constexpr (has_total_size<Reader>) words = value.totalSize().wordCount;
+    if constexpr (std::is_same_v<Reader, capnp::AnyPointer::Reader>) words = value.targetSize().wordCount;
+    return unsigned(std::min<std::uint64_t>(words + 1, 1 << 28));
+}
+
+// Uses the segments of a message. Cap'n Proto first copies a value inside a message into a message of its own.
+template <typename Message, typename Use>
+std::invoke_result_t<Use, const Segments&> with_segments(Message& given, Use use) {
+    if constexpr (std::is_same_v<std::remove_cv_t<Message>, Segments>) {
+        return use(given);
+    } else if constexpr (is_message<Message>) {
+        return use(segments_of(given));
+    } else if constexpr (is_builder<std::remove_cv_t<Message>>) {
+        auto reader = given.asReader();
+        return with_segments(reader, use);
+    } else {
+        capnp::MallocMessageBuilder message(first_segment<std::remove_cv_t<Message>>(given));
+        message.setRoot(given);
+        return use(segments_of(message));
+    }
+}
+
+constexpr Limits NO_LIMITS = {std::numeric_limits<std::int32_t>::max(), std::numeric_limits<std::uint64_t>::max()};
+
+}  // namespace detail
+
 // The limits that the reader was made with. This takes nothing from the traversal limit that the reader counts.
 inline Limits limits_of(capnp::MessageReader& message) {
     const capnp::ReaderOptions& options = message.getOptions();
     return {options.nestingLimit, options.traversalLimitInWords};
 }
-// The defaults, as for a reader with default options.
-inline Limits limits_of(capnp::MessageBuilder&) { return {}; }
+// The defaults.
 inline Limits limits_of(const Segments&) { return {}; }
-inline Limits limits_of(capnp::AnyStruct::Reader) { return {}; }
-
-namespace detail {
-
-template <typename Message>
-constexpr bool is_message = std::is_base_of_v<capnp::MessageReader, Message> || std::is_base_of_v<capnp::MessageBuilder, Message>;
-template <typename Message>
-using IfMessage = std::enable_if_t<is_message<Message>>;
-
-// Uses the segments of a message; for a struct inside a message, Cap'n Proto first copies it into a message of its own.
-template <typename Message, typename Use>
-std::enable_if_t<is_message<Message>, std::invoke_result_t<Use, const Segments&>> with_segments(Message& message, Use use) {
-    return use(segments_of(message));
-}
-template <typename Use>
-std::invoke_result_t<Use, const Segments&> with_segments(const Segments& segments, Use use) {
-    return use(segments);
-}
-template <typename Use>
-std::invoke_result_t<Use, const Segments&> with_segments(capnp::AnyStruct::Reader value, Use use) {
-    capnp::MallocMessageBuilder message(unsigned(value.totalSize().wordCount) + 1);
-    message.setRoot(value);
-    return use(segments_of(message));
+// None, as for capnp::canonicalize: your program has built the message.
+inline Limits limits_of(capnp::MessageBuilder&) { return detail::NO_LIMITS; }
+// None, as for capnp::canonicalize: Cap'n Proto reads the value within the limits of its message, and copies it.
+template <typename Value, typename = std::enable_if_t<detail::is_value<Value>>>
+Limits limits_of(const Value&) {
+    return detail::NO_LIMITS;
 }
 
-// What can be copied, a message or a struct inside one, in the form in which it is passed on.
-template <typename Message>
-decltype(auto) given(Message& message) {
-    if constexpr (is_message<Message> || std::is_same_v<std::remove_cv_t<Message>, Segments>) {
-        return static_cast<Message&>(message);
-    } else {
-        return capnp::AnyStruct::Reader(message);
-    }
-}
-
-template <typename Message>
-constexpr bool can_be_copied = is_message<Message> || (std::is_convertible_v<const Message&, capnp::AnyStruct::Reader> &&
-                                                       !std::is_convertible_v<const Message&, Bytes>);
-template <typename Message>
-using IfCopied = std::enable_if_t<can_be_copied<std::remove_cv_t<std::remove_reference_t<Message>>>>;
-
-}  // namespace detail
-
-// The calls above for a MessageReader or a MessageBuilder. The copies also take any struct inside a message, as
-// capnp::canonicalize does: any reader of a struct, or AnyStruct::Reader. Cap'n Proto reads such a struct, and throws
-// its own exceptions if that fails.
+// The calls above for a MessageReader or a MessageBuilder. The copies also take a value inside a message: a reader or
+// builder of a struct (also AnyStruct), a list (also AnyList) or AnyPointer. Cap'n Proto reads and copies such a value
+// first, and throws its own exceptions if that fails.
 template <typename Message, typename = detail::IfCopied<Message>>
 std::vector<std::uint8_t> copy(Message&& message, Limits limits) {
-    return detail::with_segments(detail::given(message), [&](const Segments& it) { return copy(it, limits); });
+    return detail::with_segments(message, [&](const Segments& it) { return copy(it, limits); });
 }
 template <typename Message, typename = detail::IfCopied<Message>>
 std::vector<std::uint8_t> copy(Message&& message) {
@@ -568,7 +719,7 @@ std::vector<std::uint8_t> copy(Message&& message) {
 
 template <typename Message, typename = detail::IfCopied<Message>>
 std::vector<std::uint8_t> copy_flat(Message&& message, Limits limits) {
-    return detail::with_segments(detail::given(message), [&](const Segments& it) { return copy_flat(it, limits); });
+    return detail::with_segments(message, [&](const Segments& it) { return copy_flat(it, limits); });
 }
 template <typename Message, typename = detail::IfCopied<Message>>
 std::vector<std::uint8_t> copy_flat(Message&& message) {
@@ -576,38 +727,40 @@ std::vector<std::uint8_t> copy_flat(Message&& message) {
 }
 
 template <typename Message, typename = detail::IfCopied<Message>>
-Bytes copy_into(std::vector<std::uint8_t>& buffer, Message&& message, Limits limits) {
-    return detail::with_segments(detail::given(message), [&](const Segments& it) { return copy_into(buffer, it, limits); });
+Bytes copy_into(std::vector<std::uint8_t>& buffer CAPNP_CANONICAL_LIFETIMEBOUND, Message&& message, Limits limits) {
+    return detail::with_segments(message, [&](const Segments& it) { return copy_into(buffer, it, limits); });
 }
 template <typename Message, typename = detail::IfCopied<Message>>
-Bytes copy_into(std::vector<std::uint8_t>& buffer, Message&& message) {
+Bytes copy_into(std::vector<std::uint8_t>& buffer CAPNP_CANONICAL_LIFETIMEBOUND, Message&& message) {
     return copy_into(buffer, message, limits_of(message));
 }
 
 template <typename Message, typename = detail::IfCopied<Message>>
-Bytes copy_flat_into(std::vector<std::uint8_t>& buffer, Message&& message, Limits limits) {
-    return detail::with_segments(detail::given(message), [&](const Segments& it) { return copy_flat_into(buffer, it, limits); });
+Bytes copy_flat_into(std::vector<std::uint8_t>& buffer CAPNP_CANONICAL_LIFETIMEBOUND, Message&& message,
+                     Limits limits) {
+    return detail::with_segments(
+        message, [&](const Segments& it) { return copy_flat_into(buffer, it, limits); });
 }
 template <typename Message, typename = detail::IfCopied<Message>>
-Bytes copy_flat_into(std::vector<std::uint8_t>& buffer, Message&& message) {
+Bytes copy_flat_into(std::vector<std::uint8_t>& buffer CAPNP_CANONICAL_LIFETIMEBOUND, Message&& message) {
     return copy_flat_into(buffer, message, limits_of(message));
 }
 
 template <typename Message, typename = detail::IfMessage<Message>>
-Checked check(Message& message, Limits limits) {
+[[nodiscard]] Checked check(Message& message, Limits limits) {
     return check(segments_of(message), limits);
 }
 template <typename Message, typename = detail::IfMessage<Message>>
-Checked check(Message& message) {
+[[nodiscard]] Checked check(Message& message) {
     return check(message, limits_of(message));
 }
 
 template <typename Message, typename = detail::IfMessage<Message>>
-bool is_canonical(Message& message, Limits limits) {
+[[nodiscard]] bool is_canonical(Message& message, Limits limits) {
     return is_canonical(segments_of(message), limits);
 }
 template <typename Message, typename = detail::IfMessage<Message>>
-bool is_canonical(Message& message) {
+[[nodiscard]] bool is_canonical(Message& message) {
     return is_canonical(message, limits_of(message));
 }
 
@@ -620,11 +773,11 @@ Size size(Message& message) {
     return size(message, limits_of(message));
 }
 
-// The raw words in an array of words, as capnp::canonicalize returns them: for a message, for its segments, or for any
-// struct inside a message.
+// The raw words in an array of words, as capnp::canonicalize returns them: for a message, its segments, or a value
+// inside a message.
 template <typename Message>
 kj::Array<capnp::word> canonicalize(Message&& message, Limits limits) {
-    return detail::with_segments(detail::given(message), [&](const Segments& it) {
+    return detail::with_segments(message, [&](const Segments& it) {
         kj::Array<capnp::word> to;
         std::size_t written = detail::copied(
             detail::SegmentSource(it, limits), detail::Form::flat, it.bytes() + sizeof(capnp::word), [&](std::size_t room) {
@@ -643,13 +796,16 @@ kj::Array<capnp::word> canonicalize(Message&& message) {
 }
 
 // The same into the front of an array of yours. Returns the part that is written. Throws Error if the array is too
-// small; it says how much is needed.
+// small, which says how much is needed, and std::invalid_argument if the message is inside the array.
 template <typename Message>
 kj::ArrayPtr<const capnp::word> canonicalize_into(kj::ArrayPtr<capnp::word> to, Message&& message, Limits limits) {
-    return detail::with_segments(detail::given(message), [&](const Segments& it) {
+    return detail::with_segments(message, [&](const Segments& it) {
+        const detail::SegmentSource source(it, limits);
+        const std::size_t room = to.size() * sizeof(capnp::word);
+        if (source.overlaps(to.begin(), room)) detail::refuse_overlap();
         std::size_t written = 0;
-        std::uint32_t answer = detail::SegmentSource(it, limits).copy(
-            detail::Form::flat, reinterpret_cast<std::uint8_t*>(to.begin()), to.size() * sizeof(capnp::word), &written);
+        auto front = reinterpret_cast<std::uint8_t*>(to.begin());
+        std::uint32_t answer = source.copy(detail::Form::flat, front, room, &written);
         if (answer != CAPNP_CANONICAL_DONE) throw Error(answer, {}, written);
         return to.slice(0, written / sizeof(capnp::word)).asConst();
     });

@@ -55,6 +55,141 @@ void test_messages(capnp::MallocMessageBuilder& builder) {
     report(capnp_canonical::size(builder).words == reader.getRoot<capnp::AnyPointer>().targetSize().wordCount, "size");
 }
 
+// Levels of people, each the only friend of the one before.
+void nest(Person::Builder person, int levels) {
+    for (int i = 0; i < levels; i++) {
+        person.setId(i);
+        person = person.initFriends(1)[0];
+    }
+}
+
+// The limits that hold: a reader's own, and none for what a program built or Cap'n Proto has read.
+void test_limits() {
+    capnp::MallocMessageBuilder builder;
+    nest(builder.initRoot<Person>(), 100);
+    auto theirs = capnp::canonicalize(builder.getRoot<Person>().asReader());
+    report(same(capnp_canonical::copy_flat(builder), theirs), "a deep MessageBuilder");
+    report(same(capnp_canonical::copy_flat(builder.getRoot<Person>()), theirs), "a deep builder");
+    kj::Array<capnp::word> frame = capnp::messageToFlatArray(builder);
+    capnp::ReaderOptions deep;
+    deep.nestingLimit = 1000;
+    capnp::FlatArrayMessageReader reader(frame, deep);
+    report(same(capnp_canonical::copy_flat(reader), theirs), "a MessageReader with a nesting limit of 1,000");
+    report(same(capnp_canonical::copy_flat(reader.getRoot<Person>()), theirs), "a reader within it");
+    auto refusal = [](const char* what, std::uint32_t wanted, auto call) {
+        try {
+            call();
+            report(false, what);
+        } catch (const capnp_canonical::Error& error) {
+            report(error.number() == wanted, what);
+        }
+    };
+    const std::uint32_t too_deep = CAPNP_CANONICAL_MESSAGE_IS_TOO_DEEPLY_NESTED_OR_CONTAINS_CYCLES;
+    capnp::FlatArrayMessageReader usual(frame);
+    refusal("a MessageReader with the usual one", too_deep, [&] { capnp_canonical::copy_flat(usual); });
+    refusal("a limit for a builder", too_deep, [&] { capnp_canonical::copy_flat(builder, {64, 1 << 20}); });
+    refusal("a limit for a reader", too_deep, [&] { capnp_canonical::copy_flat(reader.getRoot<Person>(), {64, 1 << 20}); });
+    refusal("segments", too_deep, [&] { capnp_canonical::copy_flat(builder.getSegmentsForOutput()); });
+}
+
+// More words than the default limit.
+void test_large() {
+    capnp::MallocMessageBuilder builder;
+    auto people = builder.initRoot<Book>().initPeople(9);
+    for (auto person : people) memset(person.initName(8 << 20).begin(), 'a', 8 << 20);
+    auto theirs = capnp::canonicalize(builder.getRoot<Book>().asReader());
+    report(same(capnp_canonical::copy_flat(builder), theirs), "a MessageBuilder of 72 MiB");
+    report(same(capnp_canonical::copy_flat(builder.getRoot<Book>().asReader()), theirs), "and its struct");
+}
+
+// Builders, pointers and lists inside of a message.
+void test_values(capnp::MallocMessageBuilder& builder) {
+    auto book = builder.getRoot<Book>();
+    auto theirs = capnp::canonicalize(book.asReader());
+    report(same(capnp_canonical::copy_flat(book), theirs), "a builder of a struct");
+    report(same(capnp_canonical::copy_flat(builder.getRoot<capnp::AnyStruct>()), theirs), "AnyStruct::Builder");
+    report(same(capnp_canonical::copy_flat(builder.getRoot<capnp::AnyPointer>()), theirs), "AnyPointer::Builder");
+    report(same(capnp_canonical::copy_flat(builder.getRoot<capnp::AnyPointer>().asReader()), theirs), "AnyPointer::Reader");
+    report(same(capnp_canonical::canonicalize(book), theirs), "canonicalize of a builder");
+    std::vector<std::uint8_t> buffer;
+    report(same(capnp_canonical::copy_flat_into(buffer, book), theirs), "a builder into a vector");
+    // a list is the root of its copy
+    capnp::MallocMessageBuilder root;
+    root.getRoot<capnp::AnyPointer>().setAs<capnp::List<Person>>(book.asReader().getPeople());
+    auto words = capnp_canonical::copy_flat(root);
+    report(same(capnp_canonical::words_copy(words), kj::arrayPtr(reinterpret_cast<capnp::word*>(words.data()), words.size() / 8)),
+           "the words of a list");
+    report(capnp_canonical::copy_flat(book.getPeople()) == words, "a builder of a list");
+    report(capnp_canonical::copy_flat(book.asReader().getPeople()) == words, "a reader of a list");
+    report(capnp_canonical::copy_flat(capnp::AnyList::Reader(book.asReader().getPeople())) == words, "AnyList::Reader");
+    report(capnp_canonical::copy_flat(root.getRoot<capnp::AnyPointer>()) == words, "a pointer to a list");
+    auto names = builder.getOrphanage().newOrphan<capnp::List<capnp::Text>>(3);
+    names.get().set(1, "Ada");
+    report(capnp_canonical::size(root).words > 0 && !capnp_canonical::copy_flat(names.getReader()).empty(), "a list of texts");
+    capnp::MallocMessageBuilder empty;
+    report(capnp_canonical::copy_flat(empty.getRoot<capnp::AnyPointer>()) == std::vector<std::uint8_t>(8), "a null pointer");
+}
+
+// The pointer of the field `ages`.
+constexpr unsigned AGES = 8;
+
+// Null isn't empty: what the getters read alike has other words, each of them canonical.
+void test_empty() {
+    std::vector<std::vector<std::uint8_t>> forms;
+    auto add = [&](bool text, bool list, bool structs) {
+        capnp::MallocMessageBuilder builder;
+        auto person = builder.initRoot<Person>();
+        if (text) person.setName("");
+        if (list) person.initAges(0);
+        if (structs) person.initBirth();
+        auto reader = person.asReader();
+        report(reader.getName().size() == 0 && reader.getAges().size() == 0 && reader.getBirth().getYear() == 0, "the same to getters");
+        forms.push_back(capnp_canonical::copy_flat(builder));
+        report(capnp_canonical::words_is_canonical(forms.back()), "canonical");
+    };
+    for (int i = 0; i < 8; i++) add(i & 1, i & 2, i & 4);
+    // an empty list of larger elements
+    capnp::MallocMessageBuilder builder;
+    capnp::AnyStruct::Builder(builder.initRoot<Person>()).getPointerSection()[AGES].initAsAnyList(capnp::ElementSize::FOUR_BYTES, 0);
+    report(!builder.getRoot<Person>().hasFriends() && builder.getRoot<Person>().hasAges(), "the pointer of ages");
+    report(builder.getRoot<Person>().asReader().getAges().size() == 0, "an empty list of larger elements");
+    forms.push_back(capnp_canonical::copy_flat(builder));
+    bool differ = true;
+    for (std::size_t i = 0; i < forms.size(); i++) {
+        for (std::size_t j = 0; j < i; j++) differ = differ && forms[i] != forms[j];
+    }
+    report(differ, "all of them differ");
+    // numbers, and structs that begin with them
+    capnp::MallocMessageBuilder numbers, structs;
+    auto list = numbers.getRoot<capnp::AnyPointer>().initAs<capnp::List<std::uint64_t>>(2);
+    auto larger = structs.getRoot<capnp::AnyPointer>().initAs<capnp::List<Person>>(2);
+    for (unsigned i = 0; i < 2; i++) list.set(i, 7), larger[i].setId(7);
+    auto read = structs.getRoot<capnp::AnyPointer>().asReader().getAs<capnp::List<std::uint64_t>>();
+    report(read.size() == 2 && read[0] == 7 && read[1] == 7, "structs are read as numbers");
+    report(capnp_canonical::copy_flat(numbers) != capnp_canonical::copy_flat(structs), "and have other words");
+}
+
+// What is read inside of what is written to.
+void test_overlap(capnp::MallocMessageBuilder& builder) {
+    auto frame = capnp::messageToFlatArray(builder);
+    capnp::FlatArrayMessageReader reader(frame);
+    auto refused = [](const char* what, auto call) {
+        try {
+            call();
+            report(false, what);
+        } catch (const std::invalid_argument&) {
+            report(true, what);
+        }
+    };
+    refused("canonicalize in place", [&] { capnp_canonical::canonicalize_into(frame, reader); });
+    refused("canonicalize into a segment", [&] { capnp_canonical::canonicalize_into(frame.slice(frame.size() - 1, frame.size()), reader); });
+    std::size_t count = 0;
+    for (capnp_canonical::Bytes it : capnp_canonical::Frames(capnp::messageToFlatArray(builder))) {
+        count += capnp_canonical::copy_flat(it) == capnp_canonical::copy_flat(reader);
+    }
+    report(count == 1, "Frames of an array that nothing else keeps");
+}
+
 // Structs inside of a message.
 void test_places(capnp::MallocMessageBuilder& builder) {
     Person::Reader person = builder.getRoot<Book>().asReader().getPeople()[1];
@@ -96,5 +231,10 @@ int main() {
     test_messages(builder);
     test_places(builder);
     test_words(builder);
+    test_values(builder);
+    test_limits();
+    test_large();
+    test_empty();
+    test_overlap(builder);
     return failed ? 1 : 0;
 }

@@ -238,13 +238,100 @@ void test_hazard() {
     require(capnp_canonical::copy_flat(words) == bytes_of("00000000010000002a00000000000000"), "another value");
 }
 
+// The buffer holds the copy and nothing else, whatever was in it, and its memory is used again.
 void test_buffer() {
     Vector buffer;
     Bytes first = capnp_canonical::copy_flat_into(buffer, SHARED);
     require(digits_of(first) == digits_of(SHARED_FLAT) && first.data() == buffer.data(), "a buffer that grows");
-    std::size_t room = buffer.size();
+    require(buffer == SHARED_FLAT, "a buffer of the copy alone");
+    std::size_t room = buffer.capacity();
     Bytes second = capnp_canonical::copy_flat_into(buffer, ZERO_WORD);
-    require(digits_of(second) == digits_of(ZERO_WORD_FLAT) && buffer.size() == room, "a buffer that is kept");
+    require(digits_of(second) == digits_of(ZERO_WORD_FLAT) && second.data() == buffer.data(), "a buffer that is kept");
+    require(buffer == ZERO_WORD_FLAT && buffer.capacity() == room, "nothing of the earlier message");
+    capnp_canonical::copy_into(buffer, segments_in(SHARED));
+    require(buffer == framed(SHARED_FLAT), "a frame of segments");
+}
+
+// A buffer is empty after a refusal, so that nothing of an earlier message is taken for the answer.
+void test_refused_buffer() {
+    Vector buffer;
+    auto refused = [&](const char* name, const char* wanted, const std::function<void()>& call) {
+        buffer = SHARED_FLAT;
+        require_same(name, answer([&] { return call(), std::string("no refusal"); }), wanted);
+        require(buffer.empty(), std::string(name) + ": something is left in the buffer");
+    };
+    Bytes cut(SHARED.data(), 44);
+    refused("cut", "Truncated", [&] { capnp_canonical::copy_flat_into(buffer, cut); });
+    refused("limit", "ReadLimitExceeded", [&] { capnp_canonical::copy_into(buffer, SHARED, {64, 6}); });
+    refused("segments", "InvalidSegmentId", [&] { capnp_canonical::copy_into(buffer, Segments()); });
+    refused("packed", "Truncated", [&] { capnp_canonical::unpack_into(buffer, bytes_of("00")); });
+    refused("many", "MessageTooLong", [&] { capnp_canonical::unpack_into(buffer, bytes_of("0001"), 1); });
+}
+
+// What is read inside of what is written to, in front, at the end, or all of it, is refused, and stays as it is.
+void test_overlap() {
+    Vector buffer;
+    auto refused = [&](const char* name, const Vector& before, const std::function<void()>& call) {
+        buffer = before;
+        try {
+            call();
+            require(false, std::string(name) + ": no refusal");
+        } catch (const std::invalid_argument&) {
+            require(buffer == before, std::string(name) + ": the buffer is changed");
+        }
+    };
+    Vector packed = bytes_of("10021001012a10021001012a");
+    Vector larger = packed;
+    larger.resize(4096);
+    refused("unpacked in place", packed, [&] { capnp_canonical::unpack_into(buffer, buffer); });
+    refused("unpacked from the front", larger, [&] { capnp_canonical::unpack_into(buffer, Bytes(buffer.data(), 12)); });
+    refused("unpacked from the end", larger, [&] { capnp_canonical::unpack_into(buffer, Bytes(buffer.data() + 4095, 1)); });
+    refused("copied in place", SHARED, [&] { capnp_canonical::copy_into(buffer, buffer); });
+    refused("copied flat in place", SHARED, [&] { capnp_canonical::copy_flat_into(buffer, Bytes(buffer)); });
+    Segments apart = segments_in(ZERO_WORD);
+    refused("a segment in place", SHARED, [&] {
+        Segments segments = apart;
+        segments.add({buffer.data(), 8});
+        capnp_canonical::copy_flat_into(buffer, segments);
+    });
+    buffer.reserve(1 << 16);
+    buffer.assign(SHARED.begin(), SHARED.end());
+    require(capnp_canonical::copy_flat(buffer) == SHARED_FLAT, "a copy elsewhere");
+    Vector other = {1, 2, 3};
+    require(digits_of(capnp_canonical::copy_flat_into(other, buffer)) == digits_of(SHARED_FLAT), "another buffer");
+}
+
+// Messages that can't be read as a whole, and that are measured or tested all the same.
+void test_validation() {
+    const Vector voids = bytes_of("0000000002000000000000000000010001000000f8ffffff");
+    require(capnp_canonical::size(voids).words == 1, "the size of a list of 536,870,911 void elements");
+    require_same("the copy", answer([&] { return digits_of(capnp_canonical::copy(voids)); }), "ReadLimitExceeded");
+    const Vector gap_before_outside = bytes_of("000000000300000004000000000001000000000000000000c800000001000000");
+    require(!capnp_canonical::check(gap_before_outside).is_canonical(), "a test that stops");
+    require_same("the copy", answer([&] { return digits_of(capnp_canonical::copy(gap_before_outside)); }), "MessageContainsOutOfBoundsPointer");
+    const Vector capability = bytes_of("000000000200000000000000000001000300000000000000");
+    require(capnp_canonical::size(capability).capabilities == 1, "the size of a capability");
+}
+
+// A stream that nothing else keeps is kept by Frames.
+void test_temporaries() {
+    const char* packed = "10021001012a10021001012a10021001012a";
+    std::size_t count = 0;
+    for (Bytes frame : capnp_canonical::Frames(capnp_canonical::unpack(bytes_of(packed)))) {
+        require(capnp_canonical::copy_flat(frame) == bytes_of("00000000010000002a00000000000000"), "a message");
+        count++;
+    }
+    require(count == 3, "three messages");
+    capnp_canonical::Frames frames(std::string(ZERO_WORD.begin(), ZERO_WORD.end()));
+    capnp_canonical::Frames same = frames;
+    frames = capnp_canonical::Frames(Bytes());
+    for (Bytes frame : same) require(capnp_canonical::copy_flat(frame) == ZERO_WORD_FLAT, "a copy of Frames");
+    std::array<std::byte, 40> bytes;
+    std::transform(ZERO_WORD.begin(), ZERO_WORD.end(), bytes.begin(), [](std::uint8_t it) { return std::byte(it); });
+    for (Bytes frame : capnp_canonical::Frames(std::move(bytes))) require(frame.size() == 40, "an array");
+    Vector stream = ZERO_WORD;
+    for (Bytes frame : capnp_canonical::Frames(stream)) require(frame.data() == stream.data(), "a view of what is kept elsewhere");
+    require(capnp_canonical::Frames(std::move(stream), 4).begin() == capnp_canonical::Frames(ZERO_WORD).begin(), "a limit");
 }
 
 // Bytes behind the frame at the front cost nothing: 2,000 copies of a message in front of 64 MiB.
@@ -315,8 +402,10 @@ void test_unpacked() {
     require(capnp_canonical::unpack(zeros, 25600) == Vector(8 * 25600), "a limit that is met");
     require_same("more words", answer([&] { return digits_of(capnp_canonical::unpack(zeros, 25599)); }), "MessageTooLong");
     Vector buffer;
-    Bytes first = capnp_canonical::unpack_into(buffer, zeros), second = capnp_canonical::unpack_into(buffer, Bytes(zeros.data(), 2));
-    require(first.size() == 204800 && second.size() == 2048 && buffer.size() == 204800, "a buffer that is kept");
+    Bytes first = capnp_canonical::unpack_into(buffer, zeros);
+    require(first.size() == 204800 && buffer.size() == 204800, "a buffer that grows");
+    Bytes second = capnp_canonical::unpack_into(buffer, Bytes(zeros.data(), 2));
+    require(second.size() == 2048 && buffer.size() == 2048 && buffer.capacity() >= 204800, "a buffer that is kept");
     require(second.data() == buffer.data(), "the front of the buffer");
 }
 
@@ -352,6 +441,10 @@ int main(int count, char** words) {
     test("limits", test_limits);
     test("raw words beside a frame", test_hazard);
     test("a buffer that is used again", test_buffer);
+    test("a buffer after a refusal", test_refused_buffer);
+    test("overlap", test_overlap);
+    test("what is no validation", test_validation);
+    test("temporaries", test_temporaries);
     test("bytes behind a frame", test_bytes_behind);
     test("faults", test_faults);
     test("frames of a stream", test_frames);

@@ -56,7 +56,9 @@ summed() {
 }
 
 cxx_messages() {
-    "$cxx" -std="$1" -Wall -Wextra -Wpedantic -Wshadow -Werror -O1 -DCAPNP_CANONICAL_WITHOUT_CAPNP -I"$prefix/include" \
+    standard=$1
+    shift
+    "$cxx" -std="$standard" -Wall -Wextra -Wpedantic -Wshadow -Werror -O1 "$@" -DCAPNP_CANONICAL_WITHOUT_CAPNP -I"$prefix/include" \
         -o "$work/messages" "$here/messages.cpp" "$prefix/lib/libcapnp_canonical.a" &&
         "$work/messages" "$here/messages.txt" "$here/packed.txt"
 }
@@ -238,8 +240,10 @@ for standard in c++17 c++20; do
         skip $standard "$cxx -std=$standard"
     else
         part $standard cxx_messages $standard
+        part "$standard with the address sanitizer" cxx_messages $standard -g -fsanitize=address,undefined -fno-sanitize-recover
     fi
 done
+if [ "$has_cxx" ]; then part 'temporaries of C++' sh "$here/temporaries.sh" "$prefix/include"; fi
 if [ "$has_cargo" ]; then
     part Rust cargo_test
     part 'package for cargo' cargo_package
