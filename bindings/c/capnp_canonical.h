@@ -29,13 +29,14 @@
  * others, the calls that copy take memory with malloc, about the size of the canonical message, and free it before they
  * return. No other call takes any.
  *
- * Stack. A level of nesting takes up to 608 bytes as ./install builds the library, which is for x86-64-v2 and later. In
- * a release in plain C, which isn't tied to these processors, it takes up to 640 bytes with clang, 720 with gcc, and 11
- * KB if the compiler doesn't optimise.
+ * Stack. A level of nesting takes up to 624 bytes as ./install builds the library, which is for x86-64-v2 and later. In
+ * a release in plain C, which isn't tied to these processors, it takes up to 640 bytes with clang, 768 with gcc, and
+ * 11,056 if the compiler doesn't optimise. A call takes another 8 KB, or 21 KB if it doesn't. This is measured on
+ * x86-64, not proved.
  *
  * What you have to keep. A pointer to bytes or segments goes with their number, and may be null if that is 0. No other
- * pointer may be null. What a call writes to must overlap nothing else that you pass to it. Don't call from a signal
- * handler, nor in the forked child of a process with threads. */
+ * pointer may be null. What a call writes to must overlap nothing else that you pass to it, and nothing may change what
+ * it reads while it runs. Don't call from a signal handler, nor in the forked child of a process with threads. */
 #ifndef CAPNP_CANONICAL_H
 #define CAPNP_CANONICAL_H
 
@@ -217,8 +218,12 @@ uint32_t capnp_canonical_words_size(const uint8_t *message, size_t size, int32_t
  * CAPNP_CANONICAL_NO_ROOM means that they stand for more than `room` bytes, and `*written` says how many; so pass null
  * and 0 to ask for the size. It is SIZE_MAX if that is 2^64 bytes or more. Two packed bytes stand for up to 2,048, so
  * compare the size with what you accept before you make room for it. CAPNP_CANONICAL_TRUNCATED means that they end
- * inside a word or before a count; `*written` is then 0. There is no other refusal. Bytes of `to` after those written
- * stay as they are, and after a refusal all of them do. */
+ * inside a packed word; `*written` is then 0. There is no other refusal. Bytes of `to` after those written stay as they
+ * are, and after a refusal all of them do.
+ *
+ * Don't unpack in place: if the packed bytes overlap those at `to`, or if another thread changes them meanwhile, what is
+ * written to `to` is of no use. Even then the call writes nothing outside of the `room` bytes, which is tested, not
+ * proved. */
 uint32_t capnp_canonical_unpack(const uint8_t *packed, size_t packed_size, uint8_t *to, size_t room, size_t *written);
 
 /* Writes the name of a refusal, such as `Truncated`, and a terminating zero to the `room` bytes at `to`, like snprintf:

@@ -233,6 +233,11 @@ has_python=$(has python3 && echo 1)
 has_capnp=$(has capnp python3 && echo 1)
 
 if [ "$has_cc" ]; then summed C sh "$here/c.sh" "$prefix"; else skip C cc; fi
+if has cc pkg-config python3 && [ "$(uname -m)" = x86_64 ]; then
+    part stack sh "$here/stack.sh" "$prefix"
+else
+    skip stack 'cc, pkg-config, python3 or x86-64'
+fi
 for standard in c++17 c++20; do
     if [ ! "$has_cxx" ]; then
         skip $standard "$cxx"

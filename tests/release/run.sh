@@ -141,7 +141,7 @@ by_compiler() {
     part "make install, $1" installed "$1-O2" "$1"
     summed "c.sh, $1" env CC="$1" sh "$release/tests/library/c.sh" "$work/prefix_$1-O2"
     part "stack, $1" sh "$here/stack.sh" "$release" "$1"
-    sed -n 's/^\(.* bytes per level.*\)/    \1/p' "$work/log"
+    sed -n 's/^\(.* bytes per level.*\)/    \1/p; s/^\(FAILED: .*\)/    \1/p' "$work/log"
 }
 
 on_aarch64() {

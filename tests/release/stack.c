@@ -11,7 +11,8 @@ static uint8_t *stack, frame[8 + 16 * MANY + 16], written[sizeof frame];
 static size_t frame_size;
 static int which;
 
-/* For each kind of chain, the words of one level, which lead to the words right after them. */
+/* For each kind of chain, the words of one level, which lead to the words right after them. A word after the last level makes
+ * the message not canonical, so that it isn't copied as it is. */
 static const struct {
     const char *name;
     int words;
@@ -24,7 +25,7 @@ static const struct {
 static const char *const calls[] = {"copy", "check", "size"};
 
 static void make(int chain, int levels) {
-    uint32_t words = (uint32_t)(levels * chains[chain].words + 1);
+    uint32_t words = (uint32_t)(levels * chains[chain].words + 2);
     memset(frame, 0, sizeof frame);
     memcpy(frame + 4, &words, 4);
     for (int i = 0; i < levels; i++) memcpy(frame + 8 + 8 * i * chains[chain].words, chains[chain].word, 8 * (size_t)chains[chain].words);

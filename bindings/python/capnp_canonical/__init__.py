@@ -12,7 +12,8 @@ also the table of a frame.
 
 Bytes are any object with a buffer: bytes, bytearray, memoryview, mmap, a NumPy array. They are read in place, and
 nobody may change them during the call. A call that is refused raises `Error`. No call keeps anything, so several
-threads may call at once, and other Python threads run during a call. A level of nesting takes up to 720 bytes of stack.
+threads may call at once, and other Python threads run during a call. A level of nesting takes up to 768 bytes of stack,
+and 11,056 if the compiler doesn't optimise the C.
 
     python3 -m capnp_canonical --help
 

@@ -2,7 +2,8 @@
 //!
 //! You pass a message as a frame, as `capnp::serialize::write_message` writes it, or as its segments ([`segments`]).
 //! Bytes may lie at any address, and bytes after the frame are ignored. Unpack packed bytes first, with [`unpack`]. No
-//! call keeps anything, so several threads may call at once. A level of nesting takes up to 720 bytes of stack.
+//! call keeps anything, so several threads may call at once. A level of nesting takes up to 768 bytes of stack,
+//! and 11,056 if the compiler doesn't optimise the C.
 //!
 //! Raw words aren't a frame. Read back what [`canonical_words`] returns with the module [`words`]. A call that takes a
 //! frame may **succeed** on raw words, and then reads **another** value, because the pointer to a root without
