@@ -20,7 +20,7 @@ compile() {
 # Runs a command that finds the shared library.
 run() {
     # shellcheck disable=SC2086
-    LD_LIBRARY_PATH="$build${LD_LIBRARY_PATH:+:$LD_LIBRARY_PATH}" ${RUNNER-} "$@"
+    LD_LIBRARY_PATH="$build${LD_LIBRARY_PATH:+:$LD_LIBRARY_PATH}" DYLD_LIBRARY_PATH="$build" ${RUNNER-} "$@"
 }
 
 compile example_static bindings/c/example.c "$build/libcapnp_canonical.a"

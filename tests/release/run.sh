@@ -138,6 +138,7 @@ by_compiler() {
     if has valgrind "$1 under it"; then
         part "make check, $1 under valgrind" checked "$1-O2" "$1" "-O2 $warnings" RUNNER='valgrind -q --error-exitcode=9 --leak-check=full --show-leak-kinds=all'
     fi
+    part "standards of C, $1" by_standard "$1"
     part "make install, $1" installed "$1-O2" "$1"
     summed "c.sh, $1" env CC="$1" sh "$release/tests/library/c.sh" "$work/prefix_$1-O2"
     part "stack, $1" sh "$here/stack.sh" "$release" "$1"
@@ -158,7 +159,7 @@ by_cmake() {
         cmake -S "$release" -B "$work/cmake_$shared" -DBUILD_SHARED_LIBS=$shared -DCMAKE_INSTALL_PREFIX="$work/by_cmake_$shared" -DCMAKE_INSTALL_LIBDIR=lib &&
             cmake --build "$work/cmake_$shared" --target install && found "$work/by_cmake_$shared" "cmake_$shared" || return 1
     done
-    found "$work/prefix_$first-O2" make
+    found "$work/prefix_$first-O2" make && same_files "$work/prefix_$first-O2" "$work/by_cmake_ON"
 }
 
 # Builds a CMake project that finds the library installed at a prefix.
@@ -169,9 +170,26 @@ project(user C)
 find_package(capnp_canonical 1.0 REQUIRED)
 add_executable(example $release/bindings/c/example.c)
 target_link_libraries(example capnp_canonical::capnp_canonical)
+add_executable(static $release/bindings/c/example.c)
+target_link_libraries(static capnp_canonical::static)
 END
-    cmake -S "$work/user_$2" -B "$work/user_$2/build" -DCMAKE_PREFIX_PATH="$1" && cmake --build "$work/user_$2/build" &&
-        "$work/user_$2/build/example" <"$work/$first-O2/frame" | cmp - "$work/$first-O2/words"
+    cmake -S "$work/user_$2" -B "$work/user_$2/build" -DCMAKE_PREFIX_PATH="$1" && cmake --build "$work/user_$2/build" || return 1
+    for program in example static; do
+        "$work/user_$2/build/$program" <"$work/$first-O2/frame" | cmp - "$work/$first-O2/words" || return 1
+    done
+}
+
+# CMake installs what make does; the module for Python and the files for CMake itself are the difference.
+same_files() {
+    for it; do (cd "$it" && find . ! -type d | grep -v -e '/python/' -e '/cmake/' | sort) >"$it.files" || return 1; done
+    diff "$1.files" "$2.files"
+}
+
+# The library among the sources of another program, whose standard is an older one.
+by_standard() {
+    for standard in c99 gnu99 c11 gnu17; do
+        "$1" -std=$standard -O1 -Wall -Wextra -Werror -I"$release/bindings/c" -c -o "$work/standard.o" "$release/generated/capnp_canonical.c" || return 1
+    done
 }
 
 by_cargo() {
@@ -226,6 +244,7 @@ on_aarch64
 summed 'run.sh over it' sh "$release/tests/library/run.sh" "$work/prefix_$first-O2"
 sed -n 's/^ *\(ratio .*\)/    \1/p' "$work/log"
 part 'README' readme
+summed pages python3 -B "$release/tests/release/pages.py" "$release"
 part versions versions
 if has cmake CMake; then part CMake by_cmake; fi
 if has cargo cargo; then part cargo by_cargo; fi
