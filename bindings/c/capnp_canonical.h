@@ -201,7 +201,7 @@ uint32_t capnp_canonical_segments_check(const struct capnp_canonical_segment *se
 
 uint32_t capnp_canonical_segments_size(const struct capnp_canonical_segment *segments, size_t count, int32_t nesting, uint64_t words, uint64_t *word_count, uint32_t *cap_count);
 
-/* The same, for a message given as raw words, as copy_flat writes them: all `size` bytes at `message` are its one
+/* The same, for a message given as the raw words that copy_flat writes: all `size` bytes at `message` are its one
  * segment. The copy is raw words too. If you pass a frame here, its bytes are read as raw words and mean another
  * value. If `size` is 0, the message has no root, which is refused with
  * CAPNP_CANONICAL_MESSAGE_CONTAINS_OUT_OF_BOUNDS_POINTER. */

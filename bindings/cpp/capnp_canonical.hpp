@@ -127,7 +127,7 @@ constexpr bool holds_bytes = false;
 template <typename Range>
 constexpr bool holds_bytes<Range, std::void_t<Element<Range>>> = is_byte<Element<Range>>;
 
-// Whether a range owns its bytes: it has a destructor, or its bytes are constant if it is, as those of a std::array.
+// Whether a range owns its bytes: it has a destructor, or, like a std::array, its bytes are constant if it is.
 template <typename Range, typename = void>
 constexpr bool is_constant_with_its_bytes = false;
 template <typename Range>
@@ -457,8 +457,8 @@ inline std::vector<std::uint8_t> copy(const Segments& segments, Limits limits = 
     return detail::copy_of(detail::SegmentSource(segments, limits), detail::Form::framed);
 }
 
-// Makes the message canonical, as raw words: the bytes to hash or sign. Read stored words back with words_check and
-// words_copy.
+// Makes the message canonical and returns its raw words, which are the bytes to hash or sign. Read stored words back
+// with words_check and words_copy.
 inline std::vector<std::uint8_t> copy_flat(Bytes frame, Limits limits = {}) {
     return detail::copy_of(detail::FrameSource(frame, limits), detail::Form::flat);
 }
@@ -697,9 +697,9 @@ inline Limits limits_of(capnp::MessageReader& message) {
 }
 // The defaults.
 inline Limits limits_of(const Segments&) { return {}; }
-// None, as for capnp::canonicalize: your program has built the message.
+// None, like capnp::canonicalize: your program has built the message.
 inline Limits limits_of(capnp::MessageBuilder&) { return detail::NO_LIMITS; }
-// None, as for capnp::canonicalize: Cap'n Proto reads the value within the limits of its message, and copies it.
+// None, like capnp::canonicalize: Cap'n Proto reads the value within the limits of its message, and copies it.
 template <typename Value, typename = std::enable_if_t<detail::is_value<Value>>>
 Limits limits_of(const Value&) {
     return detail::NO_LIMITS;
@@ -773,8 +773,8 @@ Size size(Message& message) {
     return size(message, limits_of(message));
 }
 
-// The raw words in an array of words, as capnp::canonicalize returns them: for a message, its segments, or a value
-// inside a message.
+// Like copy_flat, for a message, its segments, or a value inside a message, but returns an array of words, like
+// capnp::canonicalize.
 template <typename Message>
 kj::Array<capnp::word> canonicalize(Message&& message, Limits limits) {
     return detail::with_segments(message, [&](const Segments& it) {

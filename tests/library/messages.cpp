@@ -238,7 +238,7 @@ void test_hazard() {
     require(capnp_canonical::copy_flat(words) == bytes_of("00000000010000002a00000000000000"), "another value");
 }
 
-// The buffer holds the copy and nothing else, whatever was in it, and its memory is used again.
+// The buffer holds the copy and nothing of what was in it, and its memory is used again.
 void test_buffer() {
     Vector buffer;
     Bytes first = capnp_canonical::copy_flat_into(buffer, SHARED);
