@@ -8,6 +8,7 @@ Each compiler compiles the C at -O0, -O2 and -O3 and with the address and undefi
 run. Without arguments these are gcc, clang, and gcc for aarch64 with qemu. The expected results are computed in Python, from
 LLVM's language reference. If the toolchain is there, its clang compiles the module itself, with the same expected results.
 The last line is `N passed, M failed`."""
+import functools
 import itertools
 import pathlib
 import re
@@ -43,7 +44,7 @@ class Cases:
         """Adds a function with this body, which may use %a and %b. `wanted` computes its result in Python."""
         name = f'test_{self.count}'
         self.count += 1
-        lines = '\n'.join(it if it[:2] == '  ' or re.match(r'\w+:', it) else f'  {it}' for it in body.strip().split('\n'))
+        lines = '\n'.join(it if it[:2] == '  ' or re.match(r'[\w.]+:', it) else f'  {it}' for it in body.strip().split('\n'))
         self.text.append(f'{before}\ndefine i64 @{name}(i64 noundef %a, i64 noundef %b) unnamed_addr #0 {{\nstart:\n{lines}\n}}\n')
         self.calls += [(name, a, b, wanted(a, b) & MOST) for a, b in pairs]
 
@@ -293,7 +294,7 @@ def vectors(cases):
     for count in 8, 16, 32, 64:
         kind = f'<{count} x i8>'
         cases.add(f'{spread}%v = load {kind}, ptr %at, align 1\n%o = call i8 @llvm.vector.reduce.or.v{count}i8({kind} %v)\n%r = zext i8 %o to i64\nret i64 %r',
-                  lambda a, b, n=count: __import__('functools').reduce(lambda x, y: x | y, memory(a, b)[:n]), pairs)
+                  lambda a, b, n=count: functools.reduce(lambda x, y: x | y, memory(a, b)[:n]), pairs)
         cases.add(f'%to = alloca [72 x i8], align 8\n{spread}%v = load {kind}, ptr %at, align 1\nstore {kind} %v, ptr %to, align 1\n%q = getelementptr inbounds i8, ptr %to, i64 {count - 8}\n%r = load i64, ptr %q, align 1\nret i64 %r',
                   lambda a, b, n=count: int.from_bytes(memory(a, b)[n - 8:n], 'little'), pairs)
         cases.add(f'{spread}store {kind} zeroinitializer, ptr %at, align 1\n%q = getelementptr inbounds i8, ptr %at, i64 {count - 8}\n%r = load i64, ptr %q, align 1\nret i64 %r', lambda a, b: 0, pairs)
@@ -310,7 +311,7 @@ def vectors(cases):
         cases.add(f'{spread}%v = load <64 x i8>, ptr %at, align 1\n%w = shufflevector <64 x i8> %v, <64 x i8> poison, <16 x i32> <{", ".join(f"i32 {start + i}" for i in range(16))}>\nstore <16 x i8> %w, ptr %at, align 1\n'
                   '%r = load i64, ptr %at, align 1\nret i64 %r', lambda a, b, at=start: int.from_bytes(memory(a, b)[at:at + 8], 'little'), pairs)
     cases.add('%v = bitcast i64 %a to <8 x i8>\n%w = bitcast i64 %b to <8 x i8>\n%u = xor <8 x i8> %v, %w\n%o = call i8 @llvm.vector.reduce.or.v8i8(<8 x i8> %u)\n%r = zext i8 %o to i64\nret i64 %r',
-              lambda a, b: __import__('functools').reduce(lambda x, y: x | y, (a ^ b).to_bytes(8, 'little')), pairs)
+              lambda a, b: functools.reduce(lambda x, y: x | y, (a ^ b).to_bytes(8, 'little')), pairs)
 
 
 def counting(cases):
@@ -326,6 +327,44 @@ def counting(cases):
         by %= 2**width
         cases.add(f'{cut}%r = call i{width} @llvm.{word}.i{width}(i{width} {a}, i{width} {b}, i{width} {by})\n{widened(width, "%r")}',
                   lambda x, y, count=count, width=width, by=by: count(x % 2**width, y % 2**width, by, width) % 2**width, edges(width)[::7])
+
+
+def long_names(cases):
+    """Names that differ only after what C promises to compare, and what makes lines and texts longer than it promises to read."""
+    long = 'canonical' * 30
+    values = ''.join(f'%{long}{it} = add i64 %a, {number}\n' for number, it in enumerate(('one', 'two', '.i.i7', '.i.i70')))
+    cases.add(f'{values}%"{long}<u8>" = mul i64 %{long}one, %{long}two\n%"{long}<u9>" = mul i64 %{long}.i.i7, %{long}.i.i70\n%x = sub i64 %"{long}<u8>", %"{long}<u9>"\n'
+              f'%y = xor i64 %{long}one, %{long}.i.i70\n%z = xor i64 %{long}two, %{long}.i.i7\n%v = mul i64 %y, %z\n%r = add i64 %x, %v\nret i64 %r',
+              lambda a, b: a * (a + 1) - (a + 2) * (a + 3) + (a ^ a + 3) * (a + 1 ^ a + 2), [(0, 0), (9, 0), (2**40, 0)])
+    # functions, constants and blocks
+    cases.add(f'%x = call fastcc i64 @"{long}::one"(i64 %a)\n%y = call fastcc i64 @"{long}::two"(i64 %a)\n%r = sub i64 %x, %y\nret i64 %r', lambda a, b: (a ^ 5) - (a ^ 9), [(0, 0), (77, 0)],
+              ''.join(f'define internal fastcc i64 @"{long}::{it}"(i64 noundef %a) unnamed_addr #1 {{\nstart:\n  %r = xor i64 %a, {number}\n  ret i64 %r\n}}\n' for it, number in (('one', 5), ('two', 9))))
+    cases.add(f'%p = getelementptr inbounds i32, ptr @{long}.1, i64 %a\n%q = getelementptr inbounds i32, ptr @{long}.2, i64 %a\n%v = load i32, ptr %p, align 4\n%w = load i32, ptr %q, align 4\n%u = sub i32 %v, %w\n'
+              '%r = zext i32 %u to i64\nret i64 %r', lambda a, b: 7 * a % 2**32, [(0, 0), (1499, 0)],
+              ''.join(f'@{long}.{it} = private unnamed_addr constant [1500 x i32] [{", ".join(f"i32 {by * i}" for i in range(1500))}], align 4\n' for it, by in ((1, 10), (2, 3))))
+    cases.add(f'%c = icmp ult i64 %a, %b\nbr i1 %c, label %{long}.one, label %{long}.two\n{long}.one:\nret i64 1\n{long}.two:\nret i64 2', lambda a, b: 1 if a < b else 2, [(1, 2), (2, 1)])
+    # values of the names of a function and of a constant
+    cases.add('%writes = add i64 %a, 1\n%row = mul i64 %writes, %writes\n%v = load i8, ptr @row, align 1\n%w = zext i8 %v to i64\n%x = mul i64 %row, %w\n%r = add i64 %x, %row\nret i64 %r', lambda a, b: (a + 1) ** 2 * (1 + ord('a')), [(4, 0)])
+    # two structs whose last fields differ
+    for last in 'i32', 'i64':
+        kind = f'{{ {"i64, " * 20}{last} }}'
+        cut = 'trunc i64 %x to i32' if last == 'i32' else 'add i64 %x, 0'
+        made = ''.join(f'  %s{i + 1} = insertvalue {kind} {f"%s{i}" if i else "poison"}, i64 %x, {i}\n' for i in range(20))
+        cases.add(f'%s = call fastcc {kind} @row_of_{last}(i64 %a)\n%x = extractvalue {kind} %s, 19\n%y = extractvalue {kind} %s, 20\n' + (f'%z = zext i32 %y to i64\n%r = sub i64 %x, %z\n' if last == 'i32' else '%r = sub i64 %x, %y\n') + 'ret i64 %r',
+                  lambda a, b, last=last: a - a % 2**32 if last == 'i32' else 0, [(2**40 + 5, 0)],
+                  f'define internal fastcc {kind} @row_of_{last}(i64 noundef %x) unnamed_addr #1 {{\nstart:\n{made}  %last = {cut}\n  %all = insertvalue {kind} %s20, {last} %last, 20\n  ret {kind} %all\n}}\n')
+    # a call with many arguments, and a block with many choices, each a long expression
+    mixed = ''.join(f'%m{i}.0 = add i64 %a, {i}\n' + ''.join(f'%m{i}.{n + 1} = xor i64 %m{i}.{n}, {0x123456789abcdef + n}\n' for n in range(13)) for i in range(40))
+    value = functools.reduce(lambda x, y: x ^ y, (0x123456789abcdef + n for n in range(13)))
+    parameters = ', '.join(f'i64 noundef %x{i}' for i in range(40))
+    sums = ''.join(f'  %s{i + 1} = add i64 {f"%s{i}" if i else "0"}, %x{i}\n' for i in range(40))
+    cases.add(f'{mixed}%r = call fastcc i64 @sum_of_many({", ".join(f"i64 %m{i}.13" for i in range(40))})\nret i64 %r', lambda a, b: sum(a + i ^ value for i in range(40)), [(5, 0), (2**50, 0)],
+              f'define internal fastcc i64 @sum_of_many({parameters}) unnamed_addr #1 {{\nstart:\n{sums}  ret i64 %s40\n}}\n')
+    cases.add(f'{mixed}%c = icmp ult i64 %a, %b\nbr i1 %c, label %on, label %end\non:\n{"".join(f"%x{i} = phi i64 [ %m{i}.13, %start ]" + chr(10) for i in range(40))}{sums}ret i64 %s40\nend:\nret i64 7',
+              lambda a, b: sum(a + i ^ value for i in range(40)) if a < b else 7, [(5, 9), (2**50, 2**60), (1, 0)])
+    for name, text in ('line', b'say "so?" ' * 390), ('page', b'say "so?"\n\n' * 900):
+        cases.add(f'%p = getelementptr inbounds i8, ptr @{name}, i64 %a\n%v = load i8, ptr %p, align 1\n%r = zext i8 %v to i64\nret i64 %r', lambda a, b, text=text: text[a], [(i, 0) for i in range(0, len(text), 97)],
+                  f'@{name} = private unnamed_addr constant [{len(text)} x i8] c"{as_llvm_writes(text)}", align 1\n')
 
 
 ATTRIBUTES = '''
@@ -355,7 +394,7 @@ REFUSED = [BODY.format(it) for it in (
     'declare i64 @printf(ptr)\n', '$x = comdat any\n', 'module asm "nop"\n',
 ]
 # Changes of the written C that no compiler can tell.
-WRONG_CONSTANTS = (('say \\"hi', 'say \\"ho'), ('4294967295u, 7u', '4294967295u, 6u'), ('{ row, zeros }', '{ zeros, row }'), ('plain[9]', 'plain[10]'))
+WRONG_CONSTANTS = (('say \\"hi', 'say \\"ho'), ('4294967295u, 7u', '4294967295u, 6u'), ('{ g_row, g_zeros }', '{ g_zeros, g_row }'), ('plain[9]', 'plain[10]'))
 KNOWN = 'define i64 @test_0(i64 %a, i64 %b) #0 {\nstart:\n  %x = add i64 %a, %b\n  ret i64 %x\n}\n'
 
 
@@ -365,6 +404,24 @@ def written(room, text, names):
     (room / 'capnp_canonical.h').write_text('#include <stdint.h>\n' + ''.join(f'uint64_t {it}(uint64_t a, uint64_t b);\n' for it in names), encoding='utf-8')
     run = subprocess.run([sys.executable, '-B', str(WRITER), str(room / 'module.ll'), str(room / 'capnp_canonical.h')], stdout=subprocess.PIPE, stderr=subprocess.PIPE, encoding='utf-8')
     return (run.stdout if run.returncode == 0 else None), run.stderr
+
+
+def beyond(made):
+    """The first name, line or text of the C that is longer than C promises to compare or to read; empty if there is none."""
+    texts = re.compile(r'"(?:\\.|[^"\\\n])*"(?:\s*"(?:\\.|[^"\\\n])*")*')
+    plain = re.sub(r'/\*.*?\*/', ' ', texts.sub('""', made), flags=re.S)
+    long = [it for it in re.findall(r'[A-Za-z_]\w*', plain) if len(it) > 63] + [it for it in made.split('\n') if len(it) > 4095]
+    long += [it for it in texts.findall(made) if len(re.sub(r'"\s*"|\\(?=.)', '', it)) > 4095]
+    return long[0][:200] if long else ''
+
+
+def renumbered(room):
+    """Whether the C of a function stays if LLVM's numbers of inlined values and blocks shift."""
+    def made(by):
+        names = [f'.i.i{by + it}' for it in range(3)]
+        body = f'  %x{names[0]} = add i64 %a, %b\n  br label %on{names[1]}\non{names[1]}:\n  %x{names[2]} = mul i64 %x{names[0]}, %x{names[0]}\n  %y = mul i64 %x{names[2]}, %x{names[2]}\n  ret i64 %y\n'
+        return written(room, f'define i64 @test_0(i64 %a, i64 %b) #0 {{\nstart:\n{body}}}\n{ATTRIBUTES}', ['test_0'])[0]
+    return made(7) is not None and made(7) == made(98)
 
 
 def lacking(text):
@@ -433,7 +490,7 @@ def refusals(room, counts):
 
 def main(compilers):
     cases, counts = Cases(), Counts()
-    for part in arithmetic, comparing, casting, remembering, addressing, blocks, jumping, standing, vectors, counting:
+    for part in arithmetic, comparing, casting, remembering, addressing, blocks, jumping, standing, vectors, counting, long_names:
         part(cases)
     text = ''.join(cases.text)
     declared = sorted({(name, count) for name, count in re.findall(r'@(llvm\.[\w.]+)(\([^\n]*)', text)})
@@ -458,8 +515,10 @@ def main(compilers):
                 counts.told(holds, f'{len(cases.calls)} calls by {compiler} {kind}', f': {said}')
             by_llvm(room, counts)
             counts.told(constants.differing(text, made)[0] is None, 'the constants, read a second time')
+            counts.told(not beyond(made), 'names, lines and texts of the C are within what C promises', f': {beyond(made)}')
             for old, new in WRONG_CONSTANTS:
                 counts.told(made.count(old) == 1 and constants.differing(text, made.replace(old, new))[0], f'a wrong constant is found: {new}')
+        counts.told(renumbered(room), 'the same C after other numbers of inlined values')
         refusals(room, counts)
     print(f'{counts.passed} passed, {counts.failed} failed')
     return 1 if counts.failed else 0

@@ -26,6 +26,8 @@ from writing import offset
 ABOUT = '''/* This file is generated: don't edit it. It is the compiled form of the repository's proved sources, translated to C by
  * tools/c_of_module. The README of the release says what you have to trust. */'''
 STRUCTS_OUTSIDE = {'s_i64_i64'}
+# C promises to read lines and texts of this many characters.
+LONGEST = 4095
 
 
 class Module:
@@ -102,16 +104,28 @@ class Module:
 
 
 def text_of(value, count):
-    """Bytes as a C initializer: a text if all of them are printable, otherwise numbers."""
+    """Bytes as a C initializer: a text if all of them are printable, otherwise numbers. Each line of a text is in quotes of its own."""
     if value in ZERO:
         return '{ 0 }'
     data = re.sub(rb'\\(\\|[0-9A-Fa-f]{2})', lambda hit: hit[1] if hit[1] == b'\\' else bytes([int(hit[1], 16)]), value[2:-1].encode('latin-1'))
     if len(data) != count:
         raise Unknown(f'{len(data)} bytes in an array of {count}')
-    if not all(32 <= it < 127 or it == 10 for it in data):
+    if count > LONGEST or not all(32 <= it < 127 or it == 10 for it in data):
         return '{ ' + ', '.join(map(str, data)) + ' }'
-    shown = re.sub(r'([\\"?])', r'\\\1', data.decode()).replace('\n', '\\n"\n    "')
-    return f'"{shown}"'
+    lines = re.findall(r'[^\n]{1,1000}\n?|\n', data.decode()) or ['']
+    shown = (re.sub(r'([\\"?])', r'\\\1', it).replace('\n', '\\n') for it in lines)
+    return '\n    '.join(f'"{it}"' for it in shown)
+
+
+def broken(line):
+    """The lines of a line that is longer than C promises to read, or the line itself. One with a text is never longer."""
+    while len(line) > LONGEST:
+        at = line.rfind(' ', 8, LONGEST)
+        if at < 0:
+            sys.exit(f'a line without a space: {line[:80]}')
+        yield line[:at]
+        line = ' ' * 8 + line[at + 1:]
+    yield line
 
 
 def move(size):
@@ -129,7 +143,8 @@ def main(words):
     if len(words) != 2:
         sys.exit(__doc__)
     text, header = (pathlib.Path(word).read_text(encoding='latin-1') for word in words)
-    print('\n'.join(Module(text, header).text()))
+    for line in '\n'.join(Module(text, header).text()).split('\n'):
+        print(*broken(line), sep='\n')
 
 
 main(sys.argv[1:])

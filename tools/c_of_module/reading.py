@@ -1,5 +1,7 @@
 """Reads the text of an LLVM module: the tokens of a line, types, values and names."""
+import hashlib
 import re
+from collections import Counter
 
 TOKEN = re.compile(r'''c"[^"]*"|[%@](?:"[^"]*"|[-\w.$]+)|"[^"]*"|!\w+|\#\d+|-?\d+(?![\w.])|[A-Za-z_][\w.]*|\.\.\.|[][(){}<>,=:]''')
 # Promises about a value or a call, and advice how to call: C can do without them.
@@ -66,7 +68,7 @@ def c_type(kind):
 def struct_name(kind):
     if not all(isinstance(it, str) for it in kind[1]):
         raise Unknown('a struct in a struct')
-    return '_'.join(['s', *('p' if it == 'ptr' else it for it in kind[1])])
+    return within('_'.join(['s', *('p' if it == 'ptr' else it for it in kind[1])]))
 
 
 def declared(kind, name):
@@ -190,26 +192,57 @@ class Line:
         return self.next().strip('%"')
 
 
-def c_name(name):
-    """The C name of a value or a function; another one may have the same."""
-    plain = re.sub(r'[^A-Za-z0-9]+', '_', name.strip('%@"')).strip('_')
-    return plain if re.match('[A-Za-z]', plain) else f't{plain}'
+def plain(name):
+    """The letters and digits of a name of the module, with `_` for all other characters. Several names may have the same."""
+    found = re.sub(r'[^A-Za-z0-9]+', '_', name.strip('%@"')).strip('_')
+    return found if re.match('[A-Za-z]', found) else f't{found}'
+
+
+# C promises to tell names apart by this many characters.
+SIGNIFICANT = 63
+# The most of a value's name that is kept: C names for it add a number, and a word before it.
+FRONT = 32
+# What C names of values look like. Constants and internal functions get no such name.
+OF_A_VALUE = re.compile('[A-Za-z]+[0-9]*(_[0-9]+)?')
+
+
+def within(name):
+    """A name that is longer than C promises to compare is cut, and ends in a sum of the whole."""
+    if len(name) <= SIGNIFICANT:
+        return name
+    return f'{name[:SIGNIFICANT - 9]}_{hashlib.sha256(name.encode()).hexdigest()[:8]}'
 
 
 class Names:
-    """Unique C names for the names of the module: always the same ones for the same module."""
+    """C names for those of the module, a different one for each; the same module always has the same ones.
+
+    LLVM names an inlined value after the functions that it comes from, and ends it in a number that shifts if anything
+    changes in the function. So the C name of a value is the front of its name, and a number that counts the values with
+    this front. Such names are short, and a change alters few of them. Functions and constants keep their whole names
+    if these fit."""
 
     def __init__(self):
-        self.of, self.taken = {}, set()
+        self.of, self.taken, self.counts = {}, set(), Counter()
 
     def __call__(self, name):
         if name not in self.of:
-            number, wanted = 1, c_name(name)
-            while wanted in self.taken:
-                number += 1
-                wanted = f'{c_name(name)}_{number}'
-            self.give(name, wanted)
+            self.give(name, self.free(name))
         return self.of[name]
+
+    def free(self, name):
+        """A C name that isn't taken."""
+        whole = plain(name)
+        if name[0] == '%':
+            front = re.match('[A-Za-z]+[0-9]*', whole)[0][:FRONT]
+        else:
+            whole = front = within(f'g_{whole}' if OF_A_VALUE.fullmatch(whole) else whole)
+        if front == whole and front not in self.taken:
+            return front
+        while True:
+            self.counts[front] += 1
+            number = f'_{self.counts[front]}'
+            if (found := front[:SIGNIFICANT - len(number)] + number) not in self.taken:
+                return found
 
     def give(self, name, wanted):
         if wanted in self.taken:

@@ -1,7 +1,7 @@
 """Translates a function to C."""
 import re
 
-from reading import UNCOUNTED, ZERO, Line, Unknown, bits, c_name, c_type, declared, laid_out, size_of, suffix
+from reading import UNCOUNTED, ZERO, Line, Names, Unknown, bits, c_type, declared, laid_out, size_of, suffix
 
 BINARY = {'add': '+', 'sub': '-', 'mul': '*', 'udiv': '/', 'urem': '%', 'and': '&', 'or': '|', 'xor': '^'}
 SIGNED = {'sdiv': '/', 'srem': '%'}
@@ -33,7 +33,7 @@ class Writer:
     def __init__(self, function):
         self.function, self.module, self.names = function, function.module, function.names
         self.out, self.top, self.targets, self.waiting = [], [], set(), {}
-        self.slot = {}
+        self.slot, self.labels = {}, Names()
         self.label = self.following = None
 
     def text(self):
@@ -50,8 +50,11 @@ class Writer:
                     raise Unknown(f'{error}: {line}') from None
             if self.waiting:
                 raise Unknown(f'{[*self.waiting]} wait after the end of their block')
-        body = [f'    {line}' if line else f'{label_name(label)}:;' for label, line in self.out if line or label in self.targets]
+        body = [f'    {line}' if line else f'{self.label_name(label)}:;' for label, line in self.out if line or label in self.targets]
         return '\n'.join([*head, *(f'    {it}' for it in self.top), *body, '}'])
+
+    def label_name(self, label):
+        return f'l_{self.labels(f"%{label}")}'
 
     def heading(self):
         it = self.function.signature
@@ -60,7 +63,7 @@ class Writer:
             self.top.append('keep_arguments(count, words);')
             return ['int main(int count, char **words)', '{']
         if it.is_internal:
-            return [f'/* {it.name} */', it.text(self.names), '{']
+            return [f'/* {shown(it.name)} */', it.text(self.names), '{']
         if it.name not in self.module.exported:
             raise Unknown('an exported function that the header does not declare')
         result, words = self.module.exported[it.name]
@@ -77,8 +80,9 @@ class Writer:
     def declare_slots(self):
         for number, slot in enumerate(self.function.slots):
             sizes, aligns = zip(*(self.function.locals[name] for name in slot))
-            self.slot.update(dict.fromkeys(slot, f'slot{number}'))
-            self.top.append(f'A({max(aligns)}) u8 slot{number}[{max(*sizes, 1)}];')
+            name = self.names(f'%slot!{number}')
+            self.slot.update(dict.fromkeys(slot, name))
+            self.top.append(f'A({max(aligns)}) u8 {name}[{max(*sizes, 1)}];')
 
     # Writing.
     def emit(self, line):
@@ -313,8 +317,9 @@ class Writer:
         pointer, _ = self.get(*it.typed())
         it.end()
         if kind[0] == 'struct' and not pointer.isidentifier():
-            self.emit(f'u8 *{self.names(name)}_at = {pointer};')
-            pointer = f'{self.names(name)}_at'
+            at = self.names(f'{name}!at')
+            self.emit(f'u8 *{at} = {pointer};')
+            pointer = at
         self.define(name, kind, self.loaded(kind, pointer), True)
 
     def do_store(self, it, _):
@@ -434,7 +439,8 @@ class Writer:
         if not any(names & {*re.findall(r'\w+', text)} for _, _, text in found):
             return [f'{name} = {text};' for _, name, text in found]
         # a variable may be set to the old value of another one
-        return [f'{declared(kind, f"next_{name}")} = {text};' for kind, name, text in found] + [f'{name} = next_{name};' for _, name, _ in found]
+        after = {name: self.names(f'%{name}!{self.label}!{label}') for _, name, _ in found}
+        return [f'{declared(kind, after[name])} = {text};' for kind, name, text in found] + [f'{name} = {after[name]};' for _, name, _ in found]
 
     def jump(self, label, when=''):
         """Jumps to a block, always or after `when`: a condition, or an arm of a switch."""
@@ -445,7 +451,7 @@ class Writer:
             if label == self.following:
                 return
         self.targets.add(label)
-        go = f'goto {label_name(label)};'
+        go = f'goto {self.label_name(label)};'
         self.emit(f'{when} {{ {" ".join([*lines, go])} }}' if when and lines else f'{when} {go}'.strip())
 
     def do_br(self, it, _):
@@ -513,5 +519,6 @@ def is_bracketed(text):
     return False
 
 
-def label_name(label):
-    return f'l_{c_name(label)}' if re.fullmatch(r'[\w.]+', label) else 'l_' + re.sub(r'[^A-Za-z0-9]', '_', label)
+def shown(name):
+    """A name of the module for a comment."""
+    return re.sub(r'\*/|/\*', '..', name[:1000])
