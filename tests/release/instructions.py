@@ -6,10 +6,11 @@ it must refuse.
 
 Each compiler compiles the C at -O0, -O2 and -O3 and with the address and undefined-behaviour sanitizers, and the programs
 run. Without arguments these are gcc, clang, and gcc for aarch64 with qemu. The expected results are computed in Python, from
-LLVM's language reference. If the toolchain is there, its clang compiles the module itself, with the same expected results.
-The last line is `N passed, M failed`."""
+LLVM's language reference. clang also compiles the C for WebAssembly, and node runs that. If the toolchain is there, its clang
+compiles the module itself, with the same expected results. What isn't there is skipped, and a line says so. The last line is `N passed, M failed`."""
 import functools
 import itertools
+import json
 import pathlib
 import re
 import shutil
@@ -394,7 +395,7 @@ REFUSED = [BODY.format(it) for it in (
     'declare i64 @printf(ptr)\n', '$x = comdat any\n', 'module asm "nop"\n',
 ]
 # Changes of the written C that no compiler can tell.
-WRONG_CONSTANTS = (('say \\"hi', 'say \\"ho'), ('4294967295u, 7u', '4294967295u, 6u'), ('{ g_row, g_zeros }', '{ g_zeros, g_row }'), ('plain[9]', 'plain[10]'))
+WRONG_CONSTANTS = (('say \\"hi', 'say \\"ho'), ('4294967295u, 7u', '4294967295u, 6u'), ('{ PLACE(g_row), PLACE(g_zeros) }', '{ PLACE(g_zeros), PLACE(g_row) }'), ('plain[9]', 'plain[10]'))
 KNOWN = 'define i64 @test_0(i64 %a, i64 %b) #0 {\nstart:\n  %x = add i64 %a, %b\n  ret i64 %x\n}\n'
 
 
@@ -468,6 +469,46 @@ def compiled_and_run(room, command, runner=()):
     return run.returncode == 0 and run.stdout == '0 failed\n', run.stdout
 
 
+WASM_MAIN = '''#include "module.c"
+#undef memcpy
+#undef memmove
+#undef memset
+void *memcpy(void *restrict to, const void *restrict from, size_t size) { return __builtin_memcpy(to, from, size); }
+void *memmove(void *to, const void *from, size_t size) { return __builtin_memmove(to, from, size); }
+void *memset(void *to, int value, size_t size) { return __builtin_memset(to, value, size); }
+'''
+NODE_MAIN = '''const fs = require('fs'), { calls, wasm } = JSON.parse(fs.readFileSync(0));
+const { exports } = new WebAssembly.Instance(new WebAssembly.Module(fs.readFileSync(wasm)), {});
+const wrong = calls.filter(([name, a, b, wanted]) => BigInt.asUintN(64, exports[name](BigInt(a), BigInt(b))) !== BigInt(wanted));
+console.log(`${wrong.length} failed`, ...wrong.slice(0, 5));
+'''
+
+
+def by_wasm(room, cases, counts):
+    """The C for WebAssembly of 32 bits. Numbers that such pointers can't hold are left out."""
+    lacks = next((it for it in ('clang', 'wasm-ld', 'node') if not shutil.which(it)), None)
+    if lacks:
+        print(f'wasm32: skipped, no {lacks}')
+        return
+    has_pointers = {f'test_{number}' for number, text in enumerate(cases.text) if re.search('inttoptr|ptrto|getelementptr', text)}
+    calls = [(name, str(a), str(b), str(wanted)) for name, a, b, wanted in cases.calls if name not in has_pointers or max(a, b, wanted) < 2**31]
+    (room / 'wasm.c').write_text(WASM_MAIN, encoding='utf-8')
+    headers = room / 'headers'
+    headers.mkdir()
+    (headers / 'stdlib.h').write_text('#include <stddef.h>\nvoid *malloc(size_t);\nvoid *realloc(void *, size_t);\nvoid free(void *);\n', encoding='utf-8')
+    (headers / 'string.h').write_text('#include <stddef.h>\nvoid *memcpy(void *, const void *, size_t);\nvoid *memmove(void *, const void *, size_t);\nvoid *memset(void *, int, size_t);\n', encoding='utf-8')
+    for level in '-O0', '-O2', '-O3':
+        to = room / 'tested.wasm'
+        command = ['clang', '--target=wasm32', '-DCAPNP_CANONICAL_SLOTS_OF_8', *FLAGS, level, '-nostdlib', '-ffreestanding', '-mbulk-memory', f'-I{room}', f'-I{headers}',
+                   '-Wl,--no-entry,--export-all,--allow-undefined', '-o', str(to), str(room / 'wasm.c')]
+        run = subprocess.run(command, stdout=subprocess.PIPE, stderr=subprocess.STDOUT, encoding='utf-8', errors='replace')
+        if run.returncode == 0:
+            run = subprocess.run(['node', '-e', NODE_MAIN], input=json.dumps({'calls': calls, 'wasm': str(to)}), stdout=subprocess.PIPE, stderr=subprocess.STDOUT, encoding='utf-8')
+        counts.told(run.stdout == '0 failed\n', f'{len(calls)} calls by clang for wasm32 {level}', f': {run.stdout}')
+    refused = subprocess.run([it for it in command if it != '-DCAPNP_CANONICAL_SLOTS_OF_8'], stdout=subprocess.PIPE, stderr=subprocess.STDOUT, encoding='utf-8', errors='replace')
+    counts.told('this needs a machine of 64 bits' in refused.stdout, 'a machine of 32 bits is refused without a macro that speaks for its callers')
+
+
 def by_llvm(room, counts):
     """Compiles the module itself with the toolchain's LLVM, and runs it."""
     if not shutil.which('rt'):
@@ -513,6 +554,7 @@ def main(compilers):
                     continue
                 holds, said = compiled_and_run(room, [compiler, *FLAGS, *flags, f'-I{room}', str(room / 'main.c'), str(room / 'module.c')], runner)
                 counts.told(holds, f'{len(cases.calls)} calls by {compiler} {kind}', f': {said}')
+            by_wasm(room, cases, counts)
             by_llvm(room, counts)
             counts.told(constants.differing(text, made)[0] is None, 'the constants, read a second time')
             counts.told(not beyond(made), 'names, lines and texts of the C are within what C promises', f': {beyond(made)}')

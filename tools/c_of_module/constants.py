@@ -9,7 +9,7 @@ import re
 import sys
 
 CONSTANT = re.compile(r'^(@(?:"[^"]*"|[-\w.$]+)) = [^\[]*\bconstant \[(\d+) x (i\d+|ptr)\] (.*)$', re.M)
-STATIC = re.compile(r'^static (?:const u(\d+)|const u8 \*const) (\w+)\[(\d+)\] = (.*?);$', re.M | re.S)
+STATIC = re.compile(r'^static const (?:u\d+|struct place) (\w+)\[(\d+)\] = (.*?);$', re.M | re.S)
 ESCAPED = {'\\': 92, '"': 34, '?': 63, 'n': 10}
 
 
@@ -63,11 +63,11 @@ def of_module(text):
 
 def of_c(text):
     """The same for the C file, with the names there."""
-    for _, name, count, value in STATIC.findall(text):
+    for name, count, value in STATIC.findall(text):
         if value.startswith('"'):
             yield name, int(count), bytes_of_c(value)
             continue
-        elements = re.findall(r'\w+', value)
+        elements = re.findall(r'\w+', re.sub(r'\bPLACE\((\w+)\)', r'\1', value))
         yield name, int(count), [int(it.rstrip('u')) if it[0].isdigit() else it for it in elements]
 
 
