@@ -1,0 +1,28 @@
+#!/bin/sh
+# build.sh FOLDER [TO]: compiles FOLDER/capnp_canonical.c, the generated C of the library, to TO/capnp_canonical.wasm, and writes
+# TO/ORIGIN, which names what it was compiled from and by. TO is this folder if it is left out. Needs clang and wasm-ld.
+set -eu
+here=$(cd "$(dirname "$0")" && pwd)
+from=$(cd "$1" && pwd)
+to=$(cd "${2:-$here}" && pwd)
+header=$here/../c/capnp_canonical.h
+work=$(mktemp -d)
+trap 'rm -rf "$work"' EXIT
+# a stack of 512 KB: MAX_NESTING levels of library.js take half of it
+clang --target=wasm32 -std=c11 -O2 -Wall -Wextra -Wno-unused-function -nostdlib -ffreestanding -fno-builtin-malloc -fvisibility=hidden \
+    -mbulk-memory -msign-ext -mmutable-globals -I"$here/native/include" -I"$from" -I"$here/../c" -c -o "$work/wasm.o" "$here/native/wasm.c"
+exports=$(sed -n 's/^[a-z].*[ *]\(capnp_canonical_[a-z_]*\)(.*);$/--export=\1/p' "$header" | sort -u)
+# shellcheck disable=SC2086 # the exports are words
+wasm-ld --no-entry --strip-all --stack-first -z stack-size=524288 --gc-sections $exports -o "$work/capnp_canonical.wasm" "$work/wasm.o"
+sum() {
+    sha256sum "$1" | cut -d ' ' -f 1
+}
+{
+    printf 'sha256 of capnp_canonical.c: %s\n' "$(sum "$from/capnp_canonical.c")"
+    printf 'sha256 of capnp_canonical.h: %s\n' "$(sum "$header")"
+    printf 'compiler: %s\n' "$(clang --version | head -n 1)"
+    printf 'linker: %s\n' "$(wasm-ld --version | head -n 1)"
+    printf 'sha256 of capnp_canonical.wasm: %s\n' "$(sum "$work/capnp_canonical.wasm")"
+} >"$work/ORIGIN"
+cp "$work/capnp_canonical.wasm" "$work/ORIGIN" "$to"
+wc -c "$to/capnp_canonical.wasm"

@@ -1,0 +1,157 @@
+/**
+ * Canonical form of Cap'n Proto messages, over the library capnp_canonical compiled to WebAssembly.
+ *
+ *     import { canonicalizeFlat } from 'capnp_canonical';
+ *     const digest = createHash('sha256').update(canonicalizeFlat(frame)).digest('hex');
+ *
+ * You pass a message as a frame, which is what `capnp encode`, capnp::writeMessage and pycapnp's `to_bytes` write, as its segments
+ * (`segments`), or as its bare words (`words`). Bytes after a frame are ignored. Unpack packed bytes first, with `unpack`.
+ *
+ * Bare words aren't a frame. Read back what `canonicalizeFlat` returns with the calls of `words`. A call that takes a frame may
+ * SUCCEED on bare words, and then reads ANOTHER value, because the pointer to a root without pointers is also the table of a frame.
+ *
+ * A call that is refused throws `CanonicalError`. Arguments of a wrong type throw `TypeError`, and limits that are out of range
+ * `RangeError`. No call keeps anything except the module's memory.
+ */
+
+/** A Uint8Array, a Buffer, an ArrayBuffer, or a view of one. They are copied into the module's memory. */
+export type Bytes = ArrayBufferView | ArrayBuffer | SharedArrayBuffer;
+
+/** The limits for reading a message. The defaults are those of C++ and Rust. */
+export interface Limits {
+  /** How deep structs and lists may be nested; up to `MAX_NESTING`. By default 64. */
+  nesting?: number;
+  /** How many words of 8 bytes may be read, and how many a frame may have. By default 8,388,608; `Infinity` for no limit. */
+  words?: number | bigint;
+}
+
+/** The largest nesting limit, 1,024: a larger one throws `RangeError`, because the stack has no room for so deep a message. */
+export const MAX_NESTING: number;
+
+/** The numbers of `enum capnp_canonical_answer`. A later library may return further ones. */
+export const Refusal: {
+  readonly NoRoom: 1;
+  readonly NoMessage: 2;
+  readonly SegmentIsNotWholeWords: 3;
+  readonly TooManySegments: 17;
+  readonly MessageTooLong: 18;
+  readonly Truncated: 19;
+  readonly AllocationFailed: 32;
+  readonly CannotCreateACanonicalMessageWithACapability: 33;
+  readonly CantHandleNonStructInlineComposite: 34;
+  readonly InlineCompositeListsElementsOverrunItsWordCount: 42;
+  readonly InlineCompositeListsOfNonStructTypeAreNotSupported: 43;
+  readonly InvalidSegmentId: 44;
+  readonly MalformedDoubleFarPointer: 45;
+  readonly MessageContainsOutOfBoundsPointer: 55;
+  readonly MessageIsTooDeeplyNested: 57;
+  readonly MessageIsTooDeeplyNestedOrContainsCycles: 58;
+  readonly MessageTooLarge: 59;
+  readonly NestingLimitExceeded: 60;
+  readonly ReadLimitExceeded: 62;
+  readonly UnknownPointerType: 66;
+};
+
+/** The numbers of `enum capnp_canonical_reason`. A later library may return further ones. */
+export const Reason: {
+  readonly SegmentCount: 1;
+  readonly NoPointer: 2;
+  readonly FarPointer: 3;
+  readonly Capability: 4;
+  readonly UnknownPointer: 5;
+  readonly EmptyStructPlace: 6;
+  readonly ObjectPlace: 7;
+  readonly Padding: 8;
+  readonly DataSection: 9;
+  readonly PointerSection: 10;
+  readonly ElementWords: 11;
+  readonly ElementData: 12;
+  readonly ElementPointers: 13;
+  readonly WordsBehind: 14;
+};
+
+/** A call was refused. The message is a sentence, such as `message 2 at byte 40: Truncated: the bytes end within a frame`. */
+export class CanonicalError extends Error {
+  constructor(number: number, more?: { place?: { message: number; byte: number }; looksLike?: string });
+  /** A number of `Refusal`, or one that a later library returns. */
+  readonly number: number;
+  /** The name, such as `Truncated`; empty if the number has none. */
+  readonly code: keyof typeof Refusal | '';
+  /** In a stream, the number of the message, counted from 1, and the byte where it starts. */
+  readonly place?: { message: number; byte: number };
+  /** If the bytes are no frame, a guess at what they look like, such as `gzip`. */
+  readonly looksLike?: string;
+  /** The same error for the message with this number, at this byte of a stream. */
+  at(message: number, byte: number): CanonicalError;
+}
+
+/** Why and where a message isn't canonical. */
+export class Fault {
+  private constructor();
+  /** A number of `Reason`, or one that a later library returns. */
+  readonly reason: number;
+  /** The reason in words, such as `padding that isn't zero`. */
+  readonly text: string;
+  readonly segment: number;
+  /** The position in the segment, in words. */
+  readonly word: number;
+}
+
+/** What the root of a message leads to, without the root pointer and landing pads. */
+export interface Size {
+  readonly words: number;
+  readonly capabilities: number;
+}
+
+/** Makes the message of the frame at the front canonical. Returns a frame of one segment. */
+export function canonicalize(frame: Bytes, limits?: Limits): Uint8Array;
+
+/** The same, but returns bare words, without the table of a frame: the bytes to hash or sign. */
+export function canonicalizeFlat(frame: Bytes, limits?: Limits): Uint8Array;
+
+/**
+ * Returns null if the message is canonical: one segment, which holds the canonical words of a value and nothing else. Otherwise
+ * returns why and where it isn't. For a yes or no, call `isCanonical`.
+ */
+export function check(frame: Bytes, limits?: Limits): Fault | null;
+
+/** Whether the message is canonical. Also false if it is refused, because a limit is exceeded or the bytes are no frame. */
+export function isCanonical(frame: Bytes, limits?: Limits): boolean;
+
+/** Counts the words and capabilities that the root of the message leads to. */
+export function size(frame: Bytes, limits?: Limits): Size;
+
+/** The same calls for a message given as its segments. There may be more of them than a frame can have. */
+export const segments: {
+  canonicalize(list: Iterable<Bytes>, limits?: Limits): Uint8Array;
+  canonicalizeFlat(list: Iterable<Bytes>, limits?: Limits): Uint8Array;
+  check(list: Iterable<Bytes>, limits?: Limits): Fault | null;
+  isCanonical(list: Iterable<Bytes>, limits?: Limits): boolean;
+  size(list: Iterable<Bytes>, limits?: Limits): Size;
+};
+
+/** The same calls for a message given as its bare words. The copy is bare words too. */
+export const words: {
+  canonicalize(message: Bytes, limits?: Limits): Uint8Array;
+  check(message: Bytes, limits?: Limits): Fault | null;
+  isCanonical(message: Bytes, limits?: Limits): boolean;
+  size(message: Bytes, limits?: Limits): Size;
+};
+
+/** The size in bytes of the frame at the front. Reads only its table. */
+export function frameSize(stream: Bytes, limits?: Limits): number;
+
+/** Iterates over the frames of a stream, as views of its bytes. An error says which message it is, and at which byte. */
+export function frames(stream: Bytes, limits?: Limits): Generator<Uint8Array, void, undefined>;
+
+/** The same for a stream that comes in pieces, such as a file of node or the body of a response. The pieces are copied. */
+export function framesFrom(pieces: AsyncIterable<Bytes> | Iterable<Bytes>, limits?: Limits): AsyncGenerator<Uint8Array, void, undefined>;
+
+/** Unpacks packed bytes to the frames of one or more messages. Refuses with `MessageTooLong` if these are more than `words` words. */
+export function unpack(packed: Bytes, limits?: Limits): Uint8Array;
+
+/** Guesses what bytes are that were refused as a frame, such as `gzip`. `CanonicalError` has the guess already. */
+export function looksLike(bytes: Bytes): string | undefined;
+
+/** The version of the library, such as `1.0.0`. */
+export function version(): string;
