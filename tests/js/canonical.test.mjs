@@ -1,0 +1,395 @@
+// The package over the repository's vectors, streams, messages and packed bytes, and over hostile ones.
+import assert from 'node:assert/strict';
+import { createHash } from 'node:crypto';
+import { test } from 'node:test';
+import vm from 'node:vm';
+import { use } from '../../bindings/js/core.js';
+import { called } from '../../bindings/js/library.js';
+import * as capnp from '../../bindings/js/node.js';
+import { framed, hex, hexOf, jsonl, passed, rowsOf, said, vectors } from './data.mjs';
+
+const { CanonicalError, MAX_NESTING, Reason, Refusal } = capnp;
+const refusal = (text) => (/^[A-Z]/.test(text) ? `!${text}` : text);
+const faultOf = (fault) => (fault ? `${fault.reason},${fault.segment},${fault.word}` : 'yes');
+
+test('messages', () => {
+  let count = 0;
+  for (const [name, frame, copy, flat, check, size] of rowsOf('library/messages.txt')) {
+    const bytes = hex(frame), isCopied = copy === 'Done';
+    const segments = [];
+    for (let number = 0, table = bytes.length >= 8 ? new DataView(bytes.buffer) : undefined, at = 0; table && number <= table.getUint32(0, true) && number < 512; number++) {
+      at ||= Math.ceil((4 + 4 * (table.getUint32(0, true) + 1)) / 8) * 8;
+      segments.push(bytes.subarray(at, (at += 8 * table.getUint32(4 + 4 * number, true))));
+    }
+    assert.equal(said(() => hexOf(capnp.canonicalize(bytes))), isCopied ? hexOf(framed([hex(flat)])) : `!${copy}`, name);
+    assert.equal(said(() => hexOf(capnp.canonicalizeFlat(bytes))), isCopied ? flat : `!${copy}`, name);
+    assert.equal(said(() => faultOf(capnp.check(bytes))), refusal(check), name);
+    assert.equal(said(() => Object.values(capnp.size(bytes)).join()), refusal(size), name);
+    assert.equal(capnp.isCanonical(bytes), check === 'yes', name);
+    if (isCopied) {
+      assert.equal(hexOf(capnp.segments.canonicalize(segments)), hexOf(framed([hex(flat)])), name);
+      assert.equal(hexOf(capnp.segments.canonicalizeFlat(segments)), flat, name);
+      assert.equal(capnp.segments.isCanonical(segments), check === 'yes', name);
+      assert.equal(hexOf(capnp.words.canonicalize(hex(flat))), flat, name);
+      assert.ok(capnp.words.isCanonical(hex(flat)), name);
+      assert.equal(capnp.words.check(hex(flat)), null, name);
+      assert.equal(Object.values(capnp.words.size(hex(flat))).join(), `${hex(flat).length / 8 - 1},0`, name);
+    }
+    count++;
+  }
+  passed('messages', count);
+});
+
+test('packed bytes', () => {
+  let count = 0;
+  for (const [name, packed, unpacked] of rowsOf('library/packed.txt')) {
+    assert.equal(said(() => hexOf(capnp.unpack(hex(packed), { words: Infinity }))), refusal(unpacked), name);
+    count++;
+  }
+  const large = hex('00ff'.repeat(4));
+  assert.throws(() => capnp.unpack(large, { words: 1023 }), { code: 'MessageTooLong' });
+  assert.equal(capnp.unpack(large, { words: 1024 }).length, 8192);
+  passed('packed bytes', count);
+});
+
+function answer(command, parts, limits) {
+  const one = parts[0] ?? new Uint8Array(0);
+  switch (command) {
+    case 'canon': return hexOf(capnp.segments.canonicalizeFlat(parts, limits));
+    case 'framed-canon': return hexOf(capnp.segments.canonicalize(parts, limits));
+    case 'size': return Object.values(capnp.segments.size(parts, limits)).join();
+    case 'check': {
+      const fault = capnp.segments.check(parts, limits);
+      assert.equal(capnp.segments.isCanonical(parts, limits), fault === null);
+      return fault ? (fault.reason === Reason.WordsBehind ? 'after' : 'no') : 'yes';
+    }
+    case 'framed-check': return capnp.check(one, limits) ? 'no' : 'yes';
+    case 'unframe': return String(capnp.frameSize(one, limits));
+    default: throw new Error(command);
+  }
+}
+
+test('vectors', () => {
+  let count = 0, deep = 0;
+  for (const [command, nesting, words, parts, wanted] of vectors()) {
+    const isDeep = Number(nesting) > MAX_NESTING, limits = { nesting: Math.min(Number(nesting), MAX_NESTING), words: BigInt(words) };
+    const segments = parts === '-' ? [] : parts.split(',').map(hex);
+    const got = said(() => answer(command, segments, limits));
+    if (isDeep && /Nest/.test(got)) {
+      // the message needs more levels than the package has
+      assert.throws(() => answer(command, segments, { ...limits, nesting: Number(nesting) }), RangeError);
+      deep++;
+      continue;
+    }
+    // `front` says that the segment starts with canonical words, and nothing about those after them
+    if (wanted === 'front') assert.ok(got === 'yes' || got === 'after', `${command} ${parts}`);
+    else assert.equal(got === 'after' ? 'no' : got, wanted, `${command} ${nesting} ${words} ${parts.slice(0, 200)}`);
+    count++;
+  }
+  passed(`vectors (${deep} others need more than ${MAX_NESTING} levels)`, count);
+  assert.ok(count > 8900);
+});
+
+/** The output, first line of errors and status that capnp_canon would have; undefined if its arguments have no like here. */
+function run(args, input) {
+  const [command, ...rest] = args, limits = {};
+  let isFlat = false, isPacked = false;
+  while (rest.length) {
+    const it = rest.shift();
+    if (it === '--flat' && command === 'canon') isFlat = true;
+    else if (it === '--packed') isPacked = true;
+    else if (it === '--nesting' && /^-?\d+$/.test(rest[0]) && rest[0] >= -(2 ** 31) && rest[0] <= MAX_NESTING) limits.nesting = Number(rest.shift());
+    else if (it === '--words' && rest[0] === 'none') limits.words = (rest.shift(), Infinity);
+    else if (it === '--words' && /^\d+$/.test(rest[0]) && BigInt(rest[0]) < 2n ** 64n) limits.words = BigInt(rest.shift());
+    else return undefined;
+  }
+  const output = [];
+  let isYes = true, message = 1, at = 0;
+  const done = (status, error) => ({ output: Buffer.concat(output).toString('hex'), status, error });
+  try {
+    for (const frame of capnp.frames(isPacked ? capnp.unpack(input, { words: Infinity }) : input, limits)) {
+      try {
+        if (command === 'canon') output.push(Buffer.from(isFlat ? capnp.canonicalizeFlat(frame, limits) : capnp.canonicalize(frame, limits)));
+        else if (command === 'size') {
+          const { words, capabilities } = capnp.size(frame, limits);
+          output.push(Buffer.from(`words ${words} caps ${capabilities}\n`));
+        } else {
+          const fault = capnp.check(frame, limits);
+          isYes &&= !fault;
+          output.push(Buffer.from(fault ? `not canonical: ${fault}\n` : 'canonical\n'));
+        }
+      } catch (error) {
+        throw error instanceof CanonicalError ? error.at(message, at) : error;
+      }
+      at += frame.length;
+      message++;
+    }
+    return done(isYes ? 0 : 1);
+  } catch (error) {
+    if (!(error instanceof CanonicalError)) throw error;
+    return done(2, error);
+  }
+}
+
+test('streams', () => {
+  let count = 0, left = 0;
+  for (const it of [...jsonl('streams/peer.jsonl'), ...jsonl('streams/worked.jsonl')]) {
+    const isPlain = ['canon', 'check', 'size'].includes(it.args[0]) && !it.files && it.input !== undefined;
+    // unpacking is all or nothing here, and message by message there
+    const isAlike = it.status !== 2 || (!it.args.includes('--packed') && /^message \d+ at byte \d+: refused \w+\n/.test(it.stderr));
+    const got = isPlain && isAlike ? run(it.args, hex(it.input)) : undefined;
+    if (!got) {
+      left++;
+      continue;
+    }
+    // rows from C++ Cap'n Proto don't say why a message isn't canonical
+    const hasReasons = it.args[0] !== 'check' || Buffer.from(it.output, 'hex').includes(':');
+    const shown = (text) => (hasReasons ? text : Buffer.from(text, 'hex').toString().replace(/: .*/g, ''));
+    assert.equal(shown(got.output), shown(it.output), it.name);
+    assert.equal(got.status, it.status, it.name);
+    if (got.error) {
+      const { place, code, looksLike } = got.error;
+      assert.equal(`message ${place.message} at byte ${place.byte}: refused ${code}`, it.stderr.split('\n')[0], it.name);
+      assert.ok(got.error.message.startsWith(`message ${place.message} at byte ${place.byte}: ${code}: `), it.name);
+      const looks = /look(?:s)? like ([^\n,;.]*)/.exec(it.stderr);
+      if (looks && looksLike) assert.ok(looks[1].includes(looksLike.replace('bare canonical words', 'bare')), `${it.name}: ${it.stderr} ${looksLike}`);
+    }
+    count++;
+  }
+  passed(`streams (${left} others have files, other options or other errors)`, count);
+  assert.ok(count > 250);
+});
+
+const person = () => hex('00000000040000000000000003000000111111111111111100000000000000800000000000000000');
+
+test('arguments', () => {
+  const frame = person(), wanted = hexOf(capnp.canonicalize(frame));
+  assert.equal(hexOf(capnp.canonicalize(Buffer.from(frame))), wanted);
+  assert.equal(hexOf(capnp.canonicalize(frame.buffer)), wanted);
+  assert.equal(hexOf(capnp.canonicalize(new DataView(frame.buffer))), wanted);
+  const shared = new SharedArrayBuffer(frame.length + 3);
+  new Uint8Array(shared).set(frame, 3);
+  assert.equal(hexOf(capnp.canonicalize(new Uint8Array(shared, 3))), wanted);
+  // bytes of another realm
+  for (const given of vm.runInNewContext('[new ArrayBuffer(40), new SharedArrayBuffer(40), new Uint8Array(40)]')) {
+    new Uint8Array(given.buffer ?? given).set(frame);
+    assert.equal(hexOf(capnp.canonicalize(given)), wanted);
+  }
+  for (const it of [7, undefined, frame, new WebAssembly.Module(hex('0061736d01000000'))]) assert.throws(() => use(it), TypeError);
+  const more = new Uint8Array(frame.length + 10000);
+  more.set(frame);
+  for (const call of [capnp.canonicalize, capnp.canonicalizeFlat]) assert.equal(hexOf(call(more)), hexOf(call(frame)));
+  assert.deepEqual(capnp.size(more), capnp.size(frame));
+  assert.deepEqual(capnp.check(more), capnp.check(frame));
+  for (const it of ['text', 7, null, undefined, [1, 2], {}]) {
+    assert.throws(() => capnp.canonicalize(it), TypeError);
+    assert.throws(() => capnp.isCanonical(it), TypeError);
+    assert.throws(() => capnp.frames(it), TypeError);
+    assert.throws(() => capnp.segments.size(it === undefined ? it : [it]), TypeError);
+  }
+  for (const it of [frame, frame.buffer, 'text', 3, null, undefined]) assert.throws(() => capnp.segments.check(it), TypeError);
+  for (const limits of [null, 7, 'x', { nesting: 1.5 }, { nesting: '64' }, { nesting: NaN }, { words: 1.5 }, { words: NaN }, { words: '7' }, { nested: 7 }]) {
+    assert.throws(() => capnp.canonicalize(frame, limits), TypeError);
+    assert.throws(() => capnp.frames(frame, limits), TypeError);
+  }
+  for (const limits of [{ nesting: 1025 }, { nesting: 2 ** 31 }, { nesting: -(2 ** 31) - 1 }, { words: -1 }, { words: -1n }, { words: 2n ** 64n }]) {
+    assert.throws(() => capnp.isCanonical(frame, limits), RangeError);
+    assert.throws(() => capnp.unpack(frame, limits), RangeError);
+  }
+  assert.throws(() => capnp.check(frame, { nesting: 1025 }), /1024 levels/);
+  assert.equal(hexOf(capnp.canonicalize(frame, { words: Infinity, nesting: 1024 })), wanted);
+  assert.throws(() => capnp.canonicalize(frame, { words: 3 }), { name: 'CanonicalError', code: 'MessageTooLong', number: Refusal.MessageTooLong });
+  assert.match(capnp.version(), /^\d+\.\d+\.\d+$/);
+  passed('arguments', 1);
+});
+
+test('errors and faults', () => {
+  // each name and text is the library's; no other number has one
+  for (const [code, number] of Object.entries(Refusal)) {
+    const error = new CanonicalError(number);
+    assert.equal(error.code, code);
+    assert.match(error.message, new RegExp(`^${code}: [a-z].{10}`));
+  }
+  for (const number of [0, 4, 1000, 2 ** 32 - 1]) assert.equal(new CanonicalError(number).code, '');
+  const twice = new Uint8Array(87);
+  twice.set(person());
+  twice.set(person(), 40);
+  const seen = [];
+  assert.throws(() => {
+    for (const frame of capnp.frames(twice)) seen.push(frame.length);
+  }, (error) => error instanceof CanonicalError && error instanceof Error && /^message 3 at byte 80: Truncated: /.test(error.message)
+    && error.number === 19 && error.place.message === 3 && error.place.byte === 80 && `${error}` === `CanonicalError: ${error.message}`);
+  assert.deepEqual(seen, [40, 40]);
+  const fault = capnp.check(hex('00000000030000000000000002000000000000000000000000000000000000000'.slice(0, 64)));
+  assert.equal(fault.reason, Reason.DataSection);
+  assert.equal(`${fault}`, `${fault.text} at segment 0, word 2`);
+  for (const number of Object.values(Reason)) assert.ok(new fault.constructor(number, 0, 0).text.length > 8);
+  for (const number of [0, 15, 2 ** 32 - 1]) assert.equal(new fault.constructor(number, 0, 0).text, '');
+  const looks = { text: Buffer.from('hello, this is text'), gzip: hex('1f8b0800000000000003'), zstd: hex('28b52ffd00000000'), bzip2: Buffer.from('BZh9\x001AY&'), xz: hex('fd377a585a000004'), 'a zip archive': hex('504b030414000000') };
+  for (const [name, bytes] of Object.entries(looks)) {
+    assert.equal(capnp.looksLike(bytes), name);
+    assert.throws(() => capnp.canonicalize(bytes), { looksLike: name, message: new RegExp(`; they look like ${name}$`) });
+  }
+  assert.equal(capnp.looksLike(hex('0000000003000000ffffffffffffffff')), undefined);
+  assert.equal(capnp.looksLike(hex('100203110211ff')), 'packed messages');
+  assert.equal(capnp.looksLike(capnp.canonicalizeFlat(hex('00000000030000000000000002000000111111111111111100000000000000ff'))), undefined);
+  passed('errors and faults', 1);
+});
+
+test('streams in pieces', async () => {
+  const frame = person();
+  const cut = (all, step) => Array.from({ length: Math.ceil(all.length / step) }, (_, i) => all.subarray(i * step, (i + 1) * step));
+  for (const step of [1, 7, 40, 41, 1000]) {
+    let count = 0;
+    for await (const it of capnp.framesFrom(cut(Buffer.concat(Array(25).fill(frame)), step))) {
+      assert.equal(hexOf(it), hexOf(frame));
+      count++;
+    }
+    assert.equal(count, 25);
+  }
+  // memory that is used again for each piece
+  const again = new Uint8Array(40);
+  async function* reused() {
+    for (let i = 0; i < 5; i++) {
+      again.fill(0xee);
+      again.set(frame.subarray(0, 25));
+      yield again.subarray(0, 25);
+      again.fill(0xee);
+      again.set(frame.subarray(25));
+      yield again.subarray(0, 15);
+    }
+  }
+  let count = 0;
+  for await (const it of capnp.framesFrom(reused())) assert.equal(hexOf(it), hexOf(frame)) ?? count++;
+  assert.equal(count, 5);
+  // what a table announces may never come: too many words are refused at once, and a cut stream at its end
+  const endless = async function* () {
+    yield hex('00000000ffffff00');
+    for (;;) yield new Uint8Array(1 << 16);
+  };
+  const all = async (pieces, limits) => {
+    const found = [];
+    for await (const it of capnp.framesFrom(pieces, limits)) found.push(it.length);
+    return found;
+  };
+  await assert.rejects(all(endless()), { message: /^message 1 at byte 0: MessageTooLong: / });
+  await assert.rejects(all([hex('ffffffff00000000')]), { code: 'TooManySegments' });
+  await assert.rejects(all([frame, frame.subarray(0, 39)]), { message: /^message 2 at byte 40: Truncated: / });
+  await assert.rejects(all([frame, frame.subarray(0, 3)]), { message: /^message 2 at byte 40: Truncated: / });
+  await assert.rejects(all(['text']), TypeError);
+  assert.throws(() => capnp.framesFrom([], { nesting: 'x' }), TypeError);
+  assert.deepEqual(await all([]), []);
+  // many segments, in pieces
+  const many = framed(Array.from({ length: 512 }, (_, i) => new Uint8Array(8 * (i % 3))));
+  for (const step of [3, 64, 4096]) assert.deepEqual(await all(cut(many, step)), [many.length]);
+  passed('streams in pieces', 1);
+});
+
+test('bare words hash to the same', () => {
+  const wanted = createHash('sha256').update(capnp.canonicalizeFlat(person())).digest('hex');
+  const copy = capnp.canonicalize(person());
+  assert.equal(createHash('sha256').update(copy.subarray(8)).digest('hex'), wanted);
+  assert.ok(copy.buffer.byteLength === copy.length);
+  passed('bare words', 1);
+});
+
+test('hostile frames', () => {
+  let state = 1, count = 0;
+  const drawn = (below) => (state = (state * 48271) % 2147483647) % below;
+  for (const [, frame] of rowsOf('library/messages.txt')) {
+    for (let time = 0; time < 300; time++) {
+      const bytes = hex(frame).slice();
+      for (let turns = drawn(4); turns && bytes.length; turns--) bytes[drawn(bytes.length)] ^= 1 << drawn(8);
+      const cut = drawn(5) ? bytes : bytes.subarray(0, drawn(bytes.length + 1));
+      const copy = said(() => hexOf(capnp.canonicalize(cut, { words: 10000 })));
+      said(() => capnp.check(cut));
+      said(() => capnp.size(cut));
+      said(() => capnp.unpack(cut));
+      if (copy[0] !== '!') {
+        assert.equal(hexOf(capnp.canonicalize(hex(copy), { words: 20000 })), copy);
+        assert.ok(capnp.isCanonical(hex(copy)));
+        assert.equal(said(() => hexOf(capnp.canonicalizeFlat(cut, { words: 10000 }))), hexOf(hex(copy).subarray(8)));
+      }
+      count++;
+    }
+  }
+  assert.equal(count, 3000);
+  passed('hostile frames', count);
+});
+
+test('the deepest messages', () => {
+  const cycle = hex('0000000001000000fcffffff00000100'), limits = { nesting: MAX_NESTING };
+  assert.throws(() => capnp.canonicalize(cycle, limits), { code: 'MessageIsTooDeeplyNestedOrContainsCycles' });
+  assert.throws(() => capnp.size(cycle, limits), { code: 'MessageIsTooDeeplyNested' });
+  assert.equal(capnp.isCanonical(cycle, limits), false);
+  // chains of structs, of lists of pointers and of lists of structs, like tests/release/stack.c
+  const chains = { structs: '0000000000000100', 'lists of pointers': '010000000e000000', 'lists of structs': '010000000f0000000400000000000100' };
+  for (const [name, word] of Object.entries(chains)) {
+    for (const levels of [MAX_NESTING, MAX_NESTING + 1]) {
+      const message = hex(`${word.repeat(levels)}0000000000000000`), isRead = levels === MAX_NESTING;
+      for (const call of [capnp.words.canonicalize, capnp.words.size]) {
+        if (isRead) call(message, limits);
+        else assert.throws(() => call(message, limits), { code: /Nest/ }, name);
+      }
+      said(() => capnp.words.check(message, limits));
+    }
+  }
+  // a call from deep within the stack of a caller ends with an error of the engine, and the next one works
+  const message = hex(`${chains.structs.repeat(MAX_NESTING)}0000000000000000`), wanted = hexOf(capnp.words.canonicalize(message, limits));
+  let ends = 0;
+  const deep = (left) => {
+    try {
+      if (left) return deep(left - 1);
+      return hexOf(capnp.words.canonicalize(message, limits));
+    } catch (error) {
+      if (!(error instanceof RangeError)) throw error;
+      ends++;
+      return undefined;
+    }
+  };
+  for (let levels = 1000; levels < 20000; levels += 20) deep(levels);
+  assert.ok(ends > 0);
+  assert.equal(hexOf(capnp.words.canonicalize(message, limits)), wanted);
+  passed('deepest messages', 3);
+});
+
+test('memory is given back', () => {
+  const words = 5_000_000, bytes = new Uint8Array(8 + 8 * words), view = new DataView(bytes.buffer);
+  view.setUint32(4, words, true);
+  view.setUint32(8, 1, true);
+  view.setUint32(12, ((words - 1) << 3) | 5, true);
+  bytes.fill(7, 16);
+  assert.equal(capnp.isCanonical(bytes), true);
+  assert.equal(capnp.size(bytes).words, words - 1);
+  const kept = () => called((lib) => lib.memory.buffer.byteLength);
+  for (let time = 0; time < 40; time++) {
+    const copy = capnp.canonicalize(bytes);
+    assert.equal(copy.length, bytes.length);
+    if (time === 0) assert.equal(Buffer.compare(copy, bytes), 0);
+    // the instance of the call is gone
+    assert.ok(kept() < 1 << 20, `${kept()}`);
+  }
+  // more than 2 GB is refused before it is copied
+  const huge = new Uint8Array(2 ** 31 + 8);
+  new DataView(huge.buffer).setUint32(4, 2 ** 28, true);
+  for (const call of [capnp.canonicalize, capnp.check, capnp.size]) assert.throws(() => call(huge, { words: Infinity }), { code: 'AllocationFailed' });
+  for (const call of [capnp.segments.size, capnp.segments.canonicalize]) assert.throws(() => call([huge]), { code: 'AllocationFailed' });
+  assert.throws(() => capnp.words.size(huge), { code: 'AllocationFailed' });
+  assert.equal(capnp.frameSize(huge, { words: Infinity }), huge.length);
+  // bytes after a frame aren't copied
+  new DataView(huge.buffer).setUint32(4, 1, true);
+  assert.equal(capnp.canonicalize(huge).length, 16);
+  // what a refused call took is given back too
+  assert.throws(() => capnp.canonicalize(bytes, { nesting: 0 }), { code: /Nest/ });
+  assert.ok(kept() < 1 << 20);
+  assert.throws(() => capnp.unpack(hex('00ff'.repeat(2_200_000)), { words: Infinity }), { code: 'AllocationFailed' });
+  assert.ok(kept() <= 64 << 20);
+  // a list that 100 pointers lead to is copied 100 times
+  const le32 = (...numbers) => Buffer.from(new Uint32Array(numbers).buffer).toString('hex');
+  const pointers = Array.from({ length: 100 }, (_, i) => le32(((99 - i) << 2) | 1, (100 << 3) | 5)).join('');
+  const shared = hex(`${le32(0, 201)}0000000000006400${pointers}${'11'.repeat(800)}`);
+  assert.equal(capnp.canonicalize(shared).length, 8 + 8 * 10101);
+  assert.equal(capnp.canonicalizeFlat(shared).length, 8 * 10101);
+  assert.deepEqual(capnp.size(shared), { words: 10100, capabilities: 0 });
+  passed('memory', 1);
+});

@@ -1,0 +1,44 @@
+"""differ.py <CASES: compares what differ.mjs printed with the answers of the native library, by the Python package. The last line
+is `N passed, M failed`."""
+import sys
+
+import capnp_canonical as native
+
+
+def said(call):
+    try:
+        return call()
+    except native.Error as error:
+        return f'!{error.name}'
+
+
+def main():
+    passed = failed = refused = 0
+    for line in sys.stdin:
+        shown, nesting, words, *answers = line.rstrip('\n').split(' ')
+        frame = b'' if shown == '-' else bytes.fromhex(shown)
+        limits = native.Limits(int(nesting), int(words))
+
+        def check():
+            fault = native.check(frame, limits)
+            return 'yes' if fault is None else f'{int(fault.reason)},{fault.segment},{fault.word}'
+
+        def size():
+            found = native.size(frame, limits)
+            return f'{found.words},{found.capabilities}'
+
+        got = [
+            said(lambda: native.copy(frame, limits).hex() or '-'), said(lambda: native.copy_flat(frame, limits).hex() or '-'), said(check), said(size),
+            said(lambda: str(native.frame_size(frame, limits.words))), said(lambda: native.unpack(frame, 1000).hex() or '-'),
+        ]
+        passed += got == answers
+        failed += got != answers
+        refused += got[0][0] == '!'
+        if got != answers and failed < 5:
+            print(line[:300], got)
+    print(f'the copy of {refused} is refused')
+    print(f'{passed} passed, {failed} failed')
+    return 1 if failed else 0
+
+
+sys.exit(main())
