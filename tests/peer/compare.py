@@ -3,6 +3,7 @@
     compare.py [PROGRAM]
 
 The last line is `N passed, M failed`."""
+import re
 import subprocess
 import sys
 
@@ -67,7 +68,30 @@ class Comparison:
         ours, _ = self.ours('canon', '--pack', data=data)
         self.same(f'{name}: capnp convert of packed messages', self.peer.convert('packed:text', of, ours), text)
 
+    def corpus(self, name, *command):
+        """The corpus of ../corpus, over C++ or the program; what fails is printed."""
+        run = subprocess.run([sys.executable, str(TOP / 'tests/corpus/run.py'), *command], stdout=subprocess.PIPE, encoding='utf-8')
+        *lines, last = run.stdout.splitlines() or ['']
+        count = re.fullmatch(r'(\d+) passed, (\d+) failed', last)
+        passed, failed = map(int, count.groups()) if count else (0, 1)
+        self.passed += passed
+        self.failed += failed
+        print(f'corpus, {name}: {last}')
+        if failed:
+            print('\n'.join(lines))
+
+    def corpora(self):
+        example = self.peer.example()
+        self.corpus('C++', example, 'words')
+        self.corpus('C++, test', '--check', example, 'check')
+        self.corpus('C++, packed', '--packed', example, 'words', 'packed')
+        self.corpus('words', self.program, 'canon', '--flat')
+        self.corpus('test', '--check', '--places', self.program, 'check')
+        self.corpus('packed', '--packed', self.program, 'canon', '--flat', '--packed')
+        self.corpus('packed, test', '--packed', '--check', '--places', self.program, 'check', '--packed')
+
     def all(self):
+        self.corpora()
         for seed in SEEDS:
             data = self.peer.people(seed, 2000, 2)
             self.commands(f'seed {seed}', data)

@@ -43,6 +43,11 @@ class Peer:
             raise RuntimeError(f'{words[0]} ended with status {status}')
         return output
 
+    def example(self):
+        """The program of ../corpus/example.c++, for the corpus."""
+        self.bytes_of(*COMPILER, '-o', 'example', str(TOP / 'tests/corpus/example.c++'), '-lcapnp', '-lkj')
+        return str(self.folder / 'example')
+
     def answer(self, words, data):
         """What the C++ library answers to a command of peer.c++, and the exit status."""
         return self.run(['./peer', *words], data)
