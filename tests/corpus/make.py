@@ -11,6 +11,7 @@ import concurrent.futures
 import json
 import pathlib
 import random
+import re
 import struct
 import subprocess
 import sys
@@ -32,11 +33,26 @@ NOTES = {
     'nearly canonical': 'a canonical message with one change', 'void lists': 'lists of void', 'padding': 'lists with padding',
     'soup': 'random words', 'tags': 'tags of lists of structs', 'huge counts': 'huge counts', 'widths': 'lists of all element sizes',
     'kind 3': 'pointers of kind 3', 'zero pads': 'landing pads of zero', 'trimmed lists': 'lists of structs with zeros at the ends',
-    'worked example': 'worked example',
+    'worked example': 'a worked example', 'arguments': 'a worked example', 'lines': 'a worked example', 'order': 'objects in any order',
+    'sharing': 'objects that several pointers lead to', 'a nesting limit of 64, zeros before its digits or not': 'a worked example',
 }
 # The largest frame that is kept, in bytes.
 LARGEST = 1500
 MESSAGES_OF_VECTORS = 2680
+
+
+# What a note says of the arguments of its vector, and not of the message.
+OF_ARGUMENTS = re.compile(r'^a budget of one word too few for |, (just within|digits in) .*')
+
+
+def described(note):
+    """What the message of a vector is."""
+    note = OF_ARGUMENTS.sub('', NOTES.get(note, note))
+    return note.replace(' behind ', ' after ').replace(' lies outside', ' is outside').replace(' lie in', ' are in')
+
+
+def counted(count, name):
+    return f'{count} {name}' if count == 1 else f'{count} {name}s'
 
 
 def near(kind, offset, high):
@@ -69,8 +85,7 @@ def of_vectors():
             except ValueError:
                 continue
             if vector['args'][:1] in (['canon'], ['framed-canon'], ['check'], ['size']) and vector['stdin']:
-                note = vector.get('note', '')
-                yield NOTES.get(note, note), frame_of([struct.unpack_from(f'<{len(it) // 8}Q', it) for it in segments])
+                yield described(vector.get('note', '')), frame_of([struct.unpack_from(f'<{len(it) // 8}Q', it) for it in segments])
 
 
 def outside_answers():
@@ -129,19 +144,20 @@ def lists():
         for count in (0, 1, 2, 3, 7, 8, 9, 63, 64, 65) if size < 6 else (0, 1, 3):
             words = (bits * count + 63) // 64
             if size == 6:
-                yield f'{count} null pointers', [[list_to(0, size, count)] + [0] * words]
+                yield counted(count, 'null pointer'), [[list_to(0, size, count)] + [0] * words]
                 continue
             if words > 9:
                 continue
+            of = f"{counted(count, 'element')} of {counted(bits, 'bit')}"
             full = [0xffffffffffffffff] * words
             whole = (1 << bits * count) - 1
             exact = [whole >> 64 * i & 0xffffffffffffffff for i in range(words)]
-            yield f'a list of {count} elements of {bits} bits', [[list_to(0, size, count)] + exact]
+            yield f'a list of {of}', [[list_to(0, size, count)] + exact]
             if full != exact:
-                yield f'a list of {count} elements of {bits} bits, with padding of ones', [[list_to(0, size, count)] + full]
+                yield f'a list of {of}, with padding of ones', [[list_to(0, size, count)] + full]
                 yield 'padding with its last bit set', [[list_to(0, size, count)] + exact[:-1] + [exact[-1] | 1 << 63]]
             if words:
-                yield f'a list of {count} elements of {bits} bits, cut short by a word', [[list_to(0, size, count)] + exact[:-1]]
+                yield f'a list of {of}, cut short by a word', [[list_to(0, size, count)] + exact[:-1]]
     for text in b'\0', b'a\0', b'seven..\0', b'eight....\0', b'no end':
         padded = text + b'\0' * (-len(text) % 8)
         yield 'a text', [[struct_to(0, 0, 1), list_to(0, 2, len(text)), *struct.unpack(f'<{len(padded) // 8}Q', padded)]]
@@ -153,14 +169,16 @@ def structs():
         for filled in range(data + 1):
             words = [7] * filled + [0] * (data - filled)
             if data:
-                yield f'{data} data words, the last {data - filled} zero', [[struct_to(0, data, 0), *words]]
-                yield f'{data} data words and a null pointer, the last {data - filled} zero', [[struct_to(0, data, 1), *words, 0]]
-                yield f'a list of one struct of {data} data words, the last {data - filled} zero', [[list_to(0, 7, data), tag(1, data, 0), *words]]
+                of = f"{counted(data, 'data word')}, {data - filled} of them zero at the end"
+                yield of, [[struct_to(0, data, 0), *words]]
+                yield f'{of}, and a null pointer', [[struct_to(0, data, 1), *words, 0]]
+                yield f'a list of one struct of {of}', [[list_to(0, 7, data), tag(1, data, 0), *words]]
     for pointers in range(1, 4):
         for filled in range(pointers + 1):
             row = [0xfffffffc] * filled + [0] * (pointers - filled)
-            yield f'{pointers} pointers, the last {pointers - filled} null', [[struct_to(0, 0, pointers), *row]]
-            yield f'a list of one struct of {pointers} pointers, the last {pointers - filled} null', [[list_to(0, 7, pointers), tag(1, 0, pointers), *row]]
+            of = f"{counted(pointers, 'pointer')}, {pointers - filled} of them null at the end"
+            yield of, [[struct_to(0, 0, pointers), *row]]
+            yield f'a list of one struct of {of}', [[list_to(0, 7, pointers), tag(1, 0, pointers), *row]]
     for rows in ([1, 0], [0, 0]), ([1, 0], [0, 2]), ([0, 0], [0, 0]), ([0, 3], [0, 0], [0, 0]):
         words = [word for row in rows for word in row]
         yield 'structs of different lengths in a list', [[list_to(0, 7, len(words)), tag(len(rows), 2, 0), *words]]
@@ -264,7 +282,7 @@ def frames():
     whole = frame_of([[far(1, 0)], [struct_to(0, 1, 0), 42]])
     yield 'no bytes', b''
     for size in 1, 2, 3, 4, 7, 8, 12, 15, 16, 17, 24, 31, 32, 39:
-        yield f'a frame that is cut after {size} bytes', whole[:size]
+        yield f"a frame that is cut after {counted(size, 'byte')}", whole[:size]
     yield 'a table whose padding isn’t zero', whole[:12] + b'\xff' * 4 + whole[16:]
     for count in 512, 513, 0xffffffff:
         yield f'a table that begins with {count}', struct.pack('<I', count) + bytes(4096)
@@ -465,14 +483,14 @@ def packings():
     yield 'a run of words that includes words with zeros', pack_literally(zeros), zeros
     for words in 1, 2, 255, 256, 257, 300:
         many = frame_of([[list_to(0, 5, words + 1), *[0] * words, 1]])
-        yield f'{words} zero words', pack(many), many
+        yield counted(words, 'zero word'), pack(many), many
         many = frame_of([[list_to(0, 5, words), *[0xffffffffffffffff] * words]])
         if words <= 2:
-            yield f'{words} words of ones', pack(many), many
+            yield f"{counted(words, 'word')} of ones", pack(many), many
     yield 'a tag that names bytes that are zero', b'\xff' + small[:8] + b'\x00' + b''.join(b'\xff' + small[at:at + 8] + b'\x00' for at in range(8, len(small), 8)), small
     whole = pack(small)
     for size in range(0, len(whole)):
-        yield f'packed bytes that are cut after {size} bytes', whole[:size], None
+        yield f"packed bytes that are cut after {counted(size, 'byte')}", whole[:size], None
     yield 'a tag of zero without its count', pack(zeros)[:pack(zeros).rindex(b'\x00') + 0], None
     two = frame_of([[far(1, 0), 0], [struct_to(0, 1, 0), 42]])
     yield 'two segments', pack_frame(two), two
