@@ -1,5 +1,6 @@
-// drive.mjs PAGE [SHOTS]: opens the page in headless Chromium, tries it as a user would, and prints `N passed, M failed`. With SHOTS it
-// writes screenshots to that folder. Runs in node 20 with --experimental-websocket, in node 22 without. CHROMIUM names the browser.
+// drive.mjs PAGE [SHOTS]: opens the page, a file or a URL, in headless Chromium, tries it as a user would, and prints
+// `N passed, M failed`. With SHOTS it writes screenshots to that folder. CHROMIUM names the browser, PARTS the parts that
+// are tried, and SECONDS how long a large message may take (3). Node 20 needs --experimental-websocket, node 22 doesn't.
 import assert from 'node:assert/strict';
 import { spawn } from 'node:child_process';
 import { mkdtempSync, readFileSync, rmSync, writeFileSync } from 'node:fs';
@@ -9,7 +10,8 @@ import { setTimeout as wait } from 'node:timers/promises';
 import { pathToFileURL } from 'node:url';
 import { gzipSync } from 'node:zlib';
 
-const [page, shots] = [pathToFileURL(resolve(process.argv[2])).href, process.argv[3]];
+const [, , given, shots] = process.argv;
+const page = /^https?:/.test(given) ? given : pathToFileURL(resolve(given)).href;
 const HERE = import.meta.dirname ?? new URL('.', import.meta.url).pathname;
 const linesOf = (name) => readFileSync(join(HERE, '../library', name), 'utf-8').split('\n').filter((it) => it && it[0] !== '#').map((it) => it.split(' '));
 const rows = Object.fromEntries(linesOf('messages.txt').map((it) => [it[0], it])), packed = Object.fromEntries(linesOf('packed.txt').map((it) => [it[0], it]));
@@ -316,10 +318,12 @@ async function large() {
 async function network() {
   await goto(rows.book[1]);
   isExpected = true;
+  await evaluate(`window.violated = []; document.addEventListener('securitypolicyviolation', (it) => window.violated.push(it.effectiveDirective))`);
   check('no request gets out', await evaluate(`fetch('http://127.0.0.1:${port}/json/version').then(() => 'sent', () => 'refused')`), 'refused');
   check('no picture gets out', await evaluate(`new Promise((done) => { const it = new Image(); it.onload = () => done('sent'); it.onerror = () => done('refused'); it.src = 'http://127.0.0.1:${port}/'; })`), 'refused');
   await wait(100);
-  check('only the page is loaded', [...new Set(requests.map((it) => it.split('#')[0]).filter((it) => !it.startsWith('http://127.0.0.1')))].filter((it) => it !== page && it !== 'about:blank'), []);
+  check('by the policy of the page', await evaluate('window.violated'), ['connect-src', 'img-src']);
+  check('only the page is loaded', [...new Set(requests.map((it) => it.split('#')[0]).filter((it) => !it.startsWith(`http://127.0.0.1:${port}/`)))].filter((it) => it !== page && it !== 'about:blank'), []);
 }
 
 try {
