@@ -17,7 +17,7 @@ if python3 viewer/build.py "$package" "$work/built.html"; then
     if cmp -s "$work/built.html" viewer/capnp_view.html; then
         echo '1 passed, 0 failed' >"$work/built"
     else
-        echo 'viewer/capnp_view.html isn’t what viewer/build.py makes' && echo '0 passed, 1 failed' >"$work/built"
+        echo 'viewer/capnp_view.html differs from what viewer/build.py makes' && echo '0 passed, 1 failed' >"$work/built"
     fi
     websocket=
     node -e 'process.exit(typeof WebSocket === "function" ? 0 : 1)' || websocket=--experimental-websocket
@@ -26,7 +26,7 @@ if python3 viewer/build.py "$package" "$work/built.html"; then
 fi
 passed=0 failed=0
 for part in walk built drive; do
-    cat "$work/$part" 2>/dev/null | sed '$d'
+    sed '$d' "$work/$part" 2>/dev/null
     last=$(tail -n 1 "$work/$part" 2>/dev/null)
     case $last in
     *' passed, '*' failed') echo "$part: $last" ;;
