@@ -113,6 +113,9 @@ pub fn canonical_copy_in_room<A: BuilderArena, S: ReaderSegments + Drop>(
         × IsValueOf (message (S.segments segments)) limits t
         × (1 + word_count (trim t) ≤ (A.view arena.old).room 0
         ↔ ((A.view arena.new).words ≡ encoding (trim t) ∷ []))) }
+    ensures means { IfOk result (λ _. (t : Tree)
+        × IsValueOf (message (S.segments segments)) limits t
+        × IsForest (A.view arena.new).words (trim t)) }
     ensures unasked { OnOk result ((A.view arena.new).refusals ≡ (A.view arena.old).refusals) }
     ensures cleared { OnErr result ((s p : ℕ) → word_at (A.view arena.new).words s p ≡ 0) }
     ensures refused { IfErr result (λ k. RefusesAt (message (S.segments segments)) limits k
