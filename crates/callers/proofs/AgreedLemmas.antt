@@ -1,8 +1,10 @@
 -- The copy and the test agree, and are about the same value.
-use Rattle.std.proofs.Common.{◌≡◌, ◌↔◌, Bool, IsTrue, ◌++◌, ℕ, zero, suc, ◌+◌, ◌<◌, ◌≤◌, List, [], ◌∷◌, length, Option, Some, None, refl, sym, ap, ◌∙◌, subst, arith}
+use Rattle.std.proofs.Common.{◌≡◌, ◌↔◌, Bool, true, false, IsTrue, Result, Ok, Err, IfOk, ◌++◌, ℕ, zero, suc, ◌+◌, ◌<◌, ◌≤◌, List, [], ◌∷◌, length, Option, Some, None, refl, sym, ap, ◌∙◌, subst, arith}
+use Rattle.std.specs.Bool.{OnTrue}
 use Rattle.std.proofs.lemmas.Grind.{common_steps}
 use Rattle.std.proofs.lemmas.List.{append-nil}
-use Rattle.capnp_words.specs.Meter.{FitsIn}
+use Rattle.capnp_words.specs.Meter.{FitsIn, unused}
+use Rattle.capnp_words.specs.declared.error.ErrorKind.{ErrorKind}
 use Rattle.capnp_framing.specs.Frames.{bytes_of_words}
 use Rattle.capnp_format.specs.Bytes.{words_of}
 use Rattle.capnp_format.specs.Forest.{IsForest, root, times}
@@ -19,8 +21,8 @@ use Rattle.capnp_format.proofs.Trimming.{trim-trim}
 use Rattle.capnp_arena_traits.specs.Allocations.{max_segment_words}
 use Rattle.capnp_arena.specs.declared.arena.reader_arena_impl.ReaderOptions.{ReaderOptions}
 use Rattle.capnp_objects.specs.Source.{levels}
-use Rattle.capnp_messages.specs.CanonicalMessages.{IsCanonicalMessage, IsCanonicalOf}
-use Rattle.capnp_messages.proofs.CanonicalMessageLemmas.{means_its_value}
+use Rattle.capnp_messages.specs.CanonicalMessages.{CanBeTested, IsCanonicalMessage, IsCanonicalOf}
+use Rattle.capnp_messages.proofs.CanonicalMessageLemmas.{canonical_length, means_its_value}
 use Rattle.capnp_messages.specs.Messages.{IsValueOf}
 
 pub only_value : (S : Segments) (limits others : ReaderOptions) (t u : Tree) → IsValueOf S limits t → IsValueOf S others u → t ≡ u
@@ -129,3 +131,22 @@ zero_elsewhere (suc u) q none = refl
 
 pub fresh_forest : IsForest ((0 ∷ []) ∷ []) Null
 fresh_forest = record { means = (0, 0, (refl, refl)); apart = apart; inside = inside; zero_elsewhere = zero_elsewhere; tidy = tt }
+
+-- a canonical message within the limits has its value within them
+pub value_within : {S : Segments} {limits : ReaderOptions} {t : Tree} → IsCanonicalOf S t → depth t ≤ levels limits.nesting_limit →
+    FitsIn limits.traversal_limit_in_words (1 + charge t) → IsValueOf S limits t
+value_within {S} {limits} {t} canonical deep covered = record {
+  root = record { root = omega (arith, canonical_length canonical); covered = covers_less limits.traversal_limit_in_words (1 + charge t) 1 (omega arith) covered };
+  cost = charge t;
+  means = means_its_value S t (levels limits.nesting_limit) canonical deep;
+  free = canonical.free;
+  covered = covered;
+}
+
+-- and that is what a yes of the test says
+pub tested_within : (S : Segments) (limits : ReaderOptions) (r : Result Bool ErrorKind) →
+    IfOk r (λ yes. OnTrue yes (CanBeTested S (levels limits.nesting_limit) (unused limits.traversal_limit_in_words))) →
+    IfOk r (λ yes. IsTrue yes → (t : Tree) × IsCanonicalOf S t × IsValueOf S limits t)
+tested_within S limits (Ok true) (t, canonical, deep, covered) = λ yes. (t, canonical, value_within canonical deep covered)
+tested_within S limits (Ok false) within = λ yes. absurd (let wrong : false ≡ true = yes in cc)
+tested_within S limits (Err k) within = tt

@@ -20,7 +20,7 @@ ghost use Rattle.capnp_pointers.specs.Checking.{IsUnfit, TestEnds, TestStops, pr
 ghost use Rattle.capnp_pointers.specs.Pointers.{reading};
 ghost use Rattle.capnp_edits.specs.Edits.{IsApplied, TakesAll};
 ghost use Rattle.capnp_edits.specs.Steps.{AreSteps};
-ghost use Rattle.capnp_messages.specs.CanonicalMessages.{IsCanonicalMessage};
+ghost use Rattle.capnp_messages.specs.CanonicalMessages.{IsCanonicalMessage, IsCanonicalOf};
 ghost use Rattle.capnp_messages.specs.Commands.{form_bytes};
 ghost use Rattle.capnp_messages.specs.Copies.{LacksMemoryOr, RefusesCopy, RefusesCopyAnywhere};
 ghost use Rattle.capnp_messages.specs.Messages.{HasCanonicalCopy, IsReadable, IsValueOf, RefusesAt, RefusesCanon, RefusesCheck, left_of, root_within};
@@ -253,6 +253,9 @@ pub fn canonical_test<S: ReaderSegments + Drop>(
         ↔ IsCanonicalMessage (message (S.segments segments))) }
     ensures answered { (length (message (S.segments segments)) ≡ 1
         → IsReadable (message (S.segments segments)) limits) → IsOk result }
+    ensures within { IfOk result (λ yes. IsTrue yes → (t : Tree)
+        × IsCanonicalOf (message (S.segments segments)) t
+        × IsValueOf (message (S.segments segments)) limits t) }
     ensures refused { IfErr result (RefusesCheck (message (S.segments segments)) limits) }
 {
     is_canonical(segments, limits)
@@ -283,6 +286,7 @@ pub fn canonical_test_at<S: ReaderSegments>(
     ensures found { let words = message (⟦<ReaderArenaImpl<S> as ReaderArena>⟧.segments arena.now)
         in IfOk result (λ yes. IsTrue yes
         → (t : Tree) × Stands words place.segment place.word head.old t
+        × Means words (levels arena.now.nesting_limit) place.segment place.word t (charge t)
         × (head.new ≡ head.old + word_count t)
         × Paid true lim.old lim.new (charge t) (pointers_in t)) }
     ensures kept { (result ≡ Ok true → ⊥) → head.new ≡ head.old }
