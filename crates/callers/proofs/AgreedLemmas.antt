@@ -15,7 +15,7 @@ use Rattle.capnp_format.specs.Means.{Means}
 use Rattle.capnp_format.specs.Canonical.{IsEncodable, charge, encoding, trim, word_count}
 use Rattle.capnp_format.proofs.Bounds.{means_value}
 use Rattle.capnp_format.proofs.Levels.{depth_within, one_value}
-use Rattle.capnp_format.proofs.LawLemmas.{canonical_cost, canonical_words_mean, no_encoding_begins, same_canonical_words}
+use Rattle.capnp_format.proofs.LawLemmas.{canonical_cost, canonical_words_mean, encodings_differ, no_encoding_begins, same_canonical_words}
 use Rattle.capnp_format.proofs.Trimmed.{small_fits, trim-capabilities, trim-depth, trim-value}
 use Rattle.capnp_format.proofs.Trimming.{trim-trim}
 use Rattle.capnp_arena_traits.specs.Allocations.{max_segment_words}
@@ -28,6 +28,20 @@ use Rattle.capnp_messages.specs.Messages.{IsValueOf}
 pub only_value : (S : Segments) (limits others : ReaderOptions) (t u : Tree) → IsValueOf S limits t → IsValueOf S others u → t ≡ u
 only_value S limits others t u a b =
     (one_value S (levels limits.nesting_limit) (levels others.nesting_limit) 0 0 t u a.cost b.cost a.means b.means).0
+
+-- two values that fit a segment have the same words exactly if they are equal
+pub same_encodings : (t u : Tree) → IsValue t → IsValue u → 1 + word_count t ≤ max_segment_words → 1 + word_count u ≤ max_segment_words →
+    (encoding t ≡ encoding u) ↔ (t ≡ u)
+same_encodings t u v w short brief = (
+  λ same. encodings_differ t u v (small_fits t v (omega (arith, short))) w (small_fits u w (omega (arith, brief))) same,
+  λ equal. ap encoding equal,
+)
+
+-- and no value's words begin another's
+pub no_value_begins : (t u : Tree) (more : List ℕ) → IsValue t → IsValue u → 1 + word_count t ≤ max_segment_words → 1 + word_count u ≤ max_segment_words →
+    encoding t ++ more ≡ encoding u → more ≡ []
+no_value_begins t u more v w short brief begins =
+    no_encoding_begins t u more v (small_fits t v (omega (arith, short))) w (small_fits u w (omega (arith, brief))) begins
 
 -- the value of a message of 64-bit words is a value
 is_value : {S : Segments} {limits : ReaderOptions} {t : Tree} → AreWords S → IsValueOf S limits t → IsValue t
@@ -150,3 +164,15 @@ pub tested_within : (S : Segments) (limits : ReaderOptions) (r : Result Bool Err
 tested_within S limits (Ok true) (t, canonical, deep, covered) = λ yes. (t, canonical, value_within canonical deep covered)
 tested_within S limits (Ok false) within = λ yes. absurd (let wrong : false ≡ true = yes in cc)
 tested_within S limits (Err k) within = tt
+
+-- what a canonical message has for its value, and within which limits
+pub canonical_has_value : (S : Segments) (limits : ReaderOptions) (t u : Tree) → IsCanonicalOf S t →
+    IsValueOf S limits u ↔ ((u ≡ t) × (depth t ≤ levels limits.nesting_limit) × FitsIn limits.traversal_limit_in_words (1 + charge t))
+canonical_has_value S limits t u canonical = (
+  λ has.
+      let n = levels limits.nesting_limit in
+      let same = one_value S n (depth t) 0 0 u t has.cost (charge t) has.means (means_its_value S t (depth t) canonical (omega arith)) in
+      let deep : depth u ≤ n = depth_within u (record { means = has.means }) in
+      (same.0, subst (λ v. depth v ≤ n) same.0 deep, subst (λ c. FitsIn limits.traversal_limit_in_words (1 + c)) same.1 has.covered),
+  λ (equal, deep, covered). subst (λ v. IsValueOf S limits v) (sym equal) (value_within canonical deep covered),
+)

@@ -2,25 +2,33 @@
 //! of canonical words, and copy and test agree ("Canonicalization"). Each function does nothing:
 //! its contract is the law.
 ghost use Rattle.std.specs.Prelude.{◌≡◌, ◌↔◌, ◌∷◌, ◌++◌, ◌+◌, ◌≤◌, [], ℕ, List};
-ghost use Rattle.capnp_format.specs.Canonical.{encoding, trim, word_count};
+ghost use Rattle.capnp_words.specs.Meter.{FitsIn};
+ghost use Rattle.capnp_format.specs.Canonical.{charge, encoding, trim, word_count};
 ghost use Rattle.capnp_format.specs.Forest.{IsForest};
+ghost use Rattle.capnp_format.specs.Means.{Means};
 ghost use Rattle.capnp_format.specs.Segments.{AreWords, Segments};
-ghost use Rattle.capnp_format.specs.Tree.{Null, Tree};
+ghost use Rattle.capnp_format.specs.Tree.{Null, Tree, depth};
+ghost use Rattle.capnp_format.specs.Value.{IsValue};
 ghost use Rattle.capnp_arena_traits.specs.Allocations.{max_segment_words};
 ghost use Rattle.capnp_arena.specs.declared.arena.reader_arena_impl.ReaderOptions.{ReaderOptions};
+ghost use Rattle.capnp_objects.specs.Source.{levels};
 ghost use Rattle.capnp_messages.specs.CanonicalMessages.{IsCanonicalMessage, IsCanonicalOf};
 ghost use Rattle.capnp_messages.specs.Messages.{IsValueOf};
 
 /// A message has at most one value, with any limits.
 pub fn one_value()
-    ensures { (S : Segments) (limits others : ReaderOptions) (t u : Tree) → IsValueOf S limits t
-        → IsValueOf S others u → t ≡ u }
+    ensures place { (S : Segments) (n m s p : ℕ) (t u : Tree) (c e : ℕ) → Means S n s p t c
+        → Means S m s p u e → (t ≡ u) × (c ≡ e) }
+    ensures message { (S : Segments) (limits others : ReaderOptions) (t u : Tree)
+        → IsValueOf S limits t → IsValueOf S others u → t ≡ u }
 {}
 
 /// Two messages have the same canonical words exactly if their trimmed values are equal.
 pub fn same_words()
-    ensures { (S R : Segments) (limits others : ReaderOptions) (t u : Tree) → AreWords S → AreWords R
-        → IsValueOf S limits t → IsValueOf R others u
+    ensures values { (t u : Tree) → IsValue t → IsValue u → 1 + word_count t ≤ max_segment_words
+        → 1 + word_count u ≤ max_segment_words → (encoding t ≡ encoding u) ↔ (t ≡ u) }
+    ensures messages { (S R : Segments) (limits others : ReaderOptions) (t u : Tree)
+        → AreWords S → AreWords R → IsValueOf S limits t → IsValueOf R others u
         → 1 + word_count (trim t) ≤ max_segment_words
         → 1 + word_count (trim u) ≤ max_segment_words
         → (encoding (trim t) ≡ encoding (trim u)) ↔ (trim t ≡ trim u) }
@@ -28,7 +36,10 @@ pub fn same_words()
 
 /// The canonical words of a value aren't a prefix of those of another one.
 pub fn no_words_begin_others()
-    ensures { (S R : Segments) (limits others : ReaderOptions) (t u : Tree) (more : List ℕ)
+    ensures values { (t u : Tree) (more : List ℕ) → IsValue t → IsValue u
+        → 1 + word_count t ≤ max_segment_words → 1 + word_count u ≤ max_segment_words
+        → encoding t ++ more ≡ encoding u → more ≡ [] }
+    ensures messages { (S R : Segments) (limits others : ReaderOptions) (t u : Tree) (more : List ℕ)
         → AreWords S → AreWords R → IsValueOf S limits t → IsValueOf R others u
         → 1 + word_count (trim t) ≤ max_segment_words
         → 1 + word_count (trim u) ≤ max_segment_words
@@ -42,6 +53,15 @@ pub fn copy_is_canonical()
         → 1 + word_count (trim t) ≤ max_segment_words
         → IsCanonicalOf (encoding (trim t) ∷ []) (trim t)
         × IsValueOf (encoding (trim t) ∷ []) limits (trim t) }
+{}
+
+/// A canonical message has the value that it is canonical of, and no other one: exactly if the limits cover it.
+pub fn canonical_has_value()
+    ensures means { (S : Segments) (t : Tree) (n : ℕ) → IsCanonicalOf S t → depth t ≤ n
+        → Means S n 0 0 t (charge t) }
+    ensures value { (S : Segments) (limits : ReaderOptions) (t u : Tree) → IsCanonicalOf S t
+        → IsValueOf S limits u ↔ ((u ≡ t) × (depth t ≤ levels limits.nesting_limit)
+        × FitsIn limits.traversal_limit_in_words (1 + charge t)) }
 {}
 
 /// A message is canonical exactly if it is its own canonical copy.
