@@ -4,7 +4,7 @@ ghost use Rattle.std.specs.Prelude.{◌≡◌, ◌↔◌, ◌⊎◌, ◌∷◌, 
 ghost use Rattle.capnp_words.specs.declared.error.ErrorKind.TheVariants.{AllocationFailed};
 ghost use Rattle.capnp_words.specs.Meter.{FitsIn};
 ghost use Rattle.capnp_format.specs.Bytes.{message};
-ghost use Rattle.capnp_format.specs.Canonical.{IsFree, Stands, charge, encoding, trim, word_count};
+ghost use Rattle.capnp_format.specs.Canonical.{ForOffset, IsFree, Stands, charge, encoding, trim, word_count};
 ghost use Rattle.capnp_format.specs.Means.{Means};
 ghost use Rattle.capnp_format.specs.Segments.{AreWords, IsPlace, segment, word_at};
 ghost use Rattle.capnp_format.specs.Tree.{Null, Tree, depth};
@@ -280,7 +280,7 @@ pub fn canonical_test_at<S: ReaderSegments>(
         ↔ ((t : Tree) × Stands words place.segment place.word head.old t)) }
     ensures answered { let words = message (⟦<ReaderArenaImpl<S> as ReaderArena>⟧.segments arena.now)
         in (t : Tree) → Stands words place.segment place.word head.old t
-        → head.old ≤ length (segment words place.segment)
+        → ForOffset t (head.old ≤ length (segment words place.segment))
         → depth t ≤ levels arena.now.nesting_limit → FitsIn lim.old.left (charge t)
         → IsOk result }
     ensures found { let words = message (⟦<ReaderArenaImpl<S> as ReaderArena>⟧.segments arena.now)
