@@ -70,7 +70,7 @@ pub record IsFreshRoot (v w : View) (s p : ℕ) : Type 0 where
   pub fresh : v.words ≡ (0 ∷ []) ∷ []
 
 -- what holds at that place holds at the first one
-at_first : {v w : View} {s p : ℕ} (P : View → ℕ → ℕ → Type 0) → IsFreshRoot v w s p → P w s p → P v 0 0
+pub at_first : {v w : View} {s p : ℕ} (P : View → ℕ → ℕ → Type 0) → IsFreshRoot v w s p → P w s p → P v 0 0
 at_first {v} {w} {s} {p} P root is = subst (λ x. P x 0 0) root.same (subst (λ i. P w 0 i) root.at (subst (λ i. P w i p) root.segment is))
 
 -- the word of that place is null

@@ -7,6 +7,7 @@ pub mod Fields
 pub mod Fitting
 pub mod Framed
 pub mod InRoom
+pub mod InRoomAt
 pub mod Pointers
 pub mod ReadBack
 pub mod TrulyLemmas

@@ -10,12 +10,16 @@ ghost use Rattle.capnp_format.specs.Segments.{AreWords, IsPlace, segment, word_a
 ghost use Rattle.capnp_format.specs.Tree.{Null, Tree, depth};
 ghost use Rattle.capnp_arena_traits.specs.Allocations.{max_segment_words, one_more};
 ghost use Rattle.capnp_arena_traits.specs.Limits.{IsSmall};
+ghost use Rattle.capnp_copies.specs.Changes.{RefusesToCopy, change};
+ghost use Rattle.capnp_copies.specs.Originals.{value_original};
 ghost use Rattle.capnp_framing.specs.Writing.{Prints};
 ghost use Rattle.capnp_framing.specs.declared.framing.frame_error.FrameError.TheVariants.{WriteFailed};
 ghost use Rattle.capnp_making.specs.Made.{zero_struct};
+ghost use Rattle.capnp_making.specs.Makes.{call_at};
 ghost use Rattle.capnp_making.specs.Memory.{IsRefusedFor};
 ghost use Rattle.capnp_objects.specs.Source.{levels};
 ghost use Rattle.capnp_objects.specs.Spending.{Paid, pointers_in};
+ghost use Rattle.capnp_objects.specs.Wanted.{canonical};
 ghost use Rattle.capnp_pointers.specs.Checking.{IsUnfit, TestEnds, TestStops, progress};
 ghost use Rattle.capnp_pointers.specs.Pointers.{reading};
 ghost use Rattle.capnp_edits.specs.Edits.{IsApplied, TakesAll};
@@ -349,6 +353,45 @@ pub fn canonical_copy_at<A: Allocator, S: ReaderSegments>(
         lim.old.left max_segment_words e.0)) }
 {
     copy_canonical_with(alloc, allocator, pointer_at(arena, place), lim)
+}
+
+/// Makes the canonical copy of what a pointer of a message means in the only segment of a message
+/// being built, after its root word.
+///
+/// Succeeds and stays in that segment exactly if the pointer means a value without capabilities
+/// within the levels of the reader, the limiter covers what reading it costs, and its canonical
+/// words fit there, whatever memory there is. The limiter has then paid that cost, and counted each
+/// pointer. After a refusal all words are zero.
+pub fn canonical_copy_at_in_room<A: BuilderArena, S: ReaderSegments>(
+    arena: &mut A,
+    source: &ReaderArenaImpl<S>,
+    place: PointerPlace,
+    lim: &mut ReadLimiter,
+) -> Result<(), ErrorKind>
+    requires place { IsPlace (message (⟦<ReaderArenaImpl<S> as ReaderArena>⟧.segments source.now))
+        place.segment place.word }
+    requires root { (A.view arena.old).words ≡ (0 ∷ []) ∷ [] }
+    ensures fits { (t : Tree) (c : ℕ)
+        → Means (message (⟦<ReaderArenaImpl<S> as ReaderArena>⟧.segments source.now))
+        (levels source.now.nesting_limit) place.segment place.word t c
+        → IsFree t → FitsIn lim.old.left c
+        → 1 + word_count (trim t) ≤ (A.view arena.old).room 0 → IsOk result }
+    ensures made { IfOk result (λ _. (t : Tree) × (c : ℕ)
+        × Means (message (⟦<ReaderArenaImpl<S> as ReaderArena>⟧.segments source.now))
+        (levels source.now.nesting_limit) place.segment place.word t c
+        × IsFree t × Paid true lim.old lim.new c (pointers_in t)
+        × (1 + word_count (trim t) ≤ (A.view arena.old).room 0
+        ↔ ((A.view arena.new).words ≡ encoding (trim t) ∷ []))
+        × IsForest (A.view arena.new).words (trim t)) }
+    ensures unasked { OnOk result ((A.view arena.new).refusals ≡ (A.view arena.old).refusals) }
+    ensures cleared { OnErr result ((s p : ℕ) → word_at (A.view arena.new).words s p ≡ 0) }
+    ensures refused { IfErr result (RefusesToCopy (value_original
+        (read_at (message (⟦<ReaderArenaImpl<S> as ReaderArena>⟧.segments source.now))
+        (levels source.now.nesting_limit) place.segment place.word))
+        (change canonical (call_at 0 0 (A.view arena.old) (A.view arena.new)) lim.old lim.new)) }
+{
+    let from = PointerReader::of_pointer(pointer_at(source, place));
+    PointerBuilder::get_root(arena).copy_from(from, lim, true)
 }
 
 /// The pointer at a place of a message, with the levels of its reader.
