@@ -15,7 +15,8 @@ ghost use Rattle.capnp_objects.specs.Source.{levels};
 ghost use Rattle.capnp_messages.specs.CanonicalMessages.{IsCanonicalMessage, IsCanonicalOf};
 ghost use Rattle.capnp_messages.specs.Messages.{IsValueOf};
 
-/// A message has at most one value, with any limits.
+/// A place means at most one value, at one cost, with any levels. So a message has at most one value,
+/// with any limits.
 pub fn one_value()
     ensures place { (S : Segments) (n m s p : ℕ) (t u : Tree) (c e : ℕ) → Means S n s p t c
         → Means S m s p u e → (t ≡ u) × (c ≡ e) }
@@ -23,7 +24,8 @@ pub fn one_value()
         → IsValueOf S limits t → IsValueOf S others u → t ≡ u }
 {}
 
-/// Two messages have the same canonical words exactly if their trimmed values are equal.
+/// Two values that fit a segment have the same words exactly if they are equal. So two messages have
+/// the same canonical words exactly if their trimmed values are equal.
 pub fn same_words()
     ensures values { (t u : Tree) → IsValue t → IsValue u → 1 + word_count t ≤ max_segment_words
         → 1 + word_count u ≤ max_segment_words → (encoding t ≡ encoding u) ↔ (t ≡ u) }
@@ -55,7 +57,8 @@ pub fn copy_is_canonical()
         × IsValueOf (encoding (trim t) ∷ []) limits (trim t) }
 {}
 
-/// A canonical message has the value that it is canonical of, and no other one: exactly if the limits cover it.
+/// The canonical message of a value has that value, within exactly the limits that cover it, and no
+/// other value.
 pub fn canonical_has_value()
     ensures means { (S : Segments) (t : Tree) (n : ℕ) → IsCanonicalOf S t → depth t ≤ n
         → Means S n 0 0 t (charge t) }

@@ -102,8 +102,9 @@ fn is_short<A: BuilderArena>(made: &A)
 /// root word.
 ///
 /// Succeeds and stays in that segment exactly if the message has a value without capabilities
-/// within both limits whose canonical words fit there, whatever memory there is. After a refusal
-/// all words are zero.
+/// within both limits whose canonical words fit there, whatever memory there is. If they don't fit,
+/// a copy that succeeds has further segments, and means the same value. After a refusal all words
+/// are zero.
 pub fn canonical_copy_in_room<A: BuilderArena, S: ReaderSegments + Drop>(
     arena: &mut A,
     segments: S,
@@ -247,7 +248,7 @@ fn same_bytes<A: Allocator>(left: &BuilderArenaImpl<A>, right: &BuilderArenaImpl
 ///
 /// Accepts exactly the messages that are one segment of the canonical words of a value. Answers for
 /// every message of one segment that has a value within both limits, and for every message without
-/// exactly one segment.
+/// exactly one segment. Never accepts a message that exceeds a limit.
 pub fn canonical_test<S: ReaderSegments + Drop>(
     segments: S,
     limits: ReaderOptions,
@@ -268,9 +269,9 @@ pub fn canonical_test<S: ReaderSegments + Drop>(
 /// The test for canonical form at a pointer of a message. `head` is the word of its segment at
 /// which its first object has to start.
 ///
-/// Accepts exactly if canonical words of a value are there; it has then moved `head` past them, and
-/// charged and counted what reading that value costs. Answers whenever they are there and both
-/// limits cover them.
+/// Accepts exactly if canonical words of a value are there. The pointer then means that value within
+/// the levels of the reader, and the test has moved `head` past the words, and charged and counted
+/// what reading the value costs. Answers whenever the words are there and both limits cover them.
 pub fn canonical_test_at<S: ReaderSegments>(
     arena: &ReaderArenaImpl<S>,
     place: PointerPlace,
@@ -360,7 +361,7 @@ pub fn canonical_copy_at<A: Allocator, S: ReaderSegments>(
 ///
 /// Succeeds and stays in that segment exactly if the pointer means a value without capabilities
 /// within the levels of the reader, the limiter covers what reading it costs, and its canonical
-/// words fit there, whatever memory there is. The limiter has then paid that cost, and counted each
+/// words fit there, with any amount of memory. The limiter has then paid that cost, and counted each
 /// pointer. After a refusal all words are zero.
 pub fn canonical_copy_at_in_room<A: BuilderArena, S: ReaderSegments>(
     arena: &mut A,
