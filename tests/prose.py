@@ -29,7 +29,7 @@ PHRASES = {
     'is made zero, becomes zero': (5, r'\b(?:is|are|was|were) made zero\b|\bbecomes? zero\b|\bmakes? \w+ zero\b'),
     'lies, lie': (22, r'\blies?\b'),
     'that is built': (6, r'\b(?:message|messages) that (?:is|are) built\b'),
-    'else': (17, r'(?<!or )(?<!thing )(?<!one )(?<!body )\belse\b'),
+    'else': (14, r'(?<!or )(?<!thing )(?<!one )(?<!body )(?<!what )(?<!where )\belse\b'),
     'refused by the name': (9, r'\bby (?:the|that|a|its|this) name\b'),
     'one behind the other': (12, r'\bone (?:behind|inside) the other\b'),
     'is to be': (3, r'\b(?:is|are|was|were) to be\b'),

@@ -243,7 +243,7 @@ size_t capnp_canonical_version_text(char *to, size_t room);
 /* The functions from here on are defined in this header. */
 
 /* Whether the message of the frame at the front is canonical. Also false if the message can't be read, because a limit
- * is exceeded or the bytes are no frame; capnp_canonical_check says why. */
+ * is exceeded or the bytes aren't a frame; capnp_canonical_check says why. */
 CAPNP_CANONICAL_INLINE bool capnp_canonical_is_canonical(const uint8_t *frame, size_t frame_size, int32_t nesting, uint64_t words) {
     bool is_canonical = false;
     struct capnp_canonical_fault fault;

@@ -110,7 +110,7 @@ class Error(ValueError):
     place: Optional[Tuple[int, int]]
     """In a stream, the number of the message, counted from 1, and the byte where it starts; else None."""
     looks_like: Optional[str]
-    """If the bytes are no frame, a guess at what they look like, such as `gzip`; None if there is no guess."""
+    """If the bytes aren't a frame, a guess at what they look like, such as `gzip`; None if there is no guess."""
     wanted: int
     """How many bytes are needed, if the room is too small, or if `frame_size` gets a part of a frame; else 0."""
 

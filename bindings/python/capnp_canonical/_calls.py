@@ -61,7 +61,7 @@ def _segments(segments: Iterable[ReadableBuffer]) -> _Given:
 
 
 def _refused(answer: int, first: Any, size: int, wanted: int = 0) -> Error:
-    """The error of a frame; if the bytes are no frame, with what they look like."""
+    """The error of a frame; if the bytes aren't a frame, with what they look like."""
     taken = ctypes.c_size_t()
     if answer not in _OF_FRAMES or raw_frame_size(first, size, 2**64 - 1, taken) == DONE:
         return Error(answer, wanted=wanted)
@@ -196,7 +196,7 @@ def check(frame: ReadableBuffer, limits: Limits = LIMITS) -> Optional[Fault]:
 
 def is_canonical(frame: ReadableBuffer, limits: Limits = LIMITS) -> bool:
     """Test whether the message is canonical. Also False if it can't be read, because a limit is exceeded or the bytes
-    are no frame."""
+    aren't a frame."""
     return _is_canonical(library.capnp_canonical_check, _frame(frame), limits)
 
 

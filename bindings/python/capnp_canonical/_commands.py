@@ -107,7 +107,7 @@ class Reading:
                 self.trouble(name, os.strerror(errno.ENOMEM))
                 return
             except ValueError as error:
-                # the bytes are no frame, or no file can have the name
+                # the bytes aren't a frame, or no file can have the name
                 self.trouble(name, error)
                 return
             if isinstance(words, Error):

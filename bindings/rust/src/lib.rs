@@ -108,8 +108,8 @@ pub fn canonical_copy_into(
     })
 }
 
-/// Makes the message canonical, as raw words without the table of a frame: the bytes to hash or sign. Read stored
-/// words back with the module [`words`].
+/// Makes the message canonical, and returns its raw words, without the table of a frame: the bytes to hash or sign.
+/// Read stored words back with the module [`words`].
 pub fn canonical_words(frame: impl AsRef<[u8]>, limits: Limits) -> Result<Vec<u8>, Error> {
     let mut to = Vec::new();
     canonical_words_into(frame, limits, &mut to)?;
@@ -160,7 +160,7 @@ pub fn check(frame: impl AsRef<[u8]>, limits: Limits) -> Result<Option<Fault>, E
 }
 
 /// Whether the message of the frame at the front of a slice is canonical. Also false if it can't be read, because a
-/// limit is exceeded or the bytes are no frame; [`check`] says why.
+/// limit is exceeded or the bytes aren't a frame; [`check`] says why.
 pub fn is_canonical(frame: impl AsRef<[u8]>, limits: Limits) -> bool {
     check(frame, limits) == Ok(None)
 }

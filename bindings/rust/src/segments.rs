@@ -97,7 +97,7 @@ pub fn canonical_copy_into<S: Segments + ?Sized>(
     })
 }
 
-/// Makes the message canonical, as raw words without the table of a frame: the bytes to hash or sign.
+/// Makes the message canonical, and returns its raw words, without the table of a frame: the bytes to hash or sign.
 pub fn canonical_words<S: Segments + ?Sized>(
     segments: &S,
     limits: Limits,

@@ -100,7 +100,7 @@ pub struct StreamError {
     pub message: u64,
     /// The byte of the stream where its frame starts.
     pub byte: u64,
-    /// If the bytes are no frame, a guess at what they look like, such as `gzip`; `None` if there is no guess.
+    /// If the bytes aren't a frame, a guess at what they look like, such as `gzip`; `None` if there is no guess.
     pub looks_like: Option<&'static str>,
 }
 

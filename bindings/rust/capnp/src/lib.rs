@@ -68,7 +68,7 @@ pub fn canonical_copy<S: ReaderSegments + ?Sized>(
     segments::canonical_copy(&Of(message), limits)
 }
 
-/// Makes the message canonical, as raw words without the table of a frame: the bytes to hash or sign.
+/// Makes the message canonical, and returns its raw words, without the table of a frame: the bytes to hash or sign.
 pub fn canonical_words<S: ReaderSegments + ?Sized>(
     message: &S,
     limits: Limits,
