@@ -64,6 +64,8 @@ def facts():
     for command, own in COMMANDS.items():
         yield f'the options of {command} for bash', offered(command, '--') == common | own
     yield 'the start of an option for bash', offered('canon', '--fr') == {'--from-flat'}
+    yield 'an option after a file for bash', offered('canon', 'file', '--fr') == {'--from-flat'}
+    yield 'no option after -- for bash', offered('canon', '--', '--fr') == set()
     yield 'the value of --words for bash', offered('canon', '--words', '') == {'none'}
     yield 'the value of --nesting for bash', offered('canon', '--nesting', '') == set()
 

@@ -11,11 +11,11 @@ import tempfile
 NULL = bytes.fromhex('0000000001000000') + bytes(8)
 MANY = NULL * 1000
 FORMS = ['canon'], ['canon', '--flat'], ['canon', '--pack'], ['canon', '--hex'], ['check'], ['size']
-FULL = 2, 'refused WriteFailed: No space left on device (os error 28)\n'
+FULL = 2, 'capnp_canon: write error: No space left on device\n'
 # After a closed pipe nothing is printed: the reader closed it.
 LEFT = 2, ''
 FOLDER = pathlib.Path(__file__).resolve().parent
-IS_FOLDER = 'message 1 at byte 0: refused ReadFailed: Is a directory (os error 21)\n'
+IS_FOLDER = 'message 1 at byte 0: refused ReadFailed: Is a directory\n'
 # The number of words of a message that is a list of bytes without a zero.
 WORDS = 1 << 17
 HELD, STEP, MOST = 1 << 21, 1 << 12, 1 << 26
@@ -91,7 +91,7 @@ def of_files(program, counts):
             counts.told(program.run([*args, *names], b'', **few)[1:] == (0, ''), 'few files are open at a time', args)
         got = program.run(['size', names[0], folder, names[1]], b'')
         lines = f'{names[0]}: words 0 caps 0\n'.encode() * 1000
-        counts.told(got == (lines, 2, f'{folder}: {IS_FOLDER}'), 'a folder after a file', got)
+        counts.told(got == (lines, 2, f'capnp_canon: {folder}: {IS_FOLDER}'), 'a folder after a file', got)
 
 
 def failing(program, counts):
@@ -100,9 +100,9 @@ def failing(program, counts):
         counts.told(full(program, args, b'') == (0, ''), 'nothing to a full disk', args)
         counts.told(full(program, args, NULL + b'\0') == FULL, 'a cut stream to a full disk', args)
         counts.told(closed(program, args, MANY) == LEFT, 'a closed pipe', args)
-        counts.told(unread(program, args) == (2, IS_FOLDER), 'a folder as the input', args)
-        counts.told(unread(program, [*args, '-']) == (2, f'-: {IS_FOLDER}'), 'a folder as the input, by name', args)
-        closed_input = 'message 1 at byte 0: refused ReadFailed: Bad file descriptor (os error 9)\n'
+        counts.told(unread(program, args) == (2, f'capnp_canon: {IS_FOLDER}'), 'a folder as the input', args)
+        counts.told(unread(program, [*args, '-']) == (2, f'capnp_canon: -: {IS_FOLDER}'), 'a folder as the input, by name', args)
+        closed_input = 'capnp_canon: message 1 at byte 0: refused ReadFailed: Bad file descriptor\n'
         counts.told(shut(program, args) == (2, closed_input), 'a closed input', args, shut(program, args))
         with open(os.devnull, 'rb') as given:
             counts.told(ended(program, args, given, subprocess.DEVNULL) == (0, ''), 'no input', args)
@@ -120,7 +120,7 @@ def scarce(program, counts):
     answered up to one at which both are. A refusal must have the right name, and the answers before it must be written."""
     body = (1 | 2 << 32 | 8 * WORDS << 35).to_bytes(8, 'little') + b'\x11' * 8 * WORDS
     large = bytes(4) + (WORDS + 1).to_bytes(4, 'little') + body
-    wanted = {NULL: 'message 2 at byte 16: refused AllocationFailed\n', b'': 'refused AllocationFailed\n', NULL + large: ''}
+    wanted = {NULL: 'capnp_canon: message 2 at byte 16: refused AllocationFailed\n', b'': 'capnp_canon: memory exhausted\n', NULL + large: ''}
     found = set()
     for most in range(HELD, MOST, STEP * 16):
         how = {'preexec_fn': lambda: resource.setrlimit(resource.RLIMIT_AS, (most, most))}
@@ -149,7 +149,7 @@ def least(program, args, data):
             _, status, error = program.run(args, data, **how)
         except (OSError, subprocess.SubprocessError):
             status, error = -1, ''
-        if status in (0, 1, 2) and 'AllocationFailed' not in error:
+        if status in (0, 1, 2) and 'AllocationFailed' not in error and 'memory exhausted' not in error:
             high = most
         else:
             low = most + 1

@@ -76,7 +76,7 @@ def stream(chain):
     last = chain[-1][1]
     if isinstance(last, str):
         start = len(data) - len(chain[-1][0])
-        return data, (output, 2, f'message {len(chain)} at byte {start}: refused {last}\n')
+        return data, (output, 2, f'capnp_canon: message {len(chain)} at byte {start}: refused {last}\n')
     return data, (output, 1 if b'not canonical\n' in output else 0, '')
 
 
@@ -95,7 +95,7 @@ def runs():
 
 def without_guess(output, status, error):
     """An answer without the lines that guess what the input looks like."""
-    return output, status, ''.join(it for it in error.splitlines(True) if not it.startswith('the input looks like '))
+    return output, status, ''.join(it for it in error.splitlines(True) if not it.startswith('capnp_canon: the input looks like '))
 
 
 def streams(program, counts):

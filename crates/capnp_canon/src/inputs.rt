@@ -12,8 +12,9 @@ use capnp_streams::devices::{BufReaderInput, NamedLines};
 use capnp_streams::looks::looks_like;
 use capnp_streams::seen::{Seen, Watched};
 use capnp_streams::streams::{self, Command, Fault, Stop, Summary, Task};
+use std::alloc::{AllocError, Global};
 use std::fs::File;
-use std::io::{BufReader, Read};
+use std::io::{self, BufReader, Read};
 
 /// Why a run ends before all inputs are answered.
 #[derive(Clone, Copy)]
@@ -66,7 +67,10 @@ fn answer_file<W: BufferedOutput>(
         Ok(file) => answer(rt, task, Some(name), file, output),
         Err(error) => {
             pass_on(output)?;
-            let _ = eprintln!(rt; "{name}: {error}");
+            let _ = match said(rt.alloc(), &error) {
+                Ok(why) => eprintln!(rt; "capnp_canon: {name}: {why}"),
+                Err(AllocError) => eprintln!(rt; "capnp_canon: {name}: {error}"),
+            };
             Err(Unanswered::Said)
         }
     }
@@ -89,7 +93,7 @@ fn answer<R: Read + Drop, W: BufferedOutput>(
     output: &mut W,
 ) -> Result<bool, Unanswered> {
     if task.from_flat {
-        // Bare words are read to the end of the input first, which may take a while.
+        // Raw words are read to the end of the input first, which may take a while.
         pass_on(output)?;
     }
     if output.failed() {
@@ -134,7 +138,7 @@ fn run<R: BufferedInput + Drop, W: BufferedOutput>(
     }
 }
 
-/// Does the task with the one message that `input` holds as bare words, and returns what `run` does
+/// Does the task with the one message that `input` holds as raw words, and returns what `run` does
 /// of a stream of one message.
 fn run_flat<R: BufferedInput, W: BufferedOutput>(
     rt: &HostRuntime,
@@ -171,15 +175,38 @@ fn refuse(rt: &HostRuntime, task: Task, name: Option<&str>, stop: Stop, seen: &S
     let byte = stop.byte;
     let reason = stop.fault.name();
     let _ = match seen.fault() {
-        None => eprintln!(rt; "{name}{colon}message {number} at byte {byte}: refused {reason}"),
-        Some(error) => {
-            eprintln!(rt; "{name}{colon}message {number} at byte {byte}: refused {reason}: {error}")
-        }
+        None => eprintln!(rt;
+            "capnp_canon: {name}{colon}message {number} at byte {byte}: refused {reason}"
+        ),
+        Some(error) => match said(rt.alloc(), &error) {
+            Ok(why) => {
+                eprintln!(rt;
+                    "capnp_canon: {name}{colon}message {number} at byte {byte}: refused {reason}: {why}"
+                )
+            }
+            Err(AllocError) => {
+                eprintln!(rt;
+                    "capnp_canon: {name}{colon}message {number} at byte {byte}: refused {reason}"
+                )
+            }
+        },
     };
     let front = seen.front();
     if stop.answered == 0 {
         if let Some(looks) = looks_like(task, stop.fault, front.first(), front.given()) {
-            let _ = eprintln!(rt; "{name}{colon}the input looks like {}", looks.text());
+            let _ = eprintln!(rt;
+                "capnp_canon: {name}{colon}the input looks like {}",
+                looks.text()
+            );
         }
+    }
+}
+
+/// The system's text for an error, without its number.
+pub fn said(alloc: Global, error: &io::Error) -> Result<String, AllocError> {
+    let text = format!(in alloc; "{error}")?;
+    match text.as_str().split_once(" (os error ") {
+        Some((front, _)) => String::from_str(alloc, front),
+        None => Ok(text),
     }
 }

@@ -3,8 +3,6 @@
 //! `capnp_canon --help` explains the arguments.
 #![tactic(auto)]
 
-ghost use Rattle.std.specs.Prelude.{◌≤◌, length};
-
 mod inputs;
 mod texts;
 
@@ -12,13 +10,13 @@ use capnp_packing::buffered::BufferedOutput;
 use capnp_packing::packing::PackingOutput;
 use capnp_streams::devices::{BufWriterOutput, NoOutput};
 use capnp_streams::seen::{Seen, Watched};
-use capnp_streams::streams::{self, Request, Task};
-use inputs::{Unanswered, answer_all};
+use capnp_streams::streams::{self, ArgumentFault, Request, Task, WrongArgument};
+use inputs::{Unanswered, answer_all, said};
 use std::alloc::AllocError;
 use std::env;
 use std::io::{self, BufWriter};
 use std::process::ExitCode;
-use texts::{HELP, NO_MEMORY, USAGE, VERSION};
+use texts::{HELP, HINT, NO_MEMORY, NO_TEXT, VERSION, WRITE_ERROR};
 
 /// The size in bytes of the input buffer, and of the output buffer.
 const BUFFER: usize = 1 << 16;
@@ -33,47 +31,86 @@ fn main(rt: HostRuntime) -> ExitCode {
 /// Runs the command. Fails only if there is no memory for the arguments, and then reads and writes
 /// nothing.
 fn answer(rt: &HostRuntime) -> Result<ExitCode, AllocError> {
-    let Some(words) = words(rt)? else {
-        return Ok(complain(rt, USAGE));
+    let Some(args) = arguments(rt)? else {
+        let _ = rt.eprintln(NO_TEXT);
+        return Ok(complain(rt, HINT));
     };
-    let words = words.as_slice();
-    match streams::parse_args(words) {
-        Err(left) => Ok(misunderstood(rt, words, left)),
+    let args = args.as_slice();
+    match streams::parse_args(args) {
+        Err(wrong) => Ok(misunderstood(rt, args, wrong)),
         Ok(Request::Help) => Ok(say(rt, HELP)),
         Ok(Request::Version) => Ok(say(rt, VERSION)),
-        Ok(Request::Run(task, files)) => {
-            let first = words.len().saturating_sub(files);
-            Ok(run(rt, task, &words[first..]))
+        Ok(Request::Run(task)) => {
+            let files = streams::named_files(rt.alloc(), args)?;
+            Ok(run(rt, task, files.as_slice()))
         }
     }
 }
 
 /// The arguments without the program's name; `None` if one isn't text.
-fn words(rt: &HostRuntime) -> Result<Option<Vec<String>>, AllocError> {
+fn arguments(rt: &HostRuntime) -> Result<Option<Vec<String>>, AllocError> {
     let given = match env::args(rt) {
         Ok(given) => given,
         Err(error) if error.kind() == io::ErrorKind::OutOfMemory => return Err(AllocError),
         Err(_) => return Ok(None),
     };
-    let mut words = Vec::new(rt.alloc());
-    for word in given.skip(1) {
-        words.push(word)?;
+    let mut args = Vec::new(rt.alloc());
+    for arg in given.skip(1) {
+        args.push(arg)?;
     }
-    Ok(Some(words))
+    Ok(Some(args))
 }
 
-/// Reports the wrong argument, which is the first of the last `left`, or that one is missing if
-/// `left` is 0; and the usage.
-fn misunderstood(rt: &HostRuntime, words: &[String], left: usize) -> ExitCode
-    requires { left ≤ length words.now }
-{
-    if left == 0 {
-        let _ = rt.eprintln("a word is missing");
-        return complain(rt, USAGE);
-    }
-    let word = words[words.len() - left].as_str();
-    let _ = eprintln!(rt; "wrong word: '{word}'");
-    complain(rt, USAGE)
+/// Reports the wrong argument, or the missing one, and how to get help.
+fn misunderstood(rt: &HostRuntime, args: &[String], wrong: WrongArgument) -> ExitCode {
+    let text = match args.get(wrong.at) {
+        Some(arg) => arg.as_str(),
+        None => "",
+    };
+    let _ = match wrong.fault {
+        ArgumentFault::MissingCommand => eprintln!(rt; "capnp_canon: missing command"),
+        ArgumentFault::UnknownCommand => eprintln!(rt; "capnp_canon: unknown command '{text}'"),
+        ArgumentFault::UnknownOption => {
+            eprintln!(rt; "capnp_canon: unrecognized option '{text}'")
+        }
+        ArgumentFault::MissingValue(setting) => {
+            eprintln!(rt; "capnp_canon: option '{}' needs a value", setting.text())
+        }
+        ArgumentFault::InvalidValue(setting) => {
+            eprintln!(rt;
+                "capnp_canon: invalid value '{text}' for {}",
+                setting.text()
+            )
+        }
+        ArgumentFault::InvalidSetting(setting) => {
+            let value = match text.split_once('=') {
+                Some((_, value)) => value,
+                None => text,
+            };
+            eprintln!(rt;
+                "capnp_canon: invalid value '{value}' for {}",
+                setting.text()
+            )
+        }
+        ArgumentFault::UnwantedValue(option) => {
+            eprintln!(rt;
+                "capnp_canon: option '{}' doesn't allow a value",
+                option.text()
+            )
+        }
+        ArgumentFault::NotOfCommand(verb, option) => {
+            eprintln!(rt;
+                "capnp_canon: '{}' has no option '{}'",
+                verb.text(),
+                option.text()
+            )
+        }
+        ArgumentFault::Excluded(first, second) => {
+            let (first, second) = (first.text(), second.text());
+            eprintln!(rt; "capnp_canon: '{first}' can't be combined with '{second}'")
+        }
+    };
+    complain(rt, HINT)
 }
 
 /// Does the task from these files, or from standard input if there are none, to standard output.
@@ -117,15 +154,16 @@ fn run_to<W: BufferedOutput>(
 
 /// Reports that the output failed, and why; reports nothing if nobody reads the output.
 fn write_failed(rt: &HostRuntime, fault: Option<io::Error>) -> ExitCode {
-    match fault {
-        None => complain(rt, "refused WriteFailed"),
-        Some(error) => {
-            if error.kind() != io::ErrorKind::BrokenPipe {
-                let _ = eprintln!(rt; "refused WriteFailed: {error}");
-            }
-            ExitCode::from(2)
-        }
+    let Some(error) = fault else {
+        return complain(rt, WRITE_ERROR);
+    };
+    if error.kind() != io::ErrorKind::BrokenPipe {
+        let _ = match said(rt.alloc(), &error) {
+            Ok(why) => eprintln!(rt; "{WRITE_ERROR}: {why}"),
+            Err(AllocError) => eprintln!(rt; "{WRITE_ERROR}: {error}"),
+        };
     }
+    ExitCode::from(2)
 }
 
 /// Writes `text` to standard output.

@@ -3,44 +3,54 @@
 /// The program's name and version.
 pub const VERSION: &str = "capnp_canon 1.0.0";
 
-/// The usage.
-pub const USAGE: &str =
-    "usage: capnp_canon canon [--flat] [--pack] [--hex] | check [--quiet] | size  [OPTION..] [--] [FILE..]
-       capnp_canon --help | --version";
+/// Printed after what is wrong with the arguments.
+pub const HINT: &str = "Try 'capnp_canon --help' for more information.";
+
+/// Printed if an argument isn't text.
+pub const NO_TEXT: &str = "capnp_canon: an argument isn't UTF-8";
 
 /// Printed if there is no memory for the arguments or a buffer.
-pub const NO_MEMORY: &str = "refused AllocationFailed";
+pub const NO_MEMORY: &str = "capnp_canon: memory exhausted";
+
+/// Printed if the output failed, before the reason.
+pub const WRITE_ERROR: &str = "capnp_canon: write error";
 
 /// The help text.
-pub const HELP: &str =
-    "Reads framed messages of Cap'n Proto from files or standard input, one behind the other, and answers to each.
-
-usage: capnp_canon canon [--flat] [--pack] [--hex] | check [--quiet] | size  [OPTION..] [--] [FILE..]
-       capnp_canon --help | --version
+pub const HELP: &str = "Usage: capnp_canon canon [--flat] [--pack] [--hex] [OPTION]... [FILE]...
+  or:  capnp_canon check [--quiet] [OPTION]... [FILE]...
+  or:  capnp_canon size [OPTION]... [FILE]...
+  or:  capnp_canon --help | --version
+Reads framed Cap'n Proto messages from files or standard input, one after the other, and answers
+each one.
 
 canon        writes each message in canonical form, as a frame of one segment
-  --flat     as its bare words
+  --flat     as raw words: the words of the message without a segment table
   --pack     packed
-  --hex      as one line of hex digits, of its words alone
+  --hex      as raw words in hex digits, one line for each message
 check        writes a line for each message: `canonical`, or
              `not canonical: REASON at segment S, word W` (W counts words of 8 bytes, from 0)
-  --quiet    writes nothing; the status says it
+  --quiet    writes nothing; only the exit status answers
 size         writes a line for each message: `words N caps M`, without landing pads
 
   --packed      the input is packed
-  --from-flat   the input is the bare words of one message; of `check` and `size` so does `--flat` say
-  --nesting N   at most N structs and lists may be entered, one inside the other (64)
-  --words N     a frame has at most N words of 8 bytes, and reading a message may traverse as many
-                (8388608, which is 64 MiB); `none` is no limit
--h, --help      writes this
--V, --version   writes the program's name and version
+  --from-flat   the input is the raw words of one message; with check and size, --flat means the
+                same
+  --nesting N   the nesting limit: at most N structs and lists inside one another (default 64)
+  --words N     the traversal limit of each message, and the most words of 8 bytes that its frame
+                may have (default 8388608, which is 64 MiB); none for no limit
+-h, --help      prints this text
+-V, --version   prints the program's name and version
 
-Options stand before or behind the command, and files behind both; `--nesting=N` is `--nesting N`. An option that
-stands twice counts as it stands last. Files are read in turn; `-` is standard input, and behind `--` all words are
-files. Of several files each line of `check` and `size` begins with `FILE: `.
+Options may come anywhere, and --nesting=N works like --nesting N. If an option is repeated, the
+last one counts. After --, no argument is an option. Files are read in turn; with no FILE, or when
+FILE is -, standard input is read. With several files, each line of check and size starts with
+`FILE: `.
 
-The answers so far are written before a message is waited for. The first message that isn't answered ends the run, and
-what stood before is written. Standard error says `message N at byte B: refused NAME`, N counted from 1 and B from 0, in
-what packed bytes stand for; of a file it begins with `FILE: `.
+Before the program waits for more input, it writes all answers that it has. It ends at the first
+message that is refused; the answers before it are written. Standard error then says
+`capnp_canon: message N at byte B: refused NAME`. N counts from 1 and B from 0; in packed input, B
+is a position in the unpacked stream. If files are named, `FILE: ` comes before `message`.
 
-Status: 0; 1 where `check` said no of a message; 2 for a refusal, for other arguments, or where a device failed.";
+Exit status: 0 if every message is answered and, with check, canonical; 1 if check found one that
+isn't; 2 if a message is refused, a file can't be opened, the arguments are wrong, or reading or
+writing failed.";

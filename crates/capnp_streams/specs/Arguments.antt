@@ -1,50 +1,104 @@
--- The arguments after the program's name. One names a command; options come before or after it, in
--- any order; files come after all of these.
-use Rattle.std.specs.Prelude.{◌≡◌, ◌⊎◌, ℕ, ℤ, ◌<◌, ◌==◌, nat_lt, pos, List, [], ◌∷◌, length, codes, Option, Some, None}
-use Rattle.std.specs.Prelude.{Bool, true, false, not, ◌&&◌, ◌||◌, is_some, MatchOption, if◌then◌else◌}
-use Rattle.std.specs.Option.{option_map}
+-- The arguments after the program's name, and what they request. Options and files may come in any
+-- order, but the command comes before the files.
+use Rattle.std.specs.Prelude.{ℕ, ℤ, ◌+◌, ◌^◌, ◌==◌, nat_lt, pos, neg_ℤ, List, [], ◌∷◌, length, drop, codes, find}
+use Rattle.std.specs.Prelude.{Option, Some, None, Result, Ok, Err, Bool, true, false, not, ◌&&◌, ◌||◌, if◌then◌else◌}
+use Rattle.std.specs.Int.Signed.{mag}
 use Rattle.std.specs.List.{after_first, before_first, position_or_len}
-use Rattle.std.specs.Str.Parse.{starts_with_minus}
-use Rattle.capnp_messages.specs.Text.{IsBudget, IsNesting}
+use Rattle.std.specs.Option.{option_map, option_or}
+use Rattle.std.specs.Str.{all_ascii_digits, bytes_eq}
+use Rattle.std.specs.Str.Parse.{digits_value, starts_with_minus}
 use Rattle.capnp_messages.specs.declared.messages.command.Command.{Command}
 use Rattle.capnp_messages.specs.declared.messages.command.Command.TheVariants.{Canon, Check, Size}
 use Rattle.capnp_messages.specs.declared.messages.command.Form.TheVariants.{Framed, Flat}
+use Rattle.capnp_streams.specs.declared.streams.arguments.ArgumentFault.{ArgumentFault}
+use Rattle.capnp_streams.specs.declared.streams.arguments.ArgumentFault.TheVariants.{MissingCommand, UnknownCommand, UnknownOption}
+use Rattle.capnp_streams.specs.declared.streams.arguments.ArgumentFault.TheVariants.{MissingValue, InvalidValue, InvalidSetting, UnwantedValue}
+use Rattle.capnp_streams.specs.declared.streams.arguments.ArgumentFault.TheVariants.{NotOfCommand, Excluded}
+use Rattle.capnp_streams.specs.declared.streams.arguments.Line.{Line}
+use Rattle.capnp_streams.specs.declared.streams.arguments.OptionName.{OptionName}
+use Rattle.capnp_streams.specs.declared.streams.arguments.OptionName.TheVariants.{Help, HelpLetter, Version, VersionLetter, End}
+use Rattle.capnp_streams.specs.declared.streams.arguments.OptionName.TheVariants.{Packed, Pack, Flat as FlatName, FromFlat, Hex, Quiet, Nesting, Words}
+use Rattle.capnp_streams.specs.declared.streams.arguments.Setting.{Setting}
+use Rattle.capnp_streams.specs.declared.streams.arguments.Setting.TheVariants.{Nesting as SetNesting, Words as SetWords}
+use Rattle.capnp_streams.specs.declared.streams.arguments.ArgumentStep.{ArgumentStep}
+use Rattle.capnp_streams.specs.declared.streams.arguments.ArgumentStep.TheVariants.{Goes, File, Stops}
+use Rattle.capnp_streams.specs.declared.streams.arguments.Verb.{Verb}
+use Rattle.capnp_streams.specs.declared.streams.arguments.Verb.TheVariants.{Canon as ToCanon, Check as ToCheck, Size as ToSize}
 use Rattle.capnp_streams.specs.declared.streams.task.Request.{Request}
 use Rattle.capnp_streams.specs.declared.streams.task.Request.TheVariants.{Help as AskHelp, Version as AskVersion, Run}
 use Rattle.capnp_streams.specs.declared.streams.task.Task.{Task}
-use Rattle.capnp_streams.specs.declared.streams.words.Line.{Line}
-use Rattle.capnp_streams.specs.declared.streams.words.Setting.{Setting}
-use Rattle.capnp_streams.specs.declared.streams.words.Setting.TheVariants.{Nesting as SetNesting, Words as SetWords}
-use Rattle.capnp_streams.specs.declared.streams.words.Verb.{Verb}
-use Rattle.capnp_streams.specs.declared.streams.words.Verb.TheVariants.{Canon as ToCanon, Check as ToCheck, Size as ToSize}
-use Rattle.capnp_streams.specs.declared.streams.words.Word.{Word}
-use Rattle.capnp_streams.specs.declared.streams.words.Word.TheVariants.{Help, HelpLetter, Version, VersionLetter, End}
-use Rattle.capnp_streams.specs.declared.streams.words.Word.TheVariants.{Canon as WordCanon, Check as WordCheck, Size as WordSize}
-use Rattle.capnp_streams.specs.declared.streams.words.Word.TheVariants.{Packed, Pack, Flat as WordFlat, FromFlat, Hex, Quiet, Nesting, Words}
+use Rattle.capnp_streams.specs.declared.streams.task.WrongArgument.{WrongArgument}
 
--- The text of an argument that has a meaning by itself.
-abbrev pub text_of_word : Word → List ℕ
-text_of_word Help = codes "--help"
-text_of_word HelpLetter = codes "-h"
-text_of_word Version = codes "--version"
-text_of_word VersionLetter = codes "-V"
-text_of_word End = codes "--"
-text_of_word WordCanon = codes "canon"
-text_of_word WordCheck = codes "check"
-text_of_word WordSize = codes "size"
-text_of_word Packed = codes "--packed"
-text_of_word Pack = codes "--pack"
-text_of_word WordFlat = codes "--flat"
-text_of_word FromFlat = codes "--from-flat"
-text_of_word Hex = codes "--hex"
-text_of_word Quiet = codes "--quiet"
-text_of_word Nesting = codes "--nesting"
-text_of_word Words = codes "--words"
+-- The text of an option.
+abbrev pub option_text : OptionName → List ℕ
+option_text Help = codes "--help"
+option_text HelpLetter = codes "-h"
+option_text Version = codes "--version"
+option_text VersionLetter = codes "-V"
+option_text End = codes "--"
+option_text Packed = codes "--packed"
+option_text Pack = codes "--pack"
+option_text FlatName = codes "--flat"
+option_text FromFlat = codes "--from-flat"
+option_text Hex = codes "--hex"
+option_text Quiet = codes "--quiet"
+option_text Nesting = codes "--nesting"
+option_text Words = codes "--words"
 
--- The name of an option with a value.
+abbrev pub all_options : List OptionName
+all_options =
+    Help ∷ HelpLetter ∷ Version ∷ VersionLetter ∷ End ∷ Packed ∷ Pack ∷ FlatName ∷ FromFlat ∷ Hex ∷ Quiet ∷ Nesting ∷ Words ∷ []
+
+-- The option among `options` that has this text.
+abbrev pub option_among : List OptionName → List ℕ → Option OptionName
+option_among options text = find (λ option. bytes_eq (option_text option) text) options
+
+-- The option that has this text.
+abbrev pub option_named : List ℕ → Option OptionName
+option_named text = option_among all_options text
+
+-- The text of a command.
+abbrev pub verb_text : Verb → List ℕ
+verb_text ToCanon = codes "canon"
+verb_text ToCheck = codes "check"
+verb_text ToSize = codes "size"
+
+-- The command that has this text.
+abbrev pub verb_named : List ℕ → Option Verb
+verb_named text =
+    if bytes_eq text (verb_text ToCanon) then Some ToCanon else
+    if bytes_eq text (verb_text ToCheck) then Some ToCheck else
+    if bytes_eq text (verb_text ToSize) then Some ToSize else None
+
+-- The text of an option with a value.
 abbrev pub setting_text : Setting → List ℕ
-setting_text SetNesting = codes "--nesting"
-setting_text SetWords = codes "--words"
+setting_text SetNesting = option_text Nesting
+setting_text SetWords = option_text Words
+
+-- Whether a text is one or more decimal digits.
+abbrev pub is_numeral : List ℕ → Bool
+is_numeral text = nat_lt 0 (length text) && all_ascii_digits text
+
+-- What follows an optional `-`, and the number that both write.
+abbrev pub unsigned_text : List ℕ → List ℕ
+unsigned_text text = if starts_with_minus text then drop 1 text else text
+
+abbrev pub signed_value : List ℕ → ℤ
+signed_value text =
+    let value = pos (digits_value 10 (unsigned_text text)) in
+    if starts_with_minus text then neg_ℤ value else value
+
+-- The nesting limit that a text writes: an optional `-` and decimal digits, with a value of i32.
+abbrev pub nesting_of : List ℕ → Option ℤ
+nesting_of text =
+    if is_numeral (unsigned_text text) && nat_lt (mag (signed_value text)) (2 ^ 31) then Some (signed_value text) else None
+
+-- The traversal limit in words that a text writes: decimal digits with a value below 2^64, or the
+-- word `none` for no limit.
+abbrev pub budget_of : List ℕ → Option (Option ℕ)
+budget_of text =
+    if bytes_eq text (codes "none") then Some None else
+    if is_numeral text && nat_lt (digits_value 10 text) (2 ^ 64) then Some (Some (digits_value 10 text)) else None
 
 -- No arguments yet: a nesting limit of 64, and a traversal limit of 8,388,608 words.
 abbrev pub plain_line : Line
@@ -58,17 +112,10 @@ plain_line = record {
   hex = false;
   quiet = false;
   expects = None;
+  ended = false;
 }
 
--- Only `canon` has options for what it writes, and only `check` has one for writing nothing;
--- `--flat` is for all three.
-abbrev pub verb_allows : Option Verb → Bool → Bool → Bool → Bool
-verb_allows None pack hex quiet = true
-verb_allows (Some ToCanon) pack hex quiet = not quiet
-verb_allows (Some ToCheck) pack hex quiet = not pack && not hex
-verb_allows (Some ToSize) pack hex quiet = not pack && not hex && not quiet
-
--- Whether the input is one message's bare words: `--from-flat` says so, and for `check` and `size`
+-- Whether the input is one message's raw words: `--from-flat` says so, and for `check` and `size`
 -- also `--flat`.
 abbrev pub verb_reads_flat : Option Verb → Bool → Bool → Bool
 verb_reads_flat None flat from_flat = from_flat
@@ -79,131 +126,179 @@ verb_reads_flat (Some ToSize) flat from_flat = flat || from_flat
 abbrev pub line_reads_flat : Line → Bool
 line_reads_flat line = verb_reads_flat line.verb line.flat line.from_flat
 
--- Hex digits are written neither as bare words nor packed, and bare words aren't unpacked.
-abbrev pub options_agree : Line → Bool
-options_agree line =
-    not (line.hex && (line.flat || line.pack)) && (not line.unpack || not (line_reads_flat line))
+-- An option of the line that its command doesn't have. Only `canon` has options for what it writes,
+-- and only `check` has one for writing nothing; `--flat` is for all three.
+abbrev pub verb_exclusion : Option Verb → Line → Option ArgumentFault
+verb_exclusion None line = None
+verb_exclusion (Some ToCanon) line = if line.quiet then Some (NotOfCommand ToCanon Quiet) else None
+verb_exclusion (Some ToCheck) line =
+    if line.pack then Some (NotOfCommand ToCheck Pack) else
+    if line.hex then Some (NotOfCommand ToCheck Hex) else None
+verb_exclusion (Some ToSize) line =
+    if line.pack then Some (NotOfCommand ToSize Pack) else
+    if line.hex then Some (NotOfCommand ToSize Hex) else
+    if line.quiet then Some (NotOfCommand ToSize Quiet) else None
 
-abbrev pub line_is_allowed : Line → Bool
-line_is_allowed line = verb_allows line.verb line.pack line.hex line.quiet && options_agree line
+-- Two options of the line that exclude each other: hex digits are written neither as raw words nor
+-- packed, and raw words aren't unpacked.
+abbrev pub form_exclusion : Line → Option ArgumentFault
+form_exclusion line =
+    if line.hex && line.flat then Some (Excluded Hex FlatName) else
+    if line.hex && line.pack then Some (Excluded Hex Pack) else
+    if line.unpack && line.from_flat then Some (Excluded Packed FromFlat) else
+    if line.unpack && line_reads_flat line then Some (Excluded Packed FlatName) else None
 
-abbrev pub line_if_allowed : Line → Option Line
-line_if_allowed line = if line_is_allowed line then Some line else None
+-- Why the arguments of the line don't go together; `None` if they do.
+abbrev pub exclusion_of : Line → Option ArgumentFault
+exclusion_of line = option_or (verb_exclusion line.verb line) (form_exclusion line)
 
--- The line with a command added, if it has none yet.
-abbrev pub line_with_verb : Verb → Line → Option Line
-line_with_verb verb line =
-    if is_some line.verb then None else line_if_allowed (record line { verb = Some verb })
+abbrev pub step_unless : Option ArgumentFault → Line → Result ArgumentStep ArgumentFault
+step_unless None line = Ok (Goes line)
+step_unless (Some fault) line = Err fault
 
--- The line with an argument added that isn't the value of an option.
-abbrev pub line_after : Word → Line → Option Line
-line_after WordCanon line = line_with_verb ToCanon line
-line_after WordCheck line = line_with_verb ToCheck line
-line_after WordSize line = line_with_verb ToSize line
-line_after Packed line = line_if_allowed (record line { unpack = true })
-line_after Pack line = line_if_allowed (record line { pack = true })
-line_after WordFlat line = line_if_allowed (record line { flat = true })
-line_after FromFlat line = line_if_allowed (record line { from_flat = true })
-line_after Hex line = line_if_allowed (record line { hex = true })
-line_after Quiet line = line_if_allowed (record line { quiet = true })
-line_after Nesting line = Some (record line { expects = Some SetNesting })
-line_after Words line = Some (record line { expects = Some SetWords })
-line_after _ line = None
+-- The step to a line, if its arguments go together.
+abbrev pub step_if_allowed : Line → Result ArgumentStep ArgumentFault
+step_if_allowed line = step_unless (exclusion_of line) line
 
--- The value of an option takes one line to another.
-abbrev pub Sets : Setting → List ℕ → Line → Line → Type 0
-Sets SetNesting value from to =
-    (n : ℤ) × IsNesting value n
-    × (to ≡ record from { limits = record from.limits { nesting_limit = n }; expects = None })
-Sets SetWords value from to =
-    (limit : Option ℕ) × IsBudget value limit
-    × (to
-    ≡ record from { limits = record from.limits { traversal_limit_in_words = limit }; expects = None })
+-- The line with the value of an option added, if the text writes one.
+abbrev pub line_with_value : Setting → List ℕ → Line → Option Line
+line_with_value SetNesting text line = option_map (λ n. record line {
+  limits = record line.limits { nesting_limit = n };
+  expects = None;
+}) (nesting_of text)
+line_with_value SetWords text line = option_map (λ n. record line {
+  limits = record line.limits { traversal_limit_in_words = n };
+  expects = None;
+}) (budget_of text)
+
+abbrev pub step_or : ArgumentFault → Option Line → Result ArgumentStep ArgumentFault
+step_or fault None = Err fault
+step_or fault (Some line) = Ok (Goes line)
+
+-- The step of an option without a `=` and a value after it.
+abbrev pub option_step : OptionName → Line → Result ArgumentStep ArgumentFault
+option_step Help line = Ok (Stops AskHelp)
+option_step HelpLetter line = Ok (Stops AskHelp)
+option_step Version line = Ok (Stops AskVersion)
+option_step VersionLetter line = Ok (Stops AskVersion)
+option_step End line = Ok (Goes (record line { ended = true }))
+option_step Packed line = step_if_allowed (record line { unpack = true })
+option_step Pack line = step_if_allowed (record line { pack = true })
+option_step FlatName line = step_if_allowed (record line { flat = true })
+option_step FromFlat line = step_if_allowed (record line { from_flat = true })
+option_step Hex line = step_if_allowed (record line { hex = true })
+option_step Quiet line = step_if_allowed (record line { quiet = true })
+option_step Nesting line = Ok (Goes (record line { expects = Some SetNesting }))
+option_step Words line = Ok (Goes (record line { expects = Some SetWords }))
+
+-- The step of an option with a `=` and a value after it.
+abbrev pub assigned_step : Option OptionName → List ℕ → Line → Result ArgumentStep ArgumentFault
+assigned_step None value line = Err UnknownOption
+assigned_step (Some Nesting) value line = step_or (InvalidSetting SetNesting) (line_with_value SetNesting value line)
+assigned_step (Some Words) value line = step_or (InvalidSetting SetWords) (line_with_value SetWords value line)
+assigned_step (Some option) value line = Err (UnwantedValue option)
 
 -- Whether a byte separates an option from its value.
 abbrev pub is_equals : ℕ → Bool
 is_equals b = b == 61
 
--- An argument takes one line to another: it has a meaning by itself, or is an option and its value,
--- separated by `=`.
-abbrev pub MakesLineAlone : List ℕ → Line → Line → Type 0
-MakesLineAlone text from to =
-    ((word : Word) × (text_of_word word ≡ text) × (line_after word from ≡ Some to))
-    ⊎ ((setting : Setting) × (position_or_len is_equals text < length text)
-    × (setting_text setting ≡ before_first is_equals text)
-    × Sets setting (after_first is_equals text) from to)
+-- The step of a text that isn't an option by itself.
+abbrev pub parted_step : List ℕ → Line → Result ArgumentStep ArgumentFault
+parted_step text line =
+    if nat_lt (position_or_len is_equals text) (length text)
+    then assigned_step (option_named (before_first is_equals text)) (after_first is_equals text) line
+    else Err UnknownOption
 
--- An argument takes one line to another: as the value of the option before it, if that takes one;
--- otherwise by itself.
-abbrev pub MakesLine : List ℕ → Line → Line → Type 0
-MakesLine text from to =
-    MatchOption from.expects (MakesLineAlone text from to) (λ option. Sets option text from to)
+abbrev pub named_step : Option OptionName → List ℕ → Line → Result ArgumentStep ArgumentFault
+named_step (Some option) text line = option_step option line
+named_step None text line = parted_step text line
 
--- The command, with canonical words bare if `flat` is set.
+abbrev pub command_step : Option Verb → Line → Result ArgumentStep ArgumentFault
+command_step None line = Err UnknownCommand
+command_step (Some verb) line = step_if_allowed (record line { verb = Some verb })
+
+-- The step of an argument that is neither an option nor the value of one: the command, if there is
+-- none yet, and otherwise a file.
+abbrev pub operand_step : Option Verb → List ℕ → Line → Result ArgumentStep ArgumentFault
+operand_step None text line = command_step (verb_named text) line
+operand_step (Some verb) text line = Ok File
+
+-- Whether a text has the form of an option: a `-` and more after it. All others can be files; `-`
+-- is standard input.
+abbrev pub has_option_form : List ℕ → Bool
+has_option_form text = starts_with_minus text && nat_lt 1 (length text)
+
+abbrev pub step_by : Option Setting → List ℕ → Line → Result ArgumentStep ArgumentFault
+step_by (Some setting) text line = step_or (InvalidValue setting) (line_with_value setting text line)
+step_by None text line =
+    if has_option_form text && not line.ended
+    then named_step (option_named text) text line
+    else operand_step line.verb text line
+
+-- What an argument adds to a line: the value of the option before it, if that waits for one;
+-- otherwise an option, unless a `--` came before; otherwise the command or a file.
+abbrev pub argument_step : List ℕ → Line → Result ArgumentStep ArgumentFault
+argument_step text line = step_by line.expects text line
+
+-- The command, with raw canonical words if `flat` is set.
 abbrev pub command_of : Verb → Bool → Command
 command_of ToCanon flat = Canon (if flat then Flat else Framed)
 command_of ToCheck flat = Check
 command_of ToSize flat = Size
 
--- The task that a complete line requests.
-abbrev pub task_of_line : Line → Option Task
-task_of_line line =
-    if is_some line.expects then None else option_map (λ verb. record {
-      command = command_of verb line.flat;
-      limits = line.limits;
-      unpack = line.unpack;
-      from_flat = line_reads_flat line;
-      pack = line.pack;
-      hex = line.hex;
-      quiet = line.quiet;
-    }) line.verb
+-- The task that a line with this command requests.
+abbrev pub line_task : Verb → Line → Task
+line_task verb line = record {
+  command = command_of verb line.flat;
+  limits = line.limits;
+  unpack = line.unpack;
+  from_flat = line_reads_flat line;
+  pack = line.pack;
+  hex = line.hex;
+  quiet = line.quiet;
+}
 
--- What an argument requests that ends the options, with `behind` more arguments after it; after
--- `--` these are files.
-abbrev pub request_of_word : Word → ℕ → Line → Option Request
-request_of_word Help behind line = Some AskHelp
-request_of_word HelpLetter behind line = Some AskHelp
-request_of_word Version behind line = Some AskVersion
-request_of_word VersionLetter behind line = Some AskVersion
-request_of_word End behind line = option_map (λ task. Run task behind) (task_of_line line)
-request_of_word _ behind line = None
+abbrev pub end_by : Option Setting → Option Verb → Line → Result Request ArgumentFault
+end_by (Some setting) verb line = Err (MissingValue setting)
+end_by None None line = Err MissingCommand
+end_by None (Some verb) line = Ok (Run (line_task verb line))
 
--- An argument that isn't the value of an option ends the line, with `behind` more after it, and
--- requests this.
-abbrev pub Stops : Line → ℕ → List ℕ → Request → Type 0
-Stops from behind text r =
-    (from.expects ≡ None)
-    × ((word : Word) × (text_of_word word ≡ text) × (request_of_word word behind from ≡ Some r))
+-- What a line requests if no argument follows.
+abbrev pub end_of : Line → Result Request ArgumentFault
+end_of line = end_by line.expects line.verb line
 
--- Whether a text has the form of an option: a `-` and more after it. All others can be files; `-`
--- is standard input.
-abbrev pub is_option : List ℕ → Bool
-is_option text = starts_with_minus text && nat_lt 1 (length text)
+abbrev pub located : ℕ → Result Request ArgumentFault → Result Request WrongArgument
+located at (Ok r) = Ok r
+located at (Err fault) = Err (record { at = at; fault = fault })
 
-abbrev pub are_files : List (List ℕ) → Bool
-are_files [] = true
-are_files (text ∷ more) = not (is_option text) && are_files more
+abbrev pub request_after : Result ArgumentStep ArgumentFault → Line → ℕ → (Line → Result Request WrongArgument) → Result Request WrongArgument
+request_after (Ok (Goes next)) line at rest = rest next
+request_after (Ok File) line at rest = rest line
+request_after (Ok (Stops r)) line at rest = Ok r
+request_after (Err fault) line at rest = Err (record { at = at; fault = fault })
 
--- Whether a text is the first file after a line: that has its command, and waits for no value.
-abbrev pub is_first_file : Line → List ℕ → Bool
-is_first_file from text = is_some from.verb && not (is_some from.expects) && not (is_option text)
+-- What arguments request after `at` others that made the line: a request, or the first argument
+-- that can't follow those before it and what is wrong with it, or what is missing at the end.
+abbrev pub request_from : Line → ℕ → List (List ℕ) → Result Request WrongArgument
+request_from line at [] = located at (end_of line)
+request_from line at (text ∷ more) =
+    request_after (argument_step text line) line at (λ next. request_from next (at + 1) more)
 
--- After the arguments that made the line `from`, all others, `files`, are files, and together they
--- request r.
-abbrev pub AsksForFiles : Line → List (List ℕ) → Request → Type 0
-AsksForFiles from files r =
-    (are_files files ≡ true)
-    × (option_map (λ task. Run task (length files)) (task_of_line from) ≡ Some r)
+-- What the arguments request.
+abbrev pub request_of : List (List ℕ) → Result Request WrongArgument
+request_of texts = request_from plain_line 0 texts
 
--- After the arguments that made the line `from`, the others complete it to the request r. From the
--- first file on all are files.
-abbrev pub AsksForBehind : Line → List (List ℕ) → Request → Type 0
-AsksForBehind from [] r = AsksForFiles from [] r
-AsksForBehind from (text ∷ more) r =
-    ((is_first_file from text ≡ true) × AsksForFiles from (text ∷ more) r)
-    ⊎ ((is_first_file from text ≡ false)
-    × (Stops from (length more) text r
-    ⊎ ((next : Line) × MakesLine text from next × AsksForBehind next more r)))
+abbrev pub files_after : Result ArgumentStep ArgumentFault → List ℕ → Line → (Line → List (List ℕ)) → List (List ℕ)
+files_after (Ok (Goes next)) text line rest = rest next
+files_after (Ok File) text line rest = text ∷ rest line
+files_after (Ok (Stops r)) text line rest = []
+files_after (Err fault) text line rest = []
 
-abbrev pub AsksFor : List (List ℕ) → Request → Type 0
-AsksFor words r = AsksForBehind plain_line words r
+-- The files among arguments after others that made the line.
+abbrev pub files_from : Line → List (List ℕ) → List (List ℕ)
+files_from line [] = []
+files_from line (text ∷ more) = files_after (argument_step text line) text line (λ next. files_from next more)
+
+-- The files among the arguments, in order.
+abbrev pub files_of : List (List ℕ) → List (List ℕ)
+files_of texts = files_from plain_line texts

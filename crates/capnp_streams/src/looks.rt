@@ -1,6 +1,6 @@
 //! What an input looks like whose first message can't be answered: a guess from its first bytes,
 //! for a message to the user.
-ghost use Rattle.std.specs.Prelude.{◌<◌, ◌^◌, IfSome};
+ghost use Rattle.std.specs.Prelude.{◌<◌, ◌≤◌, ◌^◌, IfSome};
 
 use crate::streams::{Fault, Task};
 use capnp_framing::devices::{Input, MemoryInput};
@@ -9,6 +9,9 @@ use capnp_packing::packing::UnpackingInput;
 use capnp_words::error::ErrorKind;
 use capnp_words::wire_pointer::{ElementSize, WirePointer, WirePointerKind, data_bits_per_element};
 use capnp_words::words::word_at;
+
+/// The most segments of a frame.
+const MOST_SEGMENTS: u32 = 512;
 
 /// What an input looks like.
 #[derive(Clone, Copy, Debug, PartialEq, Eq)]
@@ -24,8 +27,8 @@ pub enum Looks {
     Frames,
     /// A packed stream of frames ("Packing").
     PackedFrames,
-    /// The bare words of one message.
-    BareWords,
+    /// The raw words of one message: its words without a frame's table.
+    RawWords,
 }
 
 impl Looks {
@@ -38,9 +41,9 @@ impl Looks {
             Looks::Xz => "xz",
             Looks::Zip => "a zip archive",
             Looks::Text => "text",
-            Looks::Frames => "frames that are neither packed nor bare words",
+            Looks::Frames => "frames that are neither packed nor raw words",
             Looks::PackedFrames => "packed messages, which --packed reads",
-            Looks::BareWords => "bare words, which --from-flat reads",
+            Looks::RawWords => "raw words, which --from-flat reads",
         }
     }
 }
@@ -98,77 +101,73 @@ fn is_text(byte: u8) -> bool {
     matches!(byte, b'\t' | b'\n' | b'\r' | b' '..=b'~')
 }
 
-/// What an input that should be frames looks like instead.
+/// What an input that should be frames looks like instead. There is no guess for bytes that may
+/// begin a frame, which is then cut short or longer than the limit.
 fn unlike_frames(first: &[u8], given: u64) -> Option<Looks> {
-    let words = given / 8;
-    if begins_in_order(first, words) {
-        return Some(Looks::BareWords);
-    }
-    if begins_with_frame(first) {
+    if may_begin_frame(first) {
         return None;
     }
     if begins_with_packed_frame(first) {
         return Some(Looks::PackedFrames);
     }
-    if leads_within(word(first, 0)?, words) {
-        return Some(Looks::BareWords);
+    if leads_within(word(first, 0)?, given / 8) {
+        return Some(Looks::RawWords);
     }
     None
 }
 
 /// What an input that should be packed looks like instead.
 fn unlike_packed(first: &[u8]) -> Option<Looks> {
-    if begins_with_frame(first) && !begins_with_packed_frame(first) {
+    if begins_with_frame(first) && !may_begin_packed_frame(first) {
         return Some(Looks::Frames);
     }
     None
 }
 
-/// What an input that should be bare words looks like instead.
+/// What an input that should be raw words looks like instead.
 fn unlike_words(first: &[u8]) -> Option<Looks> {
     if begins_with_frame(first) {
         return Some(Looks::Frames);
     }
-    if begins_with_packed_frame(first) {
+    if !may_begin_frame(first) && begins_with_packed_frame(first) {
         return Some(Looks::PackedFrames);
     }
     None
 }
 
-/// Whether `first` begins with a root struct that has only pointers, and whose first pointer leads
-/// to the word after the struct, inside `words` words. The table of a frame looks like this only if
-/// the frame has 65,536 words or more.
-fn begins_in_order(first: &[u8], words: u64) -> bool {
-    let (Some(root), Some(pointer)) = (word(first, 0), word(first, 1)) else {
-        return false;
-    };
-    let size = WirePointer(root).struct_size();
-    if size.data_words != 0 || size.pointers == 0 || !leads_within(root, words) {
-        return false;
-    }
-    WirePointer(pointer).target(1, short(words)) == Some(1 + size.total())
-}
-
-/// Whether `first` may begin a packed stream of frames.
+/// Whether `first` looks like the beginning of a packed stream of frames.
 fn begins_with_packed_frame(first: &[u8]) -> bool {
     let mut unpacked = [0; 32];
+    let count = unpack(first, &mut unpacked);
+    begins_with_frame(&unpacked[..count])
+}
+
+/// Whether a packed stream of frames may begin with `first`.
+fn may_begin_packed_frame(first: &[u8]) -> bool {
+    let mut unpacked = [0; 32];
+    let count = unpack(first, &mut unpacked);
+    may_begin_frame(&unpacked[..count])
+}
+
+/// Unpacks the beginning of a packed stream, and returns the number of bytes; 0 if it isn't known.
+fn unpack(first: &[u8], unpacked: &mut [u8; 32]) -> usize
+    ensures { result ≤ 32 }
+{
     let mut input = UnpackingInput::new(MemoryInput::new(first));
-    match input.read(&mut unpacked) {
-        Ok(n) => begins_with_frame(&unpacked[..n]),
-        Err(_) => false,
+    match input.read(unpacked) {
+        Ok(count) => count,
+        Err(_) => 0,
     }
 }
 
-/// Whether `bytes` may begin with a frame whose root leads to a struct in the first segment, or to
-/// a landing pad in one of several segments, or is null and the only word.
+/// Whether `bytes` look like the beginning of a frame: its root is among them, and leads to a
+/// struct in the first segment, or to a landing pad in one of several segments, or is null and the
+/// only word.
 fn begins_with_frame(bytes: &[u8]) -> bool {
-    let Some(numbers) = word(bytes, 0) else {
+    let Some((segments, words)) = table_of(bytes) else {
         return false;
     };
-    let segments = (numbers & 0xffff_ffff) + 1;
-    let words = numbers >> 32;
-    // The table holds the number of segments and each one's size, two numbers a word.
-    let Some(root) = word(bytes, segments / 2 + 1) else {
+    let Some(root) = root_of(bytes, segments) else {
         return false;
     };
     let pointer = WirePointer(root);
@@ -178,6 +177,48 @@ fn begins_with_frame(bytes: &[u8]) -> bool {
         WirePointerKind::Far => 1 < segments && u64::from(pointer.far_segment_id()) < segments,
         WirePointerKind::List | WirePointerKind::Other => false,
     }
+}
+
+/// Whether a frame may begin with `bytes`. That is so until they show more segments than a frame
+/// has, no words in the first segment, or a root that leads nowhere.
+fn may_begin_frame(bytes: &[u8]) -> bool {
+    if let [a, b, c, d, ..] = bytes {
+        if MOST_SEGMENTS <= u32::from_le_bytes([*a, *b, *c, *d]) {
+            return false;
+        }
+    }
+    let Some((segments, words)) = table_of(bytes) else {
+        return true;
+    };
+    if words == 0 {
+        return false;
+    }
+    let Some(root) = root_of(bytes, segments) else {
+        return true;
+    };
+    let pointer = WirePointer(root);
+    match pointer.kind() {
+        WirePointerKind::Struct if pointer.is_null() => true,
+        WirePointerKind::Struct | WirePointerKind::List => leads_within(root, words),
+        WirePointerKind::Far => u64::from(pointer.far_segment_id()) < segments,
+        WirePointerKind::Other => pointer.is_capability(),
+    }
+}
+
+/// The number of segments, and of words in the first one, if `bytes` begin with a frame's table.
+fn table_of(bytes: &[u8]) -> Option<(u64, u64)>
+    ensures { IfSome result (λ table. table.0 < 2 ^ 33) }
+{
+    let numbers = word(bytes, 0)?;
+    Some(((numbers & 0xffff_ffff) + 1, numbers >> 32))
+}
+
+/// The first word after the table of a frame of `segments` segments, if `bytes` begin with both.
+/// The table holds the number of segments and each one's size, two numbers a word.
+fn root_of(bytes: &[u8], segments: u64) -> Option<u64>
+    requires { segments < 2 ^ 33 }
+{
+    word(bytes, segments / 2 + 1)
 }
 
 /// Word `at` of `bytes`, if it is whole.

@@ -1,17 +1,18 @@
 //! Does a task with each message of a stream.
 
 mod answers;
+mod arguments;
 mod fault;
 mod flat;
 mod packed;
 mod runs;
 mod task;
-mod words;
 mod writing;
 
+pub use arguments::{ArgumentFault, OptionName, Setting, Verb};
 pub use capnp_messages::messages::{Command, Form};
 pub use fault::Fault;
 pub use flat::{run_flat, run_flat_with};
 pub use packed::{run_packed, run_packed_with};
 pub use runs::{Stop, Summary, run, run_with};
-pub use task::{Request, Task, parse_args};
+pub use task::{Request, Task, WrongArgument, named_files, parse_args};

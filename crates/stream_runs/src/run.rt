@@ -54,9 +54,11 @@ fn read_line(alloc: Global, line: &str) -> Result<Option<Run>, AllocError> {
 
 /// What the arguments ask for.
 fn read_task(alloc: Global, text: &str) -> Result<Option<Task>, AllocError> {
-    let words = arguments(alloc, text)?;
-    Ok(match streams::parse_args(words.as_slice()) {
-        Ok(Request::Run(task, 0)) if !task.from_flat => Some(task),
+    let args = arguments(alloc, text)?;
+    let args = args.as_slice();
+    let files = streams::named_files(alloc, args)?;
+    Ok(match streams::parse_args(args) {
+        Ok(Request::Run(task)) if files.is_empty() && !task.from_flat => Some(task),
         _ => None,
     })
 }
