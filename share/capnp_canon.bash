@@ -1,6 +1,6 @@
 # Completion of capnp_canon for bash: its commands, options and files. tests/completion.py compares it with `--help`.
 _capnp_canon() {
-    local word=${COMP_WORDS[COMP_CWORD]} before=${COMP_WORDS[COMP_CWORD - 1]} command='' at
+    local word=${COMP_WORDS[COMP_CWORD]} before=${COMP_WORDS[COMP_CWORD - 1]} command='' ended='' at
     COMPREPLY=()
     case $before in
     --nesting) return ;;
@@ -8,7 +8,8 @@ _capnp_canon() {
     esac
     for ((at = 1; at < COMP_CWORD; at++)); do
         case ${COMP_WORDS[at]} in
-        canon | check | size) command=${COMP_WORDS[at]} && break ;;
+        canon | check | size) command=${command:-${COMP_WORDS[at]}} ;;
+        --) ended=yes ;;
         esac
     done
     local options='--packed --from-flat --nesting --words --help --version'
@@ -18,7 +19,7 @@ _capnp_canon() {
     size) options="--flat $options" ;;
     *) options="--flat --pack --hex --quiet $options" ;;
     esac
-    if [[ $word == -* ]]; then
+    if [[ $word == -* && ! $ended ]]; then
         COMPREPLY=($(compgen -W "$options" -- "$word"))
     elif [[ $command ]]; then
         compopt -o filenames 2>/dev/null
