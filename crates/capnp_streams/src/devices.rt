@@ -1,8 +1,9 @@
 //! A reader as an input that reads ahead, and a writer as an output that flushes later; an output
 //! that drops what it takes, and one that puts a name before each line.
-ghost use Rattle.std.specs.Prelude.{◌≡◌, ◌<◌, ◌≤◌, ◌^◌, ◌-◌, length, false, true, None, Some, IfOk};
+ghost use Rattle.std.specs.Prelude.{◌≡◌, ◌<◌, ◌≤◌, ◌^◌, ◌-◌, length, false, true, None, Some, IfOk, IsErr};
 ghost use Rattle.std.specs.Io.Buffered.{reader_buffer, reader_remaining, writer_buffer, writer_contents};
 ghost use Rattle.capnp_format.specs.Segments.{Segments};
+ghost use Rattle.capnp_framing.specs.Devices.{ReadGives};
 ghost use Rattle.capnp_framing.specs.Flat.{BeginsWithFrame};
 
 use capnp_framing::devices::{DeviceFault, Input, Output, write_all};
@@ -37,7 +38,11 @@ impl<R: Read> Input for BufReaderInput<R> {
 
     ghost ends_whole = { λ _. Some true };
 
-    fn read(&mut self, to: &mut [u8]) -> Result<usize, DeviceFault> {
+    fn read(&mut self, to: &mut [u8]) -> Result<usize, DeviceFault>
+        ensures gives { ReadGives ⟦<Self as Input>⟧ result self.old self.new to.new }
+        ensures stops { self.old.failed ≡ true
+            → IsErr result × (self.new.reader ≡ self.old.reader) }
+    {
         if self.failed {
             return Err(DeviceFault);
         }

@@ -242,6 +242,9 @@ pub(super) fn copy_in_room<A: Allocator, B: ReaderArena>(
     ensures copied { IfOk result (λ fits. OnTrue fits ((t : Tree) × (after : Meter)
         × Reads canonical (reading B.ReaderArena from.entry) (unused left) after t
         × HoldsCanonicalWords (⟦<BuilderArenaImpl<A> as BuilderArena>⟧.view made.new) t)) }
+    ensures asked { IfOk result (λ fits. OnTrue fits (IsTrue
+        ((⟦<BuilderArenaImpl<A> as BuilderArena>⟧.view made.old).offers room
+        ((⟦<BuilderArenaImpl<A> as BuilderArena>⟧.view made.new).room 0)))) }
     ensures small { IfOk result (λ fits. OnFalse fits
         (NeedsMoreRoom (reading B.ReaderArena from.entry) room
         ⊎ ((⟦<BuilderArenaImpl<A> as BuilderArena>⟧.view made.new).refusals

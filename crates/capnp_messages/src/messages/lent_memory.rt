@@ -1,5 +1,5 @@
 //! Memory lent for one segment.
-ghost use Rattle.std.specs.Prelude.{◌++◌, ◌∷◌, [], ◌≡◌, ◌<◌, ◌≤◌, ◌*◌, ◌/◌, ◌==◌, ℕ, length, replicate, false, true, nat_le, ◌&&◌, IsTrue, IsNone, IsSome, IfSome, IsOk, IfOk, OnOk, IfErr, Err};
+ghost use Rattle.std.specs.Prelude.{◌++◌, ◌∷◌, [], ◌≡◌, ◌<◌, ◌≤◌, ◌*◌, ◌/◌, ◌==◌, ℕ, length, replicate, false, true, nat_le, ◌&&◌, IsTrue, IsNone, IsSome, IfSome, IsOk, IfOk, OnOk, OnErr, IfErr, Err};
 ghost use Rattle.std.specs.Option.{option_map_or};
 ghost use Rattle.capnp_words.specs.declared.error.ErrorKind.TheVariants.{AllocationFailed, MessageTooLarge};
 ghost use Rattle.capnp_arena_traits.specs.Allocations.{IsFresh, max_segment_words, one_more, zeros};
@@ -76,11 +76,13 @@ impl<'a> LentMemory<'a> {
         ensures lent { IfSome self.old.memory (λ bytes. 8 * words ≤ bytes → IsSome result) }
         ensures fresh { IfSome result (λ s. s.now ≡ zeros words) }
         ensures refused { self.new.refused ≡ self.old.refused }
+        ensures kept { IsNone result → self.new.memory ≡ self.old.memory }
     {
-        let memory = self.memory.take()?;
+        let memory = self.memory.as_ref()?;
         if memory.len() < 8 * words as usize {
             return None;
         }
+        let memory = self.memory.take()?;
         Some(memory.into_words(words))
     }
 }
@@ -104,7 +106,22 @@ impl<'a> Allocator for LentMemory<'a> {
     ghost grants = { λ a words. nat_le words max_segment_words
         && option_map_or (λ bytes. nat_le (8 * words) bytes) a.memory false };
 
-    fn allocate_segment(&mut self, min_words: u32) -> Result<&'a mut [u8], ErrorKind> {
+    fn allocate_segment(&mut self, min_words: u32) -> Result<&'a mut [u8], ErrorKind>
+        ensures fresh { IfOk result (λ s. IsFresh min_words s.now) }
+        ensures sure { IsTrue (⟦<Self as Allocator>⟧.grants self.old min_words) → IsOk result }
+        ensures size { IfOk result (λ s.
+            IsTrue (⟦<Self as Allocator>⟧.offers self.old min_words (length s.now / 8))) }
+        ensures counted { OnOk result (self.new.refused ≡ self.old.refused) }
+        ensures too_large { max_segment_words < min_words
+            → (result ≡ Err (MessageTooLarge min_words))
+            × (self.new.refused ≡ self.old.refused) }
+        ensures refused { min_words ≤ max_segment_words
+            → IfErr result (λ e. (e ≡ AllocationFailed)
+            × (self.new.refused ≡ one_more self.old.refused)) }
+        ensures offers { ⟦<Self as Allocator>⟧.offers self.new
+            ≡ ⟦<Self as Allocator>⟧.offers self.old }
+        ensures kept { OnErr result (self.new.memory ≡ self.old.memory) }
+    {
         if min_words > MAX_SEGMENT_WORDS {
             return Err(ErrorKind::MessageTooLarge(min_words as usize));
         }

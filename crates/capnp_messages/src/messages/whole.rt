@@ -64,6 +64,9 @@ pub fn canonical_in_room<A: Allocator, S: ReaderSegments>(
     ensures copied { IfOk result (λ fits. OnTrue fits ((t : Tree)
         × IsValueOf (message (⟦<ReaderArenaImpl<S> as ReaderArena>⟧.segments source.now)) limits t
         × HoldsCanonicalWords (⟦<BuilderArenaImpl<A> as BuilderArena>⟧.view made.new) t)) }
+    ensures asked { IfOk result (λ fits. OnTrue fits (IsTrue
+        ((⟦<BuilderArenaImpl<A> as BuilderArena>⟧.view made.old).offers room
+        ((⟦<BuilderArenaImpl<A> as BuilderArena>⟧.view made.new).room 0)))) }
     ensures small { IfOk result (λ fits. OnFalse fits (NeedsMoreRoom (root_within
         (message (⟦<ReaderArenaImpl<S> as ReaderArena>⟧.segments source.now)) limits) room
         ⊎ ((⟦<BuilderArenaImpl<A> as BuilderArena>⟧.view made.new).refusals
