@@ -1,7 +1,7 @@
 -- A call isn't refused if there is an answer, nor for lack of room if the size says that there is
 -- enough.
 use Rattle.std.proofs.Common.{◌≡◌, ◌≢◌, ◌⊎◌, inl, inr, ℕ, zero, suc, ◌+◌, ◌*◌, ◌<◌, ◌≤◌, ◌^◌, List, [], ◌∷◌, All, length, get_or, take, Result, Ok, Err}
-use Rattle.std.proofs.Common.{◌↔◌, Bool, true, false, Option, None, Some, IfSome, IsNone, is_some, not}
+use Rattle.std.proofs.Common.{◌↔◌, Bool, true, false, Option, None, Some, IfNone, IfSome, IsNone, is_some, not}
 use Rattle.std.proofs.Common.{refl, sym, ap, ◌∙◌, subst, arith}
 use Rattle.std.specs.Borrow.{Bor}
 use Rattle.std.proofs.lemmas.Result.{IfOk-weaker}
@@ -21,7 +21,7 @@ use Rattle.capnp_framing.proofs.FrameLemmas.{one_frame_begins}
 use Rattle.capnp_framing.proofs.ReadingLemmas.{frame_is_read}
 use Rattle.capnp_messages.specs.CanonicalMessages.{IsCanonicalMessage}
 use Rattle.capnp_pointers.specs.declared.pointers.canonical_fault.CanonicalFault.{CanonicalFault}
-use Rattle.capnp_messages.specs.Messages.{HasSizeOf, IsFaultOf}
+use Rattle.capnp_messages.specs.Messages.{HasSizeOf, IsCanonicalWithin, IsFaultOf}
 use Rattle.capnp_messages.specs.Commands.{HasAnswerWithin, form_bytes}
 use Rattle.capnp_messages.specs.declared.messages.command.Command.TheVariants.{Canon, Check, Size}
 use Rattle.capnp_messages.specs.declared.messages.command.Form.{Form}
@@ -113,9 +113,9 @@ where_words bytes both (inr (same, p)) (one, q) = both p q
 
 -- what the test of a message finds, and what is reported about it
 pub test_finds : (limits : ReaderOptions) (S : Segments) (o : Option CanonicalFault) →
-    (IsNone o ↔ IsCanonicalMessage S) → IfSome o (IsFaultOf S limits) → TestFinds limits o S
-test_finds limits S None exactly fault = exactly.0 refl
-test_finds limits S (Some f) exactly fault = (λ is. (let wrong : true ≡ false = exactly.1 is in cc), fault)
+    (IsNone o ↔ IsCanonicalMessage S) → IfNone o (IsCanonicalWithin S limits) → IfSome o (IsFaultOf S limits) → TestFinds limits o S
+test_finds limits S None exactly within fault = within
+test_finds limits S (Some f) exactly within fault = (λ is. (let wrong : true ≡ false = exactly.1 is in cc), fault)
 
 pub test_told : (limits : ReaderOptions) (S : Segments) (told : Fault) (o : Option CanonicalFault) (b : Bool) →
     is_some o ≡ not b → IfSome o (λ f. told ≡ told_fault f) → (IsNone o → told ≡ no_fault) →

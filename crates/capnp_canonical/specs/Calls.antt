@@ -16,7 +16,7 @@ use Rattle.capnp_framing.specs.declared.framing.frame_error.FrameError.{FrameErr
 use Rattle.capnp_framing.specs.declared.framing.frame_error.FrameError.TheVariants.{Truncated}
 use Rattle.capnp_messages.specs.CanonicalMessages.{IsCanonicalMessage}
 use Rattle.capnp_pointers.specs.declared.pointers.canonical_fault.CanonicalFault.{CanonicalFault}
-use Rattle.capnp_messages.specs.Messages.{IsFaultOf, IsValueOf}
+use Rattle.capnp_messages.specs.Messages.{IsCanonicalWithin, IsFaultOf, IsValueOf}
 use Rattle.capnp_messages.specs.Commands.{RefusesAnswer, form_bytes}
 use Rattle.capnp_messages.specs.declared.messages.command.Command.{Command}
 use Rattle.capnp_messages.specs.declared.messages.command.Command.TheVariants.{Canon}
@@ -141,13 +141,13 @@ no_fault = record { reason = 0; word = 0; segment = 0 }
 abbrev pub told_fault : CanonicalFault → Fault
 told_fault f = record { reason = reason_number f.reason; word = f.word; segment = f.segment }
 
--- The test of a message finds a fault, or none if the message is canonical.
+-- The test of a message finds a fault, or none if the message is the canonical one of a value within the limits.
 abbrev pub TestFinds : ReaderOptions → Option CanonicalFault → Segments → Type 0
-TestFinds limits None S = IsCanonicalMessage S
+TestFinds limits None S = IsCanonicalWithin S limits
 TestFinds limits (Some f) S = (IsCanonicalMessage S → ⊥) × IsFaultOf S limits f
 
--- Whether a message is canonical, and if not, why and where.
+-- Whether a message is canonical, and if not, why and where. If it is, its value is within the limits.
 abbrev pub TestIs : ReaderOptions → Bool → Fault → Segments → Type 0
-TestIs limits true fault S = IsCanonicalMessage S × (fault ≡ no_fault)
+TestIs limits true fault S = IsCanonicalWithin S limits × (fault ≡ no_fault)
 TestIs limits false fault S =
     (IsCanonicalMessage S → ⊥) × ((f : CanonicalFault) × IsFaultOf S limits f × (fault ≡ told_fault f))

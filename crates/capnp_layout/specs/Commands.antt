@@ -2,6 +2,7 @@
 -- is a segment, or holds a frame.
 use Rattle.std.specs.Prelude.{◌≡◌, ◌⊎◌, ◌↔◌, ℕ, ◌-◌, ◌^◌, ◌≤◌, List, [], ◌∷◌, ◌++◌, Bool, true}
 use Rattle.std.specs.Prelude.{false, IsTrue, codes, length, ⊤}
+use Rattle.std.specs.Bool.{OnTrue}
 use Rattle.hex.specs.Hex.{encode_lower}
 use Rattle.capnp_words.specs.declared.error.ErrorKind.{ErrorKind}
 use Rattle.capnp_words.specs.declared.error.ErrorKind.TheVariants.{MessageTooLarge}
@@ -26,7 +27,8 @@ use Rattle.capnp_layout.specs.declared.tool.refusal.Refusal.TheVariants.{Frame a
 use Rattle.capnp_layout.specs.declared.tool.refusal.Refusal.TheVariants.{NoMessage}
 use Rattle.capnp_messages.specs.declared.messages.command.Form.{Form}
 use Rattle.capnp_messages.specs.declared.messages.command.Form.TheVariants.{Flat, Framed}
-use Rattle.capnp_messages.specs.Messages.{HasCanonicalCopy, HasSizeOf, HasSizeWithin, IsReadable, IsValueOf, RefusesCheck}
+use Rattle.capnp_messages.specs.Messages.{HasCanonicalCopy, HasSizeOf, HasSizeWithin, IsCanonicalWithin, IsReadable}
+use Rattle.capnp_messages.specs.Messages.{IsValueOf, RefusesCheck}
 use Rattle.capnp_layout.specs.Answers.{CheckOf, RefusesMessage}
 use Rattle.capnp_messages.specs.Text.{check_line, size_line}
 use Rattle.capnp_layout.specs.Answers.{digits_of}
@@ -71,9 +73,12 @@ pub record HoldsFrame (lines : List (List ℕ)) (S : Segments) : Type 0 where
   pub only : lines ≡ line ∷ []
   pub begins : BeginsWithFrame line max_frame_words S
 
--- The only line holds the frame of a message, and b is whether that is canonical as a whole.
-abbrev pub TellsCanonical : List (List ℕ) → Bool → Type 0
-TellsCanonical lines b = (S : Segments) × HoldsFrame lines S × (IsTrue b ↔ IsCanonicalMessage S)
+-- The only line holds the frame of a message, and b is whether that is canonical as a whole. If it is, its
+-- value is within the limits of a reader's options.
+abbrev pub TellsCanonical : List (List ℕ) → ReaderOptions → Bool → Type 0
+TellsCanonical lines options b =
+    (S : Segments) × HoldsFrame lines S × (IsTrue b ↔ IsCanonicalMessage S)
+    × OnTrue b (IsCanonicalWithin S options)
 
 -- A command that takes at most one line gets more.
 abbrev pub HasMoreLines : Args → List (List ℕ) → Type 0
@@ -103,7 +108,7 @@ IsAnswer lines Unframe answer = (S : Segments) × HoldsFrame lines S × (answer 
 IsAnswer lines (FramedCanon options) answer =
     (t : Tree) × IsValueOf (message lines) options t × (answer ≡ frame_line (encoding (trim t) ∷ []))
 IsAnswer lines (FramedCheck options) answer =
-    (yes : Bool) × TellsCanonical lines yes × (answer ≡ message_line yes)
+    (yes : Bool) × TellsCanonical lines options yes × (answer ≡ message_line yes)
 
 -- A command has an answer to lines if this holds. `Canon`, `FramedCanon`: there is a canonical
 -- copy. `Check`: there are canonical words. `Size`: there is a size. `Frame`: there are as many

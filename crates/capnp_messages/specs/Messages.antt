@@ -14,7 +14,7 @@ use Rattle.capnp_objects.specs.Source.{levels}
 use Rattle.capnp_pointers.specs.declared.pointers.canonical_fault.CanonicalFault.{CanonicalFault}
 use Rattle.capnp_messages.specs.Roots.{CoversRoot, RefusesRoot, message_root}
 use Rattle.capnp_messages.specs.Copies.{RefusesCopy}
-use Rattle.capnp_messages.specs.CanonicalMessages.{IsMessageFault, RefusesTest}
+use Rattle.capnp_messages.specs.CanonicalMessages.{CanBeTested, IsMessageFault, RefusesTest}
 
 -- The root of S means a value, with or without capabilities, within the nesting limit. The
 -- traversal limit covers what reading it costs, and one word for the root pointer ("Messages",
@@ -40,6 +40,11 @@ pub record IsValueOf (S : Segments) (limits : ReaderOptions) (t : Tree) : Type 0
 abbrev pub HasCanonicalCopy : Segments → ReaderOptions → Type 0
 HasCanonicalCopy S limits =
     (t : Tree) × IsValueOf S limits t × (1 + word_count (trim t) ≤ max_segment_words)
+
+-- S is the canonical message of a value within the limits of a reader's options, which cover one word more
+-- for the root pointer ("Canonicalization", "Security Considerations").
+abbrev pub IsCanonicalWithin : Segments → ReaderOptions → Type 0
+IsCanonicalWithin S limits = CanBeTested S (levels limits.nesting_limit) (unused limits.traversal_limit_in_words)
 
 -- The test of S for canonical form finds the fault f: the reason of f is true of the word that f
 -- names.

@@ -27,7 +27,7 @@ use Rattle.capnp_pointers.specs.Faults.{fault_reason_text}
 use Rattle.capnp_pointers.specs.declared.pointers.canonical_fault.CanonicalFault.{CanonicalFault}
 use Rattle.capnp_messages.specs.Text.{check_line, size_line}
 use Rattle.capnp_messages.specs.CanonicalMessages.{IsCanonicalMessage}
-use Rattle.capnp_messages.specs.Messages.{HasSizeOf, IsFaultOf, IsValueOf}
+use Rattle.capnp_messages.specs.Messages.{HasSizeOf, IsCanonicalWithin, IsFaultOf, IsValueOf}
 use Rattle.capnp_streams.specs.declared.streams.fault.Fault.{Fault}
 use Rattle.capnp_streams.specs.declared.streams.fault.Fault.TheVariants.{Frame, Layout, TooManyMessages}
 use Rattle.capnp_streams.specs.declared.streams.runs.Stop.{Stop}
@@ -68,14 +68,14 @@ written_words true form words = encode_lower (bytes_of_words words) ++ 10 ∷ []
 written_words false form words = form_bytes form words
 
 -- What a command answers to S, with the other settings of a task: `holds` is yes or no, and `bytes`
--- are written. The line about a message that isn't canonical says why: the reason is true of the
--- word that it names.
+-- are written. The value of a message that is said to be canonical is within the limits. The line about
+-- a message that isn't canonical says why: the reason is true of the word that it names.
 abbrev pub AnswerIs : Command → Task → Segments → Bool → List ℕ → Type 0
 AnswerIs (Canon form) task S holds bytes =
     (holds ≡ true)
     × ((t : Tree) × IsValueOf S task.limits t
     × (bytes ≡ written_words task.hex form (encoding (trim t))))
-AnswerIs Check task S true bytes = IsCanonicalMessage S × (bytes ≡ check_line true)
+AnswerIs Check task S true bytes = IsCanonicalWithin S task.limits × (bytes ≡ check_line true)
 AnswerIs Check task S false bytes =
     (IsCanonicalMessage S → ⊥)
     × ((f : CanonicalFault) × IsFaultOf S task.limits f × (bytes ≡ fault_line f))

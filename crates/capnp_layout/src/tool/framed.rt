@@ -43,7 +43,7 @@ fn frame_in(lines: &Message) -> Result<FrameSegments<'_>, Refusal>
 /// Tests whether the message whose frame the only line begins with is canonical as a whole.
 fn is_canonical_frame(lines: &Message, options: ReaderOptions) -> Result<bool, Refusal>
     requires { length (segments_in lines.now) ≤ 1 }
-    ensures tells { IfOk result (TellsCanonical (segments_in lines.now)) }
+    ensures tells { IfOk result (TellsCanonical (segments_in lines.now) options) }
     ensures answered { HasAnswer (segments_in lines.now) (Args.FramedCheck options) → IsOk result }
     ensures refused { IfErr result (WhyRefused (segments_in lines.now) (Args.FramedCheck options)) }
 {

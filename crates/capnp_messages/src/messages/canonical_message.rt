@@ -6,7 +6,7 @@ ghost use Rattle.capnp_objects.specs.Source.{levels};
 ghost use Rattle.capnp_pointers.specs.Pointers.{reading};
 ghost use Rattle.capnp_pointers.specs.declared.pointers.canonical_fault.CanonicalFault.{CanonicalFault};
 ghost use Rattle.capnp_messages.specs.Roots.{CoversRoot, RefusesRoot, message_root};
-ghost use Rattle.capnp_messages.specs.CanonicalMessages.{IsCanonicalMessage, IsMessageFault, IsPaid, AnswersTest};
+ghost use Rattle.capnp_messages.specs.CanonicalMessages.{IsCanonicalMessage, IsMessageFault, IsPaid, IsWithinLevels, AnswersTest};
 
 use super::message_fault::canonical_fault;
 use capnp_arena::arena::{ReaderArena, ReaderArenaImpl, ReaderSegments};
@@ -32,6 +32,9 @@ pub fn is_canonical_message<S: ReaderSegments>(
     ensures paid { result ≡ Ok true →
         IsPaid (message (⟦<ReaderArenaImpl<S> as ReaderArena>⟧.segments arena.now))
         lim.old lim.new }
+    ensures within { result ≡ Ok true →
+        IsWithinLevels (message (⟦<ReaderArenaImpl<S> as ReaderArena>⟧.segments arena.now))
+        (levels arena.now.nesting_limit) }
     ensures answered { AnswersTest result
         (message (⟦<ReaderArenaImpl<S> as ReaderArena>⟧.segments arena.now))
         (levels arena.now.nesting_limit) lim.old lim.new }

@@ -1,6 +1,6 @@
 //! The canonical copy, the test for canonical form, and the size of a whole message, whatever holds
 //! its segments.
-ghost use Rattle.std.specs.Prelude.{◌≡◌, ◌⊎◌, ◌↔◌, ◌≤◌, [], IsOk, IfOk, IfSome, IfErr, IsNone, IsTrue};
+ghost use Rattle.std.specs.Prelude.{◌≡◌, ◌⊎◌, ◌↔◌, ◌≤◌, [], IsOk, IfOk, IfSome, IfNone, IfErr, IsNone, IsTrue};
 ghost use Rattle.std.specs.Bool.{OnFalse, OnTrue};
 ghost use Rattle.capnp_format.specs.Bytes.{message};
 ghost use Rattle.capnp_format.specs.Tree.{Tree};
@@ -9,7 +9,7 @@ ghost use Rattle.capnp_arena_traits.specs.Limits.{IsSmall};
 ghost use Rattle.capnp_messages.specs.Copies.{HoldsCanonicalWords, LacksMemoryOr};
 ghost use Rattle.capnp_messages.specs.CanonicalMessages.{IsCanonicalMessage};
 ghost use Rattle.capnp_messages.specs.Tries.{IsMadeByFirstTry, IsSegmentRoom, NeedsMoreRoom};
-ghost use Rattle.capnp_messages.specs.Messages.{HasSizeOf, HasSizeWithin, IsFaultOf, IsValueOf, RefusesCanon, RefusesCheck, RefusesSize, root_within};
+ghost use Rattle.capnp_messages.specs.Messages.{HasSizeOf, HasSizeWithin, IsCanonicalWithin, IsFaultOf, IsValueOf, RefusesCanon, RefusesCheck, RefusesSize, root_within};
 
 use super::canonical_copy::{copy_canonical_with, copy_in_room};
 use super::message_fault::canonical_fault;
@@ -120,6 +120,8 @@ pub fn canonical_fault_of<S: ReaderSegments + Drop>(
     requires { IsSmall (S.segments segments) }
     ensures exactly { IfOk result (λ o. IsNone o
         ↔ IsCanonicalMessage (message (S.segments segments))) }
+    ensures within { IfOk result (λ o. IfNone o
+        (IsCanonicalWithin (message (S.segments segments)) limits)) }
     ensures fault { IfOk result (λ o. IfSome o (IsFaultOf (message (S.segments segments)) limits)) }
     ensures refused { IfErr result (RefusesCheck (message (S.segments segments)) limits) }
 {
@@ -136,6 +138,8 @@ pub fn is_canonical<S: ReaderSegments + Drop>(
     requires { IsSmall (S.segments segments) }
     ensures exactly { IfOk result (λ holds. IsTrue holds
         ↔ IsCanonicalMessage (message (S.segments segments))) }
+    ensures within { IfOk result (λ holds. OnTrue holds
+        (IsCanonicalWithin (message (S.segments segments)) limits)) }
     ensures refused { IfErr result (RefusesCheck (message (S.segments segments)) limits) }
 {
     let fault = canonical_fault_of(segments, limits)?;

@@ -14,5 +14,5 @@ returns-clause-found c =
     let S : Segments =
     message (parts c.in_ok-segments.segments.count c.in_ok-segments.segments.table.now c.in_ok-segments.segments.words.now) in
     let finds : TestFinds c.options.result found S =
-    test_finds c.options.result S found c.in_ok-canonical_fault_of.ensures.exactly c.in_ok-canonical_fault_of.ensures.fault in
+    test_finds c.options.result S found c.in_ok-canonical_fault_of.ensures.exactly c.in_ok-canonical_fault_of.ensures.within c.in_ok-canonical_fault_of.ensures.fault in
     (S, c.in_ok-segments.ensures.begins, subst (λ (l : ReaderOptions). TestFinds l found S) limits finds)

@@ -10,7 +10,7 @@ returns-clause-found c =
     let found = c.in_ok-canonical_fault_of.field-0 in
     let limits : c.options.result ≡ limits_of c.args.limits.nesting c.args.limits.words = c.options.ensures in
     let finds =
-    test_finds c.options.result _ found c.in_ok-canonical_fault_of.ensures.exactly c.in_ok-canonical_fault_of.ensures.fault in
+    test_finds c.options.result _ found c.in_ok-canonical_fault_of.ensures.exactly c.in_ok-canonical_fault_of.ensures.within c.in_ok-canonical_fault_of.ensures.fault in
     let given : List (List ℕ) = c.args.words.now ∷ [] in
     let there = subst (λ (B : List (List ℕ)). TestFinds c.options.result found (message B)) c.in_ok-message.ensures.segments finds in (
       c.in_ok-message.ensures.whole,
