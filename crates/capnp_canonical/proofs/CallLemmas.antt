@@ -12,6 +12,7 @@ use Rattle.capnp_format.proofs.Bounds.{means_value}
 use Rattle.capnp_format.proofs.Lengths.{length-body}
 use Rattle.capnp_format.proofs.Trimmed.{trim-value}
 use Rattle.capnp_format.proofs.Trimming.{trim-words}
+use Rattle.capnp_arena_traits.specs.Allocations.{max_segment_words}
 use Rattle.capnp_arena_traits.specs.Limits.{AreSmall}
 use Rattle.capnp_arena.specs.declared.arena.reader_arena_impl.ReaderOptions.{ReaderOptions}
 use Rattle.capnp_framing.specs.Flat.{BeginsWithFrame}
@@ -132,6 +133,11 @@ room_granted form limits room S (inl (k, named, refused)) can =
     inr (inr (ap answer_number (named ∙ ap Layout (answer_refused (Canon form) limits S can refused))))
 room_granted form limits room S (inr (bytes, copy, named, less)) can = inr (inl (ap answer_number named))
 
+-- words of this many bytes fit a segment of a copy
+pub fit_segment : {bytes : List ℕ} (words : List ℕ) → bytes ≡ bytes_of_words words → length bytes ≤ 8 * max_segment_words →
+    length words ≤ max_segment_words
+fit_segment words is short = omega (arith, ap length is, length-bytes words, short)
+
 -- and not for lack of room if the size says that there is enough
 pub copy_bytes : (form : Form) (words : List ℕ) → length (form_bytes form words) ≡ table_bytes form + 8 * length words
 copy_bytes Framed words = omega (arith, length_frame words (bytes_of_words words) refl, length-bytes words)
@@ -139,7 +145,7 @@ copy_bytes Flat words = omega (arith, length-bytes words)
 
 copy_within : (form : Form) (limits : ReaderOptions) (n caps : ℕ) {bytes : List ℕ} (S : Segments) → AreWords S →
     IsCopyOf form limits S bytes → HasSizeOf S limits n caps → length bytes ≤ table_bytes form + 8 + 8 * n
-copy_within form limits n caps S words (t, value, is) size =
+copy_within form limits n caps S words (t, value, few, is) size =
     let v : IsValue t = means_value S _ 0 0 t value.cost words value.means in
     let counted : n ≡ word_count t = (size.of_value t _ value.cost value.means).0 in
     let shorter : word_count (trim t) ≤ word_count t = trim-words t v in

@@ -8,6 +8,7 @@ use Rattle.capnp_format.specs.Bytes.{message}
 use Rattle.capnp_format.specs.Canonical.{encoding, trim}
 use Rattle.capnp_format.specs.Segments.{Segments}
 use Rattle.capnp_format.specs.Tree.{Tree}
+use Rattle.capnp_arena_traits.specs.Allocations.{max_segment_words}
 use Rattle.capnp_arena_traits.specs.Limits.{AreSmall}
 use Rattle.capnp_arena.specs.declared.arena.reader_arena_impl.ReaderOptions.{ReaderOptions}
 use Rattle.capnp_framing.specs.Flat.{BeginsWithFrame}
@@ -88,10 +89,11 @@ RefusesPacked packed room r =
     ⊎ ((r ≡ NoRoom size) × IsWhole Tag packed × (room < size))
     ⊎ ((r ≡ NoRoom (2 ^ 64 - 1)) × (2 ^ 64 ≤ size))
 
--- The canonical bytes of a message, in this form.
+-- The canonical bytes of a message, in this form: of at most as many words as a segment of a copy can have.
 abbrev pub IsCopyOf : Form → ReaderOptions → Segments → List ℕ → Type 0
 IsCopyOf form limits S bytes =
-    (t : Tree) × IsValueOf S limits t × (bytes ≡ form_bytes form (encoding (trim t)))
+    (t : Tree) × IsValueOf S limits t × (length (encoding (trim t)) ≤ max_segment_words)
+    × (bytes ≡ form_bytes form (encoding (trim t)))
 
 -- A command is refused for what the message means.
 abbrev pub RefusesMeaning : Command → ReaderOptions → Segments → Refusal → Type 0

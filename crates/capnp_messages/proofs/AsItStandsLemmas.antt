@@ -1,10 +1,11 @@
 -- A message that is canonical as a whole is its own canonical copy.
-use Rattle.std.proofs.Common.{◌≡◌, slice_get, ℕ, ℤ, ◌+◌, ◌≤◌, List, [], ◌∷◌, length, Option, Some, None, sym, ap, ◌∙◌, subst, arith}
+use Rattle.std.proofs.Common.{◌≡◌, slice_get, ℕ, ℤ, ◌+◌, ◌/◌, ◌≤◌, List, [], ◌∷◌, length, Option, Some, None, sym, ap, ◌∙◌, subst, arith}
 use Rattle.capnp_words.specs.Meter.{Meter, FitsIn, unused}
 use Rattle.capnp_format.specs.Bytes.{message, words_of}
 use Rattle.capnp_format.specs.Canonical.{charge, encoding, trim}
 use Rattle.capnp_format.specs.Segments.{Segments}
 use Rattle.capnp_format.specs.Tree.{Tree, depth}
+use Rattle.capnp_arena_traits.specs.Checks.{total_words}
 use Rattle.capnp_arena_traits.proofs.MessageLemmas.{length-message}
 use Rattle.capnp_arena.specs.declared.arena.reader_arena_impl.ReaderOptions.{ReaderOptions}
 use Rattle.capnp_objects.specs.Source.{levels}
@@ -63,6 +64,11 @@ pub segment_stands : {B : List (List ℕ)} {bytes : List ℕ} {limits : ReaderOp
     IsWithinLevels (message B) (levels n) → IsPaid (message B) old new → StandsWithin B limits bytes
 segment_stands {B} {bytes} got nesting begun within (t, canonical, paid) =
     (only_bytes B bytes (one_segment B (t, canonical)) got, value_within nesting begun within (t, canonical, paid))
+
+-- the segment has all words of the message
+pub few_words : {B : List (List ℕ)} {bytes : List ℕ} {limits : ReaderOptions} → StandsWithin B limits bytes →
+    total_words B ≡ length bytes / 8
+few_words {bytes = bytes} (same, value) = ap total_words same ∙ (let one : total_words (bytes ∷ []) ≡ length bytes / 8 = omega arith in one)
 
 -- the segment's words are the canonical words of that value
 pub own_words : {B : List (List ℕ)} {bytes : List ℕ} (whole : List ℕ) {limits : ReaderOptions} → StandsWithin B limits bytes →

@@ -11,6 +11,7 @@ use Rattle.capnp_format.specs.Bytes.{message}
 use Rattle.capnp_format.specs.Canonical.{encoding, trim}
 use Rattle.capnp_format.specs.Segments.{Segments}
 use Rattle.capnp_format.specs.Tree.{Tree}
+use Rattle.capnp_arena_traits.specs.Allocations.{max_segment_words}
 use Rattle.capnp_arena.specs.declared.arena.reader_arena_impl.ReaderOptions.{ReaderOptions}
 use Rattle.capnp_framing.specs.Frames.{IsFrameOf, bytes_of_words}
 use Rattle.capnp_framing.specs.Memory.{frame_refusals}
@@ -68,12 +69,13 @@ written_words true form words = encode_lower (bytes_of_words words) ++ 10 ∷ []
 written_words false form words = form_bytes form words
 
 -- What a command answers to S, with the other settings of a task: `holds` is yes or no, and `bytes`
--- are written. The value of a message that is said to be canonical is within the limits. The line about
--- a message that isn't canonical says why: the reason is true of the word that it names.
+-- are written. Canonical words are at most as many as a segment of a copy can have. The value of a message
+-- that is said to be canonical is within the limits. The line about a message that isn't canonical says
+-- why: the reason is true of the word that it names.
 abbrev pub AnswerIs : Command → Task → Segments → Bool → List ℕ → Type 0
 AnswerIs (Canon form) task S holds bytes =
     (holds ≡ true)
-    × ((t : Tree) × IsValueOf S task.limits t
+    × ((t : Tree) × IsValueOf S task.limits t × (length (encoding (trim t)) ≤ max_segment_words)
     × (bytes ≡ written_words task.hex form (encoding (trim t))))
 AnswerIs Check task S true bytes = IsCanonicalWithin S task.limits × (bytes ≡ check_line true)
 AnswerIs Check task S false bytes =

@@ -1,22 +1,24 @@
 //! A message that is canonical already ("Canonicalization"), and so needs no copy.
-ghost use Rattle.std.specs.Prelude.{◌≡◌, ◌<◌, ◌^◌, ◌∷◌, [], length, IsNone, IfSome};
-ghost use Rattle.capnp_words.specs.Meter.{unused};
+ghost use Rattle.std.specs.Prelude.{◌≡◌, ◌<◌, ◌≤◌, ◌*◌, ◌∷◌, [], length, IsNone, IfSome};
 ghost use Rattle.capnp_format.specs.Bytes.{message, words_of};
 ghost use Rattle.capnp_format.specs.Canonical.{encoding, trim};
 ghost use Rattle.capnp_format.specs.Tree.{Tree};
+ghost use Rattle.capnp_arena_traits.specs.Allocations.{max_segment_words};
+ghost use Rattle.capnp_arena_traits.specs.Checks.{total_words};
 ghost use Rattle.capnp_framing.specs.Frames.{bytes_of_words};
-ghost use Rattle.capnp_objects.specs.Source.{levels};
-ghost use Rattle.capnp_messages.specs.CanonicalMessages.{CanBeTested, IsCanonicalMessage};
-ghost use Rattle.capnp_messages.specs.Messages.{IsValueOf};
+ghost use Rattle.capnp_messages.specs.CanonicalMessages.{IsCanonicalMessage};
+ghost use Rattle.capnp_messages.specs.Messages.{IsCanonicalWithin, IsValueOf};
 
 use super::message_fault::canonical_fault;
 use super::writing::whole_words;
-use capnp_arena::arena::{ReaderArena, ReaderArenaImpl, ReaderOptions, ReaderSegments};
+use capnp_arena::arena::{
+    MAX_SEGMENT_WORDS, ReaderArena, ReaderArenaImpl, ReaderOptions, ReaderSegments,
+};
 use capnp_words::read_limiter::ReadLimiter;
 
 /// Returns the bytes of the only segment of a message that is canonical as a whole: the canonical
-/// words of its value. `None` if it isn't canonical, or the limits don't allow the test. Takes no
-/// memory.
+/// words of its value. `None` if it isn't canonical, if the limits don't allow the test, or if it has
+/// more words than the 536,870,911 that a copy can have. Takes no memory.
 pub fn canonical_segment<S: ReaderSegments>(
     source: &ReaderArenaImpl<S>,
     limits: ReaderOptions,
@@ -30,11 +32,15 @@ pub fn canonical_segment<S: ReaderSegments>(
         IsCanonicalMessage (message (⟦<ReaderArenaImpl<S> as ReaderArena>⟧.segments source.now))
         × (message (⟦<ReaderArenaImpl<S> as ReaderArena>⟧.segments source.now)
         ≡ words_of s.now ∷ [])) }
-    ensures short { IfSome result (λ s. length s.now < 2 ^ 35) }
+    ensures short { IfSome result (λ s. length s.now ≤ 8 * max_segment_words) }
     ensures none { IsNone result →
-        CanBeTested (message (⟦<ReaderArenaImpl<S> as ReaderArena>⟧.segments source.now))
-        (levels limits.nesting_limit) (unused limits.traversal_limit_in_words) → ⊥ }
+        IsCanonicalWithin (message (⟦<ReaderArenaImpl<S> as ReaderArena>⟧.segments source.now)) limits
+        → max_segment_words
+        < total_words (⟦<ReaderArenaImpl<S> as ReaderArena>⟧.segments source.now) }
 {
+    if source.size_in_words() > MAX_SEGMENT_WORDS as usize {
+        return None;
+    }
     let mut lim = ReadLimiter::new(limits.traversal_limit_in_words);
     match canonical_fault(source, &mut lim) {
         Ok(None) => match source.get_segment(0) {

@@ -45,7 +45,7 @@ pub fn canonical_bytes<A: Allocator>(made: &BuilderArenaImpl<A>) -> &[u8]
         → result.now ≡ bytes_of_words words }
     ensures words { message (⟦<BuilderArenaImpl<A> as ReaderArena>⟧.segments made.now)
         ≡ words_of result.now ∷ [] }
-    ensures short { length result.now < 2 ^ 35 }
+    ensures short { length result.now ≤ 8 * max_segment_words }
 {
     match made.get_segments_for_output() {
         Ok(OutputSegments::SingleSegment(segment)) => whole_words(segment),

@@ -5,7 +5,7 @@ use Rattle.capnp_framing.specs.Frames.{bytes_of_words}
 use Rattle.capnp_messages.specs.Commands.{form_bytes}
 use Rattle.capnp_canonical.specs.Calls.{table_bytes}
 use Rattle.capnp_canonical.specs.declared.refusal.Refusal.TheVariants.{NoRoom}
-use Rattle.capnp_canonical.proofs.CallLemmas.{copy_bytes, fills_weaker}
+use Rattle.capnp_canonical.proofs.CallLemmas.{copy_bytes, fills_weaker, fit_segment}
 use Rattle.capnp_canonical.proofs.FrameLemmas.{length-bytes}
 use Rattle.capnp_canonical.proofs.calls.copy_large.Goals as goal
 
@@ -13,7 +13,8 @@ pub returns-in-Some-clause-copied : goal.returns-in-Some-clause-copied
 returns-in-Some-clause-copied g c =
     let (t, value, is) = c.in-Some.ensures.words in
     let bytes = c.in-Some.ensures.whole ∙ ap bytes_of_words is in
-    fills_weaker (λ put is. (t, value, is (encoding (trim t)) bytes)) c.put.ensures.put
+    let few = fit_segment (encoding (trim t)) bytes c.in-Some.ensures.short in
+    fills_weaker (λ put is. (t, value, few, is (encoding (trim t)) bytes)) c.put.ensures.put
 
 pub returns-in-Some-clause-refused : goal.returns-in-Some-clause-refused
 returns-in-Some-clause-refused g c =
@@ -23,7 +24,7 @@ returns-in-Some-clause-refused g c =
     omega (arith, copy_bytes c.args.form (encoding (trim t)), ap length bytes, length-bytes (encoding (trim t))) in
     IfErr-weaker c.put.result _ _ (λ r no. inr (
       form_bytes c.args.form (encoding (trim t)),
-      (t, value, refl),
+      (t, value, fit_segment (encoding (trim t)) bytes c.in-Some.ensures.short, refl),
       no.0 ∙ ap NoRoom (sym long),
       subst (λ n. length c.args.to.now < n) (sym long) no.1,
     )) c.put.ensures.refused

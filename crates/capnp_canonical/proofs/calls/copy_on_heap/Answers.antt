@@ -4,7 +4,7 @@ use Rattle.capnp_format.specs.Canonical.{encoding, trim}
 use Rattle.capnp_messages.specs.Commands.{form_bytes}
 use Rattle.capnp_canonical.specs.Calls.{table_bytes}
 use Rattle.capnp_canonical.specs.declared.refusal.Refusal.TheVariants.{NoRoom}
-use Rattle.capnp_canonical.proofs.CallLemmas.{copy_bytes, fills_weaker}
+use Rattle.capnp_canonical.proofs.CallLemmas.{copy_bytes, fills_weaker, fit_segment}
 use Rattle.capnp_canonical.proofs.FrameLemmas.{length-bytes}
 use Rattle.capnp_messages.proofs.CanonLemmas.{or_memory}
 use Rattle.capnp_canonical.proofs.calls.copy_on_heap.Goals as goal
@@ -16,7 +16,8 @@ pub returns-in-Ok-clause-copied : goal.returns-in-Ok-clause-copied
 returns-in-Ok-clause-copied g c =
     let (t, value, is_made) = c.in-Ok.ensures.copied in
     let bytes = c.canonical_bytes.ensures.bytes (encoding (trim t)) is_made in
-    fills_weaker (λ put is. (t, value, is (encoding (trim t)) bytes)) c.put.ensures.put
+    let few = fit_segment (encoding (trim t)) bytes c.canonical_bytes.ensures.short in
+    fills_weaker (λ put is. (t, value, few, is (encoding (trim t)) bytes)) c.put.ensures.put
 
 pub returns-in-Ok-clause-refused : goal.returns-in-Ok-clause-refused
 returns-in-Ok-clause-refused g c =
@@ -26,7 +27,7 @@ returns-in-Ok-clause-refused g c =
     omega (arith, copy_bytes c.args.form (encoding (trim t)), ap length bytes, length-bytes (encoding (trim t))) in
     IfErr-weaker c.put.result _ _ (λ r no. inr (
       form_bytes c.args.form (encoding (trim t)),
-      (t, value, refl),
+      (t, value, fit_segment (encoding (trim t)) bytes c.canonical_bytes.ensures.short, refl),
       no.0 ∙ ap NoRoom (sym long),
       subst (λ n. length c.args.to.now < n) (sym long) no.1,
     )) c.put.ensures.refused

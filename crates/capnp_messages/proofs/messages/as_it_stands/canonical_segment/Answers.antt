@@ -1,6 +1,6 @@
-use Rattle.std.proofs.Common.{◌∙◌, ap, sym}
+use Rattle.std.proofs.Common.{◌∙◌, ap, sym, arith}
 use Rattle.capnp_framing.specs.Frames.{bytes_of_words}
-use Rattle.capnp_messages.proofs.AsItStandsLemmas.{own_message, own_words, segment_stands}
+use Rattle.capnp_messages.proofs.AsItStandsLemmas.{few_words, own_message, own_words, segment_stands}
 use Rattle.capnp_messages.proofs.messages.as_it_stands.canonical_segment.Goals as goal
 
 pub returns-in-Ok-clause-words : goal.returns-in-Ok-clause-words
@@ -17,3 +17,10 @@ returns-in-Ok-clause-own g c =
 
 pub returns-in-Ok-clause-whole : goal.returns-in-Ok-clause-whole
 returns-in-Ok-clause-whole g c = c.whole_words.ensures.bytes ∙ ap bytes_of_words (sym c.whole_words.ensures.words)
+
+pub returns-in-Ok-clause-short : goal.returns-in-Ok-clause-short
+returns-in-Ok-clause-short g c =
+    let within = rw c.in-Ok-None.field-0-is at c.in-Ok-None.ensures.within in
+    let paid = rw c.in-Ok-None.field-0-is at c.in-Ok-None.ensures.paid in
+    let all = few_words (segment_stands c.in-Ok.ensures.bytes c.requires c.new-lim.ensures within paid) in
+    omega (arith, all, c.size_in_words.ensures, c.whole_words.ensures.shorter)

@@ -4,7 +4,7 @@ use Rattle.capnp_words.specs.Meter.{Meter, FitsIn, unused}
 use Rattle.capnp_words.specs.declared.error.ErrorKind.{ErrorKind}
 use Rattle.capnp_format.specs.Canonical.{charge}
 use Rattle.capnp_format.specs.Segments.{Segments}
-use Rattle.capnp_format.specs.Tree.{Tree, depth}
+use Rattle.capnp_format.specs.Tree.{depth}
 use Rattle.capnp_arena.specs.declared.arena.reader_arena_impl.ReaderOptions.{ReaderOptions}
 use Rattle.capnp_objects.specs.Source.{levels}
 use Rattle.capnp_pointers.specs.declared.pointers.canonical_fault.CanonicalFault.{CanonicalFault}

@@ -1,6 +1,8 @@
-use Rattle.std.proofs.Common.{◌≡◌, ◌∙◌, [], ◌∷◌, Some, refl, rules, sym}
+use Rattle.std.proofs.Common.{◌≡◌, ◌≤◌, ◌∙◌, [], ◌∷◌, Some, ap, arith, length, refl, rules, sym}
 use Rattle.capnp_format.specs.Bytes.{words_of}
 use Rattle.capnp_format.specs.Canonical.{encoding, trim}
+use Rattle.capnp_format.proofs.WordsOf.{words}
+use Rattle.capnp_arena_traits.specs.Allocations.{max_segment_words}
 use Rattle.capnp_messages.specs.declared.messages.command.Command.TheVariants.{Canon}
 use Rattle.capnp_streams.specs.Streams.{written_words}
 use Rattle.capnp_streams.proofs.AnsweredLemmas.{answer_refuses, answer_written, copy_refused}
@@ -12,8 +14,9 @@ returns-in-Ok-clause-answer g c =
     let (t, value, is_made) = c.in-Ok.ensures.copied in
     let only : words_of c.canonical_bytes-words.result.now ∷ [] ≡ encoding (trim t) ∷ [] = sym c.canonical_bytes-words.ensures.words ∙ is_made in
     let same : words_of c.canonical_bytes-words.result.now ≡ encoding (trim t) = cc in
+    let few : length (encoding (trim t)) ≤ max_segment_words = omega (arith, ap length same, words c.canonical_bytes-words.result.now, c.canonical_bytes-words.ensures.short) in
     answer_written _ _ _ _ _ _ (written_words c.args.task.hex c.args.form (encoding (trim t))) (rw same at c.write_canonical_words-written.ensures)
-    c.if_written.ensures.written c.if_written.ensures.failed (refl, (t, value, refl))
+    c.if_written.ensures.written c.if_written.ensures.failed (refl, (t, value, few, refl))
 
 pub returns-in-Ok-clause-memory : goal.returns-in-Ok-clause-memory
 returns-in-Ok-clause-memory g c =
