@@ -1,5 +1,5 @@
 -- A stream is read and answered message by message.
-use Rattle.std.proofs.Common.{◌≡◌, ◌≤◌, ◌<◌, ℕ, ◌+◌, ◌-◌, ◌^◌, min, List, [], ◌∷◌, ◌++◌, Bool, true, false, ◌&&◌, Option, Some, None, length}
+use Rattle.std.proofs.Common.{◌≡◌, ◌⊎◌, inl, inr, ◌≤◌, ◌<◌, ℕ, ◌+◌, ◌-◌, ◌^◌, min, List, [], ◌∷◌, ◌++◌, Bool, true, false, ◌&&◌, Option, Some, None, length}
 use Rattle.std.proofs.Common.{IfSome, refl, sym, ap, subst, ◌∙◌, append_assoc, append-nil, arith, length-append}
 use Rattle.std.proofs.lemmas.List.{length-replicate}
 use Rattle.std.specs.Prelude.{replicate}
@@ -153,3 +153,30 @@ keeps_appends (Some x) (Some y) (Some z) bytes kept written = written ∙ ap (λ
 pub keeps_same : (a : Option (List ℕ)) → Keeps a a
 keeps_same None = tt
 keeps_same (Some x) = refl
+
+-- what is kept twice is kept
+pub keeps_both : (a b c : Option (List ℕ)) → Keeps a b → Keeps b c → Keeps a c
+keeps_both None b c first more = tt
+keeps_both (Some x) None c first more = absurd first
+keeps_both (Some x) (Some y) None first more = absurd more
+keeps_both (Some x) (Some y) (Some z) first more = more ∙ first
+
+-- what is done after an output has kept what it had
+pub done_after : {task : Task} (input a b : Option (List ℕ)) {new : Stage} {summary : Summary} → Keeps a b →
+    AreDone task (record { input = input; output = b }) new summary → AreDone task (record { input = input; output = a }) new summary
+done_after input a b {new = new} kept done = record {
+  messages = done.messages;
+  bytes = done.bytes;
+  answers = done.answers;
+  many = done.many;
+  sized = done.sized;
+  framed = done.framed;
+  consumed = done.consumed;
+  answered = done.answered;
+  written = keeps_appends a b new.output done.answers kept done.written;
+}
+
+-- what is refused after that, with nothing more written
+pub refused_after : {P Q : Type 0} (a b c : Option (List ℕ)) → Keeps a b → P ⊎ (Q × Keeps b c) → P ⊎ (Q × Keeps a c)
+refused_after a b c kept (inl p) = inl p
+refused_after a b c kept (inr (q, more)) = inr (q, keeps_both a b c kept more)

@@ -58,6 +58,53 @@ pub(super) fn words_of(limits: ReaderOptions) -> u64
     }
 }
 
+/// Reads the next message and answers it. Returns `None` at the end of the input.
+///
+/// Precondition: the message is read ahead, or the output holds nothing back. So the sender of the
+/// next message has all answers before it.
+fn answer_next<A: Allocator, R: BufferedInput, W: BufferedOutput>(
+    task: Task,
+    input: &mut R,
+    segments: &mut OwnedSegments,
+    memory: &mut Memory<A>,
+    output: &mut W,
+) -> Result<Option<Answered>, Fault>
+    requires there { IsSome memory.old.allocator }
+    requires work { AreWorking R.Input W.Output input.old output.old }
+    requires passed_on { R.has_enough input.old ⊎ (W.kept output.old ≡ 0) }
+    ensures end { result ≡ Ok None → IsAtEnd (R.remaining input.old)
+        × IsAtEnd (R.remaining input.new)
+        × Keeps (W.contents output.old) (W.contents output.new) }
+    ensures answered { IfOk result (λ m. IfSome m (λ one.
+        AreDone task (stage_of R.Input W.Output input.old output.old)
+        (stage_of R.Input W.Output input.new output.new)
+        (record { messages = 1; bytes = one.bytes; holds = one.holds }))) }
+    ensures whole { OnOk result (KeepsWhole (R.ends_whole input.old) (R.ends_whole input.new)) }
+    ensures work { OnOk result (AreWorking R.Input W.Output input.new output.new) }
+    ensures failed { IfErr result (λ e. R.has_failed input.new ≡ true
+        → e ≡ Fault.Frame ReadFailed) }
+    ensures refused { IfErr result (λ e. IsWriteFault W.Output output.new e
+        ⊎ (StopsAt task (R.remaining input.old) (R.remaining input.new) (R.has_failed input.new) e
+        × Keeps (W.contents output.old) (W.contents output.new))) }
+    ensures memory { CountsRefusals A.refusals memory.old.allocator memory.new.allocator
+        task.command result }
+{
+    let Some(allocator) = &mut memory.allocator else {
+        unreachable!()
+    };
+    match read_into_with(allocator, input, words_of(task.limits), segments) {
+        Ok(false) => Ok(None),
+        Ok(true) => match answer(memory, task, &*segments, output) {
+            Ok(holds) => Ok(Some(Answered {
+                holds,
+                bytes: segments.size_in_bytes() as u64,
+            })),
+            Err(fault) => Err(fault),
+        },
+        Err(error) => Err(Fault::Frame(error)),
+    }
+}
+
 /// Reads the next message and answers it; flushes the answers so far first, unless the message is
 /// read ahead. Returns `None` at the end of the input.
 fn next<A: Allocator, R: BufferedInput, W: BufferedOutput>(
@@ -89,20 +136,7 @@ fn next<A: Allocator, R: BufferedInput, W: BufferedOutput>(
     if pass_on_before_waiting(input, output).is_err() {
         return Err(Fault::Frame(FrameError::WriteFailed));
     }
-    let Some(allocator) = &mut memory.allocator else {
-        unreachable!()
-    };
-    match read_into_with(allocator, input, words_of(task.limits), segments) {
-        Ok(false) => Ok(None),
-        Ok(true) => match answer(memory, task, &*segments, output) {
-            Ok(holds) => Ok(Some(Answered {
-                holds,
-                bytes: segments.size_in_bytes() as u64,
-            })),
-            Err(fault) => Err(fault),
-        },
-        Err(error) => Err(Fault::Frame(error)),
-    }
+    answer_next(task, input, segments, memory, output)
 }
 
 /// Does a task with each message of the input, and writes the answers in the order of the messages.
@@ -123,7 +157,7 @@ fn next<A: Allocator, R: BufferedInput, W: BufferedOutput>(
 /// limits, the only refusals are that memory runs out or a device fails. Takes memory for one
 /// message at a time, and none for one no larger than those before. After a message that is
 /// refused, takes nothing more of the input. Flushes the answers so far before it reads a message
-/// that isn't read ahead.
+/// that isn't read ahead; that is a precondition of `answer_next`, and no clause here.
 ///
 /// All memory is the allocator's. It counts one refusal for an `AllocationFailed`, and none
 /// otherwise. `Check` and `Size` take memory only for the frames.

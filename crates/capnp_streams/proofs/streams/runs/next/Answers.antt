@@ -1,15 +1,18 @@
-use Rattle.std.proofs.Common.{◌≡◌, Ok, true, arith, inr, rules}
-use Rattle.capnp_streams.proofs.StreamLemmas.{keeps_appends, one_done}
+use Rattle.std.proofs.lemmas.Option.{IfSome_then}
+use Rattle.std.proofs.lemmas.Result.{IfErr-weaker, IfOk-weaker}
+use Rattle.capnp_streams.proofs.StreamLemmas.{done_after, keeps_both, refused_after}
 use Rattle.capnp_streams.proofs.streams.runs.next.Goals as goal
 
-pub returns-in-Ok-clause-answered : goal.returns-in-Ok-clause-answered
-returns-in-Ok-clause-answered g c =
-    let read : c.read_into_with.result ≡ Ok true = search rules in
-    let frame = c.read_into_with.ensures.read read in
-    let short = rw c.words_of.ensures at (c.read_into_with.ensures.most read) in
-    let (answer, is, written) = c.in-Ok.ensures.answer.answered in
-    one_done _ _ frame.bytes answer _ (omega arith) c.size_in_bytes.ensures frame.framed short frame.consumed is
-    (keeps_appends _ _ _ _ c.pass_on_before_waiting.ensures.bytes written)
+pub returns-clause-end : goal.returns-clause-end
+returns-clause-end g c = λ none.
+    let (from, to, kept) = c.answer_next.ensures.end none in
+    (from, to, keeps_both _ _ _ c.pass_on_before_waiting.ensures.bytes kept)
 
-pub returns-in-Err-clause-refused : goal.returns-in-Err-clause-refused
-returns-in-Err-clause-refused g c = inr (rw c.words_of.ensures at c.in-Err.ensures.refused.why, c.pass_on_before_waiting.ensures.bytes)
+pub returns-clause-answered : goal.returns-clause-answered
+returns-clause-answered g c =
+    IfOk-weaker c.answer_next.result _ _
+    (λ m one. IfSome_then m one (λ x. done_after _ _ _ c.pass_on_before_waiting.ensures.bytes)) c.answer_next.ensures.answered
+
+pub returns-clause-refused : goal.returns-clause-refused
+returns-clause-refused g c =
+    IfErr-weaker c.answer_next.result _ _ (λ e. refused_after _ _ _ c.pass_on_before_waiting.ensures.bytes) c.answer_next.ensures.refused
