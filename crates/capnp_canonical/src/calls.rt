@@ -174,9 +174,9 @@ fn copy_large<S: ReaderSegments>(
 /// Writes the message in canonical form to the front of `to`, framed or bare, and returns the size
 /// in bytes.
 ///
-/// A canonical message of 64 words or more is written from its own segment and takes no memory.
-/// Copying another one of that size takes heap memory; copying a smaller one does so only if the
-/// copy needs 64 words or more.
+/// A canonical message of 64 words or more is written from its own segment and takes no memory, unless
+/// it has more than the 536,870,911 words of a copy. Copying another one of that size takes heap memory;
+/// copying a smaller one does so only if the copy needs more than 64 words.
 pub fn copy<S: ReaderSegments + Drop>(
     alloc: Global,
     form: Form,

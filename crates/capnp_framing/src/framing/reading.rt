@@ -42,7 +42,8 @@ pub(super) fn read_up_to<R: Input>(input: &mut R, to: &mut [u8]) -> Result<usize
     Ok(n)
 }
 
-/// Makes room in `to` for `more` bytes after the first `n`, if there isn't any.
+/// Makes room in `to` for `more` bytes after the first `n`, if there isn't any. Takes memory from the
+/// heap; asks the allocator only if the heap refuses.
 pub(super) fn make_room<A: Allocator>(
     allocator: &mut A,
     to: &mut Vec<u8>,
@@ -261,8 +262,9 @@ fn read_count<R: Input>(input: &mut R, first: &mut [u8; 4]) -> Result<Option<usi
 /// refusal is unspecified too.
 ///
 /// The memory taken grows with the bytes that arrive, not with those that the table announces.
-/// Takes none for a message with no more segments and words than one read before. If there is none,
-/// the allocator counts it: once for an `AllocationFailed`, and otherwise not.
+/// Takes none for a message with no more segments and words than one read before. It comes from the
+/// heap, and the allocator is asked only if the heap refuses. If there is none, the allocator counts
+/// it: once for an `AllocationFailed`, and otherwise not.
 pub fn read_into_with<A: Allocator, R: Input>(
     allocator: &mut A,
     input: &mut R,

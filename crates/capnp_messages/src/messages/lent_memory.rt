@@ -48,9 +48,9 @@ impl<'a> LentZeros<'a> {
     }
 }
 
-/// Makes one segment of exactly the requested size in lent memory, and takes no other memory.
-/// Refuses a segment that the memory is too small for, and any request after one for up to
-/// 536,870,911 words, whether that was granted or not.
+/// Makes one segment of exactly the requested size in lent memory. Refuses a segment that the memory
+/// is too small for, and keeps the memory for a smaller one. Refuses any segment after one that was
+/// made. Takes no other memory for segments; only `keep` does, from the heap, for its list.
 #[derive(Drop)]
 pub struct LentMemory<'a> {
     memory: Option<LentZeros<'a>>,
@@ -71,7 +71,8 @@ impl<'a> LentMemory<'a> {
         }
     }
 
-    /// Lends the first `words` words, if there are as many and none were lent yet.
+    /// Lends the first `words` words, if there are as many and none were lent yet. Otherwise keeps
+    /// what there is.
     fn lend(&mut self, words: u32) -> Option<&'a mut [u8]>
         ensures lent { IfSome self.old.memory (λ bytes. 8 * words ≤ bytes → IsSome result) }
         ensures fresh { IfSome result (λ s. s.now ≡ zeros words) }

@@ -112,7 +112,8 @@ pub fn canonical_with<A: Allocator, S: ReaderSegments + Drop>(
 /// memory.
 ///
 /// Returns the first fault found, like `canonical_fault`. Reads and refuses only messages of one
-/// segment, within the limits; the fault of any other is `SegmentCount`.
+/// segment, within the limits; the fault of any other is `SegmentCount`. If there is no fault, the
+/// value is within both limits.
 pub fn canonical_fault_of<S: ReaderSegments + Drop>(
     segments: S,
     limits: ReaderOptions,

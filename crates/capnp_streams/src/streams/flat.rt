@@ -28,8 +28,9 @@ use std::alloc::Global;
 /// failed. If the bare words are a message that has an answer within the limits, the only refusals
 /// are that memory runs out or a device fails.
 ///
-/// All memory is the allocator's. It counts one refusal for an `AllocationFailed`, and none
-/// otherwise. `Check` and `Size` take memory only for what is read.
+/// Copies take memory from the allocator. What is read takes it from the heap, and the allocator is
+/// asked only if the heap refuses; so it doesn't bound that memory. It counts one refusal for an
+/// `AllocationFailed`, and none otherwise. `Check` and `Size` take memory only for what is read.
 pub fn run_flat_with<A: Allocator, R: Input, W: Output>(
     alloc: Global,
     allocator: A,

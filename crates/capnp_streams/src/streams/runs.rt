@@ -159,8 +159,9 @@ fn next<A: Allocator, R: BufferedInput, W: BufferedOutput>(
 /// refused, takes nothing more of the input. Flushes the answers so far before it reads a message
 /// that isn't read ahead; that is a precondition of `answer_next`, and no clause here.
 ///
-/// All memory is the allocator's. It counts one refusal for an `AllocationFailed`, and none
-/// otherwise. `Check` and `Size` take memory only for the frames.
+/// Copies take memory from the allocator. A frame's bytes take it from the heap, and the allocator is
+/// asked only if the heap refuses; so it doesn't bound that memory. It counts one refusal for an
+/// `AllocationFailed`, and none otherwise. `Check` and `Size` take memory only for the frames.
 pub fn run_with<A: Allocator, R: BufferedInput, W: BufferedOutput>(
     alloc: Global,
     allocator: A,
