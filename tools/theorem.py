@@ -272,8 +272,8 @@ def count(number):
 def both_counts():
     first, second = (found for found, _, _ in parts().values())
     return [
-        f'To judge the claims about copies and the test, you have to read {len(first)} definitions, {length(first):,} lines in all. For the claim',
-        f'about builders, and for copies and the test at any pointer, read {len(second)} further ones, {length(second):,} lines.',
+        f'To judge the claims about copies and the test, for the root of a message, you read {len(first)} definitions, {length(first):,} lines in',
+        f'all. To judge those for any other pointer, and those about builders, you read {len(second)} more, {length(second):,} lines.',
     ]
 
 
