@@ -269,6 +269,10 @@ def declared_in(crate, path):
     *modules, name = path.split('.')
     for kept in range(len(modules), -1, -1):
         file = f'crates/{crate}/src/{"/".join(modules[:kept])}.rt'
-        if (TOP / file).is_file() and re.search(rf'^ *(?:pub(?:\([^)]*\))? )?(?:struct|enum) {name}\b', (TOP / file).read_text(encoding='utf-8'), re.M):
+        if (TOP / file).is_file() and re.search(rf'^ *(?:pub(?:\([^)]*\))? )?(?:struct|enum|trait) {name}\b', (TOP / file).read_text(encoding='utf-8'), re.M):
             return file
+    # a module that exports what another crate declares
+    text = (TOP / f'crates/{crate}/src/{"/".join(modules)}.rt').read_text(encoding='utf-8')
+    if found := re.search(rf'^pub use (capnp_\w+)::([\w:]+)::(?:\{{[^}}]*\b{name}\b[^}}]*\}}|{name};)', text, re.M):
+        return declared_in(found[1], '.'.join([*found[2].split('::'), name]))
     raise SystemExit(f'{crate}: no file has {path}')

@@ -1,5 +1,5 @@
 #!/usr/bin/env python3
-"""Updates what pages quote from the sources: `docs/THEOREM.md`, `docs/PROVED.md`, the README, and `crates/*/CALLING.md`.
+"""Updates what pages quote from the sources: `docs/THEOREM.md`, `docs/REFUSALS.md`, `docs/PROVED.md`, the README, and `crates/*/CALLING.md`.
 
     theorem.py             rewrites each page that differs
     theorem.py --check     says which pages differ. The last line is `N passed, M failed`, which counts pages
@@ -14,11 +14,10 @@ A line of a page says what is quoted. The quotation comes after it, and ends wit
     <!-- definitions N -->                      all definitions that the clauses quoted in the sections of part N rest on
     <!-- types N -->                            the types of the program that these definitions and clauses name
     <!-- notation -->                           the notation of these definitions and clauses
-    <!-- elsewhere N -->                        the definitions that the clauses of section N cite and the page doesn't print, with their files
     <!-- count N -->                            what a reader has to read: the number of definitions and of their lines; without N, of both parts
     <!-- tries -->                              a table of the tests: how many mutants, vectors, cases and streams there are
 
-The marks `definitions`, `types`, `notation` and `elsewhere` are for docs/THEOREM.md.
+The marks `definitions`, `types` and `notation` are for docs/THEOREM.md and docs/REFUSALS.md.
 """
 import functools
 import re
@@ -28,10 +27,12 @@ import quoted
 from quoted import TOP
 
 PAGE = TOP / 'docs/THEOREM.md'
+# The page with the last part.
+REFUSALS = TOP / 'docs/REFUSALS.md'
 # The sections of the page whose clauses rest on the definitions of a part. A part doesn't repeat those of earlier ones.
-PARTS = {'1': ('1', '2', '3'), '2': ('4', '5')}
+PARTS = {'1': ('1', '2', '3'), '2': ('4', '5'), '3': ('6',)}
 # The first file of definitions of each part, and the order of files. Files that aren't named come last.
-BEGIN = {'1': 'capnp_messages/Messages', '2': 'capnp_format/Forest'}
+BEGIN = {'1': 'capnp_messages/Messages', '2': 'capnp_format/Forest', '3': 'capnp_messages/Messages'}
 ORDER = (
     'capnp_messages/Messages', 'capnp_messages/CanonicalMessages', 'capnp_messages/Roots', 'capnp_words/Meter', 'capnp_objects/Source',
     'capnp_arena_traits/Limits', 'capnp_arena_traits/Allocations', 'capnp_format/Tree', 'capnp_format/Value', 'capnp_format/Bytes', 'capnp_format/Means',
@@ -76,7 +77,9 @@ WORDS = (
     ('map', '`map f xs`', 'the list of f x for each element x'),
     ('replicate', '`replicate n x`', 'the list of n times x'),
     ('sum', '`sum xs`', 'the sum of the elements'),
+    ('sum_by', '`sum_by f xs`', 'the sum of f x for each element x'),
     ('get_or', '`get_or xs i d`', 'the element at index i, counted from 0, or d if there is none'),
+    ('set', '`set xs i x`', 'xs with x at index i, or xs if there is no such index'),
     ('slice_get', '`slice_get xs i`', '`Some` of the element at index i, or `None` if there is none'),
     ('slice_set', '`slice_set xs i x`', 'xs with x at index i, or xs if there is no such index'),
     ('slice_index', '`slice_index xs i`', 'the number at index i, or 0 if there is none'),
@@ -95,10 +98,16 @@ WORDS = (
     ('IfErr', '`IfErr r P`', 'if r is `Err e`, then P e'),
     ('OnOk', '`OnOk r P`', 'if r is an `Ok`, then P'),
     ('OnErr', '`OnErr r P`', 'if r is an `Err`, then P'),
+    ('IfSome', '`IfSome o P`', 'if o is `Some x`, then P x'),
+    ('IsSomeAnd', '`IsSomeAnd o P`', 'o is `Some x`, and P x'),
+    ('IsErrAnd', '`IsErrAnd r P`', 'r is `Err e`, and P e'),
     ('MatchOption', '`MatchOption o P Q`', 'P if o is `None`; Q x if o is `Some x`'),
+    ('MatchResult', '`MatchResult r P Q`', 'P x if r is `Ok x`; Q e if r is `Err e`'),
     ('IsOk', '`IsOk r`', 'r is `Ok x` for some x'),
     ('IsTrue', '`IsTrue b`', 'b is true'),
     ('AllByRecursion', '`AllByRecursion P xs`', 'P holds for each element of xs'),
+    ('to_le_bytes w32', '`to_le_bytes w32 n`', 'the four bytes of n, the lowest first'),
+    ('Appends', '`Appends o p bs`', 'if o is `Some xs`, then p is `Some (xs ++ bs)`'),
     ('from_le_bytes w64', '`from_le_bytes w64 bs`', 'the number with these eight bytes, the lowest first'),
     ('◌≡◌', '`a ≡ b`', 'a equals b'),
     ('', '`a ≢ b`', 'a differs from b'),
@@ -138,20 +147,22 @@ WORDS = (
     ('', '`A.view x`', 'what the type A says about x, under the name `view`'),
     ('', '`⟦<A as T>⟧.view x`', 'the same, for the trait T of A'),
 )
-MARK = re.compile(r'<!-- (clauses|function|item|definitions|definition|types|notation|elsewhere|count|tries)\b ?(.*?) ?-->')
+MARK = re.compile(r'<!-- (clauses|function|item|definitions|definition|types|notation|count|tries)\b ?(.*?) ?-->')
 END = '<!-- end -->'
 
 
 @functools.cache
 def statements(sections):
-    """The clauses that the page quotes in these sections: the lines of each function, and the imports of its file."""
-    found, section = [], None
-    for line in PAGE.read_text(encoding='utf-8').split('\n'):
-        if heading := re.match(r'## (\d+)?', line):
-            section = heading[1]
-        if section in sections and (mark := MARK.fullmatch(line)) and mark[1] == 'clauses':
-            function, labels = chosen(mark[2])
-            found.append(('\n'.join([*function.signature, *function.chosen(labels)[0]]), function.imports))
+    """The clauses that the pages quote in these sections: for each function the lines, and what its file imports."""
+    found = []
+    for page in PAGE, REFUSALS:
+        section = None
+        for line in page.read_text(encoding='utf-8').split('\n'):
+            if heading := re.match(r'## (\d+)?', line):
+                section = heading[1]
+            if section in sections and (mark := MARK.fullmatch(line)) and mark[1] == 'clauses':
+                function, labels = chosen(mark[2])
+                found.append(('\n'.join([*function.signature, *function.chosen(labels)[0]]), function.imports))
     return found
 
 
@@ -176,24 +187,6 @@ def parts():
         done |= definitions_of
         named |= types
     return found
-
-
-def elsewhere(section):
-    """The definitions that the clauses of a section cite and that no part prints: each name with its file and its comment."""
-    printed = frozenset().union(*(found for found, _, _ in parts().values()))
-    rests, _, _ = rests_on((section,), printed)
-    cited = {}
-    for code, imports in statements((section,)):
-        for definition in quoted.cited(code, imports)[0] - printed:
-            names = {there for name in quoted.words_in(code) if name in imports for _, _, there in [imports[name]]} & set(definition.names)
-            cited.setdefault(definition, set()).update(names)
-    lines = ['| Cited | In `crates/` | Says |', '|---|---|---|']
-    for definition in sorted(cited, key=lambda it: (it.crate, it.module, it.line)):
-        for name in sorted(cited[definition]):
-            says = quoted.said_of(definition, name).replace('|', '&#124;')
-            lines.append(f'| `{name}` | `{definition.crate}/specs/{definition.module}.antt` | {says} |')
-    files = len({(definition.crate, definition.module) for definition in rests})
-    return [*lines, '', f'With everything that they rest on, these are {len(rests)} definitions: {length(rests):,} lines in {files} files.']
 
 
 def in_order(found, number):
@@ -240,10 +233,10 @@ def definitions(number):
 
 
 def types(number):
-    """The types of the program that a part names, in the form of their files."""
+    """The types of the program that a part names, as their files have them. A crate can name one that another exports."""
     lines = ['```rust']
-    for crate, path in sorted(parts()[number][1]):
-        lines += quoted.item(quoted.declared_in(crate, path), path.split('.')[-1]) + ['']
+    for file, name in dict.fromkeys((quoted.declared_in(crate, path), path.split('.')[-1]) for crate, path in sorted(parts()[number][1])):
+        lines += [*quoted.item(file, name), '']
     return [*lines[:-1], '```']
 
 
@@ -265,12 +258,12 @@ def length(definitions_found):
 def count(number):
     found = parts()[number][0]
     files = len({(definition.crate, definition.module) for definition in found})
-    what = 'Parts 1 to 3 rest on these' if number == '1' else 'Parts 4 and 5 also rest on these'
+    what = {'1': 'Parts 1 to 3 rest on these', '2': 'Parts 4 and 5 also rest on these', '3': 'Part 6 also rests on these'}[number]
     return [f'{what} {len(found)} definitions, {length(found):,} lines without comments, from {files} files. Definitions that cite each', 'other count as one.']
 
 
 def both_counts():
-    first, second = (found for found, _, _ in parts().values())
+    first, second, _ = (found for found, _, _ in parts().values())
     return [
         f'To judge the claims about copies and the test, for the root of a message, you read {len(first)} definitions, {length(first):,} lines in',
         f'all. To judge those for any other pointer, and those about builders, you read {len(second)} more, {length(second):,} lines.',
@@ -320,7 +313,7 @@ def quotation(kind, rest):
         return ['```antt', *found.text.split('\n'), '```']
     if kind == 'item':
         return ['```rust', *quoted.item(*rest.split()), '```']
-    return {'definitions': definitions, 'types': types, 'count': count, 'elsewhere': elsewhere}[kind](rest) if rest else {'notation': notation, 'tries': tries, 'count': both_counts}[kind]()
+    return {'definitions': definitions, 'types': types, 'count': count}[kind](rest) if rest else {'notation': notation, 'tries': tries, 'count': both_counts}[kind]()
 
 
 def written(text):
@@ -339,12 +332,12 @@ def written(text):
 
 
 def pages():
-    return [page for page in (PAGE, TOP / 'README.md', TOP / 'docs/PROVED.md', *sorted(TOP.glob('crates/*/CALLING.md'))) if page.is_file()]
+    return [page for page in (PAGE, REFUSALS, TOP / 'README.md', TOP / 'docs/PROVED.md', *sorted(TOP.glob('crates/*/CALLING.md'))) if page.is_file()]
 
 
 def prose(text):
     """The number of words of a page, without what this script writes."""
-    return len(re.sub(r'<!-- (?:clauses|function|item|definitions?|types|notation|elsewhere|count|tries)\b.*?<!-- end -->', '', text, flags=re.S).split())
+    return len(re.sub(r'<!-- (?:clauses|function|item|definitions?|types|notation|count|tries)\b.*?<!-- end -->', '', text, flags=re.S).split())
 
 
 def main():
