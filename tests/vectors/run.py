@@ -48,6 +48,11 @@ def on_devices(binary, limit):
         finally:
             os.close(folder)
         yield f"{' '.join(args)} < /", (run.returncode, run.stdout, run.stderr), (2, b'', b'bad input\n')
+    run = subprocess.run([binary, '--help'], stdin=subprocess.DEVNULL, capture_output=True, timeout=limit)
+    yield '--help', (run.returncode, run.stdout.split(b' NESTING')[0], run.stderr), (0, b'Usage: layout_tool canon', b'')
+    with open('/dev/full', 'wb') as full:
+        run = subprocess.run([binary, '--help'], stdin=subprocess.DEVNULL, stdout=full, stderr=subprocess.DEVNULL, timeout=limit)
+    yield '--help > /dev/full', run.returncode, 2
 
 
 def main():

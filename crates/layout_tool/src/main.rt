@@ -13,6 +13,18 @@ use std::env;
 use std::io::{self, BufWriter};
 use std::process::ExitCode;
 
+/// How the program is called.
+const USAGE: &str = "Usage: layout_tool canon NESTING WORDS
+  or:  layout_tool check NESTING WORDS
+  or:  layout_tool size NESTING WORDS
+  or:  layout_tool frame
+  or:  layout_tool unframe
+  or:  layout_tool framed-canon NESTING WORDS
+  or:  layout_tool framed-check NESTING WORDS
+Reads one message from standard input as hex digits: a line for each segment, or one line with a
+frame for unframe, framed-canon and framed-check. NESTING is the nesting limit, and WORDS the
+traversal limit in words; none is no limit.";
+
 fn main(rt: HostRuntime) -> ExitCode {
     match answer(&rt) {
         Ok(code) => code,
@@ -23,7 +35,13 @@ fn main(rt: HostRuntime) -> ExitCode {
 /// Runs the tool. Fails only if there is no memory for the arguments or the output's buffer, and
 /// then writes nothing.
 fn answer(rt: &HostRuntime) -> Result<ExitCode, AllocError> {
-    let Some(args) = arguments(rt)? else {
+    let Some(given) = arguments(rt)? else {
+        return Ok(complain(rt, "bad arguments"));
+    };
+    if given.len() == 1 && given[0].as_str() == "--help" {
+        return Ok(say(rt, USAGE));
+    }
+    let Some(args) = tool::parse_args(given.as_slice()) else {
         return Ok(complain(rt, "bad arguments"));
     };
     Ok(match run(rt, &args)? {
@@ -34,8 +52,8 @@ fn answer(rt: &HostRuntime) -> Result<ExitCode, AllocError> {
     })
 }
 
-/// What the arguments ask for.
-fn arguments(rt: &HostRuntime) -> Result<Option<Args>, AllocError> {
+/// The arguments without the program's name; `None` if one isn't text.
+fn arguments(rt: &HostRuntime) -> Result<Option<Vec<String>>, AllocError> {
     let given = match env::args(rt) {
         Ok(given) => given,
         Err(error) if error.kind() == io::ErrorKind::OutOfMemory => return Err(AllocError),
@@ -45,7 +63,7 @@ fn arguments(rt: &HostRuntime) -> Result<Option<Args>, AllocError> {
     for word in given.skip(1) {
         words.push(word)?;
     }
-    Ok(tool::parse_args(words.as_slice()))
+    Ok(Some(words))
 }
 
 /// Runs the tool from standard input to standard output.
@@ -60,6 +78,14 @@ fn run(rt: &HostRuntime, args: &Args) -> Result<Outcome, AllocError> {
         Ok(()) => outcome,
         Err(_) => Outcome::WriteFailed,
     })
+}
+
+/// Prints `text` to standard output.
+fn say(rt: &HostRuntime, text: &str) -> ExitCode {
+    match rt.println(text) {
+        Ok(()) => ExitCode::SUCCESS,
+        Err(_) => ExitCode::from(2),
+    }
 }
 
 /// Prints the line of a refusal.
