@@ -259,7 +259,7 @@ def verdict(mutant, lines, is_alone):
     for function in mutant.functions:
         if goal := open_goal(function, lines, is_alone):
             return True, f'{function.path}: {goal}'
-    return False, f'NOT REFUSED: {", ".join(it.path for it in mutant.functions)} is still proved'
+    return False, f'NOT REFUSED: no goal was found that stays open in {", ".join(it.path for it in mutant.functions)}'
 
 
 def unread(mutants, lines):
