@@ -348,6 +348,6 @@ export function looksLike(given) {
   }
   for (const [name, ...front] of BEGINNINGS) if (front.every((it, at) => bytes[at] === it)) return name;
   if (looksText(bytes)) return 'text';
-  if (bytes.length <= 65536 && words.isCanonical(bytes)) return 'bare canonical words';
+  if (bytes.length <= 65536 && words.isCanonical(bytes)) return 'raw canonical words';
   return looksPacked(bytes) ? 'packed messages' : undefined;
 }

@@ -136,7 +136,7 @@ test('streams', () => {
   for (const it of [...jsonl('streams/peer.jsonl'), ...jsonl('streams/worked.jsonl')]) {
     const isPlain = ['canon', 'check', 'size'].includes(it.args[0]) && !it.files && it.input !== undefined;
     // unpacking is all or nothing here, and message by message there
-    const isAlike = it.status !== 2 || (!it.args.includes('--packed') && /^message \d+ at byte \d+: refused \w+\n/.test(it.stderr));
+    const isAlike = it.status !== 2 || (!it.args.includes('--packed') && /^capnp_canon: message \d+ at byte \d+: refused \w+\n/.test(it.stderr));
     const got = isPlain && isAlike ? run(it.args, hex(it.input)) : undefined;
     if (!got) {
       left++;
@@ -149,10 +149,10 @@ test('streams', () => {
     assert.equal(got.status, it.status, it.name);
     if (got.error) {
       const { place, code, looksLike } = got.error;
-      assert.equal(`message ${place.message} at byte ${place.byte}: refused ${code}`, it.stderr.split('\n')[0], it.name);
+      assert.equal(`capnp_canon: message ${place.message} at byte ${place.byte}: refused ${code}`, it.stderr.split('\n')[0], it.name);
       assert.ok(got.error.message.startsWith(`message ${place.message} at byte ${place.byte}: ${code}: `), it.name);
       const looks = /look(?:s)? like ([^\n,;.]*)/.exec(it.stderr);
-      if (looks && looksLike) assert.ok(looks[1].includes(looksLike.replace('bare canonical words', 'bare')), `${it.name}: ${it.stderr} ${looksLike}`);
+      if (looks && looksLike) assert.ok(looks[1].includes(looksLike.replace('canonical ', '').replace(' canonical', '')), `${it.name}: ${it.stderr} ${looksLike}`);
     }
     count++;
   }
