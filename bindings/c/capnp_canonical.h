@@ -177,9 +177,9 @@ uint32_t capnp_canonical_copy(const uint8_t *frame, size_t frame_size, int32_t n
 uint32_t capnp_canonical_copy_flat(const uint8_t *frame, size_t frame_size, int32_t nesting, uint64_t words, uint8_t *to, size_t room, size_t *written);
 
 /* Tests whether the message of the frame at the front of `frame_size` bytes is canonical: one segment, which holds the
- * canonical words of a value and nothing else. Writes the answer to `*is_canonical`. If it is false, `*fault` says why
- * and where. If it is true, or the call is refused, the numbers of `*fault` are 0. After a refusal `*is_canonical` is
- * false. */
+ * canonical words of a value and nothing else. Writes the answer to `*is_canonical`. If it is true, the value is also
+ * within both limits. If it is false, `*fault` says why and where. If it is true, or the call is refused, the numbers of
+ * `*fault` are 0. After a refusal `*is_canonical` is false. */
 uint32_t capnp_canonical_check(const uint8_t *frame, size_t frame_size, int32_t nesting, uint64_t words, bool *is_canonical, struct capnp_canonical_fault *fault);
 
 /* Counts the words and capabilities that the root of the message leads to, without the root pointer and landing pads,

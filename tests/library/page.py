@@ -16,7 +16,7 @@ import sys
 TOP = pathlib.Path(__file__).resolve().parents[2]
 PAGE = TOP / 'docs/LIBRARY.md'
 FILE = re.compile(r'`([\w./]+)`:$')
-TOOLS = re.compile(r'^(c\+\+|cargo|cc|openssl) ', re.MULTILINE)
+TOOLS = re.compile(r'^(c\+\+|cargo|cc|node|openssl) ', re.MULTILINE)
 CAPNP = pathlib.Path('/usr/include/capnp/message.h')
 
 
