@@ -33,8 +33,8 @@ check        writes a line for each message: `canonical`, or
 size         writes a line for each message: `words N caps M`, without landing pads
 
   --packed      the input is packed
-  --from-flat   the input is the raw words of one message; with check and size, --flat means the
-                same
+  --from-flat   the input is the raw words of one message; check and size also accept --flat as a
+                name for this option
   --nesting N   the nesting limit: at most N structs and lists inside one another (default 64)
   --words N     the traversal limit of each message, and the most words of 8 bytes that its frame
                 may have (default 8388608, which is 64 MiB); none for no limit
