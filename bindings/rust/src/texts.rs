@@ -39,7 +39,7 @@ pub(crate) fn of_error(number: u32) -> (&'static str, &'static str) {
         ),
         45 => (
             "MalformedDoubleFarPointer",
-            "a far pointer leads to a landing pad that is itself a far pointer",
+            "a landing pad of one word, or the tag in one of two words, is itself a far pointer",
         ),
         55 => (
             "MessageContainsOutOfBoundsPointer",
