@@ -38,7 +38,7 @@ pub enum ErrorKind {
     InlineCompositeListsOfNonStructTypeAreNotSupported,
     /// The message doesn't have this segment.
     InvalidSegmentId(u32),
-    /// A far pointer leads to a landing pad that is itself a far pointer.
+    /// A landing pad of one word, or the tag in one of two words, is itself a far pointer.
     MalformedDoubleFarPointer,
     /// Data was expected, and the list's elements aren't bytes.
     MessageContainsListPointerOfNonBytesWhereDataWasExpected,
@@ -80,7 +80,8 @@ pub enum ErrorKind {
     TextBlobMissingNULTerminator,
     /// There are no segments to read: from nothing, or through a far pointer of a default value.
     TriedToReadFromNullArena,
-    /// A type was requested, and a far pointer leads to a landing pad that is itself a far pointer.
+    /// A type was requested, and a landing pad of one word, or the tag in one of two words, is itself
+    /// a far pointer.
     UnexpectedFarPointer,
     /// A pointer is of no known kind, or is a capability in a default value.
     UnknownPointerType,
