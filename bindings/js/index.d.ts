@@ -5,10 +5,10 @@
  *     const digest = createHash('sha256').update(canonicalizeFlat(frame)).digest('hex');
  *
  * You pass a message as a frame, which is what `capnp encode`, capnp::writeMessage and pycapnp's `to_bytes` write, as its segments
- * (`segments`), or as its bare words (`words`). Bytes after a frame are ignored. Unpack packed bytes first, with `unpack`.
+ * (`segments`), or as its raw words (`words`). Bytes after a frame are ignored. Unpack packed bytes first, with `unpack`.
  *
  * Bare words aren't a frame. Read back what `canonicalizeFlat` returns with the calls of `words`. A call that takes a frame may
- * SUCCEED on bare words, and then reads ANOTHER value, because the pointer to a root without pointers is also the table of a frame.
+ * SUCCEED on raw words, and then reads ANOTHER value, because the pointer to a root without pointers is also the table of a frame.
  *
  * A call that is refused throws `CanonicalError`. Arguments of a wrong type throw `TypeError`, and limits that are out of range
  * `RangeError`. No call keeps anything except the module's memory.
@@ -106,7 +106,7 @@ export interface Size {
 /** Makes the message of the frame at the front canonical. Returns a frame of one segment. */
 export function canonicalize(frame: Bytes, limits?: Limits): Uint8Array;
 
-/** The same, but returns bare words, without the table of a frame: the bytes to hash or sign. */
+/** The same, but returns raw words, without the table of a frame: the bytes to hash or sign. */
 export function canonicalizeFlat(frame: Bytes, limits?: Limits): Uint8Array;
 
 /**
@@ -130,7 +130,7 @@ export const segments: {
   size(list: Iterable<Bytes>, limits?: Limits): Size;
 };
 
-/** The same calls for a message given as its bare words. The copy is bare words too. */
+/** The same calls for a message given as its raw words. The copy is raw words too. */
 export const words: {
   canonicalize(message: Bytes, limits?: Limits): Uint8Array;
   check(message: Bytes, limits?: Limits): Fault | null;

@@ -21,9 +21,9 @@ const USAGE: &str = "Usage: layout_tool canon NESTING WORDS
   or:  layout_tool unframe
   or:  layout_tool framed-canon NESTING WORDS
   or:  layout_tool framed-check NESTING WORDS
-Reads one message from standard input as hex digits: a line for each segment, or one line with a
-frame for unframe, framed-canon and framed-check. NESTING is the nesting limit, and WORDS the
-traversal limit in words; none is no limit.";
+Reads one message from standard input as hex digits: a line for each segment; for unframe and
+framed-check, one line with a frame. NESTING is the nesting limit, and WORDS the traversal limit in
+words; none is no limit.";
 
 fn main(rt: HostRuntime) -> ExitCode {
     match answer(&rt) {
