@@ -153,7 +153,7 @@ export function isCanonical(frame, limits) {
   return isYes((lib) => checked(lib, 'check', lendFrame(lib, bytes, within.words), within));
 }
 
-// Messages in segments, and in bare words.
+// Messages in segments, and in raw words.
 
 export const segments = Object.freeze({
   canonicalize(list, limits) {
@@ -336,7 +336,7 @@ const BEGINNINGS = [
   ['gzip', 0x1f, 0x8b], ['zstd', 0x28, 0xb5, 0x2f, 0xfd], ['bzip2', 0x42, 0x5a, 0x68], ['xz', 0xfd, 0x37, 0x7a, 0x58], ['a zip archive', 0x50, 0x4b, 3, 4],
 ];
 
-/** Guesses like capnp_canonical_looks_like of the header, but tests only short bytes for bare words. */
+/** Guesses like capnp_canonical_looks_like of the header, but tests only short bytes for raw words. */
 export function looksLike(given) {
   const bytes = bytesOf(given, 'what is refused');
   if (bytes.length < 4) return undefined;

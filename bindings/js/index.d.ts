@@ -7,7 +7,7 @@
  * You pass a message as a frame, which is what `capnp encode`, capnp::writeMessage and pycapnp's `to_bytes` write, as its segments
  * (`segments`), or as its raw words (`words`). Bytes after a frame are ignored. Unpack packed bytes first, with `unpack`.
  *
- * Bare words aren't a frame. Read back what `canonicalizeFlat` returns with the calls of `words`. A call that takes a frame may
+ * Raw words aren't a frame. Read back what `canonicalizeFlat` returns with the calls of `words`. A call that takes a frame may
  * SUCCEED on raw words, and then reads ANOTHER value, because the pointer to a root without pointers is also the table of a frame.
  *
  * A call that is refused throws `CanonicalError`. Arguments of a wrong type throw `TypeError`, and limits that are out of range

@@ -285,12 +285,12 @@ test('streams in pieces', async () => {
   passed('streams in pieces', 1);
 });
 
-test('bare words hash to the same', () => {
+test('raw words hash to the same', () => {
   const wanted = createHash('sha256').update(capnp.canonicalizeFlat(person())).digest('hex');
   const copy = capnp.canonicalize(person());
   assert.equal(createHash('sha256').update(copy.subarray(8)).digest('hex'), wanted);
   assert.ok(copy.buffer.byteLength === copy.length);
-  passed('bare words', 1);
+  passed('raw words', 1);
 });
 
 test('hostile frames', () => {

@@ -208,7 +208,7 @@ async function inputs() {
   await open('book.txt', `${book.toString('hex').replace(/.{16}/g, '$& ')}\n`);
   check('a file of hex digits', `${await text('note')} ${await text('copy')}`, /hex digits or base64.*55 words/s);
   await open('words.bin', flat);
-  check('bare words', `${await text('note')} ${await title()}`, /bare canonical words.* Canonical\|/s);
+  check('raw words', `${await text('note')} ${await title()}`, /raw canonical words.* Canonical\|/s);
   await open('stream.bin', Buffer.concat([book, bytesOf(rows.zero_word[1]), book]));
   check('a stream', await text('of'), 'of 3');
   await evaluate(`(() => { const it = document.getElementById('number'); it.value = 2; it.oninput(); })()`);

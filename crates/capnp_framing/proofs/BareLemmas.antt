@@ -1,4 +1,4 @@
--- Bare words that were read are the only segment of a message.
+-- Raw words that were read are the only segment of a message.
 use Rattle.std.proofs.Common.{◌≡◌, ℕ, zero, suc, ◌+◌, ◌-◌, ◌*◌, ◌/◌, ◌%◌, ◌^◌, ◌<◌, ◌≤◌, List, [], ◌∷◌, ◌++◌, length, take, drop, refl, sym, ap, ap₂, ◌∙◌, subst, arith, add-zero, append-nil, append_assoc, length-append, take_at, slice_get, slice_index, Option, Some, None, IfSome}
 use Rattle.std.specs.Int.{from_le_bytes, to_le_bytes, w32}
 use Rattle.std.specs.Io.KnownBytes.{Consumes, IsAtEnd}

@@ -1,4 +1,4 @@
--- The bare words of a message of one segment: bytes without a frame, which end where the input
+-- The raw words of a message of one segment: bytes without a frame, which end where the input
 -- ends.
 use Rattle.std.specs.Prelude.{◌≡◌, ℕ, ◌+◌, ◌*◌, ◌%◌, ◌<◌, ◌≤◌, List, [], ◌∷◌, length, min, true, ◌⊎◌, IfSome, ⊤}
 use Rattle.std.specs.Io.KnownBytes.{Consumes, IsAtEnd}
@@ -44,7 +44,7 @@ module _ {R : Type 0} (g : Ghosts R) where
   HasTakenBare from to _ = ⊤
 
   -- No segment of at most `most` words was read, for the reason e: there was no memory for it; or
-  -- the input failed, which excludes every other reason; or its bytes aren't bare words. Also
+  -- the input failed, which excludes every other reason; or its bytes aren't raw words. Also
   -- states what it has read of the input.
   pub record NoSegmentRead (from to : R) (most : ℕ) (e : FrameError) : Type 0 where
     pub why : (e ≡ AllocationFailed) ⊎ ((e ≡ ReadFailed) × (g.has_failed to ≡ true)) ⊎

@@ -1,4 +1,4 @@
--- What a run says about an input that is one message of one segment: its bare words, without a
+-- What a run says about an input that is one message of one segment: its raw words, without a
 -- frame.
 use Rattle.std.specs.Prelude.{◌≡◌, ◌⊎◌, ℕ, List, [], ◌∷◌, Bool, true, Option, IfSome}
 use Rattle.std.specs.Io.KnownBytes.{Appends, Consumes, IsAtEnd}
@@ -13,7 +13,7 @@ use Rattle.capnp_streams.specs.declared.streams.fault.Fault.{Fault}
 use Rattle.capnp_streams.specs.declared.streams.fault.Fault.TheVariants.{Frame, Layout, TooManyMessages}
 use Rattle.capnp_streams.specs.declared.streams.task.Task.{Task}
 
--- From old to new everything in the input was read: bare words, at most as many as the traversal
+-- From old to new everything in the input was read: raw words, at most as many as the traversal
 -- limit. The task's answer to the message that they mean was written after what the output had.
 pub record IsFlatDone (task : Task) (old new : Stage) (holds : Bool) : Type 0 where
   pub bytes : List ℕ
@@ -23,7 +23,7 @@ pub record IsFlatDone (task : Task) (old new : Stage) (holds : Bool) : Type 0 wh
   pub answered : AnswerIs task.command task (message (bytes ∷ [])) holds answer
   pub written : Appends old.output new.output answer
 
--- Why the message whose bare words the input has isn't answered: they are cut short or too many,
+-- Why the message whose raw words the input has isn't answered: they are cut short or too many,
 -- the task refuses the message, or memory or the input fails.
 abbrev pub StopsFlat : Task → Option (List ℕ) → Bool → Fault → Type 0
 StopsFlat task input failed (Frame e) =
@@ -41,7 +41,7 @@ module _ {R : Type 0} (g : Ghosts R) where
   HasTakenFlat from to (Layout k) = IsAtEnd (g.remaining to)
   HasTakenFlat from to TooManyMessages = ⊥
 
--- The bytes are bare words of a message that the task has an answer to.
+-- The bytes are raw words of a message that the task has an answer to.
 abbrev pub CanFlatBeAnswered : Task → List ℕ → Type 0
 CanFlatBeAnswered task bytes =
     AreBareWords bytes (most_words task.limits)
