@@ -34,7 +34,7 @@ def about(key):
 
 
 def native(name):
-    """A C file of the library: beside this one in a source archive, or else in the repository. None if there is
+    """A C file of the library: next to this one in a source archive, or else in the repository. None if there is
     none."""
     for folder in HERE / 'native', HERE.parents[1] / 'generated', HERE.parent / 'c':
         if (folder / name).is_file():
@@ -43,7 +43,7 @@ def native(name):
 
 
 def licence():
-    """The licence file: beside this one in a source archive, or else at the top of the repository."""
+    """The licence file: next to this one in a source archive, or else at the top of the repository."""
     return next(it for it in (HERE / 'LICENSE', HERE.parents[1] / 'LICENSE') if it.is_file())
 
 

@@ -383,7 +383,7 @@ static void test_texts(void) {
     for (uint32_t number = 0; number < 100; number++) expect(capnp_canonical_name(number, NULL, 0) < CAPNP_CANONICAL_TEXT_ROOM, "the room for texts");
 }
 
-/* No segments; and limits that are met. */
+/* No segments; and limits that are exceeded. */
 static void test_limits(void) {
     place = "limits";
     static const uint8_t message[] = {0, 0, 0, 0, 2, 0, 0, 0, 0, 0, 0, 0, 1, 0, 0, 0, 5, 0, 0, 0, 0, 0, 0, 0};
