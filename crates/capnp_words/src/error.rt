@@ -64,10 +64,10 @@ pub enum ErrorKind {
     MessageContainsTextThatIsNotNULTerminated,
     /// A size was requested, and pointers are nested more deeply than the nesting limit.
     MessageIsTooDeeplyNested,
-    /// Structs, or the values of a copy, are nested more deeply than the nesting limit; so are
-    /// pointers in a cycle.
+    /// Structs, or the values that a copy reads, are nested more deeply than the nesting limit.
+    /// Pointers in a cycle always are.
     MessageIsTooDeeplyNestedOrContainsCycles,
-    /// Something would be too large for its limit; with the number of words requested, or
+    /// A request exceeds a limit. Carries the number of words requested, or the limit in words;
     /// `usize::MAX` if there is no such number.
     MessageTooLarge(usize),
     /// Lists are nested more deeply than the nesting limit.
@@ -78,7 +78,8 @@ pub enum ErrorKind {
     ReadLimitExceeded,
     /// A text was expected for writing in place, and its bytes don't end with a 0.
     TextBlobMissingNULTerminator,
-    /// There are no segments to read: from nothing, or through a far pointer of a default value.
+    /// There are no segments to read: the value isn't in a message, or is a default value with a
+    /// far pointer.
     TriedToReadFromNullArena,
     /// A type was requested, and a landing pad of one word, or the tag in one of two words, is itself
     /// a far pointer.

@@ -1,5 +1,5 @@
 //! Tests bytes for zero, zeroes and copies them with vectors: 64 bytes at a time, and the rest by
-//! words and bytes. Each has the result of its plain loop, for every length.
+//! words and bytes. Each function does what a loop over single bytes does, for every length.
 ghost use Rattle.std.specs.Prelude.{◌≡◌, ◌↔◌, ◌<◌, ◌≤◌, ◌+◌, ◌*◌, ◌/◌, ◌%◌, All, IsTrue, length, take, drop, replicate};
 ghost use Rattle.capnp_format.specs.Bytes.{words_of};
 ghost use Rattle.capnp_format.specs.Canonical.{used_words};
@@ -62,7 +62,8 @@ pub fn is_zero(bytes: &[u8]) -> bool
     is_rest_zero(&bytes[at..])
 }
 
-/// The number of words up to the last one before word `end` that isn't zero.
+/// Of the first `end` words, the number up to and including the last one that isn't zero; 0 if all
+/// are zero.
 #[inline(always)]
 fn used_before(bytes: &[u8], end: usize) -> usize
     requires { 8 * end ≤ length bytes.now }
@@ -79,7 +80,7 @@ fn used_before(bytes: &[u8], end: usize) -> usize
     0
 }
 
-/// A position in words after which all is zero, found 64 bytes at a time.
+/// A number of words after which all others are zero, found 64 bytes at a time.
 #[inline(never)]
 fn end_of_blocks(bytes: &[u8]) -> usize
     ensures used { used_words (words_of bytes.now) ≡ used_words (take result (words_of bytes.now)) }
@@ -95,8 +96,8 @@ fn end_of_blocks(bytes: &[u8]) -> usize
     end
 }
 
-/// The number of words up to the last one that isn't zero. If that is the last word, reads no
-/// other. Precondition: there is at least one word.
+/// The number of words up to and including the last one that isn't zero. If the last word of
+/// `bytes` isn't zero, reads no other. Precondition: there is at least one word.
 fn used_of_many(bytes: &[u8]) -> usize
     requires { 8 ≤ length bytes.now }
     ensures { result ≡ used_words (words_of bytes.now) }
@@ -108,8 +109,8 @@ fn used_of_many(bytes: &[u8]) -> usize
     used_before(bytes, end_of_blocks(bytes))
 }
 
-/// The number of words up to the last one that isn't zero. Fewer than 32 words are tested one by
-/// one, which is fastest for them.
+/// The number of words up to and including the last one that isn't zero. Tests fewer than 32 words
+/// one by one, which is fastest for them.
 #[inline(always)]
 fn used(bytes: &[u8]) -> usize
     ensures { result ≡ used_words (words_of bytes.now) }
@@ -122,7 +123,8 @@ fn used(bytes: &[u8]) -> usize
     }
 }
 
-/// The number of zero words at the end of `bytes`. Precondition: `bytes` is whole words.
+/// The number of zero words at the end of `bytes`. Precondition: the length of `bytes` is a
+/// multiple of 8.
 pub fn trailing_zero_words(bytes: &[u8]) -> usize
     requires { length bytes.now % 8 ≡ 0 }
     ensures { result + used_words (words_of bytes.now) ≡ length (words_of bytes.now) }
@@ -130,7 +132,7 @@ pub fn trailing_zero_words(bytes: &[u8]) -> usize
     bytes.len() / 8 - used(bytes)
 }
 
-/// Zeroes fewer than 64 bytes: with two vectors that may overlap, up to seven bytes one by one.
+/// Zeroes fewer than 64 bytes: from 8 bytes on with two vectors that may overlap, fewer one by one.
 #[inline(always)]
 fn zero_short(bytes: &mut [u8])
     requires { length bytes.old < 64 }
@@ -167,7 +169,7 @@ pub fn zero(bytes: &mut [u8])
     }
 }
 
-/// Copies fewer than 64 bytes: with two vectors that may overlap, up to seven bytes one by one.
+/// Copies fewer than 64 bytes: from 8 bytes on with two vectors that may overlap, fewer one by one.
 #[inline(always)]
 fn copy_short(from: &[u8], to: &mut [u8])
     requires same { length from.now ≡ length to.old }
@@ -191,7 +193,8 @@ fn copy_short(from: &[u8], to: &mut [u8])
     }
 }
 
-/// Copies bytes over as many others. From 64 bytes on, the standard library's code is fastest.
+/// Copies `from` to `to`, which has the same length. From 64 bytes on, the standard library's code
+/// is fastest.
 #[inline(always)]
 pub fn copy(from: &[u8], to: &mut [u8])
     requires { length from.now ≡ length to.old }

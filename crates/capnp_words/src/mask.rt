@@ -3,7 +3,7 @@
 ghost use Rattle.std.specs.Prelude.{◌≡◌, bit_xor};
 ghost use Rattle.std.specs.Int.{w8, w16, w32, w64, int_bit_xor};
 
-/// Numbers that can be masked by another number of the same bits.
+/// Numbers that can be masked by another number with as many bits.
 pub trait Mask {
     /// The type of a mask: the number's own type.
     type T;

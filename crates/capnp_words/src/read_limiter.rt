@@ -1,5 +1,5 @@
 //! The traversal limit: how many words reading may still charge. It bounds the cost of reading a
-//! small message that leads to the same words again and again.
+//! small message whose pointers lead to the same words again and again.
 ghost use Rattle.std.specs.Prelude.{◌≡◌, ◌^◌, ◌<◌, ◌↔◌, IsOk, OnOk, OnErr, IfErr};
 ghost use Rattle.capnp_words.specs.Meter.{Meter, Allows, spent, counted, unused};
 ghost use Rattle.capnp_words.specs.declared.error.ErrorKind.TheVariants.{ReadLimitExceeded};
@@ -57,15 +57,15 @@ impl ReadLimiter {
         self.words
     }
 
-    /// The number of pointers that aren't null and were followed with reading charged, at most
-    /// `u64::MAX`.
+    /// The number of non-null pointers that charged reads have followed. It stays at `u64::MAX`
+    /// once it is reached.
     pub fn followed(&self) -> u64
         ensures { result ≡ self.now.followed }
     {
         self.pointers
     }
 
-    /// Counts one more pointer as followed, up to `u64::MAX`.
+    /// Adds 1 to the number of pointers followed, unless it is `u64::MAX`.
     pub fn count(&mut self)
         ensures counted { self.new ≡ counted self.old }
         ensures small { self.old.followed < 2 ^ 64 }

@@ -60,8 +60,8 @@ pub fn flat_words(size: ElementSize, count: ElementCount32) -> WordCount32
     ((u64::from(count) * u64::from(data_bits_per_element(size)) + 63) / 64) as u32
 }
 
-/// Whether the elements of the list that `word` describes are bits or bytes: not pointers, not
-/// structs, and not void.
+/// Whether each element of the list that `word` describes is one bit, or one to eight bytes: not
+/// void, a pointer or a struct.
 #[inline]
 pub fn is_of_bits(word: WirePointer) -> bool
     ensures { IsTrue result ↔ (0 < element_size word.0) × (element_size word.0 ≤ 5) }
@@ -72,7 +72,8 @@ pub fn is_of_bits(word: WirePointer) -> bool
     )
 }
 
-/// The number of pointers in an element: 1 for a pointer, otherwise 0.
+/// The number of pointers in an element, by its size: 1 for `Pointer`, otherwise 0. (For a struct,
+/// the list's tag states it.)
 pub fn pointers_per_element(size: ElementSize) -> WirePointerCount32
     ensures { result ≡ pointers_per_element size }
 {
@@ -113,7 +114,7 @@ pub enum WirePointerKind {
     Other,
 }
 
-/// What a pointer leads to, with landing pads followed.
+/// What a pointer leads to, after any landing pads.
 #[derive(Clone, Copy, Debug, PartialEq, Eq)]
 pub enum PointerType {
     /// Nothing: the word is zero.
@@ -168,8 +169,8 @@ impl WirePointer {
     }
 
     /// A pointer to a list that starts `offset` words after the word that follows the pointer
-    /// ("Lists"). `count` is the number of elements, for `InlineComposite` of the elements' words
-    /// without the tag; fewer than 2^29.
+    /// ("Lists"). `count`, below 2^29, is the number of elements; if `size` is `InlineComposite`,
+    /// the number of their words without the tag.
     pub fn new_list(offset: i32, size: ElementSize, count: ElementCount32) -> Self
         requires near { IsOffset offset }
         requires few { count < 2 ^ 29 }
@@ -191,7 +192,8 @@ impl WirePointer {
     }
 
     /// A far pointer to a landing pad of one word, which is itself the pointer to the object
-    /// ("Inter-Segment Pointers"). The pad's position in its segment is below 2^29 words.
+    /// ("Inter-Segment Pointers"). Precondition: `position`, that of the pad in words, is below
+    /// 2^29.
     pub fn new_far(position: WordCount32, segment: u32) -> Self
         requires { position < 2 ^ 29 }
         ensures { LeadsToPad result.0 0 position segment }
@@ -199,8 +201,9 @@ impl WirePointer {
         WirePointer(u64::from(position) << 3 | 2 | u64::from(segment) << 32)
     }
 
-    /// A far pointer to a landing pad of two words: where the object starts, and what it is
-    /// ("Inter-Segment Pointers"). The pad's position in its segment is below 2^29 words.
+    /// A far pointer to a landing pad of two words: where the object starts, and its tag
+    /// ("Inter-Segment Pointers"). Precondition: `position`, that of the pad in words, is below
+    /// 2^29.
     pub fn new_double_far(position: WordCount32, segment: u32) -> Self
         requires { position < 2 ^ 29 }
         ensures { LeadsToPad result.0 1 position segment }
@@ -263,8 +266,8 @@ impl WirePointer {
         }
     }
 
-    /// Where the offset leads from a pointer at `position` of a segment of `length` words: a
-    /// position from 0 to `length`, otherwise `None`.
+    /// The position that the offset leads to, from a pointer at `position` of a segment of `length`
+    /// words. `None` if it isn't from 0 to `length`.
     pub fn target(self, position: WordCount32, length: WordCount32) -> Option<WordCount32>
         ensures { result ≡ offset_leads length position (offset_bits self.0) }
     {
@@ -306,7 +309,7 @@ impl WirePointer {
         (self.0 >> 48) as u16
     }
 
-    /// Both sections of a struct, or of each element of a struct list, by its tag.
+    /// The sizes of both sections of a struct; in the tag of a struct list, those of each element.
     pub fn struct_size(self) -> StructSize
         ensures data_of { result.data_words ≡ data_words self.0 }
         ensures pointers_of { result.pointers ≡ pointer_count self.0 }
@@ -340,7 +343,8 @@ impl WirePointer {
         }
     }
 
-    /// The number of elements of a list; for a struct list, its number of words.
+    /// The number of elements of a list; for a struct list, the number of their words without the
+    /// tag.
     pub fn list_element_count(self) -> ElementCount32
         ensures value { result ≡ list_count self.0 }
         ensures few { result < 2 ^ 29 }

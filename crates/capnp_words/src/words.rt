@@ -38,7 +38,8 @@ pub fn put_word(bytes: &mut [u8], at: usize, word: u64)
         .copy_to_slice(&mut bytes[8 * at..]);
 }
 
-/// Copies the whole words of `from` over those from position `at` on.
+/// Copies the words of `from` over those from position `at` on. Precondition: the length of `from`
+/// is a multiple of 8.
 #[tactic(auto, using(capnp_format::proofs::WordsOf::put_words))]
 pub fn copy_words(bytes: &mut [u8], at: usize, from: &[u8])
     requires whole { length from.now ≡ 8 * length (words_of from.now) }
@@ -60,7 +61,7 @@ pub fn zero_words(bytes: &mut [u8], at: usize, n: usize)
     lanes::zero(&mut bytes[start..start + 8 * n]);
 }
 
-/// The number of words up to the last one that isn't zero.
+/// The number of words up to and including the last one that isn't zero; 0 if all are zero.
 pub fn used(bytes: &[u8]) -> usize
     ensures value { result ≡ used_words (words_of bytes.now) }
     ensures within { result ≤ length bytes.now / 8 }
@@ -88,7 +89,8 @@ pub fn count(bytes: &[u8]) -> usize
     bytes.len() / 8
 }
 
-/// The number of words, of the `n` from position `at` on, up to the last one that isn't zero.
+/// Of the `n` words from position `at` on, the number up to and including the last one that isn't
+/// zero; 0 if all are zero.
 pub fn used_part(bytes: &[u8], at: usize, n: usize) -> usize
     requires { 8 * (at + n) ≤ length bytes.now }
     ensures value { result ≡ used_words (take n (drop at (words_of bytes.now))) }
@@ -97,8 +99,7 @@ pub fn used_part(bytes: &[u8], at: usize, n: usize) -> usize
     used(part(bytes, at, n))
 }
 
-/// Copies `n` words from one position to another; the two ranges may overlap. Words that end before
-/// the destination starts are copied like those of another slice.
+/// Copies `n` words from position `from` to position `to`; the two ranges may overlap.
 pub fn move_words(bytes: &mut [u8], from: usize, to: usize, n: usize)
     requires there { 8 * (from + n) ≤ length bytes.old }
     requires room { 8 * (to + n) ≤ length bytes.old }

@@ -1,7 +1,7 @@
 //! The number zero, by type.
 ghost use Rattle.std.specs.Prelude.{◌≡◌, pos};
 
-/// Numbers with a zero, which is read for a field that a struct doesn't have.
+/// Numbers with a zero. A field that a struct doesn't have is read as zero.
 pub trait Zero {
     // The zero.
     ghost nought: { Self };
