@@ -17,8 +17,8 @@ pub mod sealed {
 }
 
 /// An arena that can be written. In this repository only `BuilderArenaImpl` of `capnp_arena`
-/// implements it. `sealed::Closed` is public, so another crate can, if it proves the contracts of
-/// all calls and the laws below.
+/// implements it. `sealed::Closed` is public, so another crate can implement it too, if it proves
+/// the contracts of all calls and the laws below.
 pub trait BuilderArena: ReaderArena + sealed::Closed {
     // The words of each segment, how many it has room for, how often memory was refused, and how a
     // request may be met.
@@ -27,8 +27,8 @@ pub trait BuilderArena: ReaderArena + sealed::Closed {
     // The arena with other bytes in the allocated words of a segment.
     ghost with_bytes: { Self → ℕ → List ℕ → Self };
 
-    /// Lends the bytes of the allocated words of segment `id` for writing. The words after them
-    /// stay zero.
+    /// Lends the bytes of the allocated words of segment `id` for writing. The segment's words that
+    /// aren't allocated stay zero.
     fn segment_mut(&mut self, id: u32) -> &mut [u8]
         requires { id < length (Self.segments self.old) }
         ensures* lends { sem 𝓛 (Lends Self.row (Array byte 0) self.entry result
@@ -45,18 +45,19 @@ pub trait BuilderArena: ReaderArena + sealed::Closed {
         ensures there { IsSome result ↔ (id < length (Self.segments self.old)) }
         ensures bytes { IfSome result (λ s. slice_get (Self.segments self.old) id ≡ Some s.now) };
 
-    /// Reads a word.
+    /// Returns word `at` of segment `id`.
     fn get_word(&self, id: u32, at: u32) -> u64
         requires { IsPlace (view self.now).words id at }
         ensures { result ≡ word_at (view self.now).words id at };
 
-    /// Writes a word.
+    /// Writes `word` at position `at` of segment `id`.
     fn set_word(&mut self, id: u32, at: u32, word: u64)
         requires { IsPlace (view self.old).words id at }
         ensures { view self.new
             ≡ record (view self.old) { words = with_word (view self.old).words id at word } };
 
-    /// Writes the words of `from` over others. If there are none, nothing changes.
+    /// Writes the words of `from` over those of segment `id` from position `at` on. If `from` is
+    /// empty, nothing changes.
     fn copy_words(&mut self, id: u32, at: u32, from: &[u8])
         requires whole { length from.now ≡ 8 * length (words_of from.now) }
         requires inside { at + length (words_of from.now)
@@ -65,8 +66,8 @@ pub trait BuilderArena: ReaderArena + sealed::Closed {
             ≡ record (view self.old)
             { words = with_words (view self.old).words id at (words_of from.now) } };
 
-    /// Copies `n` words over others of the same segment or of another one; the two ranges may
-    /// overlap. If `n` is 0, nothing changes.
+    /// Copies `n` words from place `from` to place `to`, in the same segment or another one; the
+    /// two ranges may overlap. If `n` is 0, nothing changes.
     fn move_words(&mut self, from: WordPlace, to: WordPlace, n: u32)
         requires there { from.at + n ≤ length (segment (view self.old).words from.segment) }
         requires inside { to.at + n ≤ length (segment (view self.old).words to.segment) }
@@ -76,7 +77,7 @@ pub trait BuilderArena: ReaderArena + sealed::Closed {
                   (words_at (view self.old).words from.segment from.at n);
             } };
 
-    /// Zeroes `n` words. If `n` is 0, nothing changes.
+    /// Zeroes `n` words of segment `id` from position `at` on. If `n` is 0, nothing changes.
     fn zero_words(&mut self, id: u32, at: u32, n: u32)
         requires { at + n ≤ length (segment (view self.old).words id) }
         ensures { view self.new
@@ -84,7 +85,8 @@ pub trait BuilderArena: ReaderArena + sealed::Closed {
             { words = with_words (view self.old).words id at (replicate n 0) } };
 
     /// Allocates `amount` words after the allocated ones of segment `id`, and returns their
-    /// position; they are zero. Returns `None` if the segment has no room for them.
+    /// position; they are zero. Returns `None`, and changes nothing, if the segment has no room for
+    /// them.
     fn allocate(&mut self, id: u32, amount: u32) -> Option<u32>
         requires { id < length (view self.old).words }
         ensures exactly { IsSome result
@@ -125,7 +127,7 @@ pub trait BuilderArena: ReaderArena + sealed::Closed {
     fn as_reader(&self) -> &Self
         ensures { result.now ≡ self.now };
 
-    /// How often memory was refused, at most `u64::MAX`: the `refused` of its allocator.
+    /// How often the arena's allocator has refused memory, at most `u64::MAX`.
     fn refused(&self) -> u64
         ensures { result ≡ (view self.now).refusals };
 

@@ -47,13 +47,13 @@ pub trait ReaderArena {
     fn nesting_limit(&self) -> i32
         ensures { result ≡ nesting self.now };
 
-    /// Whether reading is charged to a read limiter, and pointers are counted there. If not, every
-    /// charge is granted and leaves the limiter unchanged.
+    /// Whether reading is charged to a `ReadLimiter`, which then also counts the pointers followed.
+    /// If not, every charge is granted and leaves the limiter unchanged.
     fn charges(&self) -> bool
         ensures { result ≡ charging self.now };
 
-    /// The total number of whole words in all segments; in an arena being built, of those that are
-    /// allocated.
+    /// The total number of whole words in all segments. In a message being built, only allocated
+    /// words count.
     fn size_in_words(&self) -> usize
         ensures { result ≡ total_words (segments self.now) };
 
@@ -61,7 +61,7 @@ pub trait ReaderArena {
     /// words, from 0 to the segment's length, inclusive.
     ///
     /// Refuses with `MessageContainsOutOfBoundsPointer` if a position is outside of these bounds,
-    /// and like `get_segment` if the segment doesn't exist.
+    /// and with the refusal of `get_segment` if the segment doesn't exist.
     #[tactic(auto, using(crate::proofs::MessageLemmas::placing))]
     fn check_offset(&self, id: u32, start: u32, offset: i32) -> Result<u32, ErrorKind>
         ensures exactly { IsOk result ↔ LeadsInside (message (segments self.now)) id start offset }
@@ -76,11 +76,11 @@ pub trait ReaderArena {
         }
     }
 
-    /// Charges `amount` words that a message claims and doesn't hold, such as those of a list of
-    /// empty structs.
+    /// Charges `lim` for `amount` words that a message claims and doesn't hold, for instance those
+    /// of a list of empty structs.
     ///
-    /// Refuses with `ReadLimitExceeded` if fewer are left, and leaves `lim` unchanged then. If the
-    /// arena doesn't charge, grants this and leaves `lim` unchanged.
+    /// Refuses with `ReadLimitExceeded` if fewer are left, and leaves `lim` unchanged then. If
+    /// `charges` returns `false`, grants every amount and leaves `lim` unchanged.
     fn amplified_read(&self, amount: u64, lim: &mut ReadLimiter) -> Result<(), ErrorKind>
         ensures exactly { IsOk result ↔ Affords (charging self.now) lim.old amount }
         ensures granted { OnOk result (lim.new ≡ charged (charging self.now) lim.old amount) }
@@ -95,11 +95,11 @@ pub trait ReaderArena {
     }
 
     /// Tests that the `size` words from position `start` on are inside segment `id`, and then
-    /// charges them. The interval may be empty, and may end at the segment's end.
+    /// charges `lim` for them. The interval may be empty, and may end at the segment's end.
     ///
     /// Refusals, which leave `lim` unchanged: `MessageContainsOutOfBoundsPointer` if the interval
-    /// isn't inside the segment; that of `get_segment` if the segment doesn't exist;
-    /// `ReadLimitExceeded` if fewer words are left.
+    /// isn't inside the segment; the refusal of `get_segment` if the segment doesn't exist;
+    /// `ReadLimitExceeded` if fewer words are left in `lim`.
     #[tactic(auto, using(crate::proofs::MessageLemmas::placing))]
     fn contains_interval(
         &self,
