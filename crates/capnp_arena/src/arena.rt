@@ -27,7 +27,7 @@ pub use reader_segments::{ReaderSegments, SegmentArray};
 pub use scratch_allocator::{ScratchSegment, ScratchSpaceHeapAllocator};
 
 /// The most words of a segment being built, 536,870,911: each position fits the 29 bits that a far
-/// pointer has for it ("Inter-Segment Pointers").
+/// pointer has for it (encoding specification, "Inter-Segment Pointers").
 pub const MAX_SEGMENT_WORDS: u32 = 0x1fff_ffff;
 
 /// The most segments of a message being built, 4,294,967,295: their number is a u32.

@@ -7,8 +7,8 @@ ghost use Rattle.capnp_words.specs.declared.error.ErrorKind.TheVariants.{Allocat
 use capnp_words::error::ErrorKind;
 use std::alloc::Global;
 
-/// The bytes of a segment, whose number never changes. Those at the front are ready: they can be
-/// read and written. The others are zero, and become ready as words are allocated.
+/// The bytes of a segment; their number never changes. The first ones are ready: they can be read
+/// and written. The others are zero, and become ready as words are allocated.
 pub trait Segment {
     // All bytes, ready or not.
     ghost content: { Self → List ℕ };
@@ -52,15 +52,17 @@ pub trait Segment {
 
 /// Where segments come from and are returned to.
 pub trait Allocator: Drop {
-    /// Returned with `deallocate_segment`. May be dropped if its allocator isn't available.
+    /// A segment. It is returned with `deallocate_segment`, or dropped if its allocator isn't
+    /// available.
     type Segment: Segment + Drop;
 
     // Whether an arena keeps the row of its first segment inside itself; by default, it doesn't.
     ghost first_in_arena: { Bool } = { false };
 
-    /// Whether an arena keeps the row of its first segment, what it knows of it, inside itself, and
-    /// not in a list with the others. That segment then takes memory only if the allocator does,
-    /// and each access tests whether it is the first. Always the same for an allocator.
+    /// Whether an arena stores the row of its first segment (the segment, and what the arena knows
+    /// of it) in the arena itself. The first segment then takes memory only if the allocator does,
+    /// but each access has to test whether it is to the first segment. If not, the arena stores all
+    /// rows in a list. All calls for a type of allocator return the same.
     fn keeps_first_in_arena() -> bool
         ensures { result ≡ first_in_arena };
 
@@ -73,10 +75,10 @@ pub trait Allocator: Drop {
     // Whether a request for this many words is never refused; by default, no request is sure.
     ghost grants: { Self → ℕ → Bool } = { λ _ _. false };
 
-    /// A segment of zeros, of at least `min_words` words and at most 536,870,911.
+    /// Returns a segment of zeros, of at least `min_words` words and at most 536,870,911.
     ///
-    /// Refusals: `MessageTooLarge(min_words)` for a larger request; otherwise `AllocationFailed`,
-    /// which counts in `refused`.
+    /// Refusals: `MessageTooLarge(min_words)` if `min_words` is above 536,870,911;
+    /// `AllocationFailed` for any other reason, which adds 1 to `refused`.
     fn allocate_segment(&mut self, min_words: u32) -> Result<Self::Segment, ErrorKind>
         ensures fresh { IfOk result (λ s. IsFresh min_words (Self.Segment.content s)) }
         ensures sure { IsTrue (grants self.old min_words) → IsOk result }
@@ -90,7 +92,7 @@ pub trait Allocator: Drop {
             × (refusals self.new ≡ one_more (refusals self.old))) }
         ensures offers { offers self.new ≡ offers self.old };
 
-    /// Returns a segment, whose first `used_words` words were allocated. Precondition: all words
+    /// Takes `segment` back, whose first `used_words` words were allocated. Precondition: all words
     /// after these are zero.
     fn deallocate_segment(&mut self, segment: Self::Segment, used_words: u32)
         requires within { 8 * used_words ≤ length (Self.Segment.content segment) }
@@ -98,8 +100,8 @@ pub trait Allocator: Drop {
         ensures refusals { refusals self.new ≡ refusals self.old }
         ensures offers { offers self.new ≡ offers self.old };
 
-    /// Appends a row to a list. If there is no memory for it, returns the row, leaves the list
-    /// unchanged, and counts in `refused`.
+    /// Appends `row` to `list`, and returns `None`. If there is no memory for it, returns `row`,
+    /// leaves `list` unchanged, and adds 1 to `refused`.
     fn keep<T>(&mut self, list: &mut Vec<T>, row: T) -> Option<T>
         ensures kept { IsNone result → (list.new.items ≡ list.old.items ++ row ∷ [])
             × (refusals self.new ≡ refusals self.old) }
@@ -107,8 +109,8 @@ pub trait Allocator: Drop {
             × (refusals self.new ≡ one_more (refusals self.old))) }
         ensures offers { offers self.new ≡ offers self.old };
 
-    /// How often memory was refused, at most `u64::MAX`: once for each `AllocationFailed` and each
-    /// row returned.
+    /// How often memory was refused, at most `u64::MAX`: once for each `AllocationFailed` of
+    /// `allocate_segment`, and for each row that `keep` returned.
     fn refused(&self) -> u64
         ensures { result ≡ refusals self.now };
 }

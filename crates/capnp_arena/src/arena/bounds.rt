@@ -1,12 +1,14 @@
-//! Finds the first row with room for `amount` more words without looking at each.
+//! Finds the first row of a builder arena (one for each segment) with room for `amount` more words,
+//! without looking at each row.
 //!
 //! The rows are cut into ranges as in a Fenwick tree: counted from 1, row i is the last of a range
-//! whose length is the greatest power of two that divides i. So the rows before any one are at most
-//! as many ranges as its number has binary digits. Each row holds a bound, and no row of its range
-//! has more room than that: a range without room is skipped with one look at its bound.
+//! whose length is the greatest power of two that divides i. So the rows up to row i form at most
+//! as many ranges as i has binary digits. Each row stores a bound: no row of its range has more
+//! room than that. So a range without room is skipped with one look at its bound.
 //!
-//! Rooms only shrink. So words are allocated, and rows appended, without a look at bounds. A bound
-//! that has become too great leads to a row without room, and is lowered then.
+//! The room of a row only shrinks, so allocating words leaves the bounds correct. A new row starts
+//! with the greatest bound that there is. If a bound is greater than needed, the search may look at
+//! a row without room; it then lowers the bound.
 ghost use Rattle.std.specs.Prelude.{◌≡◌, ◌<◌, ◌≤◌, ◌+◌, ◌-◌, ℕ, length, IfSome, IsNone};
 ghost use Rattle.capnp_arena_traits.specs.Allocations.{max_segments};
 ghost use Rattle.capnp_arena.specs.Bounds.{FindsFit, HasBounds, HaveNoRoom, IsBoundAt, rooms};
@@ -42,8 +44,8 @@ fn first_allowed<S: Segment>(rows: &[Row<S>], from: usize, amount: u32) -> Optio
     if at < rows.len() { Some(at) } else { None }
 }
 
-/// The most room that a row of the range that ends with row `at` can have, by the room of `at`
-/// itself, and the bounds of the ranges that make up the others.
+/// The most room that the rows of the range that ends with row `at` can have: the maximum of the
+/// room of row `at`, and of the bounds of the ranges that make up the other rows.
 fn greatest_room<S: Segment>(rows: &[Row<S>], at: usize) -> u32
     requires there { at < length rows.now }
     requires bounded { HasBounds S.Segment rows.now }
@@ -60,7 +62,7 @@ fn greatest_room<S: Segment>(rows: &[Row<S>], at: usize) -> u32
     greatest
 }
 
-/// Lowers the bound of row `at` as far as the bounds of its range allow.
+/// Lowers the bound of row `at` to its `greatest_room`.
 fn lower<S: Segment>(rows: &mut [Row<S>], at: usize)
     requires there { at < length rows.old }
     requires bounded { HasBounds S.Segment rows.old }
@@ -73,8 +75,7 @@ fn lower<S: Segment>(rows: &mut [Row<S>], at: usize)
     row.bound = greatest;
 }
 
-/// The first row with room for `amount` more words, found through the kept bounds on the room of
-/// rows.
+/// The first row with room for `amount` more words, found by the bounds of the rows.
 #[inline(never)]
 pub(crate) fn first_by_bounds<S: Segment>(rows: &mut [Row<S>], amount: u32) -> Option<u32>
     requires few { length rows.old ≤ max_segments }

@@ -33,13 +33,13 @@ use std::alloc::Global;
 /// A message of any number of segments, each from an allocator. Its nesting limit is `i32::MAX`,
 /// and reading it charges nothing.
 ///
-/// Dropping it returns each segment to the allocator once, in order of number.
+/// Dropping it returns each segment to the allocator exactly once, in order of number.
 pub struct BuilderArenaImpl<A: Allocator> {
     alloc: Global,
     allocator: A,
-    /// All rows, unless the allocator has the first one kept in the arena.
+    /// All rows, if `keeps_first_in_arena` of the allocator is `false`; otherwise empty.
     listed: Listed<A::Segment>,
-    /// All rows, if it does.
+    /// All rows, if it is `true`, with the first one outside of the list; otherwise empty.
     apart: Rows<A::Segment>,
 }
 
@@ -56,7 +56,7 @@ fn deallocate<A: Allocator>(allocator: &mut A, row: Row<A::Segment>)
     allocator.deallocate_segment(segment, used);
 }
 
-/// Returns the segment of each row of a list to the allocator once, in order of number.
+/// Returns the segment of each row in `rows` to the allocator exactly once, in order of number.
 #[inline(always)]
 fn give_back_list<A: Allocator>(allocator: &mut A, mut rows: Vec<Row<A::Segment>>)
     ensures { RefusesNothing A.Allocator allocator.old allocator.new }
@@ -70,8 +70,8 @@ fn give_back_list<A: Allocator>(allocator: &mut A, mut rows: Vec<Row<A::Segment>
     rows.destroy_empty();
 }
 
-/// Returns the segments of the rows after a first one that is kept apart to the allocator once, in
-/// order of number. Most messages have no such rows.
+/// For an arena that stores its first row outside of the list: returns each segment in the list,
+/// `rows`, to the allocator exactly once, in order of number. For most messages the list is empty.
 #[inline(never)]
 fn give_back_others<A: Allocator>(allocator: &mut A, rows: Vec<Row<A::Segment>>)
     ensures { RefusesNothing A.Allocator allocator.old allocator.new }
@@ -83,8 +83,8 @@ fn give_back_others<A: Allocator>(allocator: &mut A, rows: Vec<Row<A::Segment>>)
     }
 }
 
-/// Returns the segments of all rows to the allocator once, in order of number, if the first row is
-/// kept apart.
+/// For an arena that stores its first row outside of the list: returns each segment to the
+/// allocator exactly once, in order of number.
 #[inline(always)]
 fn give_back_apart<A: Allocator>(allocator: &mut A, rows: Rows<A::Segment>)
     ensures { RefusesNothing A.Allocator allocator.old allocator.new }
@@ -108,8 +108,8 @@ fn give_back_apart<A: Allocator>(allocator: &mut A, rows: Rows<A::Segment>)
     }
 }
 
-/// Returns each segment to the allocator once, in order of number. One of the two kinds has no
-/// rows.
+/// Returns each segment to the allocator exactly once, in order of number. `listed` or `apart` is
+/// empty.
 #[inline(always)]
 fn give_back<A: Allocator>(allocator: &mut A, listed: Listed<A::Segment>, apart: Rows<A::Segment>)
     ensures { RefusesNothing A.Allocator allocator.old allocator.new }
@@ -119,8 +119,8 @@ fn give_back<A: Allocator>(allocator: &mut A, listed: Listed<A::Segment>, apart:
     give_back_list(allocator, rows);
 }
 
-/// Appends a segment with none of its words allocated. If there is no memory for its row, returns
-/// the segment to the allocator; the first needs none.
+/// Appends `segment`, with none of its words allocated. If there is no memory for its row, returns
+/// the segment to the allocator and refuses with `AllocationFailed`. The first row needs no memory.
 #[tactic(auto, using(crate::proofs::TakingLemmas::pushed, crate::proofs::BoundsLemmas::bounded_pushed))]
 fn put_behind<A: Allocator>(
     allocator: &mut A,
@@ -149,7 +149,7 @@ fn put_behind<A: Allocator>(
     }
 }
 
-/// Like `put_behind`, for rows in a list.
+/// Like `put_behind`, for an arena with all rows in a list: the first row needs memory, too.
 #[tactic(auto, using(crate::proofs::TakingLemmas::pushed, crate::proofs::BoundsLemmas::bounded_pushed))]
 fn put_in_list<A: Allocator>(
     allocator: &mut A,
@@ -224,7 +224,7 @@ fn allocated_of_list<S: Segment>(alloc: Global, list: &Listed<S>) -> Result<Vec<
     Ok(segments)
 }
 
-/// The output segments of rows whose first one is kept apart.
+/// The output segments of an arena that stores its first row outside of the list.
 fn output_apart<S: Segment>(alloc: Global, rows: &Rows<S>) -> Result<OutputSegments<'_>, ErrorKind>
     ensures bytes { IfOk result
         (λ o. output_bytes o ≡ shown S.Segment (all S.Segment rows.now)) }
@@ -241,7 +241,7 @@ fn output_apart<S: Segment>(alloc: Global, rows: &Rows<S>) -> Result<OutputSegme
     Ok(OutputSegments::MultiSegment(segments))
 }
 
-/// The output segments of rows in a list.
+/// The output segments of an arena with all rows in a list.
 fn output_of_list<S: Segment>(
     alloc: Global,
     list: &Listed<S>,
@@ -260,7 +260,7 @@ fn output_of_list<S: Segment>(
     Ok(OutputSegments::MultiSegment(segments))
 }
 
-/// The number of allocated words in rows.
+/// The number of allocated words in all of `rows`.
 fn used_in<S: Segment>(rows: &[Row<S>]) -> usize
     requires { length rows.now ≤ max_segments }
     ensures words { result ≡ total_words (shown S.Segment rows.now) }
@@ -273,7 +273,7 @@ fn used_in<S: Segment>(rows: &[Row<S>]) -> usize
     words
 }
 
-/// The number of allocated words in rows whose first one is kept apart.
+/// The number of allocated words in an arena that stores its first row outside of the list.
 fn used_apart<S: Segment>(rows: &Rows<S>) -> usize
     ensures { result ≡ total_words (shown S.Segment (all S.Segment rows.now)) }
 {
@@ -334,7 +334,7 @@ impl<A: Allocator> BuilderArenaImpl<A> {
         self.len() == 0
     }
 
-    /// Returns each segment to the allocator once, in order of number, and then returns the
+    /// Returns each segment to the allocator exactly once, in order of number, and then returns the
     /// allocator.
     #[inline(always)]
     pub fn into_allocator(self) -> A
@@ -351,11 +351,12 @@ impl<A: Allocator> BuilderArenaImpl<A> {
         allocator
     }
 
-    /// Takes the allocator out. The arena keeps its segments and their words, has room only in
-    /// these, and counts its refusals from 0; `with_allocator` puts an allocator in again.
+    /// Separates the arena from its allocator, and returns both. The arena keeps its segments and
+    /// their words, can allocate words only in these, and counts refusals from 0. `with_allocator`
+    /// puts an allocator in again.
     ///
-    /// Dropping the arena while the allocator is out drops the segments: they aren't returned to
-    /// the allocator.
+    /// Dropping the arena without its allocator drops the segments: they aren't returned to the
+    /// allocator.
     pub fn without_allocator(self) -> (BuilderArenaImpl<NullAllocator<A>>, A)
         ensures segments { ⟦<BuilderArenaImpl<NullAllocator<A>> as ReaderArena>⟧.segments result.0
             ≡ ⟦<Self as ReaderArena>⟧.segments self }
@@ -382,8 +383,9 @@ impl<A: Allocator> BuilderArenaImpl<A> {
         (segments, allocator)
     }
 
-    /// Appends a segment with none of its words allocated. If there is no memory for its row,
-    /// returns the segment to the allocator; a first one that is kept in the arena needs none.
+    /// Appends `segment`, with none of its words allocated. If there is no memory for its row,
+    /// returns the segment to the allocator and refuses with `AllocationFailed`. If
+    /// `keeps_first_in_arena` of the allocator is `true`, the first row needs no memory.
     #[inline(always)]
     #[tactic(auto, using(crate::proofs::KeptLemmas::keeping))]
     fn put_last(&mut self, segment: A::Segment) -> Result<(), ErrorKind>
@@ -411,8 +413,8 @@ impl<A: Allocator> BuilderArenaImpl<A> {
     ///
     /// Refusals, which change nothing but `refused`: `MessageTooLarge(usize::MAX)` if there are
     /// 4,294,967,295 segments; `MessageTooLarge(min)` if `min` is above 536,870,911;
-    /// `AllocationFailed` if memory ran out. The first segment takes memory only if the allocator
-    /// does, provided that its row is kept in the arena (`keeps_first_in_arena`).
+    /// `AllocationFailed` if memory ran out. If `keeps_first_in_arena` of the allocator is `true`,
+    /// the first segment takes memory only if the allocator does.
     #[tactic(auto, using(crate::proofs::KeptLemmas::keeping))]
     pub fn allocate_segment(&mut self, min: u32) -> Result<(), ErrorKind>
         ensures made { OnOk result (⟦<Self as ReaderArena>⟧.segments self.new
@@ -454,8 +456,9 @@ impl<A: Allocator> BuilderArenaImpl<A> {
         self.put_last(segment)
     }
 
-    /// The allocated words of each segment, within the limits of a reader. Takes memory unless
-    /// there is exactly one segment, and fails with `AllocationFailed` if memory runs out.
+    /// The allocated words of each segment, for writing the message out. They are within the limits
+    /// of `ReaderArenaImpl::new`. Takes memory unless there is exactly one segment, and fails with
+    /// `AllocationFailed` if memory runs out.
     #[tactic(auto, using(crate::proofs::KeptLemmas::keeping))]
     pub fn get_segments_for_output(&self) -> Result<OutputSegments<'_>, ErrorKind>
         ensures bytes { IfOk result (λ o. output_bytes o
@@ -507,7 +510,8 @@ impl<A: Allocator> BuilderArenaImpl<A> {
         }
     }
 
-    /// Allocates `amount` words at the end of segment `id`, which has room for them.
+    /// Allocates `amount` words after the allocated ones of segment `id`, and returns their
+    /// position. Precondition: the segment has room for them.
     #[tactic(auto, using(crate::proofs::KeptLemmas::keeping))]
     fn take(&mut self, id: u32, amount: u32) -> u32
         requires there { id < length (⟦<Self as ReaderArena>⟧.segments self.old) }
@@ -525,7 +529,8 @@ impl<A: Allocator> BuilderArenaImpl<A> {
         }
     }
 
-    /// Allocates `amount` words in a new last segment, and returns its number.
+    /// Allocates `amount` words in a new last segment, and returns its number. Refuses what
+    /// `allocate_segment` refuses.
     fn take_another(&mut self, amount: u32) -> Result<u32, ErrorKind>
         ensures { TakesAnother (⟦<Self as BuilderArena>⟧.view self.old)
             (⟦<Self as BuilderArena>⟧.view self.new) amount result }
@@ -539,9 +544,9 @@ impl<A: Allocator> BuilderArenaImpl<A> {
 }
 
 impl<A: Allocator> BuilderArenaImpl<NullAllocator<A>> {
-    /// Puts an allocator in, in place of the one that refuses everything: it grants further
-    /// segments from now on, and the present ones will be returned to it. The segments, their words
-    /// and their room stay.
+    /// Replaces the allocator, which refuses every request, by `allocator`. From then on,
+    /// `allocator` grants further segments, and the present segments are returned to it, too. The
+    /// segments, their words and their room are unchanged.
     pub fn with_allocator(self, allocator: A) -> BuilderArenaImpl<A>
         ensures segments { ⟦<BuilderArenaImpl<A> as ReaderArena>⟧.segments result
             ≡ ⟦<Self as ReaderArena>⟧.segments self }

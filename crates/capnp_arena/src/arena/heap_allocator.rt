@@ -52,7 +52,7 @@ impl Segment for HeapSegment {
     fn make_ready(&mut self, _bytes: usize) {}
 }
 
-/// Makes segments on the heap, each of `words` words or as many as requested, if that is more.
+/// Makes segments on the heap, each of `words` words, or of as many as requested if that is more.
 #[derive(Drop)]
 pub struct HeapAllocator {
     alloc: Global,
@@ -62,8 +62,8 @@ pub struct HeapAllocator {
 }
 
 impl HeapAllocator {
-    /// An allocator that has refused nothing yet. `words`, the least number of words of a segment,
-    /// is at most 536,870,911.
+    /// An allocator that has refused nothing yet. Precondition: `words`, the least number of words
+    /// of a segment, is at most 536,870,911.
     pub fn new(alloc: Global, words: u32) -> Self
         requires { words ≤ max_segment_words }
         ensures words { result.words ≡ words }

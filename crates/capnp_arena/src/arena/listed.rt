@@ -1,4 +1,4 @@
-//! The rows of a builder arena, all in one list.
+//! The rows of a builder arena, one for each segment, all in one list.
 ghost use Rattle.std.specs.Prelude.{◌≡◌, ◌≢◌, ◌<◌, ◌≤◌, ◌+◌, ◌*◌, ◌/◌, ◌↔◌, [], length, replicate, slice_get, Some, IsTrue, IsSome, IsNone, IfSome};
 ghost use Rattle.std.specs.Borrow.{sem, Lends, Array, u8 as byte};
 ghost use Rattle.capnp_format.specs.Bytes.{words_of, message};
@@ -54,7 +54,7 @@ impl<S: Segment> Listed<S> {
         self.rows[id as usize].has_room(amount)
     }
 
-    /// Allocates `amount` words at the end of row `id`, which has room for them.
+    /// Allocates `amount` words at the end of row `id`, which has room, and returns their position.
     #[inline(always)]
     #[tactic(auto, using(crate::proofs::RowsLemmas::rows_written))]
     pub(crate) fn take(&mut self, id: u32, amount: u32) -> u32
@@ -94,7 +94,7 @@ impl<S: Segment> Listed<S> {
         }
     }
 
-    /// Reads a word.
+    /// Word `at` of row `id`.
     #[inline(always)]
     pub(crate) fn word(&self, id: u32, at: u32) -> u64
         requires { IsPlace (message (shown S.Segment self.now.rows.items)) id at }
@@ -103,7 +103,7 @@ impl<S: Segment> Listed<S> {
         self.rows[id as usize].word(at)
     }
 
-    /// Writes a word.
+    /// Writes `word` at position `at` of row `id`.
     #[inline(always)]
     #[tactic(auto, using(crate::proofs::RowsLemmas::rows_written))]
     pub(crate) fn set_word(&mut self, id: u32, at: u32, word: u64)
@@ -115,7 +115,7 @@ impl<S: Segment> Listed<S> {
         row.set_word(at, word);
     }
 
-    /// Writes words over others.
+    /// Writes the words of `from` over those of row `id` from position `at` on.
     #[inline(always)]
     #[tactic(auto, using(crate::proofs::RowsLemmas::rows_written))]
     pub(crate) fn copy_words(&mut self, id: u32, at: u32, from: &[u8])
@@ -130,7 +130,7 @@ impl<S: Segment> Listed<S> {
         row.copy_words(at, from);
     }
 
-    /// Zeroes `n` words.
+    /// Zeroes `n` words of row `id` from position `at` on.
     #[inline(always)]
     #[tactic(auto, using(crate::proofs::RowsLemmas::rows_written))]
     pub(crate) fn zero_words(&mut self, id: u32, at: u32, n: u32)
@@ -144,7 +144,7 @@ impl<S: Segment> Listed<S> {
         row.zero_words(at, n);
     }
 
-    /// Copies `n` words of a row to another position in it; the two ranges may overlap.
+    /// Copies `n` words of row `id` from position `from` to `to`; the two ranges may overlap.
     #[inline(always)]
     #[tactic(auto, using(crate::proofs::RowsLemmas::rows_written))]
     pub(crate) fn move_words(&mut self, id: u32, from: u32, to: u32, n: u32)
@@ -161,7 +161,7 @@ impl<S: Segment> Listed<S> {
         row.move_words(from, to, n);
     }
 
-    /// Copies `n` words of one row over those of another.
+    /// Copies `n` words from place `from` to place `to`, in another row.
     #[inline(always)]
     pub(crate) fn copy_across(&mut self, from: WordPlace, to: WordPlace, n: u32)
         requires rows { (from.segment < length self.old.rows.items)

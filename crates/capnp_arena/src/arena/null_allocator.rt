@@ -5,14 +5,15 @@ use crate::arena::{Allocator, MAX_SEGMENT_WORDS};
 use capnp_words::error::ErrorKind;
 use std::marker::PhantomData;
 
-/// Refuses every request. An arena over it keeps the segments that it got from an allocator `A`,
-/// and gets no further ones: it can allocate words only in these.
+/// Refuses every request. An arena with this allocator keeps the segments that it got from an
+/// allocator `A`, and gets no further ones: it can allocate words only in these.
 ///
-/// A request of at most 536,870,911 words is refused with `AllocationFailed`, and counts in
-/// `refused`, which no other allocator sees. A segment returned to it is dropped.
+/// Refuses a request of more than 536,870,911 words with `MessageTooLarge`, and any other with
+/// `AllocationFailed`. Its `refused` counts the latter; `refused` of the allocator `A` doesn't.
+/// Drops each segment that is returned to it.
 ///
-/// `BuilderArenaImpl::without_allocator` makes such an arena, and `with_allocator` puts the
-/// allocator in again.
+/// `BuilderArenaImpl::without_allocator` makes an arena with this allocator, and `with_allocator`
+/// replaces it by an allocator `A`.
 #[derive(Drop)]
 pub struct NullAllocator<A: Allocator> {
     of: PhantomData<A>,

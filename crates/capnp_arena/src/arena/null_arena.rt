@@ -6,8 +6,8 @@ ghost use Rattle.capnp_words.specs.declared.error.ErrorKind.TheVariants.{TriedTo
 use crate::arena::ReaderArena;
 use capnp_words::error::ErrorKind;
 
-/// An arena without any place. Refuses a place with `TriedToReadFromNullArena`; charges nothing,
-/// and its nesting limit is `i32::MAX`.
+/// An arena without segments. Refuses every segment number with `TriedToReadFromNullArena`. Charges
+/// nothing, and its nesting limit is `i32::MAX`.
 #[derive(Clone, Copy)]
 pub struct NullArena;
 

@@ -16,7 +16,7 @@ pub trait ReaderSegments {
     fn len(&self) -> usize
         ensures { result ≡ length (segments self.now) };
 
-    /// Whether there are none.
+    /// Whether there are no segments.
     fn is_empty(&self) -> bool
         ensures { IsTrue result ↔ (length (segments self.now) ≡ 0) }
     {
@@ -24,7 +24,7 @@ pub trait ReaderSegments {
     }
 }
 
-/// Borrowed segments, within the limits of a reader.
+/// Borrowed segments: fewer than 2^32, each of fewer than 2^32 words.
 #[derive(Clone, Copy)]
 pub struct SegmentArray<'a> {
     segments: &'a [&'a [u8]],

@@ -9,7 +9,7 @@ ghost use Rattle.capnp_arena.specs.Front.{RewritesFront};
 use crate::arena::{MAX_SEGMENT_WORDS, Segment};
 use capnp_words::words;
 
-/// Writes word `at` of the first `end` words.
+/// Writes `word` at position `at`, within the first `end` words.
 #[tactic(auto, using(crate::proofs::RowLemmas::kept))]
 fn put_below(bytes: &mut [u8], end: usize, at: usize, word: u64)
     requires inside { at < end }
@@ -20,7 +20,7 @@ fn put_below(bytes: &mut [u8], end: usize, at: usize, word: u64)
     words::put_word(&mut bytes[..8 * end], at, word);
 }
 
-/// Writes words, from `at` on, of the first `end` words.
+/// Writes the words of `from` from position `at` on, within the first `end` words.
 #[tactic(auto, using(crate::proofs::RowLemmas::kept))]
 fn copy_below(bytes: &mut [u8], end: usize, at: usize, from: &[u8])
     requires whole { length from.now ≡ 8 * length (words_of from.now) }
@@ -32,7 +32,7 @@ fn copy_below(bytes: &mut [u8], end: usize, at: usize, from: &[u8])
     words::copy_words(&mut bytes[..8 * end], at, from);
 }
 
-/// Zeroes `n` words, from `at` on, of the first `end` words.
+/// Zeroes `n` words from position `at` on, within the first `end` words.
 #[tactic(auto, using(crate::proofs::RowLemmas::kept_zeros))]
 fn zero_below(bytes: &mut [u8], end: usize, at: usize, n: usize)
     requires inside { at + n ≤ end }
@@ -43,8 +43,8 @@ fn zero_below(bytes: &mut [u8], end: usize, at: usize, n: usize)
     words::zero_words(&mut bytes[..8 * end], at, n);
 }
 
-/// Copies `n` words to another position, both within the first `end` words; the two ranges may
-/// overlap.
+/// Copies `n` words from position `from` to position `to`; the two ranges are within the first
+/// `end` words, and may overlap.
 #[tactic(auto, using(crate::proofs::RowLemmas::kept))]
 fn move_below(bytes: &mut [u8], end: usize, from: usize, to: usize, n: usize)
     requires there { from + n ≤ end }
@@ -72,7 +72,7 @@ fn front_of<S: Segment>(segment: &mut S, n: usize) -> &mut [u8]
 pub(crate) struct Row<S: Segment> {
     pub(crate) segment: S,
     pub(crate) used: u32,
-    /// At least the room of each row of the range that ends with this one (`bounds`).
+    /// No row of the range that ends with this one (module `bounds`) has more room than this.
     pub(crate) bound: u32,
     ghost clear: { IsRow used (S.ready segment) (length (S.content segment)) },
 }
@@ -129,7 +129,8 @@ impl<S: Segment> Row<S> {
         self.used as usize + amount as usize <= self.segment.len() / 8
     }
 
-    /// Allocates `amount` words after the others; they are zero.
+    /// Allocates `amount` words after the allocated ones, and returns their position. They are
+    /// zero.
     #[tactic(auto, using(crate::proofs::RowLemmas::taking))]
     pub(crate) fn take(&mut self, amount: u32) -> u32
         requires { self.old.used + amount ≤ capacity S.Segment self.old }
@@ -146,7 +147,7 @@ impl<S: Segment> Row<S> {
         at
     }
 
-    /// One of the allocated words.
+    /// Allocated word `at`.
     pub(crate) fn word(&self, at: u32) -> u64
         requires { at < self.now.used }
         ensures { result ≡ slice_index (words_of (allocated S.Segment self.now)) at }

@@ -1,9 +1,9 @@
-//! The rows of a builder arena whose allocator has the first one kept in the arena
-//! (`keeps_first_in_arena`): the first is in the struct itself, so that it takes no memory, and the
-//! others are in a list. All other arenas use `listed`.
+//! The rows of a builder arena, one for each segment, if `keeps_first_in_arena` of its allocator is
+//! `true`: the first row is in the struct itself, so it takes no memory, and the others are in a
+//! list. Any other builder arena uses module `listed`.
 //!
-//! Most messages have one segment, and most words are written in it. So calls for row 0 are
-//! answered inline, and those for other rows by functions that are called.
+//! Most messages have one segment, and most words are written in it. So the code for row 0 is
+//! inlined, and that for other rows is in functions that aren't.
 ghost use Rattle.std.specs.Prelude.{◌≡◌, ◌≢◌, ◌<◌, ◌≤◌, ◌+◌, ◌-◌, ◌*◌, ◌/◌, ◌↔◌, ◌∷◌, [], length, replicate, slice_get, Some, IsSome, IsNone, IfSome};
 ghost use Rattle.std.specs.Borrow.{sem, Lends, Array, u8 as byte};
 ghost use Rattle.capnp_format.specs.Bytes.{words_of, message};
@@ -19,7 +19,7 @@ use crate::arena::{Segment, WordPlace, bounds};
 use std::alloc::Global;
 use std::mem::replace;
 
-/// Allocates `amount` words at the end of row `id`, which has room for them.
+/// Allocates `amount` words at the end of row `id`, which has room, and returns their position.
 #[cold]
 #[inline(never)]
 #[tactic(auto, using(crate::proofs::RowsLemmas::rows_written))]
@@ -58,7 +58,7 @@ fn allocate_in<S: Segment>(rows: &mut [Row<S>], id: usize, amount: u32) -> Optio
     }
 }
 
-/// Reads a word of a row.
+/// Word `at` of row `id`.
 #[cold]
 #[inline(never)]
 fn word_in<S: Segment>(rows: &[Row<S>], id: usize, at: u32) -> u64
@@ -68,7 +68,7 @@ fn word_in<S: Segment>(rows: &[Row<S>], id: usize, at: u32) -> u64
     rows[id].word(at)
 }
 
-/// Writes a word of a row.
+/// Writes `word` at position `at` of row `id`.
 #[cold]
 #[inline(never)]
 #[tactic(auto, using(crate::proofs::RowsLemmas::rows_written))]
@@ -81,7 +81,7 @@ fn set_word_in<S: Segment>(rows: &mut [Row<S>], id: usize, at: u32, word: u64)
     row.set_word(at, word);
 }
 
-/// Writes words over others of a row.
+/// Writes the words of `from` over those of row `id` from position `at` on.
 #[cold]
 #[inline(never)]
 #[tactic(auto, using(crate::proofs::RowsLemmas::rows_written))]
@@ -97,7 +97,7 @@ fn copy_words_in<S: Segment>(rows: &mut [Row<S>], id: usize, at: u32, from: &[u8
     row.copy_words(at, from);
 }
 
-/// Zeroes `n` words of a row.
+/// Zeroes `n` words of row `id` from position `at` on.
 #[cold]
 #[inline(never)]
 #[tactic(auto, using(crate::proofs::RowsLemmas::rows_written))]
@@ -111,7 +111,7 @@ fn zero_words_in<S: Segment>(rows: &mut [Row<S>], id: usize, at: u32, n: u32)
     row.zero_words(at, n);
 }
 
-/// Copies `n` words of a row to another position in it; the two ranges may overlap.
+/// Copies `n` words of row `id` from position `from` to `to`; the two ranges may overlap.
 #[cold]
 #[inline(never)]
 #[tactic(auto, using(crate::proofs::RowsLemmas::rows_written))]
@@ -134,7 +134,7 @@ pub(crate) struct At {
     pub(crate) at: u32,
 }
 
-/// Copies `n` words of `row`, from position `from` on, over those of another.
+/// Copies `n` words of `row`, from position `from` on, over those at `to`, in a row of `rows`.
 #[inline(never)]
 #[tactic(auto, using(crate::proofs::RowsLemmas::rows_written))]
 fn copy_in<S: Segment>(rows: &mut [Row<S>], to: At, row: &Row<S>, from: u32, n: u32)
@@ -150,7 +150,7 @@ fn copy_in<S: Segment>(rows: &mut [Row<S>], to: At, row: &Row<S>, from: u32, n: 
     written.copy_from(to.at, row, from, n);
 }
 
-/// Copies `n` words of one row over those of another.
+/// Copies `n` words from place `from` to place `to`, in another row.
 pub(crate) fn copy_across_in<S: Segment>(rows: &mut [Row<S>], from: At, to: At, n: u32)
     requires rows { (from.row < length rows.old) × (to.row < length rows.old) }
     requires apart { from.row ≢ to.row }
@@ -185,7 +185,7 @@ pub(crate) fn allocated_in<S: Segment>(rows: &[Row<S>], id: usize) -> Option<&[u
     }
 }
 
-/// Rows whose first one is kept apart.
+/// The first row, stored outside of the list, and the list of the others.
 pub(crate) struct Rows<S: Segment> {
     pub(crate) first: Row<S>,
     /// Whether there is a first row; if not, `first` has no words, and there are no others.
@@ -223,7 +223,7 @@ impl<S: Segment> Rows<S> {
         if self.there { self.others.len() + 1 } else { 0 }
     }
 
-    /// Allocates `amount` words at the end of row `id`, which has room for them.
+    /// Allocates `amount` words at the end of row `id`, which has room, and returns their position.
     #[inline(always)]
     #[tactic(auto, using(crate::proofs::ListedLemmas::listing))]
     pub(crate) fn take(&mut self, id: u32, amount: u32) -> u32
@@ -272,7 +272,7 @@ impl<S: Segment> Rows<S> {
         }
     }
 
-    /// Reads a word.
+    /// Word `at` of row `id`.
     #[inline(always)]
     #[tactic(auto, using(crate::proofs::ListedLemmas::listing))]
     pub(crate) fn word(&self, id: u32, at: u32) -> u64
@@ -286,7 +286,7 @@ impl<S: Segment> Rows<S> {
         }
     }
 
-    /// Writes a word.
+    /// Writes `word` at position `at` of row `id`.
     #[inline(always)]
     #[tactic(auto, using(crate::proofs::ListedLemmas::listing))]
     pub(crate) fn set_word(&mut self, id: u32, at: u32, word: u64)
@@ -301,7 +301,7 @@ impl<S: Segment> Rows<S> {
         }
     }
 
-    /// Writes words over others.
+    /// Writes the words of `from` over those of row `id` from position `at` on.
     #[inline(always)]
     #[tactic(auto, using(crate::proofs::ListedLemmas::listing))]
     pub(crate) fn copy_words(&mut self, id: u32, at: u32, from: &[u8])
@@ -320,7 +320,7 @@ impl<S: Segment> Rows<S> {
         }
     }
 
-    /// Zeroes `n` words.
+    /// Zeroes `n` words of row `id` from position `at` on.
     #[inline(always)]
     #[tactic(auto, using(crate::proofs::ListedLemmas::listing))]
     pub(crate) fn zero_words(&mut self, id: u32, at: u32, n: u32)
@@ -338,7 +338,7 @@ impl<S: Segment> Rows<S> {
         }
     }
 
-    /// Copies `n` words of a row to another position in it; the two ranges may overlap.
+    /// Copies `n` words of row `id` from position `from` to `to`; the two ranges may overlap.
     #[tactic(auto, using(crate::proofs::ListedLemmas::listing))]
     pub(crate) fn move_words(&mut self, id: u32, from: u32, to: u32, n: u32)
         requires row { id < length (all S.Segment self.old) }
@@ -357,7 +357,7 @@ impl<S: Segment> Rows<S> {
         }
     }
 
-    /// Copies `n` words of one row over those of another.
+    /// Copies `n` words from place `from` to place `to`, in another row.
     #[tactic(auto, using(crate::proofs::ListedLemmas::listing))]
     pub(crate) fn copy_across(&mut self, from: WordPlace, to: WordPlace, n: u32)
         requires rows { (from.segment < length (all S.Segment self.old))
@@ -411,7 +411,7 @@ impl<S: Segment> Rows<S> {
         }
     }
 
-    /// Lends the allocated words of the first row.
+    /// Lends the allocated words of the first row, for writing.
     #[inline(always)]
     fn first_mut(&mut self) -> &mut [u8]
         ensures* lends { sem 𝓛 (Lends (the_row S.row S.Segment) (Array byte 0) self.entry result
@@ -421,7 +421,7 @@ impl<S: Segment> Rows<S> {
         self.first.allocated_mut()
     }
 
-    /// Lends the allocated words of another row.
+    /// Lends the allocated words of row `id`, which isn't the first, for writing.
     #[cold]
     #[inline(never)]
     fn other_mut(&mut self, id: u32) -> &mut [u8]

@@ -1,4 +1,4 @@
-//! Segments whose first one is in memory lent by the caller.
+//! An allocator with one segment in memory lent by the caller.
 ghost use Rattle.std.specs.Prelude.{◌++◌, ◌∷◌, [], ◌≡◌, ◌≤◌, ◌<◌, ◌+◌, ◌*◌, ◌/◌, ◌==◌, ℕ, List, length, replicate, min, max, refl, true, false, IsTrue, IsFalse, IsSome, IsNone, IfSome, ◌↔◌, IsOk, IfOk, IsOkAnd, OnOk, IfErr, Err};
 ghost use Rattle.capnp_arena_traits.specs.Allocations.{IsClearFrom, IsFresh, max_segment_words, one_more};
 ghost use Rattle.capnp_words.specs.declared.error.ErrorKind.TheVariants.{AllocationFailed, MessageTooLarge};
@@ -139,7 +139,7 @@ impl<'a> ZeroBytes<'a> {
         ZeroBytes { bytes }
     }
 
-    /// How many of the whole words are a segment.
+    /// The number of words of the segment: the whole words of `bytes`, at most 536,870,911.
     fn words(&self) -> u32
         ensures { result ≡ min (self.now / 8) max_segment_words }
     {
@@ -160,12 +160,13 @@ impl<'a> ZeroBytes<'a> {
 /// Makes segments like `HeapAllocator`, except for one: the scratch space, which is memory lent by
 /// the caller.
 ///
-/// The whole words of the scratch space, at most 536,870,911, are a segment. While it isn't in use,
-/// it meets each request that it is large enough for: this takes no memory and is never refused.
-/// After it is returned, it can be used again. A scratch space without a whole word is never used.
+/// The whole words of the scratch space, at most 536,870,911, are one segment. While no arena uses
+/// that segment, it is granted to every request that it is large enough for; this takes no memory
+/// and is never refused. After it is returned, it can be granted again. A scratch space without a
+/// whole word is never used.
 ///
-/// An arena over it holds the row of its first segment itself, so a message that fits in the
-/// scratch space takes no memory at all.
+/// An arena with this allocator stores the row of its first segment itself
+/// (`keeps_first_in_arena`), so a message that fits in the scratch space takes no memory at all.
 #[derive(Drop)]
 pub struct ScratchSpaceHeapAllocator<'a> {
     scratch: Option<ZeroBytes<'a>>,
@@ -191,8 +192,9 @@ impl<'a> Model for ScratchSpaceHeapAllocator<'a> {
 impl<'a> ScratchSpaceHeapAllocator<'a> {
     ghost use Rattle.capnp_arena.specs.Scratch.{lends, offered, whole_words};
 
-    /// Zeroes all bytes of the scratch space, and takes no memory. `words`, the least number of
-    /// words of every other segment, is at most 536,870,911.
+    /// An allocator with `scratch` as its scratch space. Zeroes all bytes of `scratch`, and takes
+    /// no memory. Precondition: `words`, the least number of words of every other segment, is at
+    /// most 536,870,911.
     pub fn new(alloc: Global, scratch: &'a mut [u8], words: u32) -> Self
         requires { words ≤ max_segment_words }
         ensures grants { (asked : ℕ) → IsTrue (⟦<Self as Allocator>⟧.grants result asked)
@@ -229,8 +231,8 @@ impl<'a> ScratchSpaceHeapAllocator<'a> {
         Some(scratch.into_words())
     }
 
-    /// Takes the scratch space back, and zeroes its used words. Bytes of another number aren't the
-    /// scratch space.
+    /// If `bytes` has the length of the scratch space, takes it back and zeroes its used words;
+    /// otherwise does nothing.
     fn take_back(&mut self, bytes: &'a mut [u8], used_words: u32)
         requires within { 8 * used_words ≤ length bytes.old }
         requires clear { IsClearFrom used_words bytes.old }
