@@ -1,4 +1,5 @@
-//! Inputs and outputs of bytes. A device that fails once reports it from then on.
+//! Inputs and outputs of bytes. After a device has failed once, its `failed` returns `true`
+//! forever.
 ghost use Rattle.std.specs.Prelude.{◌≡◌, ◌<◌, ◌≤◌, ℕ, List, Bool, true, Option, length, IfOk, OnOk, OnErr};
 ghost use Rattle.std.specs.Io.KnownBytes.{ReadConsumes, WriteAppends};
 ghost use Rattle.capnp_framing.specs.Wholeness.{KeepsWhole};
@@ -49,8 +50,8 @@ pub trait Output {
     // Whether a write has failed.
     ghost has_failed: { Self → Bool };
 
-    /// Takes bytes from the front of `from`, and returns their number, which isn't 0 unless `from`
-    /// is empty. A write that fails takes no bytes.
+    /// Takes bytes from the front of `from`, and returns their number: at least 1 unless `from` is
+    /// empty. A write that fails takes no bytes.
     fn write(&mut self, from: &[u8]) -> Result<usize, DeviceFault>
         ensures bound { IfOk result (λ n. n ≤ length from.now) }
         ensures some { 0 < length from.now → IfOk result (λ n. 0 < n) }

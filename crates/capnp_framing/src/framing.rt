@@ -1,4 +1,5 @@
-//! The segments of a message in a stream of bytes ("Serialization Over a Stream").
+//! The segments of a message in a stream of bytes (encoding specification, "Serialization Over a
+//! Stream").
 
 mod flat;
 mod frame_error;

@@ -1,5 +1,5 @@
-//! Laws of frames beyond one call ("Serialization Over a Stream"). Each function does nothing: its
-//! contract is the law, proved for all messages.
+//! Laws of frames that aren't about one call (encoding specification, "Serialization Over a
+//! Stream"). Each function does nothing: its contract is the law, proved for all messages.
 
 ghost use Rattle.std.specs.Prelude.{◌≡◌, ℕ, ◌≤◌, List, [], ◌∷◌, ◌++◌, length};
 ghost use Rattle.capnp_format.specs.Bytes.{message};
@@ -18,8 +18,8 @@ pub fn one_frame()
         → S ≡ R }
 {}
 
-/// What is written for a message is a frame of it, of the same length as any other frame of it,
-/// whose padding may differ; and it is a frame of no other message.
+/// What `write` writes for a message is a frame of it, and of no other message. Any other frame of
+/// the message has the same length; only its padding may differ.
 pub fn written_frames()
     ensures framed { (S : Segments) → CanBeFramed S → IsFrameOf S (frame S) }
     ensures long { (S : Segments) (bytes : List ℕ) → IsFrameOf S bytes
@@ -27,14 +27,15 @@ pub fn written_frames()
     ensures same { (S R : Segments) → CanBeFramed S → CanBeFramed R → frame S ≡ frame R → S ≡ R }
 {}
 
-/// A frame of no more words than allowed is never refused for its contents, with anything after it.
+/// A frame of at most `most` words is never refused for its contents, with any bytes after it.
 pub fn frame_is_read()
     ensures { (S : Segments) (bytes rest : List ℕ) (most : ℕ) (e : FrameError) → IsFrameOf S bytes
         → total S ≤ most → NoFrame (bytes ++ rest) most e → ⊥ }
 {}
 
-/// The bytes of a segment's words are its bare words, if as many are allowed: they mean the message
-/// of that segment only. Whole words, if as many are allowed, are never refused for their contents.
+/// The bytes of a segment's words, without a frame, are read as the message of only that segment,
+/// if it has at most `most` words. Whole words are never refused for their contents, if there are
+/// at most `most`, and no more than a segment can have.
 pub fn bare_words()
     ensures same { (ws : List ℕ) (most : ℕ) → AreSegmentWords ws → length ws ≤ most_bare most
         → AreBareWords (bytes_of_words ws) most × (message (bytes_of_words ws ∷ []) ≡ ws ∷ []) }

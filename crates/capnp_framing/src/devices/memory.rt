@@ -6,7 +6,8 @@ ghost use Rattle.capnp_framing.specs.Devices.{ReadGives, WriteTakes};
 use super::{DeviceFault, Input, Output};
 use std::alloc::Global;
 
-/// Reads bytes in memory. It never fails, and a read returns as many bytes as there are and fit.
+/// Reads bytes in memory. It never fails. A read returns all bytes that are left, or as many as fit
+/// in `to`.
 #[derive(Clone, Copy)]
 pub struct MemoryInput<'a> {
     bytes: &'a [u8],

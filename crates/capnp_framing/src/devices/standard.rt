@@ -6,8 +6,8 @@ ghost use Rattle.capnp_framing.specs.Devices.{ReadGives};
 use super::{DeviceFault, Input, Output};
 use std::io::{Read, Write};
 
-/// The bytes of a reader. An error of the reader is a fault, whose reason is dropped; the reader
-/// isn't read on after one.
+/// The bytes of a reader. An error of the reader becomes a `DeviceFault`, without its reason; after
+/// one, the reader isn't read any more.
 #[derive(Drop)]
 pub struct ReaderInput<R> {
     reader: R,
@@ -56,7 +56,7 @@ impl<R: Read> Input for ReaderInput<R> {
     }
 }
 
-/// Writes bytes to a writer. An error of the writer is a fault, whose reason is dropped.
+/// Writes bytes to a writer. An error of the writer becomes a `DeviceFault`, without its reason.
 #[derive(Drop)]
 pub struct WriterOutput<W> {
     writer: W,

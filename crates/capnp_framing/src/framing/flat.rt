@@ -1,4 +1,5 @@
-//! Reads a message in place from a frame in memory ("Serialization Over a Stream").
+//! Reads a message in place from a frame in memory (encoding specification, "Serialization Over a
+//! Stream").
 ghost use Rattle.std.specs.Prelude.{◌≡◌, ◌+◌, ◌*◌, ◌<◌, ◌≤◌, [], Ok, None, IfSome, IfOk, IfErr, length};
 ghost use Rattle.capnp_format.specs.Bytes.{message};
 ghost use Rattle.capnp_arena_traits.specs.Limits.{IsSmall};
@@ -11,10 +12,10 @@ use super::frame_error::FrameError;
 use super::reading::{number_at, words_between};
 use capnp_arena::arena::ReaderSegments;
 
-/// The start of every `STEP`th segment is kept.
+/// The position of every `STEP`th segment is stored; the others are counted from these.
 const STEP: usize = 32;
 
-/// The number of starts kept.
+/// The number of positions stored.
 const STARTS: usize = MAX_SEGMENTS / STEP;
 
 /// The segments of a message, in the memory of its frame.
@@ -36,7 +37,8 @@ pub struct FrameSegments<'a> {
     ghost sized: { size ≡ table_size count + 8 * words_told count table.now },
 }
 
-/// The number of words before every 32nd segment, and in all, of the `count` sizes in `table`.
+/// The number of words before every 32nd segment, and the number of all words, by the `count` sizes
+/// in `table`.
 fn starts_of(table: &[u8], count: usize) -> ([u64; STARTS], u64)
     requires inside { 4 * count ≤ length table.now }
     requires few { count ≤ 512 }
@@ -61,7 +63,7 @@ impl FrameSegments<'_> {
         self.size
     }
 
-    /// The number of words before segment `id`, counted from the nearest start that is kept.
+    /// The number of words before segment `id`, counted from the nearest position in `starts`.
     fn words_before(&self, id: usize) -> u64
         requires { id < self.now.count }
         ensures { result ≡ words_told id self.now.table.now }
@@ -97,7 +99,7 @@ impl ReaderSegments for FrameSegments<'_> {
 /// Reads a message in place from the front of `bytes`: copies nothing, and takes no memory. Ignores
 /// the bytes after the message. Returns `None` if `bytes` is empty.
 ///
-/// Refuses what `read` refuses, in the same order, except for failures of devices and memory.
+/// Refuses what `read` refuses, in the same order. `ReadFailed` and `AllocationFailed` can't occur.
 pub fn read_from_flat_slice(
     bytes: &[u8],
     max_words: u64,

@@ -11,12 +11,12 @@ use thiserror::Error;
 pub enum FrameError {
     /// A message without segments has no frame.
     NoSegments,
-    /// The message has more than 512 segments; with their number.
+    /// The message has more than 512 segments. Carries their number.
     TooManySegments(u64),
-    /// The message has more words than `max_words`. Carries their number; for bare words, the
-    /// number of the first word beyond the limit, counted from 1.
+    /// The message has more words than `max_words`. Carries their number; for a message without a
+    /// frame, the number of the first word beyond the limit, counted from 1.
     MessageTooLong(u64),
-    /// The input ended inside a frame, or inside a bare word.
+    /// The input ended inside a frame, or inside a word of a message without a frame.
     Truncated,
     /// The input failed.
     ReadFailed,

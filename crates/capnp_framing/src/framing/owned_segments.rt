@@ -54,8 +54,8 @@ impl OwnedSegments {
         if id == 0 { 0 } else { self.end_of(id - 1) }
     }
 
-    /// The size in bytes of the frame that they were read from: its table with padding, and its
-    /// words.
+    /// The size in bytes of the frame that the segments were read from: its table with padding, and
+    /// its words.
     pub fn size_in_bytes(&self) -> usize
         ensures { result ≡ length (frame (message (⟦<Self as ReaderSegments>⟧.segments self.now))) }
     {
@@ -82,7 +82,7 @@ impl ReaderSegments for OwnedSegments {
     }
 }
 
-/// Lent segments.
+/// Segments behind a reference.
 impl ReaderSegments for &OwnedSegments {
     ghost segments = { λ m. ⟦<OwnedSegments as ReaderSegments>⟧.segments m.now };
 

@@ -1,4 +1,4 @@
-//! Reads a message from a stream of bytes ("Serialization Over a Stream").
+//! Reads a message from a stream of bytes (encoding specification, "Serialization Over a Stream").
 ghost use Rattle.std.specs.Prelude.{◌≡◌, ℕ, ◌<◌, ◌≤◌, ◌+◌, ◌-◌, ◌*◌, [], false, true, length, take, drop, slice_index, Ok, None, IfSome, OnSome, IfOk, IfErr, OnOk, OnErr};
 ghost use Rattle.std.specs.Int.{from_le_bytes, w32};
 ghost use Rattle.std.specs.Io.KnownBytes.{Consumes, IsAtEnd};
@@ -16,8 +16,8 @@ use crate::devices::{DeviceFault, Input};
 use capnp_arena::arena::{Allocator, HeapAllocator, ReaderSegments};
 use std::alloc::{AllocError, Global};
 
-/// The most bytes that memory grows by before bytes for it arrive: a table's announcement is
-/// trusted no further.
+/// The most bytes that memory grows by before bytes arrive to fill it. A table may announce more
+/// words than follow it, so it isn't trusted further.
 const PIECE: usize = 1 << 18;
 
 /// Reads until `to` is full or the input ends, and returns the number of bytes read.
@@ -42,8 +42,8 @@ pub(super) fn read_up_to<R: Input>(input: &mut R, to: &mut [u8]) -> Result<usize
     Ok(n)
 }
 
-/// Makes room in `to` for `more` bytes after the first `n`, if there isn't any. Takes memory from the
-/// heap; asks the allocator only if the heap refuses.
+/// If `to` has no bytes after the first `n`, grows it by some, at most `more`. Takes memory from
+/// the heap; asks the allocator only if the heap refuses.
 pub(super) fn make_room<A: Allocator>(
     allocator: &mut A,
     to: &mut Vec<u8>,
@@ -66,8 +66,8 @@ pub(super) fn make_room<A: Allocator>(
     }
 }
 
-/// Makes room in `to` for one byte or more after the first `n`, which are kept. If there is no
-/// memory for one, the allocator counts it.
+/// Grows `to` by one byte or more, and leaves its first `n` bytes unchanged. If there is no memory
+/// for one byte, refuses with `AllocationFailed`, which the allocator counts.
 #[cold]
 #[inline(never)]
 fn make_some_room<A: Allocator>(
@@ -90,7 +90,7 @@ fn make_some_room<A: Allocator>(
     Ok(())
 }
 
-/// Reads to the bytes of `to` from `start` up to `end`, until the input ends, and returns the
+/// Reads into `to` from position `start` up to `end`, or until the input ends, and returns the
 /// number of bytes read.
 pub(super) fn read_between<R: Input>(
     input: &mut R,
@@ -113,7 +113,8 @@ pub(super) fn read_between<R: Input>(
     read_up_to(input, &mut to[start..end])
 }
 
-/// Reads to all bytes of `to` from `start` up to `end`.
+/// Reads into all bytes of `to` from position `start` up to `end`. Refuses with `Truncated` if the
+/// input ends first.
 fn fill_between<R: Input>(
     input: &mut R,
     to: &mut [u8],
@@ -138,7 +139,7 @@ fn fill_between<R: Input>(
     }
 }
 
-/// Reads `size` bytes to the front of memory, which grows if it has to.
+/// Reads `size` bytes to the front of `to`, which grows if it has to.
 #[inline(always)]
 fn read_front<A: Allocator, R: Input>(
     allocator: &mut A,
@@ -187,8 +188,8 @@ pub(super) fn words_between(table: &[u8], first: usize, end: usize) -> u64
     words
 }
 
-/// Stores in `ends` the number of words up to the end of each segment, by the `count` sizes in
-/// `table`, and returns the number of all words.
+/// For each of the `count` segments with sizes in `table`, stores in `ends` the number of words up
+/// to its end. Returns the number of all words.
 fn ends_of<A: Allocator>(
     allocator: &mut A,
     table: &[u8],
@@ -213,7 +214,7 @@ fn ends_of<A: Allocator>(
     Ok(sum)
 }
 
-/// Each byte is below 256. Does nothing; its contract states this.
+/// States in its contract that each byte is below 256. Does nothing.
 fn are_bytes(bytes: &[u8])
     ensures { (i : ℕ) → slice_index bytes.now i < 256 }
 {}
@@ -248,8 +249,8 @@ fn read_count<R: Input>(input: &mut R, first: &mut [u8; 4]) -> Result<Option<usi
     Ok(Some(told as usize))
 }
 
-/// Reads a message from the front of an input into reused segments, and leaves what follows it
-/// unread. Returns `false` if the input is at its end; there are no segments then.
+/// Reads a message from the front of `input` into `into`, whose memory is reused, and leaves what
+/// follows it unread. Returns `false` if the input is at its end; `into` has no segments then.
 ///
 /// Refusals, in this order: `Truncated` if there are fewer than four bytes; `TooManySegments`, with
 /// their number, if there are more than 512; `Truncated` if the table is cut short, padding
@@ -257,14 +258,14 @@ fn read_count<R: Input>(input: &mut R, first: &mut [u8; 4]) -> Result<Option<usi
 /// `Truncated` if the words are cut short. Also `ReadFailed` if the input failed, which then is the
 /// only refusal; and `AllocationFailed` if memory ran out.
 ///
-/// What is read if refused: `TooManySegments`: the four bytes of the number; `MessageTooLong`: the
-/// table; `Truncated`: all of the input; otherwise unspecified. Which segments there are after a
-/// refusal is unspecified too.
+/// What has been read after a refusal: for `TooManySegments`, the four bytes of the number; for
+/// `MessageTooLong`, the table; for `Truncated`, all of the input; otherwise this is unspecified.
+/// Which segments `into` has after a refusal is unspecified, too.
 ///
 /// The memory taken grows with the bytes that arrive, not with those that the table announces.
-/// Takes none for a message with no more segments and words than one read before. It comes from the
-/// heap, and the allocator is asked only if the heap refuses. If there is none, the allocator counts
-/// it: once for an `AllocationFailed`, and otherwise not.
+/// Takes none for a message with no more segments and words than one read before. The memory comes
+/// from the heap; the allocator is asked only if the heap refuses. The allocator's `refused` grows
+/// by 1 for an `AllocationFailed`, and otherwise not.
 pub fn read_into_with<A: Allocator, R: Input>(
     allocator: &mut A,
     input: &mut R,
@@ -303,7 +304,7 @@ pub fn read_into_with<A: Allocator, R: Input>(
     Ok(true)
 }
 
-/// Like `read_into_with`, with memory from the heap.
+/// Like `read_into_with`, without an allocator: all memory comes from the heap.
 pub fn read_into<R: Input>(
     input: &mut R,
     max_words: u64,
@@ -325,10 +326,10 @@ pub fn read_into<R: Input>(
     read_into_with(&mut heap, input, max_words, into)
 }
 
-/// Reads a message from the front of an input, and leaves what follows it unread. Returns `None` if
+/// Reads a message from the front of `input`, and leaves what follows it unread. Returns `None` if
 /// the input is at its end.
 ///
-/// Refuses what `read_into` refuses, and then leaves as much unread.
+/// Refuses what `read_into` refuses, and has then read as much of the input as `read_into` would.
 pub fn read<R: Input>(
     alloc: Global,
     input: &mut R,

@@ -1,4 +1,5 @@
-//! Reads a message of one segment from its bare words, without a frame ("Messages").
+//! Reads a message of one segment from its words, without a frame (encoding specification,
+//! "Messages").
 ghost use Rattle.std.specs.Prelude.{◌≡◌, ◌⊎◌, ℕ, ◌<◌, ◌≤◌, ◌+◌, ◌++◌, [], false, true, length, take, drop, IfSome, IfOk, IfErr, OnOk, OnErr};
 ghost use Rattle.std.specs.Io.KnownBytes.{Consumes, IsAtEnd};
 ghost use Rattle.capnp_arena_traits.specs.Limits.{IsSmall};
@@ -17,11 +18,11 @@ use capnp_arena::arena::{Allocator, HeapAllocator, ReaderSegments};
 /// The most words that a segment can have.
 const MAX_WORDS: u64 = (1 << 32) - 1;
 
-/// How many bytes of memory to take before any byte arrives. After that, memory grows by as many as
-/// arrived.
+/// How many bytes of memory to take before any byte arrives. After that, memory grows by as many
+/// bytes as have arrived.
 const FIRST_PIECE: usize = 1 << 12;
 
-/// Reads to the front of memory, which grows as bytes arrive, until there are `most` bytes or the
+/// Reads to the front of `to`, which grows as bytes arrive, until there are `most` bytes or the
 /// input ends. Returns the number of bytes read.
 fn read_to_end<A: Allocator, R: Input>(
     allocator: &mut A,
@@ -58,7 +59,8 @@ fn read_to_end<A: Allocator, R: Input>(
     Ok(n)
 }
 
-/// Appends bytes to `list`. If there is no memory for one, the allocator counts it.
+/// Appends `bytes` to `list`. If there is no memory for one, refuses with `AllocationFailed`, which
+/// the allocator counts.
 fn keep_bytes<A: Allocator>(
     allocator: &mut A,
     list: &mut Vec<u8>,
@@ -75,7 +77,8 @@ fn keep_bytes<A: Allocator>(
     Ok(())
 }
 
-/// Stores the table of one segment of `words` words, and where it ends.
+/// Stores the table of a message with one segment of `words` words in `table`, and where that
+/// segment ends in `ends`.
 fn tell_only<A: Allocator>(
     allocator: &mut A,
     words: u32,
@@ -96,18 +99,18 @@ fn tell_only<A: Allocator>(
     Ok(())
 }
 
-/// Reads all of an input as the words of a message's only segment, into reused segments. No bytes
-/// are a segment of no words.
+/// Reads all of `input` as the words of a message's only segment into `into`, whose memory is
+/// reused. From an input without bytes, reads a segment of no words.
 ///
-/// Refusals: `MessageTooLong`, with the number of the first word too many, if there are more than
-/// `max_words` words, or more than 2^32 - 1, which is all that a segment has room for; no word
-/// after it is read. `Truncated` if the bytes end inside a word. `ReadFailed` if the input failed,
-/// which then is the only refusal. `AllocationFailed` if memory ran out. After a refusal there are
-/// no segments.
+/// Refusals: `MessageTooLong` if there are more than `max_words` words, or more than 2^32 - 1, the
+/// most that a segment can have; it carries the number of the first word too many, counted from 1,
+/// and no word after that one is read. `Truncated` if the bytes end inside a word. `ReadFailed` if
+/// the input failed, which then is the only refusal. `AllocationFailed` if memory ran out. After a
+/// refusal `into` has no segments.
 ///
 /// The memory taken grows with the bytes that arrive, to at most twice as many, or 4 KiB. Takes
-/// none for a message with no more words than one read so before. If there is none, the allocator
-/// counts it: once for an `AllocationFailed`, and otherwise not.
+/// none for a message with no more words than one that this call read before. The allocator's
+/// `refused` grows by 1 for an `AllocationFailed`, and otherwise not.
 pub fn read_segment_into_with<A: Allocator, R: Input>(
     allocator: &mut A,
     input: &mut R,
@@ -144,7 +147,7 @@ pub fn read_segment_into_with<A: Allocator, R: Input>(
     Ok(())
 }
 
-/// Like `read_segment_into_with`, with memory from the heap.
+/// Like `read_segment_into_with`, without an allocator: all memory comes from the heap.
 pub fn read_segment_into<R: Input>(
     input: &mut R,
     max_words: u64,

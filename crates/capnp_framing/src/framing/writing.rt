@@ -1,4 +1,4 @@
-//! Writes a message to a stream of bytes ("Serialization Over a Stream").
+//! Writes a message to a stream of bytes (encoding specification, "Serialization Over a Stream").
 ghost use Rattle.std.specs.Prelude.{◌≡◌, ◌⊎◌, ◌<◌, ◌≤◌, ◌+◌, ◌-◌, ◌*◌, ◌^◌, ◌++◌, All, false, true, length, take, drop, replicate, Err, IfErr, OnOk, OnErr};
 ghost use Rattle.std.specs.Int.{to_le_bytes, w32};
 ghost use Rattle.capnp_format.specs.Bytes.{message, words_of};
@@ -37,7 +37,7 @@ fn put_number(to: &mut [u8], at: usize, number: u32)
     to[at..at + 4].copy_from_slice(number.to_le_bytes().as_slice());
 }
 
-/// The bytes of two numbers.
+/// The bytes of `first` and then `second`, the lowest first.
 fn two_numbers(first: u32, second: u32) -> [u8; 8]
     ensures { result ≡ to_le_bytes w32 first ++ to_le_bytes w32 second }
 {
@@ -55,8 +55,8 @@ fn length_of<S: ReaderSegments>(segments: &S, id: u32) -> u32
     (words_in(segments, id).len() / 8) as u32
 }
 
-/// Writes the table of a message, with its padding: the number of segments minus one, and each
-/// one's size in words, two numbers at a time. The padding is the size of a segment that doesn't
+/// Writes the table of a message: the number of segments minus one, and each segment's size in
+/// words. Writes two numbers at a time; padding is written as the size 0 of a segment that doesn't
 /// exist.
 fn write_table<W: Output, S: ReaderSegments>(
     output: &mut W,
@@ -110,12 +110,12 @@ fn write_contents<W: Output, S: ReaderSegments>(
     Ok(())
 }
 
-/// Writes a message as a frame: a table of its segments' sizes, with zero padding, then their whole
-/// words. Takes no memory.
+/// Writes a message as a frame: a table of its segments' sizes, with zero padding, and then the
+/// words of each segment. Bytes after a segment's last whole word aren't written. Takes no memory.
 ///
 /// Refusals: `NoSegments` if there are no segments; `TooManySegments`, with their number, if there
-/// are more than 512; nothing is written then. `WriteFailed` if the output failed; how much it took
-/// is unspecified.
+/// are more than 512. After these, nothing is written. `WriteFailed` if the output failed; how much
+/// is written then is unspecified.
 pub fn write<W: Output, S: ReaderSegments>(output: &mut W, segments: &S) -> Result<(), FrameError>
     requires works { W.has_failed output.old ≡ false }
     requires small { IsSmall (S.segments segments.now) }
