@@ -1,6 +1,6 @@
-//! Devices that buffer bytes: an input that reads ahead, and an output that flushes later. A peer
-//! that waits for an answer before it sends more gets it if the output is flushed before the
-//! program waits for such an input.
+//! Devices that buffer bytes: an input that reads ahead, and an output that flushes later. Suppose
+//! that a peer waits for an answer before it sends more. It gets the answer if the program flushes
+//! the output before each read that may wait for input.
 ghost use Rattle.std.specs.Prelude.{◌≡◌, ◌⊎◌, false, true, ℕ, IsTrue, OnOk, OnErr};
 ghost use Rattle.std.specs.Io.KnownBytes.{Keeps};
 
@@ -11,8 +11,8 @@ pub trait BufferedInput: Input {
     // What is known of the bytes read ahead if the input says that there are enough.
     ghost has_enough: { Self → Type 0 };
 
-    /// Whether enough is read ahead that reading the next message surely won't wait; for packed
-    /// bytes, that reading its front won't.
+    /// Whether enough bytes are read ahead that reading the next message certainly won't wait. For
+    /// `UnpackingInput`: that reading the next unpacked word won't.
     fn is_ahead(&self) -> bool
         ensures { IsTrue result → has_enough self.now };
 }
@@ -22,7 +22,7 @@ pub trait BufferedOutput: Output {
     // The number of bytes taken and not flushed yet.
     ghost kept: { Self → ℕ };
 
-    /// Flushes all bytes that it has taken.
+    /// Flushes all bytes that the output has taken.
     fn pass_on(&mut self) -> Result<(), DeviceFault>
         ensures bytes { Keeps (Self.contents self.old) (Self.contents self.new) }
         ensures none { OnOk result (kept self.new ≡ 0) }
@@ -30,7 +30,7 @@ pub trait BufferedOutput: Output {
         ensures fails { OnErr result (Self.has_failed self.new ≡ true) };
 }
 
-/// Flushes the output, unless enough of the input is read ahead.
+/// Flushes the output, unless `is_ahead` of the input is `true`.
 pub fn pass_on_before_waiting<R: BufferedInput, W: BufferedOutput>(
     input: &R,
     output: &mut W,

@@ -1,5 +1,5 @@
-//! Packed bytes ("Packing"): words without their zero bytes, unpacked as they are read from an
-//! input.
+//! Packed bytes (encoding specification, "Packing"): words without their zero bytes, unpacked as
+//! they are read from an input.
 #![tactic(auto)]
 
 pub mod buffered;

@@ -1,5 +1,5 @@
-//! Packed bytes. Unpacks them one by one: each unpacks to some bytes and leads to the next place.
-//! Writes them a word or a run of words at a time.
+//! Packed bytes (encoding specification, "Packing"). A packed byte, by its place, unpacks to some
+//! bytes and leads to the next place. Packing takes a word or a run of words at a time.
 
 mod in_memory;
 mod packing_error;

@@ -12,11 +12,11 @@ use super::words::pack_front;
 use capnp_framing::devices::{Input, MemoryInput};
 use std::alloc::Global;
 
-/// The number of bytes made at a time.
+/// The most bytes that are packed or unpacked at a time.
 const STEP: usize = 8192;
 
-/// Packs whole words ("Packing"). Refuses with `CutWord` if, and only if, the last one is cut
-/// short, and with `AllocationFailed` if there is no memory.
+/// Packs `words` (encoding specification, "Packing"). Refusals: `CutWord` exactly if the length of
+/// `words` isn't a multiple of 8; `AllocationFailed` if there is no memory.
 pub fn pack(alloc: Global, words: &[u8]) -> Result<Vec<u8>, PackingError>
     ensures packed { IfOk result (λ packed. Packs packed.items words.now) }
     ensures whole { OnOk result (length words.now % 8 ≡ 0) }
@@ -35,7 +35,7 @@ pub fn pack(alloc: Global, words: &[u8]) -> Result<Vec<u8>, PackingError>
 }
 
 /// Packs words from the front of `words` and appends them to `packed`. Returns the number of bytes
-/// of words packed.
+/// of `words` that it packed.
 fn pack_more(packed: &mut Vec<u8>, words: &[u8]) -> Result<usize, PackingError>
     requires { 8 ≤ length words.now }
     ensures some { IfOk result (λ n. 0 < n) }
@@ -55,9 +55,9 @@ fn pack_more(packed: &mut Vec<u8>, words: &[u8]) -> Result<usize, PackingError>
 
 /// Unpacks packed bytes to at most `max_bytes` bytes ("Packing").
 ///
-/// Refusals: `TooLong` if there are more unpacked bytes, whether the packed ones are cut short or
-/// not; otherwise `Truncated` if they end inside a word or before a count; `AllocationFailed` if
-/// there is no memory.
+/// Refusals: `TooLong` if there are more than `max_bytes` unpacked bytes, even if the packed bytes
+/// are cut short; otherwise `Truncated` if the packed bytes end inside a word or before a count;
+/// `AllocationFailed` if there is no memory.
 pub fn unpack(alloc: Global, packed: &[u8], max_bytes: usize) -> Result<Vec<u8>, PackingError>
     ensures bytes { IfOk result (λ bytes. Packs packed.now bytes.items) }
     ensures most { IfOk result (λ bytes. length bytes.items ≤ max_bytes) }
@@ -81,7 +81,7 @@ pub fn unpack(alloc: Global, packed: &[u8], max_bytes: usize) -> Result<Vec<u8>,
     Err(PackingError::TooLong)
 }
 
-/// Unpacks at most `most` bytes more, appends them to `bytes`, and returns their number.
+/// Unpacks at most `most` bytes from `input`, appends them to `bytes`, and returns their number.
 fn unpack_more<R: Input>(
     input: &mut UnpackingInput<R>,
     bytes: &mut Vec<u8>,

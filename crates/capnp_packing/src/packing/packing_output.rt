@@ -8,12 +8,12 @@ use super::words::{MOST_BYTES, pack_front};
 use crate::buffered::BufferedOutput;
 use capnp_framing::devices::{DeviceFault, Output};
 
-/// The most packed bytes that are kept.
+/// The most packed bytes that are held back.
 const CAPACITY: usize = 8192;
 
-/// An output of whole words, which packs them. Keeps packed bytes until there are many, or it is
-/// flushed. A write of 1 to 7 bytes fails; any other fails only if the output of packed bytes has
-/// failed.
+/// An output of whole words, which packs them. Holds packed bytes back until there are many of
+/// them, or until it is flushed. A write of 1 to 7 bytes fails, since it has no whole word; any
+/// other fails only if the output of packed bytes has failed.
 #[derive(Drop)]
 pub struct PackingOutput<W> {
     packed: W,
@@ -45,7 +45,7 @@ impl<W: Output> PackingOutput<W> {
         }
     }
 
-    /// Writes all packed bytes to the output.
+    /// Writes all packed bytes that are held back to the output of packed bytes.
     pub fn flush(&mut self) -> Result<(), DeviceFault>
         ensures sends { Sends W.Output result self.old self.new }
         ensures taken { OnOk result (Keeps (⟦<Self as Output>⟧.contents self.old)

@@ -1,4 +1,5 @@
-//! The places in packed bytes, and what each byte unpacks to there ("Packing").
+//! The places in packed bytes, and what each byte unpacks to there (encoding specification,
+//! "Packing").
 ghost use Rattle.std.specs.Prelude.{◌≡◌, ◌≤◌, ◌<◌, ◌+◌, None};
 ghost use Rattle.capnp_packing.specs.Packing.{byte_given, lead, place_after, place_within, zeros_given};
 
@@ -8,7 +9,7 @@ pub enum Place {
     /// Before a tag.
     Tag,
     /// Before a byte of a packed word. `left` bytes of the word come after it; `bits` says which of
-    /// them are packed, the lowest bit for the first.
+    /// them are packed, the lowest bit for the first. The others are zero.
     Kept { bits: u8, left: u8 },
     /// Before the count of further zero words.
     Zeros,
@@ -16,7 +17,7 @@ pub enum Place {
     Whole(u8),
     /// Before the count of further words that aren't packed.
     Count,
-    /// Before a byte of those further words; this many bytes of them come after it.
+    /// Before a byte of further words that aren't packed; this many bytes of them come after it.
     Raw(u16),
 }
 
@@ -28,8 +29,8 @@ pub struct Taken {
     pub next: Place,
 }
 
-/// In a word with `left` bytes to go: the number of leading ones that aren't packed, and the place
-/// after them.
+/// For a packed word with `left` bytes to go: the number of zero bytes before its next packed byte
+/// or its end, and the place after these.
 fn within_word(bits: u8, left: u8) -> (u8, Place)
     ensures zeros { result.0 ≡ lead left bits }
     ensures place { result.1 ≡ place_within left bits }
@@ -46,7 +47,7 @@ fn within_word(bits: u8, left: u8) -> (u8, Place)
     (zeros + 1, next)
 }
 
-/// Steps over a tag.
+/// What `step` returns at `Place::Tag`, for the byte `tag`.
 fn step_tag(tag: u8) -> Taken
     ensures byte { result.byte ≡ byte_given Place.Tag tag }
     ensures zeros { result.zeros ≡ zeros_given Place.Tag tag }
@@ -74,8 +75,7 @@ fn step_tag(tag: u8) -> Taken
     }
 }
 
-/// Steps over a byte of a packed word, with `left` bytes of it to follow, for which `bits` says
-/// which are packed.
+/// What `step` returns at `Place::Kept { bits, left }`, for `byte`.
 fn step_kept(bits: u8, left: u8, byte: u8) -> Taken
     ensures byte { result.byte ≡ byte_given (Place.Kept bits left) byte }
     ensures zeros { result.zeros ≡ zeros_given (Place.Kept bits left) byte }
@@ -89,7 +89,7 @@ fn step_kept(bits: u8, left: u8, byte: u8) -> Taken
     }
 }
 
-/// Steps over the count of further zero words.
+/// What `step` returns at `Place::Zeros`, for the byte `count`.
 fn step_zeros(count: u8) -> Taken
     ensures byte { result.byte ≡ byte_given Place.Zeros count }
     ensures zeros { result.zeros ≡ zeros_given Place.Zeros count }
@@ -102,7 +102,7 @@ fn step_zeros(count: u8) -> Taken
     }
 }
 
-/// Steps over a byte of a word that isn't packed, with `left` bytes of it to follow.
+/// What `step` returns at `Place::Whole(left)`, for `byte`.
 fn step_whole(left: u8, byte: u8) -> Taken
     ensures byte { result.byte ≡ byte_given (Place.Whole left) byte }
     ensures zeros { result.zeros ≡ zeros_given (Place.Whole left) byte }
@@ -120,7 +120,7 @@ fn step_whole(left: u8, byte: u8) -> Taken
     }
 }
 
-/// Steps over the count of further words that aren't packed.
+/// What `step` returns at `Place::Count`, for the byte `count`.
 fn step_count(count: u8) -> Taken
     ensures byte { result.byte ≡ byte_given Place.Count count }
     ensures zeros { result.zeros ≡ zeros_given Place.Count count }
@@ -138,7 +138,7 @@ fn step_count(count: u8) -> Taken
     }
 }
 
-/// Steps over a byte of those further words, with `left` bytes of them to follow.
+/// What `step` returns at `Place::Raw(left)`, for `byte`.
 fn step_raw(left: u16, byte: u8) -> Taken
     ensures byte { result.byte ≡ byte_given (Place.Raw left) byte }
     ensures zeros { result.zeros ≡ zeros_given (Place.Raw left) byte }

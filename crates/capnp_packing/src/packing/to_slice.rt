@@ -1,4 +1,5 @@
-//! Unpacks packed bytes to a slice of exactly the unpacked size ("Packing").
+//! Unpacks packed bytes to a slice of exactly the unpacked size (encoding specification,
+//! "Packing").
 ghost use Rattle.std.specs.Prelude.{◌≡◌, ◌≤◌, ◌+◌, ◌^◌, length, take, slice_set, IfSome, IsNone};
 ghost use Rattle.capnp_packing.specs.Packing.{all_given, place_after, place_at_end, unpacked_bytes};
 
@@ -31,9 +32,9 @@ fn count_given(place: Place, byte: u8) -> Given
     }
 }
 
-/// Returns `count`. A C program may pass packed bytes that overlap `to`, or that another thread
-/// changes, so that they no longer are the ones that were counted. The minimum keeps every write
-/// inside `to` even then.
+/// Returns `count`, or `room` if that is less. By the contract it never is; but a C program may
+/// break the contract, with packed bytes that overlap `to`, or that another thread changes after
+/// they were counted. Even then, each write is inside `to`.
 #[inline(always)]
 fn within(count: usize, room: usize) -> usize
     requires { count ≤ room }
@@ -42,7 +43,8 @@ fn within(count: usize, room: usize) -> usize
     count.min(room)
 }
 
-/// Writes the first byte of `to`, with the same care.
+/// Writes `byte` to the front of `to`. Does nothing if `to` is empty, which only a C program that
+/// breaks the contract can cause (see `within`).
 #[inline(always)]
 fn put_first(byte: u8, to: &mut [u8])
     requires { 1 ≤ length to.old }
@@ -78,8 +80,8 @@ fn put_given(place: Place, byte: u8, to: &mut [u8]) -> Given
     }
 }
 
-/// The number of unpacked bytes, and the place after the packed ones: `Tag` if they are whole.
-/// `None` if there are 2^64 unpacked bytes or more.
+/// The number of unpacked bytes, and the place after the packed bytes, which is `Tag` exactly if
+/// these aren't cut short. `None` if there are 2^64 unpacked bytes or more.
 pub fn unpacked_size(packed: &[u8]) -> Option<(usize, Place)>
     ensures size { IfSome result (λ s. s.0 ≡ length (unpacked_bytes Place.Tag packed.now)) }
     ensures place { IfSome result (λ s. s.1 ≡ place_at_end Place.Tag packed.now) }
@@ -112,8 +114,8 @@ fn unpack_bytes(start: Place, packed: &[u8], to: &mut [u8])
     }
 }
 
-/// Unpacks to a slice of exactly the unpacked size: words as long as enough packed bytes are left
-/// for any, and then byte by byte.
+/// Unpacks `packed` to `to`, which has exactly the unpacked size: by words while enough packed
+/// bytes are left for any word, and then byte by byte.
 pub fn unpack_to_slice(packed: &[u8], to: &mut [u8])
     requires { length (unpacked_bytes Place.Tag packed.now) ≡ length to.old }
     ensures { to.new ≡ unpacked_bytes Place.Tag packed.now }

@@ -1,4 +1,4 @@
-//! Unpacks words from packed bytes in memory ("Packing").
+//! Unpacks words from packed bytes in memory (encoding specification, "Packing").
 ghost use Rattle.std.specs.Prelude.{◌≡◌, ◌≢◌, ◌≤◌, ◌<◌, ◌+◌, ◌∷◌, [], length, take, drop, slice_index, replicate};
 ghost use Rattle.std.specs.Int.{to_le_bytes, w32};
 ghost use Rattle.capnp_packing.specs.Packing.{GivesAndLeads, expanded, ones};
@@ -16,7 +16,7 @@ pub(super) struct Progress {
     pub(super) taken: usize,
     /// The number of unpacked bytes written.
     pub(super) given: usize,
-    /// The number of zero bytes still to be written after these.
+    /// The number of zero bytes still to be written after the `given` ones.
     pub(super) zeros: u16,
     /// The place after the packed bytes.
     pub(super) place: Place,
@@ -72,8 +72,8 @@ fn half_word(bits: u8, packed: &[u8]) -> u32
         .wrapping_add(last)
 }
 
-/// The last four bytes of a word as a number, like `half_word`. In most words all but the first are
-/// zero, as in a small number or the pointer to a short text.
+/// The last four bytes of a word as a number, like `half_word`. In most words, all of these but the
+/// first are zero, as in a small number or the pointer to a short text.
 #[inline(always)]
 fn last_half(bits: u8, packed: &[u8]) -> u32
     requires bits { bits < 16 }
@@ -87,7 +87,7 @@ fn last_half(bits: u8, packed: &[u8]) -> u32
 }
 
 /// Writes the bytes of a word: the next packed byte for each bit of `tag` that is set, and zero for
-/// the others. Returns the number of packed bytes.
+/// the others. Returns the number of packed bytes taken.
 #[inline(always)]
 fn put_word(tag: u8, packed: &[u8], to: &mut [u8]) -> usize
     requires packed { length packed.now ≡ 8 }
@@ -102,7 +102,7 @@ fn put_word(tag: u8, packed: &[u8], to: &mut [u8]) -> usize
     tag.count_ones() as usize
 }
 
-/// Unpacks a zero word and `more` further ones, or as many as there is room for.
+/// Unpacks a zero word and `more` further ones, or as many of these as `to` has room for.
 #[inline(always)]
 fn unpack_zeros(more: u8, to: &mut [u8]) -> Progress
     requires { 8 ≤ length to.old }
@@ -132,7 +132,8 @@ fn unpack_zeros(more: u8, to: &mut [u8]) -> Progress
     }
 }
 
-/// Copies a word that isn't packed; and the further ones, if all are there and fit.
+/// Copies the word after a tag of 255, which isn't packed. Also copies the further words that its
+/// count states, if all of them are in `packed` and fit in `to`; otherwise copies none of them.
 #[inline(always)]
 fn unpack_whole(packed: &[u8], to: &mut [u8]) -> Progress
     requires ready { CanUnpack packed.now to.old }
@@ -166,7 +167,7 @@ fn unpack_whole(packed: &[u8], to: &mut [u8]) -> Progress
     }
 }
 
-/// Unpacks a tag and what belongs to it.
+/// Unpacks a tag with its word, and the further words that its count states, if it has one.
 #[inline(always)]
 fn unpack_unit(packed: &[u8], to: &mut [u8]) -> Progress
     requires { CanUnpack packed.now to.old }
@@ -188,7 +189,7 @@ fn unpack_unit(packed: &[u8], to: &mut [u8]) -> Progress
     }
 }
 
-/// Unpacks words as long as there is room for one, and as many packed bytes as a tag may need.
+/// Unpacks words while `to` has room for one more, and at least `UNIT` packed bytes are left.
 pub(super) fn unpack_words(packed: &[u8], to: &mut [u8]) -> Progress
     requires { CanUnpack packed.now to.old }
     ensures { UnpacksFront packed.now to.new result }

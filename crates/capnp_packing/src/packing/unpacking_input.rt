@@ -13,8 +13,8 @@ use super::unpacking::{UNIT, put_zeros, unpack_words};
 use crate::buffered::BufferedInput;
 use capnp_framing::devices::{DeviceFault, Input};
 
-/// Unpacks the bytes of a packed input, up to its end even if that is inside a word. Doesn't read
-/// on after the packed input has failed.
+/// Unpacks the bytes of a packed input. If the packed bytes end inside a word, the unpacked bytes
+/// end there, too, without an error. Doesn't read on after the packed input has failed.
 #[derive(Drop)]
 pub struct UnpackingInput<R> {
     packed: ReadAhead<R>,
@@ -46,8 +46,8 @@ impl<R: Input> UnpackingInput<R> {
         }
     }
 
-    /// Reads on, and returns whether the packed bytes are whole and no unpacked byte was left.
-    /// Takes at most one of the unpacked bytes left.
+    /// Reads on to test whether the input is at its end: no unpacked byte is left, and the packed
+    /// bytes aren't cut short. If unpacked bytes are left, takes at most one of them.
     pub fn finish(&mut self) -> Result<bool, DeviceFault>
         ensures whole { IsAtEnd (⟦<Self as Input>⟧.remaining self.old) → IfOk result
             (λ whole. KeepsWhole (⟦<Self as Input>⟧.ends_whole self.old) (Some whole)) }
@@ -66,8 +66,8 @@ impl<R: Input> UnpackingInput<R> {
         Ok(n == 0 && self.is_whole())
     }
 
-    /// Whether the bytes read so far end before a tag, with no unpacked byte left; not inside a
-    /// word or before a count.
+    /// Whether the packed bytes read so far end before a tag, not inside a word or before a count,
+    /// and no byte unpacked from them is left.
     pub fn is_whole(&self) -> bool
         ensures { IsTrue result ↔ (self.now.zeros ≡ 0) × (self.now.place ≡ Place.Tag) }
     {
@@ -113,7 +113,7 @@ impl<R: Input> UnpackingInput<R> {
         Ok(given)
     }
 
-    /// Reads some bytes; none only if the packed bytes have ended.
+    /// Reads at least one byte, unless the packed bytes have ended.
     fn unpack_some(&mut self, to: &mut [u8]) -> Result<usize, DeviceFault>
         requires { 0 < length to.old }
         ensures { UnpacksSome R.Input result self.old self.new to.new }
@@ -139,7 +139,7 @@ impl<R: Input> UnpackingInput<R> {
         Ok(self.give_zeros(to))
     }
 
-    /// Unpacks words from the bytes read ahead.
+    /// Unpacks words from the bytes read ahead, and returns the number of unpacked bytes.
     fn unpack_ahead(&mut self, to: &mut [u8]) -> usize
         requires zeros { self.old.zeros ≡ 0 }
         requires place { self.old.place ≡ Place.Tag }
@@ -154,7 +154,7 @@ impl<R: Input> UnpackingInput<R> {
         progress.given
     }
 
-    /// Returns zero bytes that are still to be returned.
+    /// Writes zero bytes that are due to the front of `to`, and returns their number.
     fn give_zeros(&mut self, to: &mut [u8]) -> usize
         requires due { 0 < self.old.zeros }
         requires room { 0 < length to.old }

@@ -1,12 +1,12 @@
-//! Packs words to bytes in memory ("Packing").
+//! Packs words to bytes in memory (encoding specification, "Packing").
 ghost use Rattle.std.specs.Prelude.{◌≡◌, ◌≤◌, ◌<◌, ◌+◌, ◌*◌, ◌%◌, length, take, replicate};
 ghost use Rattle.capnp_packing.specs.Packing.{nonzero_bytes, tag_of_word};
 ghost use Rattle.capnp_packing.specs.Words.{CanPack, PacksFront};
 
 use std::simd::prelude::*;
 
-/// The most packed bytes made in one step: a tag, a word, a count, and as many words as that can
-/// state.
+/// The most packed bytes made in one step: a tag, a word, a count, and as many words as the count
+/// can state.
 pub(super) const MOST_BYTES: usize = 2050;
 
 /// How far packing got.
@@ -27,7 +27,7 @@ fn tag_of(word: &[u8]) -> u8
     u8x8::from_slice(word).simd_ne(u8x8::splat(0)).to_bitmask() as u8
 }
 
-/// The number of zero words at the front, at most 255.
+/// The number of zero words at the front of `bytes`, at most 255.
 fn zero_words(bytes: &[u8]) -> u8
     ensures within { 8 * result ≤ length bytes.now }
     ensures zeros { take (8 * result) bytes.now ≡ replicate (8 * result) 0 }
@@ -51,7 +51,7 @@ fn is_full(word: u64) -> bool {
     zeros & zeros.wrapping_sub(1) == 0
 }
 
-/// The number of words at the front with at most one zero byte, at most 255.
+/// The number of words at the front of `bytes` that have at most one zero byte each; at most 255.
 fn full_words(bytes: &[u8]) -> u8
     ensures { 8 * result ≤ length bytes.now }
 {
@@ -65,7 +65,7 @@ fn full_words(bytes: &[u8]) -> u8
     n
 }
 
-/// Writes the bytes that aren't zero to the front of `to`, and returns their number.
+/// Writes those of `bytes` that aren't zero to the front of `to`, and returns their number.
 #[inline(always)]
 fn put_kept(to: &mut [u8], bytes: &[u8]) -> usize
     requires { length bytes.now ≤ length to.old }
@@ -99,7 +99,7 @@ fn put_kept_of(tag: u8, to: &mut [u8], word: &[u8]) -> usize
     n + put_kept(&mut to[n..], &word[5..])
 }
 
-/// Packs a zero word and those that follow it.
+/// Packs a zero word, and the zero words that follow it, at most 255.
 #[inline(always)]
 fn pack_zeros(to: &mut [u8], from: &[u8]) -> Packed
     requires ready { CanPack to.old from.now }
@@ -115,7 +115,8 @@ fn pack_zeros(to: &mut [u8], from: &[u8]) -> Packed
     }
 }
 
-/// Packs a word without a zero byte, and the following ones with few.
+/// Packs a word without a zero byte, and the words that follow it with at most one zero byte each,
+/// at most 255.
 #[inline(always)]
 fn pack_full(to: &mut [u8], from: &[u8]) -> Packed
     requires { CanPack to.old from.now }
@@ -160,7 +161,7 @@ fn pack_unit(to: &mut [u8], from: &[u8]) -> Packed
     }
 }
 
-/// Packs words as long as there is one, and room for what one may need.
+/// Packs words while there is one left, and `to` has room for `MOST_BYTES` more bytes.
 pub(super) fn pack_front(to: &mut [u8], from: &[u8]) -> Packed
     requires { CanPack to.old from.now }
     ensures { PacksFront to.new from.now result }
