@@ -150,8 +150,8 @@ impl BufferedOutput for NoOutput {
     }
 }
 
-/// An output of lines that puts a name and `: ` before each. Its contract doesn't state what the
-/// output below then holds.
+/// An output of lines that puts a name and `: ` before each. Its contract doesn't state what bytes
+/// `output` then holds.
 #[derive(Drop)]
 pub struct NamedLines<'n, 'w, W> {
     name: &'n str,
@@ -162,7 +162,7 @@ pub struct NamedLines<'n, 'w, W> {
 }
 
 impl<'n, 'w, W: Output> NamedLines<'n, 'w, W> {
-    /// The output to `output` whose lines begin with `name`.
+    /// Writes lines to `output`, each with `name` and `: ` before it.
     pub fn new(name: &'n str, output: &'w mut W) -> Self
         ensures works { result.failed ≡ false }
     {
@@ -174,8 +174,8 @@ impl<'n, 'w, W: Output> NamedLines<'n, 'w, W> {
         }
     }
 
-    /// Writes the name if a line begins, then bytes up to the line's end. Returns how many bytes of
-    /// `from` it took.
+    /// Writes the name if a line begins, and then the bytes of `from` up to the line's end. Returns
+    /// the number of bytes of `from` that it took.
     fn write_line(&mut self, from: &[u8]) -> Result<usize, DeviceFault>
         requires { 0 < length from.now }
         ensures some { IfOk result (λ n. 0 < n) }

@@ -1,5 +1,5 @@
-//! What an input looks like whose first message can't be answered: a guess from its first bytes,
-//! for a message to the user.
+//! If the first message of an input can't be answered: a guess from the first bytes what the input
+//! is, to tell the user.
 ghost use Rattle.std.specs.Prelude.{◌<◌, ◌≤◌, ◌^◌, IfSome};
 
 use crate::streams::{Fault, Task};
@@ -25,14 +25,14 @@ pub enum Looks {
     Text,
     /// A stream of frames.
     Frames,
-    /// A packed stream of frames ("Packing").
+    /// A packed stream of frames (encoding specification, "Packing").
     PackedFrames,
     /// The raw words of one message: its words without a frame's table.
     RawWords,
 }
 
 impl Looks {
-    /// Its name, and the option of `capnp_canon` that reads it.
+    /// Its name, and the option of `capnp_canon` that reads it, if there is one.
     pub fn text(&self) -> &'static str {
         match self {
             Looks::Gzip => "gzip",
@@ -48,9 +48,9 @@ impl Looks {
     }
 }
 
-/// What an input looks like whose first message the task doesn't answer; `None` if it looks like
-/// what the task reads, or like nothing known. `first` has its first bytes; at least `given` of its
-/// bytes are known to exist.
+/// What an input looks like, after `task` refused its first message with `fault`; `None` if it
+/// looks like what `task` reads, or like nothing known. `first` has the first bytes of the input,
+/// which has at least `given` bytes.
 pub fn looks_like(task: Task, fault: Fault, first: &[u8], given: u64) -> Option<Looks> {
     if is_of_devices(fault) {
         return None;
@@ -71,7 +71,8 @@ pub fn looks_like(task: Task, fault: Fault, first: &[u8], given: u64) -> Option<
     }
 }
 
-/// Whether the fault comes from memory or a device, or isn't that of one message.
+/// Whether `fault` says nothing about the input: it is that of memory, of a device, or of too many
+/// messages.
 fn is_of_devices(fault: Fault) -> bool {
     match fault {
         Fault::Frame(error) => matches!(
@@ -83,7 +84,7 @@ fn is_of_devices(fault: Fault) -> bool {
     }
 }
 
-/// The kind of input that begins with these bytes, for any task.
+/// The kind of input that begins with `first`, if it is one that no task reads.
 fn by_bytes(first: &[u8]) -> Option<Looks> {
     match first {
         [0x1f, 0x8b, ..] => Some(Looks::Gzip),
@@ -101,8 +102,8 @@ fn is_text(byte: u8) -> bool {
     matches!(byte, b'\t' | b'\n' | b'\r' | b' '..=b'~')
 }
 
-/// What an input that should be frames looks like instead. There is no guess for bytes that may
-/// begin a frame, which is then cut short or longer than the limit.
+/// What an input that should be frames looks like instead. If `first` may begin a frame, there is
+/// no guess: that frame is cut short or longer than the limit.
 fn unlike_frames(first: &[u8], given: u64) -> Option<Looks> {
     if may_begin_frame(first) {
         return None;
@@ -149,7 +150,8 @@ fn may_begin_packed_frame(first: &[u8]) -> bool {
     may_begin_frame(&unpacked[..count])
 }
 
-/// Unpacks the beginning of a packed stream, and returns the number of bytes; 0 if it isn't known.
+/// Unpacks `first` to `unpacked`, as far as that has room, and returns the number of unpacked
+/// bytes; 0 if that fails.
 fn unpack(first: &[u8], unpacked: &mut [u8; 32]) -> usize
     ensures { result ≤ 32 }
 {
@@ -160,9 +162,9 @@ fn unpack(first: &[u8], unpacked: &mut [u8; 32]) -> usize
     }
 }
 
-/// Whether `bytes` look like the beginning of a frame: its root is among them, and leads to a
-/// struct in the first segment, or to a landing pad in one of several segments, or is null and the
-/// only word.
+/// Whether `bytes` look like the beginning of a frame: the root pointer is among them, and it leads
+/// to a struct in the first segment, or to a landing pad in one of several segments, or is null and
+/// the only word of the first segment.
 fn begins_with_frame(bytes: &[u8]) -> bool {
     let Some((segments, words)) = table_of(bytes) else {
         return false;
@@ -179,8 +181,8 @@ fn begins_with_frame(bytes: &[u8]) -> bool {
     }
 }
 
-/// Whether a frame may begin with `bytes`. That is so until they show more segments than a frame
-/// has, no words in the first segment, or a root that leads nowhere.
+/// Whether a frame may begin with `bytes`: they don't show more segments than a frame may have, a
+/// first segment without words, or a root pointer that leads nowhere.
 fn may_begin_frame(bytes: &[u8]) -> bool {
     if let [a, b, c, d, ..] = bytes {
         if MOST_SEGMENTS <= u32::from_le_bytes([*a, *b, *c, *d]) {

@@ -25,13 +25,13 @@ pub(super) struct Memory<A: Allocator> {
     alloc: Global,
     /// The allocator of messages and copies; `None` only while a copy is made.
     pub(super) allocator: Option<A>,
-    /// Whether the previous message was canonical already. A test before the copy pays off only if
-    /// messages are canonical, so it is made only after one that was.
+    /// Whether the previous message was canonical already. Testing a message before copying it pays
+    /// off only if it is canonical, so a message is tested only if the one before it was.
     was_canonical: bool,
 }
 
 impl<A: Allocator> Memory<A> {
-    /// Before any message: it has no memory yet, and the first message will be tested.
+    /// The memory before the first message, which will be tested.
     pub(super) fn new(alloc: Global, allocator: A) -> Self
         ensures { result.allocator ≡ Some allocator }
     {
@@ -109,8 +109,8 @@ fn canon_copy<A: Allocator, S: ReaderSegments, W: Output>(
     }
 }
 
-/// Writes the message in canonical form: from its own segment if it is canonical and the previous
-/// message was; otherwise by a copy.
+/// Writes the message in canonical form: from its own segment, if it is canonical already and the
+/// previous message was, too; otherwise by a copy.
 fn canon<A: Allocator, S: ReaderSegments + Drop, W: Output>(
     memory: &mut Memory<A>,
     form: Form,

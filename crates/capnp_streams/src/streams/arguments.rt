@@ -47,7 +47,7 @@ pub enum OptionName {
     Words,
 }
 
-/// All of them.
+/// All options.
 const OPTIONS: [OptionName; 13] = [
     OptionName::Help,
     OptionName::HelpLetter,
@@ -119,9 +119,9 @@ pub enum ArgumentFault {
     MissingValue(Setting),
     /// The argument comes after the option and isn't a value of it.
     InvalidValue(Setting),
-    /// The argument is the option, a `=` and what isn't a value of it.
+    /// The argument is the option, a `=`, and a text that isn't a value of the option.
     InvalidSetting(Setting),
-    /// The argument is the option, which has no value, with a `=` and a value.
+    /// The argument is an option that takes no value, with a `=` and a value.
     UnwantedValue(OptionName),
     /// The command doesn't have the option.
     NotOfCommand(Verb, OptionName),
@@ -146,19 +146,19 @@ pub(super) struct Line {
     ended: bool,
 }
 
-/// What an argument adds to a line.
+/// What an argument does to the `Line` of the arguments before it.
 #[derive(Clone, Copy)]
 pub(super) enum ArgumentStep {
-    /// It makes this line.
+    /// Changes the line to this one.
     Goes(Line),
-    /// It is a file, and leaves the line as it is.
+    /// Leaves the line unchanged: the argument is a file.
     File,
     /// The arguments ask for this, and the rest is ignored.
     Stops(Request),
 }
 
 impl Line {
-    /// What no arguments ask for.
+    /// The line before any argument.
     pub(super) fn plain() -> Self
         ensures { result ≡ plain_line }
     {
@@ -186,7 +186,7 @@ impl Line {
         }
     }
 
-    /// An option of the line that its command doesn't have.
+    /// The fault of an option of the line that its command doesn't have; `None` if there is none.
     fn verb_exclusion(&self) -> Option<ArgumentFault>
         ensures { result ≡ verb_exclusion self.now.verb self.now }
     {
@@ -205,8 +205,8 @@ impl Line {
         Some(ArgumentFault::NotOfCommand(verb, option))
     }
 
-    /// Two options of the line that exclude each other: hex digits are neither raw words nor
-    /// packed, and raw words are never read packed.
+    /// The fault of two options of the line that exclude each other: hex digits are neither raw
+    /// words nor packed, and raw words are never read packed. `None` if there are none.
     fn form_exclusion(&self) -> Option<ArgumentFault>
         ensures { result ≡ form_exclusion self.now }
     {
@@ -233,7 +233,7 @@ impl Line {
         }
     }
 
-    /// The step to the line, if its arguments go together.
+    /// The step that changes to this line; an error if its arguments don't go together.
     fn if_allowed(self) -> Result<ArgumentStep, ArgumentFault>
         ensures { result ≡ step_if_allowed self }
     {
@@ -243,7 +243,7 @@ impl Line {
         }
     }
 
-    /// The step of an option without a value after a `=`.
+    /// The step of the argument that is `option`, without a `=`.
     fn with_option(self, option: OptionName) -> Result<ArgumentStep, ArgumentFault>
         ensures { result ≡ option_step option self }
     {
@@ -285,7 +285,7 @@ impl Line {
         }
     }
 
-    /// The line with the value of an option added.
+    /// The line with `text` as the value of `setting`; `None` if `text` isn't a value of it.
     fn with_value(self, setting: Setting, text: &str) -> Option<Self>
         ensures { result ≡ line_with_value setting text.now self }
     {
@@ -315,7 +315,8 @@ impl Line {
         }
     }
 
-    /// The step of the value of an option; an error if the text isn't a value of it.
+    /// The step of `text` as the value of `setting`; the error `fault` if `text` isn't a value of
+    /// it.
     fn with_value_or(
         self,
         setting: Setting,
@@ -330,7 +331,8 @@ impl Line {
         }
     }
 
-    /// The step of an option with a value after a `=`.
+    /// The step of an argument that is `option`, a `=` and `value`. `option` is `None` if there is
+    /// no such option.
     fn with_assigned(
         self,
         option: Option<OptionName>,
@@ -352,7 +354,7 @@ impl Line {
         }
     }
 
-    /// The step of a text that isn't an option by itself.
+    /// The step of the argument `text`, which looks like an option and isn't one without a `=`.
     fn with_parted(self, text: &str) -> Result<ArgumentStep, ArgumentFault>
         ensures { result ≡ parted_step text.now self }
     {
@@ -362,7 +364,7 @@ impl Line {
         }
     }
 
-    /// The step of a text that looks like an option.
+    /// The step of the argument `text`, which looks like an option.
     fn with_option_text(self, text: &str) -> Result<ArgumentStep, ArgumentFault>
         ensures { result ≡ named_step (option_named text.now) text.now self }
     {
@@ -372,8 +374,8 @@ impl Line {
         }
     }
 
-    /// The step of a text that is neither an option nor the value of one: the command, if there is
-    /// none yet, and otherwise a file.
+    /// The step of the argument `text`, which is neither an option nor the value of one: it is the
+    /// command if there is none yet, and otherwise a file.
     fn with_operand(self, text: &str) -> Result<ArgumentStep, ArgumentFault>
         ensures { result ≡ operand_step self.verb text.now self }
     {
@@ -383,7 +385,7 @@ impl Line {
         }
     }
 
-    /// The step of a command; an error if there is none.
+    /// The step of the command `verb`; an error if it is `None`.
     fn with_command(self, verb: Option<Verb>) -> Result<ArgumentStep, ArgumentFault>
         ensures { result ≡ command_step verb self }
     {
@@ -397,7 +399,7 @@ impl Line {
         }
     }
 
-    /// What an argument adds to the line.
+    /// What the argument `text` does to the line.
     pub(super) fn with_argument(self, text: &str) -> Result<ArgumentStep, ArgumentFault>
         ensures { result ≡ argument_step text.now self }
     {
@@ -423,7 +425,7 @@ impl Line {
         }
     }
 
-    /// The task that the line asks for, with this command.
+    /// The task that the line asks for, with the command `verb`.
     fn task(self, verb: Verb) -> Task
         ensures { result ≡ line_task verb self }
     {
@@ -452,7 +454,7 @@ fn looks_like_option(text: &str) -> bool
     1 < bytes.len() && bytes[0] == b'-'
 }
 
-/// The option that has this text.
+/// The option whose text is `text`, if there is one.
 fn option_of(text: &str) -> Option<OptionName>
     ensures { result ≡ option_named text.now }
 {
@@ -466,7 +468,7 @@ fn option_of(text: &str) -> Option<OptionName>
     None
 }
 
-/// The command that has this text.
+/// The command whose text is `text`, if there is one.
 fn verb_of(text: &str) -> Option<Verb>
     ensures { result ≡ verb_named text.now }
 {
@@ -481,7 +483,7 @@ fn verb_of(text: &str) -> Option<Verb>
     }
 }
 
-/// What comes before and after the first `=`.
+/// What comes before and after the first `=` of `text`; `None` if it has none.
 fn parted(text: &str) -> Option<(&str, &str)>
     ensures { MatchOption result (position_or_len is_equals text.now ≡ length text.now) (λ x.
         (position_or_len is_equals text.now < length text.now)
@@ -491,14 +493,14 @@ fn parted(text: &str) -> Option<(&str, &str)>
     text.split_once('=')
 }
 
-/// The nesting limit that `text` writes.
+/// The nesting limit that `text` states; `None` if it doesn't state one.
 fn nesting(text: &str) -> Option<i32>
     ensures { result ≡ nesting_of text.now }
 {
     parse_nesting(text)
 }
 
-/// The traversal limit in words that `text` writes.
+/// The traversal limit in words that `text` states; `None` if it doesn't state one.
 fn budget(text: &str) -> Option<Option<usize>>
     ensures { result ≡ budget_of text.now }
 {

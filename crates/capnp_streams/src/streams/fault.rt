@@ -12,7 +12,7 @@ pub enum Fault {
     Frame(FrameError),
     /// The message can't be copied, tested or measured.
     Layout(ErrorKind),
-    /// There are more messages than 64 bits count.
+    /// There are more messages than a `u64` can count.
     TooManyMessages,
 }
 

@@ -1,4 +1,4 @@
-//! Does a task with the one message that an input holds as bare words, without a frame.
+//! Does a task with the one message that an input holds as raw words, without a frame.
 ghost use Rattle.std.specs.Prelude.{◌≡◌, ◌⊎◌, true, OnOk, IfOk, IfErr, IsSomeAnd};
 ghost use Rattle.capnp_framing.specs.declared.framing.frame_error.FrameError.TheVariants.{ReadFailed};
 ghost use Rattle.capnp_framing.specs.Writing.{IsUnwritten};
@@ -19,18 +19,21 @@ use std::alloc::Global;
 /// is yes.
 ///
 /// The input's bytes up to its end are the words of the message's only segment, without a frame:
-/// what `Canon` writes in the form `Flat` ("Canonicalization"). They are at most as many words as
-/// the traversal limit. The message is answered as `run_with` answers one. An empty input is a
-/// segment of no words, which has no root: `MessageContainsOutOfBoundsPointer`.
+/// what `Canon` writes in the form `Flat` (encoding specification, "Canonicalization"). There may
+/// be at most as many words as the traversal limit. The answer is the one that `run_with` writes
+/// for the message. An empty input is a segment of no words, which has no root:
+/// `MessageContainsOutOfBoundsPointer`.
 ///
 /// Refusals: `Truncated` if the bytes end inside a word; `MessageTooLong` if there are more words
-/// than the limit; that of the message; that of the output. Nothing is written, unless the output
-/// failed. If the bare words are a message that has an answer within the limits, the only refusals
-/// are that memory runs out or a device fails.
+/// than the limit; the fault of the message, if it can't be copied, tested or measured;
+/// `WriteFailed` if the output failed. Except after `WriteFailed`, nothing is written. If the raw
+/// words are a message that has an answer within the limits, the only refusals are that memory runs
+/// out or a device fails.
 ///
-/// Copies take memory from the allocator. What is read takes it from the heap, and the allocator is
-/// asked only if the heap refuses; so it doesn't bound that memory. It counts one refusal for an
-/// `AllocationFailed`, and none otherwise. `Check` and `Size` take memory only for what is read.
+/// Copies take memory from the allocator. The bytes read take memory from the heap, and the
+/// allocator is asked only if the heap refuses; so the allocator doesn't bound the memory for these
+/// bytes. Its `refused` grows by 1 for an `AllocationFailed`, and otherwise not. `Check` and `Size`
+/// take memory only for the bytes read.
 pub fn run_flat_with<A: Allocator, R: Input, W: Output>(
     alloc: Global,
     allocator: A,
@@ -66,7 +69,7 @@ pub fn run_flat_with<A: Allocator, R: Input, W: Output>(
     }
 }
 
-/// Like `run_flat_with`, with memory from the heap.
+/// Like `run_flat_with`, without an allocator: all memory comes from the heap.
 pub fn run_flat<R: Input, W: Output>(
     alloc: Global,
     task: Task,

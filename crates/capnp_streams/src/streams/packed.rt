@@ -17,12 +17,12 @@ use capnp_packing::buffered::BufferedOutput;
 use capnp_packing::packing::UnpackingInput;
 use std::alloc::Global;
 
-/// Does a task with each message of a packed input ("Packing"), as `run_with` does with the
-/// unpacked bytes.
+/// Unpacks a packed input (encoding specification, "Packing"), and does with the unpacked bytes
+/// what `run_with` does.
 ///
-/// Packed bytes that are cut short, inside a word or before a count, aren't an end: they are
-/// `Truncated`, after the answers to all messages whose frames they complete, and with nothing
-/// written of the one that is cut. `ReadFailed` means that the packed input has failed.
+/// If the packed bytes are cut short, inside a word or before a count, the run stops with
+/// `Truncated`. It has then answered all messages whose frames are complete, and written nothing
+/// for the one that is cut. `ReadFailed` means that the packed input has failed.
 pub fn run_packed_with<A: Allocator, R: Input + Drop, W: BufferedOutput>(
     alloc: Global,
     allocator: A,
@@ -63,7 +63,7 @@ pub fn run_packed_with<A: Allocator, R: Input + Drop, W: BufferedOutput>(
     }
 }
 
-/// Like `run_packed_with`, with memory from the heap.
+/// Like `run_packed_with`, without an allocator: all memory comes from the heap.
 pub fn run_packed<R: Input + Drop, W: BufferedOutput>(
     alloc: Global,
     task: Task,
@@ -92,7 +92,7 @@ pub fn run_packed<R: Input + Drop, W: BufferedOutput>(
     answered
 }
 
-/// The stop after all messages so far, with no frame read.
+/// The stop with `error` after the messages that `summary` counts.
 fn behind(summary: Summary, error: FrameError) -> Stop
     ensures answered { result.answered ≡ summary.messages }
     ensures byte { result.byte ≡ summary.bytes }

@@ -142,26 +142,28 @@ fn next<A: Allocator, R: BufferedInput, W: BufferedOutput>(
 /// Does a task with each message of the input, and writes the answers in the order of the messages.
 ///
 /// The input is a stream of frames, each of a message of at most as many words as the traversal
-/// limit. Each message is read within the limits, as if it were the only one. The answers are, by
-/// command:
+/// limit. Both limits apply to each message separately. The answers are, by command:
 ///
-/// - `Canon`: the message's canonical words, as a frame of one segment or bare
-///   ("Canonicalization"); with `hex`, a line of lower case hex digits, two a byte.
+/// - `Canon`: the message's canonical words (encoding specification, "Canonicalization"), as a
+///   frame of one segment or without a frame; with `hex`, as a line of lower case hex digits, two a
+///   byte.
 /// - `Check`: the line `canonical` if the message as a whole is canonical, otherwise
 ///   `not canonical: REASON at segment S, word W`.
 /// - `Size`: the line `words N caps M`, without landing pads.
 ///
 /// The run ends at the first message that isn't answered: its frame can't be read, the message is
-/// refused, or the output fails. Unless the output failed, it then has the answers to all messages
-/// before, and nothing of that one. If every message of a stream of frames has an answer within the
-/// limits, the only refusals are that memory runs out or a device fails. Takes memory for one
-/// message at a time, and none for one no larger than those before. After a message that is
-/// refused, takes nothing more of the input. Flushes the answers so far before it reads a message
-/// that isn't read ahead; that is a precondition of `answer_next`, and no clause here.
+/// refused, or the output fails. Unless the output failed, the output then has the answers to all
+/// messages before that one, and nothing for that one. If every message of a stream of frames has
+/// an answer within the limits, the only refusals are that memory runs out or a device fails. Holds
+/// one message in memory at a time, and takes no memory for one that is no larger than those before
+/// it. After a message that is refused, takes nothing more from the input. Before it reads a
+/// message that isn't read ahead, flushes the answers so far: no clause of this contract states
+/// this, but a precondition of `answer_next` does.
 ///
-/// Copies take memory from the allocator. A frame's bytes take it from the heap, and the allocator is
-/// asked only if the heap refuses; so it doesn't bound that memory. It counts one refusal for an
-/// `AllocationFailed`, and none otherwise. `Check` and `Size` take memory only for the frames.
+/// Copies take memory from the allocator. Frames take memory from the heap, and the allocator is
+/// asked only if the heap refuses; so the allocator doesn't bound the memory for frames. Its
+/// `refused` grows by 1 for an `AllocationFailed`, and otherwise not. `Check` and `Size` take
+/// memory only for frames.
 pub fn run_with<A: Allocator, R: BufferedInput, W: BufferedOutput>(
     alloc: Global,
     allocator: A,
@@ -222,7 +224,8 @@ pub fn run_with<A: Allocator, R: BufferedInput, W: BufferedOutput>(
     (Err(stop), memory.into_allocator())
 }
 
-/// Like `run_with`, with memory from the heap, which is kept from one message to the next.
+/// Like `run_with`, without an allocator: all memory comes from the heap, and is reused from one
+/// message to the next.
 pub fn run<R: BufferedInput, W: BufferedOutput>(
     alloc: Global,
     task: Task,

@@ -12,7 +12,7 @@ use std::alloc::{AllocError, Global};
 pub struct Task {
     pub command: Command,
     pub limits: ReaderOptions,
-    /// Whether the input is packed ("Packing").
+    /// Whether the input is packed (encoding specification, "Packing").
     pub unpack: bool,
     /// Whether the input is the raw words of one message, not frames.
     pub from_flat: bool,

@@ -15,10 +15,10 @@ use capnp_pointers::pointers::CanonicalFault;
 /// The number of bytes written as hex digits at a time.
 const PIECE: usize = 512;
 
-/// The number of their digits.
+/// The number of hex digits of `PIECE` bytes.
 const DIGITS: usize = 2 * PIECE;
 
-/// Writes the line of a canonical message.
+/// Writes the line for a canonical message.
 pub(super) fn write_canonical<W: Output>(output: &mut W) -> Result<(), DeviceFault>
     requires { W.has_failed output.old ≡ false }
     ensures { Writes W.Output result output.old output.new (check_line true) }
@@ -26,7 +26,7 @@ pub(super) fn write_canonical<W: Output>(output: &mut W) -> Result<(), DeviceFau
     write_all(output, b"canonical\n")
 }
 
-/// Writes the beginning of the line of a message that isn't canonical.
+/// Writes the beginning of the line for a message that isn't canonical.
 #[tactic(auto, unfolding(crate::specs::Streams::no_text))]
 fn write_no<W: Output>(output: &mut W) -> Result<(), DeviceFault>
     requires { W.has_failed output.old ≡ false }
@@ -56,7 +56,7 @@ fn write_word<W: Output>(output: &mut W, word: u64) -> Result<(), DeviceFault>
     write_all(output, b"\n")
 }
 
-/// Writes the line of a message that isn't canonical: why, and where.
+/// Writes the line for a message that isn't canonical: why, and where.
 pub(super) fn write_fault<W: Output>(
     output: &mut W,
     fault: CanonicalFault,
@@ -97,7 +97,8 @@ fn write_hex_line<W: Output>(output: &mut W, bytes: &[u8]) -> Result<(), DeviceF
     write_all(output, b"\n")
 }
 
-/// Writes canonical words: as a line of lower case hex digits, or framed or bare.
+/// Writes canonical words: if `hex`, as a line of lower case hex digits; otherwise in a frame or
+/// without one, by `form`.
 pub(super) fn write_canonical_words<W: Output>(
     output: &mut W,
     bytes: &[u8],
