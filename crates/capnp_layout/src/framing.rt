@@ -1,5 +1,5 @@
-//! The segments of a message in a stream of bytes ("Serialization Over a Stream"), and whole
-//! messages in canonical form ("Canonicalization").
+//! The segments of a message in a stream of bytes, and whole messages in canonical form (encoding
+//! specification, "Serialization Over a Stream" and "Canonicalization").
 
 mod pointed;
 

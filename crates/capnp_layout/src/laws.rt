@@ -1,5 +1,5 @@
-//! Laws: those of the format's definitions, and in a module for each subject those that follow from
-//! the contracts of the crates below.
+//! Laws of the format's definitions, and, in a module for each subject, laws that follow from the
+//! contracts of the crates below.
 
 pub use capnp_builders::laws as builders;
 pub use capnp_contents::laws as contents;

@@ -32,11 +32,12 @@ use capnp_words::error::ErrorKind;
 use capnp_words::read_limiter::ReadLimiter;
 use std::alloc::Global;
 
-/// Returns a reader of the message's root and charges its word, like
+/// Returns a reader of the message's root and charges `lim` for its word, like
 /// `PointerReader::get_root_from_arena`, for any type that holds the segments.
 ///
-/// Refusals, which charge nothing: `InvalidSegmentId(0)` or `MessageContainsOutOfBoundsPointer` if
-/// there is no root pointer; `ReadLimitExceeded` if the limiter has no word left.
+/// Refusals, which charge nothing: `InvalidSegmentId(0)` if there are no segments;
+/// `MessageContainsOutOfBoundsPointer` if the first segment has no word; `ReadLimitExceeded` if
+/// `lim` has no word left.
 pub fn read_root<'a, S: ReaderSegments>(
     arena: &'a ReaderArenaImpl<S>,
     lim: &mut ReadLimiter,
@@ -54,15 +55,16 @@ pub fn read_root<'a, S: ReaderSegments>(
     Ok(PointerReader::of_pointer(messages::read_root(arena, lim)?))
 }
 
-/// Copies the value of `from` in canonical form into a message of one segment ("Canonicalization"),
-/// with the allocator's memory. A refusal returns the allocator, and leaves the limiter unchanged.
+/// Copies the value of `from` in canonical form into a message of one segment (encoding
+/// specification, "Canonicalization"), which `allocator` grants. If refused, returns the allocator,
+/// and leaves `lim` unchanged.
 ///
-/// Charges the limiter what the copy costs, and counts each pointer that isn't null once, however
-/// many tries it takes to find the room. The first try requests the words of the source message
-/// plus one, and each further try twice as many as the one before.
+/// Finds the size of the segment by tries. The first try requests as many words as the source
+/// message has, plus one, and each further try twice as many as the one before. However many tries
+/// there are, `lim` is charged for one copy, and counts each non-null pointer once.
 ///
-/// Refusals: `MessageTooLarge(536870911)` if the copy has more than 536,870,911 words;
-/// `AllocationFailed` if memory ran out, which the allocator has counted.
+/// Refusals: the first one of reading `from`; `MessageTooLarge(536870911)` if the copy has more
+/// than 536,870,911 words; `AllocationFailed` if memory ran out, which the allocator has counted.
 pub fn copy_canonical_with<A: Allocator, B: ReaderArena>(
     alloc: Global,
     allocator: A,
@@ -105,12 +107,13 @@ pub fn copy_canonical<B: ReaderArena>(
 /// Writes the value of `from` as the frame of a canonical message: one segment with its canonical
 /// words.
 ///
-/// Charges the limiter what the copy costs, and counts each pointer that isn't null once, however
-/// many tries it takes to find the room.
+/// Copies the value first, like `copy_canonical`. However many tries that takes, `lim` is charged
+/// for one copy, and counts each non-null pointer once.
 ///
 /// Refusals: `Layout` if the value can't be copied, with `MessageTooLarge(536870911)` inside if the
-/// copy has more than 536,870,911 words; nothing is written then, and the limiter is unchanged.
-/// `Frame` if the output fails: the copy is charged, and how much the output took is unspecified.
+/// copy has more than 536,870,911 words; then nothing is written, and `lim` is unchanged. `Frame`
+/// if the output fails; then `lim` is charged for the copy, and how much the output took is
+/// unspecified.
 pub fn write_canonical<W: Output, B: ReaderArena>(
     alloc: Global,
     output: &mut W,

@@ -1,4 +1,5 @@
-//! The arguments after the program's name.
+//! The arguments after the program's name. Titles in quotes are sections of the encoding
+//! specification.
 ghost use Rattle.std.specs.Prelude.{Some, None, IfSome, IsNone, Option, map, string_bytes};
 ghost use Rattle.capnp_layout.specs.Arguments.{AreArguments, IsNamed, IsNamedAlone};
 ghost use Rattle.capnp_layout.specs.declared.tool.args.Args.{Args};
@@ -20,13 +21,13 @@ pub enum Args {
     Size(ReaderOptions),
     /// Write the frame of a message ("Serialization Over a Stream").
     Frame,
-    /// Write the segments of the message whose frame a line begins with ("Serialization Over a
+    /// Write the segments of the message in the frame at the start of a line ("Serialization Over a
     /// Stream").
     Unframe,
     /// Write the frame of a message's canonical words, in one segment ("Canonicalization"), reading
     /// the message within these limits.
     FramedCanon(ReaderOptions),
-    /// Test whether the message whose frame a line begins with is canonical as a whole
+    /// Test whether the message in the frame at the start of a line is canonical as a whole
     /// ("Canonicalization"), within these limits.
     FramedCheck(ReaderOptions),
 }
@@ -53,7 +54,7 @@ pub fn parse_args(args: &[String]) -> Option<Args>
     }
 }
 
-/// What a command without limits asks for.
+/// What a command without limits asks for; `None` if there is no such command.
 fn without_limits(command: &str) -> Option<Args>
     ensures read { IfSome result (IsNamedAlone command.now) }
     ensures none { IsNone result → (a : Args) → IsNamedAlone command.now a → ⊥ }
@@ -67,7 +68,7 @@ fn without_limits(command: &str) -> Option<Args>
     }
 }
 
-/// What a command with limits asks for.
+/// What a command with limits asks for; `None` if there is no such command.
 fn within_limits(command: &str, options: ReaderOptions) -> Option<Args>
     ensures read { IfSome result (IsNamed command.now options) }
     ensures none { IsNone result → (a : Args) (limits : ReaderOptions)

@@ -13,8 +13,8 @@ use capnp_arena::arena::{ReaderArenaImpl, ReaderOptions};
 use capnp_words::error::ErrorKind;
 use capnp_words::read_limiter::ReadLimiter;
 
-/// Tests whether canonical words are at the root of a message, with the first object right after
-/// the root pointer ("Canonicalization").
+/// Tests whether a message is in canonical form at its root, with the first object right after the
+/// root pointer (encoding specification, "Canonicalization").
 pub(crate) fn is_canonical(source: Message, options: ReaderOptions) -> Result<bool, ErrorKind>
     ensures small { OnOk result (IsSmall (segments_in source)) }
     ensures check { IfOk result (CheckOf (message (segments_in source)) options) }

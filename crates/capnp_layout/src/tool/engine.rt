@@ -1,4 +1,5 @@
-//! One run of the program: reads an input, and writes the answer to a command.
+//! One run of the program: reads an input, and writes the answer to a command. Titles in quotes are
+//! sections of the encoding specification.
 ghost use Rattle.std.specs.Prelude.{◌≡◌, ◌≢◌, ◌⊎◌, ◌++◌, ℕ, List, true, false, None, IfSome, OnOk, OnErr, IfOk, IfErr};
 ghost use Rattle.capnp_arena_traits.specs.Allocations.{one_more};
 ghost use Rattle.capnp_words.specs.declared.error.ErrorKind.TheVariants.{AllocationFailed};
@@ -83,7 +84,8 @@ pub(super) fn refuse<W: Output>(output: &mut W, refusal: Refusal) -> Outcome
     ended(write_refusal(output, refusal), Outcome::Refused)
 }
 
-/// Answers a message with the line of its canonical words, bare or framed, or of its refusal.
+/// Writes the line of a message's canonical words, in a frame or without one, by `form`; or the
+/// line of the refusal.
 fn canon<A: Allocator, W: Output>(
     alloc: Global,
     allocator: A,
@@ -110,7 +112,7 @@ fn canon<A: Allocator, W: Output>(
     }
 }
 
-/// Answers a message with the line that says whether it is canonical, or of its refusal.
+/// Writes the line that says whether a message is canonical, or the line of the refusal.
 fn check<W: Output>(source: Message, options: ReaderOptions, output: &mut W) -> Outcome
     requires { W.has_failed output.old ≡ false }
     ensures { Responds W.Output output.old output.new
@@ -122,7 +124,7 @@ fn check<W: Output>(source: Message, options: ReaderOptions, output: &mut W) -> 
     }
 }
 
-/// Answers a message with the line of its size, or of its refusal.
+/// Writes the line of a message's size, or the line of the refusal.
 fn size<W: Output>(source: Message, options: ReaderOptions, output: &mut W) -> Outcome
     requires { W.has_failed output.old ≡ false }
     ensures { Responds W.Output output.old output.new
@@ -134,7 +136,7 @@ fn size<W: Output>(source: Message, options: ReaderOptions, output: &mut W) -> O
     }
 }
 
-/// Answers the lines of an input with what the command prints, or with the line of its refusal.
+/// Writes what the command prints for the lines of an input, or the line of its refusal.
 fn respond<A: Allocator, W: Output>(
     alloc: Global,
     allocator: A,
@@ -165,23 +167,25 @@ fn respond<A: Allocator, W: Output>(
 }
 
 /// Reads lines from an input, and writes the answer to a command, or a line with `refused` and the
-/// name of the refusal. The allocator grants the segments, and keeps what is read.
+/// name of the refusal. The allocator grants the segments of copies, and appends what is read to
+/// lists with `keep`.
 ///
 /// The answers are, by command:
 ///
 /// - `Canon`: the canonical words of the message's value as lower case hex digits, each word's
 ///   lowest byte first.
-/// - `Check`: `canonical` if such words are at the message's root, otherwise `not canonical`.
+/// - `Check`: `canonical` if the canonical words of a value are at the message's root, otherwise
+///   `not canonical`.
 /// - `Size`: `words N caps M`, the numbers of words and capabilities that the root leads to,
 ///   without landing pads, in decimal digits.
 /// - `Frame`: the frame of the message as hex digits.
 /// - `FramedCanon`: the frame of its canonical words.
-/// - `Unframe`: a line for each segment of the message whose frame the only line begins with.
+/// - `Unframe`: a line for each segment of the message in the frame at the start of the only line.
 /// - `FramedCheck`: `canonical message` or `not a canonical message`.
 ///
 /// Only `Canon` and `FramedCanon` take memory other than for the input. If a read fails, the
-/// outcome is `BadInput`, and no other. The refusal `AllocationFailed` means that memory ran out,
-/// which the allocator has counted.
+/// outcome is always `BadInput`. The refusal `AllocationFailed` means that memory ran out, which
+/// the allocator has counted.
 pub fn run_with<A: Allocator, R: Input, W: Output>(
     alloc: Global,
     allocator: A,
@@ -235,23 +239,24 @@ pub fn run_with<A: Allocator, R: Input, W: Output>(
 ///
 /// - `Canon`: the canonical words of the message's value as lower case hex digits, each word's
 ///   lowest byte first ("Canonicalization").
-/// - `Check`: `canonical` if such words are at the root, with the first object right after the root
-///   pointer, otherwise `not canonical`. Ignores what follows them and other segments.
+/// - `Check`: `canonical` if the canonical words of a value are at the root, with the first object
+///   right after the root pointer, otherwise `not canonical`. Ignores words after these and other
+///   segments.
 /// - `Size`: `words N caps M`, the numbers of words and capabilities that the root leads to,
 ///   without landing pads, in decimal digits ("Structs", "Lists").
 /// - `Frame`: the frame of the message as hex digits ("Serialization Over a Stream"). Refusals:
 ///   `NoSegments` if there are no segments, `TooManySegments` if there are more than 512.
 /// - `FramedCanon`: the frame of the canonical words, in one segment. Refuses like `Canon`.
-/// - `Unframe`: a line for each segment of the message whose frame the only line begins with.
+/// - `Unframe`: a line for each segment of the message in the frame at the start of the only line.
 /// - `FramedCheck`: `canonical message` if that message is the canonical words of a value and
 ///   nothing else, otherwise `not a canonical message`.
 ///
 /// `Unframe` and `FramedCheck` take one line, and a message of at most 8,388,608 words: more than
 /// one line is `BadInput`; no line and an empty one are refused with `NoMessage`; a line that
-/// doesn't begin with a frame is refused as by `framing::read`.
+/// doesn't begin with a frame is refused like an input of `framing::read`.
 ///
-/// If a read fails, the outcome is `BadInput`, and no other. The refusal `AllocationFailed` means
-/// that memory ran out. `MessageTooLarge` means more segments or words than a reader takes, more
+/// If a read fails, the outcome is always `BadInput`. The refusal `AllocationFailed` means that
+/// memory ran out. `MessageTooLarge` means more segments or words than a reader takes, more
 /// canonical words than the 536,870,911 of a segment, or a size whose words don't fit 64 bits or
 /// whose capabilities don't fit 32.
 pub fn run<R: Input, W: Output>(

@@ -1,4 +1,4 @@
-//! The commands that read or write frames ("Serialization Over a Stream").
+//! The commands that read or write frames (encoding specification, "Serialization Over a Stream").
 ghost use Rattle.std.specs.Prelude.{◌≡◌, ◌≢◌, ◌⊎◌, ◌≤◌, ℕ, length, true, false, IsOk, IfOk, IfErr, OnErr, OnOk};
 ghost use Rattle.capnp_format.specs.Bytes.{message};
 ghost use Rattle.capnp_arena_traits.specs.Limits.{IsSmall};
@@ -21,7 +21,7 @@ use capnp_words::error::ErrorKind;
 /// The most words of a message whose frame is read.
 const MAX_FRAME_WORDS: u64 = 8_388_608;
 
-/// The message whose frame the only line begins with.
+/// The message in the frame at the start of the only line.
 fn frame_in(lines: &Message) -> Result<FrameSegments<'_>, Refusal>
     requires { length (segments_in lines.now) ≤ 1 }
     ensures holds { IfOk result (λ f. HoldsFrame (segments_in lines.now)
@@ -40,7 +40,7 @@ fn frame_in(lines: &Message) -> Result<FrameSegments<'_>, Refusal>
     }
 }
 
-/// Tests whether the message whose frame the only line begins with is canonical as a whole.
+/// Tests whether the message in the frame at the start of the only line is canonical as a whole.
 fn is_canonical_frame(lines: &Message, options: ReaderOptions) -> Result<bool, Refusal>
     requires { length (segments_in lines.now) ≤ 1 }
     ensures tells { IfOk result (TellsCanonical (segments_in lines.now) options) }
@@ -54,7 +54,7 @@ fn is_canonical_frame(lines: &Message, options: ReaderOptions) -> Result<bool, R
     }
 }
 
-/// The number of segments of a message that can be framed.
+/// The number of segments of `source`; a refusal if it can't be framed.
 fn count_of(source: &Message) -> Result<usize, Refusal>
     ensures small { OnOk result (IsSmall (segments_in source.now)) }
     ensures answered { OnOk result (HasAnswer (segments_in source.now) Args.Frame) }
@@ -73,7 +73,7 @@ fn count_of(source: &Message) -> Result<usize, Refusal>
     Ok(count)
 }
 
-/// Answers segments with the line of their frame, or of a refusal.
+/// Writes the line of the frame of `source`, or the line of the refusal.
 pub(crate) fn frame<W: Output>(source: Message, output: &mut W) -> Outcome
     requires { W.has_failed output.old ≡ false }
     ensures { Responds W.Output output.old output.new
@@ -85,8 +85,8 @@ pub(crate) fn frame<W: Output>(source: Message, output: &mut W) -> Outcome
     }
 }
 
-/// Answers a line that begins with a frame with a line for each of its segments, or with that of a
-/// refusal. More than one line is `BadInput`.
+/// Writes a line for each segment of the message in the frame at the start of the only line, or the
+/// line of the refusal. More than one line is `BadInput`.
 pub(crate) fn unframe<W: Output>(lines: Message, output: &mut W) -> Outcome
     requires { W.has_failed output.old ≡ false }
     ensures { Responds W.Output output.old output.new
@@ -101,8 +101,8 @@ pub(crate) fn unframe<W: Output>(lines: Message, output: &mut W) -> Outcome
     }
 }
 
-/// Answers a line that begins with a frame with the line that says whether its message is canonical
-/// as a whole, or with that of a refusal. More than one line is `BadInput`.
+/// Writes the line that says whether the message in the frame at the start of the only line is
+/// canonical as a whole, or the line of the refusal. More than one line is `BadInput`.
 pub(crate) fn framed_check<W: Output>(
     lines: Message,
     options: ReaderOptions,

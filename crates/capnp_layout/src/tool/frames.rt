@@ -1,4 +1,5 @@
-//! Frames and segments as lines of hex digits ("Serialization Over a Stream").
+//! Frames and segments as lines of hex digits (encoding specification, "Serialization Over a
+//! Stream").
 ghost use Rattle.std.specs.Prelude.{◌≡◌, ◌<◌, ◌≤◌, ◌-◌, ◌/◌, ◌^◌, ◌++◌, false, true, length, replicate, OnOk, OnErr};
 ghost use Rattle.std.specs.Int.{to_le_bytes, w32};
 ghost use Rattle.hex.specs.Hex.{encode_lower};
@@ -102,7 +103,7 @@ pub(crate) fn write_frame<W: Output, S: ReaderSegments>(
     write_all(output, b"\n")
 }
 
-/// Writes canonical words as one line of hex digits, bare or framed.
+/// Writes canonical words as one line of hex digits, in a frame or without one, by `form`.
 pub(crate) fn write_form<W: Output>(
     output: &mut W,
     words: &[u8],

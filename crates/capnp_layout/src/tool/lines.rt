@@ -64,7 +64,7 @@ impl ReaderSegments for Message {
     }
 }
 
-/// Appends bytes to `list`, until the allocator refuses memory for one.
+/// Appends `bytes` to `list`. Stops with `NoMemory` if the allocator refuses memory for one.
 pub(crate) fn keep_bytes<A: Allocator>(
     allocator: &mut A,
     list: &mut Vec<u8>,
@@ -101,7 +101,7 @@ fn line_end(text: &[u8]) -> usize
     }
 }
 
-/// The first line of a text that isn't empty, and what follows it.
+/// The first line of `text`, which isn't empty, and what follows that line.
 #[tactic(auto, using(crate::proofs::LineLemmas::cut_line, crate::proofs::LineLemmas::last_line))]
 fn first_line(text: &[u8]) -> (&[u8], &[u8])
     requires { 0 < length text.now }
