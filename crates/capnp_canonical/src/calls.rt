@@ -1,4 +1,4 @@
-//! Copies a message, however its segments are held.
+//! Copies a message in canonical form, for any type that holds its segments.
 ghost use Rattle.std.specs.Prelude.{◌≡◌, ◌≢◌, ◌⊎◌, ◌≤◌, ◌<◌, ◌+◌, ◌*◌, ◌/◌, ◌^◌, ◌∷◌, [], ℕ, List, length, take, drop, Some, IfOk, IfErr, OnErr};
 ghost use Rattle.std.specs.Int.{to_le_bytes, w32};
 ghost use Rattle.capnp_format.specs.Bytes.{message};
@@ -82,7 +82,8 @@ fn put_flat(segment: &[u8], to: &mut [u8]) -> Result<usize, Refusal>
     Ok(size)
 }
 
-/// Writes `segment` to the front of `to`, framed or bare, and returns the size in bytes.
+/// Writes `segment` to the front of `to`, in a frame or without one, by `form`. Returns the number
+/// of bytes written.
 fn put(form: Form, segment: &[u8], to: &mut [u8]) -> Result<usize, Refusal>
     requires short { length segment.now < 2 ^ 35 }
     ensures put { Fills result to.old to.new (λ bytes. (words : List ℕ)
@@ -97,11 +98,12 @@ fn put(form: Form, segment: &[u8], to: &mut [u8]) -> Result<usize, Refusal>
     }
 }
 
-/// The bytes of stack memory for copying a small message, which is cheaper than testing it first.
+/// The bytes of stack memory for copying a small message. Copying one is cheaper than testing it
+/// first.
 const SMALL: usize = 512;
 
-/// Copies the message in canonical form on the heap, writes the copy to the front of `to`, framed
-/// or bare, and returns the size in bytes.
+/// Copies the message in canonical form on the heap, and writes the copy to the front of `to`, in a
+/// frame or without one, by `form`. Returns the number of bytes written.
 #[inline(never)]
 fn copy_on_heap<S: ReaderSegments>(
     alloc: Global,
@@ -150,8 +152,8 @@ fn copy_small<S: ReaderSegments>(
     }
 }
 
-/// Like `copy_on_heap`, but if the message is canonical already, writes its own segment, without a
-/// copy.
+/// Like `copy_on_heap`, but if the message is canonical already, writes its own segment instead of
+/// a copy.
 fn copy_large<S: ReaderSegments>(
     alloc: Global,
     form: Form,
@@ -171,12 +173,13 @@ fn copy_large<S: ReaderSegments>(
     }
 }
 
-/// Writes the message in canonical form to the front of `to`, framed or bare, and returns the size
-/// in bytes.
+/// Writes the message in canonical form to the front of `to`, in a frame or without one, by `form`.
+/// Returns the number of bytes written.
 ///
-/// A canonical message of 64 words or more is written from its own segment and takes no memory, unless
-/// it has more than the 536,870,911 words of a copy. Copying another one of that size takes heap memory;
-/// copying a smaller one does so only if the copy needs more than 64 words.
+/// A message of fewer than 64 words takes heap memory only if its copy has more than 64 words. A
+/// message of 64 words or more takes no heap memory if it is canonical already and has at most
+/// 536,870,911 words: it is written from its own segment. Otherwise it takes heap memory for the
+/// copy.
 pub fn copy<S: ReaderSegments + Drop>(
     alloc: Global,
     form: Form,

@@ -11,7 +11,7 @@ use capnp_pointers::pointers::{CanonicalFault, CanonicalFaultReason};
 pub struct Fault {
     /// The number of the reason; 0 for none.
     pub reason: u32,
-    /// The word in the segment, counted from 0.
+    /// The position of the word in the segment, counted from 0.
     pub word: u32,
     /// The number of the segment.
     pub segment: u64,

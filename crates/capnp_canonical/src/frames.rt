@@ -1,5 +1,5 @@
-//! Copies, tests and measures the message whose frame is at the front of a buffer ("Serialization
-//! Over a Stream").
+//! Copies, tests and measures the message whose frame is at the front of a buffer (encoding
+//! specification, "Serialization Over a Stream").
 ghost use Rattle.std.specs.Prelude.{◌≡◌, ◌⊎◌, ◌≤◌, length, take, drop, IfOk, IfErr, OnErr};
 ghost use Rattle.capnp_format.specs.Bytes.{message};
 ghost use Rattle.capnp_arena_traits.specs.Limits.{IsSmall};
@@ -18,7 +18,7 @@ use capnp_messages::messages::{Form, canonical_fault_of, size_of};
 use capnp_pointers::pointers::{CanonicalFault, MessageSize};
 use std::alloc::Global;
 
-/// The message whose frame is at the front of `bytes`. Fails if it has more than `words` words.
+/// The message whose frame is at the front of `bytes`. Refuses one of more than `words` words.
 fn message_in(bytes: &[u8], words: u64) -> Result<FrameSegments<'_>, Refusal>
     ensures begins { IfOk result (λ f. BeginsWithFrame bytes.now words
         (message (⟦<FrameSegments<'static> as ReaderSegments>⟧.segments f))) }
@@ -33,8 +33,8 @@ fn message_in(bytes: &[u8], words: u64) -> Result<FrameSegments<'_>, Refusal>
     }
 }
 
-/// Writes the frame's message in canonical form to the front of `to`, framed or bare, and returns
-/// the size in bytes.
+/// Writes the frame's message in canonical form to the front of `to`, in a frame or without one, by
+/// `form`. Returns the number of bytes written.
 pub fn copy_frame(
     alloc: Global,
     form: Form,
@@ -76,7 +76,7 @@ pub fn size_frame(frame: &[u8], limits: Limits) -> Result<MessageSize, Refusal>
     Ok(size_of(segments, limits.options())?)
 }
 
-/// Returns the size of the frame in bytes.
+/// Returns the size in bytes of the frame at the front of `bytes`.
 pub fn frame_size(bytes: &[u8], words: u64) -> Result<usize, Refusal>
     ensures size { IfOk result (λ n. InFrame bytes.now words (λ S. n ≡ length (frame S))) }
     ensures refused { IfErr result (RefusesBytes bytes.now words) }

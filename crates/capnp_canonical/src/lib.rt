@@ -1,6 +1,6 @@
-//! Canonical form for C, and for languages that call C ("Canonicalization"): copies, tests and
-//! measures a message, given as a frame in a buffer, as segments or as its bare words; and unpacks
-//! packed bytes. Keeps no state between calls.
+//! Canonical form (encoding specification, "Canonicalization") for C, and for languages that call
+//! C: copies, tests and measures a message, given as a frame in a buffer, as segments, or as the
+//! words of its only segment; and unpacks packed bytes. Keeps no state between calls.
 //!
 //! `bindings/c/capnp_canonical.h` says how to call each function. A function returns 0 or the
 //! number of a refusal. Names, texts and versions are never refused.
@@ -43,8 +43,8 @@ use words::{check_words, copy_words, size_words};
 /// Writes the frame's message in canonical form to the front of `to`, as a frame of one segment,
 /// and stores its size in bytes in `written`.
 ///
-/// If `to` is too small, stores the size that it needs. What follows the copy in `to` is unchanged;
-/// after a refusal, all of `to` is.
+/// If `to` is too small, stores the size that it needs in `written`; after any other refusal, 0.
+/// The bytes of `to` after the copy are unchanged; after a refusal, all bytes of `to` are.
 #[unsafe(no_mangle)]
 pub extern "C" fn capnp_canonical_copy(
     alloc: Global,
@@ -78,7 +78,7 @@ pub extern "C" fn capnp_canonical_copy(
     }
 }
 
-/// Like `capnp_canonical_copy`, but writes the bare canonical words, without a frame.
+/// Like `capnp_canonical_copy`, but writes the canonical words without a frame.
 #[unsafe(no_mangle)]
 pub extern "C" fn capnp_canonical_copy_flat(
     alloc: Global,
@@ -112,12 +112,12 @@ pub extern "C" fn capnp_canonical_copy_flat(
     }
 }
 
-/// Tests whether the frame's message is canonical, that is, one segment with the canonical words of
-/// a value and nothing else; if it isn't, stores why and where.
+/// Tests whether the frame's message is canonical: it has one segment, which holds the canonical
+/// words of a value and nothing else. If it isn't, stores why and where in `fault`.
 ///
 /// `nesting` is how many structs and lists may be inside one another. `words` limits both the words
 /// of the frame and the words that may be read. After a refusal `is_canonical` is false and `fault`
-/// all 0: the message is known not to be canonical only if 0 is returned.
+/// all 0. So `false` says that the message isn't canonical only if the call returned 0.
 #[unsafe(no_mangle)]
 pub extern "C" fn capnp_canonical_check(
     frame: &[u8],
@@ -182,7 +182,7 @@ pub extern "C" fn capnp_canonical_size(
     }
 }
 
-/// Stores the size in bytes of the frame at the front of `bytes`.
+/// Stores in `bytes` the size in bytes of the frame at the front of `frame`.
 #[unsafe(no_mangle)]
 pub extern "C" fn capnp_canonical_frame_size(frame: &[u8], words: u64, bytes: &mut usize) -> u32
     ensures done { result ≡ 0 → (S : Segments) × (front behind : List ℕ)
@@ -330,7 +330,7 @@ pub extern "C" fn capnp_canonical_segments_size(
     }
 }
 
-/// Like `capnp_canonical_copy_flat`, for a message of one segment given as its bare words.
+/// Like `capnp_canonical_copy_flat`, for a message given as the words of its only segment.
 #[unsafe(no_mangle)]
 pub extern "C" fn capnp_canonical_words_copy(
     alloc: Global,
@@ -361,7 +361,7 @@ pub extern "C" fn capnp_canonical_words_copy(
     }
 }
 
-/// Like `capnp_canonical_check`, for a message of one segment given as its bare words.
+/// Like `capnp_canonical_check`, for a message given as the words of its only segment.
 #[unsafe(no_mangle)]
 pub extern "C" fn capnp_canonical_words_check(
     bytes: &[u8],
@@ -392,7 +392,7 @@ pub extern "C" fn capnp_canonical_words_check(
     }
 }
 
-/// Like `capnp_canonical_size`, for a message of one segment given as its bare words.
+/// Like `capnp_canonical_size`, for a message given as the words of its only segment.
 #[unsafe(no_mangle)]
 pub extern "C" fn capnp_canonical_words_size(
     bytes: &[u8],
@@ -423,11 +423,11 @@ pub extern "C" fn capnp_canonical_words_size(
     }
 }
 
-/// Unpacks `packed` ("Packing") to the front of `to`, and stores the number of unpacked bytes in
-/// `written`. Takes no memory.
+/// Unpacks `packed` (encoding specification, "Packing") to the front of `to`, and stores the number
+/// of unpacked bytes in `written`. Takes no memory.
 ///
-/// If `to` is too small, stores the size that it needs. What follows the unpacked bytes in `to` is
-/// unchanged; after a refusal, all of `to` is.
+/// If `to` is too small, stores the size that it needs in `written`; after any other refusal, 0.
+/// The bytes of `to` after the unpacked ones are unchanged; after a refusal, all bytes of `to` are.
 #[unsafe(no_mangle)]
 pub extern "C" fn capnp_canonical_unpack(packed: &[u8], to: &mut [u8], written: &mut usize) -> u32
     ensures done { FillsByNumber result written.new to.old to.new (Packs packed.now) }
@@ -448,8 +448,9 @@ pub extern "C" fn capnp_canonical_unpack(packed: &[u8], to: &mut [u8], written: 
     }
 }
 
-/// Writes the name of a refusal and a terminating zero byte, cut to the room, and returns the
-/// name's length in bytes; 0 if no refusal has this number.
+/// Writes the name of the refusal with the number `answer` and a terminating zero byte to the front
+/// of `to`; cuts the name if `to` is too small. Returns the length of the whole name in bytes; 0 if
+/// no refusal has this number.
 #[unsafe(no_mangle)]
 pub extern "C" fn capnp_canonical_name(answer: u32, to: &mut [u8]) -> usize
     ensures { (text : List ℕ) × IsTextOf answer_number answer_name answer text
@@ -459,7 +460,8 @@ pub extern "C" fn capnp_canonical_name(answer: u32, to: &mut [u8]) -> usize
     put_text(name_of_number(answer), to)
 }
 
-/// Writes the text of a reason, like `capnp_canonical_name`.
+/// Writes the text of the reason with the number `reason`. Cuts it, and returns its length, like
+/// `capnp_canonical_name`.
 #[unsafe(no_mangle)]
 pub extern "C" fn capnp_canonical_reason_text(reason: u32, to: &mut [u8]) -> usize
     ensures { (text : List ℕ) × IsTextOf reason_number fault_reason_text reason text
@@ -477,7 +479,7 @@ pub extern "C" fn capnp_canonical_version() -> u32
     10000
 }
 
-/// Writes the version as text, like `capnp_canonical_name`.
+/// Writes the version as text. Cuts it, and returns its length, like `capnp_canonical_name`.
 #[unsafe(no_mangle)]
 pub extern "C" fn capnp_canonical_version_text(to: &mut [u8]) -> usize
     ensures length { result ≡ length (codes "1.0.0") }

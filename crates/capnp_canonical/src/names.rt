@@ -94,7 +94,7 @@ fn refusal_of(number: u32) -> Option<Refusal>
     }
 }
 
-/// The name of the refusals with this number; empty if there are none.
+/// The name of the refusal with this number; empty if there is none.
 pub fn name_of_number(number: u32) -> &'static str
     ensures { IsTextOf answer_number answer_name number result.now }
 {
@@ -114,8 +114,8 @@ pub fn text_of_reason(number: u32) -> &'static str
     }
 }
 
-/// Writes `text` and a terminating zero byte to the front of `to`, cut to the room, and returns the
-/// length of `text` in bytes. The rest of `to` is unchanged.
+/// Writes `text` and a terminating zero byte to the front of `to`; cuts `text` if `to` is too
+/// small. Returns the length of the whole `text` in bytes. The rest of `to` is unchanged.
 pub fn put_text(text: &str, to: &mut [u8]) -> usize
     ensures length { result ≡ length text.now }
     ensures text { PutsText text.now to.old to.new }

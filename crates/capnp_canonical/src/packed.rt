@@ -1,4 +1,4 @@
-//! Unpacks packed bytes to a buffer ("Packing").
+//! Unpacks packed bytes to a buffer (encoding specification, "Packing").
 ghost use Rattle.std.specs.Prelude.{◌≡◌, ◌≤◌, length, take, drop, IfOk, IfErr, IsOk, OnErr};
 ghost use Rattle.capnp_packing.specs.Packing.{IsWhole, Packs, unpacked_bytes};
 ghost use Rattle.capnp_canonical.specs.Calls.{Fills, RefusesPacked};

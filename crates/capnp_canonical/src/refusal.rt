@@ -8,7 +8,7 @@ use capnp_words::error::ErrorKind;
 /// Why a call is refused.
 #[derive(Clone, Copy, Debug, PartialEq, Eq)]
 pub enum Refusal {
-    /// The buffer is too small; with the number of bytes that it needs.
+    /// The buffer is too small. Carries the number of bytes that it needs.
     NoRoom(usize),
     /// There are no bytes where a frame was expected.
     NoMessage,

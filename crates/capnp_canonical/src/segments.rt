@@ -14,7 +14,7 @@ use capnp_pointers::pointers::{CanonicalFault, MessageSize};
 use capnp_words::error::ErrorKind;
 use std::alloc::Global;
 
-/// The caller's segments: whole words, within a reader's limits.
+/// The caller's segments: whole words, and within the limits of `SegmentArray::new`.
 #[derive(Clone, Copy)]
 struct LentSegments<'a> {
     segments: &'a [&'a [u8]],
@@ -22,7 +22,8 @@ struct LentSegments<'a> {
 }
 
 impl<'a> LentSegments<'a> {
-    /// Takes the segments in this order.
+    /// The segments in this order. Refuses a segment that isn't whole words, and too many segments
+    /// or words.
     fn new(segments: &'a [&'a [u8]]) -> Result<Self, Refusal>
         ensures segments { IfOk result (λ lent.
             ⟦<LentSegments<'static> as ReaderSegments>⟧.segments lent ≡ lent_bytes segments.now) }
@@ -39,8 +40,8 @@ impl<'a> LentSegments<'a> {
     }
 }
 
-/// Returns `bytes`; if it is empty, an empty slice at a pointer that isn't null, which C may have
-/// passed.
+/// Returns `bytes`. If it is empty, C may have passed a null pointer; so an empty slice with
+/// another pointer is returned.
 pub fn without_null(bytes: &[u8]) -> &[u8]
     ensures { result.now ≡ bytes.now }
 {
@@ -66,8 +67,8 @@ impl ReaderSegments for LentSegments<'_> {
     }
 }
 
-/// Writes the segments' message in canonical form to the front of `to`, framed or bare, and returns
-/// the size in bytes.
+/// Writes the segments' message in canonical form to the front of `to`, in a frame or without one,
+/// by `form`. Returns the number of bytes written.
 pub fn copy_segments(
     alloc: Global,
     form: Form,

@@ -1,4 +1,4 @@
-//! Copies, tests and measures a message of one segment given as its bare words, without a table.
+//! Copies, tests and measures a message given as the words of its only segment, without a frame.
 ghost use Rattle.std.specs.Prelude.{◌≡◌, ◌⊎◌, ◌∷◌, [], ◌≤◌, length, take, drop, IfOk, IfErr, OnErr};
 ghost use Rattle.capnp_arena_traits.specs.Limits.{IsSmall};
 ghost use Rattle.capnp_arena.specs.Output.{output_bytes};
@@ -32,7 +32,8 @@ fn message_of(words: &[u8]) -> Result<OutputSegments<'_>, Refusal>
     Ok(OutputSegments::SingleSegment(without_null(words)))
 }
 
-/// Writes the message's bare canonical words to the front of `to`, and returns the number of bytes.
+/// Writes the message's canonical words, without a frame, to the front of `to`, and returns the
+/// number of bytes written.
 pub fn copy_words(
     alloc: Global,
     words: &[u8],
