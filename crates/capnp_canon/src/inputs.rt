@@ -19,7 +19,7 @@ use std::io::{self, BufReader, Read};
 /// Why a run ends before all inputs are answered.
 #[derive(Clone, Copy)]
 pub enum Unanswered {
-    /// Standard error says why. The answers before it are flushed.
+    /// The reason is written to standard error, and the answers before it are flushed.
     Said,
     /// Writing the output failed.
     WriteFailed,
@@ -84,7 +84,8 @@ fn pass_on<W: BufferedOutput>(output: &mut W) -> Result<(), Unanswered> {
     }
 }
 
-/// Does the task with the bytes of `reader`, whose name is `name`.
+/// Does the task with the bytes of `reader`, and reports faults with the name `name`, if there is
+/// one.
 fn answer<R: Read + Drop, W: BufferedOutput>(
     rt: &HostRuntime,
     task: Task,
@@ -138,8 +139,8 @@ fn run<R: BufferedInput + Drop, W: BufferedOutput>(
     }
 }
 
-/// Does the task with the one message that `input` holds as raw words, and returns what `run` does
-/// of a stream of one message.
+/// Does the task with the one message that `input` holds as raw words, and returns what `run`
+/// returns for a stream of one message.
 fn run_flat<R: BufferedInput, W: BufferedOutput>(
     rt: &HostRuntime,
     task: Task,
@@ -164,8 +165,7 @@ fn run_flat<R: BufferedInput, W: BufferedOutput>(
 }
 
 /// Reports which message is refused, counted from 1, at which byte it begins, and why. If it is the
-/// first message, also reports what the input looks like, if that is something else than the task
-/// reads.
+/// first message, and the input looks like something that the task doesn't read, reports that, too.
 fn refuse(rt: &HostRuntime, task: Task, name: Option<&str>, stop: Stop, seen: &Seen) {
     let (name, colon) = match name {
         Some(name) => (name, ": "),
