@@ -1,5 +1,5 @@
 //! The program `layout_tool`: writes the canonical form of a message, says whether it is in that
-//! form, or how large it is; and writes its frame, the segments of one, and whether a framed
+//! form, or how large it is; and writes its frame, the segments in a frame, and whether a framed
 //! message is canonical. Its arguments are `frame`, `unframe`, or `canon`, `check`, `size`,
 //! `framed-canon` or `framed-check` followed by `NESTING BUDGET`. Its input is lines of hex digits,
 //! each a segment, or one line with a frame.
