@@ -1,4 +1,5 @@
-//! Whole messages: copied in canonical form, tested for it, and measured ("Canonicalization").
+//! Whole messages: copied in canonical form, tested for it, and measured (encoding specification,
+//! "Canonicalization").
 
 mod as_it_stands;
 mod canonical_copy;

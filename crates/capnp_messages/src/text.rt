@@ -7,7 +7,8 @@ ghost use Rattle.capnp_messages.specs.Text.{IsBudget, IsNesting, size_line};
 use capnp_framing::devices::{DeviceFault, Output, write_all};
 use capnp_pointers::pointers::MessageSize;
 
-/// Parses a nesting limit: decimal digits with an optional `-`; refuses `+`.
+/// Parses a nesting limit: an `i32` in decimal digits with an optional `-`. Returns `None` for any
+/// other text, also for one with a `+`.
 pub fn parse_nesting(text: &str) -> Option<i32>
     ensures read { IfSome result (λ n. IsNesting text.now n) }
     ensures none { IsNone result → (n : ℤ) → IsNesting text.now n → ⊥ }
@@ -19,7 +20,8 @@ pub fn parse_nesting(text: &str) -> Option<i32>
     }
 }
 
-/// Parses a traversal limit: decimal digits, or `none`; refuses `+`.
+/// Parses a traversal limit: a `u64` in decimal digits, or `none` for no limit. Returns `None` for
+/// any other text, also for one with a `+`.
 pub fn parse_budget(text: &str) -> Option<Option<usize>>
     ensures read { IfSome result (λ n. IsBudget text.now n) }
     ensures none { IsNone result → (n : Option ℕ) → IsBudget text.now n → ⊥ }

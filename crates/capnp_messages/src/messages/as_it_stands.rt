@@ -1,4 +1,5 @@
-//! A message that is canonical already ("Canonicalization"), and so needs no copy.
+//! A message that is canonical already (encoding specification, "Canonicalization"), and so needs
+//! no copy.
 ghost use Rattle.std.specs.Prelude.{◌≡◌, ◌<◌, ◌≤◌, ◌*◌, ◌∷◌, [], length, IsNone, IfSome};
 ghost use Rattle.capnp_format.specs.Bytes.{message, words_of};
 ghost use Rattle.capnp_format.specs.Canonical.{encoding, trim};
@@ -17,8 +18,8 @@ use capnp_arena::arena::{
 use capnp_words::read_limiter::ReadLimiter;
 
 /// Returns the bytes of the only segment of a message that is canonical as a whole: the canonical
-/// words of its value. `None` if it isn't canonical, if the limits don't allow the test, or if it has
-/// more words than the 536,870,911 that a copy can have. Takes no memory.
+/// words of its value. `None` if the message isn't canonical, if `limits` don't allow the test, or
+/// if it has more than 536,870,911 words, the most that a copy can have. Takes no memory.
 pub fn canonical_segment<S: ReaderSegments>(
     source: &ReaderArenaImpl<S>,
     limits: ReaderOptions,

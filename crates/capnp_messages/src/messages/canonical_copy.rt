@@ -1,7 +1,8 @@
-//! A copy in canonical form ("Canonicalization"), in a segment whose size is found by tries. The
-//! first try requests the words of the source message plus one, and each further try twice as many
-//! as the one before, so all together take no longer than twice the last. During a try the
-//! allocator is taken out of the message, so the copy can't get a second segment.
+//! A copy in canonical form (encoding specification, "Canonicalization"), in one segment, whose
+//! size is found by tries. The first try requests as many words as the source message has, plus
+//! one; each further try requests twice as many as the one before. So all tries together take no
+//! longer than twice the last one. During a try the message has no allocator, so the copy can't get
+//! a second segment.
 ghost use Rattle.std.specs.Prelude.{◌≡◌, ◌⊎◌, ◌<◌, ◌≤◌, ◌+◌, ◌*◌, ◌++◌, ◌∷◌, [], false, length, min, ℕ, IsTrue, OnOk, IfOk, OnErr, IfErr};
 ghost use Rattle.std.specs.Bool.{OnFalse, OnTrue};
 ghost use Rattle.capnp_format.specs.Canonical.{trim, encoding};
@@ -28,7 +29,7 @@ use capnp_words::error::ErrorKind;
 use capnp_words::read_limiter::ReadLimiter;
 use std::alloc::Global;
 
-/// Whether the refusal says that there is no room, or no memory for more.
+/// Whether `kind` says that the room is too small, or that memory ran out.
 fn is_want_of_room(kind: ErrorKind) -> bool
     ensures { result ≡ wants_room kind }
 {
@@ -38,9 +39,10 @@ fn is_want_of_room(kind: ErrorKind) -> bool
     )
 }
 
-/// Copies the value of `from` to the root of a message whose only word is that root, which is null.
-/// If words don't fit after it, they go into further segments, if the allocator grants any. Returns
-/// the limiter that the copy was charged to, which had `left` words at first.
+/// Copies the value of `from` in canonical form to the root of a message whose only word is that
+/// root, which is null. Words that don't fit after the root go into further segments if the
+/// allocator grants any; otherwise the copy is refused. Returns the limiter that the copy was
+/// charged to, which had `left` words at first.
 fn copy_root<A: BuilderArena, B: ReaderArena>(
     arena: &mut A,
     from: Pointer<'_, B>,
@@ -62,8 +64,8 @@ fn copy_root<A: BuilderArena, B: ReaderArena>(
     Ok(lim)
 }
 
-/// Copies the value of `from` to the root of a message, into the first `room` words of its only
-/// segment. Refuses with `MessageTooLarge(room)` if it doesn't fit there.
+/// Like `copy_root`, into the first `room` words of the message's only segment. Refuses with
+/// `MessageTooLarge(room)` if the copy doesn't fit there.
 fn copy_to_segment<A: Allocator, B: ReaderArena>(
     arena: &mut BuilderArenaImpl<A>,
     from: Pointer<'_, B>,
@@ -98,8 +100,8 @@ fn copy_to_segment<A: Allocator, B: ReaderArena>(
     }
 }
 
-/// Allocates a segment with room for `room` words in a message that has none, and its first word:
-/// the root, which is null.
+/// For `made` without segments: allocates a segment with room for at least `room` words, and in it
+/// the first word, which is the root and null.
 fn make_root<A: Allocator>(made: &mut BuilderArenaImpl<A>, room: u32) -> Result<(), ErrorKind>
     requires none { ⟦<BuilderArenaImpl<A> as ReaderArena>⟧.segments made.old ≡ [] }
     requires room { IsSegmentRoom room }
@@ -133,9 +135,9 @@ fn count_pointers(lim: &mut ReadLimiter, pointers: u64)
     }
 }
 
-/// Charges and counts on `lim` what a copy has spent on `own`, a limiter that had as many words as
-/// `lim` at first, and no pointer followed. If none was followed on `lim` either, replaces `lim` by
-/// `own` and counts nothing.
+/// Charges `lim` for what a copy was charged on `own`, and counts the pointers that it followed.
+/// Before the copy, `own` had as many words left as `lim`, and no pointer followed. If `lim` has no
+/// pointer followed either, replaces `lim` by `own`, which has the same result.
 fn settle(lim: &mut ReadLimiter, own: ReadLimiter)
     requires { IsLeftOf own.left lim.old.left }
     ensures left { lim.new.left ≡ own.left }
@@ -153,8 +155,8 @@ fn settle(lim: &mut ReadLimiter, own: ReadLimiter)
 }
 
 /// Copies the value of `from` in canonical form into a new message with one segment of `room`
-/// words. While it copies, there is no allocator to grant another segment. A refusal returns the
-/// allocator, and leaves the limiter unchanged.
+/// words. During the copy, the message has no allocator that could grant another segment. If
+/// refused, returns the allocator, and leaves `lim` unchanged.
 fn copy_to_message<A: Allocator, B: ReaderArena>(
     alloc: Global,
     allocator: A,
@@ -192,14 +194,14 @@ fn copy_to_message<A: Allocator, B: ReaderArena>(
     }
 }
 
-/// Whether the refusal says that something would be too large.
+/// Whether `kind` is `MessageTooLarge`.
 fn is_too_large(kind: ErrorKind) -> bool
     ensures { result ≡ is_message_too_large kind }
 {
     matches!(kind, ErrorKind::MessageTooLarge(_))
 }
 
-/// The room of the first try: the words of the source plus one, at most a segment's.
+/// The room of the first try: the words of the source plus one, but at most 536,870,911.
 fn first_room(words: usize) -> u32
     ensures first { result ≡ room_of_try words 0 }
     ensures can_be_asked { IsSegmentRoom result }
@@ -211,7 +213,7 @@ fn first_room(words: usize) -> u32
     }
 }
 
-/// The room of the try after one with `room`: twice as much, at most a segment's.
+/// The room of the try after one with `room`: twice as much, but at most 536,870,911.
 fn next_room(room: u32) -> u32
     requires { room ≤ max_segment_words }
     ensures { result ≡ min (2 * room) max_segment_words }
@@ -267,15 +269,16 @@ pub(super) fn copy_in_room<A: Allocator, B: ReaderArena>(
     }
 }
 
-/// Copies the value of `from` in canonical form into a message of one segment ("Canonicalization"),
-/// with the allocator's memory. A refusal returns the allocator, and leaves the limiter unchanged.
+/// Copies the value of `from` in canonical form into a message of one segment (encoding
+/// specification, "Canonicalization"), which `allocator` grants. If refused, returns the allocator,
+/// and leaves `lim` unchanged.
 ///
-/// Charges the limiter what the copy costs, and counts each pointer that isn't null once, however
-/// many tries it takes to find the room. The first try requests the words of the source message
-/// plus one, and each further try twice as many as the one before.
+/// Finds the size of the segment by tries. The first try requests as many words as the source
+/// message has, plus one, and each further try twice as many as the one before. However many tries
+/// there are, `lim` is charged for one copy, and counts each non-null pointer once.
 ///
-/// Refusals: `MessageTooLarge(536870911)` if the copy has more than 536,870,911 words;
-/// `AllocationFailed` if memory ran out, which the allocator has counted.
+/// Refusals: the first one of reading `from`; `MessageTooLarge(536870911)` if the copy has more
+/// than 536,870,911 words; `AllocationFailed` if memory ran out, which the allocator has counted.
 pub fn copy_canonical_with<A: Allocator, B: ReaderArena>(
     alloc: Global,
     allocator: A,

@@ -3,16 +3,16 @@
 /// How a canonical message is written.
 #[derive(Clone, Copy, Debug, PartialEq, Eq)]
 pub enum Form {
-    /// As a frame of one segment ("Serialization Over a Stream").
+    /// As a frame of one segment (encoding specification, "Serialization Over a Stream").
     Framed,
-    /// As bare words.
+    /// As raw words: its words, without a frame.
     Flat,
 }
 
 /// A command on a message.
 #[derive(Clone, Copy, Debug, PartialEq, Eq)]
 pub enum Command {
-    /// Write the message's canonical words ("Canonicalization").
+    /// Write the message's canonical words (encoding specification, "Canonicalization").
     Canon(Form),
     /// Test whether the message is canonical as a whole.
     Check,

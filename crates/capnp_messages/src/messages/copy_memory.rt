@@ -7,12 +7,13 @@ use capnp_words::error::ErrorKind;
 use std::alloc::{AllocError, Global};
 use std::mem;
 
-/// How many bytes are zeroed at a time if fewer are needed: as many as stay in a processor's cache
-/// until they are written.
+/// The fewest bytes that are zeroed at a time, unless fewer are left. This many bytes stay in a
+/// processor's cache until they are written.
 const PIECE: usize = 64 * 1024;
 
 /// A segment on the heap, whose memory can be reused. Reserves all of it at once, and zeroes it as
-/// words are allocated, 64 KiB or more at a time. Never touches the memory after these.
+/// words are allocated, 64 KiB or more at a time. Never touches the memory after the bytes that it
+/// has zeroed.
 #[derive(Drop)]
 pub struct CopySegment {
     /// The bytes that are ready, with capacity for the others.
@@ -88,9 +89,9 @@ impl Segment for CopySegment {
     }
 }
 
-/// Allocates segments on the heap, each of the requested size. Keeps the memory of the last segment
-/// returned for the next one: a message of one segment takes no memory if one as large was built
-/// before.
+/// Allocates segments on the heap, each of the requested size. Keeps the memory of the segment that
+/// was returned last, and uses it for the next segment. So a message of one segment takes no memory
+/// if that memory is large enough for it.
 #[derive(Drop)]
 pub struct CopyMemory {
     alloc: Global,
@@ -99,7 +100,7 @@ pub struct CopyMemory {
 }
 
 impl CopyMemory {
-    /// Nothing is kept yet, and nothing refused.
+    /// An allocator that keeps no memory yet, and has refused nothing.
     pub fn new(alloc: Global) -> Self
         ensures refused { result.refused ≡ 0 }
     {

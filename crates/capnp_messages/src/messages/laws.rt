@@ -1,5 +1,5 @@
-//! Laws of canonical messages ("Canonicalization"). Each function does nothing: its contract is the
-//! law, proved for all messages.
+//! Laws of canonical messages (encoding specification, "Canonicalization"). Each function does
+//! nothing: its contract is the law, proved for all messages.
 
 ghost use Rattle.std.specs.Prelude.{◌≡◌, ◌↔◌, ◌≤◌, ℕ};
 ghost use Rattle.capnp_format.specs.Segments.{Segments};
@@ -9,8 +9,8 @@ ghost use Rattle.capnp_format.specs.Canonical.{charge};
 ghost use Rattle.capnp_framing.specs.Frames.{CanBeFramed, frame};
 ghost use Rattle.capnp_messages.specs.CanonicalMessages.{IsCanonicalOf};
 
-/// A message is the canonical one of at most one value. Its root means that value, within as many
-/// levels as the value is deep, at the value's least cost.
+/// A message is the canonical form of at most one value. Its root means that value, under any
+/// nesting limit that is at least the value's depth, and reading it has the value's least cost.
 pub fn canonical_message()
     ensures value { (S : Segments) (t u : Tree) → IsCanonicalOf S t → IsCanonicalOf S u → t ≡ u }
     ensures means { (S : Segments) (t : Tree) (n : ℕ) → IsCanonicalOf S t → depth t ≤ n

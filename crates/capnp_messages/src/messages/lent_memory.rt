@@ -23,7 +23,7 @@ impl<'a> Model for LentZeros<'a> {
 }
 
 impl<'a> LentZeros<'a> {
-    /// Lends these bytes. Precondition: all are zero.
+    /// The lent bytes `bytes`. Precondition: all are zero.
     fn new(bytes: &'a mut [u8]) -> Self
         requires { bytes.old ≡ replicate (length bytes.old) 0 }
         ensures { result ≡ length bytes.old }
@@ -48,9 +48,10 @@ impl<'a> LentZeros<'a> {
     }
 }
 
-/// Makes one segment of exactly the requested size in lent memory. Refuses a segment that the memory
-/// is too small for, and keeps the memory for a smaller one. Refuses any segment after one that was
-/// made. Takes no other memory for segments; only `keep` does, from the heap, for its list.
+/// An allocator that grants one segment, in lent memory and of exactly the requested size. Refuses
+/// a request that the memory is too small for, and may still grant a smaller one afterwards. After
+/// it has granted a segment, refuses every request. Only `keep` takes other memory, from the heap,
+/// for its list.
 #[derive(Drop)]
 pub struct LentMemory<'a> {
     memory: Option<LentZeros<'a>>,
@@ -71,8 +72,8 @@ impl<'a> LentMemory<'a> {
         }
     }
 
-    /// Lends the first `words` words, if there are as many and none were lent yet. Otherwise keeps
-    /// what there is.
+    /// Lends the first `words` words, if there are as many and none were lent yet. Otherwise
+    /// returns `None`, and changes nothing.
     fn lend(&mut self, words: u32) -> Option<&'a mut [u8]>
         ensures lent { IfSome self.old.memory (λ bytes. 8 * words ≤ bytes → IsSome result) }
         ensures fresh { IfSome result (λ s. s.now ≡ zeros words) }
@@ -135,7 +136,7 @@ impl<'a> Allocator for LentMemory<'a> {
         }
     }
 
-    /// Doesn't lend the memory again.
+    /// Does nothing: the memory isn't lent a second time.
     fn deallocate_segment(&mut self, _segment: &'a mut [u8], _used_words: u32) {}
 
     fn keep<T>(&mut self, list: &mut Vec<T>, row: T) -> Option<T> {

@@ -1,4 +1,5 @@
-//! Where and why a whole message isn't in canonical form ("Canonicalization").
+//! Where and why a whole message isn't in canonical form (encoding specification,
+//! "Canonicalization").
 ghost use Rattle.std.specs.Prelude.{◌≡◌, ◌≢◌, ◌↔◌, None, Some, Ok, length, min, IsNone, IsOk, IfNone, IfSome, IfOk, OnOk, IfErr};
 ghost use Rattle.capnp_words.specs.Meter.{spent};
 ghost use Rattle.capnp_format.specs.Bytes.{message};
@@ -31,12 +32,12 @@ fn segment_count_fault<A: ReaderArena>(arena: &A) -> Option<CanonicalFault>
     })
 }
 
-/// Returns where and why a message isn't canonical as a whole, or `None` if it is:
-/// `is_canonical_message` with a place for the no. Reads, charges and refuses like that.
+/// Returns where and why a message isn't canonical as a whole, or `None` if it is. Reads, charges
+/// and refuses like `is_canonical_message`.
 ///
-/// The first fault found counts: the number of segments, then the fault of
-/// `PointerReader::canonical_fault` at the root, and last, words after the value. Its reason is
-/// true of the word that it names.
+/// Returns the first fault of these: a number of segments other than 1; the fault of
+/// `PointerReader::canonical_fault` at the root; words after the value. The reason of the fault is
+/// true of the word that the fault names.
 pub fn canonical_fault<S: ReaderSegments>(
     arena: &ReaderArenaImpl<S>,
     lim: &mut ReadLimiter,

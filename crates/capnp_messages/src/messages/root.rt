@@ -11,11 +11,12 @@ use capnp_pointers::pointers::Pointer;
 use capnp_words::error::ErrorKind;
 use capnp_words::read_limiter::ReadLimiter;
 
-/// Returns a reader of the message's root and charges its word, like
+/// Returns a reader of the message's root and charges `lim` for its word, like
 /// `Pointer::get_root_from_arena`, for any type that holds the segments.
 ///
-/// Refusals, which charge nothing: `InvalidSegmentId(0)` or `MessageContainsOutOfBoundsPointer` if
-/// there is no root pointer; `ReadLimitExceeded` if the limiter has no word left.
+/// Refusals, which charge nothing: `InvalidSegmentId(0)` if there are no segments;
+/// `MessageContainsOutOfBoundsPointer` if the first segment has no word; `ReadLimitExceeded` if
+/// `lim` has no word left.
 pub fn read_root<'a, S: ReaderSegments>(
     arena: &'a ReaderArenaImpl<S>,
     lim: &mut ReadLimiter,

@@ -51,7 +51,7 @@ pub fn canonical_from<A: Allocator, S: ReaderSegments>(
 
 /// Copies a message in canonical form into `made`, which has no segment yet, in one segment of
 /// `room` words. Returns `false` if that is too small, or there is no memory for it;
-/// `canonical_from` finds out how much it needs.
+/// `canonical_from` finds a size that is large enough.
 pub fn canonical_in_room<A: Allocator, S: ReaderSegments>(
     made: &mut BuilderArenaImpl<A>,
     room: u32,
@@ -79,11 +79,11 @@ pub fn canonical_in_room<A: Allocator, S: ReaderSegments>(
     copy_in_room(made, root, lim.left(), room)
 }
 
-/// Copies a message in canonical form into a message of one segment ("Canonicalization"), with the
-/// allocator's memory. A refusal returns the allocator.
+/// Copies a message in canonical form into a message of one segment (encoding specification,
+/// "Canonicalization"), which `allocator` grants. If refused, returns the allocator.
 ///
-/// Reads the value from the root on, whose word costs one, within the limits. Refusals: that of
-/// reading; `AllocationFailed` if memory ran out, which the allocator has counted;
+/// Reads the value from the root on, within `limits`; the root pointer costs one word. Refusals:
+/// the first one of reading; `AllocationFailed` if memory ran out, which the allocator has counted;
 /// `MessageTooLarge(536870911)` if there are more than 536,870,911 canonical words.
 pub fn canonical_with<A: Allocator, S: ReaderSegments + Drop>(
     alloc: Global,
@@ -107,13 +107,13 @@ pub fn canonical_with<A: Allocator, S: ReaderSegments + Drop>(
     canonical_from(alloc, allocator, &arena, limits)
 }
 
-/// Returns where and why a message isn't canonical as a whole, or `None` if it is: one segment,
-/// which holds the canonical words of a value and nothing else ("Canonicalization"). Takes no
-/// memory.
+/// Returns where and why a message isn't canonical as a whole, or `None` if it is. A canonical
+/// message has one segment, which holds the canonical words of a value and nothing else (encoding
+/// specification, "Canonicalization"). Takes no memory.
 ///
-/// Returns the first fault found, like `canonical_fault`. Reads and refuses only messages of one
-/// segment, within the limits; the fault of any other is `SegmentCount`. If there is no fault, the
-/// value is within both limits.
+/// Returns the first fault found, like `canonical_fault`. Reads a message of one segment within
+/// `limits`, and may refuse it. Never refuses a message of another number of segments: its fault is
+/// `SegmentCount`. If there is no fault, the value is within both limits.
 pub fn canonical_fault_of<S: ReaderSegments + Drop>(
     segments: S,
     limits: ReaderOptions,
@@ -147,8 +147,8 @@ pub fn is_canonical<S: ReaderSegments + Drop>(
     Ok(fault.is_none())
 }
 
-/// Counts the words and capabilities that a message's root leads to, without landing pads
-/// ("Structs", "Lists"). Takes no memory.
+/// Counts the words and capabilities that a message's root leads to, without landing pads (encoding
+/// specification, "Structs" and "Lists"). Takes no memory.
 pub fn size_of<S: ReaderSegments + Drop>(
     segments: S,
     limits: ReaderOptions,

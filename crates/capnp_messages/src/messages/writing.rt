@@ -1,5 +1,5 @@
-//! Writes a message in canonical form as a frame ("Canonicalization", "Serialization Over a
-//! Stream").
+//! Writes a message in canonical form as a frame (encoding specification, "Canonicalization" and
+//! "Serialization Over a Stream").
 ghost use Rattle.std.specs.Prelude.{◌≡◌, ◌⊎◌, ◌∷◌, ◌<◌, ◌≤◌, ◌*◌, ◌/◌, ◌^◌, [], ℕ, List, false, true, length, OnOk, OnErr, IfErr};
 ghost use Rattle.capnp_words.specs.declared.error.ErrorKind.{ErrorKind};
 ghost use Rattle.capnp_words.specs.declared.error.ErrorKind.TheVariants.{AllocationFailed};
@@ -37,7 +37,7 @@ pub(super) fn whole_words(segment: &[u8]) -> &[u8]
     &segment[..8 * (segment.len() / 8)]
 }
 
-/// The bytes of a message of one segment, eight a word.
+/// The bytes of the words of `made`, which has one segment.
 pub fn canonical_bytes<A: Allocator>(made: &BuilderArenaImpl<A>) -> &[u8]
     requires { length (⟦<BuilderArenaImpl<A> as ReaderArena>⟧.segments made.now) ≡ 1 }
     ensures bytes { (words : List ℕ) →
@@ -65,7 +65,7 @@ pub(super) fn write_framed<W: Output>(output: &mut W, segment: &[u8]) -> Result<
     }
 }
 
-/// Writes canonical words, framed or bare.
+/// Writes canonical words, in a frame or without one, by `form`.
 pub fn write_words<W: Output>(output: &mut W, bytes: &[u8], form: Form) -> Result<(), DeviceFault>
     requires works { W.has_failed output.old ≡ false }
     requires short { length bytes.now < 2 ^ 35 }
@@ -100,12 +100,13 @@ pub fn write_copy<W: Output, A: Allocator>(
 /// Writes the value of `from` as the frame of a canonical message: one segment with its canonical
 /// words.
 ///
-/// Charges the limiter what the copy costs, and counts each pointer that isn't null once, however
-/// many tries it takes to find the room.
+/// Copies the value first, like `copy_canonical`. However many tries that takes, `lim` is charged
+/// for one copy, and counts each non-null pointer once.
 ///
 /// Refusals: `Layout` if the value can't be copied, with `MessageTooLarge(536870911)` inside if the
-/// copy has more than 536,870,911 words; nothing is written then, and the limiter is unchanged.
-/// `Frame` if the output fails: the copy is charged, and how much the output took is unspecified.
+/// copy has more than 536,870,911 words; then nothing is written, and `lim` is unchanged. `Frame`
+/// if the output fails; then `lim` is charged for the copy, and how much the output took is
+/// unspecified.
 pub fn write_canonical<W: Output, B: ReaderArena>(
     alloc: Global,
     output: &mut W,
