@@ -25,16 +25,16 @@ pub fn one_meaning()
         → Means S m s p u e → (t ≡ u) × (c ≡ e) }
 {}
 
-/// What a place means within some levels, it means within as many levels as the value's depth or
-/// more, and within no fewer.
+/// If a place means a value within some nesting limit, it means that value within every limit that
+/// is at least the value's depth, and within no other.
 #[tactic(auto, using(crate::proofs::LawLemmas::levels_from_depth))]
 pub fn levels_from_depth()
     ensures { (S : Segments) (n m s p : ℕ) (t : Tree) (c : ℕ) → Means S n s p t c
         → Means S m s p t c ↔ (depth t ≤ m) }
 {}
 
-/// Reading by the function `decode` and the relation `Means` agree, both if a value is found and if
-/// none is.
+/// The function `decode` finds a value and its cost exactly if the relation `Means` has them for
+/// the place (`found`), and finds none exactly if `Means` has none (`nothing`).
 #[tactic(auto, using(crate::proofs::LawLemmas::decode_agrees, crate::proofs::LawLemmas::decode_refuses))]
 pub fn decode_agrees()
     ensures found { (S : Segments) (n s p : ℕ) (t : Tree) (c : ℕ)
@@ -43,22 +43,24 @@ pub fn decode_agrees()
         → (decode S n s p ≡ None) ↔ ((t : Tree) (c : ℕ) → Means S n s p t c → ⊥) }
 {}
 
-/// What words of 64 bits mean is a value of the format: each size in it fits the bits of its
-/// pointer word.
+/// If the words of a message have 64 bits, a value that a place means is a value of the format:
+/// each size in it fits the bits of its pointer word.
 #[tactic(auto, using(crate::proofs::Bounds::means_value))]
 pub fn meaning_is_value()
     ensures { (S : Segments) (n s p : ℕ) (t : Tree) (c : ℕ) → AreWords S → Means S n s p t c
         → IsValue t }
 {}
 
-/// A value's body has as many words as its objects together.
+/// A value's body, its canonical words without the root pointer, has as many words as the value's
+/// objects together.
 #[tactic(auto, using(crate::proofs::LawLemmas::body_length))]
 pub fn body_length()
     ensures { (t : Tree) → IsValue t → length (body t) ≡ word_count t }
 {}
 
-/// The canonical words of a value mean that value, with anything after them, at the value's least
-/// cost; and do so at any place, in any segment in which the head is a position or the end.
+/// The canonical words of a value, followed by any words, mean that value at its least cost
+/// (`alone`). So does a canonical pointer at any place, if the value's body is at position h of the
+/// same segment (`anywhere`).
 #[tactic(auto, using(crate::proofs::LawLemmas::canonical_words_mean, crate::proofs::Unique::stands_means))]
 pub fn canonical_words_mean()
     ensures alone { (t : Tree) (more : List ℕ) (n : ℕ) → IsValue t → IsEncodable t → depth t ≤ n
@@ -67,28 +69,30 @@ pub fn canonical_words_mean()
         → h ≤ length (segment S s) → Stands S s p h t → Means S n s p t (charge t) }
 {}
 
-/// At most one value has its canonical words at a place with the body at a head.
+/// At most one value has its canonical pointer at place (s, p) and its body at position h of
+/// segment s.
 #[tactic(auto, using(crate::proofs::LawLemmas::one_stands))]
 pub fn one_stands()
     ensures { (S : Segments) (s p h : ℕ) (t u : Tree) → Stands S s p h t → Stands S s p h u
         → t ≡ u }
 {}
 
-/// Canonical words determine the value: two values have the same ones only if they are the same.
+/// Two different values have different canonical words.
 #[tactic(auto, using(crate::proofs::LawLemmas::encodings_differ))]
 pub fn encodings_differ()
     ensures { (t u : Tree) → IsValue t → IsEncodable t → IsValue u → IsEncodable u
         → encoding t ≡ encoding u → t ≡ u }
 {}
 
-/// No value's canonical words are a proper prefix of those of another one, or of its own.
+/// No value's canonical words are a proper prefix of the canonical words of any value.
 #[tactic(auto, using(crate::proofs::LawLemmas::no_encoding_begins))]
 pub fn no_encoding_begins_another()
     ensures { (t u : Tree) (more : List ℕ) → IsValue t → IsEncodable t → IsValue u → IsEncodable u
         → encoding t ++ more ≡ encoding u → more ≡ [] }
 {}
 
-/// Two sources have the same canonical words exactly if their trimmed values are equal.
+/// Two places, of one message or of two, have the same canonical words exactly if their values are
+/// equal once they are trimmed.
 #[tactic(auto, using(crate::proofs::LawLemmas::same_canonical_words))]
 pub fn same_canonical_words()
     ensures { (S R : Segments) (n s p m u q c e : ℕ) (t v : Tree) → AreWords S → AreWords R
@@ -96,14 +100,15 @@ pub fn same_canonical_words()
         → (encoding (trim t) ≡ encoding (trim v)) ↔ (trim t ≡ trim v) }
 {}
 
-/// If a value has fewer than 2^29 words, all offsets inside it fit their bits.
+/// If a value has fewer than 2^29 words, all offsets in its canonical words fit the 30 bits that a
+/// pointer has for them.
 #[tactic(auto, using(crate::proofs::Trimmed::small_fits))]
 pub fn small_is_encodable()
     ensures { (t : Tree) → IsValue t → word_count t < 2 ^ 29 → IsEncodable t }
 {}
 
-/// A change outside of the words that a value covers, also one after the ends of segments, changes
-/// neither what its place means nor what it covers.
+/// Changing other words than a value's pointer and those that the value covers, or adding words to
+/// segments, changes neither the value nor which words it covers.
 #[tactic(auto, using(crate::proofs::Frame::frame))]
 pub fn others_may_change()
     ensures { (S R : Segments) (n s p : ℕ) (t : Tree) (c : ℕ) → Grows S R
@@ -112,8 +117,9 @@ pub fn others_may_change()
         → Means S n s p t c → Means R n s p t c × (cover R s p t ≡ cover S s p t) }
 {}
 
-/// Canonical words cost no more than their source. Without the root pointer, their number is at
-/// most the cost of the source.
+/// Reading the canonical words of a place's value costs no more than reading the place (`cost`).
+/// There are no more of these words, without the root pointer, than reading the place costs
+/// (`length`).
 #[tactic(auto, using(crate::proofs::LawLemmas::canonical_cost, crate::proofs::LawLemmas::canonical_length))]
 pub fn canonical_words_are_cheap()
     ensures cost { (S : Segments) (n s p : ℕ) (t : Tree) (c : ℕ) → AreWords S → Means S n s p t c
@@ -122,8 +128,8 @@ pub fn canonical_words_are_cheap()
         → length (body (trim t)) ≤ c }
 {}
 
-/// Trimming a value twice is trimming it once, and results in a value of no more words, with the
-/// same levels and capabilities.
+/// A trimmed value is unchanged if it is trimmed again (`twice`). Trimming adds no words, and keeps
+/// the depth and the number of capabilities (`keeps`).
 #[tactic(auto, using(crate::proofs::LawLemmas::trim_twice, crate::proofs::LawLemmas::trim_keeps))]
 pub fn trimming()
     ensures twice { (t : Tree) → IsTrimmed (trim t) }
@@ -142,8 +148,9 @@ pub fn canonical_again()
         → encoding (trim u) ≡ encoding (trim t) }
 {}
 
-/// What trimming keeps of each section is the least that loses only zero words and null pointers;
-/// in a list of structs it is the least for all elements together.
+/// Trimming cuts a section as short as possible without losing anything but zero words and null
+/// pointers. In a list of structs it cuts all elements to one size, the smallest that loses nothing
+/// else in any of them.
 #[tactic(auto, using(crate::proofs::LawLemmas::least_children))]
 pub fn least_widths()
     ensures words { (n : ℕ) (ws : List ℕ)
@@ -155,8 +162,8 @@ pub fn least_widths()
         ↔ ((ws : List ℕ) (ts : Trees) → HasElement es ws ts → AreNullFrom q ts) }
 {}
 
-/// The words of a list are its bytes in order, the lowest first, and its elements are the bits of
-/// these in order.
+/// A list's words, read as one number with the lowest word first, are its bytes with the lowest
+/// byte first. Its elements are consecutive bits of that number, the first element the lowest ones.
 #[tactic(auto, using(crate::proofs::LawLemmas::element_is_bits))]
 pub fn elements_are_bits()
     ensures bytes { (n : ℕ) (bytes : List ℕ) → length bytes ≡ 8 * n
@@ -171,18 +178,20 @@ pub fn one_arena_value()
     ensures { (S : Segments) (t u : Tree) → ArenaHolds S t → ArenaHolds S u → t ≡ u }
 {}
 
-/// What is found canonical at a message's root is what a canonical copy makes of it: if canonical
-/// words are at the root with the head right after it, then a value that the root means within some
-/// levels has no capability, and its canonical words are a prefix of the first segment.
+/// If the test for canonical form accepts a message's root, a canonical copy has the same words.
+/// That is: if a value's canonical words are at the root, with the body right after it, and the
+/// root means a value within some nesting limit, this value has no capability, and its canonical
+/// words are a prefix of the first segment.
 #[tactic(auto, using(crate::proofs::Agreements::tested_is_copied))]
 pub fn tested_is_copied()
     ensures { (S : Segments) (n c : ℕ) (t u : Tree) → Stands S 0 0 1 t → Means S n 0 0 u c
         → (capabilities u ≡ 0) × (more : List ℕ) × (segment S 0 ≡ encoding (trim u) ++ more) }
 {}
 
-/// If a value is read within n levels at a cost of c, what a canonical copy writes of it is found
-/// canonical, with anything after it, at no more cost and within no more levels (`found`); and a
-/// canonical copy of that is the same words, of a value without capabilities (`again`).
+/// If a place means a value without capabilities, within n levels and at cost c, the test for
+/// canonical form accepts the words of its canonical copy, followed by any words, within n levels
+/// and at cost c or less (`found`). A canonical copy of those words has the same words (`again`).
+/// Both assume that the offsets fit (`IsEncodable`).
 #[tactic(auto, using(crate::proofs::Agreements::copied_again))]
 pub fn copied_is_tested()
     ensures found { (S : Segments) (n s p c : ℕ) (t : Tree) (more : List ℕ) → AreWords S

@@ -1,7 +1,7 @@
-//! Worked examples of the definitions, computed by the check. A word is written as its upper and
-//! its lower half in hexadecimal; in a message's bytes the lower half comes first, each half with
-//! its lowest byte first. Messages and values used in several examples have names in
-//! `specs/Examples.antt`.
+//! Worked examples of the definitions, which the checker computes. A word is written in
+//! hexadecimal: its upper half, then its lower half. In a message's bytes the lower half comes
+//! first, and the lowest byte of each half comes first. Messages and values used in several
+//! examples have names in `specs/Examples.antt`.
 
 ghost use Rattle.std.specs.Prelude.{◌≡◌, ℕ, map, ◌+◌, ◌-◌, ◌^◌, List, [], ◌∷◌, Some, None};
 ghost use Rattle.capnp_format.specs.Word.{kind, offset_bits, upper_half, data_words, pointer_count, element_size, list_count, is_double, far_position, struct_word, list_word, far_word, capability_word};
@@ -15,7 +15,7 @@ ghost use Rattle.capnp_format.specs.Forest.{times, cover, root, IsTidy, IsForest
 ghost use Rattle.capnp_format.specs.Bytes.{words_of, message};
 ghost use Rattle.capnp_format.specs.Examples.{HasCanonicalWords, MeansNothing, trimmed_struct, far_pointer, double_far, shared_child, mixed, pair};
 
-/// The definitions on worked messages, values and words; the check computes them.
+/// What the definitions result in for worked messages, values and words. The checker computes each.
 #[tactic(none)]
 pub fn worked_examples()
     // What messages mean, at which cost, and their canonical words.
