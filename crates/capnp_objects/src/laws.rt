@@ -17,8 +17,10 @@ ghost use Rattle.capnp_objects.specs.Refusals.{Refused, StopsWithin, IsTried};
 ghost use Rattle.capnp_objects.specs.Sizing.{SizedThere, tally, WalksPlace};
 ghost use Rattle.capnp_objects.specs.Wanted.{Form, FollowsTo, AllowsCapabilities};
 
-/// A refusal names a demand that a reached place breaks, or the read limit, if a reached place
-/// charges more than is left; and the read limit is named for no other reason.
+/// A demand is a condition for reading an object, with the name of its refusal. A reading is
+/// refused for one of two reasons: a place that it reaches breaks a demand, and the refusal has
+/// that demand's name; or such a place charges more words than the limiter has left, and the
+/// refusal is `ReadLimitExceeded` (`named`). `ReadLimitExceeded` has no other cause (`limit`).
 pub fn refused_truly()
     ensures named { (form : Form) (r : Reading) (m m' : Meter) (k : ErrorKind)
         → Refused form r m m' k
@@ -27,30 +29,31 @@ pub fn refused_truly()
         → Refused form r m m' ReadLimitExceeded → Somewhere (Exceeds m') r }
 {}
 
-/// If a reading is refused, the place means no value of the kind accepted, within both limits.
+/// If a reading is refused, the place means no value that `form` accepts within both the nesting
+/// limit and the traversal limit.
 pub fn refused_rightly()
     ensures { (form : Form) (r : Reading) (m m' : Meter) (k : ErrorKind)
         → Refused form r m m' k → (t : Tree) (c : ℕ) → MeansThere r t c
         → AllowsCapabilities form (capabilities t) → Affords r.charging m c → ⊥ }
 {}
 
-/// If there is no limit, or nothing is charged, each refusal names a demand that a reached place
-/// breaks.
+/// If there is no traversal limit, or nothing is charged, each refusal names a demand that a place
+/// reached by the reading breaks.
 pub fn refused_unlimited()
     ensures { (form : Form) (r : Reading) (m m' : Meter) (k : ErrorKind)
         → ((x : ℕ) → Affords r.charging m x) → Refused form r m m' k → HasFault form r k }
 {}
 
-/// Either a place means a value of the kind accepted, within its levels, or some reached place
-/// breaks a demand.
+/// Either a place means a value that `form` accepts, within its nesting limit, or a place that a
+/// reading of it reaches breaks a demand.
 pub fn value_or_fault()
     ensures { (form : Form) (r : Reading)
         → ((t : Tree) × (c : ℕ) × MeansThere r t c × AllowsCapabilities form (capabilities t))
         ⊎ ((k : ErrorKind) × HasFault form r k) }
 {}
 
-/// Under a budget of x words, a reading follows at most x + 1 pointers, whether it ends in a value,
-/// is refused, or is broken off.
+/// With x words left in the limiter, a reading follows at most x + 1 pointers, whether it results
+/// in a value, is refused, or stops before its end.
 pub fn few_followed()
     ensures { (form : Form) (r : Reading) (m m' : Meter) (x : ℕ)
         → r.charging ≡ true → m.left ≡ Some x
@@ -59,8 +62,9 @@ pub fn few_followed()
         → m'.followed ≤ m.followed + (x + 1) }
 {}
 
-/// If a place means a value, its size is that of this value, for any levels of either; and there
-/// are no more canonical words after its pointer than the size counts.
+/// If a place means a value, a walk over the place counts the words and capabilities of that value,
+/// for any nesting limits of the two (`size`). The value's canonical words, without the root
+/// pointer, are at most as many as the words counted (`canonical`).
 pub fn size_of_value()
     ensures size { (r : Reading) (n : ℕ) (m m' : Meter) (words caps : ℕ) (t : Tree) (c : ℕ)
         → WalksPlace r (tally 0 0 m) (tally words caps m')
@@ -72,15 +76,16 @@ pub fn size_of_value()
         → word_count (trim t) ≤ words }
 {}
 
-/// If a place means a value, there is a walk over it within more levels than its depth, at no
-/// greater cost.
+/// If a place means a value, and the nesting limit is above the value's depth, a walk counts its
+/// size at no greater cost than reading it.
 pub fn values_have_sizes()
     ensures { (r : Reading) (n : ℕ) (t : Tree) (c : ℕ) → MeansThere (record r { levels = n }) t c
         → depth t < r.levels → (k : ℕ) × (k ≤ c) × SizedThere r t k }
 {}
 
-/// If following a pointer ends at a word that isn't a far pointer, the pointer leads to what that
-/// word describes, in the meaning of a message. So does a pointer whose object is entered.
+/// If following a pointer ends at a word that isn't a far pointer, then that word describes the
+/// object that the pointer leads to in the meaning of the message. This includes every pointer
+/// whose object is read.
 pub fn followed_leads()
     ensures { (r : Reading) (a : Target) → FollowsTo r a → kind a.word ≢ 2 → LeadsTo r a }
 {}

@@ -1,5 +1,5 @@
-//! One object of a message, read in place: follows the pointer to it, and checks and charges what
-//! it claims before trusting it.
+//! Reads one object of a message in place: follows the pointer to it, checks that the words which
+//! it claims are inside a segment, and charges them to a limiter, all before they are read.
 #![tactic(auto)]
 
 pub mod laws;

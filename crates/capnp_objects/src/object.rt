@@ -10,10 +10,10 @@ use capnp_words::words::word_at;
 /// A word of a segment, with the segment's bytes.
 #[derive(Clone, Copy)]
 pub struct Place<'a> {
-    /// The number of the segment: in an arena below 2^32; 2^32 for a default, so that no far
-    /// pointer leads into it.
+    /// The segment's number: below 2^32 in an arena; 2^32 for the bytes of a field's default value,
+    /// so that no far pointer leads into them.
     pub segment: u64,
-    /// All whole words of the segment.
+    /// The bytes of the segment; only its whole words count.
     pub bytes: &'a [u8],
     /// The position in the segment, in words.
     pub at: u32,
@@ -49,11 +49,11 @@ pub struct PointerWord<'a> {
     pub place: Place<'a>,
     /// The word.
     pub word: WirePointer,
-    /// The nesting limit there: how many levels of structs and lists may be entered.
+    /// The nesting limit at the word: how many levels of structs and lists may be entered from it.
     pub nesting_limit: i32,
 }
 
-/// One object, whose own words are checked and charged; nothing is known of its children.
+/// One object. Its own words are checked and charged; its children aren't read yet.
 #[derive(Clone, Copy)]
 pub enum Object<'a> {
     /// Nothing: the pointer is zero.
@@ -113,6 +113,7 @@ pub enum Expected {
 pub enum Purpose {
     /// The object's value.
     Value,
-    /// Only the object's size: a list of void may be anywhere, and elements without width are free.
+    /// Only the object's size. A list of void may be outside of its segment, and elements without
+    /// width aren't charged.
     Size,
 }

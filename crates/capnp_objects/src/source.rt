@@ -1,5 +1,5 @@
-//! What readers read from: an arena, a default, or nothing. Reads a pointer in two steps: follows
-//! it to where it leads, and enters the object there, each with its checks and charges.
+//! What readers read from: an arena, a field's default value, or nothing. A pointer is read in two
+//! steps, each with its checks and charges: following it, and entering the object where it leads.
 ghost use Rattle.std.specs.Prelude.{◌≡◌, ◌<◌, ◌≤◌, ◌↔◌, IfOk, IsOk, OnOk, OnErr, IfErr, length};
 ghost use Rattle.capnp_format.specs.Word.{kind, element_size};
 ghost use Rattle.capnp_words.specs.Meter.{counted_once};
@@ -31,7 +31,8 @@ use landing::Entrance;
 pub enum Source<'a, A> {
     /// A message.
     Arena(&'a A),
-    /// The bytes of a default, which are one segment; free of charge, and without far pointers.
+    /// The bytes of a field's default value, which are one segment. Reading them charges nothing,
+    /// and a far pointer in them is refused.
     Default(&'a [u8]),
     /// Nothing: a field that its struct doesn't have.
     Nothing,
@@ -49,23 +50,23 @@ struct Found<'a> {
 }
 
 impl<'a, A: ReaderArena> Source<'a, A> {
-    /// Reads the object that the pointer at a place leads to, and nothing below it ("Structs",
-    /// "Lists", "Inter-Segment Pointers" and "Capabilities (Interfaces)" of the encoding
-    /// specification).
+    /// Reads the object that the pointer at `place` leads to, but none of its children (encoding
+    /// specification, "Structs", "Lists", "Inter-Segment Pointers" and "Capabilities
+    /// (Interfaces)").
     ///
-    /// A zero word is `Null`, and so is a place outside of its segment; counts and charges nothing
-    /// for these. Counts any other pointer as followed, and charges words, each before it is read:
-    /// its landing pads, those that the object claims, and for elements without width their number.
-    /// If the source isn't charged, nothing is counted either. A capability takes neither a level
-    /// nor words of its own; a struct and a list take a level, so the nesting limit must be at
-    /// least 1.
+    /// Returns `Object::Null` if the word at `place` is zero, or `place` is outside of its segment;
+    /// counts and charges nothing in `lim` then. Otherwise counts the pointer in `lim` as followed,
+    /// and charges words, each before it is read: those of its landing pads, those that the object
+    /// claims, and one for each list element without width. If the source isn't an arena that
+    /// charges, `lim` is unchanged. A struct and a list take a level, so `nesting_limit` must be at
+    /// least 1. A capability takes no level, and is charged no words except its landing pads.
     ///
     /// Refuses with the first fault found: `InvalidSegmentId`, `MessageContainsOutOfBoundsPointer`,
     /// `MalformedDoubleFarPointer`, `UnknownPointerType`,
     /// `MessageIsTooDeeplyNestedOrContainsCycles`,
     /// `InlineCompositeListsOfNonStructTypeAreNotSupported`,
     /// `InlineCompositeListsElementsOverrunItsWordCount`, `TriedToReadFromNullArena` for a far
-    /// pointer of a default, or `ReadLimitExceeded`. What was charged before stays charged.
+    /// pointer in a default value, or `ReadLimitExceeded`. What was charged before stays charged.
     #[inline(always)]
     pub fn read_object(
         self,
@@ -121,8 +122,8 @@ impl<'a, A: ReaderArena> Source<'a, A> {
         entrance.enter(purpose, lim)
     }
 
-    /// Reads the struct that a near pointer leads to, like `read_object`, and returns where it
-    /// starts in the pointer's own segment, in words.
+    /// Reads the struct that `pointer`, which isn't a far pointer, leads to, like `read_object`.
+    /// Returns the position in the pointer's segment where the struct starts, in words.
     #[inline(always)]
     pub fn read_near_struct(
         self,
@@ -139,9 +140,9 @@ impl<'a, A: ReaderArena> Source<'a, A> {
         self.enter_near(pointer, pointer.word.struct_word_size(), lim)
     }
 
-    /// Reads the list of bits or bytes that a near pointer leads to, like `read_object`, and
-    /// returns where its elements start in the pointer's own segment, in words. The list claims
-    /// `words` words.
+    /// Reads the list of bits or numbers that `pointer`, which isn't a far pointer, leads to, like
+    /// `read_object`. Returns the position in the pointer's segment where the elements start, in
+    /// words. Precondition: the list claims `words` words.
     #[inline(always)]
     pub fn read_near_flat(
         self,

@@ -1,4 +1,4 @@
-//! One object that a call expects to be of a kind: a struct, a list of elements that are wide
+//! Reads an object that has to be of an expected kind: a struct, a list of elements that are wide
 //! enough, a text, or data.
 ghost use Rattle.std.specs.Prelude.{◌≡◌, None, ◌<◌, ◌≤◌, ◌+◌, ◌-◌, ◌*◌, ◌↔◌, pos, IsTrue, IsOk, IfOk, IfErr, length};
 ghost use Rattle.capnp_format.specs.Numbers.{words_for};
@@ -22,16 +22,18 @@ use capnp_words::wire_pointer::{
 use capnp_words::words::word_at;
 
 impl<'a, A: ReaderArena> Source<'a, A> {
-    /// Reads the object that the pointer at a place leads to, which has to be what a call expects
-    /// ("Structs", "Lists" of the encoding specification).
+    /// Reads the object that the pointer at `place` leads to, and refuses it if it isn't what
+    /// `expected` says (encoding specification, "Structs" and "Lists").
     ///
-    /// A zero word is `Null`, and counts and charges nothing. Checks and charges like
-    /// `read_object`, with these differences. A struct and a list require a nesting limit of at
-    /// least 1 before the pointer is followed (otherwise `MessageIsTooDeeplyNestedOrContainsCycles`
-    /// for a struct, `NestingLimitExceeded` for a list); a text and data require no level. An
-    /// object of another kind is refused after its landing pads are charged and before its own
-    /// words are. A list whose elements are too narrow, or a text whose last byte isn't 0, is
-    /// refused after all is charged.
+    /// Returns `Object::Null` if the word at `place` is zero, and counts and charges nothing in
+    /// `lim`. Otherwise checks, counts and charges like `Source::read_object`, except as follows.
+    ///
+    /// A struct and a list require `nesting_limit` to be at least 1 before the pointer is followed.
+    /// Otherwise the refusal is `MessageIsTooDeeplyNestedOrContainsCycles` for a struct, and
+    /// `NestingLimitExceeded` for a list. A text and data require no level. An object of another
+    /// kind is refused after its landing pads are charged and before its own words are. A list
+    /// whose elements are too narrow, or a text whose last byte isn't 0, is refused after both are
+    /// charged.
     #[inline(always)]
     pub fn read_expected(
         self,

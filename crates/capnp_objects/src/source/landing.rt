@@ -1,4 +1,4 @@
-//! What a pointer leads to once it is followed, and how that is entered: its checks and charges.
+//! Enters the object that a followed pointer leads to: checks and charges the words that it claims.
 ghost use Rattle.std.specs.Prelude.{◌≡◌, ⊤};
 ghost use Rattle.capnp_words.specs.declared.error.ErrorKind.TheVariants.{CantHandleNonStructInlineComposite, InlineCompositeListsOfNonStructTypeAreNotSupported};
 ghost use Rattle.capnp_objects.specs.declared.object.Purpose.TheVariants.{Value, Size};

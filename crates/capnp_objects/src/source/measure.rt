@@ -15,22 +15,23 @@ use capnp_words::error::ErrorKind;
 use capnp_words::read_limiter::ReadLimiter;
 
 impl<'a, A: ReaderArena> Source<'a, A> {
-    /// Reads the object that the pointer at a place leads to, and nothing below it, only for its
-    /// size ("Structs", "Lists", "Inter-Segment Pointers" and "Capabilities (Interfaces)" of the
-    /// encoding specification).
+    /// Reads the object that the pointer at `place` leads to, but none of its children, only for
+    /// its size (encoding specification, "Structs", "Lists", "Inter-Segment Pointers" and
+    /// "Capabilities (Interfaces)").
     ///
-    /// A zero word is `Null`, and so is a place outside of its segment; counts and charges nothing
-    /// for these. Any other pointer takes a level, also one to a capability, so the nesting limit
-    /// must be at least 1. Counts it as followed, and charges words, each before it is read: its
-    /// landing pads, and those that the object claims. A list of void may be anywhere and costs
-    /// nothing; the number of elements without width isn't charged. If the source isn't charged,
-    /// nothing is counted either.
+    /// Returns `Object::Null` if the word at `place` is zero, or `place` is outside of its segment;
+    /// counts and charges nothing in `lim` then. Any other pointer takes a level, even one to a
+    /// capability, so `nesting_limit` must be at least 1. Counts the pointer in `lim` as followed,
+    /// and charges the words of its landing pads and those that the object claims, each before it
+    /// is read. A list of void may be outside of its segment and costs nothing; the number of
+    /// elements without width isn't charged. If the source isn't an arena that charges, `lim` is
+    /// unchanged.
     ///
     /// Refuses with the first fault found: `MessageIsTooDeeplyNested`, after which nothing is
     /// counted; `InvalidSegmentId`, `MessageContainsOutOfBoundsPointer`,
     /// `MalformedDoubleFarPointer`, `UnknownPointerType`, `CantHandleNonStructInlineComposite`,
     /// `InlineCompositeListsElementsOverrunItsWordCount`, `TriedToReadFromNullArena` for a far
-    /// pointer of a default, or `ReadLimitExceeded`. What was charged before stays charged.
+    /// pointer in a default value, or `ReadLimitExceeded`. What was charged before stays charged.
     #[inline(never)]
     pub fn measure_object(
         self,
@@ -63,9 +64,10 @@ impl<'a, A: ReaderArena> Source<'a, A> {
         self.read_pointer(Purpose::Size, pointer, lim)
     }
 
-    /// Reads the object that a near pointer leads to only for its size, like `measure_object`, and
-    /// returns where it starts in the pointer's own segment. The object is a struct or a list, but
-    /// not of void nor of structs, and claims `words` words.
+    /// Reads the object that `pointer` leads to only for its size, like `measure_object`. Returns
+    /// the position in the pointer's segment where the object starts, in words. Preconditions:
+    /// `pointer` isn't a far pointer; it leads to a struct or a list, but not to a list of void or
+    /// of structs; the object claims `words` words.
     #[inline(always)]
     pub fn measure_near(
         self,

@@ -14,13 +14,15 @@ use capnp_words::read_limiter::ReadLimiter;
 use capnp_words::wire_pointer::{PointerType, WirePointer, WirePointerKind};
 
 impl<'a, A: ReaderArena> Source<'a, A> {
-    /// Returns the kind of object that the pointer at a place leads to, judged only by the word
-    /// that describes it: neither checks nor charges the object itself.
+    /// Returns the kind of object that the pointer at `place` leads to. This is the kind of the
+    /// word that describes the object: the pointer itself, its landing pad, or the second pad of a
+    /// double-far pointer. The object itself is neither checked nor charged.
     ///
-    /// A zero word is `Null`, and counts and charges nothing. Any other pointer is counted as
-    /// followed, and its landing pads are charged. Refusals: `UnexpectedFarPointer` if a landing
-    /// pad is a far pointer again; `UnknownPointerType` if a word is of no known kind; those of
-    /// `read_object` if the pointer can't be followed.
+    /// Returns `PointerType::Null` if the word at `place` is zero, and counts and charges nothing
+    /// in `lim`. Otherwise counts the pointer in `lim` as followed, and charges the words of its
+    /// landing pads. Refusals: `UnexpectedFarPointer` if the word that describes the object is a
+    /// far pointer; `UnknownPointerType` if it is of no known kind; those of `Source::read_object`
+    /// if the pointer can't be followed.
     pub fn read_type(
         self,
         place: Place<'a>,
