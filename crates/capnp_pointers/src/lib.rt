@@ -1,4 +1,5 @@
-//! Plain pointers of a message, in place, and calls on all that they lead to.
+//! Pointers of a message, read in place, with the calls that go through all that a pointer leads
+//! to: its size, and the test for canonical form.
 #![tactic(auto)]
 
 pub mod pointers;

@@ -1,4 +1,4 @@
-//! Plain pointers of a message, in place: where they are, the sizes of what they lead to, and the
+//! Pointers of a message, read in place: where they are, the sizes of what they lead to, and the
 //! test for canonical form.
 ghost use Rattle.std.specs.Prelude.{◌≡◌, ◌↔◌, ⊤, IsTrue, IfOk, IsOk, OnOk, OnErr, IfErr};
 ghost use Rattle.capnp_format.specs.Bytes.{message};
@@ -41,8 +41,8 @@ pub struct Pointer<'a, A: ReaderArena> {
     pub source: Source<'a, A>,
     /// Where the pointer's word is.
     pub place: Place<'a>,
-    /// The nesting limit: how many levels of structs and lists may be entered from here; none below
-    /// 1.
+    /// The nesting limit: how many levels of structs and lists may be entered from here; none if it
+    /// is below 1.
     pub nesting_limit: i32,
     ghost held: { IsHeld (source_start A.ReaderArena source).segments place },
 }
@@ -62,8 +62,8 @@ impl<'a, A: ReaderArena> Copy for Pointer<'a, A> {}
 impl<'a, A: ReaderArena> Pointer<'a, A> {
     ghost use Rattle.capnp_pointers.specs.Pointers.{reading};
 
-    /// The pointer from nothing, which is null: at word 0 of a segment 0 that doesn't exist. Its
-    /// nesting limit is `i32::MAX`.
+    /// A null pointer that isn't in any message: its source is `Source::Nothing`, its place word 0
+    /// of segment 0, and its nesting limit `i32::MAX`.
     pub fn new_default() -> Self
         ensures source { result.source ≡ Source.Nothing }
         ensures place { (result.place.segment ≡ 0) × (result.place.at ≡ 0) }
@@ -80,8 +80,8 @@ impl<'a, A: ReaderArena> Pointer<'a, A> {
         }
     }
 
-    /// The root of a message, word 0 of segment 0 ("Messages"). Charges this one word. The
-    /// pointer's nesting limit is the arena's.
+    /// Returns the root pointer of a message, word 0 of segment 0 (encoding specification,
+    /// "Messages"). Charges `lim` this one word. The pointer's nesting limit is the arena's.
     ///
     /// Refusals: `MessageContainsOutOfBoundsPointer` if there is no such word;
     /// `InvalidSegmentId(0)` if there is no segment; `TriedToReadFromNullArena` in a `NullArena`;
@@ -107,7 +107,7 @@ impl<'a, A: ReaderArena> Pointer<'a, A> {
         Ok(Self::at(arena, place, arena.nesting_limit()))
     }
 
-    /// The pointer at a place of an arena. Precondition: the place is inside the arena.
+    /// The pointer at `place` of `arena`. Precondition: `place` is inside a segment of `arena`.
     pub fn at(arena: &'a A, place: PointerPlace, nesting_limit: i32) -> Self
         requires { IsPlace (message (A.segments arena.now)) place.segment place.word }
         ensures source { result.source ≡ Source.Arena arena.entry }
@@ -128,7 +128,7 @@ impl<'a, A: ReaderArena> Pointer<'a, A> {
         }
     }
 
-    /// Whether the pointer is zero, or from nothing.
+    /// Whether the pointer's word is zero, or there is no such word.
     pub fn is_null(&self) -> bool
         ensures { IsTrue result ↔ (word_of (reading A.ReaderArena self.now) ≡ 0) }
     {

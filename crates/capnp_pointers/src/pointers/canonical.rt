@@ -27,25 +27,29 @@ use capnp_words::wire_pointer::{
 use capnp_words::words::word_at;
 
 impl<'a, A: ReaderArena> Pointer<'a, A> {
-    /// Returns where and why the pointer doesn't lead to a value in canonical form whose first
-    /// object starts at `head`, a position in words in the pointer's segment, or `None` if it does
-    /// ("Canonicalization").
+    /// Tests whether the pointer leads to a value in canonical form whose first object starts at
+    /// `head`, a position in words in the pointer's segment (encoding specification,
+    /// "Canonicalization"). Returns `None` if it does, otherwise where and why it doesn't.
     ///
     /// Returns `None` exactly if the words from `head` on are the canonical words of a value, and
-    /// the pointer is its canonical one: near pointers in order, no capability, sections and
-    /// elements cut to what they use, zeros after the elements of a list. Words after these, and
-    /// other segments, don't matter. A null pointer is canonical, and a pointer from nothing isn't.
-    /// With `None`, moves `head` past the words; otherwise leaves it.
+    /// the pointer is its canonical one: no far pointer, objects in the order of their pointers, no
+    /// capability, sections and elements no larger than they use, zeros after the last element of a
+    /// list. Words after these, and other segments, don't matter. A null pointer is canonical; a
+    /// place without a word isn't. If it returns `None`, moves `head` past the canonical words;
+    /// otherwise leaves it.
     ///
-    /// Tests the pointers in order. Counts each one that isn't null, and charges the words that its
-    /// object claims, and for elements without width their number; a struct and a list take a
-    /// level. Never refuses if a canonical value is at a head in the segment, the limiter covers
-    /// these charges, and the nesting limit is at least the value's depth. Otherwise it may refuse
-    /// with the first error found. After a fault or a refusal, what was charged before stays
-    /// charged.
+    /// Tests the pointers in order. Counts each one that isn't null in `lim`, and charges the words
+    /// that its object claims, and one word for each list element without width. A struct and a
+    /// list take a level.
     ///
-    /// The first fault found counts, and its reason is true of the word that it names. If both
-    /// sections of a struct or of elements are wider than needed, names the data.
+    /// Never refuses if the pointer and words at some position of its segment, `head` or another
+    /// one, are canonical, `lim` covers these charges, and the nesting limit is at least the
+    /// value's depth. Otherwise it may refuse, with the first error found. After a fault or a
+    /// refusal, what was charged before stays charged.
+    ///
+    /// Returns the first fault found; its reason holds for the word that it names. If both sections
+    /// of a struct, or of the elements of a list, are wider than needed, the fault is the data
+    /// section's.
     pub fn canonical_fault(
         &self,
         lim: &mut ReadLimiter,
@@ -84,8 +88,8 @@ impl<'a, A: ReaderArena> Pointer<'a, A> {
     /// Tests whether `count` consecutive pointers, from this one on, lead to values in canonical
     /// form whose first object starts at `head`.
     ///
-    /// On `true`, moves `head` past the last of these words; otherwise leaves it. Tests, charges,
-    /// answers and refuses the pointers like `canonical_fault`.
+    /// If so, returns `true` and moves `head` past the values' words. Otherwise returns `false` and
+    /// leaves `head`. Tests, counts, charges and refuses each pointer like `canonical_fault`.
     pub fn are_canonical(
         &self,
         count: u32,
@@ -124,8 +128,9 @@ impl<'a, A: ReaderArena> Pointer<'a, A> {
     }
 }
 
-/// Tests the pointer at `at`, with its first object at `head`. Returns the head after the canonical
-/// words. All is in one segment, whose reader serves every level.
+/// Tests the pointer at `at` of the segment of `from`, with its first object at `head`. Returns the
+/// position after the canonical words. All objects have to be in this segment, so every level is
+/// tested with the same `from`.
 #[cycle(tests)]
 #[inline(always)]
 fn test_place<A: ReaderArena>(
@@ -160,7 +165,7 @@ fn test_place<A: ReaderArena>(
     }
 }
 
-/// Tests `count` consecutive pointers from position `at` on.
+/// Tests `count` consecutive pointers from position `at` on, with their first object at `first`.
 #[cycle(tests)]
 fn test_children<A: ReaderArena>(
     from: &Pointer<'_, A>,
@@ -279,7 +284,7 @@ fn test_sections<A: ReaderArena>(
     Ok(end)
 }
 
-/// Tests the list of bits or bytes that the word at `at` describes, like `test_list`.
+/// Tests the list of bits or numbers that the word at `at` describes, like `test_list`.
 #[inline(always)]
 fn test_near_flat<A: ReaderArena>(
     from: &Pointer<'_, A>,
@@ -478,8 +483,8 @@ fn test_rows<A: ReaderArena>(
     Ok(head)
 }
 
-/// Tests `count` consecutive pointers of a struct from position `at` on. Calls nothing if there are
-/// none.
+/// Tests `count` consecutive pointers of a struct from position `at` on. Makes no call if `count`
+/// is 0.
 #[cycle(tests)]
 #[inline(always)]
 fn test_row<A: ReaderArena>(
@@ -500,7 +505,8 @@ fn test_row<A: ReaderArena>(
     test_children(from, at, count, nesting_limit, first, test)
 }
 
-/// Tests a list of numbers that starts at a place: the bits after the last one have to be zero.
+/// Tests a list of `count` numbers that starts at `start`: the bits after the last one have to be
+/// zero. Returns the position after the list.
 #[inline(always)]
 fn test_flat(
     start: Place,
@@ -529,8 +535,8 @@ fn test_flat(
     }
 }
 
-/// The position after a list of numbers that starts at `start`; as an error, the position of the
-/// word whose bits after the last number aren't all zero.
+/// Returns the position after a list of `count` numbers that starts at `start`. If the bits after
+/// the last number aren't all zero, returns the position of their word as an error.
 #[inline(always)]
 fn padded_end(bytes: &[u8], start: u32, size: ElementSize, count: u32) -> Result<u32, u32>
     requires inside { start + words_for (size_number size) count ≤ length (words_of bytes.now) }
@@ -594,8 +600,9 @@ fn less(nesting_limit: i32) -> i32
     nesting_limit.saturating_sub(1)
 }
 
-/// Whether the object of the pointer at `at` starts where canonical form has it: a struct of no
-/// words at the pointer itself, and any other at `head`, a list of structs with its tag.
+/// Whether `object`, to which the pointer at `at` leads, starts where canonical form requires: a
+/// struct without words at `at` itself, any other object at `head`. A list of structs starts with
+/// its tag.
 fn starts_right(object: Object, at: u32, head: u32) -> bool
     ensures { IsTrue result ↔ StartsRight object.entry at head }
 {

@@ -1,4 +1,5 @@
-//! The answer of a test for canonical form that stops ("Canonicalization").
+//! The answer of a test for canonical form that stops before its end (encoding specification,
+//! "Canonicalization").
 ghost use Rattle.std.specs.Prelude.{◌≡◌, Ok, Err};
 ghost use Rattle.capnp_pointers.specs.Faults.{other_reason};
 ghost use Rattle.capnp_pointers.specs.Checking.{level_refusal_name};
@@ -10,25 +11,27 @@ use capnp_words::read_limiter::ReadLimiter;
 use capnp_words::wire_pointer::{WirePointer, WirePointerKind};
 use std::mem;
 
-/// The answer of a test that stops: a fault, or why an object can't be read.
+/// The answer of a test that stops: the fault that it found, or the refusal of an object that can't
+/// be read.
 pub(crate) type Answer = Result<CanonicalFault, ErrorKind>;
 
-/// A test has stopped, with its answer in `Test`. A `Result` with the answer itself would go
-/// through memory at each level; one of this is passed in a register.
+/// States that a test has stopped; the answer is in its `Test`. It has no content, so a `Result`
+/// with it is returned in a register; one with the answer would be written to memory at each level.
 #[derive(Clone, Copy)]
 pub(crate) struct Stopped;
 
 /// A test: the limiter that it charges, and its answer once it has stopped.
 #[derive(Drop)]
 pub(crate) struct Test {
-    /// What may still be read.
+    /// The limiter, moved here while the test runs.
     pub(crate) lim: ReadLimiter,
-    /// The test's answer; means nothing before it has stopped.
+    /// The answer, once the test has stopped. Before that, it has no meaning.
     pub(crate) answer: Answer,
 }
 
 impl Test {
-    /// A test that takes over a limiter.
+    /// Begins a test, and moves the limiter from `lim` into it. The caller moves it back at the
+    /// end.
     pub(crate) fn begin(lim: &mut ReadLimiter) -> Self
         ensures { result.lim ≡ lim.old }
     {
@@ -39,7 +42,7 @@ impl Test {
     }
 }
 
-/// Stops a test: the answer is a fault at a word of the place's segment.
+/// Stops a test with a fault at position `word` of the segment of `place`.
 #[cold]
 pub(crate) fn fault_at(
     answer: &mut Answer,
@@ -61,7 +64,7 @@ pub(crate) fn fault_at(
     Stopped
 }
 
-/// Stops a test: the object of a word can't be read.
+/// Stops a test because the object that `word` points to was refused with `kind`.
 #[cold]
 pub(crate) fn refused(answer: &mut Answer, word: WirePointer, kind: ErrorKind) -> Stopped
     ensures { answer.new ≡ Err (level_refusal_name word.0 kind) }
@@ -70,7 +73,7 @@ pub(crate) fn refused(answer: &mut Answer, word: WirePointer, kind: ErrorKind) -
     Stopped
 }
 
-/// Why the pointer in a word isn't canonical if it is neither of a struct nor of a list.
+/// Returns why `word`, which is a pointer to neither a struct nor a list, isn't canonical.
 pub(crate) fn reason_of(word: WirePointer) -> CanonicalFaultReason
     ensures { result ≡ other_reason word.0 }
 {

@@ -1,4 +1,4 @@
-//! Where and why a message isn't in canonical form ("Canonicalization").
+//! Where and why a message isn't in canonical form (encoding specification, "Canonicalization").
 ghost use Rattle.std.specs.Prelude.{◌≡◌, ◌++◌, codes, Some};
 ghost use Rattle.std.specs.Fmt.{decimal};
 ghost use Rattle.capnp_pointers.specs.Faults.{fault_reason_text};
@@ -10,15 +10,15 @@ use thiserror::Error;
 /// `REASON at segment SEGMENT, word WORD`.
 #[derive(Clone, Copy, Debug, PartialEq, Eq, Error)]
 pub struct CanonicalFault {
-    /// The number of the segment: in an arena below 2^32; 2^32 for a default.
+    /// The segment's number: below 2^32 in an arena; 2^32 for a field's default value.
     pub segment: u64,
-    /// The position in the segment, in words. Each reason states which word it is.
+    /// The position in the segment, in words. The comment of each reason states which word this is.
     pub word: u32,
     /// Why the test stopped there.
     pub reason: CanonicalFaultReason,
 }
 
-/// Why a word isn't that of a message in canonical form. `{}` writes the text.
+/// Why a message isn't in canonical form at a word. `{}` writes the text.
 #[derive(Clone, Copy, Debug, PartialEq, Eq, Error)]
 pub enum CanonicalFaultReason {
     /// There isn't exactly one segment. The word is the first of segment 1, or of segment 0 if
@@ -34,7 +34,7 @@ pub enum CanonicalFaultReason {
     UnknownPointer,
     /// A struct without words doesn't start at its pointer. The word is the pointer.
     EmptyStructPlace,
-    /// An object doesn't start right after the last one. The word is the pointer to it.
+    /// An object doesn't start right after the object before it. The word is the pointer to it.
     ObjectPlace,
     /// The bits after the last number of a list aren't zero. The word is the one with these bits.
     Padding,

@@ -21,7 +21,7 @@ use capnp_words::error::ErrorKind;
 use capnp_words::read_limiter::ReadLimiter;
 use capnp_words::wire_pointer::{WirePointer, WirePointerKind, flat_words, is_of_bits};
 
-/// The size of a value: of its object and all below it, without landing pads.
+/// The size of a value: of its object and all objects below it, without landing pads.
 #[derive(Clone, Copy, Debug, PartialEq, Eq)]
 pub struct MessageSize {
     /// The number of words.
@@ -31,22 +31,23 @@ pub struct MessageSize {
 }
 
 impl<'a, A: ReaderArena> Pointer<'a, A> {
-    /// Counts the words of the value that the pointer leads to, with all below it and without
-    /// landing pads, and its capabilities ("Structs", "Lists").
+    /// Counts the words and the capabilities of the value that the pointer leads to, with all
+    /// objects below it and without landing pads (encoding specification, "Structs" and "Lists").
     ///
-    /// A null pointer has neither. A list of structs takes its tag and its elements, even if it
-    /// claims more. Each pointer that isn't null counts as followed and takes a level, even one to
-    /// a capability. It is charged the words of its landing pads and the words that its object
-    /// claims, in each case before they are read. Ignores the place of a list of void, and charges
-    /// nothing for elements without width, so an answer doesn't mean that the pointer leads to a
-    /// value. A default and an arena being built count and charge nothing.
+    /// A null pointer has no words and no capabilities. A list of structs counts its tag and its
+    /// elements, even if its pointer claims more words. Each pointer that isn't null takes a level,
+    /// even one to a capability. It is counted in `lim` as followed, and charged the words of its
+    /// landing pads and those that its object claims, each before they are read. A list of void may
+    /// be outside of its segment, and elements without width aren't charged; so a pointer that
+    /// leads to no value may have a size. For a default value and an arena being built, `lim` is
+    /// unchanged.
     ///
     /// Refuses with the first fault found, and keeps what was charged: `MessageIsTooDeeplyNested`,
     /// `InvalidSegmentId`, `MessageContainsOutOfBoundsPointer`, `MalformedDoubleFarPointer`,
     /// `UnknownPointerType`, `CantHandleNonStructInlineComposite`,
     /// `InlineCompositeListsElementsOverrunItsWordCount`, `TriedToReadFromNullArena` for a far
-    /// pointer of a default, `ReadLimitExceeded`, or `MessageTooLarge(usize::MAX)` if the words
-    /// don't fit 64 bits or the capabilities 32.
+    /// pointer in a default value, `ReadLimitExceeded`, or `MessageTooLarge(usize::MAX)` if the
+    /// words don't fit 64 bits or the capabilities 32.
     pub fn total_size(&self, lim: &mut ReadLimiter) -> Result<MessageSize, ErrorKind>
         ensures sized { IfOk result (λ z. WalksPlace (reading A.ReaderArena self.now)
             (tally 0 0 lim.old) (so_far z lim.new)) }
@@ -69,11 +70,11 @@ impl<'a, A: ReaderArena> Pointer<'a, A> {
         }
     }
 
-    /// The size of an object with `own_words` words of its own and `count` consecutive pointers,
-    /// from this one on, and of all below it.
+    /// Counts the size of an object of `own_words` words that has `count` consecutive pointers,
+    /// from this one on, with all objects below them.
     ///
-    /// The object's own words aren't charged, and take no level. Counts, charges and refuses each
-    /// pointer like `total_size`, in order, with sums that start at the object's own words.
+    /// The sum of words starts at `own_words`, which aren't charged; the object itself takes no
+    /// level. Counts, charges and refuses each of its pointers like `total_size`, in order.
     pub fn total_size_of(
         &self,
         count: u32,

@@ -13,17 +13,18 @@ use std::mem;
 pub(crate) struct Walk {
     /// The sums so far.
     pub(crate) sums: Sums,
-    /// What may still be read.
+    /// The limiter, moved here during the walk.
     pub(crate) lim: ReadLimiter,
 }
 
-/// The sums of a walk, and the refusal once it has stopped. A `Result` with that refusal would go
-/// through memory at each level; one of `Stopped` is passed in a register.
+/// The sums of a walk, and its refusal once it has stopped. The refusal is here so that calls
+/// return a `Result` with `Stopped`, which fits a register; one with the refusal would be written
+/// to memory at each level.
 #[derive(Drop)]
 pub(crate) struct Sums {
     /// The sums so far.
     pub(crate) size: MessageSize,
-    /// Why the walk stopped; means nothing before.
+    /// Why the walk stopped. Before that, it has no meaning.
     pub(crate) refusal: ErrorKind,
     ghost fits: { FitSize size.word_count size.cap_count },
 }
@@ -33,7 +34,8 @@ pub(crate) struct Sums {
 pub(crate) struct Stopped;
 
 impl Walk {
-    /// A walk that starts with `words` words, and takes over a limiter.
+    /// Begins a walk whose sum of words starts at `words`, and moves the limiter from `lim` into
+    /// it. The caller moves it back at the end.
     pub(crate) fn begin(words: u64, lim: &mut ReadLimiter) -> Self
         ensures words { result.sums.size.word_count ≡ words }
         ensures caps { result.sums.size.cap_count ≡ 0 }
@@ -54,7 +56,8 @@ impl Walk {
 }
 
 impl Sums {
-    /// Adds words.
+    /// Adds `words` to the number of words. If the sum doesn't fit 64 bits, stops the walk with
+    /// `MessageTooLarge(usize::MAX)`.
     pub(crate) fn add_words(&mut self, words: u64) -> Result<(), Stopped>
         ensures exactly { IsOk result ↔ (self.old.size.word_count + words < 2 ^ 64) }
         ensures sum { OnOk result ((self.new.size.word_count ≡ self.old.size.word_count + words)
@@ -73,7 +76,8 @@ impl Sums {
         }
     }
 
-    /// Adds a capability.
+    /// Adds 1 to the number of capabilities. If the sum doesn't fit 32 bits, stops the walk with
+    /// `MessageTooLarge(usize::MAX)`.
     pub(crate) fn add_capability(&mut self) -> Result<(), Stopped>
         ensures exactly { IsOk result ↔ (self.old.size.cap_count + 1 < 2 ^ 32) }
         ensures sum { OnOk result ((self.new.size.word_count ≡ self.old.size.word_count)
