@@ -1,6 +1,6 @@
-//! Laws of the test for canonical form beyond one call ("Canonicalization"; docs/FORMAT.md, "The
-//! test for canonical form"). Each function does nothing: its contract is the law, proved for all
-//! messages and limits.
+//! Laws of the test for canonical form that hold for more than one call (encoding specification,
+//! "Canonicalization"; docs/FORMAT.md, "The test for canonical form"). Each function does nothing:
+//! its contract is the law, proved for all messages and limits.
 
 ghost use Rattle.std.specs.Prelude.{◌≡◌, ◌↔◌, ◌-◌, ◌≤◌, ◌∷◌, ℕ, length};
 ghost use Rattle.capnp_words.specs.declared.error.ErrorKind.{ErrorKind};
@@ -14,8 +14,8 @@ ghost use Rattle.capnp_objects.specs.Reading.{Reading, word_of, segment_read};
 ghost use Rattle.capnp_objects.specs.Wanted.{canonical};
 ghost use Rattle.capnp_pointers.specs.Checking.{Progress, progress, Finds, CanBeFound, CanAllBeFound, TestStops, TestEnds, TestsEnd, IsUnfit, Unread};
 
-/// The test of a place is never refused if canonical words are there and the limits cover them; nor
-/// is that of consecutive pointers.
+/// The test for canonical form is never refused if the words at its place are canonical and within
+/// both limits. The same holds for consecutive pointers.
 pub fn canonical_is_answered()
     ensures place { (k : ErrorKind) (r : Reading) (from : Progress) (m' : Meter)
         → TestStops k r from m' → CanBeFound r from → ⊥ }
@@ -23,8 +23,9 @@ pub fn canonical_is_answered()
         → TestsEnd (Unread k) r i from m' → CanAllBeFound r i from → ⊥ }
 {}
 
-/// If the words of a canonical copy are at a place with a head in its segment, and are tested
-/// within the limits that the copy was made within, the answer is yes.
+/// The test accepts the words of a canonical copy, wherever they are, within the limits within
+/// which the copy was made. The pointer may be at any place, with the other words from any position
+/// of its segment on.
 pub fn copy_is_answered()
     ensures { (r q : Reading) (m m' : Meter) (h : ℕ) (t : Tree)
         → AreWords r.segments → Reads canonical r m m' t
@@ -33,16 +34,16 @@ pub fn copy_is_answered()
         → CanBeFound q (progress h m) }
 {}
 
-/// What the test finds is what the place means within its levels, at exactly the cost that was
-/// charged.
+/// If the test accepts a value at a place, the place means that value within its nesting limit, at
+/// exactly the cost that the test charged.
 pub fn found_is_meant()
     ensures { (r : Reading) (from to : Progress) (t : Tree)
         → Finds r from to t → MeansThere r t (charge t) }
 {}
 
-/// Take two pointers at the same position that are both canonical from the same head on. They have
-/// the same words, each the pointer's own and those between its heads, exactly if they have the
-/// same value.
+/// Take two pointers, each at the same position of its segment, that the test accepts from the same
+/// position `head` on. They have the same value exactly if their words are the same: the pointer's
+/// own, and those past which the test moved `head`.
 pub fn same_words()
     ensures { (r q : Reading) (from to start end : Progress) (t u : Tree)
         → Finds r from to t → Finds q start end u
@@ -52,9 +53,9 @@ pub fn same_words()
         ↔ (t ≡ u) }
 {}
 
-/// A test that answers no or is refused has charged the limiter as reading does: it has fewer words
-/// left by those that it granted, and its count of pointers has grown by those followed. If nothing
-/// is charged, for example for a default, the limiter is unchanged.
+/// A test that finds a fault or is refused leaves the limiter as reading does: with fewer words
+/// left, by those that it granted, and with a higher count of pointers, by those that were
+/// followed. If nothing is charged, for example for a default value, the limiter is unchanged.
 pub fn end_is_charged()
     ensures failed { (r : Reading) (from : Progress) (m' : Meter) → TestEnds IsUnfit r from m'
         → (g : ℕ) × (i : ℕ) × Paid r.charging from.meter m' g i }

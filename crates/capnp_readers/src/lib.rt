@@ -1,4 +1,4 @@
-//! Readers: pointers, structs and lists of a message, in place.
+//! Readers: pointers, structs and lists of a message, read in place.
 #![tactic(auto)]
 
 pub mod laws;

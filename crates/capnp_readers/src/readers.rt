@@ -1,4 +1,4 @@
-//! Readers: pointers, structs and lists of a message, in place.
+//! Readers: pointers, structs and lists of a message, read in place.
 ghost use Rattle.std.specs.Prelude.{◌≡◌, ◌≢◌, Some, Ok, ◌<◌, ◌≤◌, ◌+◌, ◌*◌, ◌/◌, ◌^◌, ◌↔◌, ℕ, pos, false, ⊤, IsTrue, IfOk, IsOk, OnOk, OnErr, IfErr, IfSome, length, take, drop};
 ghost use Rattle.capnp_format.specs.Bytes.{message};
 ghost use Rattle.capnp_words.specs.Meter.{Meter, Affords, charged};
@@ -39,7 +39,7 @@ use std::alloc::AllocError;
 pub use struct_reader::{StructPlace, StructReader};
 pub use target::Target;
 
-/// The number of a default's segment, which no far pointer can name.
+/// The segment number of a field's default value, which no far pointer can name.
 pub const DEFAULT_SEGMENT: u64 = 0x1_0000_0000;
 
 // The sections of elements that aren't structs.
@@ -54,8 +54,8 @@ pub struct PointerReader<'a, A: ReaderArena> {
     pub source: Source<'a, A>,
     /// Where the pointer's word is.
     pub place: Place<'a>,
-    /// The nesting limit: how many levels of structs and lists may be entered from here; none below
-    /// 1.
+    /// The nesting limit: how many levels of structs and lists may be entered from here; none if it
+    /// is below 1.
     pub nesting_limit: i32,
     ghost held: { IsHeld (source_start A.ReaderArena source).segments place },
 }
@@ -76,8 +76,9 @@ impl<'a, A: ReaderArena> PointerReader<'a, A> {
     ghost use Rattle.capnp_readers.specs.Readers.{IsTarget, read_by};
     ghost use Rattle.capnp_readers.specs.Calls.{IsRead, IsRefused, WhereRead, IsListRead, IsStructRead, AreBytesRead};
 
-    /// The pointer from nothing, which is null: at word 0 of a segment 0 that doesn't exist. Its
-    /// nesting limit is `i32::MAX`.
+    /// A null pointer that isn't in any message: its source is `Source::Nothing`, its place word 0
+    /// of segment 0, and its nesting limit `i32::MAX`. A pointer field that its struct doesn't have
+    /// is read as this one, "from nothing".
     pub fn new_default() -> Self
         ensures source { result.source ≡ Source.Nothing }
         ensures place { (result.place.segment ≡ 0) × (result.place.at ≡ 0) }
@@ -86,8 +87,8 @@ impl<'a, A: ReaderArena> PointerReader<'a, A> {
         Self::of_pointer(Pointer::new_default())
     }
 
-    /// The root of a message, word 0 of segment 0 ("Messages"). Charges this one word. The reader's
-    /// nesting limit is the arena's.
+    /// Returns the root pointer of a message, word 0 of segment 0 (encoding specification,
+    /// "Messages"). Charges `lim` this one word. The reader's nesting limit is the arena's.
     ///
     /// Refusals: `MessageContainsOutOfBoundsPointer` if there is no such word;
     /// `InvalidSegmentId(0)` if there is no segment; `TriedToReadFromNullArena` in a `NullArena`;
@@ -108,7 +109,7 @@ impl<'a, A: ReaderArena> PointerReader<'a, A> {
         Ok(Self::of_pointer(Pointer::get_root_from_arena(arena, lim)?))
     }
 
-    /// The pointer at a place of an arena. Precondition: the place is inside the arena.
+    /// The pointer at `place` of `arena`. Precondition: `place` is inside a segment of `arena`.
     pub fn at(arena: &'a A, place: PointerPlace, nesting_limit: i32) -> Self
         requires { IsPlace (message (A.segments arena.now)) place.segment place.word }
         ensures source { result.source ≡ Source.Arena arena.entry }
@@ -118,11 +119,12 @@ impl<'a, A: ReaderArena> PointerReader<'a, A> {
         Self::of_pointer(Pointer::at(arena, place, nesting_limit))
     }
 
-    /// The pointer in word 0 of a default, whose bytes are one segment that no far pointer leads
-    /// to. Reading it is free, and its nesting limit is `i32::MAX`. Precondition: the default has
-    /// fewer than 2^32 words. Ignores up to 7 bytes after the last one.
+    /// The pointer in the first word of a field's default value. `bytes` are one segment that no
+    /// far pointer leads to; up to 7 bytes after the last whole word are ignored. Reading it
+    /// charges nothing, and its nesting limit is `i32::MAX`. Precondition: `bytes` has fewer than
+    /// 2^32 words.
     ///
-    /// Refuses with `MessageContainsOutOfBoundsPointer` if the default has no whole word.
+    /// Refuses with `MessageContainsOutOfBoundsPointer` if `bytes` has no whole word.
     pub fn from_default(bytes: &'a [u8]) -> Result<Self, ErrorKind>
         requires { length bytes.now / 8 < 2 ^ 32 }
         ensures exactly { IsOk result ↔ (8 ≤ length bytes.now) }
@@ -155,7 +157,7 @@ impl<'a, A: ReaderArena> PointerReader<'a, A> {
         *self
     }
 
-    /// The plain pointer, for copying, measuring and testing.
+    /// The `Pointer`, for copying, for its size, and for the test for canonical form.
     #[inline(always)]
     pub fn pointer(self) -> Pointer<'a, A>
         ensures source { result.source ≡ self.entry.source }
@@ -169,7 +171,7 @@ impl<'a, A: ReaderArena> PointerReader<'a, A> {
         }
     }
 
-    /// A reader of a plain pointer.
+    /// A reader of `pointer`.
     #[inline(always)]
     pub fn of_pointer(pointer: Pointer<'a, A>) -> Self
         ensures source { result.source ≡ pointer.entry.source }
@@ -183,7 +185,7 @@ impl<'a, A: ReaderArena> PointerReader<'a, A> {
         }
     }
 
-    /// Whether the pointer is zero, or from nothing.
+    /// Whether the pointer's word is zero, or there is no such word.
     pub fn is_null(&self) -> bool
         ensures { IsTrue result ↔ (word_of (read_by A.ReaderArena self.now) ≡ 0) }
     {
@@ -265,13 +267,13 @@ impl<'a, A: ReaderArena> PointerReader<'a, A> {
         Ok((from, object))
     }
 
-    /// The struct that the pointer leads to ("Structs"). If the pointer is null, returns the
-    /// default's struct; without a default, or with a null one, the struct from nothing, which has
-    /// no sections.
+    /// The struct that the pointer leads to ("Structs"). If the pointer is null, returns the struct
+    /// of `default`. Without a default, or if the default's pointer is null, returns a struct
+    /// without sections.
     ///
-    /// Requires a nesting limit of at least 1, and the struct's is one less. Then counts the
-    /// pointer as followed, and charges its landing pads and the words of the struct, each before
-    /// it is read.
+    /// Requires a nesting limit of at least 1; that of the struct is one less. Counts the pointer
+    /// in `lim` as followed, and charges `lim` the words of its landing pads and of the struct,
+    /// each before it is read.
     ///
     /// Refusals: `MessageIsTooDeeplyNestedOrContainsCycles` if the nesting limit is below 1;
     /// `MessageContainsNonStructPointerWhereStructPointerWasExpected` if the object is of another
@@ -279,10 +281,10 @@ impl<'a, A: ReaderArena> PointerReader<'a, A> {
     /// `InvalidSegmentId` if a segment doesn't exist; `ReadLimitExceeded` if the limiter doesn't
     /// cover the words. What was charged before stays charged.
     ///
-    /// A default has fewer than 2^32 words. It is one segment with its pointer in word 0, is read
-    /// within the pointer's own nesting limit, and charges and counts nothing. Refuses one without
-    /// a whole word with `MessageContainsOutOfBoundsPointer`, and a far pointer in it with
-    /// `TriedToReadFromNullArena`.
+    /// `default` is one segment with its pointer in word 0, and has fewer than 2^32 words. It is
+    /// read within the pointer's own nesting limit, and charges and counts nothing. Refuses a
+    /// default without a whole word with `MessageContainsOutOfBoundsPointer`, and a far pointer in
+    /// it with `TriedToReadFromNullArena`.
     pub fn get_struct(
         self,
         lim: &mut ReadLimiter,
@@ -307,24 +309,26 @@ impl<'a, A: ReaderArena> PointerReader<'a, A> {
         }
     }
 
-    /// The list that the pointer leads to, whose elements have to be as wide as
-    /// `expected_element_size` or wider ("Lists"); it is read by its own step. `Void` and
+    /// The list that the pointer leads to ("Lists"). Its elements have to be as wide as
+    /// `expected_element_size` or wider, and keep their own width in the list returned. `Void` and
     /// `InlineComposite` accept elements of any width except bits. If the pointer is null, returns
-    /// the default's list; without a default, or with a null one, the list from nothing, a void
-    /// list without elements.
+    /// the list of `default`. Without a default, or if the default's pointer is null, returns a
+    /// list of void without elements.
     ///
-    /// Requires a nesting limit of at least 1 (otherwise `NestingLimitExceeded`), and the list's is
-    /// one less. Charges and refuses like `next`, but an object of another kind is
-    /// `MessageContainsNonListPointerWhereListPointerWasExpected` before its words are charged.
+    /// Requires a nesting limit of at least 1, otherwise refuses with `NestingLimitExceeded`; that
+    /// of the list is one less. Counts, charges and refuses like `PointerReader::next`, except that
+    /// it refuses an object of another kind, before its words are charged, with
+    /// `MessageContainsNonListPointerWhereListPointerWasExpected`.
     ///
-    /// Then, when all is charged: `FoundBitListWhereStructListWasExpected` for a bit list, unless
-    /// bits are expected; `MessageContainsListWithIncompatibleElementType` for other elements that
-    /// are too narrow; for structs `FoundStructListWhereBitListWasExpected` if bits are expected,
-    /// `ExpectedAPrimitiveListButGotAListOfPointerOnlyStructs` if numbers are and the structs have
-    /// no data, `ExpectedAPointerListButGotAListOfDataOnlyStructs` if pointers are and the structs
-    /// have none.
+    /// Refusals after all is charged: `FoundBitListWhereStructListWasExpected` for a list of bits,
+    /// unless bits are expected; `MessageContainsListWithIncompatibleElementType` for other
+    /// elements that are too narrow. For a list of structs:
+    /// `FoundStructListWhereBitListWasExpected` if bits are expected;
+    /// `ExpectedAPrimitiveListButGotAListOfPointerOnlyStructs` if numbers are expected and the
+    /// structs have no data; `ExpectedAPointerListButGotAListOfDataOnlyStructs` if pointers are
+    /// expected and the structs have none.
     ///
-    /// For a default see `get_struct`.
+    /// `default` is read as in `PointerReader::get_struct`.
     pub fn get_list(
         self,
         lim: &mut ReadLimiter,
@@ -351,19 +355,21 @@ impl<'a, A: ReaderArena> PointerReader<'a, A> {
         }
     }
 
-    /// The bytes of the text that the pointer leads to, in place and without its last byte, which
-    /// is 0 ("Lists"). If the pointer is null, returns the text of the default; without a default,
-    /// no bytes.
+    /// The bytes of the text that the pointer leads to, in place, without the zero byte at its end
+    /// ("Lists"). If the pointer is null, returns the text of `default`; without a default, no
+    /// bytes.
     ///
-    /// Takes no level. Counts the pointer as followed, and charges its landing pads and the words
-    /// of the bytes, each before it is read.
+    /// Takes no level. Counts the pointer in `lim` as followed, and charges `lim` the words of its
+    /// landing pads and of the bytes, each before it is read.
     ///
     /// Refusals: `MessageContainsNonListPointerWhereTextWasExpected` if it isn't a list,
     /// `MessageContainsListPointerOfNonBytesWhereTextWasExpected` if the elements aren't bytes,
-    /// both before the words are charged; `MessageContainsTextThatIsNotNULTerminated`, after that,
-    /// if the text has no bytes or its last one isn't 0. Other refusals are those of `next`.
+    /// both before the words of the bytes are charged; `MessageContainsTextThatIsNotNULTerminated`,
+    /// after they are charged, if there are no bytes or the last one isn't 0. Other refusals are
+    /// those of `PointerReader::next`.
     ///
-    /// For a default see `get_struct`; one whose pointer is null is refused as not a list.
+    /// `default` is read as in `PointerReader::get_struct`. If its pointer is null, it is refused
+    /// like an object that isn't a list.
     pub fn get_text(
         self,
         lim: &mut ReadLimiter,
@@ -388,9 +394,9 @@ impl<'a, A: ReaderArena> PointerReader<'a, A> {
     }
 
     /// The bytes of the data that the pointer leads to, in place ("Lists"). If the pointer is null,
-    /// returns the data of the default; without a default, no bytes.
+    /// returns the data of `default`; without a default, no bytes.
     ///
-    /// Like `get_text`, but the last byte can be anything and is one of the bytes returned.
+    /// Like `PointerReader::get_text`, but the last byte can be anything, and is returned as well.
     /// Refusals: `MessageContainsNonListPointerWhereDataWasExpected` if it isn't a list,
     /// `MessageContainsListPointerOfNonBytesWhereDataWasExpected` if the elements aren't bytes.
     pub fn get_data(
@@ -444,13 +450,14 @@ impl<'a, A: ReaderArena> PointerReader<'a, A> {
         Ok(word.cap_index())
     }
 
-    /// What the pointer leads to: nothing, a struct, a list or a capability, judged only by the
-    /// word that describes it.
+    /// What the pointer leads to: nothing, a struct, a list or a capability. This is the kind of
+    /// the word that describes the object: the pointer itself, its landing pad, or the second pad
+    /// of a double-far pointer. The object itself is neither checked nor charged.
     ///
-    /// A null pointer costs nothing. Any other is counted as followed, and its landing pads are
-    /// charged. Refusals: `UnexpectedFarPointer` if a landing pad is a far pointer again;
-    /// `UnknownPointerType` if a word is of no known kind; those of `next` if the pointer can't be
-    /// followed.
+    /// A null pointer counts and charges nothing in `lim`. Any other pointer is counted in `lim` as
+    /// followed, and charged the words of its landing pads. Refusals: `UnexpectedFarPointer` if the
+    /// word that describes the object is a far pointer; `UnknownPointerType` if it is of no known
+    /// kind; those of `PointerReader::next` if the pointer can't be followed.
     pub fn get_pointer_type(&self, lim: &mut ReadLimiter) -> Result<PointerType, ErrorKind>
         ensures of_type { IfOk result (IsOfType (read_by A.ReaderArena self.now) lim.old lim.new) }
         ensures exactly { IsOk result ↔ (t : PointerType) × (left : Meter)
@@ -461,13 +468,14 @@ impl<'a, A: ReaderArena> PointerReader<'a, A> {
         self.source.read_type(self.place, self.nesting_limit, lim)
     }
 
-    /// What the pointer leads to, one level of it ("Structs", "Lists", "Inter-Segment Pointers",
-    /// "Capabilities (Interfaces)").
+    /// What the pointer leads to: one object, without its children ("Structs", "Lists",
+    /// "Inter-Segment Pointers", "Capabilities (Interfaces)").
     ///
-    /// Counts the pointer as followed unless it is zero. Then charges the words of its landing
-    /// pads, the object's own words, and for a list of elements without width their number, each
-    /// before it is read. A default and an arena being built count and charge nothing. Refuses with
-    /// the first fault found, and keeps what was charged.
+    /// A null pointer counts and charges nothing in `lim`. Any other pointer is counted in `lim` as
+    /// followed, and charged the words of its landing pads, the object's own words, and one word
+    /// for each list element without width, each before it is read. A default value and an arena
+    /// being built count and charge nothing. Refuses with the first fault found; what was charged
+    /// before stays charged.
     pub fn next(&self, lim: &mut ReadLimiter) -> Result<Target<'a, A>, ErrorKind>
         ensures target { IfOk result (IsTarget A.ReaderArena self.now lim.old lim.new) }
         ensures exactly { IsOk result ↔ CanBeRead Value (read_by A.ReaderArena self.now) lim.old }

@@ -14,24 +14,29 @@ use capnp_words::read_limiter::ReadLimiter;
 
 impl<'a, A: ReaderArena> PointerReader<'a, A> {
     /// Tests whether the pointer leads to a value in canonical form whose first object starts at
-    /// `head`, a position in words in the pointer's segment ("Canonicalization").
+    /// `head`, a position in words in the pointer's segment (encoding specification,
+    /// "Canonicalization").
     ///
     /// Returns `true` exactly if the words from `head` on are the canonical words of a value, and
-    /// the pointer is its canonical one: near pointers in order, no capability, sections and
-    /// elements cut to what they use, zeros after the elements of a list. Words after these, and
-    /// other segments, don't matter. A null pointer is canonical, and a pointer from nothing isn't.
-    /// On `true`, moves `head` past the words; otherwise leaves it.
+    /// the pointer is its canonical one: no far pointer, objects in the order of their pointers, no
+    /// capability, sections and elements no larger than they use, zeros after the last element of a
+    /// list. Words after these, and other segments, don't matter. A null pointer is canonical; a
+    /// place without a word isn't. If it returns `true`, moves `head` past the canonical words;
+    /// otherwise leaves it.
     ///
-    /// Tests the pointers in order. Counts each one that isn't null, and charges the words that its
-    /// object claims, and for elements without width their number, like `get_struct` and
-    /// `get_list`; a struct and a list take a level. Never refuses if a canonical value is at a
-    /// head in the segment, the limiter covers these charges, and the nesting limit is at least the
-    /// value's depth. Otherwise it may refuse with the first fault found:
+    /// Tests the pointers in order. Counts each one that isn't null in `lim`, and charges the words
+    /// that its object claims, and one word for each list element without width. A struct and a
+    /// list take a level.
+    ///
+    /// Never refuses if the pointer and words at some position of its segment, `head` or another
+    /// one, are canonical, `lim` covers these charges, and the nesting limit is at least the
+    /// value's depth. Otherwise it may refuse, with the first fault found:
     /// `MessageContainsOutOfBoundsPointer`; if no level is left,
     /// `MessageIsTooDeeplyNestedOrContainsCycles` for a struct and `NestingLimitExceeded` for a
     /// list; `InlineCompositeListsOfNonStructTypeAreNotSupported`,
     /// `InlineCompositeListsElementsOverrunItsWordCount` or `ReadLimitExceeded`. Returns `false` at
-    /// the first place that isn't canonical. After either, what was charged before stays charged.
+    /// the first word that isn't canonical. After a refusal or `false`, what was charged before
+    /// stays charged.
     pub fn is_canonical(&self, lim: &mut ReadLimiter, head: &mut u32) -> Result<bool, ErrorKind>
         ensures exactly { IfOk result (λ b. IsTrue b
             ↔ IsCanonicalAt (read_by A.ReaderArena self.now) head.old) }
@@ -51,13 +56,13 @@ impl<'a, A: ReaderArena> PointerReader<'a, A> {
         Ok(self.canonical_fault(lim, head)?.is_none())
     }
 
-    /// Returns where and why the pointer doesn't lead to a value in canonical form whose first
-    /// object starts at `head`, or `None` if it does: `is_canonical` with a place for the no.
-    /// Answers, charges, refuses and moves `head` like that.
+    /// Like `PointerReader::is_canonical`, but returns `None` instead of `true`, and instead of
+    /// `false` where and why the pointer doesn't lead to a value in canonical form whose first
+    /// object starts at `head`.
     ///
-    /// Tests the pointers in order; the first fault found counts, and its reason is true of the
-    /// word that it names. If both sections of a struct or of elements are wider than needed, names
-    /// the data.
+    /// Returns the first fault found; its reason holds for the word that it names. If both sections
+    /// of a struct, or of the elements of a list, are wider than needed, the fault is the data
+    /// section's.
     pub fn canonical_fault(
         &self,
         lim: &mut ReadLimiter,
@@ -83,19 +88,20 @@ impl<'a, A: ReaderArena> PointerReader<'a, A> {
 }
 
 impl<'a, A: ReaderArena> StructReader<'a, A> {
-    /// Tests whether the struct starts at `read_head`, a position in words, has whole words of
-    /// data, and its pointers lead to values in canonical form whose first object starts at
+    /// Tests whether the struct starts at `read_head`, a position in words, its data section is
+    /// whole words, and its pointers lead to values in canonical form whose first object starts at
     /// `ptr_head` ("Canonicalization").
     ///
-    /// On `true`, moves `read_head` past the struct (to `u32::MAX` if the struct ends beyond that,
-    /// which needs a segment of that many words) and `ptr_head` past the last of these words, and
-    /// sets `data_trunc` and `ptr_trunc` to whether the data section and the pointer section are
-    /// empty or end in a word that isn't zero. Otherwise leaves all four.
+    /// If so, returns `true`, moves `read_head` past the struct and `ptr_head` past the words of
+    /// these values. Sets `data_trunc` to whether the data section is empty or its last word isn't
+    /// zero, and `ptr_trunc` likewise for the pointer section. If the position after the struct is
+    /// above `u32::MAX`, `read_head` becomes `u32::MAX`. After `false` or a refusal, all four are
+    /// unchanged.
     ///
-    /// The struct from nothing starts nowhere: `false`. Charges nothing for it, nor for a struct
-    /// that starts elsewhere or has part words of data. Tests, charges, answers and refuses the
-    /// pointers like `PointerReader::is_canonical`, under the struct's own nesting limit; doesn't
-    /// charge the struct's own words.
+    /// Returns `false` for a struct that isn't in any message. Charges nothing for it, nor for a
+    /// struct that starts elsewhere or whose data section isn't whole words. Tests, counts, charges
+    /// and refuses each pointer like `PointerReader::is_canonical`, with the struct's own nesting
+    /// limit; doesn't charge the struct's own words.
     pub fn is_canonical(
         &self,
         lim: &mut ReadLimiter,
@@ -150,8 +156,9 @@ impl<'a, A: ReaderArena> StructReader<'a, A> {
         Ok(true)
     }
 
-    /// Like `is_canonical` with one head for both: the objects of the struct's pointers start right
-    /// after the struct, and `true` moves `head` past the last of them.
+    /// Like `StructReader::is_canonical` with `head` for both positions: the struct starts at
+    /// `head`, and the first object of its pointers right after the struct. If it returns `true`,
+    /// moves `head` past the struct and these objects.
     pub fn is_canonical_shared(
         &self,
         lim: &mut ReadLimiter,

@@ -1,4 +1,4 @@
-//! Lists of a message, in place.
+//! Lists of a message, read in place.
 ghost use Rattle.std.specs.Prelude.{◌≡◌, ◌≢◌, ◌<◌, ◌≤◌, ◌+◌, ◌*◌, ◌/◌, ◌^◌, ◌↔◌, ℕ, pos, [], ⊤, IsTrue, length, take, drop, slice_range, nat_eq};
 ghost use Rattle.capnp_format.specs.Bytes.{message};
 ghost use Rattle.capnp_format.specs.Segments.{word_at, segment};
@@ -25,7 +25,8 @@ use std::alloc::AllocError;
 pub struct ListPlace {
     /// The number of the segment.
     pub segment: u32,
-    /// Where the elements start, in bytes: at a word; in a struct list, after the tag.
+    /// Where the elements start, in bytes, a multiple of 8. In a list of structs, this is after the
+    /// tag.
     pub byte: u64,
     /// The element size.
     pub size: ElementSize,
@@ -50,7 +51,7 @@ pub struct ListReader<'a, A: ReaderArena> {
     /// The number of elements.
     pub count: u32,
     /// The nesting limit for its pointers: how many levels of structs and lists may be entered from
-    /// them; none below 1.
+    /// them; none if it is below 1.
     pub nesting_limit: i32,
     ghost held: { IsHeld (source_start A.ReaderArena source).segments start },
     ghost content_is: { IsPart start (8 * start.at) (64 * elements_words element_size count (struct_size.data_words + struct_size.pointers)) content.now },
@@ -92,7 +93,8 @@ fn words_of_elements(size: ElementSize, struct_size: StructSize, count: u32) -> 
 impl<'a, A: ReaderArena> ListReader<'a, A> {
     ghost use Rattle.capnp_readers.specs.Readers.{ShowsList, ShowsElement, IsListPlace, element_start};
 
-    /// The list from nothing: a void list without elements. Its nesting limit is `i32::MAX`.
+    /// A list that isn't in any message: of void, without elements. Its nesting limit is
+    /// `i32::MAX`.
     pub fn new_default() -> Self
         ensures source { result.source ≡ Source.Nothing }
         ensures elements { (result.element_size ≡ Void) × (result.count ≡ 0) }
@@ -116,7 +118,7 @@ impl<'a, A: ReaderArena> ListReader<'a, A> {
         }
     }
 
-    /// The list at a place of an arena. Precondition: its elements are inside the arena.
+    /// The list at `place` of `arena`. Precondition: its elements are inside a segment of `arena`.
     pub fn at(arena: &'a A, place: ListPlace, nesting_limit: i32) -> Self
         requires { IsListPlace (message (A.segments arena.now)) place }
         ensures source { result.source ≡ Source.Arena arena.entry }
@@ -227,9 +229,9 @@ impl<'a, A: ReaderArena> ListReader<'a, A> {
         data_bits_per_element(self.element_size) + 64 * u32::from(self.struct_size.data_words)
     }
 
-    /// The lowest 64 bits of an element's data, as a number: the value of a number or a bit, the
-    /// first data word of a struct, 0 if an element has no data. Precondition: `index` is below the
-    /// number of elements.
+    /// The lowest 64 bits of the data of element `index`, as a number: the value of a number or a
+    /// bit, or the first data word of a struct; 0 if the element has no data. Precondition: `index`
+    /// is below the number of elements.
     pub fn element_data(&self, index: u32) -> u64
         requires { index < self.now.count }
         ensures { result ≡ low_data self.now.element_size self.now.struct_size
@@ -318,9 +320,9 @@ impl<'a, A: ReaderArena> ListReader<'a, A> {
         }
     }
 
-    /// Element `index` as a struct, under the list's own nesting limit: a number is a struct of its
-    /// bits, a pointer a struct of one pointer. Preconditions: the elements aren't bits; `index` is
-    /// below their number.
+    /// Element `index` as a struct, with the list's own nesting limit. A number becomes a struct
+    /// whose data section is that number, a pointer a struct with one pointer. Preconditions: the
+    /// elements aren't bits; `index` is below their number.
     pub fn get_struct_element(&self, index: u32) -> StructReader<'a, A>
         requires range { index < self.now.count }
         requires size { size_number self.now.element_size ≢ 1 }
@@ -331,7 +333,7 @@ impl<'a, A: ReaderArena> ListReader<'a, A> {
         self.element_within(index, self.nesting_limit)
     }
 
-    /// Element `index` as a struct, like `get_struct_element`.
+    /// Element `index` as a struct, like `ListReader::get_struct_element`.
     pub fn element(&self, index: u32) -> StructReader<'a, A>
         requires range { index < self.now.count }
         requires size { size_number self.now.element_size ≢ 1 }

@@ -20,12 +20,13 @@ pub trait PrimitiveElement {
     // The value that starts at a bit of a list's bytes.
     ghost value_at: { List ℕ → ℕ → Self };
 
-    /// Reads element `index` of a list: the number in the lowest bytes of the element's data, or
+    /// Reads element `index` of `list`: the number in the lowest bytes of the element's data, or
     /// its lowest bit.
     ///
-    /// The caller ensures that `index` is below the number of elements, and that each has at least
-    /// as many bits of data as the value; `()` requires neither. The data of a struct is its data
-    /// section, so a list of numbers that became a list of structs reads as before ("Lists").
+    /// Preconditions, except for `()`: `index` is below the number of elements, and each element
+    /// has at least as many bits of data as the value. The data of a struct is its data section, so
+    /// a list of numbers that became a list of structs reads as before (encoding specification,
+    /// "Lists").
     fn get<A: ReaderArena>(list: &ListReader<'_, A>, index: u32) -> Self
         requires range { 0 < element_bits (size_number size) → index < list.now.count }
         requires wide { element_bits (size_number size)
@@ -33,8 +34,8 @@ pub trait PrimitiveElement {
         ensures { result ≡ value_at list.now.content.now
             (element_start A.ReaderArena list.now index) };
 
-    /// The element size of a list of such elements: by the number of bytes, `Bit` for a `bool`,
-    /// `Void` for `()` ("Lists").
+    /// The element size of a list of this type: the one with the type's number of bytes, `Bit` for
+    /// a `bool`, or `Void` for `()` ("Lists").
     fn element_size() -> ElementSize
         ensures { result ≡ size };
 }

@@ -12,22 +12,23 @@ use capnp_words::error::ErrorKind;
 use capnp_words::read_limiter::ReadLimiter;
 
 impl<'a, A: ReaderArena> PointerReader<'a, A> {
-    /// Counts the words of the value that the pointer leads to, with all below it and without
-    /// landing pads, and its capabilities ("Structs", "Lists").
+    /// Counts the words and the capabilities of the value that the pointer leads to, with all
+    /// objects below it and without landing pads (encoding specification, "Structs" and "Lists").
     ///
-    /// A null pointer has neither. A list of structs takes its tag and its elements, even if it
-    /// claims more. Each pointer except a null one is counted as followed, takes a level (also one
-    /// to a capability), and is charged the words of its landing pads and those that its object
-    /// claims, each before it is read. Ignores the place of a list of void, and charges nothing for
-    /// elements without width, so an answer doesn't mean that the pointer leads to a value. A
-    /// default and an arena being built count and charge nothing.
+    /// A null pointer has no words and no capabilities. A list of structs counts its tag and its
+    /// elements, even if its pointer claims more words. Each pointer that isn't null takes a level,
+    /// even one to a capability. It is counted in `lim` as followed, and charged the words of its
+    /// landing pads and those that its object claims, each before they are read. A list of void may
+    /// be outside of its segment, and elements without width aren't charged; so a pointer that
+    /// leads to no value may have a size. For a default value and an arena being built, `lim` is
+    /// unchanged.
     ///
     /// Refuses with the first fault found, and keeps what was charged: `MessageIsTooDeeplyNested`,
     /// `InvalidSegmentId`, `MessageContainsOutOfBoundsPointer`, `MalformedDoubleFarPointer`,
     /// `UnknownPointerType`, `CantHandleNonStructInlineComposite`,
     /// `InlineCompositeListsElementsOverrunItsWordCount`, `TriedToReadFromNullArena` for a far
-    /// pointer of a default, `ReadLimitExceeded`, or `MessageTooLarge(usize::MAX)` if the words
-    /// don't fit 64 bits or the capabilities 32.
+    /// pointer in a default value, `ReadLimitExceeded`, or `MessageTooLarge(usize::MAX)` if the
+    /// words don't fit 64 bits or the capabilities 32.
     pub fn total_size(&self, lim: &mut ReadLimiter) -> Result<MessageSize, ErrorKind>
         ensures sized { IfOk result (λ z. WalksPlace (read_by A.ReaderArena self.now)
             (tally 0 0 lim.old) (so_far z lim.new)) }
@@ -42,12 +43,12 @@ impl<'a, A: ReaderArena> PointerReader<'a, A> {
 }
 
 impl<'a, A: ReaderArena> StructReader<'a, A> {
-    /// Counts the words of the struct, with all below it and without landing pads, and its
-    /// capabilities ("Structs").
+    /// Counts the words and the capabilities of the struct, with all objects below it and without
+    /// landing pads ("Structs").
     ///
-    /// The struct's own words are its data section, rounded up to words, and its pointers; they
-    /// aren't charged, and take no level. Counts, charges and refuses each pointer like
-    /// `PointerReader::total_size`, in order, with sums that start at the struct's own words.
+    /// The sum of words starts at the struct's own words, its data section rounded up to words and
+    /// its pointers. They aren't charged, and the struct itself takes no level. Counts, charges and
+    /// refuses each of its pointers like `PointerReader::total_size`, in order.
     pub fn total_size(&self, lim: &mut ReadLimiter) -> Result<MessageSize, ErrorKind>
         ensures sized { IfOk result (λ z. WalksPointers
             (pointers_read A.ReaderArena self.now) self.now.pointer_count

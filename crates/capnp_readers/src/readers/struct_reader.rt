@@ -1,4 +1,4 @@
-//! Structs of a message, in place.
+//! Structs of a message, read in place.
 ghost use Rattle.std.specs.Prelude.{◌≡◌, ◌<◌, ◌≤◌, ◌+◌, ◌*◌, ◌/◌, ◌^◌, ◌↔◌, ℕ, pos, [], true, false, ⊤, IsTrue, length, take, drop, slice_range};
 ghost use Rattle.capnp_format.specs.Bytes.{message};
 ghost use Rattle.capnp_format.specs.Segments.{word_at, segment};
@@ -18,8 +18,8 @@ use capnp_words::wire_pointer::{ElementSize, StructSize};
 use capnp_words::zero::Zero;
 use std::alloc::AllocError;
 
-/// The place of a struct in an arena. Its data section may be a part of a byte, and its two
-/// sections may be apart.
+/// The place of a struct in an arena. The size of its data section is in bits, since an element of
+/// a list of numbers can be read as a struct. Its pointer section needn't follow its data section.
 #[derive(Clone, Copy, Debug, PartialEq, Eq)]
 pub struct StructPlace {
     /// The number of the segment.
@@ -49,7 +49,7 @@ pub struct StructReader<'a, A: ReaderArena> {
     /// The number of pointers in the pointer section.
     pub pointer_count: u16,
     /// The nesting limit for its pointers: how many levels of structs and lists may be entered from
-    /// them; none below 1.
+    /// them; none if it is below 1.
     pub nesting_limit: i32,
     ghost held: { IsHeld (source_start A.ReaderArena source).segments pointers },
     ghost content_is: { IsPart pointers byte bits content.now },
@@ -72,7 +72,7 @@ impl<'a, A: ReaderArena> Copy for StructReader<'a, A> {}
 impl<'a, A: ReaderArena> StructReader<'a, A> {
     ghost use Rattle.capnp_readers.specs.Readers.{ShowsStruct, ShowsList, IsStructPlace};
 
-    /// The struct from nothing, which has no sections. Its nesting limit is `i32::MAX`.
+    /// A struct that isn't in any message, without sections. Its nesting limit is `i32::MAX`.
     pub fn new_default() -> Self
         ensures source { result.source ≡ Source.Nothing }
         ensures sections { (result.bits ≡ 0) × (result.pointer_count ≡ 0) }
@@ -93,7 +93,8 @@ impl<'a, A: ReaderArena> StructReader<'a, A> {
         }
     }
 
-    /// The struct at a place of an arena. Precondition: both sections are inside the arena.
+    /// The struct at `place` of `arena`. Precondition: both sections are inside a segment of
+    /// `arena`.
     pub fn at(arena: &'a A, place: StructPlace, nesting_limit: i32) -> Self
         requires { IsStructPlace (message (A.segments arena.now)) place }
         ensures source { result.source ≡ Source.Arena arena.entry }
@@ -154,7 +155,7 @@ impl<'a, A: ReaderArena> StructReader<'a, A> {
         }
     }
 
-    /// The bytes of the data section; the last may be used in part.
+    /// The bytes of the data section. It may end inside the last byte.
     pub fn data_bytes(&self) -> &'a [u8]
         ensures { result.now ≡ self.now.content.now }
     {
@@ -182,7 +183,8 @@ impl<'a, A: ReaderArena> StructReader<'a, A> {
         }
     }
 
-    /// Pointer `index` of the pointer section; a pointer from nothing if the section is shorter.
+    /// Pointer `index` of the pointer section. If the section is shorter, a null pointer that isn't
+    /// in any message.
     pub fn get_pointer_field(&self, index: usize) -> PointerReader<'a, A>
         ensures source { index < self.now.pointer_count → result.source ≡ self.now.source }
         ensures place { index < self.now.pointer_count
@@ -208,9 +210,9 @@ impl<'a, A: ReaderArena> StructReader<'a, A> {
         }
     }
 
-    /// The pointer section as a list of pointers, under the struct's own nesting limit. Its element
-    /// `i` is the struct's pointer `i`; for a struct without pointers the list is empty ("Structs",
-    /// "Lists").
+    /// The pointer section as a list of pointers, with the struct's own nesting limit (encoding
+    /// specification, "Structs" and "Lists"). Its element `i` is the struct's pointer `i`; the list
+    /// is empty if the struct has no pointers.
     pub fn get_pointer_section_as_list(&self) -> ListReader<'a, A>
         ensures source { result.source ≡ self.now.source }
         ensures size { result.element_size ≡ ElementSize.Pointer }
@@ -230,7 +232,7 @@ impl<'a, A: ReaderArena> StructReader<'a, A> {
         )
     }
 
-    /// Whether pointer `index` of the pointer section is zero, or the section is shorter.
+    /// Whether pointer `index` of the pointer section is null, or the section is shorter.
     pub fn is_pointer_field_null(&self, index: usize) -> bool
         ensures { IsTrue result
             ↔ (index < self.now.pointer_count
@@ -240,8 +242,8 @@ impl<'a, A: ReaderArena> StructReader<'a, A> {
         self.get_pointer_field(index).is_null()
     }
 
-    /// The field of the data section at `offset`, in values of `T`; zero if it isn't wholly inside
-    /// the section.
+    /// The field of the data section at `offset`, counted in values of `T`; zero if it isn't wholly
+    /// inside the section.
     pub fn get_data_field<T: Primitive + Zero>(&self, offset: usize) -> T
         ensures inside { IsInside self.now.bits (8 * T.BYTES) offset
             → result ≡ T.value_of
@@ -257,8 +259,8 @@ impl<'a, A: ReaderArena> StructReader<'a, A> {
         }
     }
 
-    /// The field like `get_data_field`, with its default `mask` applied, also to the zero of a
-    /// field outside of the section.
+    /// The field that `StructReader::get_data_field` returns, with its default `mask` applied. The
+    /// mask also applies to the zero returned for a field outside of the section.
     pub fn get_data_field_mask<T: Primitive + Zero + Mask>(
         &self,
         offset: usize,
@@ -274,7 +276,7 @@ impl<'a, A: ReaderArena> StructReader<'a, A> {
         T::mask(self.get_data_field(offset), mask)
     }
 
-    /// The bit of the data section at `offset`, in bits; `false` after the section.
+    /// The bit of the data section at `offset`; `false` if the section ends before it.
     pub fn get_bool_field(&self, offset: usize) -> bool
         ensures { IsTrue result ↔ (offset < self.now.bits)
             × (bit_at self.now.content.now offset ≡ 1) }
@@ -282,8 +284,8 @@ impl<'a, A: ReaderArena> StructReader<'a, A> {
         offset < self.bits as usize && self.content[offset / 8] >> (offset % 8) & 1 == 1
     }
 
-    /// The bit like `get_bool_field`, with its default `mask` applied, also to the `false` of a bit
-    /// after the section.
+    /// The bit that `StructReader::get_bool_field` returns, with its default `mask` applied. The
+    /// mask also applies to the `false` returned for a bit after the section.
     pub fn get_bool_field_mask(&self, offset: usize, mask: bool) -> bool
         ensures plain { mask ≡ false
             → (IsTrue result ↔ (offset < self.now.bits)

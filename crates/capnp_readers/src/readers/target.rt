@@ -1,20 +1,20 @@
-//! What a pointer leads to, one level at a time.
+//! What a pointer leads to: one object, without its children.
 ghost use Rattle.std.specs.Prelude.{◌≡◌, ⊤};
 
 use crate::readers::{ListReader, StructReader};
 use capnp_arena_traits::arena::ReaderArena;
 use std::alloc::AllocError;
 
-/// What a pointer leads to. The words of a struct or a list are checked and charged; nothing is
-/// known of its children.
+/// What a pointer leads to. The words of a struct or a list are checked and charged; its children
+/// aren't read yet.
 pub enum Target<'a, A: ReaderArena> {
     /// Nothing: the pointer is zero.
     Null,
     /// A capability, by its index in the message's capability table.
     Cap(u32),
-    /// A struct, with one level less for its pointers.
+    /// A struct, whose nesting limit is one less than the pointer's.
     Struct(StructReader<'a, A>),
-    /// A list, with one level less for its pointers.
+    /// A list, whose nesting limit is one less than the pointer's.
     List(ListReader<'a, A>),
 }
 
