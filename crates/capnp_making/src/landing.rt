@@ -1,4 +1,4 @@
-//! Where the pointers of a message lead ("Inter-Segment Pointers").
+//! Where the pointers of a message lead (encoding specification, "Inter-Segment Pointers").
 ghost use Rattle.std.specs.Prelude.{option_map, ◌≡◌, ◌<◌, ◌+◌, IsTrue, ◌↔◌, length, Some};
 ghost use Rattle.capnp_format.specs.Segments.{segment, word_at, leads, near, far, Target};
 ghost use Rattle.capnp_format.specs.Word.{kind, is_double};
@@ -11,13 +11,14 @@ use capnp_words::words;
 /// Where a pointer leads, with its landing pads read.
 #[derive(Clone, Copy)]
 pub struct Landing {
-    /// The word that describes the object: the pointer itself, its landing pad, or the pad's tag.
+    /// The word that describes the object: the pointer itself, its landing pad, or the second pad
+    /// of a double-far pointer.
     pub word: WirePointer,
     /// The segment of the object.
     pub segment: u32,
-    /// Where the object starts.
+    /// The position where the object starts, in words.
     pub start: u32,
-    /// The number of words of the landing pads.
+    /// The number of words of the landing pads: 0, 1 or 2.
     pub pads: u32,
 }
 
@@ -31,7 +32,7 @@ pub fn length_of<A: BuilderArena>(arena: &A, id: u32) -> u32
     }
 }
 
-/// The pointer word at a place; zero if there is none.
+/// The pointer word at `at` of segment `id`; zero if there is no such word.
 pub fn word_of<A: BuilderArena>(arena: &A, id: u32, at: u32) -> WirePointer
     ensures { result.0 ≡ word_at (A.view arena.now).words id at }
 {
@@ -48,8 +49,9 @@ pub fn word_of<A: BuilderArena>(arena: &A, id: u32, at: u32) -> WirePointer
     }
 }
 
-/// Where the pointer at a place leads, if it isn't zero. Called where words are cleared, and most
-/// pointers that are set were null.
+/// Where the pointer at `at` of segment `id` leads. The result has no meaning if the pointer is
+/// null or leads out of the message. Not inlined, because most of the pointers that are zeroed are
+/// null.
 #[cold]
 #[inline(never)]
 pub(crate) fn follow<A: BuilderArena>(arena: &A, id: u32, at: u32) -> Option<Landing>
@@ -59,7 +61,8 @@ pub(crate) fn follow<A: BuilderArena>(arena: &A, id: u32, at: u32) -> Option<Lan
     landing_of(arena, id, at, word_of(arena, id, at))
 }
 
-/// Where the pointer at a place leads, by its word, if that isn't zero.
+/// Where the pointer at `at` of segment `id` leads. The result has no meaning if the pointer is
+/// null or leads out of the message. Precondition: `word` is the pointer's word.
 #[inline(always)]
 pub fn landing_of<A: BuilderArena>(
     arena: &A,
@@ -78,7 +81,8 @@ pub fn landing_of<A: BuilderArena>(
     }
 }
 
-/// Where a word at a place leads that isn't a far pointer.
+/// Where `word`, at `at` of segment `id`, leads as a pointer that isn't far; `None` if out of the
+/// segment. `pads` is the number of words of landing pads read until then.
 fn follow_near<A: BuilderArena>(
     arena: &A,
     id: u32,
@@ -99,7 +103,7 @@ fn follow_near<A: BuilderArena>(
     }
 }
 
-/// Where a far pointer leads.
+/// Where the far pointer `word` leads. The result has no meaning if it leads out of the message.
 #[cold]
 #[inline(never)]
 fn follow_far<A: BuilderArena>(arena: &A, word: WirePointer) -> Option<Landing>

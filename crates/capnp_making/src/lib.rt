@@ -1,5 +1,5 @@
-//! Objects of a message being built: made at the place of a pointer, all zero, in any of the
-//! message's segments, and zeroed again.
+//! Makes objects of a message being built, all zero, for a pointer at any place of the message, and
+//! zeroes them again.
 #![tactic(auto)]
 
 pub mod landing;

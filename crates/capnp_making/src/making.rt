@@ -1,8 +1,10 @@
-//! Makes a pointer lead to a new object, all zero ("Structs", "Lists", "Inter-Segment Pointers").
+//! Makes a pointer lead to a new object, all zero (encoding specification, "Structs", "Lists" and
+//! "Inter-Segment Pointers").
 //!
-//! An object comes after the words of its pointer's segment if it fits there, with a near pointer.
-//! Otherwise it comes after a landing pad of one word, where the arena finds room. What a pointer
-//! held before is zeroed first, with all below it and its landing pads; these words stay allocated.
+//! If the object fits after the words of its pointer's segment, it is put there. Otherwise it is
+//! put after a landing pad of one word, in any segment in which the arena finds room, and the
+//! pointer becomes a far pointer. What the pointer held before is zeroed first, with all objects
+//! below it and their landing pads; these words stay allocated.
 ghost use Rattle.std.specs.Prelude.{◌≡◌, ℕ, length, ◌∷◌, ◌<◌, ◌≤◌, ◌+◌, ◌-◌, ◌*◌, ◌^◌, IfOk, IsOk, OnOk, OnErr, IfErr};
 ghost use Rattle.capnp_format.specs.Canonical.{offset_to, Reaches};
 ghost use Rattle.capnp_format.specs.Segments.{segment, word_at, IsPlace};
@@ -33,7 +35,7 @@ use capnp_words::wire_pointer::{
 pub enum Shape {
     /// A struct.
     Struct(StructSize),
-    /// A list, with its number of elements; for a list of structs, its number of words.
+    /// A list, with the number in its pointer: of elements, or of words in a list of structs.
     List(ElementSize, u32),
 }
 
@@ -46,7 +48,7 @@ pub struct Start {
     pub at: u32,
 }
 
-/// The pointer, at `position` of a segment, to an object of that segment at `target`.
+/// The word of a pointer, at `position` of a segment, to an object at `target` of the same segment.
 pub fn pointer_to(shape: Shape, position: u32, target: u32) -> WirePointer
     requires reaches { Reaches position target }
     requires few { CountFits shape }
@@ -61,11 +63,11 @@ pub fn pointer_to(shape: Shape, position: u32, target: u32) -> WirePointer
     }
 }
 
-/// Makes an object of `amount` words, all zero, and overwrites the pointer at a place to lead to
-/// it.
+/// Makes an object of `amount` words, all zero, and makes the pointer at `at` of segment `id` lead
+/// to it.
 ///
-/// Refuses like `allocate_anywhere` for one word more than the object has, and changes nothing but
-/// `refused` then.
+/// Refuses like `BuilderArena::allocate_anywhere` for `amount + 1` words. Then nothing changes
+/// except the allocator's count `refused`.
 #[inline(always)]
 fn put_object<A: BuilderArena>(
     arena: &mut A,
@@ -106,10 +108,10 @@ fn put_object<A: BuilderArena>(
 }
 
 /// Makes an object of `amount` words, all zero, after a landing pad, where the arena finds room for
-/// both, and overwrites the pointer at a place to lead to it.
+/// both, and makes the pointer at `at` of segment `id` lead to it.
 ///
-/// Refuses like `allocate_anywhere` for one word more than the object has, and changes nothing but
-/// `refused` then.
+/// Refuses like `BuilderArena::allocate_anywhere` for `amount + 1` words. Then nothing changes
+/// except the allocator's count `refused`.
 #[inline(always)]
 fn put_far<A: BuilderArena>(
     arena: &mut A,
@@ -138,8 +140,8 @@ fn put_far<A: BuilderArena>(
     }
 }
 
-/// Makes the pointer at a place null, and zeroes what it held: its object, all below it, and its
-/// landing pads.
+/// Makes the pointer at `at` of segment `id` null, and zeroes what it held: its object, all objects
+/// below it, and their landing pads.
 pub fn clear<A: BuilderArena>(arena: &mut A, id: u32, at: u32)
     requires place { IsPlace (A.view arena.old).words id at }
     ensures cleared { Puts (A.view arena.old).words (A.view arena.new).words id at Null }
@@ -150,10 +152,11 @@ pub fn clear<A: BuilderArena>(arena: &mut A, id: u32, at: u32)
     zero_object(arena, id, at);
 }
 
-/// Makes a struct, all zero, and overwrites the pointer at a place to lead to it. One without
-/// sections takes no words.
+/// Makes a struct, all zero, and makes the pointer at `at` of segment `id` lead to it. A struct
+/// without sections takes no words.
 ///
-/// Refuses if memory runs out, or with `MessageTooLarge`, and changes nothing but `refused` then.
+/// Refuses with `AllocationFailed` if memory runs out, or with `MessageTooLarge`. Then nothing
+/// changes except the allocator's count `refused`.
 #[inline(always)]
 pub fn make_struct<A: BuilderArena>(
     arena: &mut A,
@@ -189,10 +192,11 @@ pub fn make_struct<A: BuilderArena>(
     put_object(arena, id, at, Shape::Struct(size), words)
 }
 
-/// Makes a list of elements that aren't structs, all zero or null, and overwrites the pointer at a
-/// place to lead to it.
+/// Makes a list of `count` elements that aren't structs, all zero or null, and makes the pointer at
+/// `at` of segment `id` lead to it.
 ///
-/// Refuses if memory runs out, or with `MessageTooLarge`, and changes nothing but `refused` then.
+/// Refuses with `AllocationFailed` if memory runs out, or with `MessageTooLarge`. Then nothing
+/// changes except the allocator's count `refused`.
 #[inline(always)]
 pub fn make_list<A: BuilderArena>(
     arena: &mut A,
@@ -237,10 +241,11 @@ fn words_of_list(size: ElementSize, count: u32) -> u32
     (u64::from(data_bits_per_element(size)) * u64::from(count)).div_ceil(64) as u32
 }
 
-/// Makes a list of structs, all zero, and overwrites the pointer at a place to lead to it. Its
-/// first word is the tag.
+/// Makes a list of `count` structs, all zero, and makes the pointer at `at` of segment `id` lead to
+/// it. The first word of the list is the tag.
 ///
-/// Refuses if memory runs out, or with `MessageTooLarge`, and changes nothing but `refused` then.
+/// Refuses with `AllocationFailed` if memory runs out, or with `MessageTooLarge`. Then nothing
+/// changes except the allocator's count `refused`.
 pub fn make_struct_list<A: BuilderArena>(
     arena: &mut A,
     id: u32,

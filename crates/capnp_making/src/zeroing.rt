@@ -1,4 +1,4 @@
-//! Zeroes what a pointer holds: the object, all below it, and the landing pads.
+//! Zeroes what a pointer holds: its object, all objects below it, and their landing pads.
 ghost use Rattle.std.specs.Prelude.{◌≡◌, ℕ, ◌<◌, ◌≤◌, ◌+◌, ◌*◌, ◌^◌, ◌∷◌, [], length, IsTrue, ◌↔◌};
 ghost use Rattle.capnp_arena_traits.specs.View.{KeepsLimits};
 ghost use Rattle.capnp_format.specs.Segments.{segment, word_at, IsPlace};
@@ -17,7 +17,8 @@ use capnp_words::wire_pointer::{
     ElementSize, StructSize, WirePointer, WirePointerKind, data_bits_per_element,
 };
 
-/// Zeroes `n` words of a segment; changes nothing if they aren't inside it.
+/// Zeroes the `n` words of segment `id` from `start` on. Changes nothing if they aren't all inside
+/// it.
 pub fn zero_part<A: BuilderArena>(arena: &mut A, id: u32, start: u32, n: u64)
     requires { n < 2 ^ 63 }
     ensures zeroed { start + n ≤ length (segment (A.view arena.old).words id)
@@ -32,7 +33,7 @@ pub fn zero_part<A: BuilderArena>(arena: &mut A, id: u32, start: u32, n: u64)
     }
 }
 
-/// Whether the `n` words are inside a segment, and `n` isn't 0.
+/// Whether the `n` words from `start` on are inside segment `id`, and `n` isn't 0.
 fn holds_some<A: BuilderArena>(arena: &A, id: u32, start: u32, n: u64) -> bool
     requires { n < 2 ^ 63 }
     ensures { IsTrue result
@@ -41,8 +42,8 @@ fn holds_some<A: BuilderArena>(arena: &A, id: u32, start: u32, n: u64) -> bool
     n > 0 && u64::from(start) + n <= u64::from(length_of(arena, id))
 }
 
-/// Zeroes the landing pads of `word`, if it is a far pointer; changes nothing if they aren't inside
-/// their segment.
+/// Zeroes the landing pads of `word`, if it is a far pointer. Changes nothing if the pads aren't
+/// inside their segment.
 pub fn zero_pads<A: BuilderArena>(arena: &mut A, word: WirePointer)
     ensures { ZeroesPads (A.view arena.old) (A.view arena.new) word.0 }
 {
@@ -51,7 +52,8 @@ pub fn zero_pads<A: BuilderArena>(arena: &mut A, word: WirePointer)
     }
 }
 
-/// Zeroes the landing pads of a far pointer. Not inlined: most pointers are near.
+/// Zeroes the landing pads of the far pointer `word`. Not inlined, because most pointers aren't
+/// far.
 #[cold]
 #[inline(never)]
 fn zero_far_pads<A: BuilderArena>(arena: &mut A, word: WirePointer)
@@ -67,9 +69,9 @@ fn zero_far_pads<A: BuilderArena>(arena: &mut A, word: WirePointer)
     );
 }
 
-/// Zeroes what the pointer at a place holds: its object, all below it, its landing pads and the
-/// pointer itself. In words that aren't a message, it may zero any, and never writes anything but
-/// zeros.
+/// Zeroes the pointer at `at` of segment `id` and what it holds: its object, all objects below it,
+/// and their landing pads. If the segments aren't a message that a builder made, it may zero any
+/// words, but never writes anything else.
 #[cycle(zeroing)]
 #[inline(always)]
 pub fn zero_object<A: BuilderArena>(arena: &mut A, id: u32, at: u32)
@@ -93,8 +95,8 @@ pub fn zero_object<A: BuilderArena>(arena: &mut A, id: u32, at: u32)
     }
 }
 
-/// Zeroes the object that a pointer leads to, and all below it, if it is a value that holds no word
-/// twice.
+/// Zeroes the object at `landing` and all objects below it, if it is a value that holds no word
+/// twice. Otherwise may zero other words.
 #[cycle(zeroing)]
 #[cold]
 #[inline(never)]
@@ -126,7 +128,8 @@ fn zero_landed<A: BuilderArena>(arena: &mut A, landing: Landing)
     }
 }
 
-/// Zeroes a struct, and all below it, if its pointers mean values.
+/// Zeroes the struct that starts at `start` of segment `id`, and all objects below it, if its
+/// pointers mean values.
 #[cycle(zeroing)]
 fn zero_struct<A: BuilderArena>(arena: &mut A, id: u32, start: u32, size: StructSize)
     ensures { Zeroes (A.view arena.old) (A.view arena.new)
@@ -143,7 +146,8 @@ fn zero_struct<A: BuilderArena>(arena: &mut A, id: u32, start: u32, size: Struct
     }
 }
 
-/// Zeroes `count` consecutive pointers, and all below them, if they mean values.
+/// Zeroes the `count` consecutive pointers from `start` of segment `id` on, and all objects below
+/// them, if they mean values.
 #[cycle(zeroing)]
 #[tactic(auto, using(crate::proofs::Zeros::fewer))]
 fn zero_pointers<A: BuilderArena>(arena: &mut A, id: u32, start: u32, count: u32)
@@ -160,7 +164,8 @@ fn zero_pointers<A: BuilderArena>(arena: &mut A, id: u32, start: u32, count: u32
     }
 }
 
-/// Zeroes a list of structs, its tag, and all below it, if its pointers mean values.
+/// Zeroes the list of structs whose tag is at `start` of segment `id`, and all objects below it, if
+/// its pointers mean values.
 #[cycle(zeroing)]
 fn zero_structs<A: BuilderArena>(arena: &mut A, id: u32, start: u32)
     ensures { Zeroes (A.view arena.old) (A.view arena.new)
@@ -177,7 +182,8 @@ fn zero_structs<A: BuilderArena>(arena: &mut A, id: u32, start: u32)
     }
 }
 
-/// Zeroes the pointers of consecutive elements, and all below them, if they mean values.
+/// Zeroes the pointers of `count` consecutive elements from `start` of segment `id` on, and all
+/// objects below them, if they mean values.
 #[cycle(zeroing)]
 #[tactic(auto, using(crate::proofs::Zeros::fewer))]
 fn zero_elements<A: BuilderArena>(arena: &mut A, id: u32, start: u32, size: StructSize, count: u32)
