@@ -1,4 +1,4 @@
-//! Sets texts and data where a pointer leads ("Lists").
+//! Makes a pointer lead to a text or to data (encoding specification, "Lists").
 //!
 //! Data is a list of bytes; a text is one followed by a zero byte.
 ghost use Rattle.std.specs.Prelude.{◌≡◌, ℕ, ◌<◌, ◌≤◌, ◌+◌, ◌-◌, ◌*◌, ◌^◌, ◌++◌, ◌∷◌, [], length, OnOk};
@@ -19,10 +19,10 @@ use capnp_words::error::ErrorKind;
 use capnp_words::lanes;
 use capnp_words::wire_pointer::ElementSize;
 
-/// Makes the pointer at a place lead to a new list of these bytes ("Lists").
+/// Makes the pointer at `at` of segment `id` lead to new data, the bytes of `from` ("Lists").
 ///
-/// First zeroes what the pointer held. Refuses if memory runs out, or with `MessageTooLarge`; the
-/// pointer is null then.
+/// First zeroes what the pointer held. Refuses with `AllocationFailed` if memory runs out, or with
+/// `MessageTooLarge`. After a refusal the pointer is null.
 #[inline(always)]
 pub fn set_data<A: BuilderArena>(
     arena: &mut A,
@@ -42,11 +42,11 @@ pub fn set_data<A: BuilderArena>(
     set_bytes(arena, id, at, from, from.len() as u32)
 }
 
-/// Makes the pointer at a place lead to a new text: a list of these bytes followed by a zero byte
-/// ("Lists").
+/// Makes the pointer at `at` of segment `id` lead to a new text: the bytes of `from`, followed by a
+/// zero byte ("Lists").
 ///
-/// First zeroes what the pointer held. Refuses if memory runs out, or with `MessageTooLarge`; the
-/// pointer is null then.
+/// First zeroes what the pointer held. Refuses with `AllocationFailed` if memory runs out, or with
+/// `MessageTooLarge`. After a refusal the pointer is null.
 #[inline(always)]
 pub fn set_text<A: BuilderArena>(
     arena: &mut A,
@@ -64,8 +64,8 @@ pub fn set_text<A: BuilderArena>(
     set_bytes(arena, id, at, from, from.len() as u32 + 1)
 }
 
-/// Makes the pointer at a place lead to a new list of bytes: those of `from`, followed by zeros,
-/// `count` together.
+/// Makes the pointer at `at` of segment `id` lead to a new list of `count` bytes: those of `from`,
+/// followed by zeros.
 #[inline(always)]
 fn set_bytes<A: BuilderArena>(
     arena: &mut A,
@@ -89,7 +89,8 @@ fn set_bytes<A: BuilderArena>(
     Ok(())
 }
 
-/// Writes bytes from the start of a word on. Precondition: they are inside its segment.
+/// Writes the bytes of `from` into the message, from the word `start` on. Precondition: they are
+/// inside its segment.
 fn write_bytes<A: BuilderArena>(arena: &mut A, start: Start, from: &[u8])
     requires there { start.segment < length (A.view arena.old).words }
     requires inside { 8 * start.at + length from.now

@@ -1,5 +1,5 @@
-//! Finds what a pointer leads to ("Lists", "Capabilities (Interfaces)"): writes nothing, and makes
-//! nothing.
+//! Finds what a pointer leads to, without changing the message (encoding specification, "Structs",
+//! "Lists" and "Capabilities (Interfaces)").
 ghost use Rattle.std.specs.Prelude.{◌≡◌, ◌≢◌, ◌↔◌, ◌<◌, ◌≤◌, ◌+◌, ◌^◌, IsTrue, IsSome, IfSome, IfOk, IfErr, true, length};
 ghost use Rattle.capnp_format.specs.Bytes.{words_of};
 ghost use Rattle.capnp_format.specs.Forest.{target};
@@ -26,12 +26,12 @@ use capnp_words::words;
 pub struct ExistingList {
     /// The segment of its elements.
     pub segment: u32,
-    /// The word where its first element starts; in a list of structs, the one after the tag. A
-    /// struct's pointers come after its data words.
+    /// The word where the first element starts. In a list of structs, this is the word after the
+    /// tag.
     pub start: u32,
     /// Its element size.
     pub size: ElementSize,
-    /// The sizes of the two sections of each element; 0 and 0 if elements aren't structs.
+    /// The sizes of the two sections of each element; 0 and 0 if the elements aren't structs.
     pub struct_size: StructSize,
     /// The number of elements.
     pub count: u32,
@@ -59,10 +59,10 @@ pub struct ExistingStruct {
     pub size: StructSize,
 }
 
-/// The capability that the pointer at a place is, by its index ("Capabilities (Interfaces)").
-/// Doesn't follow the pointer.
+/// The index of the capability that the pointer at `at` of segment `id` is ("Capabilities
+/// (Interfaces)"). Doesn't follow the pointer.
 ///
-/// Refusals: `MessageContainsNullCapabilityPointer` if it is null;
+/// Refusals: `MessageContainsNullCapabilityPointer` if the pointer is null;
 /// `MessageContainsNonCapabilityPointerWhereCapabilityPointerWasExpected` for any other pointer,
 /// also a far pointer to a capability.
 pub fn get_capability<A: BuilderArena>(arena: &A, id: u32, at: u32) -> Result<u32, ErrorKind>
@@ -80,8 +80,8 @@ pub fn get_capability<A: BuilderArena>(arena: &A, id: u32, at: u32) -> Result<u3
     Ok(word.cap_index())
 }
 
-/// The struct that the pointer at a place leads to, with the sections that it has ("Structs").
-/// `None` if the pointer is null, or leads to anything else.
+/// The struct that the pointer at `at` of segment `id` leads to, with the sections that it has
+/// ("Structs"). `None` if the pointer is null, or doesn't lead to a struct.
 #[inline(always)]
 pub fn get_struct<A: BuilderArena>(arena: &A, id: u32, at: u32) -> Option<ExistingStruct>
     ensures { FindsStructAt (A.view arena.now).words id at result }
@@ -100,8 +100,8 @@ pub fn get_struct<A: BuilderArena>(arena: &A, id: u32, at: u32) -> Option<Existi
     struct_of(arena, id, at, word)
 }
 
-/// The struct that a word at a place leads to, with the sections that it has. Precondition: the
-/// word isn't zero.
+/// The struct that `word`, the pointer at `at` of segment `id`, leads to, with the sections that it
+/// has; `None` if it doesn't lead to a struct. Precondition: `word` isn't zero.
 #[inline(always)]
 fn struct_of<A: BuilderArena>(
     arena: &A,
@@ -133,7 +133,7 @@ fn struct_of<A: BuilderArena>(
     }
 }
 
-/// The struct that a far pointer leads to, like `struct_of`, not inlined.
+/// Like `struct_of`, for a far pointer. Not inlined, because most pointers aren't far.
 #[cold]
 #[inline(never)]
 fn struct_behind_pad<A: BuilderArena>(
@@ -149,14 +149,14 @@ fn struct_behind_pad<A: BuilderArena>(
     struct_of(arena, id, at, word)
 }
 
-/// The list that the pointer at a place leads to, with elements that are at least as wide as the
-/// expected ones, which aren't structs ("Lists"). `None` if the pointer is null.
+/// The list that the pointer at `at` of segment `id` leads to ("Lists"). Its elements have to be at
+/// least as wide as `expected`, which isn't the size of structs. `None` if the pointer is null.
 ///
 /// Refusals: `ExistingPointerIsNotAList` for anything but a list;
 /// `FoundStructListWhereBitListWasExpected` for a list of structs if bits are expected;
 /// `ExistingListValueIsIncompatibleWithExpectedType` for elements with fewer bits of data or fewer
-/// pointers than the expected ones, for structs without data words if data is expected, and for
-/// structs without pointers if pointers are.
+/// pointers than `expected` has, for structs without data words if numbers are expected, and for
+/// structs without pointers if pointers are expected.
 pub fn get_list<A: BuilderArena>(
     arena: &A,
     id: u32,
@@ -179,10 +179,12 @@ pub fn get_list<A: BuilderArena>(
     }
 }
 
-/// Where the pointer at a place leads, if to a list; `None` if it is null.
+/// Where the pointer at `at` of segment `id`, which has to lead to a list, leads; `None` if it is
+/// null.
 ///
-/// Refusals: `ExistingPointerIsNotAList` for anything else; `MessageContainsOutOfBoundsPointer` for
-/// a pointer that leads out of the message, which no stored value has.
+/// Refusals: `ExistingPointerIsNotAList` if it leads to something else;
+/// `MessageContainsOutOfBoundsPointer` if it leads out of the message, which no pointer of a
+/// message that a builder made does.
 fn follow_list<A: BuilderArena>(arena: &A, id: u32, at: u32) -> Result<Option<Landing>, ErrorKind>
     ensures { FindsAt (A.view arena.now).words id at landing_in (listed result) }
 {
@@ -202,7 +204,8 @@ fn follow_list<A: BuilderArena>(arena: &A, id: u32, at: u32) -> Result<Option<La
     }
 }
 
-/// The list at a landing, with elements of a size that aren't structs.
+/// The list at `landing`, with elements of size `size`, which aren't structs. Refuses elements that
+/// are narrower than `expected`.
 fn plain_list_at(
     landing: Landing,
     size: ElementSize,
@@ -229,7 +232,8 @@ fn plain_list_at(
     }))
 }
 
-/// The list of structs at a landing, by its tag.
+/// The list of structs at `landing`, by its tag. Refuses structs that can't be read as elements of
+/// size `expected`.
 fn struct_list_at<A: BuilderArena>(
     arena: &A,
     landing: Landing,
@@ -261,7 +265,7 @@ fn struct_list_at<A: BuilderArena>(
     }
 }
 
-/// The tag of the list of structs at a landing, if its word is inside the segment.
+/// The tag of the list of structs at `landing`; `None` if the tag isn't inside the segment.
 fn tag_at<A: BuilderArena>(arena: &A, landing: Landing) -> Option<WirePointer>
     ensures there { landing.start < length (segment (A.view arena.now).words landing.segment)
         → IsSome result }
@@ -282,7 +286,7 @@ fn tag_at<A: BuilderArena>(arena: &A, landing: Landing) -> Option<WirePointer>
     }
 }
 
-/// Why structs of a size can't be elements of an expected size, if they can't.
+/// The refusal of structs of sections `size` as elements of size `expected`; `None` if they fit.
 fn misfit_of_structs(expected: ElementSize, size: StructSize) -> Option<ErrorKind>
     ensures found { result ≡ structs_misfit expected size.data_words size.pointers }
     ensures named { IfSome result (λ k. is_unfound k ≡ true) }
@@ -300,7 +304,8 @@ fn misfit_of_structs(expected: ElementSize, size: StructSize) -> Option<ErrorKin
     }
 }
 
-/// The data that the pointer at a place leads to ("Lists"). `None` if the pointer is null.
+/// The data that the pointer at `at` of segment `id` leads to ("Lists"). `None` if the pointer is
+/// null.
 ///
 /// Refusals: `ExistingPointerIsNotAList` for anything but a list;
 /// `ExistingListPointerIsNotByteSized` if the elements aren't bytes.
@@ -326,11 +331,11 @@ pub fn get_data<A: BuilderArena>(
     }
 }
 
-/// The text that the pointer at a place leads to, without the zero byte after it ("Lists"). `None`
-/// if the pointer is null.
+/// The text that the pointer at `at` of segment `id` leads to, without the zero byte after it
+/// ("Lists"). `None` if the pointer is null.
 ///
-/// Refuses what isn't data like `get_data`, and bytes that don't end in a zero byte with
-/// `TextBlobMissingNULTerminator`.
+/// Refuses what isn't a list of bytes like `get_data`, and refuses bytes that don't end in a zero
+/// byte with `TextBlobMissingNULTerminator`.
 pub fn get_text<A: BuilderArena>(
     arena: &A,
     id: u32,
@@ -353,7 +358,7 @@ pub fn get_text<A: BuilderArena>(
     }
 }
 
-/// Whether the bytes are inside a segment that exists.
+/// Whether the segment of `bytes` exists, and they are inside it.
 pub fn are_inside<A: BuilderArena>(arena: &A, bytes: ExistingBytes) -> bool
     ensures { IsTrue result ↔ BytesLieIn (A.view arena.now).words bytes }
 {
@@ -366,7 +371,7 @@ pub fn are_inside<A: BuilderArena>(arena: &A, bytes: ExistingBytes) -> bool
     }
 }
 
-/// Whether there is a last byte, and it is 0.
+/// Whether the last one of `bytes` exists, and is 0.
 fn is_terminated<A: BuilderArena>(arena: &A, bytes: ExistingBytes) -> bool
     ensures some { IsTrue result → 0 < bytes.length }
     ensures ends { AreInside (A.view arena.now).words bytes
@@ -379,7 +384,7 @@ fn is_terminated<A: BuilderArena>(arena: &A, bytes: ExistingBytes) -> bool
     }
 }
 
-/// Whether the last of `count` bytes from word `start` on exists, and is 0.
+/// Whether the last of the `count` bytes from word `start` of `segment` on exists, and is 0.
 fn last_is_zero(segment: &[u8], start: u32, count: u32) -> bool
     ensures some { IsTrue result → 0 < count }
     ensures ends { start + words_for 2 count ≤ length (words_of segment.now)

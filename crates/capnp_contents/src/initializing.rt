@@ -1,6 +1,6 @@
-//! Makes a pointer lead to a new object, over what it held ("Structs", "Lists", "Capabilities
-//! (Interfaces)"). That is zeroed first, with all below it and its landing pads; these words stay
-//! allocated.
+//! Makes a pointer lead to a new object (encoding specification, "Structs", "Lists" and
+//! "Capabilities (Interfaces)"). What the pointer held before is zeroed first, with all objects
+//! below it and their landing pads; these words stay allocated.
 ghost use Rattle.std.specs.Prelude.{◌≡◌, ℕ, length, ◌<◌, ◌≤◌, ◌+◌, ◌-◌, ◌*◌, ◌^◌, IfOk, OnOk};
 ghost use Rattle.capnp_format.specs.Segments.{segment, word_at, IsPlace};
 ghost use Rattle.capnp_format.specs.Tree.{Capability};
@@ -20,7 +20,7 @@ use capnp_making::zeroing::zero_object;
 use capnp_words::error::ErrorKind;
 use capnp_words::wire_pointer::{ElementSize, StructSize, WirePointer};
 
-/// Makes the pointer at a place a capability, by its index ("Capabilities (Interfaces)").
+/// Makes the pointer at `at` of segment `id` the capability with index `index`.
 pub fn set_capability<A: BuilderArena>(arena: &mut A, id: u32, at: u32, index: u32)
     requires place { IsPlace (A.view arena.old).words id at }
     ensures made { Puts (A.view arena.old).words (A.view arena.new).words id at (Capability index) }
@@ -34,10 +34,11 @@ pub fn set_capability<A: BuilderArena>(arena: &mut A, id: u32, at: u32, index: u
     arena.set_word(id, at, WirePointer::new_capability(index).0);
 }
 
-/// Makes the pointer at a place lead to a new struct, all zero. One without sections takes no
-/// words.
+/// Makes the pointer at `at` of segment `id` lead to a new struct, all zero. A struct without
+/// sections takes no words.
 ///
-/// Refuses if memory runs out, or with `MessageTooLarge`; the pointer is null then.
+/// Refuses with `AllocationFailed` if memory runs out, or with `MessageTooLarge`. After a refusal
+/// the pointer is null.
 #[inline(always)]
 pub fn init_struct<A: BuilderArena>(
     arena: &mut A,
@@ -55,10 +56,11 @@ pub fn init_struct<A: BuilderArena>(
     make_struct(arena, id, at, size)
 }
 
-/// Makes the pointer at a place lead to a new list of elements that aren't structs, all zero or
-/// null.
+/// Makes the pointer at `at` of segment `id` lead to a new list of `count` elements that aren't
+/// structs, all zero or null.
 ///
-/// Refuses if memory runs out, or with `MessageTooLarge`; the pointer is null then.
+/// Refuses with `AllocationFailed` if memory runs out, or with `MessageTooLarge`. After a refusal
+/// the pointer is null.
 #[inline(always)]
 pub fn init_list<A: BuilderArena>(
     arena: &mut A,
@@ -79,9 +81,11 @@ pub fn init_list<A: BuilderArena>(
     make_list(arena, id, at, size, count)
 }
 
-/// Makes the pointer at a place lead to a new list of structs, all zero; its first word is the tag.
+/// Makes the pointer at `at` of segment `id` lead to a new list of `count` structs, all zero. The
+/// first word of the list is the tag.
 ///
-/// Refuses if memory runs out, or with `MessageTooLarge`; the pointer is null then.
+/// Refuses with `AllocationFailed` if memory runs out, or with `MessageTooLarge`. After a refusal
+/// the pointer is null.
 pub fn init_struct_list<A: BuilderArena>(
     arena: &mut A,
     id: u32,

@@ -10,17 +10,17 @@ ghost use Rattle.capnp_making.specs.Fields.{put_field, with_field, field_in};
 ghost use Rattle.capnp_making.specs.Path.{Step, node, PathLeads, update, extent, struct_at, put_struct};
 ghost use Rattle.capnp_making.specs.Stored.{IsStored, IsReplaced, Puts};
 
-/// If a message is a forest (its value holds no word twice, and all other words are zero), it is
-/// one again after a call has put a value at the end of a path from the root; only that value
-/// differs in the message's value.
+/// A message is a forest if its value holds no word twice, and all other words are zero. After a
+/// call has put a value at the end of a path from the root of a forest, the message is a forest
+/// again, and its value differs only in the value at the end of the path.
 pub fn forest_after()
     ensures { (S R : Segments) (t : Tree) (path : List Step) (u q : ℕ) (x y : Tree)
         → IsForest S t → PathLeads S (node 0 0 t) path (node u q x) → Puts S R u q y
         → IsForest R (update t path y) }
 {}
 
-/// A call that puts a value at a place leaves all words unchanged except for that place and what
-/// was reached from it.
+/// A call that puts a value at a place of a forest changes only the pointer at that place, the
+/// words that its former value held, and words that it allocates.
 pub fn others_stay()
     ensures { (S R : Segments) (t : Tree) (path : List Step) (u q : ℕ) (x y : Tree)
         → IsForest S t → PathLeads S (node 0 0 t) path (node u q x) → Puts S R u q y
@@ -28,15 +28,16 @@ pub fn others_stay()
         → word_at R v r ≡ word_at S v r }
 {}
 
-/// Of two calls at one place the last one counts.
+/// Two calls that put a value at the same place have the effect of one call that puts the second
+/// value there.
 pub fn last_stands()
     ensures { (S R Q : Segments) (u q : ℕ) (y z : Tree)
         → Puts S R u q y → Puts R Q u q z → Puts S Q u q z }
 {}
 
-/// If a number or a bit is written in the data section of a struct, the place holds the struct with
-/// that in it, and nothing else of the message is changed ("Structs"). Its position is in bits from
-/// the first data word on.
+/// If a number or a bit is written in the data section of a struct, the struct's place holds the
+/// struct with that number or bit, and nothing else of the message is changed (encoding
+/// specification, "Structs"). The position b of the number is in bits from the first data word on.
 pub fn struct_field_written()
     ensures { (S R : Segments) (s p : ℕ) (ws : List ℕ) (ts : Trees) (b w v : ℕ)
         → IsStored S s p (Struct ws ts) → b < 64 * length ws
@@ -44,7 +45,7 @@ pub fn struct_field_written()
         → IsReplaced S R s p (Struct ws ts) (Struct (put_field ws b w v) ts) }
 {}
 
-/// If an element is written in a list of numbers or bits, the place holds the list with that
+/// If an element is written in a list of numbers or bits, the list's place holds the list with that
 /// element, and nothing else of the message is changed ("Lists").
 pub fn list_element_written()
     ensures { (S R : Segments) (s p size : ℕ) (ns : List ℕ) (i v : ℕ)
@@ -54,9 +55,9 @@ pub fn list_element_written()
         → IsReplaced S R s p (Flat size ns) (Flat size (slice_set ns i v)) }
 {}
 
-/// If a number or a bit is written in the data section of an element, the place holds the list of
-/// structs with that in the element, and nothing else of the message is changed ("Lists"). Its
-/// position is in bits from the element's first word on.
+/// If a number or a bit is written in the data section of an element of a list of structs, the
+/// list's place holds the list with that element changed, and nothing else of the message is
+/// changed ("Lists"). The position of the number is in bits from the element's first word on.
 pub fn element_field_written()
     ensures { (S R : Segments) (s p d q : ℕ) (es : Elements) (i : ℕ)
         (ws : List ℕ) (ts : Trees) (b w v : ℕ)
@@ -68,14 +69,14 @@ pub fn element_field_written()
         (Structs d q (put_struct es i (Struct (put_field ws b w v) ts))) }
 {}
 
-/// A number or a bit that was written is read back.
+/// Reading a number or a bit that was just written returns its value.
 pub fn field_read_back()
     ensures { (ws : List ℕ) (b w v : ℕ)
         → b / 64 < length ws → b % 64 + w ≤ 64 → v < 2 ^ w
         → field_in (put_field ws b w v) b w ≡ v }
 {}
 
-/// Writing a number or a bit leaves those before and after it unchanged.
+/// Writing a number or a bit leaves the numbers and bits before and after it unchanged.
 pub fn other_fields_stay()
     ensures { (ws : List ℕ) (b w v c x : ℕ)
         → b / 64 < length ws → b % 64 + w ≤ 64 → v < 2 ^ w

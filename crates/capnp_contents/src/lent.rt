@@ -1,4 +1,4 @@
-//! Bytes of a message being built, lent for writing in place ("Lists").
+//! Bytes of a message being built, lent for writing in place (encoding specification, "Lists").
 ghost use Rattle.std.specs.Prelude.{◌≡◌, ℕ, ◌+◌, ◌-◌, ◌^◌, ◌<◌, ◌≤◌, List, [], length, take, drop, get_or, slice_index_or, IfOk};
 ghost use Rattle.std.specs.Borrow.{sem, Lends, Array, u8 as byte};
 ghost use Rattle.capnp_format.specs.Segments.{IsPlace};
@@ -14,7 +14,7 @@ use capnp_arena_traits::arena::BuilderArena;
 use capnp_words::error::ErrorKind;
 use capnp_words::wire_pointer::ElementSize;
 
-/// Lends the bytes of a segment from `from` up to `end`; the others are unchanged.
+/// Lends the bytes of segment `id` from `from` up to `end`; the other bytes stay unchanged.
 fn part_of<A: BuilderArena>(arena: &mut A, id: u32, from: usize, end: usize) -> &mut [u8]
     requires there { id < length (A.segments arena.old) }
     requires order { from ≤ end }
@@ -30,7 +30,7 @@ fn part_of<A: BuilderArena>(arena: &mut A, id: u32, from: usize, end: usize) -> 
     &mut bytes[from..end]
 }
 
-/// Lends bytes of a message, for writing in place; nothing else changes.
+/// Lends `bytes` of a message, for writing in place; nothing else changes.
 pub fn bytes_mut<A: BuilderArena>(arena: &mut A, bytes: ExistingBytes) -> &mut [u8]
     requires there { bytes.segment < length (A.view arena.old).words }
     requires inside { AreInside (A.view arena.old).words bytes }
@@ -50,11 +50,11 @@ pub fn bytes_mut<A: BuilderArena>(arena: &mut A, bytes: ExistingBytes) -> &mut [
     part_of(arena, bytes.segment, from, end)
 }
 
-/// Makes the pointer at a place lead to a new list of `size` bytes, all zero, and lends them for
-/// writing in place ("Lists").
+/// Makes the pointer at `at` of segment `id` lead to new data of `size` bytes, all zero, and lends
+/// them for writing in place ("Lists").
 ///
-/// First zeroes what the pointer held. Refuses if memory runs out, or with `MessageTooLarge`; the
-/// pointer is null then.
+/// First zeroes what the pointer held. Refuses with `AllocationFailed` if memory runs out, or with
+/// `MessageTooLarge`. After a refusal the pointer is null.
 pub fn init_data<A: BuilderArena>(
     arena: &mut A,
     id: u32,
@@ -72,11 +72,11 @@ pub fn init_data<A: BuilderArena>(
     init_bytes(arena, id, at, size, size)
 }
 
-/// Makes the pointer at a place lead to a new text of `size` bytes, all zero, and lends them for
-/// writing in place, without the zero byte after them ("Lists").
+/// Makes the pointer at `at` of segment `id` lead to a new text of `size` bytes, all zero, and
+/// lends them for writing in place, without the zero byte after them ("Lists").
 ///
-/// First zeroes what the pointer held. Refuses if memory runs out, or with `MessageTooLarge`; the
-/// pointer is null then.
+/// First zeroes what the pointer held. Refuses with `AllocationFailed` if memory runs out, or with
+/// `MessageTooLarge`. After a refusal the pointer is null.
 pub fn init_text<A: BuilderArena>(
     arena: &mut A,
     id: u32,
@@ -94,8 +94,8 @@ pub fn init_text<A: BuilderArena>(
     init_bytes(arena, id, at, size + 1, size)
 }
 
-/// Makes the pointer at a place lead to a new list of `count` bytes, all zero, and lends the first
-/// `size` of them.
+/// Makes the pointer at `at` of segment `id` lead to a new list of `count` bytes, all zero, and
+/// lends the first `size` of them.
 fn init_bytes<A: BuilderArena>(
     arena: &mut A,
     id: u32,

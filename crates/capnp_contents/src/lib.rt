@@ -1,5 +1,5 @@
-//! The contents of a message being built: found, read, written and lent in place, and replaced
-//! after zeroing what was there.
+//! The contents of a message being built: finds, reads, writes and lends them in place, and
+//! replaces them after zeroing what was there.
 #![tactic(auto)]
 
 pub mod bytes;

@@ -1,5 +1,5 @@
 //! Writes and reads numbers and bits in place: in the data section of a struct, or in a list of
-//! numbers ("Structs", "Lists").
+//! numbers (encoding specification, "Structs" and "Lists").
 ghost use Rattle.std.specs.Prelude.{◌≡◌, ◌<◌, ◌≤◌, ◌+◌, ◌*◌, ◌%◌, ◌^◌, ◌↔◌, IsTrue, cond, length};
 ghost use Rattle.capnp_format.specs.Bytes.{words_of};
 ghost use Rattle.capnp_format.specs.Segments.{segment};
@@ -24,7 +24,7 @@ pub fn set_number<A: BuilderArena, T: Primitive>(arena: &mut A, id: u32, byte: u
     value.store(&mut bytes[start..start + T::BYTES]);
 }
 
-/// Writes bit `bit` of segment `id`, the lowest bit of each byte first.
+/// Writes bit `bit` of segment `id`, counted from the lowest bit of its first byte on.
 pub fn set_bit<A: BuilderArena>(arena: &mut A, id: u32, bit: u64, value: bool)
     requires inside { bit < 64 * length (segment (A.view arena.old).words id) }
     ensures { A.view arena.new
@@ -65,7 +65,7 @@ fn number_in<T: Primitive>(bytes: &[u8], byte: u64) -> T
     T::load(&bytes[start..start + T::BYTES])
 }
 
-/// Bit `bit` of segment `id`, the lowest bit of each byte first.
+/// Bit `bit` of segment `id`, counted from the lowest bit of its first byte on.
 pub fn get_bit<A: BuilderArena>(arena: &A, id: u32, bit: u64) -> bool
     requires inside { bit < 64 * length (segment (A.view arena.now).words id) }
     ensures { IsTrue result ↔ (field_in (segment (A.view arena.now).words id) bit 1 ≡ 1) }
@@ -76,7 +76,7 @@ pub fn get_bit<A: BuilderArena>(arena: &A, id: u32, bit: u64) -> bool
     bit_in(bytes, bit)
 }
 
-/// Bit `bit` of `bytes`, the lowest bit of each byte first.
+/// Bit `bit` of `bytes`, counted from the lowest bit of the first byte on.
 fn bit_in(bytes: &[u8], bit: u64) -> bool
     requires inside { bit < 64 * length (words_of bytes.now) }
     ensures { IsTrue result ↔ (field_in (words_of bytes.now) bit 1 ≡ 1) }
