@@ -1,5 +1,5 @@
-//! Laws of the calls that widen structs and lists of structs: canonical words stay. Each function
-//! does nothing: its contract is the law, proved for all values and messages.
+//! Laws of the calls that widen structs and lists of structs: they don't change canonical words.
+//! Each function does nothing: its contract is the law, proved for all values and messages.
 ghost use Rattle.std.specs.Prelude.{◌≡◌, ℕ, List, Ok};
 ghost use Rattle.capnp_format.specs.Forest.{IsForest};
 ghost use Rattle.capnp_format.specs.Segments.{Segments};
@@ -10,16 +10,16 @@ ghost use Rattle.capnp_widening.specs.Laws.{HaveSize, SameCanonicalForm};
 ghost use Rattle.capnp_widening.specs.Widened.{fill_words, fill_trees, list_widened, widened};
 ghost use Rattle.capnp_words.specs.declared.wire_pointer.StructSize.{StructSize};
 
-/// A struct whose sections are filled up with zeros and null pointers has the canonical words of
-/// the struct ("Canonicalization").
+/// A struct keeps its canonical words if zeros and null pointers are added at the ends of its
+/// sections (encoding specification, "Canonicalization").
 pub fn wider_struct()
     ensures { (d q : ℕ) (ws : List ℕ) (ts : Trees)
         → SameCanonicalForm (Struct ws ts) (Struct (fill_words d ws) (fill_trees q ts)) }
 {}
 
-/// A list of structs keeps its canonical words if it is widened to any size of structs: what is
-/// added to each element is after the last word and pointer that any of them uses. It may have no
-/// elements, and these may have no words.
+/// A list of structs keeps its canonical words if its elements are widened to any size: what is
+/// added to each comes after the last word and the last pointer that any element uses. This
+/// includes a list without elements, and elements without words.
 pub fn wider_list()
     ensures { (d q e k : ℕ) (es : Elements) (u : Tree)
         → HaveSize e k es → list_widened d q (Structs e k es) ≡ Ok u
@@ -27,8 +27,8 @@ pub fn wider_list()
 {}
 
 /// If a struct or a list of structs is widened anywhere inside a value that a place stores, the
-/// place stores a value of the same canonical form: a canonical copy from that place is the same
-/// words as before.
+/// place then stores a value of the same canonical form: a canonical copy of it has the same words
+/// as before.
 pub fn widened_within()
     ensures structs { (S R : Segments) (s p : ℕ) (t : Tree) (path : List Step)
         (u q : ℕ) (ws : List ℕ) (ts : Trees) (size : StructSize)
@@ -43,8 +43,8 @@ pub fn widened_within()
         → (w : Tree) × IsReplaced S R s p t w × SameCanonicalForm t w }
 {}
 
-/// If a struct or a list of structs is widened anywhere in a message, the whole message keeps its
-/// canonical words, and every word outside of its value is zero.
+/// If a struct or a list of structs is widened anywhere in a message, the message keeps its
+/// canonical words, and the words that its value doesn't hold are zero afterwards, too.
 pub fn message_widened()
     ensures structs { (S R : Segments) (t : Tree) (path : List Step)
         (u q : ℕ) (ws : List ℕ) (ts : Trees) (size : StructSize)

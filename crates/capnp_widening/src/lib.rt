@@ -1,5 +1,5 @@
-//! Widens objects of a message being built: moves a struct whose sections are too small, and lists
-//! whose elements are, to new words with all that their pointers lead to.
+//! Widens objects of a message being built: moves a struct with too small a section, or a list with
+//! too small elements, to new words. Its pointers lead to the same objects as before.
 #![tactic(auto)]
 
 pub mod laws;

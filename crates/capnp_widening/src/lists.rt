@@ -1,4 +1,4 @@
-//! Turns lists into lists of structs of at least a wanted size.
+//! Turns lists into lists of structs that have at least a requested size.
 ghost use Rattle.std.specs.Prelude.{ℕ, ◌⊎◌, ◌≡◌, ◌<◌, ◌≤◌, ◌^◌, ◌↔◌, IsTrue, IsOk, IfOk};
 ghost use Rattle.capnp_format.specs.Segments.{IsPlace};
 ghost use Rattle.capnp_format.specs.Tree.{Tree, Elements, Null, Structs};
@@ -18,16 +18,16 @@ use capnp_contents::existing::{self, ExistingList};
 use capnp_words::error::ErrorKind;
 use capnp_words::wire_pointer::{ElementSize, StructSize};
 
-/// The list that the pointer at a place leads to, as a list of structs with both sections at least
-/// as large as `size`; `None` if the pointer is null. Elements that aren't structs, and structs
-/// with a section that is too small, are moved to new words: a number as the lowest bits of a first
-/// data word, a pointer as a first pointer, and each section as large as the greater of old and
-/// wanted.
+/// Returns the list that the pointer at `at` of segment `id` leads to, as a list of structs with
+/// both sections at least as large as `size` says; `None` if the pointer is null. A list whose
+/// elements aren't structs, or have too small a section, is moved to new words: a number becomes
+/// the lowest bits of a struct's first data word, a pointer a struct's first pointer, and each
+/// section gets the larger one of its old size and that in `size`.
 ///
 /// Refusals: `ExistingPointerIsNotAList` for anything but a list;
 /// `FoundBitListWhereStructListWasExpected` for a list of bits; `MessageTooLarge` with the words of
-/// the elements if these would take 2^29 words or more; any other one for lack of memory, or
-/// `MessageTooLarge`, and then the old list stays.
+/// the new elements if these are 2^29 or more; the arena's `AllocationFailed` or `MessageTooLarge`.
+/// After a refusal the old list is unchanged.
 pub fn get_struct_list<A: BuilderArena>(
     arena: &mut A,
     id: u32,
@@ -60,7 +60,7 @@ pub fn get_struct_list<A: BuilderArena>(
     }
 }
 
-/// Whether the list is one of structs with sections at least as large as wanted.
+/// Whether `list` is a list of structs whose sections are at least as large as `wanted`.
 fn is_wide_list(list: ExistingList, wanted: StructSize) -> bool
     ensures { IsTrue result
         ↔ ((list.size ≡ InlineComposite)
@@ -70,8 +70,8 @@ fn is_wide_list(list: ExistingList, wanted: StructSize) -> bool
     list.size == ElementSize::InlineComposite && is_wide(list.struct_size, wanted)
 }
 
-/// Turns a list into one of structs, by the kind of its elements. Precondition: it isn't one of
-/// structs that are large enough.
+/// Turns the list `old` into a list of structs, by the kind of its elements. Precondition: `old`
+/// isn't a list of structs that are at least as large as `size`.
 fn widen_list<A: BuilderArena>(
     arena: &mut A,
     id: u32,
@@ -102,8 +102,8 @@ fn widen_list<A: BuilderArena>(
     }
 }
 
-/// The smallest struct that holds an element of a list that isn't one of bits: a data word for a
-/// number, a pointer for a pointer, and the struct itself for a struct.
+/// The smallest struct that holds an element of `list`: one data word for a number, one pointer for
+/// a pointer, the struct itself for a struct, and no words for void. Isn't used for bits.
 fn struct_for(list: ExistingList) -> StructSize
     ensures { result ≡ struct_for list.size list.struct_size }
 {
@@ -124,8 +124,8 @@ fn struct_for(list: ExistingList) -> StructSize
     }
 }
 
-/// The elements of a list as rows of whole words, each the smallest struct for it. Numbers and bits
-/// have no such rows.
+/// The elements of `list` as rows of words, each as large as the smallest struct that holds the
+/// element. Isn't used for numbers and bits, which aren't whole words.
 fn element_rows(list: ExistingList) -> ElementRows
     ensures { result ≡ element_rows list }
 {

@@ -1,10 +1,11 @@
-//! Rewrites pointers at other places, leading to the objects of the old ones ("Inter-Segment
-//! Pointers").
+//! Writes pointers at new places, which lead to the objects of old pointers (encoding
+//! specification, "Inter-Segment Pointers").
 //!
-//! A near pointer stays near in its object's segment. Anywhere else it becomes a far pointer: to a
-//! landing pad after the words of the object's segment if that has room, otherwise to two words
-//! where the arena finds room. A far pointer and a capability are copied unchanged. The old pointer
-//! stays, so for a while two pointers lead to one object.
+//! A pointer that isn't far becomes a far pointer if its new place is in another segment than its
+//! object: to a landing pad of one word after the words of the object's segment if there is room,
+//! otherwise to a pad of two words where the arena finds room. In the object's segment it stays
+//! near. A far pointer and a capability are copied unchanged. The old pointer stays, so for a while
+//! two pointers lead to one object.
 ghost use Rattle.std.specs.Prelude.{ℕ, ◌⊎◌, ◌*◌, ◌≡◌, ◌≢◌, ◌<◌, ◌≤◌, ◌+◌, ◌-◌, ◌^◌, ◌∷◌, [], length, true, false, IsOk, OnOk, IfErr, OnErr};
 ghost use Rattle.capnp_arena_traits.specs.View.{KeepsLimits};
 ghost use Rattle.capnp_format.specs.Canonical.{Reaches, offset_to};
@@ -28,9 +29,10 @@ use capnp_making::zeroing::zero_pads;
 use capnp_words::error::ErrorKind;
 use capnp_words::wire_pointer::{WirePointer, WirePointerKind};
 
-/// Rewrites the pointer at `from` at `to`, which is null, leading to the same object.
+/// Writes a pointer at `to`, where it is null, that leads to the object of the pointer at `from`.
 ///
-/// Refuses only if there is no memory for two words, and changes nothing but `refused` then.
+/// Refuses only if there is no memory for two words. Then nothing changes except the allocator's
+/// count `refused`.
 #[inline(always)]
 pub fn move_pointer<A: BuilderArena>(arena: &mut A, from: Start, to: Start) -> Result<(), ErrorKind>
     requires from { IsPlace (A.view arena.old).words from.segment from.at }
@@ -68,7 +70,7 @@ pub fn move_pointer<A: BuilderArena>(arena: &mut A, from: Start, to: Start) -> R
     }
 }
 
-/// What a word of kind struct or list describes.
+/// The object that `word`, which isn't a far pointer or a capability, describes.
 fn shape_of(word: WirePointer) -> Shape
     ensures shape { kind word.0 < 2 → IsShape result word.0 }
     ensures few { CountFits result }
@@ -80,7 +82,7 @@ fn shape_of(word: WirePointer) -> Shape
     }
 }
 
-/// Overwrites the pointer at a place to lead to the object at another place.
+/// Makes the pointer at `to` lead to the object `shape` that starts at `object`.
 #[inline(always)]
 fn point_to<A: BuilderArena>(
     arena: &mut A,
@@ -132,7 +134,8 @@ fn point_to<A: BuilderArena>(
     }
 }
 
-/// The word of a pointer to an object in its own segment. A struct without sections has offset -1.
+/// The word of a pointer at `position` of a segment to an object at `target` of the same segment.
+/// To a struct without sections, the offset is -1.
 fn near_word(shape: Shape, position: u32, target: u32) -> WirePointer
     requires reaches { Reaches position target }
     requires few { CountFits shape }
@@ -151,7 +154,7 @@ fn near_word(shape: Shape, position: u32, target: u32) -> WirePointer
     }
 }
 
-/// Whether the object is a struct without sections.
+/// Whether `shape` is a struct without sections.
 fn is_empty(shape: Shape) -> bool
     ensures some { result ≡ false → AsksWords shape }
     ensures empty { result ≡ true → IsShape shape (struct_word (2 ^ 30 - 1) 0 0) }
@@ -162,7 +165,8 @@ fn is_empty(shape: Shape) -> bool
     }
 }
 
-/// The second landing pad of an object, which states what it is, with offset 0.
+/// The second word of a double-far pointer's landing pad, which describes the object, with offset
+/// 0.
 #[tactic(auto, using(crate::proofs::Basics::zero_offset))]
 fn tag_of(shape: Shape) -> WirePointer
     requires few { CountFits shape }
@@ -175,9 +179,11 @@ fn tag_of(shape: Shape) -> WirePointer
     }
 }
 
-/// Rewrites `count` consecutive pointers at other places, which are null.
+/// Writes `count` consecutive pointers from `to` on, where they are null, that lead to the objects
+/// of those from `from` on.
 ///
-/// Refuses only if there is no memory for two words; some of the first pointers are written then.
+/// Refuses only if there is no memory for two words. Then the first of the pointers may already be
+/// written.
 #[inline(always)]
 pub fn move_row<A: BuilderArena>(
     arena: &mut A,
@@ -196,7 +202,8 @@ pub fn move_row<A: BuilderArena>(
     }
 }
 
-/// Does `move_row` into another segment. Not inlined: most objects stay in their segment.
+/// Does what `move_row` does, into another segment. Not inlined, because most objects stay in their
+/// segment.
 #[cold]
 #[inline(never)]
 fn move_row_apart<A: BuilderArena>(
@@ -212,8 +219,8 @@ fn move_row_apart<A: BuilderArena>(
     move_each(arena, from, to, count)
 }
 
-/// Does `move_row`, one pointer after the other. Inlined twice: within a segment no pointer becomes
-/// far.
+/// Does what `move_row` does, one pointer after the other. Inlined separately for moves within a
+/// segment, in which no pointer becomes far.
 #[inline(always)]
 fn move_each<A: BuilderArena>(
     arena: &mut A,
@@ -239,7 +246,8 @@ fn move_each<A: BuilderArena>(
     Ok(())
 }
 
-/// Zeroes the landing pads that were written for `count` moved pointers.
+/// Zeroes the landing pads that `move_row` wrote when it moved `count` pointers from `from` to
+/// `to`.
 #[cold]
 #[inline(never)]
 pub fn unmove_row<A: BuilderArena>(arena: &mut A, from: Start, to: Start, count: u32)
@@ -251,8 +259,9 @@ pub fn unmove_row<A: BuilderArena>(arena: &mut A, from: Start, to: Start, count:
     }
 }
 
-/// Zeroes the landing pads that were written for a moved pointer. The pads of one that was copied
-/// unchanged are still the old pointer's.
+/// Zeroes the landing pads that `move_pointer` wrote when it moved the pointer at `at` of segment
+/// `id` to `to_at` of segment `to_id`. If it copied the pointer unchanged, the pads belong to the
+/// old pointer, and stay.
 fn unmove_pointer<A: BuilderArena>(arena: &mut A, id: u32, at: u32, to_id: u32, to_at: u32)
     ensures { TakesBack (A.view arena.old) (A.view arena.new)
         (row_of_moves (record { segment = id; at = at }) (record { segment = to_id; at = to_at })
@@ -275,9 +284,11 @@ pub struct PointerRows {
     pub step: u32,
 }
 
-/// Rewrites the pointers of `count` rows in other rows, whose pointers are null.
+/// Writes the pointers of `count` rows, `pointers` in each, into the rows of `to`, where they are
+/// null. They lead to the objects of those in the rows of `from`.
 ///
-/// Refuses only if there is no memory for two words; some of the first pointers are written then.
+/// Refuses only if there is no memory for two words. Then the first of the pointers may already be
+/// written.
 pub fn move_rows<A: BuilderArena>(
     arena: &mut A,
     from: PointerRows,
@@ -312,7 +323,7 @@ pub fn move_rows<A: BuilderArena>(
     Ok(())
 }
 
-/// Zeroes the landing pads that were written for the moved pointers of `count` rows.
+/// Zeroes the landing pads that `move_rows` wrote when it moved the pointers of `count` rows.
 pub fn unmove_rows<A: BuilderArena>(
     arena: &mut A,
     from: PointerRows,

@@ -1,5 +1,5 @@
-//! Turns lists of numbers into lists of structs: each number becomes the low bytes of a first data
-//! word.
+//! Turns lists of numbers into lists of structs: each number becomes the lowest bytes of a struct's
+//! first data word.
 ghost use Rattle.std.specs.Prelude.{◌≡◌, ◌↔◌, ◌<◌, ◌≤◌, ◌+◌, ◌*◌, ◌^◌, IsTrue, length, IsOk, IfOk, IfErr, OnErr};
 ghost use Rattle.capnp_arena_traits.specs.View.{KeepsLimits};
 ghost use Rattle.capnp_format.specs.Numbers.{element_bits, words_for};
@@ -22,10 +22,11 @@ use capnp_making::zeroing::{zero_pads, zero_part};
 use capnp_words::error::ErrorKind;
 use capnp_words::wire_pointer::{ElementSize, StructSize, data_bits_per_element};
 
-/// Turns the list of numbers that the pointer at a place leads to into a list of structs of at
-/// least one data word.
+/// Turns the list of numbers `old`, which the pointer at `at` of segment `id` leads to, into a list
+/// of structs of `size`, which has at least one data word.
 ///
-/// If the place stores that list, refuses only if memory runs out, and the old list stays then.
+/// If that place stores `old`, refuses only if memory runs out, and then leaves the old list
+/// unchanged.
 pub(crate) fn widen_numbers<A: BuilderArena>(
     arena: &mut A,
     id: u32,
@@ -62,7 +63,8 @@ fn words_of_numbers(list: ExistingList) -> u64
     (u64::from(data_bits_per_element(list.size)) * u64::from(list.count)).div_ceil(64)
 }
 
-/// Turns the list of numbers that the pointer at a place leads to into a list of structs.
+/// Turns the list of numbers `old`, which the pointer at `at` of segment `id` leads to, into a list
+/// of structs. Precondition: its words are inside their segment.
 fn remake_numbers<A: BuilderArena>(
     arena: &mut A,
     id: u32,
@@ -104,7 +106,7 @@ fn remake_numbers<A: BuilderArena>(
     })
 }
 
-/// Copies the numbers of a list into the first words of rows, `step` words apart.
+/// Copies the numbers of `old` into the words at `to` and every `step` words after it.
 fn copy_numbers<A: BuilderArena>(arena: &mut A, old: ExistingList, to: Start, step: u32)
     requires kind { (2 ≤ size_number old.size) × (size_number old.size ≤ 5) }
     requires inside { NumbersInside (A.view arena.old).words old }

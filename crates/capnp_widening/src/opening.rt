@@ -1,5 +1,5 @@
-//! Opens structs and lists of structs for writing, at least as large as requested ("Structs",
-//! "Lists").
+//! Opens structs and lists of structs for writing, with at least the requested size (encoding
+//! specification, "Structs" and "Lists").
 ghost use Rattle.std.specs.Prelude.{◌-◌, ◌≡◌, ◌+◌, ◌^◌, ◌≤◌, IsOk, Some, IfOk, OnOk, IfErr, OnErr};
 ghost use Rattle.capnp_format.specs.Forest.{target};
 ghost use Rattle.capnp_format.specs.Segments.{IsPlace, word_at};
@@ -23,13 +23,13 @@ use capnp_making::making::{Start, make_struct};
 use capnp_words::error::ErrorKind;
 use capnp_words::wire_pointer::StructSize;
 
-/// The struct that the pointer at a place leads to, with sections at least as large as requested: a
-/// new one, all zero, if the pointer is null, and a wider one if a section is too small. A struct
-/// that is large enough is returned unchanged.
+/// Returns the struct that the pointer at `at` of segment `id` leads to, with sections at least as
+/// large as in `size`. If the pointer is null, makes a new struct, all zero. If a section is too
+/// small, moves the struct to new words. Otherwise the struct is unchanged.
 ///
-/// Refusals: `MessageContainsNonStructPointerWhereStructPointerWasExpected` if it isn't a struct,
-/// and nothing is changed then; `AllocationFailed` or `MessageTooLarge`, and then what was there
-/// stays.
+/// Refusals: `MessageContainsNonStructPointerWhereStructPointerWasExpected` if the pointer leads to
+/// something else, and then nothing changes; the arena's `AllocationFailed` or `MessageTooLarge`,
+/// and then the old struct, or null, stays.
 #[inline(always)]
 pub fn open_struct<A: BuilderArena>(
     arena: &mut A,
@@ -77,7 +77,7 @@ pub fn open_struct<A: BuilderArena>(
     }
 }
 
-/// Makes a struct, all zero, in place of a null pointer.
+/// Makes a struct, all zero, for the pointer at `at` of segment `id`, which is null.
 #[inline(never)]
 fn new_struct<A: BuilderArena>(
     arena: &mut A,
@@ -109,8 +109,8 @@ fn new_struct<A: BuilderArena>(
     })
 }
 
-/// Widens a struct that is too small. Takes the struct's fields one by one, so that they are passed
-/// in registers.
+/// Widens the struct at `start`, whose sections `narrow` are too small for `size`. Takes `start`
+/// and `narrow` instead of an `ExistingStruct`, so that they are passed in registers.
 #[inline(never)]
 fn open_narrow_struct<A: BuilderArena>(
     arena: &mut A,
@@ -145,14 +145,15 @@ fn open_narrow_struct<A: BuilderArena>(
     widen_known(arena, place.segment, place.at, old, size)
 }
 
-/// The list that the pointer at a place leads to, as a list of structs with sections at least as
-/// large as `size`; `None` if the pointer is null, and nothing is changed then. A list of structs
-/// that are large enough is returned unchanged; any other list is turned into one of structs.
+/// Returns the list that the pointer at `at` of segment `id` leads to, as a list of structs with
+/// sections at least as large as in `size`. If the pointer is null, returns `None` and changes
+/// nothing. A list of structs that are large enough is unchanged; any other list is turned into a
+/// list of structs in new words.
 ///
-/// Refusals: `ExistingPointerIsNotAList` if it isn't a list,
-/// `FoundBitListWhereStructListWasExpected` for a list of bits, `MessageTooLarge` with the words of
-/// the elements if these would take 2^29 words or more, and nothing is changed then; any other
-/// `AllocationFailed` or `MessageTooLarge`, and then the old list stays.
+/// Refusals that change nothing: `ExistingPointerIsNotAList` if the pointer leads to something
+/// else; `FoundBitListWhereStructListWasExpected` for a list of bits; `MessageTooLarge` with the
+/// words of the new elements if these are 2^29 or more. Others are the arena's `AllocationFailed`
+/// or `MessageTooLarge`, and leave the old list.
 pub fn open_struct_list<A: BuilderArena>(
     arena: &mut A,
     id: u32,

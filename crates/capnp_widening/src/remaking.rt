@@ -1,4 +1,4 @@
-//! Makes lists of structs from the elements of other lists: copies their data words and moves their
+//! Makes lists of structs from the elements of old lists: copies their data words and moves their
 //! pointers, element by element.
 ghost use Rattle.std.specs.Prelude.{ℕ, ◌≡◌, ◌≢◌, ◌↔◌, ◌<◌, ◌≤◌, ◌+◌, ◌*◌, ◌^◌, IsTrue, length, IsOk, IfOk, OnOk, IfErr, OnErr};
 ghost use Rattle.capnp_arena_traits.specs.View.{KeepsLimits};
@@ -22,7 +22,7 @@ use capnp_making::zeroing::{zero_pads, zero_part};
 use capnp_words::error::ErrorKind;
 use capnp_words::wire_pointer::{ElementSize, StructSize, WirePointer};
 
-/// The elements of a list in rows of whole words.
+/// The elements of a list, in rows of whole words.
 #[derive(Clone, Copy)]
 pub struct ElementRows {
     /// The segment of the list.
@@ -37,7 +37,8 @@ pub struct ElementRows {
     pub count: u32,
 }
 
-/// Copies the first `words` words of each of `count` rows over those of other rows.
+/// Copies the first `words` words of each of the `count` rows of `from` over those of the rows of
+/// `to`.
 fn copy_rows<A: BuilderArena>(
     arena: &mut A,
     from: PointerRows,
@@ -74,7 +75,8 @@ fn copy_rows<A: BuilderArena>(
     }
 }
 
-/// Allocates words for a list of `count` structs, and writes its tag.
+/// Allocates words for a list of `count` structs, in segment `id` if they fit there, and writes its
+/// tag.
 pub(crate) fn begin_list<A: BuilderArena>(
     arena: &mut A,
     id: u32,
@@ -97,10 +99,11 @@ pub(crate) fn begin_list<A: BuilderArena>(
     Ok(room)
 }
 
-/// Copies the data words of elements into structs that are at least as large and all zero, and
-/// moves their pointers there.
+/// Copies the data words of the elements of `old` into structs of `size` from `first` on, which are
+/// all zero and at least as large, and moves the elements' pointers there.
 ///
-/// Refuses only if there is no memory for two words; no landing pad is left then.
+/// Refuses only if there is no memory for two words. Then the landing pads that it wrote are zeroed
+/// again.
 fn fill_rows<A: BuilderArena>(
     arena: &mut A,
     old: ElementRows,
@@ -170,9 +173,11 @@ fn fill_rows<A: BuilderArena>(
     }
 }
 
-/// Makes a list of structs from the elements of the list that the pointer at a place leads to.
+/// Makes a list of structs of `size` from the elements of `old`, which the pointer at `at` of
+/// segment `id` leads to.
 ///
-/// If the place stores that list, refuses only if memory runs out, and the old list stays then.
+/// If that place stores `old`, refuses only if memory runs out, and then leaves the old list
+/// unchanged.
 pub(crate) fn widen_rows<A: BuilderArena>(
     arena: &mut A,
     id: u32,
@@ -192,7 +197,7 @@ pub(crate) fn widen_rows<A: BuilderArena>(
     remake_rows(arena, id, at, old, size)
 }
 
-/// Whether the words of a list are inside their segment.
+/// Whether the words of `rows` are inside their segment.
 fn are_inside<A: BuilderArena>(arena: &A, rows: ElementRows) -> bool
     ensures { IsTrue result ↔ RowsInside (A.view arena.now).words rows }
 {
@@ -201,8 +206,8 @@ fn are_inside<A: BuilderArena>(arena: &A, rows: ElementRows) -> bool
     end <= u64::from(length_of(arena, rows.segment))
 }
 
-/// Makes a list of structs from the elements of another list. Precondition: the words of that are
-/// inside their segment.
+/// Makes a list of structs from the elements of `old`, like `widen_rows`. Precondition: the words
+/// of `old` are inside their segment.
 fn remake_rows<A: BuilderArena>(
     arena: &mut A,
     id: u32,

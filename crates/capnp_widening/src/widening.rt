@@ -1,6 +1,6 @@
 //! Widens structs and lists that are too small: allocates new words for the object, moves its
-//! pointers there, and finally overwrites the pointer to it. Until then the old object is
-//! unchanged, and a refusal leaves nothing but zeros.
+//! pointers there, and only then overwrites the pointer to it. Until then the old object is
+//! unchanged; after a refusal the new words are zero.
 ghost use Rattle.std.specs.Prelude.{ℕ, Some, ◌≡◌, ◌≢◌, ◌↔◌, ◌<◌, ◌≤◌, ◌+◌, ◌*◌, ◌^◌, max, List, IsTrue, length, IsOk, IfOk, OnOk, IfErr, OnErr};
 ghost use Rattle.capnp_arena_traits.specs.View.{KeepsLimits};
 ghost use Rattle.capnp_format.specs.Segments.{segment, IsPlace};
@@ -27,20 +27,21 @@ use capnp_making::zeroing::{zero_pads, zero_part};
 use capnp_words::error::ErrorKind;
 use capnp_words::wire_pointer::{StructSize, WirePointer};
 
-/// New words for an object.
+/// Words that are allocated for an object and its landing pad.
 #[derive(Clone, Copy)]
 pub struct Room {
     /// The segment of the words.
     pub segment: u32,
-    /// The position of the first word: of the object, or of its landing pad.
+    /// The position of the first of these words: of the landing pad if there is one, otherwise of
+    /// the object.
     pub at: u32,
-    /// The number of words of landing pads before the object: 0 in the segment of its pointer,
+    /// The number of words of the landing pad: 0 if the object is in the segment of its pointer,
     /// otherwise 1.
     pub pads: u32,
 }
 
-/// Allocates words for an object: after those of its pointer's segment if they fit there, otherwise
-/// after a landing pad of one word, where the arena finds room.
+/// Allocates `amount` words for an object whose pointer is in segment `id`: in that segment if they
+/// fit there, otherwise after a landing pad of one word, where the arena finds room.
 pub(crate) fn take<A: BuilderArena>(arena: &mut A, id: u32, amount: u32) -> Result<Room, ErrorKind>
     requires there { id < length (A.view arena.old).words }
     requires small { amount < 2 ^ 31 }
@@ -65,8 +66,8 @@ pub(crate) fn take<A: BuilderArena>(arena: &mut A, id: u32, amount: u32) -> Resu
     }
 }
 
-/// Copies consecutive words over others: one word by itself, which most data sections are, and more
-/// in one copy.
+/// Copies the `count` words from `from` on over those from `to` on. Most data sections are one
+/// word, which is copied by itself; more are copied in one call.
 #[inline(always)]
 pub(crate) fn copy_words<A: BuilderArena>(arena: &mut A, from: Start, to: Start, count: u32)
     requires inside { BothLieInside (A.view arena.old).words from to count }
@@ -81,7 +82,7 @@ pub(crate) fn copy_words<A: BuilderArena>(arena: &mut A, from: Start, to: Start,
     }
 }
 
-/// Copies consecutive words over others, in one copy.
+/// Copies the `count` words from `from` on over those from `to` on, in one call.
 #[inline(never)]
 fn copy_many<A: BuilderArena>(arena: &mut A, from: Start, to: Start, count: u32)
     requires { BothLieInside (A.view arena.old).words from to count }
@@ -98,7 +99,8 @@ fn copy_many<A: BuilderArena>(arena: &mut A, from: Start, to: Start, count: u32)
     arena.move_words(old, new, count);
 }
 
-/// Sets the pointer at a place to an object in `room`, and writes its landing pad, if any.
+/// Makes the pointer at `at` of segment `id` lead to the object in `room`, and writes its landing
+/// pad, if there is one.
 #[inline(always)]
 pub(crate) fn settle<A: BuilderArena>(arena: &mut A, id: u32, at: u32, room: Room, shape: Shape)
     requires place { IsPlace (A.view arena.old).words id at }
@@ -122,12 +124,12 @@ pub(crate) fn settle<A: BuilderArena>(arena: &mut A, id: u32, at: u32, room: Roo
     arena.set_word(id, at, far.0);
 }
 
-/// Widens the struct `old`, which the pointer at a place leads to, and which has a section that is
-/// too small: allocates new words for it, each section as large as the greater of old and wanted.
-/// Doesn't look for the struct again.
+/// Widens the struct `old`, which the pointer at `at` of segment `id` leads to, and which has a
+/// smaller section than `size`. Moves it to new words, in which each section has the larger one of
+/// its old size and that in `size`. Precondition: the caller has found `old` at that pointer.
 ///
-/// Refuses if there is no memory for its words or for a landing pad, or with `MessageTooLarge`; the
-/// old struct stays then.
+/// Refuses with `AllocationFailed` if there is no memory for its words or for a landing pad, or
+/// with `MessageTooLarge`. After a refusal the old struct is unchanged.
 pub(crate) fn widen_known<A: BuilderArena>(
     arena: &mut A,
     id: u32,
@@ -159,7 +161,7 @@ pub(crate) fn widen_known<A: BuilderArena>(
     widen_struct(arena, id, at, old, wide)
 }
 
-/// The size with each section as large as the greater of two.
+/// The size in which each section is as large as the larger one of `a` and `b`.
 pub(crate) fn greater_size(a: StructSize, b: StructSize) -> StructSize
     ensures data_words { result.data_words ≡ max a.data_words b.data_words }
     ensures pointers { result.pointers ≡ max a.pointers b.pointers }
@@ -177,7 +179,7 @@ fn greater(a: u16, b: u16) -> u16
     if a < b { b } else { a }
 }
 
-/// Whether both sections are at least as large as wanted.
+/// Whether both sections of `size` are at least as large as those of `wanted`.
 pub(crate) fn is_wide(size: StructSize, wanted: StructSize) -> bool
     ensures { IsTrue result
         ↔ ((wanted.data_words ≤ size.data_words) × (wanted.pointers ≤ size.pointers)) }
@@ -208,7 +210,8 @@ fn pointers_of(e: ExistingStruct) -> Start
     }
 }
 
-/// Moves the struct that the pointer at a place leads to, to new words of a larger size.
+/// Moves the struct `old`, which the pointer at `at` of segment `id` leads to, to new words of the
+/// larger `size`.
 fn widen_struct<A: BuilderArena>(
     arena: &mut A,
     id: u32,
