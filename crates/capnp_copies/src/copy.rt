@@ -1,8 +1,8 @@
 //! Copies a pointer's value into a message of any number of segments, plain or in canonical form
-//! ("Structs", "Lists", "Inter-Segment Pointers", "Canonicalization").
+//! (encoding specification, "Structs", "Lists", "Inter-Segment Pointers" and "Canonicalization").
 //!
 //! Makes each object before its children: in the segment of its pointer if it fits, otherwise after
-//! a landing pad. So the place holds a value at any time.
+//! a landing pad. So the pointer copied to leads to a value at any time.
 ghost use Rattle.std.specs.Prelude.{◌≡◌, ◌⊎◌, IfErr, OnOk, OnErr};
 ghost use Rattle.capnp_words.specs.declared.error.ErrorKind.TheVariants.{CannotCreateACanonicalMessageWithACapability, UnknownPointerType};
 ghost use Rattle.capnp_format.specs.Segments.{IsPlace};
@@ -43,8 +43,8 @@ use places::pointer_inside;
 pub use places::{place_behind, pointer_behind};
 pub use refusals::clear_refused;
 
-/// Copies a pointer's value to the null pointer at a place, plain or in canonical form, like
-/// `copy_in_form`.
+/// Copies the value of `from` to the null pointer at `to`, in canonical form if `canonicalize`,
+/// otherwise plain. Does what `copy_in_form` does.
 pub fn copy_value<A: BuilderArena, B: ReaderArena>(
     arena: &mut A,
     to: Start,
@@ -61,22 +61,22 @@ pub fn copy_value<A: BuilderArena, B: ReaderArena>(
     copy_in_form(arena, Destination { place: to, form }, from, lim)
 }
 
-/// Copies a pointer's value to the null pointer at a place, in a form: plain or canonical.
+/// Copies the value of `from` to the null pointer at `to.place`, in the form `to.form`.
 ///
-/// If all words of the copy fit the segment of the place, or the message has one segment
-/// afterwards, they come after that segment's words, in the canonical order of objects, and no
-/// other word changes except the pointer. In plain form, these are all words of the sections and
-/// elements; in canonical form, the trimmed ones.
+/// If all words of the copy fit the pointer's segment, or the message has one segment afterwards,
+/// they come after that segment's words, in the canonical order of objects, and no other word
+/// changes except the pointer. A plain copy has all words of the sections and elements; one in
+/// canonical form has those of the trimmed value.
 ///
-/// Takes at most as many words as reading the value costs (after a refusal: as reading it up to the
-/// object where the copy stops), plus one landing pad for each object for which the segment of its
-/// pointer had no room. This also holds without a budget, and if nothing is charged.
+/// Allocates at most as many words as reading the value costs, plus one landing pad for each object
+/// that has no room in its pointer's segment. If the copy is refused, the cost of reading up to the
+/// refused object counts. This also holds if `lim` has no limit, or nothing is charged.
 ///
-/// Refusals: the arena's `AllocationFailed` or `MessageTooLarge`, only if the words don't fit after
-/// those of the pointer's segment, and at an object whose words, together with all that was read
-/// before it, don't; for a capability that the form doesn't allow, the one that `CopyForm` states;
-/// a refusal to read, under its own name. After a refusal the pointer is null, the words that were
-/// allocated are zero, and the limiter keeps what was charged.
+/// Refusals: those of reading the value; for a capability that `to.form` doesn't allow, the one
+/// that `CopyForm` states; the arena's `AllocationFailed` or `MessageTooLarge`, only at an object
+/// whose words, together with all that was read before it, don't fit after those of the pointer's
+/// segment. After a refusal the pointer is null, the words that were allocated are zero, and what
+/// was charged to `lim` stays charged.
 pub fn copy_in_form<A: BuilderArena, B: ReaderArena>(
     arena: &mut A,
     to: Destination,
@@ -91,7 +91,7 @@ pub fn copy_in_form<A: BuilderArena, B: ReaderArena>(
     clear_refused(arena, to.place, copied)
 }
 
-/// Like `copy_in_form`, but leaves what it made if it is refused.
+/// Like `copy_in_form`, but if it is refused, leaves the objects that it made until then.
 #[cycle(copies)]
 #[inline(never)]
 fn copy_object<A: BuilderArena, B: ReaderArena>(
@@ -132,7 +132,8 @@ fn copy_object<A: BuilderArena, B: ReaderArena>(
     }
 }
 
-/// Copies a capability to a place, if the form allows one; otherwise changes nothing.
+/// Makes the pointer at `to.place` the capability with index `index`. If `to.form` doesn't allow
+/// one, refuses it and changes nothing.
 #[inline(always)]
 fn copy_capability<A: BuilderArena>(
     arena: &mut A,

@@ -1,4 +1,4 @@
-//! The forms of a copy ("Canonicalization").
+//! The forms of a copy (encoding specification, "Canonicalization").
 ghost use Rattle.std.specs.Prelude.{◌≡◌};
 ghost use Rattle.capnp_copies.specs.Forms.{form_of, form_in};
 
@@ -12,21 +12,21 @@ pub enum CopyForm {
     /// The canonical form of the value. Refuses a capability with
     /// `CannotCreateACanonicalMessageWithACapability`.
     Canonical,
-    /// The plain value of a default. Refuses a capability with `UnknownPointerType`.
+    /// The plain value of a field's default. Refuses a capability with `UnknownPointerType`.
     OfDefault,
 }
 
 /// Where a copy goes, and its form.
 #[derive(Clone, Copy)]
 pub struct Destination {
-    /// The place of the copy's pointer; for several, of the first.
+    /// The place of the pointer that is copied to; if several are, of the first one.
     pub place: Start,
     /// The form of the copy.
     pub form: CopyForm,
 }
 
 impl CopyForm {
-    /// The canonical form, or the plain one.
+    /// The canonical form if `canonicalize`, otherwise the plain one.
     pub fn of(canonicalize: bool) -> Self
         ensures { form_in result ≡ form_of canonicalize }
     {

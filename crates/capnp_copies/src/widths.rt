@@ -1,4 +1,5 @@
-//! How wide the elements of a list of structs have to be in canonical form ("Canonicalization").
+//! The sizes of the elements of a list of structs in canonical form (encoding specification,
+//! "Canonicalization").
 ghost use Rattle.std.specs.Prelude.{◌≡◌, ◌+◌, ◌*◌, ◌≤◌, length, max, take, drop};
 ghost use Rattle.capnp_format.specs.Bytes.{words_of};
 ghost use Rattle.capnp_format.specs.Canonical.{used_words};
@@ -16,8 +17,8 @@ pub struct StructList {
     pub size: StructSize,
 }
 
-/// The number of elements of a list of structs, and their sections: in the source, and in the copy,
-/// where no section is longer.
+/// The number of elements of a list of structs, and their sections in the source and in the copy.
+/// No section is longer in the copy.
 #[derive(Clone, Copy)]
 pub(crate) struct ElementSizes {
     /// The number of elements.
@@ -61,8 +62,8 @@ pub(crate) fn least_widths(bytes: &[u8], start: u32, count: u32, size: StructSiz
     }
 }
 
-/// The number of words, of the `n` from position `at` on, up to the last one that isn't zero, and
-/// at least `least`; only tests the words after the first `least`.
+/// Of the `n` words from position `at` on, the number up to the last one that isn't zero, but at
+/// least `least`. Only reads the words after the first `least`.
 #[tactic(auto, using(crate::proofs::Scanning::used_section))]
 fn widened(bytes: &[u8], at: usize, n: u16, least: u16) -> u16
     requires inside { 8 * (at + n) ≤ length bytes.now }

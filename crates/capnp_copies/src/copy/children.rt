@@ -22,8 +22,8 @@ use capnp_words::read_limiter::ReadLimiter;
 use capnp_words::wire_pointer::{WirePointer, WirePointerKind, flat_words, is_of_bits};
 use capnp_words::words::part;
 
-/// Copies the values of `count` consecutive pointers, from `from` on, to as many null pointers,
-/// from the destination's on.
+/// Copies the values of `count` consecutive pointers, from `from` on, to the `count` null pointers
+/// from `to.place` on.
 #[cycle(copies)]
 #[inline(always)]
 pub fn copy_children<A: BuilderArena, B: ReaderArena>(
@@ -44,8 +44,8 @@ pub fn copy_children<A: BuilderArena, B: ReaderArena>(
     copy_row(arena, to.place, from, count, lim, to.form)
 }
 
-/// Like `copy_children`, not inlined: each level of structs is a call of this, which takes a place
-/// and a form in registers.
+/// Like `copy_children`, but not inlined: it is called for each level of structs, and takes the
+/// place and the form of a `Destination` separately, so that they are passed in registers.
 #[cycle(copies)]
 #[inline(never)]
 fn copy_row<A: BuilderArena, B: ReaderArena>(
@@ -66,8 +66,8 @@ fn copy_row<A: BuilderArena, B: ReaderArena>(
     copy_in_line(arena, to, from, count, lim)
 }
 
-/// Like `copy_children`, inlined: the loop over a list calls nothing for pointers that are null or
-/// lead to bits or bytes, and a list in a list takes the stack of one call.
+/// Like `copy_children`, but inlined into the loops over lists: a pointer that is null or leads to
+/// bits or numbers takes no call, and a list in a list takes the stack of only one.
 #[cycle(copies)]
 #[inline(always)]
 pub(crate) fn copy_in_line<A: BuilderArena, B: ReaderArena>(
@@ -91,8 +91,9 @@ pub(crate) fn copy_in_line<A: BuilderArena, B: ReaderArena>(
     Ok(())
 }
 
-/// Copies a pointer's value to the null pointer at a place. Judges what is near and small only by
-/// its word, because passing an object through memory costs more than reading it.
+/// Copies the value of `from` to the null pointer at `to.place`. If the pointer isn't far, and
+/// leads to a struct or to a list of bits or numbers, uses only its word, and makes no `Object`,
+/// which would have to be written to memory.
 #[cycle(copies)]
 #[inline(always)]
 fn copy_child<A: BuilderArena, B: ReaderArena>(
@@ -119,7 +120,7 @@ fn copy_child<A: BuilderArena, B: ReaderArena>(
     }
 }
 
-/// Copies the struct that a near pointer leads to.
+/// Copies the struct that `from` leads to. `word` is the word of `from`, and not a far pointer.
 #[cycle(copies)]
 #[inline(always)]
 fn copy_near_struct<A: BuilderArena, B: ReaderArena>(
@@ -146,7 +147,8 @@ fn copy_near_struct<A: BuilderArena, B: ReaderArena>(
     copy_struct(arena, to, inner, word.struct_size(), lim)
 }
 
-/// Copies the list of bits or bytes that a near pointer leads to, which is the same in every form.
+/// Copies the list of bits or numbers that `from` leads to, which is the same in every form. `word`
+/// is the word of `from`, and not a far pointer.
 #[inline(always)]
 fn copy_near_flat<A: BuilderArena, B: ReaderArena>(
     arena: &mut A,
@@ -178,7 +180,7 @@ fn copy_near_flat<A: BuilderArena, B: ReaderArena>(
     copy_flat(arena, to, size, count, elements)
 }
 
-/// Whether `word` is the pointer to a list of bits or bytes in its own segment.
+/// Whether `word` is a pointer, not a far one, to a list of bits or numbers.
 fn is_list_of_bits(word: WirePointer) -> bool
     ensures { IsTrue result
         ↔ (kind word.0 ≡ 1) × (0 < element_size word.0) × (element_size word.0 ≤ 5) }

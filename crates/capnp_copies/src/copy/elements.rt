@@ -1,4 +1,5 @@
-//! Copies the elements of a list of structs ("Lists", "Canonicalization").
+//! Copies the elements of a list of structs (encoding specification, "Lists" and
+//! "Canonicalization").
 ghost use Rattle.std.specs.Prelude.{◌≡◌, ℕ, ◌+◌, ◌*◌, ◌<◌, ◌≤◌, length, IfOk, IfErr};
 ghost use Rattle.capnp_format.specs.Bytes.{words_of};
 ghost use Rattle.capnp_format.specs.Segments.{segment, word_at};
@@ -22,8 +23,8 @@ use capnp_words::error::ErrorKind;
 use capnp_words::read_limiter::ReadLimiter;
 use capnp_words::words::{count, part};
 
-/// Copies elements, whose first word is `from`, over zero words, each cut to the sections that are
-/// kept.
+/// Copies the elements of a list of structs, from the word `from` on, over zero words from
+/// `to.place` on. Cuts each to the sections `sizes.kept`.
 #[cycle(copies)]
 #[inline(always)]
 pub(crate) fn copy_elements<A: BuilderArena, B: ReaderArena>(
@@ -85,7 +86,7 @@ pub(crate) fn copy_elements<A: BuilderArena, B: ReaderArena>(
     Ok(())
 }
 
-/// Writes words over others, if there are any to write.
+/// Writes `words` over those of segment `id` from `at` on; nothing if there are none.
 pub fn put_words<A: BuilderArena>(arena: &mut A, id: u32, at: u32, words: &[u8])
     requires whole { length words.now ≡ 8 * length (words_of words.now) }
     requires inside { at + length (words_of words.now)

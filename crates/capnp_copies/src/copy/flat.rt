@@ -1,4 +1,5 @@
-//! Copies a list of numbers: its words, with zero padding ("Lists", "Canonicalization").
+//! Copies a list of numbers: its words, with zeros after the last number (encoding specification,
+//! "Lists" and "Canonicalization").
 ghost use Rattle.std.specs.Prelude.{◌≡◌, ◌+◌, ◌*◌, ◌/◌, ◌%◌, ◌<◌, ◌≤◌, ◌^◌, length, IsOk, OnOk, OnErr, IfErr, MatchResult};
 ghost use Rattle.capnp_format.specs.Bytes.{words_of};
 ghost use Rattle.capnp_format.specs.Numbers.{words_for, unpacked, digits, from_digits};
@@ -18,8 +19,8 @@ use capnp_words::error::ErrorKind;
 use capnp_words::wire_pointer::{ElementSize, data_bits_per_element};
 use capnp_words::words;
 
-/// Copies the `count` elements in these words, and sets the pointer at a place to the copies. If
-/// the arena refuses, no word changes.
+/// Copies a list of the `count` numbers in the words `elements`, and makes the pointer at `to` lead
+/// to the copy. If the arena refuses memory, no word changes.
 #[inline(always)]
 pub fn copy_flat<A: BuilderArena>(
     arena: &mut A,
@@ -57,7 +58,8 @@ pub fn copy_flat<A: BuilderArena>(
     Ok(())
 }
 
-/// Writes elements, of `bits` bits together, over words of a segment, with zero padding.
+/// Writes `elements`, of `bits` bits together, over the words of segment `id` from `start` on.
+/// Zeroes the bits after them in their last word.
 #[inline(always)]
 fn put_elements<A: BuilderArena>(arena: &mut A, id: u32, start: u32, elements: &[u8], bits: u64)
     requires whole { length elements.now ≡ 8 * length (words_of elements.now) }

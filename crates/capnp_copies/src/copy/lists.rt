@@ -1,4 +1,5 @@
-//! Copies lists of pointers and of structs ("Lists", "Canonicalization").
+//! Copies lists of pointers and of structs (encoding specification, "Lists" and
+//! "Canonicalization").
 ghost use Rattle.std.specs.Prelude.{◌≡◌, ◌+◌, ◌*◌, ◌<◌, ◌≤◌, ◌^◌, length};
 ghost use Rattle.capnp_objects.specs.Reading.{segment_read};
 ghost use Rattle.capnp_pointers.specs.Pointers.{reading};
@@ -19,7 +20,7 @@ use capnp_words::error::ErrorKind;
 use capnp_words::read_limiter::ReadLimiter;
 use capnp_words::wire_pointer::{ElementSize, StructSize};
 
-/// Copies a list of `count` pointers, from `from` on, to the pointer at a place.
+/// Copies the list of the `count` pointers from `from` on to the null pointer at `to.place`.
 #[cycle(copies)]
 #[inline(always)]
 pub fn copy_pointers<A: BuilderArena, B: ReaderArena>(
@@ -44,8 +45,9 @@ pub fn copy_pointers<A: BuilderArena, B: ReaderArena>(
     copy_in_line(arena, elements, from, count, lim)
 }
 
-/// Copies a list of structs, whose first word after the tag is `from`, to the pointer at a place.
-/// In canonical form the elements of the copy have the smallest sections that lose nothing.
+/// Copies the list of structs `list`, whose first element starts at `from`, to the null pointer at
+/// `to.place`. In canonical form the elements of the copy have the smallest sections that lose only
+/// zeros and null pointers.
 #[cycle(copies)]
 #[inline(always)]
 pub fn copy_structs<A: BuilderArena, B: ReaderArena>(
@@ -81,8 +83,8 @@ pub fn copy_structs<A: BuilderArena, B: ReaderArena>(
     copy_elements(arena, Destination { place, form }, from, sizes, lim)
 }
 
-/// The sections of each of `count` structs that a copy keeps, where `from` is the first word: in
-/// canonical form the smallest that lose nothing.
+/// The sections that a copy keeps of each of the `count` structs from `from` on: in plain form all
+/// of `size`, in canonical form the smallest that lose only zeros and null pointers.
 fn kept_widths<B: ReaderArena>(
     from: Pointer<'_, B>,
     size: StructSize,

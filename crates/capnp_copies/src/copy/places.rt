@@ -1,4 +1,4 @@
-//! Where a copy goes on from a pointer: to the pointers after it, and to those inside what it leads
+//! The next pointers of a copy: those after a pointer, and those inside the object that it leads
 //! to.
 ghost use Rattle.std.specs.Prelude.{◌≡◌, ◌+◌, ◌<◌, ◌^◌, pred};
 ghost use Rattle.capnp_objects.specs.Objects.{IsHeld};
@@ -37,7 +37,8 @@ pub fn place_behind(place: Start, words: u32) -> Start
     }
 }
 
-/// The pointers at a place that a pointer led to, one level further in.
+/// The pointer at `start`, which is inside the object that `from` leads to. Its nesting limit is
+/// one less than that of `from`.
 pub(super) fn pointer_inside<'a, B: ReaderArena>(
     from: Pointer<'a, B>,
     start: Place<'a>,

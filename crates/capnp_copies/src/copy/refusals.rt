@@ -1,4 +1,4 @@
-//! What a refused copy leaves.
+//! Clears what a refused copy has made.
 ghost use Rattle.std.specs.Prelude.{◌≡◌, OnErr};
 ghost use Rattle.capnp_format.specs.Segments.{IsPlace};
 ghost use Rattle.capnp_copies.specs.Rooms.{ClearsRefused};
@@ -8,8 +8,8 @@ use capnp_arena_traits::arena::BuilderArena;
 use capnp_making::making::{Start, clear};
 use capnp_words::error::ErrorKind;
 
-/// Ends a copy to a place, and returns the copy's outcome: after a refusal, makes the pointer there
-/// null, and zeroes what was made for it.
+/// Ends a copy to the pointer at `to`. If it was refused, makes that pointer null, and zeroes what
+/// was made for it. Returns `copied`.
 #[inline(always)]
 pub fn clear_refused<A: BuilderArena>(
     arena: &mut A,

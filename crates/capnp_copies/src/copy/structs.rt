@@ -1,4 +1,4 @@
-//! Copies a struct ("Structs", "Canonicalization").
+//! Copies a struct (encoding specification, "Structs" and "Canonicalization").
 ghost use Rattle.std.specs.Prelude.{◌≡◌, ◌+◌, ◌≤◌, length};
 ghost use Rattle.capnp_format.specs.Canonical.{used_words};
 ghost use Rattle.capnp_objects.specs.Reading.{segment_read, behind, words_from};
@@ -21,8 +21,8 @@ use capnp_words::read_limiter::ReadLimiter;
 use capnp_words::wire_pointer::StructSize;
 use capnp_words::words::{part, used_part};
 
-/// Copies a struct, whose first word is `from`, to the pointer at a place. In canonical form, drops
-/// the zeros and null pointers at the ends of its sections.
+/// Copies the struct whose first word is at `from` to the null pointer at `to.place`. In canonical
+/// form, drops the zeros and null pointers at the ends of its sections.
 #[cycle(copies)]
 #[inline(always)]
 pub(crate) fn copy_struct<A: BuilderArena, B: ReaderArena>(
@@ -63,8 +63,8 @@ pub(crate) fn copy_struct<A: BuilderArena, B: ReaderArena>(
     copy_children(arena, Destination { place, form }, children, pointers, lim)
 }
 
-/// The sections of a struct, whose first word is `from`, that a copy keeps: in canonical form the
-/// words of each up to the last one that isn't zero.
+/// The sections that a copy keeps of the struct whose first word is at `from`: in plain form all of
+/// `size`, in canonical form the words of each section up to the last one that isn't zero.
 #[inline(always)]
 fn kept_sections<B: ReaderArena>(
     from: Pointer<'_, B>,
@@ -85,7 +85,7 @@ fn kept_sections<B: ReaderArena>(
     }
 }
 
-/// The sections of a struct, whose first word is `from`, that are used: the words of each up to the
+/// The used part of each section of the struct whose first word is at `from`: the words up to the
 /// last one that isn't zero.
 #[inline(always)]
 fn used_sections<B: ReaderArena>(from: Pointer<'_, B>, size: StructSize) -> StructSize
