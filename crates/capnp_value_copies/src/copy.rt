@@ -1,4 +1,4 @@
-//! Copies a pointer's value, and a struct or a list being read.
+//! Copies structs, lists and consecutive pointers of a message being read.
 
 mod each;
 mod list_value;

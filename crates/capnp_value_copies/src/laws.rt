@@ -12,25 +12,26 @@ ghost use Rattle.capnp_copies.specs.Growth.{Makes, MakesAtMost, TakesAtMost};
 ghost use Rattle.capnp_copies.specs.Originals.{value_original};
 ghost use Rattle.capnp_value_copies.specs.StructValues.{section_words};
 
-/// A data section of whole words has the words of its bytes ("Structs").
+/// If a data section is whole words, its words are those of its bytes (encoding specification,
+/// "Structs").
 pub fn whole_sections()
     ensures { (d : ℕ) (bytes : List ℕ) → length bytes ≡ 8 * d
         → section_words (64 * d) bytes ≡ words_of bytes }
 {}
 
-/// The objects that a copy makes take exactly their words and their landing pads. There is no pad
-/// if their words fit the segment of their pointer, or the message has one segment afterwards
-/// ("Inter-Segment Pointers").
+/// A copy allocates exactly the words of the objects that it makes and of their landing pads. There
+/// is no landing pad if the words fit the segment of the pointer copied to, or the message has one
+/// segment afterwards ("Inter-Segment Pointers").
 pub fn pads_apart()
     ensures { (id words pads : ℕ) (old new : View) → Makes id old new words pads
         → (sum_by length new.words ≡ sum_by length old.words + (words + pads))
         × (id < length old.words → StayInSegment old new id words → pads ≡ 0) }
 {}
 
-/// Under a budget of x words a copy, complete or refused, takes at most x words without landing
-/// pads. It has at most x + 1 pads, each of an object in another segment than its pointer; it has
-/// none if x words have room in the segment of its pointer, or the message has one segment
-/// afterwards. It follows at most x + 1 pointers.
+/// With x words left in the limiter, a copy, complete or refused, allocates at most x words and at
+/// most x + 1 landing pads, each for an object in another segment than its pointer. There is no
+/// landing pad if x words fit the segment of the pointer copied to, or the message has one segment
+/// afterwards. The copy follows at most x + 1 pointers.
 pub fn few_taken()
     ensures { (r : Reading) (c : Change) (x : ℕ) (result : Result ⊤ ErrorKind)
         → r.charging ≡ true → c.before.left ≡ Some x → TakesAtMost result (value_original r) c
@@ -41,8 +42,8 @@ pub fn few_taken()
         × (c.after.followed ≤ c.before.followed + (x + 1)) }
 {}
 
-/// Under a budget of x words, with room for x words after those of the segment of its pointer, a
-/// copy is refused only by reading, whether its source can be read or not.
+/// If the limiter has x words left, and x words fit the segment of the pointer copied to, a copy is
+/// refused only with a refusal of reading its source, never for lack of memory.
 pub fn budget_has_room()
     ensures { (r : Reading) (c : Change) (x : ℕ) (k : ErrorKind)
         → r.charging ≡ true → c.before.left ≡ Some x → HasOwnRoom c.old c.segment x

@@ -1,4 +1,5 @@
-//! Copies a struct or a list being read, and consecutive pointers, into a message being built.
+//! Copies structs, lists and consecutive pointers of a message being read into a message being
+//! built.
 #![tactic(auto)]
 
 pub mod copy;

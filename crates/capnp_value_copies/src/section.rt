@@ -1,5 +1,5 @@
-//! The words of the data section of a struct being read. It may end inside a word, and inside a
-//! byte ("Structs").
+//! The words of the data section of a struct being read, which may end inside a word, and even
+//! inside a byte (encoding specification, "Structs").
 ghost use Rattle.std.specs.Prelude.{◌≡◌, ◌+◌, ◌*◌, ◌/◌, ◌%◌, ◌^◌, ◌≤◌, length, take, drop};
 ghost use Rattle.capnp_format.specs.Numbers.{from_digits};
 ghost use Rattle.capnp_format.specs.Segments.{segment};
@@ -14,8 +14,8 @@ use capnp_copies::copy::put_words;
 use capnp_making::making::Start;
 use capnp_words::words::{part, used_part};
 
-/// The number of words of a data section that a copy keeps: in canonical form those up to the last
-/// one that isn't zero.
+/// The number of words that a copy keeps of a data section: in plain form all, the last one filled
+/// up with zeros; in canonical form those up to the last one that isn't zero.
 pub(crate) fn kept_words(bytes: &[u8], bits: u32, canonicalize: bool) -> usize
     requires long { length bytes.now ≡ bytes_for bits }
     ensures { result ≡ kept_count (form_of canonicalize) (section_words bits bytes.now) }
@@ -30,7 +30,7 @@ pub(crate) fn kept_words(bytes: &[u8], bits: u32, canonicalize: bool) -> usize
     used_part(bytes, 0, whole)
 }
 
-/// Writes the first `kept` words of a data section over words of a segment.
+/// Writes the first `kept` words of a data section over the words from `to` on.
 pub(crate) fn put_section<A: BuilderArena>(
     arena: &mut A,
     to: Start,
@@ -58,7 +58,7 @@ pub(crate) fn put_section<A: BuilderArena>(
     arena.set_word(id, at + whole, last_word(bytes, bits));
 }
 
-/// The bits after the whole words of a data section as a number; 0 if there are none.
+/// The bits after the last whole word of a data section, as a number; 0 if there are none.
 fn last_word(bytes: &[u8], bits: u32) -> u64
     requires long { length bytes.now ≡ bytes_for bits }
     ensures { result ≡ from_digits 256 (drop (8 * (bits / 64)) bytes.now) % 2 ^ (bits % 64) }

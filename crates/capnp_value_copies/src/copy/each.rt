@@ -1,4 +1,4 @@
-//! Copies consecutive pointers; each is copied or stays null.
+//! Copies consecutive pointers, up to the first one that is refused.
 ghost use Rattle.std.specs.Prelude.{◌≡◌, ℕ, ◌+◌, ◌<◌, ◌≤◌, length, IsOk, IfOk, IfErr};
 ghost use Rattle.capnp_format.specs.Segments.{segment, word_at};
 ghost use Rattle.capnp_objects.specs.Reading.{segment_read};
@@ -17,12 +17,12 @@ use capnp_pointers::pointers::Pointer;
 use capnp_words::error::ErrorKind;
 use capnp_words::read_limiter::ReadLimiter;
 
-/// Makes plain copies of the values of `count` consecutive pointers, from `from` on, to as many
-/// null pointers of a segment, from the place on.
+/// Makes plain copies of the values of `count` consecutive pointers, from `from` on, to the `count`
+/// null pointers from `to` on.
 ///
 /// Refuses with the first refusal of `copy_value`. The pointers before the refused one are then
-/// copied, and it and those after it are null. Never refuses if all the pointers can be read and
-/// the words of their values fit after those of the segment.
+/// copied; the refused one and those after it are null. Never refuses if all the pointers can be
+/// read, and the words of their values fit after those of the segment of `to`.
 pub fn copy_each<A: BuilderArena, B: ReaderArena>(
     arena: &mut A,
     to: Start,

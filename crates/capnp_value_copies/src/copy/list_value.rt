@@ -1,4 +1,5 @@
-//! Copies a list being read, whose words the reader has ("Lists", "Canonicalization").
+//! Copies a list that a `ListReader` is at (encoding specification, "Lists" and
+//! "Canonicalization").
 ghost use Rattle.std.specs.Prelude.{◌+◌, ◌↔◌, IsTrue};
 ghost use Rattle.capnp_copies.specs.Changes.{change, IsNullPlace};
 ghost use Rattle.capnp_copies.specs.Rooms.{CopiesOrClears};
@@ -18,20 +19,21 @@ use capnp_words::error::ErrorKind;
 use capnp_words::read_limiter::ReadLimiter;
 use capnp_words::wire_pointer::{ElementSize, StructSize};
 
-/// Copies a list being read to the null pointer at a place, plain or in canonical form: a list of
-/// pointers, of structs, or of numbers with zero padding. Its own words and its count cost nothing;
-/// charges what reading the values of its elements costs.
+/// Copies the list `value` to the null pointer at `to`, in canonical form if `canonicalize`,
+/// otherwise plain. In both, zeros follow the last number of a list of numbers. Charges `lim` what
+/// reading the values of the list's pointers costs, and nothing for the list's own words and its
+/// number of elements.
 ///
-/// If all words of the copy fit the segment of the place, or the message has one segment
-/// afterwards, they come after that segment's words, in the canonical order of objects, and no
-/// other word changes except the pointer.
+/// If all words of the copy fit the pointer's segment, or the message has one segment afterwards,
+/// they come after that segment's words, in the canonical order of objects, and no other word
+/// changes except the pointer.
 ///
-/// Refusals: the arena's `AllocationFailed` or `MessageTooLarge`, only if the words don't fit after
-/// those of the pointer's segment; `CannotCreateACanonicalMessageWithACapability` for a capability
-/// in canonical form; a refusal to read, under its own name; `MessageTooLarge(usize::MAX)` for a
-/// list of more elements or words than a list pointer can state, which no message holds. After a
-/// refusal the pointer is null, the words that were allocated are zero, and the limiter keeps what
-/// was charged.
+/// Refusals: those of reading the values; `CannotCreateACanonicalMessageWithACapability` for a
+/// capability in canonical form; the arena's `AllocationFailed` or `MessageTooLarge`, only if the
+/// words don't fit after those of the pointer's segment; `MessageTooLarge(usize::MAX)` for a list
+/// of more elements or words than a list pointer can state, which no message holds. After a refusal
+/// the pointer is null, the words that were allocated are zero, and what was charged to `lim` stays
+/// charged.
 pub fn copy_list<A: BuilderArena, B: ReaderArena>(
     arena: &mut A,
     to: Start,
@@ -69,7 +71,7 @@ pub fn copy_list<A: BuilderArena, B: ReaderArena>(
     }
 }
 
-/// Whether a list pointer and its tag can state `count` elements.
+/// Whether a list pointer, and the tag of a list of structs, can have the number `count`.
 fn fits_list_pointer(size: ElementSize, sections: StructSize, count: u32) -> bool
     ensures { IsTrue result ↔ FitsListPointer size count (sections.data_words + sections.pointers) }
 {

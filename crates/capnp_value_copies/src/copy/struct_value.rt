@@ -1,4 +1,5 @@
-//! Copies a struct being read, whose sections may be apart ("Structs", "Canonicalization").
+//! Copies a struct that a `StructReader` is at (encoding specification, "Structs" and
+//! "Canonicalization").
 ghost use Rattle.std.specs.Prelude.{◌≡◌, ◌<◌, ◌^◌, IfOk, IfErr};
 ghost use Rattle.capnp_objects.specs.Reading.{words_from};
 ghost use Rattle.capnp_readers.specs.Sizes.{pointers_read};
@@ -21,19 +22,19 @@ use capnp_words::read_limiter::ReadLimiter;
 use capnp_words::wire_pointer::StructSize;
 use capnp_words::words::used_part;
 
-/// Copies a struct being read to the null pointer at a place, plain or in canonical form. Its data
-/// section is padded with zeros to whole words. Its own words cost nothing; charges what reading
-/// the values of its pointers costs.
+/// Copies the struct `value` to the null pointer at `to`, in canonical form if `canonicalize`,
+/// otherwise plain. Pads its data section with zeros to whole words. Charges `lim` what reading the
+/// values of its pointers costs, and nothing for the struct's own words.
 ///
-/// If all words of the copy fit the segment of the place, or the message has one segment
-/// afterwards, they come after that segment's words, in the canonical order of objects, and no
-/// other word changes except the pointer.
+/// If all words of the copy fit the pointer's segment, or the message has one segment afterwards,
+/// they come after that segment's words, in the canonical order of objects, and no other word
+/// changes except the pointer.
 ///
-/// Refusals: the arena's `AllocationFailed` or `MessageTooLarge`, only if the words don't fit after
-/// those of the pointer's segment; `CannotCreateACanonicalMessageWithACapability` for a capability
-/// in canonical form; a refusal to read, under its own name; `MessageTooLarge` with the number of
-/// data words if that is above 65535, and then nothing is charged. After a refusal the pointer is
-/// null, the words that were allocated are zero, and the limiter keeps what was charged.
+/// Refusals: those of reading the values; `CannotCreateACanonicalMessageWithACapability` for a
+/// capability in canonical form; the arena's `AllocationFailed` or `MessageTooLarge`, only if the
+/// words don't fit after those of the pointer's segment; `MessageTooLarge` with the number of data
+/// words if that is above 65535, and then nothing is charged. After a refusal the pointer is null,
+/// the words that were allocated are zero, and what was charged to `lim` stays charged.
 pub fn copy_struct_value<A: BuilderArena, B: ReaderArena>(
     arena: &mut A,
     to: Start,
@@ -65,10 +66,10 @@ pub fn copy_struct_value<A: BuilderArena, B: ReaderArena>(
     clear_refused(arena, to, copied)
 }
 
-/// The sections of a struct that a copy keeps: in canonical form the words of each up to the last
-/// one that isn't zero.
+/// The sections of `value` that a copy keeps: in plain form all words, in canonical form the words
+/// of each section up to the last one that isn't zero.
 ///
-/// Refuses more data words than a struct can have with `MessageTooLarge`.
+/// Refuses with `MessageTooLarge` if these are more data words than a struct can have.
 fn kept_sections<B: ReaderArena>(
     value: StructReader<'_, B>,
     canonicalize: bool,
