@@ -1,4 +1,5 @@
-//! Builders: places of a message being built, each with the message borrowed mutably.
+//! Builders: pointers, structs and lists of a message being built. Each borrows the message
+//! mutably.
 ghost use Rattle.std.specs.Prelude.{◌≡◌, ℕ, List, ◌↔◌, ◌∷◌, ◌++◌, [], ◌+◌, ◌-◌, ◌*◌, ◌^◌, ◌<◌, ◌≤◌, IsTrue, length, Ok, Err, IsOk, IfOk, IfErr, OnOk};
 ghost use Rattle.capnp_format.specs.Bytes.{message, words_of};
 ghost use Rattle.capnp_format.specs.Segments.{segment, word_at, IsPlace};
@@ -77,7 +78,8 @@ impl<'a, A: BuilderArena> PointerBuilder<'a, A> {
     ghost use Rattle.capnp_builders.specs.contracts.builders.PointerBuilder.{the_row};
     ghost use mir.Syntax.{named};
 
-    /// The root pointer of a message: word 0 of segment 0. Precondition: that word is allocated.
+    /// The root pointer of the message in `arena`: word 0 of segment 0. Precondition: that word is
+    /// allocated.
     pub fn get_root(arena: &'a mut A) -> Self
         requires { IsPlace (A.view arena.old).words 0 0 }
         ensures same { result.arena.ghost_name ≡ arena.entry.ghost_name }
@@ -91,7 +93,7 @@ impl<'a, A: BuilderArena> PointerBuilder<'a, A> {
         }
     }
 
-    /// A builder of this pointer, which borrows this one.
+    /// Another builder of this pointer, which borrows this one.
     pub fn reborrow(&mut self) -> PointerBuilder<'_, A>
         ensures* lends { sem 𝓛 (follows (the_row (record { mir = named 1; lft = [] }) A.row) A.row
             self.entry.ghost_name result.arena.ghost_name
@@ -105,7 +107,7 @@ impl<'a, A: BuilderArena> PointerBuilder<'a, A> {
         PointerBuilder { arena, segment, at }
     }
 
-    /// Whether the pointer is zero.
+    /// Whether the pointer is null.
     pub fn is_null(&self) -> bool
         requires { IsPlace (A.view self.now.arena.now).words self.now.segment self.now.at }
         ensures { IsTrue result
@@ -114,15 +116,15 @@ impl<'a, A: BuilderArena> PointerBuilder<'a, A> {
         words::word_at(segment_bytes(&*self.arena, self.segment), self.at as usize) == 0
     }
 
-    /// The pointer, for reading: charges nothing, and `i32::MAX` levels may be entered.
+    /// The pointer, for reading. Reading it charges nothing, and may enter `i32::MAX` levels.
     pub fn as_reader(&self) -> PointerReader<'_, A>
         ensures { IsPointerReader A.ReaderArena self.now result }
     {
         reader_at(&*self.arena, self.segment, self.at)
     }
 
-    /// The pointer, for reading once building is over: charges nothing, and `i32::MAX` levels may
-    /// be entered.
+    /// The pointer, for reading once building is over. Reading it charges nothing, and may enter
+    /// `i32::MAX` levels.
     pub fn into_reader(self) -> PointerReader<'a, A>
         ensures { IsPointerReader A.ReaderArena self.entry result }
     {
@@ -130,8 +132,8 @@ impl<'a, A: BuilderArena> PointerBuilder<'a, A> {
         reader_at(arena, segment, at)
     }
 
-    /// Makes the pointer null, and zeroes what it held: its object, all below it, and its landing
-    /// pads. These words stay allocated.
+    /// Makes the pointer null, and zeroes what it held: its object, all objects below it, and their
+    /// landing pads. These words stay allocated.
     pub fn clear(&mut self)
         requires { IsThere (built A.view self.old) }
         ensures cleared { Puts (A.view self.old.arena.now).words
@@ -145,7 +147,8 @@ impl<'a, A: BuilderArena> PointerBuilder<'a, A> {
         making::clear(&mut *self.arena, self.segment, self.at);
     }
 
-    /// Makes the pointer a capability with this index ("Capabilities (Interfaces)").
+    /// Makes the pointer the capability with index `index` (encoding specification, "Capabilities
+    /// (Interfaces)").
     pub fn set_capability(&mut self, index: u32)
         requires { IsThere (built A.view self.old) }
         ensures made { Puts (A.view self.old.arena.now).words
@@ -158,12 +161,12 @@ impl<'a, A: BuilderArena> PointerBuilder<'a, A> {
         initializing::set_capability(&mut *self.arena, self.segment, self.at, index);
     }
 
-    /// Makes the pointer lead to a new struct, all zero, and returns its place; `into_struct`
-    /// returns its builder. `init_struct` is made of both; this call's contract covers success and
-    /// refusal.
+    /// Makes the pointer lead to a new struct, all zero, and returns the struct's place;
+    /// `into_struct` makes a builder of that. It only borrows the pointer, so its contract states
+    /// what success and a refusal leave; `init_struct` does both steps.
     ///
-    /// Refusals: `AllocationFailed`, or `MessageTooLarge` with the struct's words plus one; the
-    /// pointer is null then.
+    /// Refusals: `AllocationFailed`, or `MessageTooLarge` with the struct's words plus one. After a
+    /// refusal the pointer is null.
     #[inline(always)]
     pub fn put_struct(&mut self, size: StructSize) -> Result<StructPlace, ErrorKind>
         requires { IsThere (built A.view self.old) }
@@ -189,7 +192,7 @@ impl<'a, A: BuilderArena> PointerBuilder<'a, A> {
         }
     }
 
-    /// The builder of a struct of the message.
+    /// The builder of the struct at `place` of the message.
     pub fn into_struct(self, place: StructPlace) -> StructBuilder<'a, A>
         requires { IsAligned place }
         ensures arena { IsSameArena self.entry.arena result.arena }
@@ -205,8 +208,8 @@ impl<'a, A: BuilderArena> PointerBuilder<'a, A> {
 
     /// Makes the pointer lead to a new struct, all zero.
     ///
-    /// Refusals: `AllocationFailed`, or `MessageTooLarge` with the struct's words plus one; the
-    /// pointer is null then (`put_struct` states what else holds).
+    /// Refusals: `AllocationFailed`, or `MessageTooLarge` with the struct's words plus one. After a
+    /// refusal the pointer is null; the contract of `put_struct` states what else holds.
     #[inline(always)]
     pub fn init_struct(mut self, size: StructSize) -> Result<StructBuilder<'a, A>, ErrorKind>
         requires { IsThere (built A.view self) }
@@ -226,11 +229,12 @@ impl<'a, A: BuilderArena> PointerBuilder<'a, A> {
     }
 
     /// Makes the pointer lead to a new list of `count` elements that aren't structs, all zero or
-    /// null, and returns its place; `into_list` returns its builder. `init_list` is made of both;
-    /// this call's contract covers success and refusal.
+    /// null, and returns the list's place; `into_list` makes a builder of that. It only borrows the
+    /// pointer, so its contract states what success and a refusal leave; `init_list` does both
+    /// steps.
     ///
-    /// Refusals: `AllocationFailed`, or `MessageTooLarge` with the list's words plus one; the
-    /// pointer is null then.
+    /// Refusals: `AllocationFailed`, or `MessageTooLarge` with the list's words plus one. After a
+    /// refusal the pointer is null.
     #[inline(always)]
     pub fn put_list(&mut self, size: ElementSize, count: u32) -> Result<ListPlace, ErrorKind>
         requires there { IsThere (built A.view self.old) }
@@ -254,7 +258,7 @@ impl<'a, A: BuilderArena> PointerBuilder<'a, A> {
         })
     }
 
-    /// The builder of a list of the message.
+    /// The builder of the list at `place` of the message.
     pub fn into_list(self, place: ListPlace) -> ListBuilder<'a, A>
         ensures arena { IsSameArena self.entry.arena result.arena }
         ensures place { result.place ≡ place }
@@ -270,8 +274,8 @@ impl<'a, A: BuilderArena> PointerBuilder<'a, A> {
     /// Makes the pointer lead to a new list of `count` elements that aren't structs, all zero or
     /// null.
     ///
-    /// Refusals: `AllocationFailed`, or `MessageTooLarge` with the list's words plus one; the
-    /// pointer is null then (`put_list` states what else holds).
+    /// Refusals: `AllocationFailed`, or `MessageTooLarge` with the list's words plus one. After a
+    /// refusal the pointer is null; the contract of `put_list` states what else holds.
     #[inline(always)]
     pub fn init_list(
         mut self,
@@ -296,12 +300,12 @@ impl<'a, A: BuilderArena> PointerBuilder<'a, A> {
         Ok(self.into_list(place))
     }
 
-    /// Makes the pointer lead to a new list of `count` structs, all zero, and returns its place;
-    /// `into_list` returns its builder. `init_struct_list` is made of both; this call's contract
-    /// covers success and refusal.
+    /// Makes the pointer lead to a new list of `count` structs, all zero, and returns the list's
+    /// place; `into_list` makes a builder of that. It only borrows the pointer, so its contract
+    /// states what success and a refusal leave; `init_struct_list` does both steps.
     ///
     /// Refusals: `AllocationFailed`, or `MessageTooLarge` with the words of the structs and the tag
-    /// plus one; the pointer is null then.
+    /// plus one. After a refusal the pointer is null.
     pub fn put_struct_list(&mut self, count: u32, size: StructSize) -> Result<ListPlace, ErrorKind>
         requires there { IsThere (built A.view self.old) }
         requires few { count < 2 ^ 30 }
@@ -331,7 +335,8 @@ impl<'a, A: BuilderArena> PointerBuilder<'a, A> {
     /// Makes the pointer lead to a new list of `count` structs, all zero.
     ///
     /// Refusals: `AllocationFailed`, or `MessageTooLarge` with the words of the structs and the tag
-    /// plus one; the pointer is null then (`put_struct_list` states what else holds).
+    /// plus one. After a refusal the pointer is null; the contract of `put_struct_list` states what
+    /// else holds.
     pub fn init_struct_list(
         mut self,
         count: u32,
@@ -352,7 +357,7 @@ impl<'a, A: BuilderArena> PointerBuilder<'a, A> {
         Ok(self.into_list(place))
     }
 
-    /// Lends bytes of the message, for writing in place; nothing else changes.
+    /// Lends `bytes` of the message, for writing in place; nothing else changes.
     pub fn bytes_mut(&mut self, bytes: ExistingBytes) -> &mut [u8]
         requires there { bytes.segment < length (A.view self.old.arena.now).words }
         requires inside { AreInside (A.view self.old.arena.now).words bytes }
@@ -376,9 +381,9 @@ impl<'a, A: BuilderArena> PointerBuilder<'a, A> {
     /// Makes the pointer lead to new data of `size` bytes, all zero, and lends them for writing in
     /// place ("Lists").
     ///
-    /// Refusals: `AllocationFailed`, or `MessageTooLarge` with the list's words plus one; the
-    /// pointer is null then. `put_list` and `bytes_mut` do the same in two steps, and their
-    /// contracts state what the message is once the bytes are written.
+    /// Refusals: `AllocationFailed`, or `MessageTooLarge` with the list's words plus one. After a
+    /// refusal the pointer is null. `put_list` followed by `bytes_mut` does the same; their
+    /// contracts also state what the message is once the bytes are written.
     pub fn init_data(self, size: u32) -> Result<&'a mut [u8], ErrorKind>
         requires there { IsThere (built A.view self) }
         requires few { size < 2 ^ 29 }
@@ -395,9 +400,9 @@ impl<'a, A: BuilderArena> PointerBuilder<'a, A> {
     /// Makes the pointer lead to a new text of `size` bytes, all zero, and lends them for writing
     /// in place, without the zero byte after them ("Lists").
     ///
-    /// Refusals: `AllocationFailed`, or `MessageTooLarge` with the list's words plus one; the
-    /// pointer is null then. `put_list` and `bytes_mut` do the same in two steps, and their
-    /// contracts state what the message is once the bytes are written.
+    /// Refusals: `AllocationFailed`, or `MessageTooLarge` with the list's words plus one. After a
+    /// refusal the pointer is null. `put_list` followed by `bytes_mut` does the same; their
+    /// contracts also state what the message is once the bytes are written.
     pub fn init_text(self, size: u32) -> Result<&'a mut [u8], ErrorKind>
         requires there { IsThere (built A.view self) }
         requires few { size + 1 < 2 ^ 29 }
@@ -411,10 +416,10 @@ impl<'a, A: BuilderArena> PointerBuilder<'a, A> {
         lent::init_text(arena, segment, at, size)
     }
 
-    /// Makes the pointer lead to new data with these bytes ("Lists").
+    /// Makes the pointer lead to new data with the bytes `bytes` ("Lists").
     ///
-    /// Refusals: `AllocationFailed`, or `MessageTooLarge` with the words of the bytes plus one; the
-    /// pointer is null then.
+    /// Refusals: `AllocationFailed`, or `MessageTooLarge` with the words of the bytes plus one.
+    /// After a refusal the pointer is null.
     #[inline(always)]
     pub fn set_data(&mut self, bytes: &[u8]) -> Result<(), ErrorKind>
         requires there { IsThere (built A.view self.old) }
@@ -428,11 +433,10 @@ impl<'a, A: BuilderArena> PointerBuilder<'a, A> {
         bytes::set_data(&mut *self.arena, self.segment, self.at, bytes)
     }
 
-    /// Makes the pointer lead to a new text: a list of these bytes followed by a zero byte
-    /// ("Lists").
+    /// Makes the pointer lead to a new text: the bytes `bytes`, followed by a zero byte ("Lists").
     ///
-    /// Refusals: `AllocationFailed`, or `MessageTooLarge` with the words of the bytes plus one; the
-    /// pointer is null then.
+    /// Refusals: `AllocationFailed`, or `MessageTooLarge` with the words of the bytes plus one.
+    /// After a refusal the pointer is null.
     #[inline(always)]
     pub fn set_text(&mut self, bytes: &[u8]) -> Result<(), ErrorKind>
         requires there { IsThere (built A.view self.old) }
@@ -444,10 +448,10 @@ impl<'a, A: BuilderArena> PointerBuilder<'a, A> {
         bytes::set_text(&mut *self.arena, self.segment, self.at, bytes)
     }
 
-    /// The capability that the pointer is, by its index ("Capabilities (Interfaces)"). Doesn't
+    /// The index of the capability that the pointer is ("Capabilities (Interfaces)"). Doesn't
     /// follow far pointers.
     ///
-    /// Refusals: `MessageContainsNullCapabilityPointer` if it is null;
+    /// Refusals: `MessageContainsNullCapabilityPointer` if the pointer is null;
     /// `MessageContainsNonCapabilityPointerWhereCapabilityPointerWasExpected` for any other
     /// pointer.
     pub fn get_capability(&self) -> Result<u32, ErrorKind>
@@ -458,23 +462,26 @@ impl<'a, A: BuilderArena> PointerBuilder<'a, A> {
         existing::get_capability(&*self.arena, self.segment, self.at)
     }
 
-    /// Copies the value of `from` to this pointer, plain or in canonical form ("Canonicalization").
-    /// Charges what reading all of it costs.
+    /// Copies the value of `from` to this pointer, in canonical form if `canonicalize`, otherwise
+    /// plain ("Canonicalization"). Charges `lim` what reading the whole value costs.
     ///
-    /// First zeroes what the pointer held; those words stay allocated. If the copy fits, or the
-    /// message has one segment afterwards, its words come after those of the pointer's segment, in
-    /// the canonical order of objects: all words of the sections and elements in a plain copy, the
-    /// trimmed ones in canonical form. Otherwise it takes as many segments as it needs.
+    /// First zeroes what the pointer held; those words stay allocated. If the copy fits the
+    /// pointer's segment, or the message has one segment afterwards, its words come after those of
+    /// that segment, in the canonical order of objects. Otherwise it is in as many segments as it
+    /// needs. A plain copy has all words of the sections and elements; one in canonical form has
+    /// those of the trimmed value.
     ///
     /// Refusals: the first one of reading `from`; `CannotCreateACanonicalMessageWithACapability`
-    /// for a capability in canonical form; if an object finds no room, `AllocationFailed`, or
-    /// `MessageTooLarge` with its words plus one, which happens only if the words don't fit the
-    /// segment.
+    /// for a capability in canonical form; if the words don't fit the pointer's segment, and an
+    /// object finds no room elsewhere, `AllocationFailed`, or `MessageTooLarge` with that object's
+    /// words plus one.
     ///
-    /// After a refusal the pointer is null, the words taken are zero and stay allocated, and what
-    /// was charged stays charged. Takes at most as many words as reading the value costs (after a
-    /// refusal: as reading it up to the object that failed), plus one landing pad for each object
-    /// for which the segment of its pointer had no room.
+    /// After a refusal the pointer is null, the words that were allocated are zero and stay
+    /// allocated, and what was charged stays charged.
+    ///
+    /// Allocates at most as many words as reading the value costs, plus one landing pad for each
+    /// object that has no room in its pointer's segment. If the copy is refused, the cost of
+    /// reading up to the refused object counts.
     pub fn copy_from<B: ReaderArena>(
         &mut self,
         from: PointerReader<'_, B>,
@@ -519,23 +526,23 @@ impl<'a, A: BuilderArena> PointerBuilder<'a, A> {
         copy::copy_value(&mut *self.arena, to, value, lim, canonicalize)
     }
 
-    /// Copies a struct being read to this pointer: plain, its data section padded with zeros to
-    /// whole words, or in canonical form ("Structs", "Canonicalization"). The struct's own words
-    /// cost nothing; charges what reading the values of its pointers costs, within the reader's
-    /// nesting limit.
+    /// Copies the struct `value` to this pointer, in canonical form if `canonicalize`, otherwise
+    /// plain ("Structs", "Canonicalization"). Pads its data section with zeros to whole words.
+    /// Charges `lim` what reading the values of its pointers costs, and nothing for the struct's
+    /// own words; the nesting limit is that of `value`.
     ///
-    /// First zeroes what the pointer held. If the copy fits, or the message has one segment
-    /// afterwards, its words come after those of the pointer's segment, in the canonical order of
-    /// objects.
+    /// First zeroes what the pointer held. If the copy fits the pointer's segment, or the message
+    /// has one segment afterwards, its words come after those of that segment, in the canonical
+    /// order of objects.
     ///
-    /// Refusals: the first one of reading what the pointers mean; if the words don't fit there,
-    /// `AllocationFailed`, or `MessageTooLarge` with an object's words plus one;
+    /// Refusals: the first one of reading the values of the pointers; if the words don't fit the
+    /// pointer's segment, `AllocationFailed`, or `MessageTooLarge` with an object's words plus one;
     /// `CannotCreateACanonicalMessageWithACapability` for a capability in canonical form;
-    /// `MessageTooLarge` with the number of data words to keep if that is above 65535, and then
+    /// `MessageTooLarge` with the number of data words to copy if that is above 65535, and then
     /// nothing is charged.
     ///
-    /// After a refusal the pointer is null, the words taken are zero and stay allocated, and what
-    /// was charged stays charged.
+    /// After a refusal the pointer is null, the words that were allocated are zero and stay
+    /// allocated, and what was charged stays charged.
     pub fn set_struct<B: ReaderArena>(
         &mut self,
         value: &StructReader<'_, B>,
@@ -564,23 +571,23 @@ impl<'a, A: BuilderArena> PointerBuilder<'a, A> {
         copy::copy_struct_value(&mut *self.arena, to, *value, lim, canonicalize)
     }
 
-    /// Copies a list being read to this pointer, plain or in canonical form ("Lists",
-    /// "Canonicalization"): pointers as pointers, structs as structs, and numbers as their words,
-    /// with zero padding. The list's own words and its count cost nothing; charges what reading the
-    /// values of its elements costs, within the reader's nesting limit.
+    /// Copies the list `value` to this pointer, in canonical form if `canonicalize`, otherwise
+    /// plain ("Lists", "Canonicalization"). In both, zeros follow the last number of a list of
+    /// numbers. Charges `lim` what reading the values of the list's pointers costs, and nothing for
+    /// the list's own words and its number of elements; the nesting limit is that of `value`.
     ///
-    /// First zeroes what the pointer held. If the copy fits, or the message has one segment
-    /// afterwards, its words come after those of the pointer's segment, in the canonical order of
-    /// objects.
+    /// First zeroes what the pointer held. If the copy fits the pointer's segment, or the message
+    /// has one segment afterwards, its words come after those of that segment, in the canonical
+    /// order of objects.
     ///
-    /// Refusals: the first one of reading what the elements lead to; if the words don't fit there,
-    /// `AllocationFailed`, or `MessageTooLarge` with an object's words plus one;
-    /// `CannotCreateACanonicalMessageWithACapability` for a capability in canonical form;
+    /// Refusals: the first one of reading the values of the list's pointers; if the words don't fit
+    /// the pointer's segment, `AllocationFailed`, or `MessageTooLarge` with an object's words plus
+    /// one; `CannotCreateACanonicalMessageWithACapability` for a capability in canonical form;
     /// `MessageTooLarge(usize::MAX)` for a list of more elements or words than a list pointer can
     /// state, which no message holds.
     ///
-    /// After a refusal the pointer is null, the words taken are zero and stay allocated, and what
-    /// was charged stays charged.
+    /// After a refusal the pointer is null, the words that were allocated are zero and stay
+    /// allocated, and what was charged stays charged.
     pub fn set_list<B: ReaderArena>(
         &mut self,
         value: &ListReader<'_, B>,
@@ -610,7 +617,7 @@ impl<'a, A: BuilderArena> PointerBuilder<'a, A> {
     }
 }
 
-/// The words of segment `id`; none if there is no such segment.
+/// The bytes of segment `id`; none if there is no such segment.
 fn segment_bytes<A: ReaderArena>(arena: &A, id: u32) -> &[u8]
     ensures words { words_of result.now ≡ segment (message (A.segments arena.now)) id }
     ensures whole { length result.now ≡ 8 * length (segment (message (A.segments arena.now)) id) }
@@ -622,7 +629,7 @@ fn segment_bytes<A: ReaderArena>(arena: &A, id: u32) -> &[u8]
     }
 }
 
-/// A pointer of an arena, for reading.
+/// The pointer at `at` of segment `segment`, for reading.
 fn reader_at<A: ReaderArena>(arena: &A, segment: u32, at: u32) -> PointerReader<'_, A>
     ensures reads { IsArenaOf result.source arena.now }
     ensures place { (result.place.segment ≡ segment) × (result.place.at ≡ at) }

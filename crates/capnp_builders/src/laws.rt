@@ -13,9 +13,10 @@ ghost use Rattle.capnp_widening.specs.Opening.{existing_struct};
 ghost use Rattle.capnp_builders.specs.Content.{TakesBytes, HoldContent, up_to};
 ghost use Rattle.capnp_builders.specs.Places.{struct_place};
 
-/// If the data of the content and its pointers are copied, the pointer that leads to the struct
-/// stores one struct: its data words are those of the content, its children the copies, followed by
-/// nulls. It starts where it did, and nothing else of the message is changed ("Structs").
+/// If `copy_content_from` copies the data of another struct and all the pointers, the place that
+/// stored the struct then stores one with the data copied and the copies as its children, followed
+/// by zeros and null pointers. It starts where the old one did, and nothing else of the message is
+/// changed (encoding specification, "Structs").
 pub fn content_taken()
     ensures { (S M R : Segments) (s p : ℕ) (ws : List ℕ) (ts us : Trees) (place : StructPlace)
         (bits : ℕ) (bytes : List ℕ) → IsStored S s p (Struct ws ts)
@@ -28,8 +29,8 @@ pub fn content_taken()
         × (target R s p ≡ target S s p) }
 {}
 
-/// If the copy of a pointer is refused, which leaves it null, the struct is stored with the copies
-/// made before, followed by nulls.
+/// If the copy of a pointer is refused, which leaves it null, the place stores a struct with the
+/// data copied and the copies made before it, followed by zeros and null pointers.
 pub fn content_stopped()
     ensures { (S M F R : Segments) (s p : ℕ) (ws : List ℕ) (ts us : Trees) (place : StructPlace)
         (bits : ℕ) (bytes : List ℕ) → IsStored S s p (Struct ws ts)
@@ -43,9 +44,9 @@ pub fn content_stopped()
         × (target R s p ≡ target S s p) }
 {}
 
-/// If an element of a list of structs takes content and the pointers are copied, the pointer that
-/// leads to the list stores it with that element, which has the content, and nothing else of the
-/// message is changed ("Lists").
+/// If `copy_content_from` copies the data of another struct and all the pointers to an element of a
+/// list of structs, the place that stored the list then stores it with that content in the element,
+/// and nothing else of the message is changed ("Lists").
 pub fn element_content_taken()
     ensures { (S M R : Segments) (s p d q : ℕ) (es : Elements) (i : ℕ) (ws : List ℕ)
         (ts us : Trees) (place : StructPlace) (bits : ℕ) (bytes : List ℕ)
@@ -62,8 +63,8 @@ pub fn element_content_taken()
         (Structs d q (put_struct es i (Struct vs (up_to q us)))) }
 {}
 
-/// If the copy of a pointer of the element is refused, the pointer that leads to the list stores it
-/// with that element, which has the copies made before, followed by nulls.
+/// If the copy of a pointer of the element is refused, the place stores the list with an element
+/// that has the data copied and the copies made before it, followed by zeros and null pointers.
 pub fn element_content_stopped()
     ensures { (S M F R : Segments) (s p d q : ℕ) (es : Elements) (i : ℕ) (ws : List ℕ)
         (ts us : Trees) (place : StructPlace) (bits : ℕ) (bytes : List ℕ)

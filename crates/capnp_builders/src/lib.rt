@@ -1,4 +1,4 @@
-//! Builders: places of a message being built.
+//! Builders: pointers, structs and lists of a message being built.
 #![tactic(auto)]
 
 pub mod builders;

@@ -1,4 +1,5 @@
-//! Writes the data section of a struct from other content, and clears its pointers ("Structs").
+//! Overwrites the data section of a struct with that of another, and clears the struct's pointers
+//! (encoding specification, "Structs").
 ghost use Rattle.std.specs.Prelude.{◌≡◌, ℕ, ◌+◌, ◌*◌, ◌/◌, ◌%◌, ◌^◌, ◌<◌, ◌≤◌, length, slice_index};
 ghost use Rattle.capnp_arena_traits.specs.View.{KeepsLimits};
 ghost use Rattle.capnp_format.specs.Segments.{segment, word_at};
@@ -13,8 +14,8 @@ use capnp_making::making::clear;
 use capnp_readers::readers::StructPlace;
 use capnp_words::lanes;
 
-/// Writes content of `bits` bits over the data section of a struct, and zeros where the content
-/// ends.
+/// Writes the `bits` bits of data in `bytes` over the data section of the struct at `place`. Leaves
+/// out bits that don't fit the section; if the section is longer, zeroes its rest.
 pub(crate) fn write_content<A: BuilderArena>(
     arena: &mut A,
     place: StructPlace,
@@ -37,7 +38,8 @@ pub(crate) fn write_content<A: BuilderArena>(
     }
 }
 
-/// Clears `count` consecutive pointers: makes each null, and zeroes what it held.
+/// Clears `count` consecutive pointers from `at` of segment `id` on: makes each null, and zeroes
+/// what it held.
 pub(crate) fn clear_pointers<A: BuilderArena>(arena: &mut A, id: u32, at: u32, count: u16)
     requires room { at + count ≤ length (segment (A.view arena.old).words id) }
     ensures cleared { AreCleared (A.view arena.old).words (A.view arena.new).words id at count }
@@ -50,7 +52,7 @@ pub(crate) fn clear_pointers<A: BuilderArena>(arena: &mut A, id: u32, at: u32, c
     }
 }
 
-/// Writes content of `bits` bits over the whole bytes of the data section of a struct.
+/// Does what `write_content` does, for the whole bytes of the data section.
 fn write_bytes<A: BuilderArena>(arena: &mut A, place: StructPlace, bytes: &[u8], bits: u32)
     requires inside { IsStructPlace (A.view arena.old).words place }
     requires long { length bytes.now ≡ bytes_for bits }
@@ -73,7 +75,7 @@ fn write_bytes<A: BuilderArena>(arena: &mut A, place: StructPlace, bytes: &[u8],
     }
 }
 
-/// Writes bytes over as many of a segment.
+/// Writes the bytes of `from` over those of segment `id` from byte `start` on.
 fn copy_bytes<A: BuilderArena>(arena: &mut A, id: u32, start: u64, from: &[u8])
     requires inside { start + length from.now ≤ 8 * length (segment (A.view arena.old).words id) }
     ensures { A.view arena.new
@@ -90,7 +92,7 @@ fn copy_bytes<A: BuilderArena>(arena: &mut A, id: u32, start: u64, from: &[u8])
     }
 }
 
-/// Zeroes `count` bytes of a segment.
+/// Zeroes `count` bytes of segment `id` from byte `start` on.
 fn zero_bytes<A: BuilderArena>(arena: &mut A, id: u32, start: u64, count: u32)
     requires inside { start + count ≤ 8 * length (segment (A.view arena.old).words id) }
     ensures { A.view arena.new
@@ -107,7 +109,7 @@ fn zero_bytes<A: BuilderArena>(arena: &mut A, id: u32, start: u64, count: u32)
     }
 }
 
-/// Writes the lowest `count` bits of `byte` over bits of a segment.
+/// Writes the lowest `count` bits of `byte` over those of segment `id` from bit `start` on.
 fn write_bits<A: BuilderArena>(arena: &mut A, id: u32, start: u64, count: u32, byte: u8)
     requires inside { start + count ≤ 64 * length (segment (A.view arena.old).words id) }
     requires few { count < 8 }
@@ -122,7 +124,7 @@ fn write_bits<A: BuilderArena>(arena: &mut A, id: u32, start: u64, count: u32, b
     }
 }
 
-/// Byte `index` of content of `bits` bits; 0 after its end.
+/// Byte `index` of the `bits` bits of data in `bytes`; bits after their end are 0.
 fn byte_of(bytes: &[u8], bits: u32, index: u32) -> u8
     requires long { length bytes.now ≡ bytes_for bits }
     ensures { result ≡ content_byte bits bytes.now index }

@@ -1,4 +1,5 @@
-//! Defaults, which are copied in place of null pointers ("Default Values").
+//! Replaces null pointers by copies of a field's default value (encoding specification, "Default
+//! Values").
 ghost use Rattle.std.specs.Prelude.{◌≡◌, ◌↔◌, ◌/◌, ◌^◌, ◌<◌, ◌≤◌, length, IsTrue, IsNone, IsOk, IfErr, OnOk, IsSomeAnd, Some, slice_get};
 ghost use Rattle.capnp_format.specs.Bytes.{words_of};
 ghost use Rattle.capnp_format.specs.Segments.{IsPlace};
@@ -18,14 +19,15 @@ use capnp_words::error::ErrorKind;
 use capnp_words::read_limiter::ReadLimiter;
 use capnp_words::words;
 
-/// Makes a plain copy of a default's value at a null pointer ("Default Values"). Precondition: the
-/// default has a first word, and fewer than 2^32 words.
+/// Copies the value of `default`, plain, to the null pointer at `at` of segment `id` ("Default
+/// Values"). The pointer of `default` is its first word. Preconditions: `default` has that word,
+/// and fewer than 2^32 words.
 ///
-/// Charges nothing; `i32::MAX` levels may be entered. Refusals: `UnknownPointerType` for a
-/// capability; `TriedToReadFromNullArena` for a far pointer; any other fault's own name; if the
-/// words don't fit after those of the pointer's segment, and only then, the arena's
-/// `AllocationFailed` or `MessageTooLarge`. The pointer is null after a refusal, and the allocated
-/// words are zero.
+/// Charges nothing, and may enter `i32::MAX` levels. Refusals: `UnknownPointerType` for a
+/// capability in `default`; `TriedToReadFromNullArena` for a far pointer in it; those of reading
+/// for any other fault; the arena's `AllocationFailed` or `MessageTooLarge`, only if the words
+/// don't fit after those of the pointer's segment. After a refusal the pointer is null, and the
+/// words that were allocated are zero.
 #[inline(never)]
 pub fn copy_default<A: BuilderArena>(
     arena: &mut A,
@@ -52,11 +54,12 @@ pub fn copy_default<A: BuilderArena>(
     copy::copy_in_form(arena, to, from.pointer(), &mut lim)
 }
 
-/// Replaces a null pointer by the value of a default, like `copy_default`. Leaves a pointer that
-/// isn't null; also leaves it null without a default, or with one whose first word is null.
+/// If the pointer at `at` of segment `id` is null, copies the value of `default` to it, like
+/// `copy_default`. Leaves a pointer that isn't null. A null pointer stays null if there is no
+/// default, or its first word is null.
 ///
 /// Refuses a default without a whole word with `MessageContainsOutOfBoundsPointer`, and then
-/// changes nothing. Any other refusal is one of `copy_default`.
+/// changes nothing. Other refusals are those of `copy_default`.
 pub(crate) fn put_default<A: BuilderArena>(
     arena: &mut A,
     id: u32,
@@ -85,8 +88,8 @@ pub(crate) fn put_default<A: BuilderArena>(
     copy_default(arena, id, at, bytes)
 }
 
-/// Like `put_default`, for a text or data, which is never null: if the pointer is null, refuses a
-/// default whose first word is null with `ExistingPointerIsNotAList`.
+/// Like `put_default`, for a text or data. If the pointer is null, and so is the first word of
+/// `default`, refuses with `ExistingPointerIsNotAList`.
 pub(crate) fn put_blob_default<A: BuilderArena>(
     arena: &mut A,
     id: u32,

@@ -1,5 +1,6 @@
-//! Finds what a pointer leads to, for writing: first replaces null by a default, and widens a
-//! struct or list of structs that is too small ("Structs", "Lists", "Default Values").
+//! Finds what a pointer leads to, for writing: first replaces a null pointer by a default value,
+//! and widens a struct or a list of structs that is too small (encoding specification, "Structs",
+//! "Lists" and "Default Values").
 ghost use Rattle.std.specs.Prelude.{◌-◌, ◌≡◌, ◌+◌, ◌*◌, ◌^◌, ◌<◌, ◌≤◌, true, IsNone, IsOk, IfOk, IfErr, OnOk, OnErr};
 ghost use Rattle.capnp_contents.specs.Existing.{BytesLieIn, data_in, is_unfound, text_in};
 ghost use Rattle.capnp_format.specs.Forest.{target};
@@ -35,16 +36,16 @@ use capnp_words::wire_pointer::{ElementSize, StructSize};
 impl<'a, A: BuilderArena> PointerBuilder<'a, A> {
     ghost use Rattle.capnp_builders.specs.Building.{FindsStored, GivesList, GivesStruct, HandsOn, IsNull, IsThere, KeepsBuilder, LooksUp, OfStored, StaysThere, built, calling};
 
-    /// Replaces a null pointer by a plain copy of a default's value ("Default Values"). Leaves a
-    /// pointer that isn't null; also leaves it null without a default, or with one whose first word
-    /// is null.
+    /// If the pointer is null, makes a plain copy of the value of `default` ("Default Values"). The
+    /// pointer of `default` is its first word. Leaves a pointer that isn't null. A null pointer
+    /// stays null if there is no default, or its first word is null.
     ///
-    /// Charges nothing; `i32::MAX` levels may be entered. Refusals:
-    /// `MessageContainsOutOfBoundsPointer` if the default has no whole word, or a place is outside
-    /// of it; `UnknownPointerType` for a capability in it; `TriedToReadFromNullArena` for a far
-    /// pointer; any other fault's own name; if there is no room, `AllocationFailed`, or
-    /// `MessageTooLarge` with an object's words plus one. After a refusal the pointer is null, and
-    /// the words allocated are zero.
+    /// Charges nothing, and may enter `i32::MAX` levels. Refusals:
+    /// `MessageContainsOutOfBoundsPointer` if `default` has no whole word, or a pointer in it leads
+    /// out of it; `UnknownPointerType` for a capability in it; `TriedToReadFromNullArena` for a far
+    /// pointer in it; those of reading for any other fault; if the message has no room,
+    /// `AllocationFailed`, or `MessageTooLarge` with an object's words plus one. After a refusal
+    /// the pointer is null, and the words that were allocated are zero.
     pub fn put_default(&mut self, default: Option<&[u8]>) -> Result<(), ErrorKind>
         requires { TakesDefault (built A.view self.old) default }
         ensures put { PutsDefaultBy (object_default default.entry)
@@ -58,9 +59,9 @@ impl<'a, A: BuilderArena> PointerBuilder<'a, A> {
         put_default(&mut *self.arena, self.segment, self.at, default)
     }
 
-    /// Finds the struct that the pointer leads to, as `get_struct` does, and returns its place;
-    /// `into_struct` returns its builder. `get_struct` is made of both; this call's contract covers
-    /// success and refusal.
+    /// Does what `get_struct` does, but returns the struct's place instead of its builder, which
+    /// `into_struct` makes of the place. Unlike `get_struct`, it only borrows the pointer, so its
+    /// contract also states what a refusal leaves.
     #[inline(always)]
     pub fn find_struct(
         &mut self,
@@ -99,16 +100,16 @@ impl<'a, A: BuilderArena> PointerBuilder<'a, A> {
     }
 
     /// Returns the struct that the pointer leads to, for writing, with sections at least as large
-    /// as `size` ("Structs"). A struct that is large enough is returned unchanged. If a section is
-    /// too small, the struct is moved to new words, each section as large as the greater of old and
-    /// wanted: its data and its children are the same, followed by zeros and nulls. A null pointer
-    /// becomes the default's value, like with `put_default`, or a struct of exactly that size, all
-    /// zero.
+    /// as in `size` ("Structs"). A struct that is large enough is unchanged. If a section is too
+    /// small, moves the struct to new words, in which each section has the larger one of its old
+    /// size and that in `size`: its data and its children are the same, followed by zeros and null
+    /// pointers. If the pointer is null, first copies the value of `default` to it, like
+    /// `PointerBuilder::put_default`; if it stays null, makes a struct of exactly `size`, all zero.
     ///
-    /// Refusals: `MessageContainsNonStructPointerWhereStructPointerWasExpected` if it isn't a
-    /// struct; those of `put_default`; `AllocationFailed`, or `MessageTooLarge` with the words of a
-    /// struct or of landing pads, and then what was there stays. A default that replaced null stays
-    /// also if the call is refused afterwards.
+    /// Refusals: `MessageContainsNonStructPointerWhereStructPointerWasExpected` if the pointer
+    /// leads to something else; those of `put_default`; `AllocationFailed`, or `MessageTooLarge`
+    /// with the words of a struct or of landing pads, and then the old struct stays. A default
+    /// value that replaced null stays even if the call is refused afterwards.
     #[inline(always)]
     pub fn get_struct(
         mut self,
@@ -141,9 +142,9 @@ impl<'a, A: BuilderArena> PointerBuilder<'a, A> {
         Ok(self.into_struct(place))
     }
 
-    /// Finds the list that the pointer leads to, as `get_struct_list` does, and returns its place;
-    /// `into_list` returns its builder. `get_struct_list` is made of both; this call's contract
-    /// covers success and refusal.
+    /// Does what `get_struct_list` does, but returns the list's place instead of its builder, which
+    /// `into_list` makes of the place. Unlike `get_struct_list`, it only borrows the pointer, so
+    /// its contract also states what a refusal leaves.
     pub fn find_struct_list(
         &mut self,
         size: StructSize,
@@ -167,21 +168,22 @@ impl<'a, A: BuilderArena> PointerBuilder<'a, A> {
         Ok(found_list(self.segment, opened))
     }
 
-    /// Returns the list that the pointer leads to, as a list of structs for writing, with sections
-    /// at least as large as `size` ("Lists").
+    /// Returns the list that the pointer leads to, for writing, as a list of structs with sections
+    /// at least as large as in `size` ("Lists").
     ///
-    /// A list that is large enough is returned unchanged. Any other list is moved to new words as a
-    /// list of structs: with sections as large as the greater of old and wanted; from void, of
-    /// exactly the wanted size; a number as the lowest bits of a first data word; a pointer as a
-    /// first pointer. A null pointer becomes the default's value, like with `put_default`; if it
-    /// stays null, returns a void list without elements, and changes nothing.
+    /// A list of structs that are large enough is unchanged. Any other list is moved to new words
+    /// as a list of structs: each section has the larger one of its old size and that in `size`, a
+    /// number becomes the lowest bits of a struct's first data word, and a pointer a struct's first
+    /// pointer. If the pointer is null, first copies the value of `default` to it, like
+    /// `PointerBuilder::put_default`; if it stays null, returns a list of void without elements,
+    /// and changes nothing.
     ///
-    /// Refusals: `ExistingPointerIsNotAList` if it isn't a list;
+    /// Refusals: `ExistingPointerIsNotAList` if the pointer leads to something else;
     /// `FoundBitListWhereStructListWasExpected` for a list of bits; `MessageTooLarge` with the
-    /// words of the elements if these would take 2^29 words or more; those of `put_default`;
+    /// words of the new elements if these are 2^29 or more; those of `put_default`;
     /// `AllocationFailed`, or `MessageTooLarge` with the words of a list or of landing pads, and
-    /// then what was there stays. A default that replaced null stays also if the call is refused
-    /// afterwards.
+    /// then the old list stays. A default value that replaced null stays even if the call is
+    /// refused afterwards.
     pub fn get_struct_list(
         mut self,
         size: StructSize,
@@ -198,9 +200,9 @@ impl<'a, A: BuilderArena> PointerBuilder<'a, A> {
         Ok(self.into_list(place))
     }
 
-    /// Finds the list that the pointer leads to, with elements of the expected size or wider, as
-    /// `get_list` does, and returns its place; `into_list` returns its builder. `get_list` is made
-    /// of both; this call's contract covers success and refusal.
+    /// Does what `get_list` does, but returns the list's place instead of its builder, which
+    /// `into_list` makes of the place. Unlike `get_list`, it only borrows the pointer, so its
+    /// contract also states what a refusal leaves.
     pub fn find_list(
         &mut self,
         size: ElementSize,
@@ -218,16 +220,17 @@ impl<'a, A: BuilderArena> PointerBuilder<'a, A> {
         look_for_list(&*self.arena, self.segment, self.at, size)
     }
 
-    /// Returns the list that the pointer leads to, with elements of the expected size or wider;
-    /// never changes it. A null pointer becomes the default's value, like with `put_default`; if it
-    /// stays null, returns a void list without elements.
+    /// Returns the list that the pointer leads to, for writing. Its elements have to be of `size`
+    /// or wider; the list is never changed. If the pointer is null, first copies the value of
+    /// `default` to it, like `PointerBuilder::put_default`; if it stays null, returns a list of
+    /// void without elements.
     ///
-    /// Refusals: `ExistingPointerIsNotAList` if it isn't a list;
-    /// `FoundStructListWhereBitListWasExpected` for a list of structs if bits are expected;
+    /// Refusals: `ExistingPointerIsNotAList` if the pointer leads to something else;
+    /// `FoundStructListWhereBitListWasExpected` for a list of structs if `size` is `Bit`;
     /// `ExistingListValueIsIncompatibleWithExpectedType` for elements with fewer bits of data or
-    /// fewer pointers than expected, for structs without data words if data is expected, and for
-    /// structs without pointers if pointers are; those of `put_default`. A default that replaced
-    /// null stays also if its kind is refused.
+    /// fewer pointers than `size` has, for structs without data words if `size` is that of numbers,
+    /// and for structs without pointers if it is that of pointers; those of `put_default`. A
+    /// default value that replaced null stays even if it is then refused.
     pub fn get_list(
         mut self,
         size: ElementSize,
@@ -245,8 +248,9 @@ impl<'a, A: BuilderArena> PointerBuilder<'a, A> {
         Ok(self.into_list(place))
     }
 
-    /// Finds the data that the pointer leads to, as `get_data` does, and returns where it is.
-    /// `get_data` is made of it; this call's contract covers success and refusal.
+    /// Does what `get_data` does, but returns where the data is instead of lending its bytes, which
+    /// `bytes_mut` does. Unlike `get_data`, it only borrows the pointer, so its contract also
+    /// states what a refusal leaves.
     pub fn find_data(&mut self, default: Option<&[u8]>) -> Result<ExistingBytes, ErrorKind>
         requires { TakesDefault (built A.view self.old) default }
         ensures found { LooksUp A.view (FindsBytes data_in default.entry)
@@ -259,14 +263,15 @@ impl<'a, A: BuilderArena> PointerBuilder<'a, A> {
         found_bytes(&*self.arena, self.segment, found)
     }
 
-    /// Lends the data that the pointer leads to, for writing in place ("Lists"). A null pointer
-    /// becomes the default's value, like with `put_default`; without a default, lends no bytes.
+    /// Lends the data that the pointer leads to, for writing in place ("Lists"). If the pointer is
+    /// null, first copies the value of `default` to it, like `PointerBuilder::put_default`; without
+    /// a default, lends no bytes.
     ///
-    /// Refusals: `ExistingPointerIsNotAList` if it isn't a list, or the default's first word is
-    /// null; `ExistingListPointerIsNotByteSized` if the elements aren't bytes; those of
-    /// `put_default`. A default that replaced null stays also if its kind is refused. `find_data`
-    /// and `bytes_mut` do the same in two steps, and their contracts state what the message is once
-    /// the bytes are written.
+    /// Refusals: `ExistingPointerIsNotAList` if the pointer leads to something else, or if it is
+    /// null and so is the first word of `default`; `ExistingListPointerIsNotByteSized` if the
+    /// elements aren't bytes; those of `put_default`. A default value that replaced null stays even
+    /// if it is then refused. `find_data` followed by `bytes_mut` does the same; their contracts
+    /// also state what the message is once the bytes are written.
     pub fn get_data(mut self, default: Option<&[u8]>) -> Result<&'a mut [u8], ErrorKind>
         requires { TakesDefault (built A.view self) default }
         ensures found { ReachesArena (LendsBytes A.segments)
@@ -276,8 +281,9 @@ impl<'a, A: BuilderArena> PointerBuilder<'a, A> {
         Ok(self.into_bytes(bytes))
     }
 
-    /// Finds the text that the pointer leads to, as `get_text` does, and returns where it is.
-    /// `get_text` is made of it; this call's contract covers success and refusal.
+    /// Does what `get_text` does, but returns where the text is instead of lending its bytes, which
+    /// `bytes_mut` does. Unlike `get_text`, it only borrows the pointer, so its contract also
+    /// states what a refusal leaves.
     pub fn find_text(&mut self, default: Option<&[u8]>) -> Result<ExistingBytes, ErrorKind>
         requires { TakesDefault (built A.view self.old) default }
         ensures found { LooksUp A.view (FindsBytes text_in default.entry)
@@ -291,12 +297,12 @@ impl<'a, A: BuilderArena> PointerBuilder<'a, A> {
     }
 
     /// Lends the text that the pointer leads to, without the zero byte after it, for writing in
-    /// place ("Lists"). A null pointer becomes the default's value, like with `put_default`;
-    /// without a default, lends no bytes.
+    /// place ("Lists"). If the pointer is null, first copies the value of `default` to it, like
+    /// `PointerBuilder::put_default`; without a default, lends no bytes.
     ///
-    /// Refuses what isn't data like `get_data`, and bytes that don't end in a zero byte with
-    /// `TextBlobMissingNULTerminator`. `find_text` and `bytes_mut` do the same in two steps, and
-    /// their contracts state what the message is once the bytes are written.
+    /// Refuses what isn't a list of bytes like `get_data`, and refuses bytes that don't end in a
+    /// zero byte with `TextBlobMissingNULTerminator`. `find_text` followed by `bytes_mut` does the
+    /// same; their contracts also state what the message is once the bytes are written.
     pub fn get_text(mut self, default: Option<&[u8]>) -> Result<&'a mut [u8], ErrorKind>
         requires { TakesDefault (built A.view self) default }
         ensures found { ReachesArena (LendsBytes A.segments)
@@ -306,7 +312,7 @@ impl<'a, A: BuilderArena> PointerBuilder<'a, A> {
         Ok(self.into_bytes(bytes))
     }
 
-    /// Lends bytes of the message for writing in place, while its arena is borrowed.
+    /// Lends `bytes` of the message for writing in place, for as long as the arena is borrowed.
     #[inline(always)]
     fn into_bytes(self, bytes: ExistingBytes) -> &'a mut [u8]
         requires { BytesLieIn (A.view self.arena.now).words bytes }

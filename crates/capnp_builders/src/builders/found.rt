@@ -1,4 +1,4 @@
-//! What a search for a list, a text or data finds ("Lists").
+//! What a search for a list, a text or data finds (encoding specification, "Lists").
 ghost use Rattle.std.specs.Prelude.{◌≡◌, ◌<◌, ◌≤◌, true, length, Ok, IfSome, IfOk, IfErr};
 ghost use Rattle.capnp_format.specs.Forest.{target};
 ghost use Rattle.capnp_format.specs.Segments.{IsPlace};
@@ -17,8 +17,8 @@ use capnp_readers::readers::ListPlace;
 use capnp_words::error::ErrorKind;
 use capnp_words::wire_pointer::ElementSize;
 
-/// The place of a list that was found; a void list without elements for a null pointer of a
-/// segment.
+/// The place of the list `found`. If it is `None`, which is for a null pointer, the place of a list
+/// of void without elements in segment `segment`.
 pub(crate) fn found_list(segment: u32, found: Option<ExistingList>) -> ListPlace
     ensures { list_given segment (Ok found) ≡ Ok result }
 {
@@ -34,8 +34,8 @@ pub(crate) fn found_list(segment: u32, found: Option<ExistingList>) -> ListPlace
     }
 }
 
-/// The list that the pointer at a place leads to, with elements of the expected size or wider;
-/// changes nothing.
+/// Returns the list that the pointer at `at` of segment `id` leads to, whose elements have to be of
+/// `size` or wider. Changes nothing.
 pub(crate) fn look_for_list<A: BuilderArena>(
     arena: &A,
     id: u32,
@@ -54,9 +54,10 @@ pub(crate) fn look_for_list<A: BuilderArena>(
     Ok(found_list(id, found))
 }
 
-/// The bytes that were found; none, in a segment, if the pointer is null.
+/// The bytes `found`. If that is `None`, which is for a null pointer, no bytes at the start of
+/// segment `segment`.
 ///
-/// Refuses bytes outside of the message, which no stored value has, with
+/// Refuses bytes outside of the message, to which no pointer of a built message leads, with
 /// `MessageContainsOutOfBoundsPointer`.
 #[inline(always)]
 pub(crate) fn found_bytes<A: BuilderArena>(

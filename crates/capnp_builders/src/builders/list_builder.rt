@@ -1,4 +1,4 @@
-//! Lists of a message being built ("Lists").
+//! Lists of a message being built (encoding specification, "Lists").
 ghost use Rattle.std.specs.Prelude.{◌≡◌, ◌≢◌, ◌↔◌, ◌+◌, ◌*◌, ◌/◌, ◌%◌, ◌<◌, ◌≤◌, ◌^◌, [], IsTrue, cond};
 ghost use Rattle.capnp_format.specs.Numbers.{element_bits};
 ghost use Rattle.capnp_words.specs.Sizes.{size_number};
@@ -26,8 +26,8 @@ pub struct ListBuilder<'a, A> {
 }
 
 #[tactic(auto, using(capnp_readers::proofs::Sections::elements))]
-/// Where element `index` of a list is, as a struct: its own sections, one pointer, or the bits of a
-/// number.
+/// The place of element `index` of `list`, as a struct: a struct has its own sections, a pointer is
+/// a struct's only pointer, and a number is a struct's data section.
 fn element_place(list: ListPlace, index: u32) -> StructPlace
     requires range { index < list.count }
     requires whole { size_number list.size ≢ 1 }
@@ -69,7 +69,8 @@ fn element_place(list: ListPlace, index: u32) -> StructPlace
     }
 }
 
-/// Where the pointer of element `index` is, in words.
+/// The position, in words, of element `index` if it is a pointer, or of its first pointer if it is
+/// a struct.
 #[tactic(auto, using(capnp_readers::proofs::Sections::elements))]
 fn element_pointer(list: ListPlace, index: u32) -> u32
     requires range { index < list.count }
@@ -87,7 +88,7 @@ fn element_pointer(list: ListPlace, index: u32) -> u32
     }
 }
 
-/// The number of bits from one element to the next.
+/// The number of bits from one element of `list` to the next.
 fn step_bits(list: ListPlace) -> u32
     ensures { result ≡ step_bits list.size list.struct_size }
 {
@@ -103,7 +104,7 @@ impl<'a, A: BuilderArena> ListBuilder<'a, A> {
     ghost use Rattle.capnp_builders.specs.contracts.builders.list_builder.ListBuilder.{the_row};
     ghost use mir.Syntax.{named};
 
-    /// A builder of this list, which borrows this one.
+    /// Another builder of this list, which borrows this one.
     pub fn reborrow(&mut self) -> ListBuilder<'_, A>
         ensures* lends { sem 𝓛 (follows (the_row (record { mir = named 1; lft = [] }) A.row) A.row
             self.entry.ghost_name result.arena.ghost_name
@@ -137,7 +138,7 @@ impl<'a, A: BuilderArena> ListBuilder<'a, A> {
         self.place.size
     }
 
-    /// The list, for reading: charges nothing, and `i32::MAX` levels may be entered.
+    /// The list, for reading. Reading it charges nothing, and may enter `i32::MAX` levels.
     pub fn as_reader(&self) -> ListReader<'_, A>
         requires { IsListPlace (A.view self.now.arena.now).words self.now.place }
         ensures { IsListReader A.ReaderArena self.now result }
@@ -145,8 +146,8 @@ impl<'a, A: BuilderArena> ListBuilder<'a, A> {
         ListReader::at(&*self.arena, self.place, i32::MAX)
     }
 
-    /// The list, for reading once building is over: charges nothing, and `i32::MAX` levels may be
-    /// entered.
+    /// The list, for reading once building is over. Reading it charges nothing, and may enter
+    /// `i32::MAX` levels.
     pub fn into_reader(self) -> ListReader<'a, A>
         requires { IsListPlace (A.view self.arena.now).words self.place }
         ensures { IsListReader A.ReaderArena self.entry result }
@@ -156,8 +157,9 @@ impl<'a, A: BuilderArena> ListBuilder<'a, A> {
     }
 
     #[tactic(auto, using(crate::proofs::ElementPlaces::element_inside))]
-    /// Element `index` as a struct: a number is a struct of its bits, a pointer a struct of one
-    /// pointer. Preconditions: the elements aren't bits; `index` is below their number.
+    /// Element `index` as a struct: a number becomes a struct whose data section is that number, a
+    /// pointer a struct with one pointer. Preconditions: the elements aren't bits; `index` is below
+    /// their number.
     pub fn get_struct_element(self, index: u32) -> StructBuilder<'a, A>
         requires inside { IsListPlace (A.view self.arena.now).words self.place }
         requires range { index < self.place.count }

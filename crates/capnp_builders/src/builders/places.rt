@@ -1,14 +1,14 @@
-//! The places, for builders, of what is in a message ("Structs", "Lists").
+//! The places at which builders are, for structs and lists that were found in a message.
 ghost use Rattle.std.specs.Prelude.{◌≡◌, ◌+◌, ◌*◌, ◌^◌, ◌<◌};
 ghost use Rattle.capnp_builders.specs.Places.{IsAligned, list_place, struct_place};
 
 use capnp_contents::existing::{ExistingList, ExistingStruct};
 use capnp_readers::readers::{ListPlace, StructPlace};
 
-/// The place of a struct in a message, as `StructBuilder` has it.
+/// The place that a `StructBuilder` of the struct `found` has.
 ///
-/// No struct of a message has its pointers at word 2^32 or after it. If `found` says so, the place
-/// has the last word before that.
+/// If the pointers of `found` started at word 2^32 or after it, which no struct of a message has,
+/// the place would have word 2^32 - 1 instead.
 #[inline(always)]
 pub fn struct_place(found: ExistingStruct) -> StructPlace
     ensures place { found.start + found.size.data_words < 2 ^ 32 → result ≡ struct_place found }
@@ -26,7 +26,7 @@ pub fn struct_place(found: ExistingStruct) -> StructPlace
     }
 }
 
-/// The place of a list in a message, as `ListBuilder` has it.
+/// The place that a `ListBuilder` of the list `found` has.
 #[inline(always)]
 pub fn list_place(found: ExistingList) -> ListPlace
     ensures { result ≡ list_place found }

@@ -1,5 +1,5 @@
 //! Elements of lists that are numbers, bits or nothing: read from a list being read, and read and
-//! written in a list being built ("Lists").
+//! written in a list being built (encoding specification, "Lists").
 ghost use Rattle.std.specs.Prelude.{◌≡◌, ◌<◌, ◌≤◌, ℕ, List, cond};
 ghost use Rattle.capnp_format.specs.Numbers.{element_bits};
 ghost use Rattle.capnp_words.specs.Sizes.{size_number};
@@ -29,12 +29,12 @@ pub trait PrimitiveElement {
     // The value's bits as a number.
     ghost bits_of: { Self → ℕ };
 
-    /// Reads element `index` of a list being read: the number in the lowest bytes of the element's
-    /// data, or its lowest bit.
+    /// Reads element `index` of `list`: the number in the lowest bytes of the element's data, or
+    /// its lowest bit.
     ///
-    /// The caller ensures that `index` is below the number of elements, and that each has at least
-    /// as many bits of data as the value; `()` requires neither. The data of a struct is its data
-    /// section, so a list of numbers that became a list of structs reads as before ("Lists").
+    /// Preconditions, except for `()`: `index` is below the number of elements, and each element
+    /// has at least as many bits of data as the value. The data of a struct is its data section, so
+    /// a list of numbers that became a list of structs reads as before.
     fn get<A: ReaderArena>(list: &ListReader<'_, A>, index: u32) -> Self
         requires range { 0 < element_bits (size_number size) → index < list.now.count }
         requires wide { element_bits (size_number size)
@@ -42,8 +42,7 @@ pub trait PrimitiveElement {
         ensures { result ≡ value_at list.now.content.now
             (element_start A.ReaderArena list.now index) };
 
-    /// Reads element `index` of a list being built: as many of the lowest bits of the element's
-    /// data as the value has. Same preconditions as `get`.
+    /// Like `get`, for a list being built, with the same preconditions.
     fn get_from_builder<A: BuilderArena>(list: &ListBuilder<'_, A>, index: u32) -> Self
         requires inside { IsListPlace (A.view list.now.arena.now).words list.now.place }
         requires range { 0 < element_bits (size_number size) → index < list.now.place.count }
@@ -52,10 +51,10 @@ pub trait PrimitiveElement {
         ensures { HasField (A.view list.now.arena.now) list.now.place.segment list.now.place.byte
             (lowest_bits list.now.place index (element_bits (size_number size)) (bits_of result)) };
 
-    /// Writes element `index` of a list: as many of the lowest bits of its data as the value has;
-    /// of a struct, those of its data section. Preconditions: `index` is below the number of
-    /// elements; each has at least as many bits of data as the value. `()` requires neither, and
-    /// writes nothing.
+    /// Writes element `index` of `list`: as many of the lowest bits of its data as `value` has. The
+    /// data of a struct is its data section. Preconditions, except for `()`, which writes nothing:
+    /// `index` is below the number of elements, and each element has at least as many bits of data
+    /// as the value.
     fn set<A: BuilderArena>(list: &mut ListBuilder<'_, A>, index: u32, value: Self)
         requires inside { IsListPlace (A.view list.old.arena.now).words list.old.place }
         requires range { 0 < element_bits (size_number size) → index < list.old.place.count }
@@ -69,8 +68,8 @@ pub trait PrimitiveElement {
             → list.new.arena.now ≡ list.old.arena.now }
         ensures builder { KeepsListBuilder A.view list.old list.new };
 
-    /// The element size of a list of such elements: by the number of bytes, `Bit` for a `bool`,
-    /// `Void` for `()` ("Lists").
+    /// The element size of a list of this type: the one with the type's number of bytes, `Bit` for
+    /// a `bool`, or `Void` for `()`.
     fn element_size() -> ElementSize
         ensures { result ≡ size };
 }

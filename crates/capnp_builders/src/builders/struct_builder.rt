@@ -1,4 +1,4 @@
-//! Structs of a message being built ("Structs").
+//! Structs of a message being built (encoding specification, "Structs").
 ghost use Rattle.std.specs.Prelude.{◌≡◌, ◌≢◌, ◌↔◌, ◌+◌, ◌*◌, ◌<◌, [], IsTrue, IsOk, IfOk, IfErr, cond, true, false, min};
 ghost use Rattle.capnp_format.specs.Segments.{segment, word_at, IsPlace};
 ghost use Rattle.capnp_making.specs.Fields.{field_in};
@@ -41,7 +41,7 @@ impl<'a, A: BuilderArena> StructBuilder<'a, A> {
     ghost use Rattle.capnp_builders.specs.contracts.builders.struct_builder.StructBuilder.{the_row};
     ghost use mir.Syntax.{named};
 
-    /// A builder of this struct, which borrows this one.
+    /// Another builder of this struct, which borrows this one.
     pub fn reborrow(&mut self) -> StructBuilder<'_, A>
         ensures* lends { sem 𝓛 (follows (the_row (record { mir = named 1; lft = [] }) A.row) A.row
             self.entry.ghost_name result.arena.ghost_name
@@ -54,7 +54,7 @@ impl<'a, A: BuilderArena> StructBuilder<'a, A> {
         StructBuilder { arena, place }
     }
 
-    /// The struct, for reading: charges nothing, and `i32::MAX` levels may be entered.
+    /// The struct, for reading. Reading it charges nothing, and may enter `i32::MAX` levels.
     pub fn as_reader(&self) -> StructReader<'_, A>
         requires { IsStructPlace (A.view self.now.arena.now).words self.now.place }
         ensures { IsStructReader A.ReaderArena self.now result }
@@ -62,8 +62,8 @@ impl<'a, A: BuilderArena> StructBuilder<'a, A> {
         StructReader::at(&*self.arena, self.place, i32::MAX)
     }
 
-    /// The struct, for reading once building is over: charges nothing, and `i32::MAX` levels may be
-    /// entered.
+    /// The struct, for reading once building is over. Reading it charges nothing, and may enter
+    /// `i32::MAX` levels.
     pub fn into_reader(self) -> StructReader<'a, A>
         requires { IsStructPlace (A.view self.arena.now).words self.place }
         ensures { IsStructReader A.ReaderArena self.entry result }
@@ -72,7 +72,8 @@ impl<'a, A: BuilderArena> StructBuilder<'a, A> {
         StructReader::at(arena, place, i32::MAX)
     }
 
-    /// Pointer `index` of the pointer section. Precondition: the section has it.
+    /// Pointer `index` of the pointer section. Precondition: `index` is below the number of
+    /// pointers.
     pub fn get_pointer_field(self, index: usize) -> PointerBuilder<'a, A>
         requires inside { IsStructPlace (A.view self.arena.now).words self.place }
         requires field { index < self.place.pointers }
@@ -89,16 +90,17 @@ impl<'a, A: BuilderArena> StructBuilder<'a, A> {
         }
     }
 
-    /// Makes a plain copy of another struct's content ("Structs"). Copies the data that both have,
-    /// and zeroes the rest of the data section; makes the pointers null, and zeroes what they held;
-    /// then copies the pointers that both have, in order. Charges what reading the values of the
-    /// copied pointers costs, within the reader's nesting limit, and no other words.
+    /// Replaces the struct's content by a plain copy of that of `value`. Copies as much data as
+    /// both structs have, and zeroes the rest of this data section. Then makes all pointers null,
+    /// zeroes what they held, and copies as many pointers as both structs have, in order. Charges
+    /// `lim` what reading the values of the copied pointers costs, and nothing else; the nesting
+    /// limit is that of `value`.
     ///
-    /// Refusals: the first one of reading what the pointers mean; if the words of that don't fit
+    /// Refusals: the first one of reading the values of the pointers; if their words don't fit
     /// after those of the struct's segment, `AllocationFailed`, or `MessageTooLarge` with an
-    /// object's words plus one. The data is then copied, and so are the pointers before the refused
-    /// one; it and those after it are null, the words taken for it are zero and stay allocated, and
-    /// what was charged stays charged.
+    /// object's words plus one. After a refusal, the data and the pointers before the refused one
+    /// are copied, and the refused one and those after it are null. The words that were allocated
+    /// for the refused one are zero and stay allocated, and what was charged stays charged.
     pub fn copy_content_from<B: ReaderArena>(
         &mut self,
         value: &StructReader<'_, B>,
@@ -138,7 +140,8 @@ impl<'a, A: BuilderArena> StructBuilder<'a, A> {
         copy::copy_each(&mut *self.arena, to, from, count, lim)
     }
 
-    /// Whether pointer `index` of the pointer section is zero. Precondition: the section has it.
+    /// Whether pointer `index` of the pointer section is null. Precondition: `index` is below the
+    /// number of pointers.
     pub fn is_pointer_field_null(&self, index: usize) -> bool
         requires inside { IsStructPlace (A.view self.now.arena.now).words self.now.place }
         requires field { index < self.now.place.pointers }
@@ -150,8 +153,8 @@ impl<'a, A: BuilderArena> StructBuilder<'a, A> {
     }
 
     #[tactic(auto, using(crate::proofs::FieldPlaces::still_inside))]
-    /// Writes the field of the data section at `offset`, in values of `T`. Precondition: it is
-    /// inside the section.
+    /// Writes the field of the data section at `offset`, counted in values of `T`. Precondition:
+    /// the field is inside the section.
     pub fn set_data_field<T: Primitive + Zero>(&mut self, offset: usize, value: T)
         requires { HoldsField A.view self.old (8 * T.BYTES) offset }
         ensures written { WritesField (A.view self.old.arena.now)
@@ -163,8 +166,8 @@ impl<'a, A: BuilderArena> StructBuilder<'a, A> {
         numbers::set_number(&mut *self.arena, self.place.segment, byte, value);
     }
 
-    /// Writes a field of the data section with its default `mask` applied: `get_data_field_mask`
-    /// with the same mask returns `value`.
+    /// Like `set_data_field`, for a field with the default `mask`: `get_data_field_mask` with the
+    /// same mask then returns `value`.
     pub fn set_data_field_mask<T: Primitive + Zero + Mask>(
         &mut self,
         offset: usize,
@@ -181,8 +184,7 @@ impl<'a, A: BuilderArena> StructBuilder<'a, A> {
     }
 
     #[tactic(auto, using(crate::proofs::FieldPlaces::still_inside))]
-    /// Writes the bit of the data section at `offset`, in bits. Precondition: it is inside the
-    /// section.
+    /// Writes bit `offset` of the data section. Precondition: the bit is inside the section.
     pub fn set_bool_field(&mut self, offset: usize, value: bool)
         requires { HoldsBit A.view self.old offset }
         ensures written { WritesField (A.view self.old.arena.now)
@@ -194,8 +196,8 @@ impl<'a, A: BuilderArena> StructBuilder<'a, A> {
         numbers::set_bit(&mut *self.arena, self.place.segment, bit, value);
     }
 
-    /// Writes a bit of the data section with its default `mask` applied: `get_bool_field_mask` with
-    /// the same mask returns `value`.
+    /// Like `set_bool_field`, for a bit with the default `mask`: `get_bool_field_mask` with the
+    /// same mask then returns `value`.
     pub fn set_bool_field_mask(&mut self, offset: usize, value: bool, mask: bool)
         requires { HoldsBit A.view self.old offset }
         ensures written { WritesField (A.view self.old.arena.now)
@@ -206,8 +208,8 @@ impl<'a, A: BuilderArena> StructBuilder<'a, A> {
         self.set_bool_field(offset, value != mask);
     }
 
-    /// The field of the data section at `offset`, in values of `T`. Precondition: it is inside the
-    /// section.
+    /// The field of the data section at `offset`, counted in values of `T`. Precondition: the field
+    /// is inside the section.
     pub fn get_data_field<T: Primitive + Zero>(&self, offset: usize) -> T
         requires { HoldsField A.view self.now (8 * T.BYTES) offset }
         ensures { HasField (A.view self.now.arena.now) self.now.place.segment self.now.place.byte
@@ -217,8 +219,8 @@ impl<'a, A: BuilderArena> StructBuilder<'a, A> {
         numbers::get_number(&*self.arena, self.place.segment, byte)
     }
 
-    /// The field like `get_data_field`, with its default `mask` applied. Precondition: it is inside
-    /// the section.
+    /// The field that `get_data_field` returns, with its default `mask` applied. Precondition: the
+    /// field is inside the section.
     pub fn get_data_field_mask<T: Primitive + Zero + Mask>(
         &self,
         offset: usize,
@@ -233,7 +235,7 @@ impl<'a, A: BuilderArena> StructBuilder<'a, A> {
         T::mask(self.get_data_field(offset), mask)
     }
 
-    /// The bit of the data section at `offset`, in bits. Precondition: it is inside the section.
+    /// Bit `offset` of the data section. Precondition: the bit is inside the section.
     pub fn get_bool_field(&self, offset: usize) -> bool
         requires { HoldsBit A.view self.now offset }
         ensures { IsTrue result
@@ -244,8 +246,8 @@ impl<'a, A: BuilderArena> StructBuilder<'a, A> {
         numbers::get_bit(&*self.arena, self.place.segment, bit)
     }
 
-    /// The bit like `get_bool_field`, with its default `mask` applied. Precondition: it is inside
-    /// the section.
+    /// The bit that `get_bool_field` returns, with its default `mask` applied. Precondition: the
+    /// bit is inside the section.
     pub fn get_bool_field_mask(&self, offset: usize, mask: bool) -> bool
         requires { HoldsBit A.view self.now offset }
         ensures plain { mask ≡ false
