@@ -1,5 +1,5 @@
-//! Edits: data that describes changes of a message being built. Each has a path from the root
-//! pointer, and an operation at the end of the path.
+//! Edits: changes of a message being built, described as data. Each has a path from the root
+//! pointer, and an operation to do at the end of the path.
 ghost use Rattle.std.specs.Prelude.{◌≡◌, length};
 ghost use Rattle.capnp_edits.specs.Edits.{refusal_of, IsApplied, TakesAll};
 ghost use Rattle.capnp_edits.specs.Steps.{IsStep, AreSteps};
@@ -44,15 +44,17 @@ pub struct Source<'a> {
 pub enum Op<'a> {
     /// Make a struct, all zero.
     InitStruct(StructSize),
-    /// Make a list of this many elements that aren't structs, all zero or null; fewer than 2^29.
+    /// Make a list of this many elements that aren't structs, fewer than 2^29, all zero or null.
     InitList(ElementSize, u32),
-    /// Make a list of this many structs, all zero; fewer than 2^30, of fewer than 2^29 words.
+    /// Make a list of this many structs, fewer than 2^30, all zero. Their words are fewer than
+    /// 2^29.
     InitStructList(u32, StructSize),
-    /// Make a text of this many bytes, all zero; fewer than 2^29 with the zero byte after them.
+    /// Make a text of this many bytes, all zero. With the zero byte after them they are fewer than
+    /// 2^29.
     InitText(u32),
-    /// Make data of this many bytes, all zero; fewer than 2^29.
+    /// Make data of this many bytes, fewer than 2^29, all zero.
     InitData(u32),
-    /// Make a text of these bytes; fewer than 2^29 with the zero byte after them.
+    /// Make a text of these bytes. With the zero byte after them they are fewer than 2^29.
     SetText(&'a [u8]),
     /// Make data of these bytes; fewer than 2^29.
     SetData(&'a [u8]),
@@ -65,8 +67,9 @@ pub enum Op<'a> {
     SetField(ElementSize, u32, u64),
     /// Write a bit of a struct's data section, by its index.
     SetBool(u32, bool),
-    /// Write as many of the lowest bits of an element of a list as the size has: a bit, or a number
-    /// of 1, 2, 4 or 8 bytes. Looks for the list like `PointerBuilder::get_list` with that size.
+    /// Write a bit, or a number of 1, 2, 4 or 8 bytes, into the lowest bits of an element of a
+    /// list: of this size, at this index. Looks for the list like `PointerBuilder::get_list` with
+    /// this size.
     SetElement(ElementSize, u32, u64),
     /// Write a byte of a text, but not the zero after it.
     WriteText(u32, u8),
@@ -84,24 +87,25 @@ pub enum Op<'a> {
     GetText(Option<&'a [u8]>),
     /// Look for data, like `PointerBuilder::get_data` with this default.
     GetData(Option<&'a [u8]>),
-    /// Copy the value of another message's root to the pointer, in canonical form if so requested,
-    /// like `PointerBuilder::copy_from`.
+    /// Copy the value of another message's root to the pointer, like `PointerBuilder::copy_from`;
+    /// in canonical form if the flag is set.
     CopyFrom(Source<'a>, bool),
     /// Copy the struct that the root of another message leads to, like
-    /// `PointerBuilder::set_struct`; a struct of no words if the root is null. Looks for the struct
-    /// like `PointerReader::get_struct`.
+    /// `PointerBuilder::set_struct`; in canonical form if the flag is set. If the root is null,
+    /// copies a struct without words. Looks for the struct like `PointerReader::get_struct`.
     SetStruct(Source<'a>, bool),
-    /// Copy the list that the root of another message leads to, like `PointerBuilder::set_list`; an
-    /// empty list of `Void` if the root is null. Looks for the list like `PointerReader::get_list`
-    /// with the size `Void`, so it can't be a list of bits.
+    /// Copy the list that the root of another message leads to, like `PointerBuilder::set_list`; in
+    /// canonical form if the flag is set. If the root is null, copies an empty list of `Void`.
+    /// Looks for the list like `PointerReader::get_list` with the size `Void`, so it can't be a
+    /// list of bits.
     SetList(Source<'a>, bool),
     /// Replace the content of a struct by that of the struct that the root of another message leads
-    /// to, like `StructBuilder::copy_content_from`; by zeros and nulls if the root is null. Looks
-    /// for that struct like `PointerReader::get_struct`.
+    /// to, like `StructBuilder::copy_content_from`. If the root is null, replaces it by zeros and
+    /// null pointers. Looks for the other message's struct like `PointerReader::get_struct`.
     CopyContent(Source<'a>),
 }
 
-/// A change of a message: what to do, and where.
+/// A change of a message: where, and what to do there.
 #[derive(Clone, Copy)]
 pub struct Edit<'a> {
     /// The steps from the root pointer on.
@@ -110,21 +114,22 @@ pub struct Edit<'a> {
     pub op: Op<'a>,
 }
 
-/// Applies an edit.
+/// Applies `edit` to the message in `arena`.
 ///
-/// Refusals: `NoSuchPlace` if the path leads nowhere, the operation is for a place of another kind,
-/// or numbers are out of range. If a struct, a list, a text or data is looked for, the refusal of a
-/// `PointerBuilder`'s `get_struct`, `get_struct_list`, `get_list`, `get_text` or `get_data`. If
-/// there is nothing to copy, that of `PointerReader::get_root_from_arena`, or of the root's
-/// `get_struct` or `get_list`. Nothing is changed after these.
+/// Refusals that change nothing: `NoSuchPlace` if the path leads nowhere, the operation is for a
+/// place of another kind, or a number is out of range; if the edit looks for a struct, a list, a
+/// text or data, the refusal of `PointerBuilder`'s `get_struct`, `get_struct_list`, `get_list`,
+/// `get_text` or `get_data`; if there is nothing to copy, that of `PointerReader`'s
+/// `get_root_from_arena`, `get_struct` or `get_list`.
 ///
-/// `AllocationFailed` and `MessageTooLarge` are the arena's. The pointer is null then, and also if
-/// a copy is refused for what it reads. If copying a struct's content is refused like this, the
-/// data and the pointers before the refused one are copied, and the others are null.
+/// After `AllocationFailed` or `MessageTooLarge`, which are the arena's, and after a copy is
+/// refused for what it reads, the pointer is null, with two exceptions. If copying a struct's
+/// content is refused like this, the data and the pointers before the refused one are copied, and
+/// the other pointers are null. The second exception is an edit that looks for something.
 ///
-/// A search first replaces null by the value of its default. If that copy is refused, the pointer
-/// is null. If the value's kind is refused afterwards, or memory to make it larger, the value
-/// stays; so does any other value that had to be made larger.
+/// Such an edit first replaces a null pointer by the value of its default. If that copy is refused,
+/// the pointer is null. If the value found is of the wrong kind, or there is no memory to make it
+/// larger, it stays, whether it is the default's or was there before.
 pub fn apply<A: BuilderArena>(arena: &mut A, edit: &Edit<'_>) -> Result<(), ErrorKind>
     ensures { IsStep (A.view arena.old) (A.view arena.new) edit.now (refusal_of result) }
 {
@@ -146,8 +151,8 @@ pub fn apply<A: BuilderArena>(arena: &mut A, edit: &Edit<'_>) -> Result<(), Erro
     }
 }
 
-/// Applies edits in order, and goes on after a refusal. Stores in `outcomes` what became of each:
-/// `None` if it was applied, otherwise its refusal by `apply`.
+/// Applies `edits` in order, and goes on after a refusal. Stores the outcome of each in `outcomes`:
+/// `None` if it was applied, otherwise the refusal of `apply`.
 pub fn apply_all<A: BuilderArena>(
     arena: &mut A,
     edits: &[Edit<'_>],

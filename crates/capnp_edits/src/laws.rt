@@ -19,15 +19,15 @@ ghost use Rattle.capnp_edits.specs.Sources.{ContentRead, Copies, HasNothingToCop
 ghost use Rattle.capnp_edits.specs.Steps.{AreSteps, IsStep};
 ghost use Rattle.capnp_edits.specs.Tasks.{task_of};
 
-/// A value of another message can be copied, or is refused for what is read of it, and never both.
+/// If the value of another message's root can be copied, copying it is never refused for what is
+/// read.
 pub fn copied_or_refused()
     ensures { (c : Copying) (u : Tree) (k : ErrorKind) → Copies c u
         → HasNothingToCopy c.source c.wanted k ⊎ IsUnreadable c k → ⊥ }
 {}
 
-/// The content of another message's struct can be copied, or is refused for what is read of it, and
-/// never both. If its root leads to a struct, and the pointers to copy mean values within both
-/// limits, it isn't refused.
+/// If the root of another message leads to a struct, and the pointers of it to copy mean values
+/// within both limits, copying the struct's content isn't refused for what is read.
 pub fn filled_or_refused()
     ensures { (source : Source) (q : ℕ) (k : ErrorKind) (all : ContentRead source)
         → count all.children ≡ min q all.from.pointers
@@ -36,8 +36,8 @@ pub fn filled_or_refused()
         × IsNextUnreadable source some k) → ⊥ }
 {}
 
-/// An edit whose path leads to a pointer is applied at that one: what `apply` states of its place
-/// holds for it.
+/// If the path of an edit leads to a pointer, the edit is applied at that pointer: it is the place
+/// about which the contract of `apply` speaks.
 pub fn step_is_there()
     ensures { (old new : View) (edit : Edit) (r : Option ErrorKind) (t x : Tree) (u q : ℕ)
         (s : IsStep old new edit r) → IsForest old.words t
@@ -45,11 +45,11 @@ pub fn step_is_there()
         → s.path_end ≡ Some (AtPointer (record { segment = u; word = q })) }
 {}
 
-/// Edits that make objects, or write pointers, fields, elements and bytes, are never refused for
-/// memory if their words together fit the first segment of a message that is all in it. Each is
-/// applied, or refused for what its path leads to. All that they make is in that segment, which
-/// takes no more words than that and has as much room as before, and the allocator has refused
-/// nothing.
+/// Take edits that only make objects, or write pointers, fields, elements and bytes. If all words
+/// of the message are in its first segment, and the words of all objects to make fit there too, no
+/// edit is refused for lack of memory. Each is applied, or refused for what its path leads to. All
+/// words stay in that segment, which grows by no more than the words of these objects and keeps its
+/// room, and the allocator refuses nothing.
 pub fn fitting_edits()
     ensures { (old new : View) (edits : List Edit) (rs : List (Option ErrorKind)) (t : Tree)
         → IsForest old.words t → AreInFirst old.words

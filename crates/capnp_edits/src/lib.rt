@@ -1,4 +1,5 @@
-//! Lists of changes of a message being built, each at a path from the root.
+//! Edits: changes of a message being built, each described by a path from the root and an
+//! operation.
 #![tactic(auto)]
 
 pub mod edit;

@@ -1,4 +1,4 @@
-//! Edits that copy from another message.
+//! Edits that copy the value of another message's root.
 ghost use Rattle.std.specs.Prelude.{◌≡◌, IsOk, IfOk, IfErr};
 ghost use Rattle.capnp_builders.specs.Building.{built, calling, IsThere};
 ghost use Rattle.capnp_edits.specs.declared.edit.path.PathEnd.TheVariants.{Pointer as AtPointer};
@@ -27,12 +27,12 @@ pub(crate) enum Wanted {
     List,
 }
 
-/// A copy from another message.
+/// A copy of the value of another message's root.
 #[derive(Clone, Copy)]
 pub(crate) struct Copying<'a> {
-    /// The message.
+    /// The other message.
     pub(crate) source: Source<'a>,
-    /// What its root has to lead to.
+    /// What the root of `source` has to lead to.
     pub(crate) wanted: Wanted,
     /// Whether the copy is in canonical form.
     pub(crate) canonicalize: bool,
@@ -41,7 +41,8 @@ pub(crate) struct Copying<'a> {
 /// A pointer of another message.
 pub(crate) type SourceReader<'a> = PointerReader<'a, ReaderArenaImpl<SegmentArray<'a>>>;
 
-/// The root of another message, and the limiter for reading it, with the root's word charged.
+/// Returns the root of another message, and the limiter for reading it, from which the root's word
+/// is already charged.
 pub(crate) fn open_source<'a>(
     source: Source<'a>,
 ) -> Result<(SourceReader<'a>, ReadLimiter), ErrorKind>
@@ -55,7 +56,7 @@ pub(crate) fn open_source<'a>(
     Ok((root, lim))
 }
 
-/// Copies the value of another message's root to a pointer.
+/// Does the copy `copying` to `pointer`.
 pub(crate) fn copy_root<A: BuilderArena>(
     pointer: &mut PointerBuilder<'_, A>,
     copying: Copying<'_>,

@@ -72,7 +72,7 @@ fn has_element<A: BuilderArena>(
         && has_words(arena, list.segment, u64::from(list.start) + words_of(list))
 }
 
-/// Writes as many of the lowest bits of element `index` of a list as `size` has.
+/// Writes `value` into the lowest bits of element `index` of `list`; `size` tells how many bits.
 fn put_element<A: BuilderArena>(
     list: &mut ListBuilder<'_, A>,
     size: ElementSize,
@@ -95,7 +95,8 @@ fn put_element<A: BuilderArena>(
     }
 }
 
-/// Writes the lowest bits of an element of the list that was found, if it has the element.
+/// Writes `number` into the lowest bits of an element of the list `found`; refuses if that has no
+/// such element.
 fn set_element<A: BuilderArena>(
     arena: &mut A,
     found: Result<Option<ExistingList>, ErrorKind>,
@@ -123,7 +124,7 @@ fn set_element<A: BuilderArena>(
     }
 }
 
-/// Writes byte `index` of the text or data that was found, if it has that byte.
+/// Writes byte `index` of the text or data `found`; refuses if that has no such byte.
 fn write_byte<A: BuilderArena>(
     arena: &mut A,
     found: Result<Option<ExistingBytes>, ErrorKind>,
@@ -147,7 +148,7 @@ fn write_byte<A: BuilderArena>(
     }
 }
 
-/// Writes a part of the list, text or data that a pointer of a message leads to.
+/// Writes `part` of the list, text or data that the pointer at `place` leads to.
 pub(crate) fn edit_part<A: BuilderArena>(
     arena: &mut A,
     place: PointerPlace,

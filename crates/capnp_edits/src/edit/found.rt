@@ -1,4 +1,4 @@
-//! Tasks that look for a struct, a list, a text or data.
+//! Edits that look for a struct, a list, a text or data.
 ghost use Rattle.std.specs.Prelude.{◌≡◌, true};
 ghost use Rattle.capnp_builders.specs.Building.{built, IsThere};
 ghost use Rattle.capnp_edits.specs.declared.edit.tasks.Task.TheVariants.{Search};
@@ -12,7 +12,7 @@ use capnp_arena::arena::BuilderArena;
 use capnp_builders::builders::PointerBuilder;
 use capnp_words::error::ErrorKind;
 
-/// Looks for something with the builder's call for it.
+/// Looks for `sought` at `pointer`, with the call of `PointerBuilder` for it.
 pub(crate) fn look<A: BuilderArena>(
     pointer: &mut PointerBuilder<'_, A>,
     sought: Sought,

@@ -32,7 +32,7 @@ pub(crate) fn has_words<A: BuilderArena>(arena: &A, id: u32, words: u64) -> bool
     }
 }
 
-/// Where pointer `i` of a struct is.
+/// Where pointer `i` of `parent` is; `None` if the struct has no such pointer.
 fn child_of<A: BuilderArena>(arena: &A, parent: ExistingStruct, i: u16) -> Option<PathEnd>
     ensures { IsEndFound (A.view arena.now).words (child_in parent i) result }
 {
@@ -47,7 +47,8 @@ fn child_of<A: BuilderArena>(arena: &A, parent: ExistingStruct, i: u16) -> Optio
     }
 }
 
-/// Where element `i` of a list is, if it is a pointer or a struct.
+/// Where element `i` of `list` is; `None` if the list has no such element, or it is neither a
+/// pointer nor a struct.
 fn element_of<A: BuilderArena>(arena: &A, list: ExistingList, i: u32) -> Option<PathEnd>
     ensures { IsEndFound (A.view arena.now).words (element_in list i) result }
 {
@@ -80,7 +81,7 @@ fn element_of<A: BuilderArena>(arena: &A, list: ExistingList, i: u32) -> Option<
     }
 }
 
-/// Where a step leads from a place, if anywhere.
+/// Where `step` leads from `here`; `None` if nowhere.
 fn step_from<A: BuilderArena>(arena: &A, here: PathEnd, step: Step) -> Option<PathEnd>
     ensures steps { Steps (A.view arena.now).words here (step_of step) result }
     ensures inside { IfSome result (EndLiesIn (A.view arena.now).words) }
@@ -103,7 +104,7 @@ fn step_from<A: BuilderArena>(arena: &A, here: PathEnd, step: Step) -> Option<Pa
     }
 }
 
-/// Where a path leads from the root, if anywhere.
+/// Where `path` leads from the root; `None` if nowhere.
 pub(crate) fn find<A: BuilderArena>(arena: &A, path: &[Step]) -> Option<PathEnd>
     requires { IsPlace (A.view arena.now).words 0 0 }
     ensures found { (t : Tree) → IsStored (A.view arena.now).words 0 0 t

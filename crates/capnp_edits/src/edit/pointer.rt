@@ -1,4 +1,4 @@
-//! Tasks at a pointer.
+//! Does edits at a pointer.
 ghost use Rattle.std.specs.Prelude.{◌≡◌, true, None};
 ghost use Rattle.capnp_format.specs.Segments.{IsPlace};
 ghost use Rattle.capnp_builders.specs.Building.{built, IsThere};
@@ -28,7 +28,7 @@ pub(crate) fn done<T: Drop>(outcome: Result<T, ErrorKind>) -> Result<(), ErrorKi
     Ok(())
 }
 
-/// Makes a pointer lead to a new object.
+/// Makes `pointer` lead to the new object `object`.
 fn make<A: BuilderArena>(
     pointer: &mut PointerBuilder<'_, A>,
     object: NewObject<'_>,
@@ -47,7 +47,7 @@ fn make<A: BuilderArena>(
     }
 }
 
-/// Makes a pointer a capability, or null.
+/// Makes `pointer` the capability with the index `capability`, or null if that is `None`.
 fn point<A: BuilderArena>(pointer: &mut PointerBuilder<'_, A>, capability: Option<u32>)
     requires { IsThere (built A.view pointer.old) }
     ensures { IsDoneBy A.view pointer.old pointer.new (Point capability) None }
@@ -58,7 +58,7 @@ fn point<A: BuilderArena>(pointer: &mut PointerBuilder<'_, A>, capability: Optio
     }
 }
 
-/// Does a task at a pointer of a message.
+/// Does `task` at the pointer at `place`.
 pub(crate) fn edit_pointer<A: BuilderArena>(
     arena: &mut A,
     place: PointerPlace,

@@ -1,4 +1,4 @@
-//! Operations, sorted once by what they do.
+//! Tasks: the operations of edits, grouped by what they do.
 ghost use Rattle.std.specs.Prelude.{◌≡◌};
 ghost use Rattle.capnp_edits.specs.declared.edit.tasks.StructChange.TheVariants.{Bits};
 ghost use Rattle.capnp_edits.specs.declared.edit.tasks.Task.TheVariants.{Make, InStruct, Search, CopyRoot};
@@ -62,7 +62,7 @@ pub(crate) enum Part {
 pub(crate) enum Sought {
     /// A struct at least this large.
     Struct(StructSize),
-    /// A list, read as one with elements of this size.
+    /// A list with elements of this size or wider.
     List(ElementSize),
     /// A list of structs at least this large.
     StructList(StructSize),
@@ -72,7 +72,7 @@ pub(crate) enum Sought {
     Data,
 }
 
-/// An operation whose numbers are in range, by what it does.
+/// An operation, by what it does. Its numbers are in range.
 #[derive(Clone, Copy)]
 pub(crate) enum Task<'a> {
     /// Make the pointer lead to a new object.
@@ -95,7 +95,7 @@ const LIST_LIMIT: u32 = 0x2000_0000;
 // Defaults have fewer words than this.
 const DEFAULT_LIMIT: usize = 0x1_0000_0000;
 
-/// Whether `value` fits `size`, which is a bit or one of 1, 2, 4 or 8 bytes.
+/// Whether `size` is a bit or 1, 2, 4 or 8 bytes, and `value` fits it.
 fn is_number(size: ElementSize, value: u64) -> bool
     ensures { result ≡ is_number size value }
 {
@@ -109,7 +109,7 @@ fn is_number(size: ElementSize, value: u64) -> bool
     }
 }
 
-/// Whether a default has fewer words than `DEFAULT_LIMIT`.
+/// Whether there is no default, or it has fewer words than `DEFAULT_LIMIT`.
 fn is_small_default(default: Option<&[u8]>) -> bool
     ensures { result ≡ is_small_default default.entry }
 {
@@ -119,7 +119,7 @@ fn is_small_default(default: Option<&[u8]>) -> bool
     }
 }
 
-/// Whether a pointer can lead to the object.
+/// Whether a pointer can lead to an object as large as `object`.
 fn is_object(object: NewObject<'_>) -> bool
     ensures { result ≡ is_in_range (Make object.entry) }
 {
@@ -138,7 +138,7 @@ fn is_object(object: NewObject<'_>) -> bool
     }
 }
 
-/// Whether this can be looked for, with this default.
+/// Whether `sought` can be looked for with `default`.
 fn is_search(sought: Sought, default: Option<&[u8]>) -> bool
     ensures { result ≡ is_in_range (Search sought default.entry) }
 {
@@ -150,8 +150,8 @@ fn is_search(sought: Sought, default: Option<&[u8]>) -> bool
     }
 }
 
-/// Whether the numbers of a task are those of something that a pointer can lead to, or that a field
-/// or an element holds, and its default is small.
+/// Whether the numbers of `task` are in range: a pointer can lead to an object as large as the one
+/// to make, a number to write fits its width, and a default has fewer words than `DEFAULT_LIMIT`.
 fn is_in_range(task: Task<'_>) -> bool
     ensures { result ≡ is_in_range task.entry }
 {
@@ -166,7 +166,7 @@ fn is_in_range(task: Task<'_>) -> bool
     }
 }
 
-/// A copy of the value of another message's root.
+/// The task of copying the value of another message's root.
 fn copy_of(source: Source<'_>, wanted: Wanted, canonicalize: bool) -> Task<'_>
     ensures { result ≡ CopyRoot (record {
       source = source.entry;
@@ -181,14 +181,14 @@ fn copy_of(source: Source<'_>, wanted: Wanted, canonicalize: bool) -> Task<'_>
     })
 }
 
-/// Writing a number of a data section.
+/// The task of writing a number into a data section.
 fn bits<'a>(size: ElementSize, index: u32, value: u64) -> Task<'a>
     ensures { result ≡ InStruct (Bits (record { size = size; index = index; value = value })) }
 {
     Task::InStruct(StructChange::Bits(Number { size, index, value }))
 }
 
-/// What an operation does.
+/// The task of the operation `op`, whether or not its numbers are in range.
 fn as_task(op: Op<'_>) -> Task<'_>
     ensures { result ≡ as_task op.entry }
 {
@@ -221,8 +221,8 @@ fn as_task(op: Op<'_>) -> Task<'_>
     }
 }
 
-/// What an operation does, if its numbers are in range. A bit of a data section has an operation of
-/// its own.
+/// The task of the operation `op`; `None` if its numbers aren't in range. `Op::SetField` doesn't
+/// write bits, for which there is `Op::SetBool`.
 pub(crate) fn task_of(op: Op<'_>) -> Option<Task<'_>>
     ensures { result ≡ task_of op.entry }
 {
