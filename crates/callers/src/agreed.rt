@@ -1,6 +1,7 @@
-//! What users of the copy and the test want to know of both: a message has one value and one string
-//! of canonical words, and copy and test agree ("Canonicalization"). Each function does nothing:
-//! its contract is the law.
+//! What users of the canonical copy and of the test for canonical form want to know of both
+//! (encoding specification, "Canonicalization"): a message has at most one value and one list of
+//! canonical words, and the copy and the test agree. Each function does nothing: its contract is
+//! the law.
 ghost use Rattle.std.specs.Prelude.{◌≡◌, ◌↔◌, ◌∷◌, ◌++◌, ◌+◌, ◌≤◌, [], ℕ, List};
 ghost use Rattle.capnp_words.specs.Meter.{FitsIn};
 ghost use Rattle.capnp_format.specs.Canonical.{charge, encoding, trim, word_count};
@@ -15,8 +16,8 @@ ghost use Rattle.capnp_objects.specs.Source.{levels};
 ghost use Rattle.capnp_messages.specs.CanonicalMessages.{IsCanonicalMessage, IsCanonicalOf};
 ghost use Rattle.capnp_messages.specs.Messages.{IsValueOf};
 
-/// A place means at most one value, at one cost, with any levels. So a message has at most one value,
-/// with any limits.
+/// A place means at most one value, at one cost, for all nesting limits. So a message has at most
+/// one value, for all limits.
 pub fn one_value()
     ensures place { (S : Segments) (n m s p : ℕ) (t u : Tree) (c e : ℕ) → Means S n s p t c
         → Means S m s p u e → (t ≡ u) × (c ≡ e) }
@@ -24,8 +25,8 @@ pub fn one_value()
         → IsValueOf S limits t → IsValueOf S others u → t ≡ u }
 {}
 
-/// Two values that fit a segment have the same words exactly if they are equal. So two messages have
-/// the same canonical words exactly if their trimmed values are equal.
+/// Two values whose canonical words fit a segment have the same canonical words exactly if they are
+/// equal. So two messages have the same canonical words exactly if their trimmed values are equal.
 pub fn same_words()
     ensures values { (t u : Tree) → IsValue t → IsValue u → 1 + word_count t ≤ max_segment_words
         → 1 + word_count u ≤ max_segment_words → (encoding t ≡ encoding u) ↔ (t ≡ u) }
@@ -36,7 +37,7 @@ pub fn same_words()
         → (encoding (trim t) ≡ encoding (trim u)) ↔ (trim t ≡ trim u) }
 {}
 
-/// The canonical words of a value aren't a prefix of those of another one.
+/// The canonical words of a value aren't a proper prefix of the canonical words of any value.
 pub fn no_words_begin_others()
     ensures values { (t u : Tree) (more : List ℕ) → IsValue t → IsValue u
         → 1 + word_count t ≤ max_segment_words → 1 + word_count u ≤ max_segment_words
@@ -48,8 +49,8 @@ pub fn no_words_begin_others()
         → encoding (trim t) ++ more ≡ encoding (trim u) → more ≡ [] }
 {}
 
-/// The canonical words of a message are a canonical message, and have the trimmed value, within the
-/// same limits.
+/// The canonical words of a message are a canonical message themselves. Its value, within the same
+/// limits, is the trimmed value of the first message.
 pub fn copy_is_canonical()
     ensures { (S : Segments) (limits : ReaderOptions) (t : Tree) → AreWords S → IsValueOf S limits t
         → 1 + word_count (trim t) ≤ max_segment_words
@@ -57,8 +58,8 @@ pub fn copy_is_canonical()
         × IsValueOf (encoding (trim t) ∷ []) limits (trim t) }
 {}
 
-/// The canonical message of a value has that value, within exactly the limits that cover it, and no
-/// other value.
+/// The canonical message of a value has that value, and no other one. It has it exactly within
+/// limits that are at least the value's depth and its cost, including the word of the root.
 pub fn canonical_has_value()
     ensures means { (S : Segments) (t : Tree) (n : ℕ) → IsCanonicalOf S t → depth t ≤ n
         → Means S n 0 0 t (charge t) }
@@ -74,8 +75,8 @@ pub fn canonical_is_own_copy()
         → IsCanonicalMessage S ↔ (S ≡ encoding (trim t) ∷ []) }
 {}
 
-/// A message whose only word is its root, which is null, is the forest of Null: this is where
-/// building starts.
+/// A message whose only word is a null root is a forest with the value Null: its value holds no
+/// word twice, and all other words are zero. Building starts with this message.
 pub fn fresh_forest()
     ensures { IsForest ((0 ∷ []) ∷ []) Null }
 {}

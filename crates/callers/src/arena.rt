@@ -1,4 +1,4 @@
-//! Callers that know an arena only by its contracts.
+//! Functions that call an arena, and are proved from its contracts only.
 ghost use Rattle.std.specs.Prelude.{◌≡◌, ◌≢◌, ◌<◌, ◌≤◌, ◌+◌, ◌^◌, ◌↔◌, ◌++◌, ◌∷◌, [], length, IsTrue, IsOk, IsSome, IsNone, IfSome, IfErr, OnOk, OnErr, slice_set, slice_index_or, replicate};
 ghost use Rattle.std.specs.Bool.{OnTrue, OnFalse};
 ghost use Rattle.capnp_format.specs.Bytes.{message};
@@ -12,7 +12,8 @@ use capnp_arena::arena::{BuilderArena, ReaderArena};
 use capnp_words::error::ErrorKind;
 use capnp_words::read_limiter::ReadLimiter;
 
-/// Allocates a word of a segment, and writes it.
+/// Allocates a word of segment `id`, and writes `word` there. Returns `false`, and changes nothing,
+/// if the segment has no room for it.
 #[tactic(auto, using(crate::proofs::Extending::extending))]
 pub fn append<A: BuilderArena>(arena: &mut A, id: u32, word: u64) -> bool
     requires { id < length (A.view arena.old).words }
@@ -30,8 +31,8 @@ pub fn append<A: BuilderArena>(arena: &mut A, id: u32, word: u64) -> bool
     }
 }
 
-/// Allocates two words of a segment and writes them; if only one fits, allocates and writes only
-/// the first.
+/// Allocates two words of segment `id`, and writes `first` and `second` there. Returns `false` if
+/// the segment has no room for both; if it has room for one, allocates one and writes `first`.
 #[tactic(auto, using(crate::proofs::Extending::extending))]
 pub fn append_both<A: BuilderArena>(arena: &mut A, id: u32, first: u64, second: u64) -> bool
     requires { id < length (A.view arena.old).words }
@@ -47,7 +48,7 @@ pub fn append_both<A: BuilderArena>(arena: &mut A, id: u32, first: u64, second: 
     append(arena, id, first) && append(arena, id, second)
 }
 
-/// Writes the first two words of a segment.
+/// Writes `first` and `second` over the first two words of segment `id`.
 pub fn put_two<A: BuilderArena>(arena: &mut A, id: u32, first: u64, second: u64)
     requires { 2 ≤ length (segment (A.view arena.old).words id) }
     ensures { A.view arena.new
@@ -58,7 +59,8 @@ pub fn put_two<A: BuilderArena>(arena: &mut A, id: u32, first: u64, second: u64)
     arena.set_word(id, 1, second);
 }
 
-/// Writes the second word of a segment and returns 1; for the word 7, writes nothing and returns 0.
+/// Writes `word` over the second word of segment `id` and returns 1; if `word` is 7, writes nothing
+/// and returns 0.
 pub fn put_either<A: BuilderArena>(arena: &mut A, id: u32, word: u64) -> u32
     requires { 2 ≤ length (segment (A.view arena.old).words id) }
     ensures kept { word ≡ 7 → (result ≡ 0) × (A.view arena.new ≡ A.view arena.old) }
@@ -73,8 +75,8 @@ pub fn put_either<A: BuilderArena>(arena: &mut A, id: u32, word: u64) -> u32
     1
 }
 
-/// Allocates a word of a segment, writes it and returns its position; `None` if the segment has no
-/// room for it.
+/// Allocates a word of segment `id`, writes `word` there and returns its position. Returns `None`
+/// if the segment has no room for it.
 #[tactic(auto, using(crate::proofs::Extending::extending))]
 pub fn try_append<A: BuilderArena>(arena: &mut A, id: u32, word: u64) -> Option<u32>
     requires { id < length (A.view arena.old).words }
@@ -89,7 +91,7 @@ pub fn try_append<A: BuilderArena>(arena: &mut A, id: u32, word: u64) -> Option<
     Some(at)
 }
 
-/// Zeroes all allocated words of a segment.
+/// Zeroes all allocated words of segment `id`.
 pub fn clear<A: BuilderArena>(arena: &mut A, id: u32)
     requires { id < length (A.segments arena.old) }
     ensures words { A.segments arena.new ≡ slice_set (A.segments arena.old) id
@@ -100,8 +102,8 @@ pub fn clear<A: BuilderArena>(arena: &mut A, id: u32)
     arena.segment_mut(id).fill(0);
 }
 
-/// Grants the first `words` words of segment 0; the contract states exactly when, what is left, and
-/// each refusal.
+/// Asks to read the first `words` words of segment 0. The contract states exactly when this is
+/// granted, what `lim` then has left, and each refusal.
 pub fn granted<A: ReaderArena>(
     arena: &A,
     words: u32,

@@ -1,5 +1,6 @@
-//! Callers that know builders only by their contracts, generic over the arena: they show that a
-//! message's value can be followed from call to call, whether a call succeeds or is refused.
+//! Functions that call builders, for any arena, and are proved from the builders' contracts only.
+//! They show that these contracts tell the value of the message after each call, whether it
+//! succeeds or is refused.
 ghost use Rattle.std.specs.Prelude.{ℕ, ◌≡◌, ◌<◌, ◌≤◌, ◌+◌, ◌^◌, ◌∷◌, [], length, IsOk, IsOkAnd, IfErr, IfOk, OnOk, OnErr};
 ghost use Rattle.capnp_words.specs.declared.error.ErrorKind.TheVariants.{AllocationFailed};
 ghost use Rattle.capnp_making.specs.Makes.{call_at};
@@ -39,7 +40,8 @@ pub enum Built {
     Both,
 }
 
-/// Makes the root a struct of size `outer`, and its first pointer one of size `inner`.
+/// Makes the root lead to a struct of size `outer`, and the first pointer of that to a struct of
+/// size `inner`. Returns how far it got.
 pub fn two_structs<A: BuilderArena>(arena: &mut A, outer: StructSize, inner: StructSize) -> Built
     requires place { IsPlace (A.view arena.old).words 0 0 }
     requires forest { (t : Tree) × IsForest (A.view arena.old).words t }
@@ -63,7 +65,7 @@ pub fn two_structs<A: BuilderArena>(arena: &mut A, outer: StructSize, inner: Str
     }
 }
 
-/// Makes the root a struct.
+/// Makes the root lead to a struct of `size`.
 fn root_struct<A: BuilderArena>(arena: &mut A, size: StructSize) -> Result<StructPlace, ErrorKind>
     requires { IsPlace (A.view arena.old).words 0 0 }
     ensures made { OnOk result (Puts (A.view arena.old).words (A.view arena.new).words 0 0
@@ -77,7 +79,7 @@ fn root_struct<A: BuilderArena>(arena: &mut A, size: StructSize) -> Result<Struc
     root.put_struct(size)
 }
 
-/// Makes the first pointer of a struct another struct.
+/// Makes the first pointer of the struct at `place` lead to a struct of `size`.
 fn field_struct<A: BuilderArena>(
     arena: &mut A,
     place: StructPlace,
@@ -99,9 +101,9 @@ fn field_struct<A: BuilderArena>(
     field.put_struct(size)
 }
 
-/// A built message as a reader of its output segments sees it: its words are those of the message,
-/// so each place means what it means in the message. Refuses only if memory runs out, and never
-/// with one segment.
+/// Returns a reader of the output segments of the message `built`. It reads the words of the
+/// message, so each place means the same for it as in the message. Refuses only if memory runs out,
+/// and never if the message has one segment.
 pub fn read_back<'a, L: Allocator>(
     built: &'a BuilderArenaImpl<L>,
 ) -> Result<ReaderArenaImpl<OutputSegments<'a>>, ErrorKind>
@@ -119,8 +121,8 @@ pub fn read_back<'a, L: Allocator>(
     Ok(ReaderArenaImpl::new(output, ReaderOptions::default()))
 }
 
-/// Applies edits, and returns a reader of the message's output segments: its root means the value
-/// that the edits lead to, with their outcomes.
+/// Applies `edits`, and returns a reader of the message's output segments. Its root means the value
+/// that the edits make, with the refusals in `outcomes`.
 pub fn edited<'a, L: Allocator>(
     built: &'a mut BuilderArenaImpl<L>,
     edits: &[Edit<'_>],
@@ -138,7 +140,7 @@ pub fn edited<'a, L: Allocator>(
     read_back(built)
 }
 
-/// Makes the root a struct of at least one word.
+/// Makes the root lead to a struct of `size`, which has at least one word.
 fn root_with_room<A: BuilderArena>(
     arena: &mut A,
     size: StructSize,
@@ -158,7 +160,7 @@ fn root_with_room<A: BuilderArena>(
     root.put_struct(size)
 }
 
-/// Makes the first pointer of a struct a text.
+/// Makes the first pointer of the struct at `place` lead to `text`.
 fn text_with_room<A: BuilderArena>(
     arena: &mut A,
     place: StructPlace,
@@ -180,8 +182,8 @@ fn text_with_room<A: BuilderArena>(
     field.set_text(text)
 }
 
-/// Makes the root a struct of a text and a number. Never refuses if segment 0 has room for all the
-/// words.
+/// Makes the root lead to a struct of a text and a number. Never refuses if segment 0 has room for
+/// all the words.
 pub fn text_and_number<A: BuilderArena>(
     arena: &mut A,
     text: &[u8],
@@ -213,8 +215,8 @@ pub(crate) fn root_word<A: BuilderArena>(arena: &mut A)
     let _root = arena.allocate(0, 1);
 }
 
-/// Does `text_and_number` in an array of four words on the stack, lent as scratch space. The
-/// message takes no memory, so no call is refused for lack of it.
+/// Calls `text_and_number` for a message whose first segment is an array of four words on the
+/// stack. The message needs no other memory, so no call is refused for lack of it.
 pub fn built_on_the_stack(alloc: Global, number: u64) -> Result<(), ErrorKind>
     ensures { IsOk result }
 {

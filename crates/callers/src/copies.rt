@@ -1,4 +1,4 @@
-//! Callers that know canonical copies only by their contracts.
+//! Functions that make canonical copies, and are proved from the contracts of the calls only.
 ghost use Rattle.std.specs.Prelude.{◌≡◌, ◌⊎◌, ◌∷◌, ◌+◌, ◌*◌, ◌<◌, ◌≤◌, [], ℕ, true, length, map, sum, IfOk, IfErr, OnErr};
 ghost use Rattle.capnp_words.specs.declared.error.ErrorKind.TheVariants.{AllocationFailed};
 ghost use Rattle.capnp_words.specs.Meter.{FitsIn};
@@ -21,13 +21,12 @@ use capnp_words::error::ErrorKind;
 use capnp_words::read_limiter::ReadLimiter;
 use std::alloc::Global;
 
-/// The canonical copy of a pointer's value, with memory from the heap.
+/// Makes the canonical copy of the value of the pointer at `place`, with memory from the heap.
 ///
-/// Succeeds exactly if the pointer means a value without capabilities within the levels of the
-/// reader, and the limiter covers what reading it costs, unless there is no memory. The limiter has
-/// then paid that cost, and counted each pointer; a refusal leaves it unchanged. The copy's segment
-/// has room for no more than the words of the message plus one, or for less than twice the words
-/// written.
+/// Succeeds exactly if the pointer means a value without capabilities within the nesting limit of
+/// `arena`, and `lim` covers what reading it costs, unless memory runs out. Charges `lim` that
+/// cost, and counts each pointer; a refusal leaves `lim` unchanged. The copy's segment has room for
+/// at most as many words as the message has plus one, or for less than twice the words written.
 pub fn heap_copy_at<S: ReaderSegments>(
     alloc: Global,
     arena: &ReaderArenaImpl<S>,

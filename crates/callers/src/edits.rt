@@ -1,4 +1,4 @@
-//! Callers that know edits only by their contracts.
+//! Functions that apply edits, and are proved from the contracts of edits only.
 ghost use Rattle.std.specs.Prelude.{◌≡◌, ◌≤◌, ◌+◌, ◌∷◌, [], length, true, IsOk, All};
 ghost use Rattle.std.specs.List.{sum_by};
 ghost use Rattle.capnp_format.specs.Forest.{IsForest};
@@ -15,9 +15,9 @@ use capnp_words::error::ErrorKind;
 use capnp_words::wire_pointer::{ElementSize, StructSize};
 use std::alloc::Global;
 
-/// Applies edits that make objects, or write pointers, fields, elements and bytes, to a message
-/// that is all in its first segment. That one has room for all the words, so none is refused for
-/// memory.
+/// Applies `edits`, which only make objects, or write pointers, fields, elements and bytes, to a
+/// message that is all in its first segment. That segment has room for the words of all objects to
+/// make, so no edit is refused for lack of memory.
 pub fn edits_in_room<A: BuilderArena>(
     arena: &mut A,
     edits: &[Edit<'_>],
@@ -34,7 +34,8 @@ pub fn edits_in_room<A: BuilderArena>(
     apply_all(arena, edits, outcomes);
 }
 
-/// Passes on a refusal for memory, and no other one.
+/// Returns `kind` as an error if it is `AllocationFailed` or `MessageTooLarge`; otherwise returns
+/// `Ok`.
 fn refused_memory(kind: ErrorKind) -> Result<(), ErrorKind>
     ensures { is_of_path kind ≡ true → IsOk result }
 {
@@ -44,7 +45,8 @@ fn refused_memory(kind: ErrorKind) -> Result<(), ErrorKind>
     }
 }
 
-/// Passes on the refusal of an edit for memory, and no other outcome.
+/// Returns the refusal of an edit as an error if it is `AllocationFailed` or `MessageTooLarge`;
+/// otherwise returns `Ok`.
 fn pass_memory(outcome: Option<ErrorKind>) -> Result<(), ErrorKind>
     ensures { IsNoneOfMemory outcome → IsOk result }
 {
@@ -54,8 +56,9 @@ fn pass_memory(outcome: Option<ErrorKind>) -> Result<(), ErrorKind>
     }
 }
 
-/// Makes the root a struct of a number and a text, with three edits in a message of an empty root.
-/// Fails only if an edit is refused for memory; the words of all fit the segment, so none is.
+/// Makes the root lead to a struct of a number and a text, with three edits of a message whose only
+/// word is a null root. Would fail if an edit were refused for lack of memory, but the words of all
+/// fit the segment.
 #[tactic(auto, using(crate::proofs::Fitting::root_forest, crate::proofs::Fitting::root_first, crate::proofs::Fitting::three_ask, crate::proofs::Fitting::none_at))]
 pub fn three_edits<A: BuilderArena>(arena: &mut A) -> Result<(), ErrorKind>
     requires root { (A.view arena.old).words ≡ (0 ∷ []) ∷ [] }
@@ -88,8 +91,8 @@ pub fn three_edits<A: BuilderArena>(arena: &mut A) -> Result<(), ErrorKind>
     pass_memory(outcomes[2])
 }
 
-/// Does `three_edits` in an array of four words on the stack, lent as scratch space. The message
-/// takes no memory, so no edit is refused for lack of it.
+/// Calls `three_edits` for a message whose first segment is an array of four words on the stack.
+/// The message needs no other memory, so no edit is refused for lack of it.
 pub fn edited_on_the_stack(alloc: Global) -> Result<(), ErrorKind>
     ensures { IsOk result }
 {

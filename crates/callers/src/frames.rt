@@ -1,4 +1,4 @@
-//! Callers that know frames only by their contracts.
+//! Functions that read and write frames, and are proved from the contracts of the calls only.
 ghost use Rattle.std.specs.Prelude.{◌≡◌, ◌⊎◌, [], Some, false, length, IfOk, IfErr, IsOkAnd, OnOk};
 ghost use Rattle.capnp_format.specs.Bytes.{message};
 ghost use Rattle.capnp_format.specs.Segments.{Segments};
@@ -11,8 +11,8 @@ use capnp_arena::arena::{Allocator, BuilderArena, BuilderArenaImpl, ReaderArena,
 use capnp_framing::devices::{MemoryOutput, Output};
 use capnp_framing::framing::{FrameError, FrameSegments, read_from_flat_slice, write};
 
-/// Reads the frame of a message in memory with nothing after it. Reads it however large the message
-/// is, and as that message.
+/// Reads `bytes`, which are the frame of a message with nothing after it. Reads it as that message,
+/// however large it is.
 pub fn read_frame(bytes: &[u8]) -> Result<FrameSegments<'_>, FrameError>
     ensures { (S : Segments) → IsFrameOf S bytes.now → IsOkAnd result
         (λ f. message (⟦<FrameSegments<'static> as ReaderSegments>⟧.segments f) ≡ S) }
@@ -23,7 +23,7 @@ pub fn read_frame(bytes: &[u8]) -> Result<FrameSegments<'_>, FrameError>
     }
 }
 
-/// Writes a built message as a frame, to an output that is still empty.
+/// Writes the message `built` as a frame to `to`, which is still empty.
 fn write_frame<L: Allocator>(
     built: &BuilderArenaImpl<L>,
     to: &mut MemoryOutput,
@@ -43,9 +43,9 @@ fn write_frame<L: Allocator>(
     }
 }
 
-/// A built message, written as a frame and read from those bytes: each place means what it means in
-/// the message. Refuses if memory runs out, or the message has no segment or more than 512; reads
-/// whatever was written.
+/// Writes the message `built` as a frame, and reads it from the bytes written: each place means
+/// what it means in the message. Refuses if memory runs out, or the message has no segment or more
+/// than 512. Never refuses to read what was written.
 pub fn framed<'a, L: Allocator>(
     built: &BuilderArenaImpl<L>,
     to: &'a mut MemoryOutput,

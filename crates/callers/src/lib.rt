@@ -1,4 +1,4 @@
-//! Callers that know an arena, or builders, only by their contracts.
+//! Functions that call the other crates, and are proved from the contracts of these only.
 #![tactic(auto)]
 
 pub mod agreed;

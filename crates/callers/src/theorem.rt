@@ -1,5 +1,6 @@
-//! The theorem of the README as contracts: the canonical copy, the test for canonical form, and the
-//! tree after any list of edits ("Canonicalization"). `docs/THEOREM.md` has all that they cite.
+//! The theorem of the README as contracts: the canonical copy, the test for canonical form
+//! (encoding specification, "Canonicalization"), and the value of a message after any list of
+//! edits. `docs/THEOREM.md` has all definitions that they cite.
 ghost use Rattle.std.specs.Prelude.{◌≡◌, ◌↔◌, ◌⊎◌, ◌∷◌, ◌+◌, ◌*◌, ◌<◌, ◌≤◌, [], ℕ, List, Ok, true, false, length, map, sum, IsOk, IsTrue, IfOk, IfErr, OnOk, OnErr};
 ghost use Rattle.capnp_words.specs.declared.error.ErrorKind.TheVariants.{AllocationFailed};
 ghost use Rattle.capnp_words.specs.Meter.{FitsIn};
@@ -51,11 +52,12 @@ use capnp_words::read_limiter::ReadLimiter;
 use capnp_words::wire_pointer::StructSize;
 use std::alloc::Global;
 
-/// The canonical copy of a message ("Canonicalization"), with an allocator's memory.
+/// Makes the canonical copy of the message in `segments`, with memory from `allocator`
+/// ("Canonicalization").
 ///
 /// Succeeds exactly if the message has a value without capabilities within both limits, unless the
-/// allocator refuses memory, which it counts. Makes one segment of exactly that value's canonical
-/// words.
+/// allocator refuses memory; it counts such a refusal. The copy is one segment with exactly that
+/// value's canonical words.
 pub fn canonical_copy<A: Allocator, S: ReaderSegments + Drop>(
     alloc: Global,
     allocator: A,
@@ -92,14 +94,14 @@ pub fn canonical_copy<A: Allocator, S: ReaderSegments + Drop>(
     }
 }
 
-/// The first segment of a message being built has no more words than a segment can have. Does
-/// nothing; its contract states this.
+/// Does nothing. The contract states that the first segment of a message being built has no more
+/// words than a segment can have.
 fn is_short<A: BuilderArena>(made: &A)
     ensures { length (segment (A.view made.now).words 0) ≤ max_segment_words }
 {}
 
-/// Makes the canonical copy of a message in the only segment of a message being built, after its
-/// root word.
+/// Makes the canonical copy of the message in `segments` in the only segment of the message in
+/// `arena`, which has a null root and no other word.
 ///
 /// Succeeds and stays in that segment exactly if the message has a value without capabilities
 /// within both limits whose canonical words fit there, whatever memory there is. If they don't fit,
@@ -134,11 +136,11 @@ pub fn canonical_copy_in_room<A: BuilderArena, S: ReaderSegments + Drop>(
     PointerBuilder::get_root(arena).copy_from(from, &mut lim, true)
 }
 
-/// Writes the canonical copy of a message as bytes: the frame of its only segment, or that
-/// segment's bytes.
+/// Writes the canonical copy of the message in `segments` as bytes: either as a frame of one
+/// segment, or as that segment's bytes, depending on `form`.
 ///
-/// Writes it exactly if the message has a canonical copy, unless the allocator refuses memory or
-/// the output fails. Writes nothing if the message is refused.
+/// Writes them exactly if the message has a canonical copy, unless the allocator refuses memory or
+/// `output` fails. Writes nothing if the message is refused.
 pub fn canonical_copy_in_bytes<W: Output, A: Allocator, S: ReaderSegments + Drop>(
     alloc: Global,
     allocator: A,
@@ -170,7 +172,7 @@ pub fn canonical_copy_in_bytes<W: Output, A: Allocator, S: ReaderSegments + Drop
     }
 }
 
-/// Writes the only segment of a message as a frame, or its bytes.
+/// Writes the only segment of the message `made` as a frame, or as its bytes.
 fn write_bytes<W: Output, A: Allocator>(
     output: &mut W,
     made: &BuilderArenaImpl<A>,
@@ -193,10 +195,10 @@ fn write_bytes<W: Output, A: Allocator>(
     }
 }
 
-/// Copies two messages, and returns whether their canonical copies are the same bytes: they are
-/// exactly if the trimmed values are equal, however the two messages are encoded.
+/// Makes the canonical copies of two messages, and returns whether the copies are the same bytes:
+/// they are exactly if the trimmed values are equal, however the two messages are encoded.
 ///
-/// Answers if both have a canonical copy, unless an allocator refuses memory.
+/// Refuses only if one of the messages has no canonical copy, or an allocator refuses memory.
 pub fn two_copies<A: Allocator, S: ReaderSegments + Drop, R: ReaderSegments + Drop>(
     alloc: Global,
     one: A,
@@ -234,7 +236,7 @@ pub fn two_copies<A: Allocator, S: ReaderSegments + Drop, R: ReaderSegments + Dr
     }
 }
 
-/// Whether two messages of one segment are the same bytes.
+/// Whether the messages `left` and `right`, of one segment each, are the same bytes.
 fn same_bytes<A: Allocator>(left: &BuilderArenaImpl<A>, right: &BuilderArenaImpl<A>) -> bool
     requires left { length (⟦<BuilderArenaImpl<A> as ReaderArena>⟧.segments left.now) ≡ 1 }
     requires right { length (⟦<BuilderArenaImpl<A> as ReaderArena>⟧.segments right.now) ≡ 1 }
@@ -244,11 +246,11 @@ fn same_bytes<A: Allocator>(left: &BuilderArenaImpl<A>, right: &BuilderArenaImpl
     canonical_bytes(left) == canonical_bytes(right)
 }
 
-/// The test for canonical form ("Canonicalization").
+/// Tests whether the message in `segments` is in canonical form ("Canonicalization").
 ///
-/// Accepts exactly the messages that are one segment of the canonical words of a value. Answers for
-/// every message of one segment that has a value within both limits, and for every message without
-/// exactly one segment. Never accepts a message that exceeds a limit.
+/// Returns `true` exactly for a message that is one segment with the canonical words of a value,
+/// and never for one that exceeds a limit. Never refuses a message of one segment that has a value
+/// within both limits, nor a message without exactly one segment.
 pub fn canonical_test<S: ReaderSegments + Drop>(
     segments: S,
     limits: ReaderOptions,
@@ -266,12 +268,13 @@ pub fn canonical_test<S: ReaderSegments + Drop>(
     is_canonical(segments, limits)
 }
 
-/// The test for canonical form at a pointer of a message. `head` is the word of its segment at
-/// which its first object has to start.
+/// Tests whether the pointer at `place` leads to a value in canonical form. `head` is the position
+/// in the pointer's segment, in words, at which the value's first object has to start.
 ///
-/// Accepts exactly if canonical words of a value are there. The pointer then means that value within
-/// the levels of the reader, and the test has moved `head` past the words, and charged and counted
-/// what reading the value costs. Answers whenever the words are there and both limits cover them.
+/// Returns `true` exactly if the pointer and the words from `head` on are the canonical words of a
+/// value. The pointer then means that value within the nesting limit of `arena`, and the test has
+/// moved `head` past the words, and charged and counted in `lim` what reading the value costs.
+/// Never refuses if canonical words are there, within both limits.
 pub fn canonical_test_at<S: ReaderSegments>(
     arena: &ReaderArenaImpl<S>,
     place: PointerPlace,
@@ -307,11 +310,11 @@ pub fn canonical_test_at<S: ReaderSegments>(
     PointerReader::of_pointer(pointer_at(arena, place)).is_canonical(lim, head)
 }
 
-/// The canonical copy of a pointer's value, with an allocator's memory.
+/// Makes the canonical copy of the value of the pointer at `place`, with memory from `allocator`.
 ///
-/// Succeeds exactly if the pointer means a value without capabilities within the levels of the
-/// reader, and the limiter covers what reading it costs, unless the allocator refuses memory, which
-/// it counts. The limiter has then paid that cost, and counted each pointer; a refusal leaves it
+/// Succeeds exactly if the pointer means a value without capabilities within the nesting limit of
+/// `arena`, and `lim` covers what reading it costs, unless the allocator refuses memory; it counts
+/// such a refusal. Charges `lim` that cost, and counts each pointer; a refusal leaves `lim`
 /// unchanged.
 pub fn canonical_copy_at<A: Allocator, S: ReaderSegments>(
     alloc: Global,
@@ -356,13 +359,13 @@ pub fn canonical_copy_at<A: Allocator, S: ReaderSegments>(
     copy_canonical_with(alloc, allocator, pointer_at(arena, place), lim)
 }
 
-/// Makes the canonical copy of what a pointer of a message means in the only segment of a message
-/// being built, after its root word.
+/// Makes the canonical copy of the value of the pointer at `place` of `source` in the only segment
+/// of the message in `arena`, which has a null root and no other word.
 ///
 /// Succeeds and stays in that segment exactly if the pointer means a value without capabilities
-/// within the levels of the reader, the limiter covers what reading it costs, and its canonical
-/// words fit there, with any amount of memory. The limiter has then paid that cost, and counted each
-/// pointer. After a refusal all words are zero.
+/// within the nesting limit of `source`, `lim` covers what reading it costs, and its canonical
+/// words fit there, with any amount of memory. Then `lim` is charged that cost, and has counted
+/// each pointer. After a refusal all words are zero.
 pub fn canonical_copy_at_in_room<A: BuilderArena, S: ReaderSegments>(
     arena: &mut A,
     source: &ReaderArenaImpl<S>,
@@ -395,7 +398,7 @@ pub fn canonical_copy_at_in_room<A: BuilderArena, S: ReaderSegments>(
     PointerBuilder::get_root(arena).copy_from(from, lim, true)
 }
 
-/// The pointer at a place of a message, with the levels of its reader.
+/// The pointer at `place` of `arena`, with the nesting limit of `arena`.
 pub(crate) fn pointer_at<S: ReaderSegments>(
     arena: &ReaderArenaImpl<S>,
     place: PointerPlace,
@@ -409,9 +412,9 @@ pub(crate) fn pointer_at<S: ReaderSegments>(
     Pointer::at(arena, place, arena.nesting_limit())
 }
 
-/// Makes the object of a pointer a struct, all zero: wherever in a tree the pointer is, the message
-/// is then the tree with that struct there, or with null if it is refused. Returns where its
-/// sections are.
+/// Makes the pointer of `builder` lead to a new struct, all zero. Wherever in the message's tree
+/// this pointer is, the message then has the tree with that struct there, or with null if the call
+/// is refused. Returns where the struct's sections are.
 pub fn struct_made<A: BuilderArena>(
     builder: &mut PointerBuilder<'_, A>,
     size: StructSize,
@@ -443,11 +446,11 @@ pub fn struct_made<A: BuilderArena>(
     builder.put_struct(size)
 }
 
-/// The value of a message after any list of edits, some of which may be refused.
+/// Applies `edits`, any of which may be refused.
 ///
-/// Whatever the message was before, if its words are those of a value, they are so afterwards, and
-/// that value is what the edits make of the one before. Lack of memory is reported exactly if an
-/// allocator has refused.
+/// If the words of the message were those of a value before, they are so afterwards, and this value
+/// is what the edits make of the one before. Lack of memory is reported exactly if an allocator has
+/// refused.
 pub fn edited_tree<A: BuilderArena>(
     arena: &mut A,
     edits: &[Edit<'_>],
