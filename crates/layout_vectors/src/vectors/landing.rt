@@ -1,6 +1,6 @@
-//! Where the pointers of a message lead ("Inter-Segment Pointers"). The audit follows them by code
-//! of its own, not by that which builds messages, and trusts no landing pad: it has to find what a
-//! builder has done wrong.
+//! Where the pointers of a message lead (encoding specification, "Inter-Segment Pointers"). The
+//! audit doesn't use the code that builds messages for this, and trusts no landing pad, because it
+//! has to find what a builder has done wrong.
 ghost use Rattle.std.specs.Prelude.{◌≡◌, ◌<◌, ◌/◌, ◌^◌, IsTrue, ◌↔◌, length, option_map};
 ghost use Rattle.capnp_format.specs.Bytes.{message, words_of};
 ghost use Rattle.capnp_format.specs.Segments.{segment, word_at, leads, near, far};
@@ -14,13 +14,14 @@ use capnp_words::words;
 /// Where a pointer leads, with its landing pads read.
 #[derive(Clone, Copy)]
 pub(crate) struct PointerTarget {
-    /// The word that describes the object: the pointer itself, its landing pad, or the pad's tag.
+    /// The word that describes the object: the pointer itself, its landing pad, or the second word
+    /// of a double-far pointer's pad.
     pub(crate) word: WirePointer,
     /// The segment of the object.
     pub(crate) segment: u32,
-    /// Where the object starts.
+    /// The position where the object starts, in words.
     pub(crate) start: u32,
-    /// The number of words of the landing pads.
+    /// The number of words of the landing pad: 0, 1 or 2.
     pub(crate) pads: u32,
 }
 
@@ -40,7 +41,7 @@ pub(crate) fn length_of<A: ReaderArena>(arena: &A, id: u32) -> u32
     (bytes_of(arena, id).len() / 8) as u32
 }
 
-/// The word at a place; zero if there is none.
+/// The word at `at` of segment `id`; zero if there is no such word.
 #[tactic(auto, using(capnp_format::proofs::WordsOf::words, std::proofs::lemmas::List::get_or_past))]
 pub(crate) fn word_of<A: ReaderArena>(arena: &A, id: u32, at: u32) -> WirePointer
     ensures { result.0 ≡ word_at (message (A.segments arena.now)) id at }
@@ -52,14 +53,14 @@ pub(crate) fn word_of<A: ReaderArena>(arena: &A, id: u32, at: u32) -> WirePointe
     WirePointer(words::word_at(bytes, at as usize))
 }
 
-/// Whether there is a segment of this number.
+/// Whether there is a segment `id`.
 fn exists<A: ReaderArena>(arena: &A, id: u32) -> bool
     ensures { IsTrue result ↔ (id < length (message (A.segments arena.now))) }
 {
     arena.get_segment(id).is_ok()
 }
 
-/// Where the pointer at a place leads, if it isn't zero.
+/// Where the pointer at `at` of segment `id`, which isn't null, leads; `None` if nowhere.
 pub(crate) fn follow<A: ReaderArena>(arena: &A, id: u32, at: u32) -> Option<PointerTarget>
     ensures { option_map target_at result ≡ leads (message (A.segments arena.now)) id at }
 {
@@ -71,7 +72,8 @@ pub(crate) fn follow<A: ReaderArena>(arena: &A, id: u32, at: u32) -> Option<Poin
     }
 }
 
-/// Where a word at a place leads that isn't a far pointer.
+/// Where `word`, at `at` of segment `id`, leads as a pointer that isn't far; `None` if out of the
+/// segment. `pads` is the number of words of landing pads read until then.
 fn follow_near<A: ReaderArena>(
     arena: &A,
     id: u32,
@@ -91,7 +93,7 @@ fn follow_near<A: ReaderArena>(
     })
 }
 
-/// Where a far pointer leads, with its landing pad of one or two words read. `None` if the pad
+/// Where the far pointer `word` leads, by its landing pad of one or two words. `None` if the pad
 /// isn't inside its segment; if what describes the object, the pad of one word or the second word
 /// of two, is itself a far pointer; if a pad of one word leads out of its segment; or if a pad of
 /// two words names a segment that doesn't exist. The position in that segment isn't checked here.
@@ -106,7 +108,7 @@ fn follow_far<A: ReaderArena>(arena: &A, word: WirePointer) -> Option<PointerTar
     }
 }
 
-/// Where a far pointer to a landing pad of one word leads.
+/// Where the far pointer `word`, to a landing pad of one word, leads, like `follow_far`.
 fn follow_single<A: ReaderArena>(arena: &A, word: WirePointer) -> Option<PointerTarget>
     ensures { option_map target_at result ≡ far (message (A.segments arena.now)) word.0 0 }
 {
@@ -122,7 +124,7 @@ fn follow_single<A: ReaderArena>(arena: &A, word: WirePointer) -> Option<Pointer
     follow_near(arena, id, at, pad, 1)
 }
 
-/// Where a far pointer to a landing pad of two words leads.
+/// Where the far pointer `word`, to a landing pad of two words, leads, like `follow_far`.
 fn follow_double<A: ReaderArena>(arena: &A, word: WirePointer) -> Option<PointerTarget>
     ensures { option_map target_at result ≡ far (message (A.segments arena.now)) word.0 1 }
 {

@@ -4,12 +4,13 @@ ghost use Rattle.std.specs.Prelude.{◌≡◌};
 use capnp_arena::arena::{Allocator, MAX_SEGMENT_WORDS};
 use capnp_words::error::ErrorKind;
 
-/// Makes segments like another allocator, but at most `segments`, and keeps at most `rows` rows of
-/// segments.
+/// Passes requests to another allocator until that has made `segments` segments, and keeps at most
+/// `rows` rows. An arena has a row for each segment.
 ///
-/// Each further request of at most 536,870,911 words is refused with `AllocationFailed`, and each
-/// further row is returned; both count in `refused`. A segment that was returned and is used again
-/// counts once more.
+/// A request of more than 536,870,911 words is refused with `MessageTooLarge`, and doesn't count in
+/// `refused`. Any other request beyond the limit, or refused by the other allocator, is refused
+/// with `AllocationFailed`. A row that isn't kept is returned. Both count in `refused`. A segment
+/// that was returned and is used again counts once more as a segment made.
 #[derive(Drop)]
 pub struct LimitedAllocator<A: Allocator> {
     inner: A,
@@ -19,7 +20,7 @@ pub struct LimitedAllocator<A: Allocator> {
 }
 
 impl<A: Allocator> LimitedAllocator<A> {
-    /// An allocator of this many segments and rows that has refused nothing yet.
+    /// An allocator over `inner` with these limits, which has refused nothing yet.
     pub fn new(inner: A, segments: u32, rows: u32) -> Self
         ensures inner { result.inner ≡ inner }
         ensures segments { result.segments ≡ segments }

@@ -13,7 +13,7 @@ pub(crate) struct Marks {
     pub(crate) rows: Vec<Vec<u8>>,
 }
 
-/// Whether none of the `n` words from `start` on is marked.
+/// Whether none of the `n` words from `start` on is marked in `row`.
 fn are_free(row: &[u8], start: usize, n: usize) -> bool
     requires { start + n ≤ length row.now }
     ensures free { IsTrue result → AreFreeWithin row.now start n }
@@ -27,7 +27,7 @@ fn are_free(row: &[u8], start: usize, n: usize) -> bool
     true
 }
 
-/// Marks the `n` words from `start` on.
+/// Marks the `n` words from `start` on in `row`.
 fn fill(row: &mut [u8], start: usize, n: usize)
     requires { start + n ≤ length row.old }
     ensures { row.new ≡ put_mid start n row.old (replicate n 1) }
@@ -36,7 +36,7 @@ fn fill(row: &mut [u8], start: usize, n: usize)
 }
 
 impl Marks {
-    /// Unset marks for the words of these segments.
+    /// Makes a mark, not set, for each word of `segments`.
     pub(crate) fn new(alloc: Global, segments: &[&[u8]]) -> Result<Self, AllocError>
         ensures { IfOk result
             (λ m. rows_of m ≡ map (λ s. replicate (length s.now / 8) 0) segments.now) }
@@ -59,8 +59,8 @@ impl Marks {
         }
     }
 
-    /// Marks the `n` words of segment `id` from `start` on, if they exist and none of them is
-    /// marked. Returns whether it did.
+    /// Marks the `n` words of segment `id` from `start` on and returns `true`. If one of them
+    /// doesn't exist or is marked already, marks none and returns `false`.
     pub(crate) fn take(&mut self, id: u32, start: u32, n: u32) -> bool
         ensures inside { IsTrue result → start + n ≤ length (segment (rows_of self.old) id) }
         ensures taken { IsTrue result → TakesRow (rows_of self.old) (rows_of self.new) id start n }
@@ -76,8 +76,8 @@ impl Marks {
         self.take_some(id, start as usize, n as usize)
     }
 
-    /// Marks the `n` words of segment `id` from `start` on, if none of them is marked. Returns
-    /// whether it did. Preconditions: they exist; there is at least one.
+    /// Marks the `n` words of segment `id` from `start` on and returns `true`. If one of them is
+    /// marked already, marks none and returns `false`. Preconditions: the words exist; `n` isn't 0.
     fn take_some(&mut self, id: u32, start: usize, n: usize) -> bool
         requires some { 0 < n }
         requires inside { start + n ≤ length (segment (rows_of self.old) id) }

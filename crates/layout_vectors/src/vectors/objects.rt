@@ -1,4 +1,4 @@
-//! The object that a pointer leads to, taken word by word.
+//! Marks the words of the object that a pointer leads to.
 ghost use Rattle.std.specs.Prelude.{◌≡◌, ℕ, ◌+◌, ◌<◌, ◌≤◌, ◌^◌, ◌∷◌, [], ◌↔◌, IsTrue, IfOk, length, slice_index};
 ghost use Rattle.capnp_format.specs.Bytes.{words_of, message};
 ghost use Rattle.capnp_format.specs.Numbers.{words_for};
@@ -19,9 +19,9 @@ use capnp_words::wire_pointer::{ElementSize, WirePointerKind, data_bits_per_elem
 use capnp_words::words::word_at;
 use std::alloc::AllocError;
 
-/// Marks the words of the object that a pointer leads to, and appends the places of its pointers.
-/// Returns `false` if there is no such object, or one of its words is marked already, or it has
-/// padding that isn't zero, or claims more than its elements.
+/// Marks the words of the object at `landing`, and appends the places of its pointers to `pending`.
+/// Returns `false` if there is no such object, one of its words is marked already, the bits after
+/// its last element aren't zero, or it claims more words than its elements have.
 pub(crate) fn take_object<A: ReaderArena>(
     arena: &A,
     marks: &mut Marks,
@@ -44,7 +44,7 @@ pub(crate) fn take_object<A: ReaderArena>(
     }
 }
 
-/// Takes the words of a struct, and appends the places of its pointers ("Structs").
+/// Does what `take_object` does, for a struct (encoding specification, "Structs").
 fn take_struct<A: ReaderArena>(
     arena: &A,
     marks: &mut Marks,
@@ -65,7 +65,7 @@ fn take_struct<A: ReaderArena>(
     Ok(true)
 }
 
-/// Takes the words of a list of pointers, and appends their places ("Lists").
+/// Does what `take_object` does, for a list of pointers ("Lists").
 fn take_pointers<A: ReaderArena>(
     arena: &A,
     marks: &mut Marks,
@@ -85,7 +85,7 @@ fn take_pointers<A: ReaderArena>(
     Ok(true)
 }
 
-/// Takes the words of a list of numbers, if the bits after its elements are zero ("Lists").
+/// Does what `take_object` does, for a list of numbers ("Lists").
 fn take_flat<A: ReaderArena>(
     arena: &A,
     marks: &mut Marks,
@@ -105,8 +105,8 @@ fn take_flat<A: ReaderArena>(
     marks.take(landing.segment, landing.start, words) && has_padding(arena, landing, size, count)
 }
 
-/// Whether the bits after the elements of a list are zero. Precondition: the list's words are
-/// inside their segment.
+/// Whether the bits after the elements of the list of numbers at `landing` are zero. Precondition:
+/// the list's words are inside their segment.
 fn has_padding<A: ReaderArena>(
     arena: &A,
     landing: PointerTarget,
@@ -128,8 +128,8 @@ fn has_padding<A: ReaderArena>(
     }
 }
 
-/// Whether the bits after the elements of a list are zero. Precondition: the list starts at a word
-/// of these bytes and is inside them.
+/// Whether the bits after the elements of the list of numbers that starts at word `start` of
+/// `bytes` are zero. Precondition: the list is inside `bytes`.
 fn is_padded(bytes: &[u8], start: u32, size: ElementSize, count: u32) -> bool
     requires inside { start + words_for (size_number size) count ≤ length (words_of bytes.now) }
     requires small { length (words_of bytes.now) < 2 ^ 32 }
@@ -151,8 +151,7 @@ fn is_padded(bytes: &[u8], start: u32, size: ElementSize, count: u32) -> bool
     false
 }
 
-/// Takes the words of a list of structs with its tag, if it claims exactly its elements, and
-/// appends the places of their pointers ("Lists").
+/// Does what `take_object` does, for a list of structs and its tag ("Lists").
 fn take_structs<A: ReaderArena>(
     arena: &A,
     marks: &mut Marks,

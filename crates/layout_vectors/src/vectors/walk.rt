@@ -19,15 +19,15 @@ use capnp_words::wire_pointer::{WirePointer, WirePointerKind};
 use capnp_words::words;
 use std::alloc::{AllocError, Global};
 
-/// Whether segments are those of a message that a builder made: the root pointer means a value; no
-/// word is used twice, whether by an object or by a landing pad, and none outside of its segment;
-/// the bits after the elements of lists are zero; lists of structs claim exactly their elements;
-/// and every other word is zero.
+/// Tests whether `segments` are as a builder leaves them: the root pointer means a value; each word
+/// of an object or a landing pad is inside its segment, and belongs to only one of them; the bits
+/// after the elements of lists are zero; lists of structs claim exactly the words of their
+/// elements; and every other word is zero.
 ///
 /// Preconditions: there are fewer than 2^32 segments, each of fewer than 2^32 words, and segment 0
-/// has a word. Fails with `AllocationFailed` if memory runs out. Takes a byte for each word, and
-/// eight for each pointer still to be visited. Looks at each word at most twice, and takes no more
-/// stack for deeper messages.
+/// has a word. Fails with `AllocationFailed` if memory runs out. Uses a byte of memory for each
+/// word, and eight for each pointer still to be visited. Reads each word at most twice, and uses no
+/// more stack for deeper messages.
 pub fn audit(alloc: Global, segments: &[&[u8]]) -> Result<bool, ErrorKind>
     requires small { AreSmall segments.now }
     requires root { IsPlace (message (map (λ s. s.now) segments.now)) 0 0 }
@@ -51,8 +51,8 @@ pub fn audit(alloc: Global, segments: &[&[u8]]) -> Result<bool, ErrorKind>
     }
 }
 
-/// Whether a message is one that a builder made. `marks` has a mark for each of its words, and no
-/// mark is set yet.
+/// Tests whether the segments of `arena` are as a builder leaves them, like `audit`. `marks` has a
+/// mark for each word, and none is set.
 fn walk_from_root<A: ReaderArena>(
     alloc: Global,
     arena: &A,
@@ -76,9 +76,9 @@ fn walk_from_root<A: ReaderArena>(
     Ok(rest_is_zero(arena, &marks))
 }
 
-/// Marks the words of what the pointer at a place leads to, with its landing pads. Returns `false`
-/// if it leads nowhere, if a word of a landing pad is marked already, and if `take_object` returns
-/// `false`.
+/// Marks the words of the object that the pointer at `spot` leads to, and of its landing pad.
+/// Returns `false` if the pointer leads nowhere, a word of the landing pad is marked already, or
+/// `take_object` returns `false`.
 fn walk_pointer<A: ReaderArena>(
     arena: &A,
     marks: &mut Marks,
@@ -105,7 +105,8 @@ fn walk_pointer<A: ReaderArena>(
     }
 }
 
-/// Takes the landing pads of a word, if it is a far pointer.
+/// Marks the words of the landing pad of `word`, if it is a far pointer. Returns `false` if one of
+/// them doesn't exist or is marked already.
 fn take_pads(marks: &mut Marks, word: WirePointer) -> bool
     ensures { TakesPads (rows_of marks.old) (rows_of marks.new) word.0 result }
 {
@@ -117,7 +118,7 @@ fn take_pads(marks: &mut Marks, word: WirePointer) -> bool
     }
 }
 
-/// Whether each word that isn't taken is zero.
+/// Whether each word that isn't marked is zero.
 fn rest_is_zero<A: ReaderArena>(arena: &A, marks: &Marks) -> bool
     requires { FitsRows (message (A.segments arena.now)) (rows_of marks.now) }
     ensures { IsTrue result ↔ ((u q : ℕ) → word_at (rows_of marks.now) u q ≡ 0
@@ -135,8 +136,8 @@ fn rest_is_zero<A: ReaderArena>(arena: &A, marks: &Marks) -> bool
     true
 }
 
-/// Whether each word of a segment that isn't taken is zero, by its bytes and the marks of its
-/// words.
+/// Whether each word of a segment that isn't marked is zero. `bytes` are the bytes of the segment,
+/// and `row` the marks of its words.
 fn is_zero_behind(bytes: &[u8], row: &[u8]) -> bool
     requires { length row.now ≡ length (words_of bytes.now) }
     ensures { IsTrue result
