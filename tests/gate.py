@@ -1,7 +1,8 @@
 #!/usr/bin/env python3
-"""The gate. Checks the names of definitions, the quotations in pages and the header for C. Then runs `rt ci`, which proves
-and builds everything; tries the mutants with the libraries that it built; and runs the outside vectors, the cases, the
-hostile runs and the streams with the programs that it built.
+"""The gate. Checks the names of definitions, the prose, the quotations in pages, the header for C, and whether a crate has
+changed since the C in generated/ was written. Then runs `rt ci`, which proves and builds everything; tries the mutants with
+the libraries that it built; and runs the outside vectors, the cases, the hostile runs and the streams with the programs that
+it built.
 
     gate.py [--anew]
 
@@ -99,6 +100,7 @@ def main():
         counted('prose', [sys.executable, str(TOP / 'tests/prose.py')]),
         counted('pages', [sys.executable, str(TOP / 'tools/theorem.py'), '--check']),
         counted('header', [sys.executable, str(TOP / 'tests/library/header.py')]),
+        counted('generated', [sys.executable, str(TOP / 'tools/generated.py'), '--sums']),
         counted('rt ci', proving(sys.argv[1:]), RT_JOBS=str(side_by_side())),
         counted('mutants', [sys.executable, str(TOP / 'tests/mutants/run.py')]),
         *(over_programs(*it) for it in OVER_PROGRAMS),

@@ -55,7 +55,7 @@ LEFT_OUT = re.compile(r'(?:^|/)(?:out|generated)/|^LICENSE$|^HANDLES$|\.(?:jsonl
 def files(within):
     """The tracked files at or below these paths, or all of them."""
     listed = subprocess.run(['git', 'ls-files', '-co', '--exclude-standard', '--', *within], cwd=TOP, stdout=subprocess.PIPE, check=True, encoding='utf-8').stdout
-    return [path for path in listed.split('\n') if path and not LEFT_OUT.search(path) and (TOP / path).is_file()]
+    return [path for path in listed.split('\n') if path and not LEFT_OUT.search(path) and (TOP / path).is_file() and not (TOP / path).is_symlink()]
 
 
 def of_page(text):

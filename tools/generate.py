@@ -3,10 +3,10 @@
 
     generate.py FOLDER CRATE..
 
-Writes FOLDER/CRATE.c for the library `capnp_canonical` or a program, from the last commit. proved.py proves the crates first,
-except for what the toolchain kept from earlier runs. `rattle build` lowers a crate to an LLVM module and passes it to clang.
-Here a script takes the place of clang: it also makes the toolchain's clang write the module as optimised text.
-c_of_module translates that text to C."""
+Writes FOLDER/CRATE.c for the library `capnp_canonical` or a program, from the current sources. proved.py proves the crates
+first, over the libraries that `./test` has left in this tree if they are of the current sources. `rattle build` lowers a crate
+to an LLVM module and passes it to clang. Here a script takes the place of clang: it also makes the toolchain's clang write the
+module as optimised text. c_of_module translates that text to C."""
 import pathlib
 import subprocess
 import sys
@@ -45,9 +45,9 @@ def in_c(room, crate):
     writer = [sys.executable, '-B', str(proved.TOP / 'tools/c_of_module'), str(module), str(proved.TOP / 'bindings/c/capnp_canonical.h')]
     run = subprocess.run(writer, stdout=subprocess.PIPE, stderr=subprocess.PIPE, encoding='utf-8')
     if run.returncode:
-        raise proved.Stopped(run.stderr)
+        sys.exit(f'generate.py: {crate}: {run.stderr}')
     if wrong := constants.differing(module.read_text(encoding='latin-1'), run.stdout)[0]:
-        raise proved.Stopped(f'{crate}: the C of {wrong} isn\'t what the module has')
+        sys.exit(f'generate.py: {crate}: the C of {wrong} isn\'t what the module has')
     return run.stdout
 
 
@@ -57,10 +57,7 @@ def main(given):
     to = pathlib.Path(given[0]).resolve()
     to.mkdir(parents=True, exist_ok=True)
     try:
-        with proved.Room(proved.committed) as room:
-            room.prove(given[1:])
-            for crate in given[1:]:
-                (to / f'{crate}.c').write_text(in_c(room, crate), encoding='utf-8')
+        proved.over_libraries(given[1:], lambda room, crate: (to / f'{crate}.c').write_text(in_c(room, crate), encoding='utf-8'))
     except proved.Stopped as why:
         sys.exit(f'generate.py: {why}')
 

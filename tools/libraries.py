@@ -1,6 +1,7 @@
 """The crates that `crates.txt` lists, their libraries as a run of `rt ci` or `rt check` left them, and the arguments that make
 the toolchain's program `rattle` check or build a crate with these libraries. `rt check` and `rt lib` ignore what `rt ci`
 left, and would prove it again."""
+import functools
 import pathlib
 import subprocess
 
@@ -14,14 +15,17 @@ class Crates:
 
     def __init__(self, top=TOP):
         self.top = top
-        page = subprocess.run(['rt', 'doc'], stdin=subprocess.DEVNULL, stdout=subprocess.PIPE, encoding='utf-8', check=True).stdout
-        self.kit = pathlib.Path(page.strip()).parent
         self.stands_on, self.kind = {}, {}
         for line in (top / 'crates.txt').read_text(encoding='utf-8').splitlines():
             if line.strip() and not line.startswith('#'):
                 head, _, words = line.partition(':')
                 name, *kind = head.split()
                 self.stands_on[name], self.kind[name] = words.split(), kind
+
+    @functools.cached_property
+    def kit(self):
+        page = subprocess.run(['rt', 'doc'], stdin=subprocess.DEVNULL, stdout=subprocess.PIPE, encoding='utf-8', check=True).stdout
+        return pathlib.Path(page.strip()).parent
 
     def below(self, name):
         """The crates of the repository that a crate depends on, directly or not, lowest first."""

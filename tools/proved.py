@@ -8,14 +8,12 @@ Builds each crate from the current sources: the program FOLDER/CRATE, or the sta
 `./test` and earlier runs of this script leave libraries in this tree. If all libraries that the crates depend on are there,
 built from the current sources, `rattle build` proves and compiles the crates with these. Otherwise `rt ci` proves the
 libraries first, in a folder of its own, and this script leaves them in this tree for the next run. Shows what both print."""
-import io
 import os
 import pathlib
 import re
 import shutil
 import subprocess
 import sys
-import tarfile
 import tempfile
 import time
 
@@ -38,15 +36,8 @@ def said(*command, **how):
     return ''.join(lines), run.returncode
 
 
-def committed(room, paths):
-    """Copies files and folders of the last commit into a folder."""
-    run = subprocess.run(['git', '-C', str(TOP), 'archive', 'HEAD', *paths], stdout=subprocess.PIPE, check=True)
-    with tarfile.open(fileobj=io.BytesIO(run.stdout)) as archive:
-        archive.extractall(room)
-
-
-def as_they_stand(room, paths):
-    """Copies files and folders as they are now, without what was built from them."""
+def copy(room, paths):
+    """Copies files and folders of this tree as they are now, without what was built from them."""
     for path in paths:
         if (TOP / path).is_dir():
             shutil.copytree(TOP / path, room / path, ignore=shutil.ignore_patterns('out'))
@@ -55,13 +46,13 @@ def as_they_stand(room, paths):
 
 
 class Room:
-    """A temporary folder in which crates are proved, and the function that fills it: `committed` or `as_they_stand`."""
+    """A temporary folder in which crates are proved."""
 
-    def __init__(self, fill):
-        self.at, self.fill = pathlib.Path(tempfile.mkdtemp(prefix='proved-')).resolve(), fill
+    def __init__(self):
+        self.at = pathlib.Path(tempfile.mkdtemp(prefix='proved-')).resolve()
 
     def __enter__(self):
-        self.fill(self.at, ['crates.txt', 'HANDLES'])
+        copy(self.at, ['crates.txt', 'HANDLES'])
         self.crates = Crates(self.at)
         return self
 
@@ -83,7 +74,7 @@ class Room:
         if lacking:
             raise Stopped(f'crates.txt has no {lacking[0]}')
         proved = [*dict.fromkeys(it for crate in wanted for it in self.crates.below(crate))]
-        self.fill(self.at, [f'crates/{it}' for it in proved])
+        copy(self.at, [f'crates/{it}' for it in proved])
         lines = (f'{it}: {" ".join(self.crates.stands_on[it])}\n' for it in proved)
         (self.at / 'crates.txt').write_text(''.join(lines), encoding='utf-8')
         # `rt ci` wants the top of a repository
@@ -103,7 +94,7 @@ class Room:
 
     def build(self, crate, to, toolchain, *flags):
         """Proves the crate and compiles it into a file."""
-        self.fill(self.at, [f'crates/{crate}'])
+        copy(self.at, [f'crates/{crate}'])
         build = str(self.crates.kit / 'bin/rattle'), 'build', *self.crates.words(crate), *flags, '--backend', 'llvm', '--toolchain', str(toolchain), '-o', str(to)
         text, status = said(*build, cwd=self.at / f'crates/{crate}')
         if status or not re.search(r'(?m)^logic=proved ', text):
@@ -119,13 +110,12 @@ class Room:
             raise Stopped(f'{crate} is not linked')
 
 
-def main(given):
-    if len(given) < 2:
-        sys.exit(__doc__)
-    to, crates, begun = pathlib.Path(given[0]).resolve(), given[1:], time.time()
-    to.mkdir(parents=True, exist_ok=True)
+def over_libraries(crates, make):
+    """Calls `make` with a room and each crate, over the libraries in this tree or, if that isn't possible, over ones that are
+    proved first."""
+    begun = time.time()
     for has_left in (True, False):
-        with Room(as_they_stand) as room:
+        with Room() as room:
             try:
                 if has_left and not room.take(crates):
                     continue
@@ -133,15 +123,30 @@ def main(given):
                     room.prove(crates)
                     room.leave(crates, begun)
                 for crate in crates:
-                    if (TOP / f'crates/{crate}/src/main.rt').is_file():
-                        room.link(crate, to / crate)
-                    else:
-                        room.build(crate, to / f'lib{crate}.a', room.crates.kit / 'toolchain')
+                    make(room, crate)
                 return
             except Stopped as why:
                 if not has_left:
-                    sys.exit(f'proved.py: {why}')
-                print(f'proved.py: with the libraries that are here, {why}; now everything is proved again')
+                    raise
+                print(f'with the libraries that are here, {why}; now everything is proved again', flush=True)
+
+
+def main(given):
+    if len(given) < 2:
+        sys.exit(__doc__)
+    to = pathlib.Path(given[0]).resolve()
+    to.mkdir(parents=True, exist_ok=True)
+
+    def make(room, crate):
+        if (TOP / f'crates/{crate}/src/main.rt').is_file():
+            room.link(crate, to / crate)
+        else:
+            room.build(crate, to / f'lib{crate}.a', room.crates.kit / 'toolchain')
+
+    try:
+        over_libraries(given[1:], make)
+    except Stopped as why:
+        sys.exit(f'proved.py: {why}')
 
 
 if __name__ == '__main__':

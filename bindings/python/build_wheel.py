@@ -3,8 +3,8 @@
     pip install ./bindings/python
 
 A wheel contains the package and the library. The library is the file that CAPNP_CANONICAL_LIBRARY names; or else what
-the C compiler `$CC` or `cc` makes of capnp_canonical.c, if that is in `native`, or in `../../generated` as in a
-release; or else the one that `pkg-config` finds. The wheel is tagged for the platform that it was built on. For another
+the C compiler `$CC` or `cc` makes of capnp_canonical.c, if that is in `native`, or in `../../generated` as in the
+repository; or else the one that `pkg-config` finds. The wheel is tagged for the platform that it was built on. For another
 tag, such as `manylinux_2_17_x86_64`, set the config setting `plat-name`.
 """
 import base64
@@ -118,7 +118,7 @@ def build_sdist(sdist_directory, config_settings=None):
     stem = f'{NAME}-{about("version")}'
     sources = {name: native(name) for name in (f'{NAME}.c', f'{NAME}.h')}
     if None in sources.values():
-        raise SystemExit(f'a source archive has {NAME}.c, which is not here: a release has it')
+        raise SystemExit(f'a source archive has {NAME}.c, which is not here')
     files = {**package(), 'PKG-INFO': metadata(), 'LICENSE': licence().read_bytes()}
     files.update({name: (HERE / name).read_bytes() for name in ('pyproject.toml', 'build_wheel.py')})
     files.update({f'native/{name}': source.read_bytes() for name, source in sources.items()})

@@ -1,5 +1,5 @@
 //! Finds the library: in the folder that `CAPNP_CANONICAL_LIB_DIR` names; or else compiles it from
-//! `native/capnp_canonical.c`, if a release has that, with the C compiler `$CC` or `cc`; or else asks `pkg-config`. It
+//! `native/capnp_canonical.c`, if that is there, with the C compiler `$CC` or `cc`; or else asks `pkg-config`. It
 //! links an installed `libcapnp_canonical.a`, or `libcapnp_canonical.so` if there is no archive or
 //! `CAPNP_CANONICAL_STATIC` is 0. Without a library the crate builds, but can't be linked.
 //!

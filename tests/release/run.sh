@@ -1,6 +1,6 @@
 #!/bin/sh
-# run.sh [-s] [TARBALL]: makes two releases of the last commit, from two folders, and compares them. Then unpacks one and tests
-# it without `rt` in the path: with each compiler, without and with optimisation, under sanitizers and valgrind, for other
+# run.sh [-s] [TARBALL]: if `rt` is in the path, writes the C of generated/ again and compares it. Makes two releases of the last
+# commit, from two folders, and compares them. Then unpacks one and tests it without `rt` in the path: with each compiler, without and with optimisation, under sanitizers and valgrind, for other
 # processors, with make, CMake, cargo and pip. With TARBALL, tests that release and makes none. With -s, runs the streams
 # with one build only. CCS names the compilers, if not gcc and clang.
 #
@@ -210,10 +210,9 @@ readme() {
     [ -n "$wanted" ] && [ "$(sh "$work/readme.sh")" = "$wanted  -" ]
 }
 
-# Runs all vectors with layout_tool, which is translated to C in the same way, but is in no release.
+# Runs all vectors with layout_tool.
 layout_tool() {
-    "$top/tools/generate.py" "$work" layout_tool && "$first" -std=c11 -O2 -Wall -Wextra -o "$work/layout_tool" "$work/layout_tool.c" &&
-        python3 -B "$top/tests/vectors/run.py" "$work/layout_tool"
+    "$first" -std=c11 -O2 -Wall -Wextra -o "$work/layout_tool" "$release/generated/layout_tool.c" && python3 -B "$top/tests/vectors/run.py" "$work/layout_tool"
 }
 
 versions() {
@@ -227,8 +226,8 @@ versions() {
 if [ $# -gt 0 ]; then
     mkdir "$work/one" && cp "$1" "$work/one" || exit 2
 else
+    if has rt generated; then summed generated "$top/test" --generated; fi
     part 'two releases, from two folders' releases
-    if has rt 'vectors over layout_tool'; then first=${CCS:-gcc}; first=${first%% *}; summed 'vectors over layout_tool' layout_tool; fi
 fi
 tar xzf "$work/one"/*.tar.gz -C "$work" || { say '0 passed, 1 failed'; exit 1; }
 release=$(echo "$work"/capnp_canonical-*)
@@ -241,6 +240,7 @@ for compiler in ${CCS:-gcc clang}; do
     by_compiler "$compiler"
 done
 on_aarch64
+summed 'vectors over layout_tool' layout_tool
 summed 'run.sh over it' sh "$release/tests/library/run.sh" "$work/prefix_$first-O2"
 sed -n 's/^ *\(ratio .*\)/    \1/p' "$work/log"
 part 'README' readme

@@ -24,7 +24,7 @@ from reading import ZERO, Line, Names, Unknown, bits, c_type, declared, struct_n
 from writing import offset
 
 ABOUT = '''/* This file is generated: don't edit it. It is the compiled form of the repository's proved sources, translated to C by
- * tools/c_of_module. The README of the release says what you have to trust. */'''
+ * tools/c_of_module. docs/PROVED.md says what you have to trust. */'''
 STRUCTS_OUTSIDE = {'s_i64_i64'}
 # C promises to read lines and texts of this many characters.
 LONGEST = 4095

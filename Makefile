@@ -1,11 +1,12 @@
 # Builds and installs the library capnp_canonical and the program capnp_canon with just a C compiler: gcc or clang, for
-# any 64-bit little-endian machine.
+# any 64-bit little-endian machine. The C is in generated/, which `tools/generated.py` writes from the proved sources.
 #
-#     make                    the library, static and shared, and the program
+#     make                    the library, static and shared, and the programs
 #     make check              tests both: one message, the C test, and, if python3 is there, all vectors
 #     make check-streams      runs the program over all streams, with python3; this takes minutes
 #     make install            installs them below PREFIX, with DESTDIR in front; LIBDIR and others can be set separately
 #     make install-python     installs the Python module into PYTHONDIR
+#     make wasm               the library for JavaScript, with clang and wasm-ld
 #
 # CC, CFLAGS, CPPFLAGS, LDFLAGS, AR and INSTALL are as usual. SHARED_FLAGS makes the shared library; set it if your linker is
 # neither Apple's nor takes -soname and --version-script. RUNNER runs a program for another machine, for example
@@ -34,7 +35,7 @@ ifeq ($(findstring apple,$(shell $(CC) -dumpmachine)),)
 SHARED = lib$(NAME).so
 SHARED_MAJOR = $(SHARED).$(MAJOR)
 SHARED_FILE = $(SHARED).$(VERSION)
-SHARED_FLAGS = -shared -Wl,-soname,$(SHARED_MAJOR) -Wl,--version-script=$(NAME).map
+SHARED_FLAGS = -shared -Wl,-soname,$(SHARED_MAJOR) -Wl,--version-script=generated/$(NAME).map
 else
 # a linker without sonames, which takes a list of names
 SHARED = lib$(NAME).dylib
@@ -47,7 +48,9 @@ FILLED = sed -e 's|@PREFIX@|$(PREFIX)|' -e 's|@LIBDIR@|$(LIBDIR)|' -e 's|@INCLUD
 	-e 's|@PYTHONDIR@|$(PYTHONDIR)|' -e 's|@SHARED_FILE@|$(SHARED_FILE)|' -e 's|@SHARED_MAJOR@|$(SHARED_MAJOR)|'
 ALL_FLAGS = -std=c11 -Ibindings/c $(CPPFLAGS) $(CFLAGS)
 
-all: $(BUILD)/lib$(NAME).a $(BUILD)/$(SHARED_FILE) $(BUILD)/capnp_canon
+INSTALLED = $(BUILD)/lib$(NAME).a $(BUILD)/$(SHARED_FILE) $(BUILD)/capnp_canon
+
+all: $(INSTALLED) $(BUILD)/layout_tool
 
 $(BUILD)/$(NAME).o: generated/$(NAME).c $(wildcard bindings/c/*.h)
 	mkdir -p $(BUILD)
@@ -57,35 +60,30 @@ $(BUILD)/lib$(NAME).a: $(BUILD)/$(NAME).o
 	rm -f $@
 	$(AR) rcs $@ $(BUILD)/$(NAME).o
 
-$(BUILD)/$(SHARED_FILE): $(BUILD)/$(NAME).o $(NAME).map
-	sed -n 's/^ *\($(NAME)_.*\);$$/_\1/p' $(NAME).map >$(BUILD)/names
+$(BUILD)/$(SHARED_FILE): $(BUILD)/$(NAME).o generated/$(NAME).map
+	sed -n 's/^ *\($(NAME)_.*\);$$/_\1/p' generated/$(NAME).map >$(BUILD)/names
 	$(CC) $(CFLAGS) $(LDFLAGS) $(SHARED_FLAGS) -o $@ $(BUILD)/$(NAME).o
 	ln -sf $(SHARED_FILE) $(BUILD)/$(SHARED_MAJOR)
 	ln -sf $(SHARED_MAJOR) $(BUILD)/$(SHARED)
 
-$(BUILD)/capnp_canon: generated/capnp_canon.c
+$(BUILD)/%: generated/%.c
 	mkdir -p $(BUILD)
-	$(CC) $(ALL_FLAGS) $(LDFLAGS) -o $@ generated/capnp_canon.c
+	$(CC) $(ALL_FLAGS) $(LDFLAGS) -o $@ generated/$*.c
 
-# a program over the same engine, that only tests need
-$(BUILD)/stream_runs: generated/stream_runs.c
-	mkdir -p $(BUILD)
-	$(CC) $(ALL_FLAGS) $(LDFLAGS) -o $@ generated/stream_runs.c
+check test: $(INSTALLED)
+	BUILD='$(BUILD)' CC='$(CC)' FLAGS='$(CPPFLAGS) $(CFLAGS) $(LDFLAGS)' PYTHON='$(PYTHON)' RUNNER='$(RUNNER)' sh tests/release/check.sh
 
-check: all
-	BUILD='$(BUILD)' CC='$(CC)' FLAGS='$(CPPFLAGS) $(CFLAGS) $(LDFLAGS)' PYTHON='$(PYTHON)' RUNNER='$(RUNNER)' sh check.sh
-
-check-streams: all $(BUILD)/stream_runs
+check-streams: $(BUILD)/capnp_canon $(BUILD)/stream_runs
 	$(PYTHON) -B tests/streams/run.py $(BUILD)/capnp_canon $(BUILD)/stream_runs
 
-install: all
+install: $(INSTALLED)
 	$(INSTALL) -d $(DESTDIR)$(LIBDIR) $(DESTDIR)$(PKGCONFIGDIR) $(DESTDIR)$(CMAKEDIR) $(DESTDIR)$(INCLUDEDIR) $(DESTDIR)$(BINDIR) \
 		$(DESTDIR)$(MANDIR)/man1 $(DESTDIR)$(BASHDIR) $(DESTDIR)$(ZSHDIR) $(DESTDIR)$(DOCDIR)
 	$(INSTALL) -m 644 $(BUILD)/lib$(NAME).a $(DESTDIR)$(LIBDIR)
 	$(INSTALL) -m 755 $(BUILD)/$(SHARED_FILE) $(DESTDIR)$(LIBDIR)
 	ln -sf $(SHARED_FILE) $(DESTDIR)$(LIBDIR)/$(SHARED_MAJOR)
 	ln -sf $(SHARED_MAJOR) $(DESTDIR)$(LIBDIR)/$(SHARED)
-	$(FILLED) $(NAME).pc.in >$(DESTDIR)$(PKGCONFIGDIR)/$(NAME).pc
+	$(FILLED) bindings/c/$(NAME).pc.in >$(DESTDIR)$(PKGCONFIGDIR)/$(NAME).pc
 	$(FILLED) bindings/c/cmake/$(NAME)-config.cmake.in >$(DESTDIR)$(CMAKEDIR)/$(NAME)-config.cmake
 	$(FILLED) bindings/c/cmake/$(NAME)-config-version.cmake.in >$(DESTDIR)$(CMAKEDIR)/$(NAME)-config-version.cmake
 	$(INSTALL) -m 644 $(wildcard bindings/c/*.h bindings/cpp/*.hpp) $(DESTDIR)$(INCLUDEDIR)
@@ -99,7 +97,10 @@ install-python:
 	for it in $$(cd bindings/python && find $(NAME)* -name '*.py' -o -name py.typed); do \
 		$(INSTALL) -d $(DESTDIR)$(PYTHONDIR)/$$(dirname $$it) && $(INSTALL) -m 644 bindings/python/$$it $(DESTDIR)$(PYTHONDIR)/$$it || exit 1; done
 
+wasm:
+	sh bindings/js/build.sh generated
+
 clean:
 	rm -rf $(BUILD)
 
-.PHONY: all check check-streams install install-python clean
+.PHONY: all check check-streams clean install install-python test wasm

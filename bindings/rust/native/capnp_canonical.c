@@ -1,0 +1,1 @@
+../../../generated/capnp_canonical.c

@@ -1,0 +1,1 @@
+../../c/capnp_canonical.h

@@ -1,0 +1,141 @@
+#!/usr/bin/env python3
+"""Writes generated/, the compiled form of the proved sources in C, which a C compiler builds without the toolchain.
+
+    generated.py            writes it again from the current sources, over the libraries that `./test` left here; minutes
+    generated.py --check    writes it into a temporary folder and compares every byte
+    generated.py --sums     compares the sums in generated/ORIGIN with the files; needs no toolchain, takes milliseconds
+
+generated/ORIGIN names the toolchain, and has one sum for each crate that the C is made from, over `src`, `specs` and `proofs`,
+one for the scripts that write the C, and one for each file. So --sums says which crate has changed since the C was written.
+It can't say whether the C is what the sources compile to; --check does. The last line is `N passed, M failed`.
+
+If the C of the library has changed, writes bindings/js/capnp_canonical.wasm again too, provided that clang and wasm-ld are
+there."""
+import hashlib
+import pathlib
+import re
+import shutil
+import subprocess
+import sys
+import tempfile
+
+from libraries import PARTS, TOP, Crates
+
+NAME = 'capnp_canonical'
+HEADER = f'bindings/c/{NAME}.h'
+# The library and the programs. The last one is for tests.
+CRATES = NAME, 'capnp_canon', 'layout_tool', 'stream_runs'
+WRITER = 'tools/generate.py', 'tools/c_of_module'
+WASM = 'bindings/js'
+AGAIN = 'run python3 tools/generated.py'
+
+
+def digest(data):
+    return hashlib.sha256(data).hexdigest()
+
+
+def sum_of(paths):
+    """A sum over files and the files below folders, with their names. What Python keeps isn't counted."""
+    found = sorted(it for path in paths for it in ([TOP / path] if (TOP / path).is_file() else (TOP / path).rglob('*')))
+    lines = [f'{digest(it.read_bytes())}  {it.relative_to(TOP).as_posix()}\n' for it in found if it.is_file() and it.suffix != '.pyc']
+    return digest(''.join(lines).encode())
+
+
+def declarations():
+    """The functions that the header declares: the result, the name and the arguments of each."""
+    return re.findall(r'(?m)^([a-z][^()]*\b)(%s_\w+)\(([^)]*)\);' % NAME, (TOP / HEADER).read_text(encoding='utf-8'))
+
+
+def sums():
+    """The sums of the sources: of what each crate has and depends on, of what writes the C, and of what the header declares."""
+    crates = Crates()
+    wanted = dict.fromkeys(it for crate in CRATES for it in (*crates.below(crate), crate))
+    made = {f'crates/{it}': sum_of([f'crates/{it}/{part}' for part in PARTS]) for it in wanted}
+    edges = ''.join(f'{it}: {" ".join([*crates.kind[it], *crates.stands_on[it]])}\n' for it in wanted)
+    return {**made, 'crates.txt': digest(edges.encode()), 'writer': sum_of(WRITER), HEADER: digest(repr(declarations()).encode())}
+
+
+def exports():
+    """The linker script with the visible names of the shared library."""
+    header = (TOP / HEADER).read_text(encoding='utf-8')
+    major = re.search(r'VERSION_TEXT "(\d+)', header)[1]
+    names = ''.join(f'    {it};\n' for it in sorted(name for _, name, _ in declarations()))
+    return f'{NAME.upper()}_{major} {{\nglobal:\n{names}local:\n    *;\n}};\n'.encode()
+
+
+def origin(toolchain, files):
+    """What the files were made from."""
+    lines = [f'toolchain: {toolchain}', *(f'{name}: {it}' for name, it in sums().items())]
+    return '\n'.join([*lines, *(f'generated/{name}: {digest(data)}' for name, data in sorted(files.items())), '']).encode()
+
+
+def made():
+    """The files of generated/ that the current sources compile to."""
+    with tempfile.TemporaryDirectory(prefix='generated-') as room:
+        # sources that change while this runs have another sum than the one that is written
+        before = sums()
+        run = subprocess.run([sys.executable, '-B', str(TOP / 'tools/generate.py'), room, *CRATES], stdout=sys.stderr)
+        if run.returncode or sums() != before:
+            sys.exit('generated.py: nothing is written' + ('' if run.returncode else ': the sources have changed in the meantime'))
+        files = {f'{it}.c': (pathlib.Path(room) / f'{it}.c').read_bytes() for it in CRATES}
+    files[f'{NAME}.map'] = exports()
+    toolchain = subprocess.run(['rt', 'version'], stdin=subprocess.DEVNULL, stdout=subprocess.PIPE, encoding='utf-8', check=True).stdout.strip()
+    return {**files, 'ORIGIN': origin(toolchain, files)}
+
+
+def listed(page):
+    """The lines `NAME: VALUE` of a file, or none if it isn't there."""
+    lines = (TOP / page).read_text(encoding='utf-8').splitlines() if (TOP / page).is_file() else []
+    return {name: value for name, _, value in (it.partition(': ') for it in lines)}
+
+
+def sum_now(path):
+    return digest((TOP / path).read_bytes()) if (TOP / path).is_file() else 'none'
+
+
+def differing():
+    """Each thing that has a sum, with what is wrong with it, or None."""
+    said, now = listed('generated/ORIGIN'), sums()
+    files = {f'generated/{it}' for it in (*(f'{crate}.c' for crate in CRATES), f'{NAME}.map')}
+    for name in sorted({*now, *(it for it in said if it.startswith('crates/'))}):
+        yield name, None if said.get(name) == now.get(name) else f'{name} has changed since generated/ was written: {AGAIN}'
+    for name in sorted({*files, *(it for it in said if it.startswith('generated/'))}):
+        yield name, None if said.get(name) == sum_now(name) else f'{name} is not the file that generated/ORIGIN names: {AGAIN}'
+    said = listed(f'{WASM}/ORIGIN')
+    for path in f'generated/{NAME}.c', HEADER, f'{WASM}/{NAME}.wasm':
+        is_right = said.get(f'sha256 of {pathlib.PurePath(path).name}') == sum_now(path)
+        yield f'{WASM}: {path}', None if is_right else f'{path} is not what {WASM}/ORIGIN names: run make wasm'
+
+
+def compared():
+    """Each file of generated/, with what is wrong with it, or None."""
+    for name, data in made().items():
+        path = TOP / 'generated' / name
+        is_right = path.is_file() and path.read_bytes() == data
+        yield name, None if is_right else f'generated/{name} is not what the sources compile to: {AGAIN}'
+
+
+def write():
+    for name, data in made().items():
+        (TOP / 'generated').mkdir(exist_ok=True)
+        (TOP / 'generated' / name).write_bytes(data)
+    if listed(f'{WASM}/ORIGIN').get(f'sha256 of {NAME}.c') == sum_now(f'generated/{NAME}.c'):
+        return 0
+    if not all(map(shutil.which, ('clang', 'wasm-ld'))):
+        print(f'{WASM}/{NAME}.wasm is of older C: run make wasm where clang and wasm-ld are')
+        return 0
+    return subprocess.run(['sh', str(TOP / f'{WASM}/build.sh'), str(TOP / 'generated')]).returncode
+
+
+def main(words):
+    if words == []:
+        return write()
+    if words not in (['--check'], ['--sums']):
+        sys.exit(__doc__)
+    found = [*(differing() if words == ['--sums'] else compared())]
+    wrong = [it for _, it in found if it]
+    print(*wrong, f'{len(found) - len(wrong)} passed, {len(wrong)} failed', sep='\n')
+    return 1 if wrong else 0
+
+
+sys.exit(main(sys.argv[1:]))
