@@ -98,6 +98,11 @@ library() {
     "$@" "$folder/test.exe" tests/library/messages.txt && python3 -B tests/release/lines.py >"$folder/vectors.txt" && "$@" "$folder/vectors.exe" <"$folder/vectors.txt"
 }
 
+on_windows() {
+    export WINEPREFIX="$work/wine" WINEDEBUG=-all
+    library windows x86_64-w64-mingw32-gcc "$1"
+}
+
 # A static program needs no file of the system.
 by_musl() {
     make BUILD="$work/musl" CC='musl-gcc -static' "$work/musl/capnp_canon" "$work/musl/libcapnp_canonical.a" && ! ldd "$work/musl/capnp_canon" &&
@@ -164,7 +169,10 @@ END
 
 # The module for JavaScript: the same bytes again, if the same compiler makes it.
 by_wasm() {
-    make wasm && if grep -qxF "compiler: $(clang --version | head -n 1)" "$top/bindings/js/ORIGIN"; then git diff --exit-code --stat; fi
+    make wasm || return 1
+    if grep -qxF "compiler: $(clang --version | head -n 1)" "$top/bindings/js/ORIGIN"; then git diff --exit-code --stat; fi
+    status=$?
+    git checkout -q bindings/js && return $status
 }
 
 # Two releases of the clone are the same, and one builds.
@@ -199,7 +207,11 @@ fi
 if is_wanted sanitized; then part "make check, $CC, sanitized" checked sanitized "$CC" "$sanitized"; fi
 if is_wanted library; then
     if has library python3; then part "library, $CC" library library "$CC"; fi
-    if has 'library for Windows' x86_64-w64-mingw32-gcc wine python3; then part 'library for Windows' library windows x86_64-w64-mingw32-gcc wine; fi
+    # Debian's name of the program
+    wine=$(command -v wine || echo /usr/lib/wine/wine64)
+    if has 'library for Windows' x86_64-w64-mingw32-gcc "$wine" python3; then
+        part 'library for Windows' on_windows "$wine"
+    fi
 fi
 if is_wanted musl && has musl musl-gcc; then
     part 'make check, musl' checked musl_check musl-gcc
@@ -236,8 +248,8 @@ if is_wanted cargo && has cargo cargo; then
     part 'cargo test' env CARGO_TARGET_DIR="$work/target" cargo test --offline --locked --manifest-path bindings/rust/Cargo.toml
     part 'cargo package' env CARGO_TARGET_DIR="$work/target" cargo package --offline --manifest-path bindings/rust/Cargo.toml
 fi
-if is_wanted wasm && has 'make wasm' clang wasm-ld; then part 'make wasm' by_wasm; fi
 if is_wanted release && has release python3; then part 'release' released; fi
+if is_wanted wasm && has 'make wasm' clang wasm-ld; then part 'make wasm' by_wasm; fi
 part 'nothing is left in the clone' unchanged
 say "$passed passed, $failed failed"
 [ $failed = 0 ]
