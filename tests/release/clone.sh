@@ -222,7 +222,12 @@ if is_wanted machines; then
     if has aarch64 aarch64-linux-gnu-gcc qemu-aarch64; then
         part 'make check, aarch64' checked aarch64 aarch64-linux-gnu-gcc -O2 RUNNER='qemu-aarch64 -L /usr/aarch64-linux-gnu'
     fi
-    if has i386 gcc; then part 'refused, i386' refused 'this needs a machine of 64 bits' gcc -m32 -idirafter "/usr/include/$(uname -m)-linux-gnu"; fi
+    set -- gcc -m32 -idirafter /usr/include/x86_64-linux-gnu
+    if printf '#include <errno.h>\n' | "$@" -fsyntax-only -x c - 2>/dev/null; then
+        part 'refused, i386' refused 'this needs a machine of 64 bits' "$@"
+    else
+        say 'i386: skipped, no compiler for it'
+    fi
     if has armhf arm-linux-gnueabihf-gcc; then part 'refused, armhf' refused 'this needs a machine of 64 bits' arm-linux-gnueabihf-gcc; fi
     if has s390x s390x-linux-gnu-gcc; then part 'refused, s390x' refused 'this needs gcc or clang, and a little-endian machine' s390x-linux-gnu-gcc; fi
 fi
