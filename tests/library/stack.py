@@ -21,7 +21,7 @@ SENTENCE = {
 }
 SHORT = {**{it: rf'{NUMBER} bytes of stack' for it in BUILDS}, 'unoptimised': rf'{NUMBER} if the compiler doesn.t optimise'}
 CALL = {**{it: rf'A call takes another {NUMBER} KB' for it in BUILDS}, 'unoptimised': rf'or {NUMBER} KB if it'}
-ROWS = {'install': '`./install`', 'clang': 'a release, clang', 'gcc': 'a release, gcc', 'unoptimised': 'a release, not optimised'}
+ROWS = {'install': '`./install`', 'clang': '`make`, clang', 'gcc': '`make`, gcc', 'unoptimised': '`make`, not optimised'}
 
 
 def row(build, column):
