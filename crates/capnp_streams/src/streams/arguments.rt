@@ -1,5 +1,5 @@
 //! The arguments, one by one.
-ghost use Rattle.std.specs.Prelude.{◌≡◌, ◌<◌, ℤ, ℕ, Option, MatchOption, length};
+ghost use Rattle.std.specs.Prelude.{◌≡◌, ◌<◌, MatchOption, length};
 ghost use Rattle.std.specs.List.{after_first, before_first, position_or_len};
 ghost use Rattle.capnp_streams.specs.Arguments.{assigned_step, budget_of, command_step, end_of, exclusion_of, form_exclusion, has_option_form, is_equals, line_reads_flat, line_with_value, named_step, nesting_of, operand_step, option_named, option_step, option_text, parted_step, plain_line, setting_text, step_if_allowed, argument_step, step_or, line_task, verb_exclusion, verb_named, verb_text};
 

@@ -1,4 +1,4 @@
-use Rattle.std.proofs.Common.{◌+◌, ◌∙◌, ◌≤◌, Some, None, length, length-set, sym, arith}
+use Rattle.std.proofs.Common.{◌+◌, ◌∙◌, ◌≤◌, Some, None, length, sym, arith}
 use Rattle.capnp_packing.proofs.SliceLemmas.{given_long, none_put, some_put}
 use Rattle.capnp_packing.proofs.packing.to_slice.put_given.Goals as goal
 
