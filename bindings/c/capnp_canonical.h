@@ -90,7 +90,7 @@ enum capnp_canonical_answer {
     CAPNP_CANONICAL_INLINE_COMPOSITE_LISTS_OF_NON_STRUCT_TYPE_ARE_NOT_SUPPORTED = 43,
     /* A far pointer names a segment that doesn't exist, or there are no segments. */
     CAPNP_CANONICAL_INVALID_SEGMENT_ID = 44,
-    /* A landing pad of one word, or the tag in one of two words, is itself a far pointer. */
+    /* A one-word landing pad, or the tag of a two-word landing pad, is itself a far pointer. */
     CAPNP_CANONICAL_MALFORMED_DOUBLE_FAR_POINTER = 45,
     /* A pointer points outside its segment. */
     CAPNP_CANONICAL_MESSAGE_CONTAINS_OUT_OF_BOUNDS_POINTER = 55,
@@ -317,7 +317,7 @@ CAPNP_CANONICAL_INLINE const char *capnp_canonical_error_text(uint32_t answer) {
     case CAPNP_CANONICAL_INLINE_COMPOSITE_LISTS_ELEMENTS_OVERRUN_ITS_WORD_COUNT: return "the elements of a list of structs take more words than its pointer claims";
     case CAPNP_CANONICAL_INLINE_COMPOSITE_LISTS_OF_NON_STRUCT_TYPE_ARE_NOT_SUPPORTED: return "the tag of a list of structs isn't a struct pointer";
     case CAPNP_CANONICAL_INVALID_SEGMENT_ID: return "a far pointer names a segment that doesn't exist, or there are no segments";
-    case CAPNP_CANONICAL_MALFORMED_DOUBLE_FAR_POINTER: return "a landing pad of one word, or the tag in one of two words, is itself a far pointer";
+    case CAPNP_CANONICAL_MALFORMED_DOUBLE_FAR_POINTER: return "a one-word landing pad, or the tag of a two-word landing pad, is itself a far pointer";
     case CAPNP_CANONICAL_MESSAGE_CONTAINS_OUT_OF_BOUNDS_POINTER: return "a pointer points outside its segment";
     case CAPNP_CANONICAL_MESSAGE_IS_TOO_DEEPLY_NESTED: return "the nesting limit is exceeded";
     case CAPNP_CANONICAL_MESSAGE_IS_TOO_DEEPLY_NESTED_OR_CONTAINS_CYCLES: return "the nesting limit is exceeded, perhaps by a cycle of pointers";

@@ -69,7 +69,7 @@ _TEXTS = {
     42: 'the elements of a list of structs take more words than its pointer claims',
     43: "the tag of a list of structs isn't a struct pointer",
     44: "a far pointer names a segment that doesn't exist, or there are no segments",
-    45: 'a landing pad of one word, or the tag in one of two words, is itself a far pointer',
+    45: 'a one-word landing pad, or the tag of a two-word landing pad, is itself a far pointer',
     55: 'a pointer points outside its segment',
     57: 'the nesting limit is exceeded',
     58: 'the nesting limit is exceeded, perhaps by a cycle of pointers',

@@ -37,7 +37,7 @@ impl Error {
     pub const INLINE_COMPOSITE_LISTS_OF_NON_STRUCT_TYPE_ARE_NOT_SUPPORTED: Error = Error(43);
     /// A far pointer names a segment that doesn't exist, or there are no segments.
     pub const INVALID_SEGMENT_ID: Error = Error(44);
-    /// A landing pad of one word, or the tag in one of two words, is itself a far pointer.
+    /// A one-word landing pad, or the tag of a two-word landing pad, is itself a far pointer.
     pub const MALFORMED_DOUBLE_FAR_POINTER: Error = Error(45);
     /// A pointer points outside its segment.
     pub const MESSAGE_CONTAINS_OUT_OF_BOUNDS_POINTER: Error = Error(55);

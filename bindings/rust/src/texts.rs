@@ -39,7 +39,7 @@ pub(crate) fn of_error(number: u32) -> (&'static str, &'static str) {
         ),
         45 => (
             "MalformedDoubleFarPointer",
-            "a landing pad of one word, or the tag in one of two words, is itself a far pointer",
+            "a one-word landing pad, or the tag of a two-word landing pad, is itself a far pointer",
         ),
         55 => (
             "MessageContainsOutOfBoundsPointer",

@@ -124,9 +124,9 @@ pub(crate) fn settle<A: BuilderArena>(arena: &mut A, id: u32, at: u32, room: Roo
     arena.set_word(id, at, far.0);
 }
 
-/// Widens the struct `old`, which the pointer at `at` of segment `id` leads to, and which has a
-/// smaller section than `size`. Moves it to new words, in which each section has the larger one of
-/// its old size and that in `size`. Precondition: the caller has found `old` at that pointer.
+/// Widens the struct `old`, to which the pointer at `at` of segment `id` leads. At least one of its
+/// sections is smaller than in `size`. Moves the struct to new words, in which each section has the
+/// larger one of its two sizes. Precondition: the caller has found `old` at that pointer.
 ///
 /// Refuses with `AllocationFailed` if there is no memory for its words or for a landing pad, or
 /// with `MessageTooLarge`. After a refusal the old struct is unchanged.

@@ -38,7 +38,7 @@ pub enum ErrorKind {
     InlineCompositeListsOfNonStructTypeAreNotSupported,
     /// The message doesn't have this segment.
     InvalidSegmentId(u32),
-    /// A landing pad of one word, or the tag in one of two words, is itself a far pointer.
+    /// A one-word landing pad, or the tag of a two-word landing pad, is itself a far pointer.
     MalformedDoubleFarPointer,
     /// Data was expected, and the list's elements aren't bytes.
     MessageContainsListPointerOfNonBytesWhereDataWasExpected,
@@ -81,8 +81,8 @@ pub enum ErrorKind {
     /// There are no segments to read: the value isn't in a message, or is a default value with a
     /// far pointer.
     TriedToReadFromNullArena,
-    /// A type was requested, and a landing pad of one word, or the tag in one of two words, is itself
-    /// a far pointer.
+    /// A type was requested, and a one-word landing pad, or the tag of a two-word landing pad, is
+    /// itself a far pointer.
     UnexpectedFarPointer,
     /// A pointer is of no known kind, or is a capability in a default value.
     UnknownPointerType,

@@ -39,7 +39,7 @@ pub(crate) fn write_content<A: BuilderArena>(
 }
 
 /// Clears `count` consecutive pointers from `at` of segment `id` on: makes each null, and zeroes
-/// what it held.
+/// the objects that it led to.
 pub(crate) fn clear_pointers<A: BuilderArena>(arena: &mut A, id: u32, at: u32, count: u16)
     requires room { at + count ≤ length (segment (A.view arena.old).words id) }
     ensures cleared { AreCleared (A.view arena.old).words (A.view arena.new).words id at count }

@@ -200,8 +200,8 @@ impl<'a, A: BuilderArena> PointerBuilder<'a, A> {
         Ok(self.into_list(place))
     }
 
-    /// Does what `get_list` does, but returns the list's place instead of its builder, which
-    /// `into_list` makes of the place. Unlike `get_list`, it only borrows the pointer, so its
+    /// Does what `get_list` does, but returns the list's place instead of its builder. `into_list`
+    /// makes the builder from the place. Unlike `get_list`, it only borrows the pointer, so its
     /// contract also states what a refusal leaves.
     pub fn find_list(
         &mut self,

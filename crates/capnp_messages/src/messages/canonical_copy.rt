@@ -278,7 +278,7 @@ pub(super) fn copy_in_room<A: Allocator, B: ReaderArena>(
 /// there are, `lim` is charged for one copy, and counts each non-null pointer once.
 ///
 /// Refusals: the first one of reading `from`; `MessageTooLarge(536870911)` if the copy has more
-/// than 536,870,911 words; `AllocationFailed` if memory ran out, which the allocator has counted.
+/// than 536,870,911 words; `AllocationFailed` if memory ran out (the allocator counts that).
 pub fn copy_canonical_with<A: Allocator, B: ReaderArena>(
     alloc: Global,
     allocator: A,

@@ -79,11 +79,11 @@ pub fn canonical_in_room<A: Allocator, S: ReaderSegments>(
     copy_in_room(made, root, lim.left(), room)
 }
 
-/// Copies a message in canonical form into a message of one segment (encoding specification,
-/// "Canonicalization"), which `allocator` grants. If refused, returns the allocator.
+/// Makes the canonical copy of a message (encoding specification, "Canonicalization"): a message of
+/// one segment, whose memory `allocator` grants. If refused, returns the allocator.
 ///
 /// Reads the value from the root on, within `limits`; the root pointer costs one word. Refusals:
-/// the first one of reading; `AllocationFailed` if memory ran out, which the allocator has counted;
+/// the first one of reading; `AllocationFailed` if memory ran out (the allocator counts that);
 /// `MessageTooLarge(536870911)` if there are more than 536,870,911 canonical words.
 pub fn canonical_with<A: Allocator, S: ReaderSegments + Drop>(
     alloc: Global,

@@ -70,8 +70,8 @@ impl<'a, A: ReaderArena> Pointer<'a, A> {
         }
     }
 
-    /// Counts the size of an object of `own_words` words that has `count` consecutive pointers,
-    /// from this one on, with all objects below them.
+    /// Counts the size of an object and of all objects below it. The object has `own_words` words,
+    /// and its `count` consecutive pointers start with this one.
     ///
     /// The sum of words starts at `own_words`, which aren't charged; the object itself takes no
     /// level. Counts, charges and refuses each of its pointers like `total_size`, in order.
