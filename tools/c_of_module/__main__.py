@@ -69,6 +69,8 @@ class Module:
         it.next('=')
         it.skip_promises()
         it.next('constant')
+        if it.takes('<'):
+            return self.record(it, name)
         kind = it.type()
         if kind[0] != 'array':
             raise Unknown('a constant that is no array')
@@ -82,6 +84,27 @@ class Module:
         shown = [f'{int(value) % (1 << bits(of))}u' if bits(of) else f'PLACE({self.names(value)})' for value in values]
         kind = 'const struct place' if of == 'ptr' else f'const {c_type(of)}'
         return f'static {kind} {name}[{count}] = {{ {", ".join(shown)} }};'
+
+    def record(self, it, name):
+        """A constant with parts of several types, pointers and then bytes, so that C puts nothing between them."""
+        kinds = it.listed(it.type)
+        it.next('<')
+        parts = it.listed(lambda: (it.type(), it.part()))
+        it.end()
+        fields, values = [], []
+        for number, (kind, value) in enumerate(parts):
+            if kind == 'ptr' and all(of == 'ptr' for of in kinds[:number]):
+                _, base, by = value if value[0] == 'address' else (None, value, 0)
+                fields.append(f'struct place p{number};')
+                values.append(f'PLACE((const u8 *){self.names(base)} + {by})')
+            elif kind[0] == 'array' and kind[2] == 'i8':
+                fields.append(f'u8 p{number}[{kind[1]}];')
+                values.append(text_of(value, kind[1]))
+            else:
+                raise Unknown(f'a part {kind} of a constant')
+        if kinds != [kind for kind, _ in parts]:
+            raise Unknown('parts of other types')
+        return f'static const struct {{ {" ".join(fields)} }} {name}[1] = {{ {{ {", ".join(values)} }} }};'
 
     def text(self):
         written = '\n\n'.join(it.text() for it in self.functions)

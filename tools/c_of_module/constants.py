@@ -9,7 +9,10 @@ import re
 import sys
 
 CONSTANT = re.compile(r'^(@(?:"[^"]*"|[-\w.$]+)) = [^\[]*\bconstant \[(\d+) x (i\d+|ptr)\] (.*)$', re.M)
-STATIC = re.compile(r'^static const (?:u\d+|struct place) (\w+)\[(\d+)\] = (.*?);$', re.M | re.S)
+STATIC = re.compile(r'^static const (?:u\d+|struct place|struct \{ (?P<fields>[^}]*) \}) (\w+)\[(\d+)\] = (.*?);$', re.M | re.S)
+# A constant with parts of several types: addresses and bytes.
+RECORD = re.compile(r'^(@(?:"[^"]*"|[-\w.$]+)) = [^<]*\bconstant <\{[^}]*\}> <\{ (.*) \}>')
+PART = re.compile(r'ptr (?:getelementptr [\w ]*\(i8, ptr )?(@(?:"[^"]*"|[-\w.$]+))(?:, i64 (\d+)\))?|\[(\d+) x i8\] (c"[^"]*"|zeroinitializer)')
 ESCAPED = {'\\': 92, '"': 34, '?': 63, 'n': 10}
 
 
@@ -46,10 +49,34 @@ def bytes_of_c(text):
     return found
 
 
+def parts_of_module(text):
+    """The parts of a record: for an address the name of a constant and how many bytes are added to it, and each byte of the rest."""
+    for name, by, count, data in PART.findall(text):
+        found = [name, int(by or 0)] if name else bytes_of_module(data[2:]) if data[0] == 'c' else []
+        yield from found + [0] * (int(count or 0) - len(found))
+
+
+def parts_of_c(fields, values):
+    """The same for C. C fills a row with zeros."""
+    for size in re.findall(r'struct place \w+;|u8 \w+\[(\d+)\];', fields):
+        shape = r'\{ ([\d,\s]*) \}|("(?:[^"\\]|\\.)*"(?:\s+"(?:[^"\\]|\\.)*")*)' if size else r'PLACE\(\(const u8 \*\)(\w+) \+ (\d+)\)'
+        part = re.compile(r'[\s,]*(?:' + shape + ')').match(values)
+        found = [part[1], int(part[2])] if not size else bytes_of_c(part[2]) if part[2] else [int(it) for it in part[1].split(',')]
+        yield from found + [0] * (int(size or 0) - len(found))
+        values = values[part.end():]
+
+
 def of_module(text):
     """Each constant of the module: its name, the number of its elements, and the elements, each a number or the name of another
     constant."""
-    for name, count, kind, value in CONSTANT.findall(text):
+    for line in text.split('\n'):
+        if record := RECORD.match(line):
+            parts = list(parts_of_module(record[2]))
+            yield record[1], len(parts), parts
+            continue
+        if not (constant := CONSTANT.match(line)):
+            continue
+        name, count, kind, value = constant.groups()
         count = int(count)
         if value.startswith('c"'):
             yield name, count, bytes_of_module(value[2:])
@@ -63,7 +90,11 @@ def of_module(text):
 
 def of_c(text):
     """The same for the C file, with the names there."""
-    for name, count, value in STATIC.findall(text):
+    for fields, name, count, value in STATIC.findall(text):
+        if fields:
+            parts = list(parts_of_c(fields, value.removeprefix('{ { ')))
+            yield name, len(parts), parts
+            continue
         if value.startswith('"'):
             yield name, int(count), bytes_of_c(value)
             continue

@@ -182,6 +182,20 @@ class Line:
             return it
         raise Unknown(f'value {it}')
 
+    def listed(self, read):
+        """What `read` reads, separated by commas, between `{` and `}>`."""
+        self.next('{')
+        found = [read()]
+        while self.takes(','):
+            found.append(read())
+        self.next('}')
+        self.next('>')
+        return found
+
+    def part(self):
+        """A value, or a text of bytes as it is written."""
+        return self.next() if (self.peek() or '').startswith('c"') else self.value()
+
     def typed(self):
         kind = self.type()
         self.skip_promises()
