@@ -352,7 +352,7 @@ INLINE void mv64(u8 *to, const u8 *from) { u64 w0 = ld64(from); u64 w8 = ld64((f
 static const u8 g_static_0[29] = "capnp_canon: memory exhausted";
 static const u8 g_static_1[36] = "capnp_canon: an argument isn't UTF-8";
 static const u8 g_static_2[46] = "Try 'capnp_canon --help' for more information.";
-static const u8 g_static_3[2260] = "Usage: capnp_canon canon [--flat] [--pack] [--hex] [OPTION]... [FILE]...\n"
+static const u8 g_static_3[2277] = "Usage: capnp_canon canon [--flat] [--pack] [--hex] [OPTION]... [FILE]...\n"
     "  or:  capnp_canon check [--quiet] [OPTION]... [FILE]...\n"
     "  or:  capnp_canon size [OPTION]... [FILE]...\n"
     "  or:  capnp_canon --help | --version\n"
@@ -369,8 +369,8 @@ static const u8 g_static_3[2260] = "Usage: capnp_canon canon [--flat] [--pack] [
     "size         writes a line for each message: `words N caps M`, without landing pads\n"
     "\n"
     "  --packed      the input is packed\n"
-    "  --from-flat   the input is the raw words of one message; with check and size, --flat means the\n"
-    "                same\n"
+    "  --from-flat   the input is the raw words of one message; check and size also accept --flat as a\n"
+    "                name for this option\n"
     "  --nesting N   the nesting limit: at most N structs and lists inside one another (default 64)\n"
     "  --words N     the traversal limit of each message, and the most words of 8 bytes that its frame\n"
     "                may have (default 8388608, which is 64 MiB); none for no limit\n"
@@ -2809,7 +2809,7 @@ l_arm_19:;
     }
 l_arm_48:;
     memset(slot_2, 0u, 96);
-    std_io_io_print_to_98831ff3adad6f75(slot_2, 1u, ((u8 *)g_static_3), 2260ull);
+    std_io_io_print_to_98831ff3adad6f75(slot_2, 1u, ((u8 *)g_static_3), 2277ull);
     u8 *r0_21 = (slot_3 + 7);
     u8 t31 = ld8(slot_2);
     memcpy(r0_21, (slot_2 + 8), 88);

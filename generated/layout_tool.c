@@ -321,76 +321,86 @@ INLINE void mv24(u8 *to, const u8 *from) { u64 w0 = ld64(from); u64 w8 = ld64((f
 INLINE void mv32(u8 *to, const u8 *from) { u64 w0 = ld64(from); u64 w8 = ld64((from + 8)); u64 w16 = ld64((from + 16)); u64 w24 = ld64((from + 24)); st64(to, w0); st64((to + 8), w8); st64((to + 16), w16); st64((to + 24), w24); }
 INLINE void mv40(u8 *to, const u8 *from) { u64 w0 = ld64(from); u64 w8 = ld64((from + 8)); u64 w16 = ld64((from + 16)); u64 w24 = ld64((from + 24)); u64 w32 = ld64((from + 32)); st64(to, w0); st64((to + 8), w8); st64((to + 16), w16); st64((to + 24), w24); st64((to + 32), w32); }
 
-static const u8 g_static_0[13] = "bad arguments";
-static const u8 g_static_1[9] = "bad input";
-static const u8 g_static_3[1] = { 0 };
-static const u8 g_static_4[5] = "frame";
-static const u8 g_static_5[7] = "unframe";
-static const u8 g_static_6[4] = "none";
-static const u8 g_static_7[5] = "canon";
-static const u8 g_static_8[5] = "check";
-static const u8 g_static_9[4] = "size";
-static const u8 g_static_10[12] = "framed-canon";
-static const u8 g_static_11[12] = "framed-check";
-static const u8 g_static_15[10] = "canonical\n";
-static const u8 g_static_16[14] = "not canonical\n";
-static const u8 g_static_19[43] = "gave up reading or writing after 2^64 tries";
-static const u8 g_static_20[6] = "words ";
-static const u8 g_static_21[6] = " caps ";
-static const u8 g_static_22[1] = "\n";
-static const u8 g_static_23[16] = "0123456789abcdef";
-static const u8 g_static_25[18] = "canonical message\n";
-static const u8 g_static_26[24] = "not a canonical message\n";
-static const u8 g_static_27[8] = "refused ";
-static const u8 g_static_28[9] = "NoMessage";
-static const u8 g_static_29[16] = "AllocationFailed";
-static const u8 g_static_30[44] = "CannotCreateACanonicalMessageWithACapability";
-static const u8 g_static_31[34] = "CantHandleNonStructInlineComposite";
-static const u8 g_static_32[33] = "ExistingListPointerIsNotByteSized";
-static const u8 g_static_33[47] = "ExistingListValueIsIncompatibleWithExpectedType";
-static const u8 g_static_34[25] = "ExistingPointerIsNotAList";
-static const u8 g_static_35[48] = "ExpectedAPointerListButGotAListOfDataOnlyStructs";
-static const u8 g_static_36[53] = "ExpectedAPrimitiveListButGotAListOfPointerOnlyStructs";
-static const u8 g_static_37[38] = "FoundBitListWhereStructListWasExpected";
-static const u8 g_static_38[38] = "FoundStructListWhereBitListWasExpected";
-static const u8 g_static_39[47] = "InlineCompositeListsElementsOverrunItsWordCount";
-static const u8 g_static_40[50] = "InlineCompositeListsOfNonStructTypeAreNotSupported";
-static const u8 g_static_41[16] = "InvalidSegmentId";
-static const u8 g_static_42[25] = "MalformedDoubleFarPointer";
-static const u8 g_static_43[56] = "MessageContainsListPointerOfNonBytesWhereDataWasExpected";
-static const u8 g_static_44[56] = "MessageContainsListPointerOfNonBytesWhereTextWasExpected";
-static const u8 g_static_45[46] = "MessageContainsListWithIncompatibleElementType";
-static const u8 g_static_46[68] = "MessageContainsNonCapabilityPointerWhereCapabilityPointerWasExpected";
-static const u8 g_static_47[49] = "MessageContainsNonListPointerWhereDataWasExpected";
-static const u8 g_static_48[56] = "MessageContainsNonListPointerWhereListPointerWasExpected";
-static const u8 g_static_49[49] = "MessageContainsNonListPointerWhereTextWasExpected";
-static const u8 g_static_50[60] = "MessageContainsNonStructPointerWhereStructPointerWasExpected";
-static const u8 g_static_51[36] = "MessageContainsNullCapabilityPointer";
-static const u8 g_static_52[33] = "MessageContainsOutOfBoundsPointer";
-static const u8 g_static_53[41] = "MessageContainsTextThatIsNotNULTerminated";
-static const u8 g_static_54[24] = "MessageIsTooDeeplyNested";
-static const u8 g_static_55[40] = "MessageIsTooDeeplyNestedOrContainsCycles";
-static const u8 g_static_56[15] = "MessageTooLarge";
-static const u8 g_static_57[20] = "NestingLimitExceeded";
-static const u8 g_static_58[11] = "NoSuchPlace";
-static const u8 g_static_59[17] = "ReadLimitExceeded";
-static const u8 g_static_60[28] = "TextBlobMissingNULTerminator";
-static const u8 g_static_61[24] = "TriedToReadFromNullArena";
-static const u8 g_static_62[20] = "UnexpectedFarPointer";
-static const u8 g_static_63[18] = "UnknownPointerType";
-static const u8 g_static_64[10] = "NoSegments";
-static const u8 g_static_65[15] = "TooManySegments";
-static const u8 g_static_66[14] = "MessageTooLong";
-static const u8 g_static_67[9] = "Truncated";
-static const u8 g_static_68[10] = "ReadFailed";
-static const u8 g_static_69[11] = "WriteFailed";
-static const u8 g_static_71[4] = "    ";
+static const u8 g_static_0[6] = "--help";
+static const u8 g_static_1[13] = "bad arguments";
+static const u8 g_static_2[478] = "Usage: layout_tool canon NESTING WORDS\n"
+    "  or:  layout_tool check NESTING WORDS\n"
+    "  or:  layout_tool size NESTING WORDS\n"
+    "  or:  layout_tool frame\n"
+    "  or:  layout_tool unframe\n"
+    "  or:  layout_tool framed-canon NESTING WORDS\n"
+    "  or:  layout_tool framed-check NESTING WORDS\n"
+    "Reads one message from standard input as hex digits: a line for each segment; for unframe and\n"
+    "framed-check, one line with a frame. NESTING is the nesting limit, and WORDS the traversal limit in\n"
+    "words; none is no limit.";
+static const u8 g_static_3[9] = "bad input";
+static const u8 g_static_5[1] = { 0 };
+static const u8 g_static_6[1] = "\n";
+static const u8 g_static_8[4] = "    ";
+static const u8 g_static_10[5] = "frame";
+static const u8 g_static_11[7] = "unframe";
+static const u8 g_static_12[4] = "none";
+static const u8 g_static_13[5] = "canon";
+static const u8 g_static_14[5] = "check";
+static const u8 g_static_15[4] = "size";
+static const u8 g_static_16[12] = "framed-canon";
+static const u8 g_static_17[12] = "framed-check";
+static const u8 g_static_21[10] = "canonical\n";
+static const u8 g_static_22[14] = "not canonical\n";
+static const u8 g_static_26[6] = "words ";
+static const u8 g_static_27[6] = " caps ";
+static const u8 g_static_28[16] = "0123456789abcdef";
+static const u8 g_static_30[18] = "canonical message\n";
+static const u8 g_static_31[24] = "not a canonical message\n";
+static const u8 g_static_32[8] = "refused ";
+static const u8 g_static_33[9] = "NoMessage";
+static const u8 g_static_34[16] = "AllocationFailed";
+static const u8 g_static_35[44] = "CannotCreateACanonicalMessageWithACapability";
+static const u8 g_static_36[34] = "CantHandleNonStructInlineComposite";
+static const u8 g_static_37[33] = "ExistingListPointerIsNotByteSized";
+static const u8 g_static_38[47] = "ExistingListValueIsIncompatibleWithExpectedType";
+static const u8 g_static_39[25] = "ExistingPointerIsNotAList";
+static const u8 g_static_40[48] = "ExpectedAPointerListButGotAListOfDataOnlyStructs";
+static const u8 g_static_41[53] = "ExpectedAPrimitiveListButGotAListOfPointerOnlyStructs";
+static const u8 g_static_42[38] = "FoundBitListWhereStructListWasExpected";
+static const u8 g_static_43[38] = "FoundStructListWhereBitListWasExpected";
+static const u8 g_static_44[47] = "InlineCompositeListsElementsOverrunItsWordCount";
+static const u8 g_static_45[50] = "InlineCompositeListsOfNonStructTypeAreNotSupported";
+static const u8 g_static_46[16] = "InvalidSegmentId";
+static const u8 g_static_47[25] = "MalformedDoubleFarPointer";
+static const u8 g_static_48[56] = "MessageContainsListPointerOfNonBytesWhereDataWasExpected";
+static const u8 g_static_49[56] = "MessageContainsListPointerOfNonBytesWhereTextWasExpected";
+static const u8 g_static_50[46] = "MessageContainsListWithIncompatibleElementType";
+static const u8 g_static_51[68] = "MessageContainsNonCapabilityPointerWhereCapabilityPointerWasExpected";
+static const u8 g_static_52[49] = "MessageContainsNonListPointerWhereDataWasExpected";
+static const u8 g_static_53[56] = "MessageContainsNonListPointerWhereListPointerWasExpected";
+static const u8 g_static_54[49] = "MessageContainsNonListPointerWhereTextWasExpected";
+static const u8 g_static_55[60] = "MessageContainsNonStructPointerWhereStructPointerWasExpected";
+static const u8 g_static_56[36] = "MessageContainsNullCapabilityPointer";
+static const u8 g_static_57[33] = "MessageContainsOutOfBoundsPointer";
+static const u8 g_static_58[41] = "MessageContainsTextThatIsNotNULTerminated";
+static const u8 g_static_59[24] = "MessageIsTooDeeplyNested";
+static const u8 g_static_60[40] = "MessageIsTooDeeplyNestedOrContainsCycles";
+static const u8 g_static_61[15] = "MessageTooLarge";
+static const u8 g_static_62[20] = "NestingLimitExceeded";
+static const u8 g_static_63[11] = "NoSuchPlace";
+static const u8 g_static_64[17] = "ReadLimitExceeded";
+static const u8 g_static_65[28] = "TextBlobMissingNULTerminator";
+static const u8 g_static_66[24] = "TriedToReadFromNullArena";
+static const u8 g_static_67[20] = "UnexpectedFarPointer";
+static const u8 g_static_68[18] = "UnknownPointerType";
+static const u8 g_static_69[10] = "NoSegments";
+static const u8 g_static_70[15] = "TooManySegments";
+static const u8 g_static_71[14] = "MessageTooLong";
+static const u8 g_static_72[9] = "Truncated";
+static const u8 g_static_73[10] = "ReadFailed";
+static const u8 g_static_74[11] = "WriteFailed";
 static const u64 switch_table_capnp_pointers_pointers_sizes_add_object__d0ffe7b3[8] = { 0u, 1u, 8u, 16u, 32u, 64u, 0u, 0u };
 static const u64 switch_table_capnp_copies_copy_copy_object_789b5ce0078f2be2[7] = { 0u, 1u, 8u, 16u, 32u, 64u, 0u };
 static const u64 switch_table_capnp_pointers_pointers_canonical_test_li_58523f26[6] = { 0u, 1u, 8u, 16u, 32u, 64u };
-static const struct place switch_table_capnp_layout_tool_engine_refuse_05c50f83f81b9c23[35] = { PLACE(g_static_29), PLACE(g_static_30), PLACE(g_static_31), PLACE(g_static_32), PLACE(g_static_33), PLACE(g_static_34), PLACE(g_static_35), PLACE(g_static_36), PLACE(g_static_37), PLACE(g_static_38), PLACE(g_static_39), PLACE(g_static_40), PLACE(g_static_41), PLACE(g_static_42), PLACE(g_static_43), PLACE(g_static_44), PLACE(g_static_45), PLACE(g_static_46), PLACE(g_static_47), PLACE(g_static_48), PLACE(g_static_49), PLACE(g_static_50), PLACE(g_static_51), PLACE(g_static_52), PLACE(g_static_53), PLACE(g_static_54), PLACE(g_static_55), PLACE(g_static_56), PLACE(g_static_57), PLACE(g_static_58), PLACE(g_static_59), PLACE(g_static_60), PLACE(g_static_61), PLACE(g_static_62), PLACE(g_static_63) };
+static const struct place switch_table_capnp_layout_tool_engine_refuse_05c50f83f81b9c23[35] = { PLACE(g_static_34), PLACE(g_static_35), PLACE(g_static_36), PLACE(g_static_37), PLACE(g_static_38), PLACE(g_static_39), PLACE(g_static_40), PLACE(g_static_41), PLACE(g_static_42), PLACE(g_static_43), PLACE(g_static_44), PLACE(g_static_45), PLACE(g_static_46), PLACE(g_static_47), PLACE(g_static_48), PLACE(g_static_49), PLACE(g_static_50), PLACE(g_static_51), PLACE(g_static_52), PLACE(g_static_53), PLACE(g_static_54), PLACE(g_static_55), PLACE(g_static_56), PLACE(g_static_57), PLACE(g_static_58), PLACE(g_static_59), PLACE(g_static_60), PLACE(g_static_61), PLACE(g_static_62), PLACE(g_static_63), PLACE(g_static_64), PLACE(g_static_65), PLACE(g_static_66), PLACE(g_static_67), PLACE(g_static_68) };
 static const u64 switch_table_capnp_layout_tool_engine_refuse_05c50f83f_f7ef1662[35] = { 16u, 44u, 34u, 33u, 47u, 25u, 48u, 53u, 38u, 38u, 47u, 50u, 16u, 25u, 56u, 56u, 46u, 68u, 49u, 56u, 49u, 60u, 36u, 33u, 41u, 24u, 40u, 15u, 20u, 11u, 17u, 28u, 24u, 20u, 18u };
-static const struct place switch_table_capnp_layout_tool_engine_refuse_05c50f83f_52234d96[7] = { PLACE(g_static_64), PLACE(g_static_65), PLACE(g_static_66), PLACE(g_static_67), PLACE(g_static_68), PLACE(g_static_69), PLACE(g_static_29) };
+static const struct place switch_table_capnp_layout_tool_engine_refuse_05c50f83f_52234d96[7] = { PLACE(g_static_69), PLACE(g_static_70), PLACE(g_static_71), PLACE(g_static_72), PLACE(g_static_73), PLACE(g_static_74), PLACE(g_static_34) };
 static const u64 switch_table_capnp_layout_tool_engine_refuse_05c50f83f_2c76b345[7] = { 10u, 15u, 14u, 9u, 10u, 11u, 16u };
 static const u64 switch_table_main_17[5] = { 1u, 8u, 16u, 32u, 64u };
 
@@ -399,7 +409,10 @@ static void core_str_utf8_from_utf8(u8 *a0, u8 *a1, u64 a2);
 static NEVER u64 core_slice_words_skip_far_52f9edcae2f82f51(u8 *a0, u64 a1, u64 a2);
 static NEVER COLD u8 std_alloc_vec_Vec_grow_amortized_b9be21092a786ac5(u8 *a0);
 static u8 core_cmp_text_RefStrPartialEq_eq(u8 *a0, u8 *a1);
+static u8 std_io_io_buffer_Buffer_flush(u8 *a0);
 static void std_io_io_error_Error_from_raw_os_error(u8 *a0, u32 a1);
+static NEVER COLD u8 core_fmt_formatter_Formatter_write_indented_bf264aed5fa78656(u8 *a0, u8 *a1, u64 a2);
+static u8 core_fmt_formatter_Formatter_write_raw_bf264aed5fa78656(u8 *a0, u8 *a1, u64 a2);
 static NEVER COLD u8 std_alloc_vec_Vec_grow_amortized_044c3d3b74b9c55e(u8 *a0, u64 a1);
 static NEVER COLD u8 std_alloc_vec_Vec_grow_amortized_5b0ad133dd2f927c(u8 *a0);
 static NEVER void capnp_objects_source_follow_far_70170357b7303457(u8 *a0, u8 *a1, u64 a2, u8 *a3);
@@ -408,7 +421,6 @@ static NEVER struct s_i8_i32 capnp_pointers_pointers_canonical_test_list_7017035
 static struct s_i8_i32 capnp_pointers_pointers_canonical_test_rows_70170357b7303457(u8 *a0, u32 a1, u16 a2, u16 a3, u32 a4, u32 a5, u8 *a6);
 static NEVER COLD void std_io_buffered_BufWriter_write_cold_89ca6214804c96d4(u8 *a0, u8 *a1, u8 *a2, u64 a3);
 static void std_io_buffered_BufWriter_flush_buf_89ca6214804c96d4(u8 *a0, u8 *a1);
-static void std_io_io_error_Error_from_static_message(u8 *a0, u8 a1, u8 *a2, u64 a3);
 static NEVER u8 capnp_pointers_pointers_sizes_add_object_70170357b7303457(u8 *a0, u32 a1, u32 a2, u8 *a3);
 static NEVER void capnp_objects_source_Source_measure_object_70170357b7303457(u8 *a0, u8 *a1, u8 *a2, u32 a3, u8 *a4);
 static NEVER u8 capnp_pointers_pointers_sizes_add_pointers_70170357b7303457(u8 *a0, u32 a1, u32 a2, u32 a3, u8 *a4);
@@ -448,9 +460,6 @@ static NEVER struct s_i8_i32 capnp_pointers_pointers_canonical_test_list_1e87a15
 static struct s_i8_i32 capnp_pointers_pointers_canonical_test_rows_1e87a151ef20e12e(u8 *a0, u32 a1, u16 a2, u16 a3, u32 a4, u32 a5, u8 *a6);
 static u8 capnp_layout_tool_engine_refuse_05c50f83f81b9c23(u8 *a0, u8 *a1);
 static u8 layout_tool_complain(u8 *a1, u64 a2);
-static u8 std_io_io_buffer_Buffer_flush(u8 *a0);
-static NEVER COLD u8 core_fmt_formatter_Formatter_write_indented_bf264aed5fa78656(u8 *a0, u8 *a1, u64 a2);
-static u8 core_fmt_formatter_Formatter_write_raw_bf264aed5fa78656(u8 *a0, u8 *a1, u64 a2);
 
 /* std_alloc::vec::Vec::grow_amortized::<#fe53b0f2d1658541> */
 static NEVER COLD u8 std_alloc_vec_Vec_grow_amortized_fe53b0f2d1658541(u8 *a0, u64 a1)
@@ -768,6 +777,136 @@ l_core_1:;
     return common_1;
 }
 
+/* std_io::io::buffer::Buffer::flush */
+static u8 std_io_io_buffer_Buffer_flush(u8 *a0)
+{
+    A(8) u8 slot_1[88];
+    A(8) u8 slot_2[32];
+    u64 r13;
+    u8 common_1;
+    u8 *r23;
+    u32 r26;
+    u64 t0;
+    u64 r3_1;
+    u64 r6_1;
+    u64 r1_1;
+    u64 r75_1;
+    u64 r3_2;
+    u32 r0_1;
+    u64 r3_3;
+    u64 r6_2;
+    u64 r6_3;
+    u64 r6_4;
+    u64 r6_5;
+    u64 r6_6;
+    u64 r6_7;
+    u32 r6_8;
+    u8 r6_9;
+    u8 r6_10;
+    u8 r6_11;
+    u8 r6_12;
+    u8 *r12 = away(a0, 1032ull);
+    r13 = ld64(r12);
+    st64(r12, 0ull);
+    if (r13 > 1024ull) { common_1 = 0u; goto l_common_1; }
+    goto l_join_1;
+l_common_1:;
+    return common_1;
+l_join_1:;
+    r23 = away(a0, 4ull);
+    r26 = ld32(a0);
+    t0 = (r13 + 63ull);
+    r3_1 = 0ull;
+    r6_1 = 0ull;
+l_arm_2:;
+    r1_1 = (r6_1 + 1ull);
+    if (r13 > r3_1) goto l_join_2;
+    common_1 = 1u;
+    goto l_common_1;
+l_join_2:;
+    r75_1 = (r13 - r3_1);
+    r3_2 = c_write(r26, away(r23, r3_1), r75_1);
+    if (!((i64)r3_2 < (i64)0ull)) goto l_else_1;
+    r0_1 = rattle_errno();
+    if (r0_1 == 4u) { r3_3 = r3_1; goto l_join_3; }
+    std_io_io_error_Error_from_raw_os_error(slot_1, r0_1);
+    u8 r0_13 = ld8(slot_1);
+    u8 r0_14 = ld8((slot_1 + 1));
+    u8 r0_15 = ld8((slot_1 + 2));
+    u8 r0_16 = ld8((slot_1 + 3));
+    u32 r0_17 = ld32((slot_1 + 4));
+    u64 r0_18 = ld64((slot_1 + 8));
+    u64 r0_19 = ld64((slot_1 + 16));
+    u64 r0_20 = ld64((slot_1 + 24));
+    u64 r0_21 = ld64((slot_1 + 32));
+    u64 r0_22 = ld64((slot_1 + 40));
+    u64 r0_23 = ld64((slot_1 + 48));
+    mv32(slot_2, (slot_1 + 56));
+    r6_2 = r0_23;
+    r6_3 = r0_22;
+    r6_4 = r0_21;
+    r6_5 = r0_20;
+    r6_6 = r0_19;
+    r6_7 = r0_18;
+    r6_8 = r0_17;
+    r6_9 = r0_16;
+    r6_10 = r0_15;
+    r6_11 = r0_14;
+    r6_12 = r0_13;
+    goto l_arm_1;
+l_else_1:;
+    if (!(r3_2 == 0ull)) goto l_else_2;
+    memset(slot_2, 46u, 32);
+    r6_2 = 0x2e2e2e2e2e2e2e2eull;
+    r6_3 = 0x2e2e2e2e2e2e2e2eull;
+    r6_4 = 0x2e2e2e2e72656666ull;
+    r6_5 = 0x756220656c6f6877ull;
+    r6_6 = 0x206574697277206full;
+    r6_7 = 0x742064656c696166ull;
+    r6_8 = 0u;
+    r6_9 = 0u;
+    r6_10 = 28u;
+    r6_11 = 23u;
+    r6_12 = 2u;
+    goto l_arm_1;
+l_else_2:;
+    r3_3 = (umin64(r3_2, r75_1) + r3_1);
+l_join_3:;
+    if (!(r6_1 == t0)) { r3_1 = r3_3; r6_1 = r1_1; goto l_arm_2; }
+    if (r13 > r3_3) goto l_std_1;
+    common_1 = 1u;
+    goto l_common_1;
+l_std_1:;
+    memset(slot_2, 0u, 32);
+    r6_2 = 0ull;
+    r6_3 = 0ull;
+    r6_4 = 0ull;
+    r6_5 = 0ull;
+    r6_6 = 0ull;
+    r6_7 = 0ull;
+    r6_8 = 4u;
+    r6_9 = 0u;
+    r6_10 = 0u;
+    r6_11 = 35u;
+    r6_12 = 0u;
+l_arm_1:;
+    st64(away(a0, 1040ull), 1ull);
+    st8(away(a0, 1048ull), r6_12);
+    st8(away(a0, 1049ull), r6_11);
+    st8(away(a0, 1050ull), r6_10);
+    st8(away(a0, 1051ull), r6_9);
+    st32(away(a0, 1052ull), r6_8);
+    st64(away(a0, 1056ull), r6_7);
+    st64(away(a0, 1064ull), r6_6);
+    st64(away(a0, 1072ull), r6_5);
+    st64(away(a0, 1080ull), r6_4);
+    st64(away(a0, 1088ull), r6_3);
+    st64(away(a0, 1096ull), r6_2);
+    mv32(away(a0, 1104ull), slot_2);
+    common_1 = 0u;
+    goto l_common_1;
+}
+
 /* std_io::io::error::Error::from_raw_os_error */
 static void std_io_io_error_Error_from_raw_os_error(u8 *a0, u32 a1)
 {
@@ -933,6 +1072,165 @@ l_std_1:;
     st32((a0 + 4), a1);
     memset((a0 + 8), 0u, 80);
     return;
+}
+
+/* core::fmt::formatter::Formatter::write_indented::<#bf264aed5fa78656> */
+static NEVER COLD u8 core_fmt_formatter_Formatter_write_indented_bf264aed5fa78656(u8 *a0, u8 *a1, u64 a2)
+{
+    u8 *r12_1;
+    u8 *r18_1;
+    u64 r3_1;
+    u64 r4_1;
+    u64 r3_2;
+    u64 r25_1;
+    u8 *r0_3;
+    u64 r19_2;
+    u64 r3_4;
+    u64 r3_3;
+    u64 r0_4;
+    u8 *r0_6;
+    u8 *r12_4;
+    u64 r19_3;
+    u64 r3_5;
+    u8 r0_1;
+    if (a2 == 0ull) { r0_1 = 0u; goto l_return_1; }
+    r12_1 = away(a0, 1168ull);
+    r18_1 = away(a0, 1160ull);
+    r3_1 = 0ull;
+    r4_1 = 0ull;
+l_core_2:;
+    r3_2 = (r4_1 + 1ull);
+    if (!(ld8((a1 + (i64)(r4_1))) == 10u)) { r3_3 = r3_1; goto l_join_1; }
+    r25_1 = (r3_2 - r3_1);
+    r0_3 = away(a1, ((r3_1 > r3_2) ? 0ull : r3_1));
+    if (r3_1 > r4_1) { r3_3 = r3_2; goto l_join_1; }
+    if (!(u8)(ld8(r12_1) & 1)) goto l_core_1;
+    r19_2 = ld64(r18_1);
+    if (r19_2 == 0ull) goto l_core_1;
+    r3_4 = 0ull;
+    goto l_join_2;
+l_loop_1:;
+    u64 r41_1 = (r3_4 + 1ull);
+    if (r41_1 == r19_2) goto l_core_1;
+    r3_4 = r41_1;
+l_join_2:;
+    u8 r33_1 = core_fmt_formatter_Formatter_write_raw_bf264aed5fa78656(a0, ((u8 *)g_static_8), 4ull);
+    if ((u8)(r33_1 & 1)) { r0_1 = 1u; goto l_return_1; }
+    goto l_loop_1;
+l_core_1:;
+    st8(r12_1, 1u);
+    u8 r31_1 = core_fmt_formatter_Formatter_write_raw_bf264aed5fa78656(a0, r0_3, r25_1);
+    if ((u8)(r31_1 & 1)) { r0_1 = 1u; goto l_return_1; }
+    r3_3 = r3_2;
+l_join_1:;
+    if (!(r3_2 == a2)) { r3_1 = r3_3; r4_1 = r3_2; goto l_core_2; }
+    r0_4 = usub_sat64(a2, r3_3);
+    r0_6 = away(a1, ((r3_3 > a2) ? 0ull : r3_3));
+    if (!(a2 > r3_3)) { r0_1 = 0u; goto l_return_1; }
+    r12_4 = away(a0, 1168ull);
+    if (!(u8)(ld8(r12_4) & 1)) goto l_arm_1;
+    r19_3 = ld64(away(a0, 1160ull));
+    if (r19_3 == 0ull) goto l_arm_1;
+    r3_5 = 0ull;
+    goto l_join_3;
+l_loop_2:;
+    u64 r41_2 = (r3_5 + 1ull);
+    if (r41_2 == r19_3) goto l_arm_1;
+    r3_5 = r41_2;
+l_join_3:;
+    u8 r33_2 = core_fmt_formatter_Formatter_write_raw_bf264aed5fa78656(a0, ((u8 *)g_static_8), 4ull);
+    if ((u8)(r33_2 & 1)) { r0_1 = 1u; goto l_return_1; }
+    goto l_loop_2;
+l_arm_1:;
+    st8(r12_4, 0u);
+    u8 r31_2 = core_fmt_formatter_Formatter_write_raw_bf264aed5fa78656(a0, r0_6, r0_4);
+    r0_1 = r31_2;
+l_return_1:;
+    return r0_1;
+}
+
+/* core::fmt::formatter::Formatter::write_raw::<#bf264aed5fa78656> */
+static u8 core_fmt_formatter_Formatter_write_raw_bf264aed5fa78656(u8 *a0, u8 *a1, u64 a2)
+{
+    u64 r3_1;
+    u8 r28_1;
+    u32 r30_1;
+    u64 r37_1;
+    u8 r21_1;
+    u32 r8_1;
+    u64 r61_1;
+    u32 r86_1;
+    u64 r109_1;
+    u64 common_1;
+    u8 *r10_1;
+    u8 *r42_1;
+    u64 r11_3;
+    u64 r5_2;
+    u8 *r5_3;
+    u8 *r20_1;
+    u64 r23_1;
+    u8 r52_1;
+    u64 r339_1;
+    u8 r5_1;
+    if (a2 == 0ull) { r5_1 = 0u; goto l_join_1; }
+    r3_1 = 0ull;
+l_join_4:;
+    r28_1 = ld8((a1 + (i64)(r3_1)));
+    r30_1 = (u32)r28_1;
+    if ((i8)r28_1 > (i8)255u) { common_1 = 1ull; goto l_join_2; }
+    r37_1 = (r3_1 + 1ull);
+    if (!(a2 > r37_1)) { r5_1 = 1u; goto l_join_1; }
+    r21_1 = ld8((a1 + (i64)(r37_1)));
+    if ((i8)r21_1 > (i8)255u) { r5_1 = 1u; goto l_join_1; }
+    u8 narrow_1 = (u8)(umin8(r21_1, 192u) & 127u);
+    r8_1 = (u32)narrow_1;
+    if ((r28_1 < 194u) ? 1u : (narrow_1 > 63u)) { r5_1 = 1u; goto l_join_1; }
+    if (r28_1 < 224u) { common_1 = 2ull; goto l_join_2; }
+    r61_1 = (r3_1 + 2ull);
+    if (!(a2 > r61_1)) { r5_1 = 1u; goto l_join_1; }
+    if (!((i8)ld8((a1 + (i64)(r61_1))) < (i8)192u)) { r5_1 = 1u; goto l_join_1; }
+    if (!(r28_1 < 240u)) goto l_join_3;
+    r86_1 = ((u32)(r8_1 << 6u) | ((u32)(r30_1 << 12u) + 0xfff20000u));
+    if (r86_1 < 2048u) { r5_1 = 1u; goto l_join_1; }
+    if ((r86_1 > 55295u) ? (r28_1 < 238u) : 0u) { r5_1 = 1u; goto l_join_1; }
+    common_1 = 3ull;
+    goto l_join_2;
+l_join_3:;
+    r109_1 = (r3_1 + 3ull);
+    if (!(a2 > r109_1)) { r5_1 = 1u; goto l_join_1; }
+    if (!((i8)ld8((a1 + (i64)(r109_1))) < (i8)192u)) { r5_1 = 1u; goto l_join_1; }
+    if ((((u32)(r30_1 << 18u) + 0xfc3f0000u) + (u32)(r8_1 << 12u)) < 0x100000u) { common_1 = 4ull; goto l_join_2; }
+    r5_1 = 1u;
+    goto l_join_1;
+l_join_2:;
+    u64 r30_2 = (common_1 + r3_1);
+    if (r30_2 < a2) { r3_1 = r30_2; goto l_join_4; }
+    r10_1 = away(a0, 1032ull);
+    r42_1 = away(a0, 4ull);
+    r11_3 = ld64(r10_1);
+    r5_2 = a2;
+    r5_3 = a1;
+l_arm_1:;
+    r20_1 = away(r5_3, 1ull);
+    r23_1 = (r5_2 + 0xffffffffffffffffull);
+    r52_1 = ld8(r5_3);
+    if (!(r11_3 > 1023ull)) { r339_1 = r11_3; goto l_std_1; }
+    u8 r18_1 = std_io_io_buffer_Buffer_flush(a0);
+    if (!r18_1) { r5_1 = 1u; goto l_join_1; }
+    u64 r33_1 = ld64(r10_1);
+    if (r33_1 > 1023ull) { r5_1 = 1u; goto l_join_1; }
+    r339_1 = r33_1;
+l_std_1:;
+    st8((r42_1 + (i64)(r339_1)), r52_1);
+    u64 r48_1 = (r339_1 + 1ull);
+    st64(r10_1, r48_1);
+    if (r23_1 == 0ull) { r5_1 = 0u; goto l_join_1; }
+    r11_3 = r48_1;
+    r5_2 = r23_1;
+    r5_3 = r20_1;
+    goto l_arm_1;
+l_join_1:;
+    return r5_1;
 }
 
 /* std_alloc::vec::Vec::grow_amortized::<#044c3d3b74b9c55e> */
@@ -2249,31 +2547,23 @@ l_std_1:;
     if (ld8((slot_1 + (i64)((r8_1 & 63ull)))) == 35u) { r5_8 = r1_1; goto l_loop_1; }
 l_then_1:;
     mv32(slot_3, slot_2);
-    r9_2 = r5_14;
-    r9_3 = r5_13;
-    r9_4 = r5_12;
-    r9_5 = r5_11;
-    r9_6 = r5_10;
-    r9_7 = r5_9;
+    r9_2 = r5_9;
+    r9_3 = r5_10;
+    r9_4 = r5_11;
+    r9_5 = r5_12;
+    r9_6 = r5_13;
+    r9_7 = r5_14;
     r9_8 = r6_3;
     goto l_arm_2;
 l_after_2:;
-    std_io_io_error_Error_from_static_message(slot_1, 22u, ((u8 *)g_static_19), 43ull);
-    u64 r20_8 = ld64(slot_1);
-    u64 r20_9 = ld64((slot_1 + 8));
-    u64 r20_10 = ld64((slot_1 + 16));
-    u64 r20_11 = ld64((slot_1 + 24));
-    u64 r20_12 = ld64((slot_1 + 32));
-    u64 r20_13 = ld64((slot_1 + 40));
-    u64 r20_14 = ld64((slot_1 + 48));
-    mv32(slot_3, (slot_1 + 56));
-    r9_2 = r20_14;
-    r9_3 = r20_13;
-    r9_4 = r20_12;
-    r9_5 = r20_11;
-    r9_6 = r20_10;
-    r9_7 = r20_9;
-    r9_8 = r20_8;
+    memset(slot_3, 46u, 32);
+    r9_2 = 0x2070752065766167ull;
+    r9_3 = 0x20676e6964616572ull;
+    r9_4 = 0x697469727720726full;
+    r9_5 = 0x726574666120676eull;
+    r9_6 = 0x72742034365e3220ull;
+    r9_7 = 0x2e2e2e2e2e736569ull;
+    r9_8 = 0x2b1602ull;
     goto l_arm_2;
 l_arm_1:;
     a0_1 = umin64(r3_3, r35_1);
@@ -2294,12 +2584,12 @@ l_arm_2:;
     r3_4 = r3_2;
     r3_5 = 1u;
     r3_6 = r9_8;
-    r3_7 = r9_7;
-    r3_8 = r9_6;
-    r3_9 = r9_5;
-    r3_10 = r9_4;
-    r3_11 = r9_3;
-    r3_12 = r9_2;
+    r3_7 = r9_2;
+    r3_8 = r9_3;
+    r3_9 = r9_4;
+    r3_10 = r9_5;
+    r3_11 = r9_6;
+    r3_12 = r9_7;
     goto l_std_2;
 l_after_1:;
     memset(slot_4, 0u, 32);
@@ -2337,173 +2627,6 @@ l_std_4:;
     st64(away(a0, 48ull), r3_11);
     st64(away(a0, 56ull), r3_12);
     mv32(away(a0, 64ull), slot_4);
-    return;
-}
-
-/* std_io::io::error::Error::from_static_message */
-static void std_io_io_error_Error_from_static_message(u8 *a0, u8 a1, u8 *a2, u64 a3)
-{
-    u64 r18_1;
-    u32 r18_2;
-    u8 r18_3;
-    u8 r18_4;
-    u8 r18_5;
-    u64 t1;
-    u8 r18_7;
-    u64 t3;
-    u64 t5;
-    u64 t7;
-    u64 t9;
-    u64 t11;
-    u64 t13;
-    u64 t15;
-    u8 r18_15;
-    u64 t17;
-    u64 t19;
-    u64 t21;
-    u64 t23;
-    u64 t25;
-    u64 t27;
-    u64 t29;
-    u8 r18_23;
-    u64 t31;
-    u64 t33;
-    u64 t35;
-    u64 t37;
-    u64 t39;
-    u64 t41;
-    u64 t43;
-    u8 r18_31;
-    u64 t45;
-    u64 r5_1;
-    u64 r5_2;
-    u64 r5_3;
-    u64 r5_4;
-    u64 r5_5;
-    u64 r5_6;
-    u64 r5_7;
-    u64 r5_8;
-    u64 r5_9;
-    u64 r5_10;
-    u64 r5_11;
-    u64 r5_12;
-    u64 r5_13;
-    u64 r5_14;
-    u8 r5_15;
-    u64 r5_16;
-    u64 r5_17;
-    u64 r5_18;
-    u8 r5_19;
-    u64 r5_20;
-    u64 r5_21;
-    u64 r5_22;
-    u8 r5_23;
-    u64 r5_24;
-    u64 r5_25;
-    u64 r5_26;
-    u8 r5_27;
-    u64 r5_28;
-    r18_1 = ld64(a2);
-    r18_2 = ld32((a2 + 8));
-    r18_3 = ld8((a2 + 12));
-    r18_4 = ld8((a2 + 13));
-    r18_5 = ld8((a2 + 14));
-    if (a3 == 15ull) { r5_1 = 11776ull; r5_2 = 0x2e00000000000000ull; r5_3 = 0x2e0000000000ull; r5_4 = 0x2e000000ull; r5_5 = 11776ull; r5_6 = 0x2e00000000000000ull; r5_7 = 0x2e0000000000ull; r5_8 = 0x2e000000ull; r5_9 = 11776ull; r5_10 = 0x2e00000000000000ull; r5_11 = 0x2e0000000000ull; r5_12 = 0x2e000000ull; r5_13 = 11776ull; r5_14 = 0x2e00000000000000ull; r5_15 = 46u; r5_16 = 0x2e0000ull; r5_17 = 0x2e00000000ull; r5_18 = 0x2e000000000000ull; r5_19 = 46u; r5_20 = 0x2e0000ull; r5_21 = 0x2e00000000ull; r5_22 = 0x2e000000000000ull; r5_23 = 46u; r5_24 = 0x2e0000ull; r5_25 = 0x2e00000000ull; r5_26 = 0x2e000000000000ull; r5_27 = 46u; r5_28 = 0x2e0000ull; goto l_std_1; }
-    t1 = (u64)((u64)ld8((a2 + 15)) << 56ull);
-    if (!(a3 > 16ull)) { r5_1 = 11776ull; r5_2 = 0x2e00000000000000ull; r5_3 = 0x2e0000000000ull; r5_4 = 0x2e000000ull; r5_5 = 11776ull; r5_6 = 0x2e00000000000000ull; r5_7 = 0x2e0000000000ull; r5_8 = 0x2e000000ull; r5_9 = 11776ull; r5_10 = 0x2e00000000000000ull; r5_11 = 0x2e0000000000ull; r5_12 = 0x2e000000ull; r5_13 = 11776ull; r5_14 = t1; r5_15 = 46u; r5_16 = 0x2e0000ull; r5_17 = 0x2e00000000ull; r5_18 = 0x2e000000000000ull; r5_19 = 46u; r5_20 = 0x2e0000ull; r5_21 = 0x2e00000000ull; r5_22 = 0x2e000000000000ull; r5_23 = 46u; r5_24 = 0x2e0000ull; r5_25 = 0x2e00000000ull; r5_26 = 0x2e000000000000ull; r5_27 = 46u; r5_28 = 0x2e0000ull; goto l_std_1; }
-    r18_7 = ld8((a2 + 16));
-    if (a3 == 17ull) { r5_1 = 11776ull; r5_2 = 0x2e00000000000000ull; r5_3 = 0x2e0000000000ull; r5_4 = 0x2e000000ull; r5_5 = 11776ull; r5_6 = 0x2e00000000000000ull; r5_7 = 0x2e0000000000ull; r5_8 = 0x2e000000ull; r5_9 = 11776ull; r5_10 = 0x2e00000000000000ull; r5_11 = 0x2e0000000000ull; r5_12 = 0x2e000000ull; r5_13 = 11776ull; r5_14 = t1; r5_15 = r18_7; r5_16 = 0x2e0000ull; r5_17 = 0x2e00000000ull; r5_18 = 0x2e000000000000ull; r5_19 = 46u; r5_20 = 0x2e0000ull; r5_21 = 0x2e00000000ull; r5_22 = 0x2e000000000000ull; r5_23 = 46u; r5_24 = 0x2e0000ull; r5_25 = 0x2e00000000ull; r5_26 = 0x2e000000000000ull; r5_27 = 46u; r5_28 = 0x2e0000ull; goto l_std_1; }
-    t3 = (u64)((u64)ld8((a2 + 17)) << 8ull);
-    if (!(a3 > 18ull)) { r5_1 = 11776ull; r5_2 = 0x2e00000000000000ull; r5_3 = 0x2e0000000000ull; r5_4 = 0x2e000000ull; r5_5 = 11776ull; r5_6 = 0x2e00000000000000ull; r5_7 = 0x2e0000000000ull; r5_8 = 0x2e000000ull; r5_9 = 11776ull; r5_10 = 0x2e00000000000000ull; r5_11 = 0x2e0000000000ull; r5_12 = 0x2e000000ull; r5_13 = t3; r5_14 = t1; r5_15 = r18_7; r5_16 = 0x2e0000ull; r5_17 = 0x2e00000000ull; r5_18 = 0x2e000000000000ull; r5_19 = 46u; r5_20 = 0x2e0000ull; r5_21 = 0x2e00000000ull; r5_22 = 0x2e000000000000ull; r5_23 = 46u; r5_24 = 0x2e0000ull; r5_25 = 0x2e00000000ull; r5_26 = 0x2e000000000000ull; r5_27 = 46u; r5_28 = 0x2e0000ull; goto l_std_1; }
-    t5 = (u64)((u64)ld8((a2 + 18)) << 16ull);
-    if (a3 == 19ull) { r5_1 = 11776ull; r5_2 = 0x2e00000000000000ull; r5_3 = 0x2e0000000000ull; r5_4 = 0x2e000000ull; r5_5 = 11776ull; r5_6 = 0x2e00000000000000ull; r5_7 = 0x2e0000000000ull; r5_8 = 0x2e000000ull; r5_9 = 11776ull; r5_10 = 0x2e00000000000000ull; r5_11 = 0x2e0000000000ull; r5_12 = 0x2e000000ull; r5_13 = t3; r5_14 = t1; r5_15 = r18_7; r5_16 = t5; r5_17 = 0x2e00000000ull; r5_18 = 0x2e000000000000ull; r5_19 = 46u; r5_20 = 0x2e0000ull; r5_21 = 0x2e00000000ull; r5_22 = 0x2e000000000000ull; r5_23 = 46u; r5_24 = 0x2e0000ull; r5_25 = 0x2e00000000ull; r5_26 = 0x2e000000000000ull; r5_27 = 46u; r5_28 = 0x2e0000ull; goto l_std_1; }
-    t7 = (u64)((u64)ld8((a2 + 19)) << 24ull);
-    if (!(a3 > 20ull)) { r5_1 = 11776ull; r5_2 = 0x2e00000000000000ull; r5_3 = 0x2e0000000000ull; r5_4 = 0x2e000000ull; r5_5 = 11776ull; r5_6 = 0x2e00000000000000ull; r5_7 = 0x2e0000000000ull; r5_8 = 0x2e000000ull; r5_9 = 11776ull; r5_10 = 0x2e00000000000000ull; r5_11 = 0x2e0000000000ull; r5_12 = t7; r5_13 = t3; r5_14 = t1; r5_15 = r18_7; r5_16 = t5; r5_17 = 0x2e00000000ull; r5_18 = 0x2e000000000000ull; r5_19 = 46u; r5_20 = 0x2e0000ull; r5_21 = 0x2e00000000ull; r5_22 = 0x2e000000000000ull; r5_23 = 46u; r5_24 = 0x2e0000ull; r5_25 = 0x2e00000000ull; r5_26 = 0x2e000000000000ull; r5_27 = 46u; r5_28 = 0x2e0000ull; goto l_std_1; }
-    t9 = (u64)((u64)ld8((a2 + 20)) << 32ull);
-    if (a3 == 21ull) { r5_1 = 11776ull; r5_2 = 0x2e00000000000000ull; r5_3 = 0x2e0000000000ull; r5_4 = 0x2e000000ull; r5_5 = 11776ull; r5_6 = 0x2e00000000000000ull; r5_7 = 0x2e0000000000ull; r5_8 = 0x2e000000ull; r5_9 = 11776ull; r5_10 = 0x2e00000000000000ull; r5_11 = 0x2e0000000000ull; r5_12 = t7; r5_13 = t3; r5_14 = t1; r5_15 = r18_7; r5_16 = t5; r5_17 = t9; r5_18 = 0x2e000000000000ull; r5_19 = 46u; r5_20 = 0x2e0000ull; r5_21 = 0x2e00000000ull; r5_22 = 0x2e000000000000ull; r5_23 = 46u; r5_24 = 0x2e0000ull; r5_25 = 0x2e00000000ull; r5_26 = 0x2e000000000000ull; r5_27 = 46u; r5_28 = 0x2e0000ull; goto l_std_1; }
-    t11 = (u64)((u64)ld8((a2 + 21)) << 40ull);
-    if (!(a3 > 22ull)) { r5_1 = 11776ull; r5_2 = 0x2e00000000000000ull; r5_3 = 0x2e0000000000ull; r5_4 = 0x2e000000ull; r5_5 = 11776ull; r5_6 = 0x2e00000000000000ull; r5_7 = 0x2e0000000000ull; r5_8 = 0x2e000000ull; r5_9 = 11776ull; r5_10 = 0x2e00000000000000ull; r5_11 = t11; r5_12 = t7; r5_13 = t3; r5_14 = t1; r5_15 = r18_7; r5_16 = t5; r5_17 = t9; r5_18 = 0x2e000000000000ull; r5_19 = 46u; r5_20 = 0x2e0000ull; r5_21 = 0x2e00000000ull; r5_22 = 0x2e000000000000ull; r5_23 = 46u; r5_24 = 0x2e0000ull; r5_25 = 0x2e00000000ull; r5_26 = 0x2e000000000000ull; r5_27 = 46u; r5_28 = 0x2e0000ull; goto l_std_1; }
-    t13 = (u64)((u64)ld8((a2 + 22)) << 48ull);
-    if (a3 == 23ull) { r5_1 = 11776ull; r5_2 = 0x2e00000000000000ull; r5_3 = 0x2e0000000000ull; r5_4 = 0x2e000000ull; r5_5 = 11776ull; r5_6 = 0x2e00000000000000ull; r5_7 = 0x2e0000000000ull; r5_8 = 0x2e000000ull; r5_9 = 11776ull; r5_10 = 0x2e00000000000000ull; r5_11 = t11; r5_12 = t7; r5_13 = t3; r5_14 = t1; r5_15 = r18_7; r5_16 = t5; r5_17 = t9; r5_18 = t13; r5_19 = 46u; r5_20 = 0x2e0000ull; r5_21 = 0x2e00000000ull; r5_22 = 0x2e000000000000ull; r5_23 = 46u; r5_24 = 0x2e0000ull; r5_25 = 0x2e00000000ull; r5_26 = 0x2e000000000000ull; r5_27 = 46u; r5_28 = 0x2e0000ull; goto l_std_1; }
-    t15 = (u64)((u64)ld8((a2 + 23)) << 56ull);
-    if (!(a3 > 24ull)) { r5_1 = 11776ull; r5_2 = 0x2e00000000000000ull; r5_3 = 0x2e0000000000ull; r5_4 = 0x2e000000ull; r5_5 = 11776ull; r5_6 = 0x2e00000000000000ull; r5_7 = 0x2e0000000000ull; r5_8 = 0x2e000000ull; r5_9 = 11776ull; r5_10 = t15; r5_11 = t11; r5_12 = t7; r5_13 = t3; r5_14 = t1; r5_15 = r18_7; r5_16 = t5; r5_17 = t9; r5_18 = t13; r5_19 = 46u; r5_20 = 0x2e0000ull; r5_21 = 0x2e00000000ull; r5_22 = 0x2e000000000000ull; r5_23 = 46u; r5_24 = 0x2e0000ull; r5_25 = 0x2e00000000ull; r5_26 = 0x2e000000000000ull; r5_27 = 46u; r5_28 = 0x2e0000ull; goto l_std_1; }
-    r18_15 = ld8((a2 + 24));
-    if (a3 == 25ull) { r5_1 = 11776ull; r5_2 = 0x2e00000000000000ull; r5_3 = 0x2e0000000000ull; r5_4 = 0x2e000000ull; r5_5 = 11776ull; r5_6 = 0x2e00000000000000ull; r5_7 = 0x2e0000000000ull; r5_8 = 0x2e000000ull; r5_9 = 11776ull; r5_10 = t15; r5_11 = t11; r5_12 = t7; r5_13 = t3; r5_14 = t1; r5_15 = r18_7; r5_16 = t5; r5_17 = t9; r5_18 = t13; r5_19 = r18_15; r5_20 = 0x2e0000ull; r5_21 = 0x2e00000000ull; r5_22 = 0x2e000000000000ull; r5_23 = 46u; r5_24 = 0x2e0000ull; r5_25 = 0x2e00000000ull; r5_26 = 0x2e000000000000ull; r5_27 = 46u; r5_28 = 0x2e0000ull; goto l_std_1; }
-    t17 = (u64)((u64)ld8((a2 + 25)) << 8ull);
-    if (!(a3 > 26ull)) { r5_1 = 11776ull; r5_2 = 0x2e00000000000000ull; r5_3 = 0x2e0000000000ull; r5_4 = 0x2e000000ull; r5_5 = 11776ull; r5_6 = 0x2e00000000000000ull; r5_7 = 0x2e0000000000ull; r5_8 = 0x2e000000ull; r5_9 = t17; r5_10 = t15; r5_11 = t11; r5_12 = t7; r5_13 = t3; r5_14 = t1; r5_15 = r18_7; r5_16 = t5; r5_17 = t9; r5_18 = t13; r5_19 = r18_15; r5_20 = 0x2e0000ull; r5_21 = 0x2e00000000ull; r5_22 = 0x2e000000000000ull; r5_23 = 46u; r5_24 = 0x2e0000ull; r5_25 = 0x2e00000000ull; r5_26 = 0x2e000000000000ull; r5_27 = 46u; r5_28 = 0x2e0000ull; goto l_std_1; }
-    t19 = (u64)((u64)ld8((a2 + 26)) << 16ull);
-    if (a3 == 27ull) { r5_1 = 11776ull; r5_2 = 0x2e00000000000000ull; r5_3 = 0x2e0000000000ull; r5_4 = 0x2e000000ull; r5_5 = 11776ull; r5_6 = 0x2e00000000000000ull; r5_7 = 0x2e0000000000ull; r5_8 = 0x2e000000ull; r5_9 = t17; r5_10 = t15; r5_11 = t11; r5_12 = t7; r5_13 = t3; r5_14 = t1; r5_15 = r18_7; r5_16 = t5; r5_17 = t9; r5_18 = t13; r5_19 = r18_15; r5_20 = t19; r5_21 = 0x2e00000000ull; r5_22 = 0x2e000000000000ull; r5_23 = 46u; r5_24 = 0x2e0000ull; r5_25 = 0x2e00000000ull; r5_26 = 0x2e000000000000ull; r5_27 = 46u; r5_28 = 0x2e0000ull; goto l_std_1; }
-    t21 = (u64)((u64)ld8((a2 + 27)) << 24ull);
-    if (!(a3 > 28ull)) { r5_1 = 11776ull; r5_2 = 0x2e00000000000000ull; r5_3 = 0x2e0000000000ull; r5_4 = 0x2e000000ull; r5_5 = 11776ull; r5_6 = 0x2e00000000000000ull; r5_7 = 0x2e0000000000ull; r5_8 = t21; r5_9 = t17; r5_10 = t15; r5_11 = t11; r5_12 = t7; r5_13 = t3; r5_14 = t1; r5_15 = r18_7; r5_16 = t5; r5_17 = t9; r5_18 = t13; r5_19 = r18_15; r5_20 = t19; r5_21 = 0x2e00000000ull; r5_22 = 0x2e000000000000ull; r5_23 = 46u; r5_24 = 0x2e0000ull; r5_25 = 0x2e00000000ull; r5_26 = 0x2e000000000000ull; r5_27 = 46u; r5_28 = 0x2e0000ull; goto l_std_1; }
-    t23 = (u64)((u64)ld8((a2 + 28)) << 32ull);
-    if (a3 == 29ull) { r5_1 = 11776ull; r5_2 = 0x2e00000000000000ull; r5_3 = 0x2e0000000000ull; r5_4 = 0x2e000000ull; r5_5 = 11776ull; r5_6 = 0x2e00000000000000ull; r5_7 = 0x2e0000000000ull; r5_8 = t21; r5_9 = t17; r5_10 = t15; r5_11 = t11; r5_12 = t7; r5_13 = t3; r5_14 = t1; r5_15 = r18_7; r5_16 = t5; r5_17 = t9; r5_18 = t13; r5_19 = r18_15; r5_20 = t19; r5_21 = t23; r5_22 = 0x2e000000000000ull; r5_23 = 46u; r5_24 = 0x2e0000ull; r5_25 = 0x2e00000000ull; r5_26 = 0x2e000000000000ull; r5_27 = 46u; r5_28 = 0x2e0000ull; goto l_std_1; }
-    t25 = (u64)((u64)ld8((a2 + 29)) << 40ull);
-    if (!(a3 > 30ull)) { r5_1 = 11776ull; r5_2 = 0x2e00000000000000ull; r5_3 = 0x2e0000000000ull; r5_4 = 0x2e000000ull; r5_5 = 11776ull; r5_6 = 0x2e00000000000000ull; r5_7 = t25; r5_8 = t21; r5_9 = t17; r5_10 = t15; r5_11 = t11; r5_12 = t7; r5_13 = t3; r5_14 = t1; r5_15 = r18_7; r5_16 = t5; r5_17 = t9; r5_18 = t13; r5_19 = r18_15; r5_20 = t19; r5_21 = t23; r5_22 = 0x2e000000000000ull; r5_23 = 46u; r5_24 = 0x2e0000ull; r5_25 = 0x2e00000000ull; r5_26 = 0x2e000000000000ull; r5_27 = 46u; r5_28 = 0x2e0000ull; goto l_std_1; }
-    t27 = (u64)((u64)ld8((a2 + 30)) << 48ull);
-    if (a3 == 31ull) { r5_1 = 11776ull; r5_2 = 0x2e00000000000000ull; r5_3 = 0x2e0000000000ull; r5_4 = 0x2e000000ull; r5_5 = 11776ull; r5_6 = 0x2e00000000000000ull; r5_7 = t25; r5_8 = t21; r5_9 = t17; r5_10 = t15; r5_11 = t11; r5_12 = t7; r5_13 = t3; r5_14 = t1; r5_15 = r18_7; r5_16 = t5; r5_17 = t9; r5_18 = t13; r5_19 = r18_15; r5_20 = t19; r5_21 = t23; r5_22 = t27; r5_23 = 46u; r5_24 = 0x2e0000ull; r5_25 = 0x2e00000000ull; r5_26 = 0x2e000000000000ull; r5_27 = 46u; r5_28 = 0x2e0000ull; goto l_std_1; }
-    t29 = (u64)((u64)ld8((a2 + 31)) << 56ull);
-    if (!(a3 > 32ull)) { r5_1 = 11776ull; r5_2 = 0x2e00000000000000ull; r5_3 = 0x2e0000000000ull; r5_4 = 0x2e000000ull; r5_5 = 11776ull; r5_6 = t29; r5_7 = t25; r5_8 = t21; r5_9 = t17; r5_10 = t15; r5_11 = t11; r5_12 = t7; r5_13 = t3; r5_14 = t1; r5_15 = r18_7; r5_16 = t5; r5_17 = t9; r5_18 = t13; r5_19 = r18_15; r5_20 = t19; r5_21 = t23; r5_22 = t27; r5_23 = 46u; r5_24 = 0x2e0000ull; r5_25 = 0x2e00000000ull; r5_26 = 0x2e000000000000ull; r5_27 = 46u; r5_28 = 0x2e0000ull; goto l_std_1; }
-    r18_23 = ld8((a2 + 32));
-    if (a3 == 33ull) { r5_1 = 11776ull; r5_2 = 0x2e00000000000000ull; r5_3 = 0x2e0000000000ull; r5_4 = 0x2e000000ull; r5_5 = 11776ull; r5_6 = t29; r5_7 = t25; r5_8 = t21; r5_9 = t17; r5_10 = t15; r5_11 = t11; r5_12 = t7; r5_13 = t3; r5_14 = t1; r5_15 = r18_7; r5_16 = t5; r5_17 = t9; r5_18 = t13; r5_19 = r18_15; r5_20 = t19; r5_21 = t23; r5_22 = t27; r5_23 = r18_23; r5_24 = 0x2e0000ull; r5_25 = 0x2e00000000ull; r5_26 = 0x2e000000000000ull; r5_27 = 46u; r5_28 = 0x2e0000ull; goto l_std_1; }
-    t31 = (u64)((u64)ld8((a2 + 33)) << 8ull);
-    if (!(a3 > 34ull)) { r5_1 = 11776ull; r5_2 = 0x2e00000000000000ull; r5_3 = 0x2e0000000000ull; r5_4 = 0x2e000000ull; r5_5 = t31; r5_6 = t29; r5_7 = t25; r5_8 = t21; r5_9 = t17; r5_10 = t15; r5_11 = t11; r5_12 = t7; r5_13 = t3; r5_14 = t1; r5_15 = r18_7; r5_16 = t5; r5_17 = t9; r5_18 = t13; r5_19 = r18_15; r5_20 = t19; r5_21 = t23; r5_22 = t27; r5_23 = r18_23; r5_24 = 0x2e0000ull; r5_25 = 0x2e00000000ull; r5_26 = 0x2e000000000000ull; r5_27 = 46u; r5_28 = 0x2e0000ull; goto l_std_1; }
-    t33 = (u64)((u64)ld8((a2 + 34)) << 16ull);
-    if (a3 == 35ull) { r5_1 = 11776ull; r5_2 = 0x2e00000000000000ull; r5_3 = 0x2e0000000000ull; r5_4 = 0x2e000000ull; r5_5 = t31; r5_6 = t29; r5_7 = t25; r5_8 = t21; r5_9 = t17; r5_10 = t15; r5_11 = t11; r5_12 = t7; r5_13 = t3; r5_14 = t1; r5_15 = r18_7; r5_16 = t5; r5_17 = t9; r5_18 = t13; r5_19 = r18_15; r5_20 = t19; r5_21 = t23; r5_22 = t27; r5_23 = r18_23; r5_24 = t33; r5_25 = 0x2e00000000ull; r5_26 = 0x2e000000000000ull; r5_27 = 46u; r5_28 = 0x2e0000ull; goto l_std_1; }
-    t35 = (u64)((u64)ld8((a2 + 35)) << 24ull);
-    if (!(a3 > 36ull)) { r5_1 = 11776ull; r5_2 = 0x2e00000000000000ull; r5_3 = 0x2e0000000000ull; r5_4 = t35; r5_5 = t31; r5_6 = t29; r5_7 = t25; r5_8 = t21; r5_9 = t17; r5_10 = t15; r5_11 = t11; r5_12 = t7; r5_13 = t3; r5_14 = t1; r5_15 = r18_7; r5_16 = t5; r5_17 = t9; r5_18 = t13; r5_19 = r18_15; r5_20 = t19; r5_21 = t23; r5_22 = t27; r5_23 = r18_23; r5_24 = t33; r5_25 = 0x2e00000000ull; r5_26 = 0x2e000000000000ull; r5_27 = 46u; r5_28 = 0x2e0000ull; goto l_std_1; }
-    t37 = (u64)((u64)ld8((a2 + 36)) << 32ull);
-    if (a3 == 37ull) { r5_1 = 11776ull; r5_2 = 0x2e00000000000000ull; r5_3 = 0x2e0000000000ull; r5_4 = t35; r5_5 = t31; r5_6 = t29; r5_7 = t25; r5_8 = t21; r5_9 = t17; r5_10 = t15; r5_11 = t11; r5_12 = t7; r5_13 = t3; r5_14 = t1; r5_15 = r18_7; r5_16 = t5; r5_17 = t9; r5_18 = t13; r5_19 = r18_15; r5_20 = t19; r5_21 = t23; r5_22 = t27; r5_23 = r18_23; r5_24 = t33; r5_25 = t37; r5_26 = 0x2e000000000000ull; r5_27 = 46u; r5_28 = 0x2e0000ull; goto l_std_1; }
-    t39 = (u64)((u64)ld8((a2 + 37)) << 40ull);
-    if (!(a3 > 38ull)) { r5_1 = 11776ull; r5_2 = 0x2e00000000000000ull; r5_3 = t39; r5_4 = t35; r5_5 = t31; r5_6 = t29; r5_7 = t25; r5_8 = t21; r5_9 = t17; r5_10 = t15; r5_11 = t11; r5_12 = t7; r5_13 = t3; r5_14 = t1; r5_15 = r18_7; r5_16 = t5; r5_17 = t9; r5_18 = t13; r5_19 = r18_15; r5_20 = t19; r5_21 = t23; r5_22 = t27; r5_23 = r18_23; r5_24 = t33; r5_25 = t37; r5_26 = 0x2e000000000000ull; r5_27 = 46u; r5_28 = 0x2e0000ull; goto l_std_1; }
-    t41 = (u64)((u64)ld8((a2 + 38)) << 48ull);
-    if (a3 == 39ull) { r5_1 = 11776ull; r5_2 = 0x2e00000000000000ull; r5_3 = t39; r5_4 = t35; r5_5 = t31; r5_6 = t29; r5_7 = t25; r5_8 = t21; r5_9 = t17; r5_10 = t15; r5_11 = t11; r5_12 = t7; r5_13 = t3; r5_14 = t1; r5_15 = r18_7; r5_16 = t5; r5_17 = t9; r5_18 = t13; r5_19 = r18_15; r5_20 = t19; r5_21 = t23; r5_22 = t27; r5_23 = r18_23; r5_24 = t33; r5_25 = t37; r5_26 = t41; r5_27 = 46u; r5_28 = 0x2e0000ull; goto l_std_1; }
-    t43 = (u64)((u64)ld8((a2 + 39)) << 56ull);
-    if (!(a3 > 40ull)) { r5_1 = 11776ull; r5_2 = t43; r5_3 = t39; r5_4 = t35; r5_5 = t31; r5_6 = t29; r5_7 = t25; r5_8 = t21; r5_9 = t17; r5_10 = t15; r5_11 = t11; r5_12 = t7; r5_13 = t3; r5_14 = t1; r5_15 = r18_7; r5_16 = t5; r5_17 = t9; r5_18 = t13; r5_19 = r18_15; r5_20 = t19; r5_21 = t23; r5_22 = t27; r5_23 = r18_23; r5_24 = t33; r5_25 = t37; r5_26 = t41; r5_27 = 46u; r5_28 = 0x2e0000ull; goto l_std_1; }
-    r18_31 = ld8((a2 + 40));
-    if (a3 == 41ull) { r5_1 = 11776ull; r5_2 = t43; r5_3 = t39; r5_4 = t35; r5_5 = t31; r5_6 = t29; r5_7 = t25; r5_8 = t21; r5_9 = t17; r5_10 = t15; r5_11 = t11; r5_12 = t7; r5_13 = t3; r5_14 = t1; r5_15 = r18_7; r5_16 = t5; r5_17 = t9; r5_18 = t13; r5_19 = r18_15; r5_20 = t19; r5_21 = t23; r5_22 = t27; r5_23 = r18_23; r5_24 = t33; r5_25 = t37; r5_26 = t41; r5_27 = r18_31; r5_28 = 0x2e0000ull; goto l_std_1; }
-    t45 = (u64)((u64)ld8((a2 + 41)) << 8ull);
-    if (!(a3 > 42ull)) { r5_1 = t45; r5_2 = t43; r5_3 = t39; r5_4 = t35; r5_5 = t31; r5_6 = t29; r5_7 = t25; r5_8 = t21; r5_9 = t17; r5_10 = t15; r5_11 = t11; r5_12 = t7; r5_13 = t3; r5_14 = t1; r5_15 = r18_7; r5_16 = t5; r5_17 = t9; r5_18 = t13; r5_19 = r18_15; r5_20 = t19; r5_21 = t23; r5_22 = t27; r5_23 = r18_23; r5_24 = t33; r5_25 = t37; r5_26 = t41; r5_27 = r18_31; r5_28 = 0x2e0000ull; goto l_std_1; }
-    r5_1 = t45;
-    r5_2 = t43;
-    r5_3 = t39;
-    r5_4 = t35;
-    r5_5 = t31;
-    r5_6 = t29;
-    r5_7 = t25;
-    r5_8 = t21;
-    r5_9 = t17;
-    r5_10 = t15;
-    r5_11 = t11;
-    r5_12 = t7;
-    r5_13 = t3;
-    r5_14 = t1;
-    r5_15 = r18_7;
-    r5_16 = t5;
-    r5_17 = t9;
-    r5_18 = t13;
-    r5_19 = r18_15;
-    r5_20 = t19;
-    r5_21 = t23;
-    r5_22 = t27;
-    r5_23 = r18_23;
-    r5_24 = t33;
-    r5_25 = t37;
-    r5_26 = t41;
-    r5_27 = r18_31;
-    r5_28 = (u64)((u64)ld8((a2 + 42)) << 16ull);
-l_std_1:;
-    st8(a0, 2u);
-    st8((a0 + 1), a1);
-    st8((a0 + 2), (u8)a3);
-    st8((a0 + 3), 0u);
-    st32((a0 + 4), 0u);
-    st64((a0 + 8), r18_1);
-    st64((a0 + 16), (((((u64)((u64)r18_3 << 32ull) | (u64)r18_2) | (u64)((u64)r18_4 << 40ull)) | (u64)((u64)r18_5 << 48ull)) | r5_14));
-    st64((a0 + 24), (((((((r5_11 | r5_10) | r5_12) | r5_13) | (u64)r5_15) | r5_16) | r5_17) | r5_18));
-    st64((a0 + 32), (((((((r5_7 | r5_6) | r5_8) | r5_9) | (u64)r5_19) | r5_20) | r5_21) | r5_22));
-    st64((a0 + 40), (((((((r5_3 | r5_2) | r5_4) | r5_5) | (u64)r5_23) | r5_24) | r5_25) | r5_26));
-    st64((a0 + 48), (((r5_1 | (u64)r5_27) | r5_28) | 0x2e2e2e2e2e000000ull));
-    memset((a0 + 56), 46u, 32);
     return;
 }
 
@@ -3423,8 +3546,8 @@ static u8 capnp_layout_tool_frames_write_number_05c50f83f81b9c23(u8 *a0, u32 a1)
 l_join_1:;
     u8 r32_1 = ld8((slot_3 + (i64)(r4_1)));
     u8 *r47_1 = (slot_2 + (i64)((u64)(r4_1 << 1ull)));
-    st8(r47_1, ld8((((u8 *)g_static_23) + (i64)((u64)(u8)((u32)r32_1 >> 4u)))));
-    st8((r47_1 + 1), ld8((((u8 *)g_static_23) + (i64)((u64)(u8)(r32_1 & 15u)))));
+    st8(r47_1, ld8((((u8 *)g_static_28) + (i64)((u64)(u8)((u32)r32_1 >> 4u)))));
+    st8((r47_1 + 1), ld8((((u8 *)g_static_28) + (i64)((u64)(u8)(r32_1 & 15u)))));
     u64 r69_1 = (r4_1 + 1ull);
     if (!(r69_1 == 4ull)) { r4_1 = r69_1; goto l_join_1; }
     r15_1 = away(a0, 8ull);
@@ -3512,8 +3635,8 @@ l_join_4:;
 l_join_2:;
     u8 r32_1 = ld8((slot_3 + (i64)(r4_1)));
     u8 *r47_1 = (slot_2 + (i64)((u64)(r4_1 << 1ull)));
-    st8(r47_1, ld8((((u8 *)g_static_23) + (i64)((u64)(u8)((u32)r32_1 >> 4u)))));
-    st8((r47_1 + 1), ld8((((u8 *)g_static_23) + (i64)((u64)(u8)(r32_1 & 15u)))));
+    st8(r47_1, ld8((((u8 *)g_static_28) + (i64)((u64)(u8)((u32)r32_1 >> 4u)))));
+    st8((r47_1 + 1), ld8((((u8 *)g_static_28) + (i64)((u64)(u8)(r32_1 & 15u)))));
     u64 r69_1 = (r4_1 + 1ull);
     if (r69_1 == 8ull) { r3_2 = slot_2; r3_3 = 16ull; goto l_join_1; }
     r4_1 = r69_1;
@@ -4492,7 +4615,7 @@ l_capnp_11:;
     r1_8 = away(a5, 24ull);
     r1_9 = away(a5, 16ull);
     r50_1 = (slot_2 + 8);
-    r3_18 = ((u8 *)g_static_22);
+    r3_18 = ((u8 *)g_static_6);
     r3_19 = 1ull;
 l_join_14:;
     memset(slot_2, 0u, 96);
@@ -4539,7 +4662,7 @@ l_capnp_13:;
     r1_10 = away(a5, 24ull);
     r1_11 = away(a5, 16ull);
     r50_2 = (slot_2 + 8);
-    r3_22 = ((u8 *)g_static_22);
+    r3_22 = ((u8 *)g_static_6);
     r3_23 = 1ull;
 l_join_16:;
     memset(slot_2, 0u, 96);
@@ -9385,7 +9508,7 @@ static u8 capnp_layout_tool_engine_refuse_05c50f83f81b9c23(u8 *a0, u8 *a1)
     r1_1 = away(a0, 24ull);
     r1_2 = away(a0, 16ull);
     r50_1 = (slot_1 + 8);
-    r3_1 = ((u8 *)g_static_27);
+    r3_1 = ((u8 *)g_static_32);
     r3_2 = 8ull;
 l_join_2:;
     memset(slot_1, 0u, 96);
@@ -9419,7 +9542,7 @@ l_arm_2:;
     switch (r2) {
     case 0u: goto l_switch_1;
     case 1u: goto l_switch_2;
-    case 2u: { r3_5 = ((u8 *)g_static_28); r3_6 = 9ull; goto l_join_3; }
+    case 2u: { r3_5 = ((u8 *)g_static_33); r3_6 = 9ull; goto l_join_3; }
     default: goto l_noarm_1;
     }
 l_noarm_1:;
@@ -9466,7 +9589,7 @@ l_arm_4:;
     u64 r55_2 = (r3_8 - r6_2);
     if (!(r55_2 == 0ull)) { u8 *r3_9 = away(r3_7, r6_2); u64 r3_10 = r55_2; r3_7 = r3_9; r3_8 = r3_10; goto l_join_5; }
     r50_3 = (slot_1 + 8);
-    r3_11 = ((u8 *)g_static_22);
+    r3_11 = ((u8 *)g_static_6);
     r3_12 = 1ull;
 l_join_7:;
     memset(slot_1, 0u, 96);
@@ -9586,7 +9709,7 @@ l_std_2:;
     st64(r10_1, (r339_2 + 1ull));
     goto l_core_2;
 l_else_1:;
-    core_fmt_formatter_Formatter_write_indented_bf264aed5fa78656(slot_2, ((u8 *)g_static_22), 1ull);
+    core_fmt_formatter_Formatter_write_indented_bf264aed5fa78656(slot_2, ((u8 *)g_static_6), 1ull);
 l_core_2:;
     mv24(r9_2, slot_1);
 l_join_1:;
@@ -9594,295 +9717,6 @@ l_join_1:;
     memcpy((slot_1 + 4), r9_1, 1132);
     std_io_io_buffer_Buffer_flush(slot_1);
     return 2u;
-}
-
-/* std_io::io::buffer::Buffer::flush */
-static u8 std_io_io_buffer_Buffer_flush(u8 *a0)
-{
-    A(8) u8 slot_1[88];
-    A(8) u8 slot_2[32];
-    u64 r13;
-    u8 common_1;
-    u8 *r23;
-    u32 r26;
-    u64 t0;
-    u64 r3_1;
-    u64 r6_1;
-    u64 r1_1;
-    u64 r75_1;
-    u64 r3_2;
-    u32 r0_1;
-    u64 r3_3;
-    u64 r6_2;
-    u64 r6_3;
-    u64 r6_4;
-    u64 r6_5;
-    u64 r6_6;
-    u64 r6_7;
-    u32 r6_8;
-    u8 r6_9;
-    u8 r6_10;
-    u8 r6_11;
-    u8 r6_12;
-    u8 *r12 = away(a0, 1032ull);
-    r13 = ld64(r12);
-    st64(r12, 0ull);
-    if (r13 > 1024ull) { common_1 = 0u; goto l_common_1; }
-    goto l_join_1;
-l_common_1:;
-    return common_1;
-l_join_1:;
-    r23 = away(a0, 4ull);
-    r26 = ld32(a0);
-    t0 = (r13 + 63ull);
-    r3_1 = 0ull;
-    r6_1 = 0ull;
-l_arm_2:;
-    r1_1 = (r6_1 + 1ull);
-    if (r13 > r3_1) goto l_join_2;
-    common_1 = 1u;
-    goto l_common_1;
-l_join_2:;
-    r75_1 = (r13 - r3_1);
-    r3_2 = c_write(r26, away(r23, r3_1), r75_1);
-    if (!((i64)r3_2 < (i64)0ull)) goto l_else_1;
-    r0_1 = rattle_errno();
-    if (r0_1 == 4u) { r3_3 = r3_1; goto l_join_3; }
-    std_io_io_error_Error_from_raw_os_error(slot_1, r0_1);
-    u8 r0_13 = ld8(slot_1);
-    u8 r0_14 = ld8((slot_1 + 1));
-    u8 r0_15 = ld8((slot_1 + 2));
-    u8 r0_16 = ld8((slot_1 + 3));
-    u32 r0_17 = ld32((slot_1 + 4));
-    u64 r0_18 = ld64((slot_1 + 8));
-    u64 r0_19 = ld64((slot_1 + 16));
-    u64 r0_20 = ld64((slot_1 + 24));
-    u64 r0_21 = ld64((slot_1 + 32));
-    u64 r0_22 = ld64((slot_1 + 40));
-    u64 r0_23 = ld64((slot_1 + 48));
-    mv32(slot_2, (slot_1 + 56));
-    r6_2 = r0_23;
-    r6_3 = r0_22;
-    r6_4 = r0_21;
-    r6_5 = r0_20;
-    r6_6 = r0_19;
-    r6_7 = r0_18;
-    r6_8 = r0_17;
-    r6_9 = r0_16;
-    r6_10 = r0_15;
-    r6_11 = r0_14;
-    r6_12 = r0_13;
-    goto l_arm_1;
-l_else_1:;
-    if (!(r3_2 == 0ull)) goto l_else_2;
-    memset(slot_2, 46u, 32);
-    r6_2 = 0x2e2e2e2e2e2e2e2eull;
-    r6_3 = 0x2e2e2e2e2e2e2e2eull;
-    r6_4 = 0x2e2e2e2e72656666ull;
-    r6_5 = 0x756220656c6f6877ull;
-    r6_6 = 0x206574697277206full;
-    r6_7 = 0x742064656c696166ull;
-    r6_8 = 0u;
-    r6_9 = 0u;
-    r6_10 = 28u;
-    r6_11 = 23u;
-    r6_12 = 2u;
-    goto l_arm_1;
-l_else_2:;
-    r3_3 = (umin64(r3_2, r75_1) + r3_1);
-l_join_3:;
-    if (!(r6_1 == t0)) { r3_1 = r3_3; r6_1 = r1_1; goto l_arm_2; }
-    if (r13 > r3_3) goto l_std_1;
-    common_1 = 1u;
-    goto l_common_1;
-l_std_1:;
-    memset(slot_2, 0u, 32);
-    r6_2 = 0ull;
-    r6_3 = 0ull;
-    r6_4 = 0ull;
-    r6_5 = 0ull;
-    r6_6 = 0ull;
-    r6_7 = 0ull;
-    r6_8 = 4u;
-    r6_9 = 0u;
-    r6_10 = 0u;
-    r6_11 = 35u;
-    r6_12 = 0u;
-l_arm_1:;
-    st64(away(a0, 1040ull), 1ull);
-    st8(away(a0, 1048ull), r6_12);
-    st8(away(a0, 1049ull), r6_11);
-    st8(away(a0, 1050ull), r6_10);
-    st8(away(a0, 1051ull), r6_9);
-    st32(away(a0, 1052ull), r6_8);
-    st64(away(a0, 1056ull), r6_7);
-    st64(away(a0, 1064ull), r6_6);
-    st64(away(a0, 1072ull), r6_5);
-    st64(away(a0, 1080ull), r6_4);
-    st64(away(a0, 1088ull), r6_3);
-    st64(away(a0, 1096ull), r6_2);
-    mv32(away(a0, 1104ull), slot_2);
-    common_1 = 0u;
-    goto l_common_1;
-}
-
-/* core::fmt::formatter::Formatter::write_indented::<#bf264aed5fa78656> */
-static NEVER COLD u8 core_fmt_formatter_Formatter_write_indented_bf264aed5fa78656(u8 *a0, u8 *a1, u64 a2)
-{
-    u8 *r12_1;
-    u8 *r18_1;
-    u64 r3_1;
-    u64 r4_1;
-    u64 r3_2;
-    u64 r25_1;
-    u8 *r0_3;
-    u64 r19_2;
-    u64 r3_4;
-    u64 r3_3;
-    u64 r0_4;
-    u8 *r0_6;
-    u8 *r12_4;
-    u64 r19_3;
-    u64 r3_5;
-    u8 r0_1;
-    if (a2 == 0ull) { r0_1 = 0u; goto l_return_1; }
-    r12_1 = away(a0, 1168ull);
-    r18_1 = away(a0, 1160ull);
-    r3_1 = 0ull;
-    r4_1 = 0ull;
-l_core_2:;
-    r3_2 = (r4_1 + 1ull);
-    if (!(ld8((a1 + (i64)(r4_1))) == 10u)) { r3_3 = r3_1; goto l_join_1; }
-    r25_1 = (r3_2 - r3_1);
-    r0_3 = away(a1, ((r3_1 > r3_2) ? 0ull : r3_1));
-    if (r3_1 > r4_1) { r3_3 = r3_2; goto l_join_1; }
-    if (!(u8)(ld8(r12_1) & 1)) goto l_core_1;
-    r19_2 = ld64(r18_1);
-    if (r19_2 == 0ull) goto l_core_1;
-    r3_4 = 0ull;
-    goto l_join_2;
-l_loop_1:;
-    u64 r41_1 = (r3_4 + 1ull);
-    if (r41_1 == r19_2) goto l_core_1;
-    r3_4 = r41_1;
-l_join_2:;
-    u8 r33_1 = core_fmt_formatter_Formatter_write_raw_bf264aed5fa78656(a0, ((u8 *)g_static_71), 4ull);
-    if ((u8)(r33_1 & 1)) { r0_1 = 1u; goto l_return_1; }
-    goto l_loop_1;
-l_core_1:;
-    st8(r12_1, 1u);
-    u8 r31_1 = core_fmt_formatter_Formatter_write_raw_bf264aed5fa78656(a0, r0_3, r25_1);
-    if ((u8)(r31_1 & 1)) { r0_1 = 1u; goto l_return_1; }
-    r3_3 = r3_2;
-l_join_1:;
-    if (!(r3_2 == a2)) { r3_1 = r3_3; r4_1 = r3_2; goto l_core_2; }
-    r0_4 = usub_sat64(a2, r3_3);
-    r0_6 = away(a1, ((r3_3 > a2) ? 0ull : r3_3));
-    if (!(a2 > r3_3)) { r0_1 = 0u; goto l_return_1; }
-    r12_4 = away(a0, 1168ull);
-    if (!(u8)(ld8(r12_4) & 1)) goto l_arm_1;
-    r19_3 = ld64(away(a0, 1160ull));
-    if (r19_3 == 0ull) goto l_arm_1;
-    r3_5 = 0ull;
-    goto l_join_3;
-l_loop_2:;
-    u64 r41_2 = (r3_5 + 1ull);
-    if (r41_2 == r19_3) goto l_arm_1;
-    r3_5 = r41_2;
-l_join_3:;
-    u8 r33_2 = core_fmt_formatter_Formatter_write_raw_bf264aed5fa78656(a0, ((u8 *)g_static_71), 4ull);
-    if ((u8)(r33_2 & 1)) { r0_1 = 1u; goto l_return_1; }
-    goto l_loop_2;
-l_arm_1:;
-    st8(r12_4, 0u);
-    u8 r31_2 = core_fmt_formatter_Formatter_write_raw_bf264aed5fa78656(a0, r0_6, r0_4);
-    r0_1 = r31_2;
-l_return_1:;
-    return r0_1;
-}
-
-/* core::fmt::formatter::Formatter::write_raw::<#bf264aed5fa78656> */
-static u8 core_fmt_formatter_Formatter_write_raw_bf264aed5fa78656(u8 *a0, u8 *a1, u64 a2)
-{
-    u64 r3_1;
-    u8 r28_1;
-    u32 r30_1;
-    u64 r37_1;
-    u8 r21_1;
-    u32 r8_1;
-    u64 r61_1;
-    u32 r86_1;
-    u64 r109_1;
-    u64 common_1;
-    u8 *r10_1;
-    u8 *r42_1;
-    u64 r11_3;
-    u64 r5_2;
-    u8 *r5_3;
-    u8 *r20_1;
-    u64 r23_1;
-    u8 r52_1;
-    u64 r339_1;
-    u8 r5_1;
-    if (a2 == 0ull) { r5_1 = 0u; goto l_join_1; }
-    r3_1 = 0ull;
-l_join_4:;
-    r28_1 = ld8((a1 + (i64)(r3_1)));
-    r30_1 = (u32)r28_1;
-    if ((i8)r28_1 > (i8)255u) { common_1 = 1ull; goto l_join_2; }
-    r37_1 = (r3_1 + 1ull);
-    if (!(a2 > r37_1)) { r5_1 = 1u; goto l_join_1; }
-    r21_1 = ld8((a1 + (i64)(r37_1)));
-    if ((i8)r21_1 > (i8)255u) { r5_1 = 1u; goto l_join_1; }
-    u8 narrow_1 = (u8)(umin8(r21_1, 192u) & 127u);
-    r8_1 = (u32)narrow_1;
-    if ((r28_1 < 194u) ? 1u : (narrow_1 > 63u)) { r5_1 = 1u; goto l_join_1; }
-    if (r28_1 < 224u) { common_1 = 2ull; goto l_join_2; }
-    r61_1 = (r3_1 + 2ull);
-    if (!(a2 > r61_1)) { r5_1 = 1u; goto l_join_1; }
-    if (!((i8)ld8((a1 + (i64)(r61_1))) < (i8)192u)) { r5_1 = 1u; goto l_join_1; }
-    if (!(r28_1 < 240u)) goto l_join_3;
-    r86_1 = ((u32)(r8_1 << 6u) | ((u32)(r30_1 << 12u) + 0xfff20000u));
-    if (r86_1 < 2048u) { r5_1 = 1u; goto l_join_1; }
-    if ((r86_1 > 55295u) ? (r28_1 < 238u) : 0u) { r5_1 = 1u; goto l_join_1; }
-    common_1 = 3ull;
-    goto l_join_2;
-l_join_3:;
-    r109_1 = (r3_1 + 3ull);
-    if (!(a2 > r109_1)) { r5_1 = 1u; goto l_join_1; }
-    if (!((i8)ld8((a1 + (i64)(r109_1))) < (i8)192u)) { r5_1 = 1u; goto l_join_1; }
-    if ((((u32)(r30_1 << 18u) + 0xfc3f0000u) + (u32)(r8_1 << 12u)) < 0x100000u) { common_1 = 4ull; goto l_join_2; }
-    r5_1 = 1u;
-    goto l_join_1;
-l_join_2:;
-    u64 r30_2 = (common_1 + r3_1);
-    if (r30_2 < a2) { r3_1 = r30_2; goto l_join_4; }
-    r10_1 = away(a0, 1032ull);
-    r42_1 = away(a0, 4ull);
-    r11_3 = ld64(r10_1);
-    r5_2 = a2;
-    r5_3 = a1;
-l_arm_1:;
-    r20_1 = away(r5_3, 1ull);
-    r23_1 = (r5_2 + 0xffffffffffffffffull);
-    r52_1 = ld8(r5_3);
-    if (!(r11_3 > 1023ull)) { r339_1 = r11_3; goto l_std_1; }
-    u8 r18_1 = std_io_io_buffer_Buffer_flush(a0);
-    if (!r18_1) { r5_1 = 1u; goto l_join_1; }
-    u64 r33_1 = ld64(r10_1);
-    if (r33_1 > 1023ull) { r5_1 = 1u; goto l_join_1; }
-    r339_1 = r33_1;
-l_std_1:;
-    st8((r42_1 + (i64)(r339_1)), r52_1);
-    u64 r48_1 = (r339_1 + 1ull);
-    st64(r10_1, r48_1);
-    if (r23_1 == 0ull) { r5_1 = 0u; goto l_join_1; }
-    r11_3 = r48_1;
-    r5_2 = r23_1;
-    r5_3 = r20_1;
-    goto l_arm_1;
-l_join_1:;
-    return r5_1;
 }
 
 int main(int count, char **words)
@@ -9905,12 +9739,14 @@ int main(int count, char **words)
     A(8) u8 slot_15[24];
     A(8) u8 slot_16[8224];
     A(8) u8 slot_17[40];
+    A(8) u8 slot_18[16];
+    A(8) u8 slot_19[16];
     u8 *r4_1;
-    u8 *r9_1;
+    u8 *r9_2;
     u8 *r1_1;
     u8 *r1_2;
     u64 r32_1;
-    u8 *r9_2;
+    u8 *r9_3;
     u64 r2_1;
     u64 r6_1;
     u32 r12_1;
@@ -9926,15 +9762,15 @@ int main(int count, char **words)
     u64 r30_2;
     u64 r30_3;
     u64 r0_2;
-    u8 *r9_6;
+    u8 *r9_7;
     u64 r31_1;
     u64 r0_3;
-    u8 *r9_7;
+    u8 *r9_8;
     u8 *r32_3;
     u64 r32_4;
     u64 r0_4;
-    u8 *r9_8;
-    u8 *r9_4;
+    u8 *r9_9;
+    u8 *r9_5;
     u64 r8_1;
     u64 r26_3;
     u8 *r26_4;
@@ -9944,79 +9780,101 @@ int main(int count, char **words)
     u8 *r32_2;
     u64 r10_3;
     u64 r10_2;
+    u64 r13_1;
+    u8 *r9_10;
     u64 r6_7;
-    u8 *r9_9;
     u64 r6_8;
-    u64 r6_9;
     u8 r1248_1;
-    u64 r6_10;
+    u64 r6_9;
+    u64 r6_12;
     u64 r6_13;
-    u64 r6_14;
     u64 r1_6;
     u64 r11_2;
     u64 r17_2;
     u8 *r25_1;
+    u64 r6_10;
     u64 r6_11;
-    u64 r6_12;
     u64 r11_3;
     u64 r17_3;
     u8 *r0_8;
     u64 r0_10;
     u64 r0_12;
-    u8 *r9_12;
+    u8 *r9_13;
     u64 r8_3;
     u64 r52_2;
     u64 r0_13;
-    u8 *r9_14;
-    u8 *r41_1;
-    u64 r41_2;
-    u64 r41_3;
-    u64 r0_14;
     u8 *r9_15;
+    u8 *r40_1;
+    u64 r40_2;
+    u64 r40_3;
+    u64 r0_14;
+    u8 *r9_16;
+    u8 *r13_3;
+    u64 r13_4;
     u8 *r4_4;
+    u64 r6_16;
+    u8 *r9_17;
+    u8 *r9_18;
+    u8 *r9_19;
+    u8 *r9_20;
+    u8 *r9_21;
+    u8 *r10_4;
+    u64 r11_5;
+    u64 r5_3;
+    u8 *r5_4;
+    u8 *r20_1;
+    u64 r23_1;
+    u8 r52_3;
+    u64 r339_1;
+    u64 r48_2;
+    u64 r339_2;
+    u8 r0_16;
+    u8 r14_19;
+    u8 r10_7;
+    u8 spec_1;
     u8 r15_1;
     u8 r15_2;
-    u8 *r4_6;
-    u64 r6_19;
-    u8 r35_1;
+    u8 *r4_5;
+    u64 r6_18;
+    u8 r35_3;
     u32 r37_1;
     u32 r53_2;
     u32 r76_3;
-    u32 r0_15;
-    u64 r4_8;
-    u64 r5_5;
+    u32 r0_17;
+    u64 r4_7;
+    u64 r5_7;
     u8 r51_1;
     u64 r19_1;
     u64 r85_3;
-    u64 r11_5;
-    u64 r4_9;
-    u64 r5_7;
+    u64 r11_6;
+    u64 r4_8;
+    u64 r5_9;
     u8 r51_2;
     u64 r19_2;
     u64 r85_4;
-    u64 r11_6;
-    u64 r4_7;
-    u64 r5_4;
+    u64 r11_7;
+    u64 r4_6;
+    u64 r5_6;
     u8 r51_3;
     u64 r19_3;
     u64 r85_5;
+    u64 r11_9;
     u64 r11_8;
-    u64 r11_7;
     u32 ph_1;
-    u8 *r4_10;
-    u64 r6_20;
-    u8 r35_2;
+    u8 *r4_9;
+    u64 r6_19;
+    u8 r35_4;
     u32 r37_2;
     u32 r53_3;
     u32 r76_4;
-    u32 r0_16;
-    u64 r4_12;
-    u64 r5_12;
+    u32 r0_18;
+    u64 r4_11;
+    u64 r5_14;
     u8 r51_4;
     u64 r19_4;
     u64 r85_7;
-    u64 r4_11;
-    u64 r5_11;
+    u64 r4_10;
+    u64 r5_13;
     u8 r51_5;
     u64 r19_5;
     u64 r85_8;
@@ -10027,44 +9885,28 @@ int main(int count, char **words)
     u8 r34_5;
     u64 r34_6;
     u32 r34_7;
-    u8 r36_6;
-    u8 r36_7;
-    u8 r36_1;
-    u8 r36_2;
-    u8 r36_3;
-    u64 r36_4;
-    u32 r36_5;
-    u64 r43_3;
-    u32 r36_8;
-    u64 r36_9;
-    u8 r36_10;
-    u8 r36_11;
-    u8 r36_12;
-    u64 r0_17;
-    u8 *r9_16;
-    u64 r43_5;
-    u32 r36_13;
-    u64 r36_14;
-    u8 r36_15;
-    u8 r36_16;
-    u8 r36_17;
-    u64 r42_1;
-    struct s_i64_i64 r0_19;
-    u8 *r11_12;
-    u8 *r14_21;
-    u8 *r14_22;
+    u8 r12_9;
+    u8 r12_10;
+    u8 r12_11;
+    u64 r12_12;
+    u32 r12_13;
+    u64 r145_2;
+    struct s_i64_i64 r0_20;
+    u8 *r11_13;
     u8 *r14_23;
     u8 *r14_24;
-    u8 *r6_23;
+    u8 *r14_25;
+    u8 *r14_26;
+    u8 *r6_21;
     u8 *r3_5;
-    u8 *r5_16;
+    u8 *r5_18;
     u8 *r1_13;
-    u64 r6_24;
+    u64 r6_22;
     u8 *r8_8;
-    u64 r4_15;
-    u64 r6_25;
+    u64 r4_14;
+    u64 r6_23;
     u64 r3_6;
-    u64 r0_22;
+    u64 r0_23;
     u8 *r8_10;
     u64 r2_25;
     u64 r3_7;
@@ -10072,79 +9914,79 @@ int main(int count, char **words)
     u8 *r8_9;
     u64 r7_16;
     u64 r17_6;
-    u8 *r6_28;
-    u64 r6_29;
-    u8 *r11_14;
-    u8 *r5_17;
+    u8 *r6_26;
+    u64 r6_27;
+    u8 *r11_15;
+    u8 *r5_19;
     u8 *r1_14;
     u8 *r1_15;
     u64 r2_27;
-    u8 *r5_18;
-    u64 r5_19;
-    u8 *r20_4;
+    u8 *r5_20;
+    u64 r5_21;
+    u8 *r20_5;
     u64 r3_9;
-    u64 r23_2;
-    u64 t24;
-    u8 r25_5;
-    u64 r41_4;
-    u64 r6_30;
-    u8 *r6_31;
+    u64 r23_3;
+    u64 t25;
+    u8 r25_6;
+    u64 r41_1;
+    u64 r6_28;
+    u8 *r6_29;
     u64 r287_1;
     u8 *r8_12;
     u64 r2_29;
-    u64 r6_32;
+    u64 r6_30;
     u8 *r8_13;
     u64 r7_20;
     u64 r17_8;
-    u8 *r4_18;
-    u64 r5_20;
+    u8 *r4_17;
+    u64 r5_22;
     u8 r103_1;
     u8 r113_8;
     u8 sink_1;
-    u8 r18_1;
+    u8 r18_3;
     u8 sink105_1;
     u64 r2_31;
-    u64 r20_7;
-    u8 *r20_8;
+    u64 r20_8;
+    u8 *r20_9;
     u64 r3_12;
-    u8 *r4_17;
+    u8 *r4_16;
     u8 r16_8;
     u64 r3_11;
     u8 r16_7;
     u8 *r29_7;
     u64 r29_8;
     u64 r29_9;
-    u64 r0_27;
-    u8 *r9_18;
+    u64 r0_28;
+    u8 *r9_24;
     u64 r8_15;
-    u8 *r9_19;
+    u8 *r9_25;
     u64 r17_9;
     u8 *r31_4;
     u64 r31_5;
     u64 r31_6;
-    u64 r0_28;
-    u8 *r9_20;
-    u8 *r0_23;
-    u64 r0_24;
+    u64 r0_29;
+    u8 *r9_26;
+    u8 *r0_24;
     u64 r0_25;
+    u64 r0_26;
     u64 r3_8;
-    u8 t27;
-    u8 r0_26;
-    u8 r6_27;
-    u8 r6_26;
-    u8 *r4_19;
-    u64 r23_7;
-    u64 r10_8;
-    u64 r11_16;
+    u8 t28;
+    u8 r0_27;
+    u8 r6_25;
+    u8 r6_24;
+    u8 *r4_18;
+    u64 r23_8;
+    u64 r10_12;
+    u64 r11_17;
     u64 r44_2;
-    u8 *r20_12;
     u8 *r20_13;
-    u64 r6_37;
-    u8 t29;
-    u64 r0_30;
-    u8 *r9_22;
-    u64 r12_11;
-    u8 *r4_21;
+    u8 *r20_14;
+    u64 r6_35;
+    u8 t30;
+    u64 r0_31;
+    u8 *r9_28;
+    u64 r12_16;
+    u8 *r4_20;
     u8 *r7_28;
     u8 *r7_29;
     u8 *r7_30;
@@ -10152,23 +9994,23 @@ int main(int count, char **words)
     u8 *r7_32;
     u8 *r7_33;
     u64 r183_1;
-    u64 r33_1;
-    u64 r5_23;
-    u64 r4_23;
+    u64 r33_3;
+    u64 r5_25;
+    u64 r4_22;
     u64 r1_19;
-    u64 r14_41;
+    u64 r14_43;
     u64 r21_5;
     u64 r1_20;
     u64 r8_17;
-    u32 r6_40;
+    u32 r6_38;
     u32 r1_21;
-    u32 r33_2;
-    u32 r36_19;
+    u32 r33_4;
+    u32 r36_2;
     u8 r3_17;
-    struct s_i8_i32 r13_11;
+    struct s_i8_i32 r13_16;
     u32 r19_9;
-    u64 r13_12;
-    u64 r4_24;
+    u64 r13_17;
+    u64 r4_23;
     u64 r191_1;
     u64 r21_8;
     u64 r1_22;
@@ -10176,54 +10018,54 @@ int main(int count, char **words)
     u32 r26_7;
     u64 r28_4;
     u8 r78_5;
-    u8 t46;
-    u8 r0_36;
+    u8 t47;
     u8 r0_37;
-    u32 r0_38;
-    u64 r0_39;
-    u8 *r33_6;
-    u64 r33_7;
-    u64 r33_8;
+    u8 r0_38;
+    u32 r0_39;
     u64 r0_40;
-    u8 *r9_26;
-    u8 r0_31;
+    u8 *r33_8;
+    u64 r33_9;
+    u64 r33_10;
     u64 r0_41;
-    u8 *r9_27;
-    u8 r80_2;
-    u8 r0_34;
-    u64 r0_35;
+    u8 *r9_32;
     u8 r0_32;
-    u64 r0_33;
+    u64 r0_42;
+    u8 *r9_33;
+    u8 r80_2;
+    u8 r0_35;
+    u64 r0_36;
+    u8 r0_33;
+    u64 r0_34;
     u8 *r50_1;
     u8 *r3_18;
     u64 r3_19;
     u64 r2_50;
     u64 r38_1;
-    u8 *r12_15;
-    u64 r0_44;
-    u64 r6_44;
+    u8 *r12_20;
+    u64 r0_45;
+    u64 r6_42;
     u8 *r50_2;
     u8 *r3_22;
     u64 r3_23;
     u64 r2_52;
     u64 r38_2;
-    u8 *r12_16;
-    u64 r0_45;
-    u64 r6_45;
-    u8 r11_18;
-    u64 r0_42;
-    u32 r0_43;
-    u8 r13_14;
-    u8 *r4_27;
-    u64 r23_12;
-    u8 *t49;
-    u64 r10_15;
-    u64 r11_21;
+    u8 *r12_21;
+    u64 r0_46;
+    u64 r6_43;
+    u8 r11_19;
+    u64 r0_43;
+    u32 r0_44;
+    u8 r13_19;
+    u8 *r4_26;
+    u64 r23_13;
+    u8 *t50;
+    u64 r10_19;
+    u64 r11_22;
     u64 r44_3;
-    u8 *r14_47;
-    u8 *r14_48;
-    u64 r6_47;
-    u64 r10_16;
+    u8 *r14_49;
+    u8 *r14_50;
+    u64 r6_45;
+    u64 r10_20;
     u8 *r2_56;
     u8 *r2_57;
     u8 *r2_58;
@@ -10234,46 +10076,46 @@ int main(int count, char **words)
     u8 *r26_12;
     u64 r26_13;
     u64 r26_14;
-    u64 r0_48;
-    u8 *r9_31;
-    u32 r0_47;
     u64 r0_49;
-    u8 *r9_32;
+    u8 *r9_37;
+    u32 r0_48;
+    u64 r0_50;
+    u8 *r9_38;
     u32 r80_3;
-    u64 r0_46;
-    u8 *r9_33;
-    u64 r11_26;
+    u64 r0_47;
+    u8 *r9_39;
+    u64 r11_27;
     u8 *r50_3;
     u8 *r3_26;
     u64 r3_27;
     u64 r2_71;
     u64 r38_4;
-    u8 *r12_22;
-    u64 r0_50;
-    u64 r6_51;
+    u8 *r12_27;
+    u64 r0_51;
+    u64 r6_49;
     u8 *r50_4;
     u8 *r3_30;
     u64 r3_31;
     u64 r2_73;
     u64 r38_5;
-    u8 *r12_23;
-    u64 r0_51;
-    u64 r6_52;
+    u8 *r12_28;
+    u64 r0_52;
+    u64 r6_50;
     u8 *r50_5;
     u8 *r3_34;
     u64 r3_35;
     u64 r2_75;
     u64 r38_6;
-    u8 *r12_24;
-    u64 r0_52;
-    u64 r6_53;
-    u32 r11_22;
+    u8 *r12_29;
+    u64 r0_53;
+    u64 r6_51;
+    u32 r11_23;
     u64 r8_25;
     u32 r8_26;
-    u8 r13_17;
-    u8 *r4_33;
-    u64 r23_18;
-    u32 r23_21;
+    u8 r13_22;
+    u8 *r4_32;
+    u64 r23_19;
+    u32 r23_22;
     u64 indvars_1;
     u64 indvars_3;
     u64 r3_38;
@@ -10283,73 +10125,73 @@ int main(int count, char **words)
     u64 r3_41;
     u64 r2_79;
     u64 r38_7;
-    u8 *r12_27;
-    u64 r0_54;
-    u64 r6_56;
-    u8 r0_53;
+    u8 *r12_32;
     u64 r0_55;
-    u8 *r9_39;
-    u64 r4_34;
-    u32 r4_35;
-    u64 r4_36;
+    u64 r6_54;
+    u8 r0_54;
+    u64 r0_56;
+    u8 *r9_45;
+    u64 r4_33;
+    u32 r4_34;
+    u64 r4_35;
     u8 r34_9;
-    u64 r0_58;
-    u8 *r9_40;
-    u8 r0_57;
-    u8 r0_56;
     u64 r0_59;
-    u8 *r9_41;
+    u8 *r9_46;
+    u8 r0_58;
+    u8 r0_57;
+    u64 r0_60;
+    u8 *r9_47;
     u8 *r28_8;
     u64 r1_26;
-    u64 t60;
+    u64 t61;
     u8 *r67_3;
-    u8 *t61;
+    u8 *t62;
     u8 *r50_7;
     u8 *r15_9;
-    u8 *r10_27;
+    u8 *r10_31;
     u64 indvars_5;
-    u64 r25_12;
+    u64 r25_13;
     u64 r27_7;
     u64 r47_10;
     u64 r55_11;
     u64 r3_47;
-    u64 r4_40;
+    u64 r4_39;
     u64 r3_48;
     u64 r72_4;
     u64 r3_50;
-    u64 r4_42;
-    u64 r3_49;
     u64 r4_41;
+    u64 r3_49;
+    u64 r4_40;
     u64 r3_45;
     u8 *r3_46;
     u8 *r3_51;
     u64 r3_52;
     u64 r2_90;
     u64 r38_8;
-    u8 *r12_31;
-    u64 r0_63;
-    u64 r6_60;
-    u8 r0_62;
-    u8 r47_12;
-    u8 r0_61;
-    u8 r0_60;
+    u8 *r12_36;
     u64 r0_64;
-    u8 *r9_43;
+    u64 r6_58;
+    u8 r0_63;
+    u8 r47_12;
+    u8 r0_62;
+    u8 r0_61;
+    u64 r0_65;
+    u8 *r9_49;
     u64 r1_29;
     u64 r1_31;
     u64 r1_33;
     u8 *r1_34;
-    u8 *t67;
-    u64 r10_30;
-    u64 r11_32;
+    u8 *t68;
+    u64 r10_34;
+    u64 r11_33;
     u64 r4414_1;
     u8 *r17_12;
-    u8 *r11_37;
-    u8 *t68;
-    u32 r18_15;
-    u8 t69;
-    u64 r9_44;
-    u64 r40_5;
+    u8 *r11_38;
+    u8 *t69;
+    u32 r18_17;
+    u8 t70;
+    u64 r9_50;
+    u64 r40_8;
     u8 *r49_11;
     u8 *r7_52;
     u8 *r7_53;
@@ -10357,25 +10199,25 @@ int main(int count, char **words)
     u8 *r7_55;
     u8 *r7_56;
     u8 *r7_57;
-    u64 r33_12;
-    u64 r5_37;
-    u64 r4_45;
+    u64 r33_14;
+    u64 r5_39;
+    u64 r4_44;
     u64 r1_35;
-    u64 r14_71;
+    u64 r14_73;
     u64 r21_9;
     u64 r8_32;
-    u32 r6_63;
+    u32 r6_61;
     u32 r1_36;
-    u32 r0_68;
-    u32 r33_13;
-    u32 r36_24;
-    u8 r3_59;
-    struct s_i8_i32 r13_22;
-    u32 r43_10;
-    u32 r19_15;
     u32 r0_69;
-    u8 r0_70;
-    u64 r4_46;
+    u32 r33_15;
+    u32 r36_7;
+    u8 r3_59;
+    struct s_i8_i32 r13_27;
+    u32 r43_6;
+    u32 r19_15;
+    u32 r0_70;
+    u8 r0_71;
+    u64 r4_45;
     u64 r191_2;
     u64 r21_11;
     u64 r8_34;
@@ -10383,93 +10225,106 @@ int main(int count, char **words)
     u32 r24_18;
     u32 r26_25;
     u64 r28_13;
-    u32 r0_71;
-    u8 r0_72;
+    u32 r0_72;
+    u8 r0_73;
     struct s_i8_i32 r78_6;
-    u8 r20_28;
-    u64 r0_67;
-    u32 r18_16;
-    u32 r18_17;
-    u64 r18_18;
-    u64 r5_50;
+    u8 r20_29;
+    u64 r0_68;
+    u32 r18_18;
+    u32 r18_19;
+    u64 r18_20;
+    u64 r5_52;
     u8 *r50_8;
     u8 *r3_60;
     u64 r3_61;
     u64 r2_104;
     u64 r38_10;
-    u8 *r12_33;
-    u64 r0_73;
-    u64 r6_65;
+    u8 *r12_38;
+    u64 r0_74;
+    u64 r6_63;
     u8 *r50_9;
     u8 *r3_64;
     u64 r3_65;
     u64 r2_107;
     u64 r38_11;
-    u8 *r12_34;
-    u64 r0_74;
-    u64 r6_66;
+    u8 *r12_39;
+    u64 r0_75;
+    u64 r6_64;
     u8 r2_106;
     u32 r15_15;
     u64 r15_16;
-    u64 r18_19;
-    u32 r18_20;
+    u64 r18_21;
+    u32 r18_22;
     u8 r57_3;
+    u8 r0_67;
     u8 r0_66;
-    u8 r0_65;
-    u8 r6_35;
-    u8 r9_50;
-    u8 r9_52;
-    u8 *r9_54;
-    u8 r9_51;
-    u8 spec_1;
+    u8 r6_33;
+    u8 r9_56;
+    u8 r9_58;
+    u8 *r9_60;
+    u8 r9_57;
+    u8 spec_2;
     u64 r26_30;
     u64 r26_31;
+    u8 r157355_1;
+    u64 r0_76;
+    u8 *r9_64;
+    u8 r157356_1;
+    u64 r0_77;
+    u8 *r9_65;
+    u8 r54_5;
+    u64 r0_78;
+    u8 *r9_66;
+    u8 r0_15;
     u8 *r8_37;
     u8 *r8_38;
     u8 *r8_39;
     u8 *r8_40;
     u8 *r8_41;
-    u8 *r10_38;
-    u64 r11_42;
-    u64 r5_54;
-    u8 *r5_55;
-    u8 *r20_32;
-    u64 r23_26;
-    u8 r52_6;
-    u64 r339_1;
-    u64 r48_3;
+    u8 *r10_42;
     u64 r11_43;
     u64 r5_56;
     u8 *r5_57;
     u8 *r20_33;
     u64 r23_27;
     u8 r52_7;
-    u64 r339_2;
     u64 r339_3;
-    u8 r0_75;
-    u8 r13_27;
-    u8 r6_67;
+    u64 r48_5;
+    u64 r11_44;
+    u64 r5_58;
+    u8 *r5_59;
+    u8 *r20_34;
+    u64 r23_28;
+    u8 r52_8;
+    u64 r339_4;
+    u64 r339_5;
+    u8 r0_79;
+    u8 r13_32;
+    u8 r6_68;
     c_signal(13u, 1ull);
-    memset(slot_8, 0u, 24);
+    memset(slot_19, 0u, 16);
+    stp(slot_18, ((u8 *)g_static_0));
+    st64((slot_18 + 8), 6ull);
+    memset(slot_4, 0u, 24);
     stp(slot_3, slot_1);
     r4_1 = (slot_3 + 8);
     memset(r4_1, 0u, 16);
-    r9_1 = (slot_2 + 8);
+    r9_2 = (slot_2 + 8);
     r1_1 = (slot_2 + 16);
     r1_2 = (slot_3 + 16);
     r32_1 = 0ull;
-    r9_2 = slot_1;
+    r9_3 = slot_1;
     r2_1 = 0ull;
 l_join_7:;
     r6_1 = 256ull;
     r12_1 = 0u;
 l_join_2:;
     stp(slot_2, slot_1);
-    memset(r9_1, 0u, 16);
+    memset(r9_2, 0u, 16);
     if (r6_1 == 0ull) { r6_2 = 0ull; r16_1 = slot_1; goto l_join_1; }
     u8 r24_1 = std_alloc_vec_Vec_grow_amortized_fe53b0f2d1658541(slot_2, r6_1);
     if (!r24_1) goto l_then_1;
-    r2_2 = ld64(r9_1);
+    r2_2 = ld64(r9_2);
     r4_2 = ldp(slot_2);
     r29_1 = (r2_2 + r6_1);
     if (!(r2_2 < r29_1)) { r6_2 = r29_1; r16_1 = r4_2; goto l_join_1; }
@@ -10516,10 +10371,10 @@ l_arm_6:;
     rattle_dealloc(r16_1);
     goto l_arm_9;
 l_arm_7:;
-    if (!(ld64(r1_2) == r32_1)) { r9_4 = r9_2; r8_1 = r32_1; goto l_join_3; }
+    if (!(ld64(r1_2) == r32_1)) { r9_5 = r9_3; r8_1 = r32_1; goto l_join_3; }
     u8 r24_2 = std_alloc_vec_Vec_grow_amortized_b9be21092a786ac5(slot_3);
     if (!r24_2) goto l_arm_10;
-    r9_4 = ldp(slot_3);
+    r9_5 = ldp(slot_3);
     r8_1 = ld64(r4_1);
     goto l_join_3;
 l_arm_10:;
@@ -10532,9 +10387,9 @@ l_then_2:;
     if (r30_2 == 0ull) goto l_std_2;
     r0_2 = 0ull;
 l_join_4:;
-    r9_6 = (r30_1 + (i64)((r0_2 * 24ull)));
-    if (ld64((r9_6 + 16)) == 0ull) goto l_core_1;
-    rattle_dealloc(ldp(r9_6));
+    r9_7 = (r30_1 + (i64)((r0_2 * 24ull)));
+    if (ld64((r9_7 + 16)) == 0ull) goto l_core_1;
+    rattle_dealloc(ldp(r9_7));
 l_core_1:;
     u64 r12_3 = (r0_2 + 1ull);
     if (!(r12_3 == r30_2)) { r0_2 = r12_3; goto l_join_4; }
@@ -10551,15 +10406,15 @@ l_arm_8:;
     if (r32_1 == 0ull) goto l_std_5;
     r0_3 = 0ull;
 l_join_5:;
-    r9_7 = (r9_2 + (i64)((r0_3 * 24ull)));
-    if (ld64((r9_7 + 16)) == 0ull) goto l_core_2;
-    rattle_dealloc(ldp(r9_7));
+    r9_8 = (r9_3 + (i64)((r0_3 * 24ull)));
+    if (ld64((r9_8 + 16)) == 0ull) goto l_core_2;
+    rattle_dealloc(ldp(r9_8));
 l_core_2:;
     u64 r12_4 = (r0_3 + 1ull);
     if (!(r12_4 == r32_1)) { r0_3 = r12_4; goto l_join_5; }
 l_std_5:;
     if (r31_1 == 0ull) { r10_2 = 38ull; goto l_std_3; }
-    r32_2 = r9_2;
+    r32_2 = r9_3;
     r10_3 = 38ull;
     goto l_std_4;
 l_arm_9:;
@@ -10568,9 +10423,9 @@ l_arm_9:;
     if (r32_1 == 0ull) goto l_std_6;
     r0_4 = 0ull;
 l_join_6:;
-    r9_8 = (r32_3 + (i64)((r0_4 * 24ull)));
-    if (ld64((r9_8 + 16)) == 0ull) goto l_core_3;
-    rattle_dealloc(ldp(r9_8));
+    r9_9 = (r32_3 + (i64)((r0_4 * 24ull)));
+    if (ld64((r9_9 + 16)) == 0ull) goto l_core_3;
+    rattle_dealloc(ldp(r9_9));
 l_core_3:;
     u64 r12_5 = (r0_4 + 1ull);
     if (!(r12_5 == r32_1)) { r0_4 = r12_5; goto l_join_6; }
@@ -10580,7 +10435,7 @@ l_std_6:;
     r10_3 = 21ull;
     goto l_std_4;
 l_join_3:;
-    u8 *r14_12 = (r9_4 + (i64)((r8_1 * 24ull)));
+    u8 *r14_12 = (r9_5 + (i64)((r8_1 * 24ull)));
     stp(r14_12, r16_1);
     st64((r14_12 + 8), r2_4);
     st64((r14_12 + 16), r16_2);
@@ -10589,7 +10444,7 @@ l_join_3:;
     u64 r81_1 = (r2_1 + 1ull);
     if (r81_1 == 0xffffffffffffffffull) { r26_3 = r17_1; goto l_arm_11; }
     r32_1 = r17_1;
-    r9_2 = r9_4;
+    r9_3 = r9_5;
     r2_1 = r81_1;
     goto l_join_7;
 l_after_1:;
@@ -10597,16 +10452,16 @@ l_after_1:;
 l_arm_11:;
     r26_4 = ldp(slot_3);
     t1 = (ld64(r1_2) == 0ull);
-    stp(slot_8, slot_1);
-    r22_1 = (slot_8 + 8);
+    stp(slot_4, slot_1);
+    r22_1 = (slot_4 + 8);
     memset(r22_1, 0u, 16);
-    r1_5 = (slot_8 + 16);
-    r6_7 = 0ull;
-    r9_9 = slot_1;
-    r6_8 = r26_3;
-    r6_9 = 0ull;
+    r1_5 = (slot_4 + 16);
+    r13_1 = 0ull;
+    r9_10 = slot_1;
+    r6_7 = r26_3;
+    r6_8 = 0ull;
     r1248_1 = 0u;
-    r6_10 = 1ull;
+    r6_9 = 1ull;
     goto l_loop_1;
 l_std_4:;
     rattle_dealloc(r32_2);
@@ -10652,63 +10507,63 @@ l_std_3:;
     if (ld8((slot_2 + (i64)(r10_2))) == 38u) goto l_arm_12;
     goto l_arm_13;
 l_loop_1:;
-    if (r1248_1) { r6_11 = r6_8; r6_12 = r6_9; goto l_after_2; }
+    if (r1248_1) { r6_10 = r6_7; r6_11 = r6_8; goto l_after_2; }
+    r6_12 = r6_7;
     r6_13 = r6_8;
-    r6_14 = r6_9;
     r1_6 = 0ull;
 l_join_8:;
-    if (r6_13 == 0ull) goto l_std_7;
-    r11_2 = (r6_14 + 1ull);
-    r17_2 = (r6_13 + 0xffffffffffffffffull);
-    r25_1 = (r26_4 + (i64)((r6_14 * 24ull)));
+    if (r6_12 == 0ull) goto l_std_7;
+    r11_2 = (r6_13 + 1ull);
+    r17_2 = (r6_12 + 0xffffffffffffffffull);
+    r25_1 = (r26_4 + (i64)((r6_13 * 24ull)));
     if (ld64((r25_1 + 16)) == 0ull) goto l_layout_1;
     rattle_dealloc(ldp(r25_1));
 l_layout_1:;
     u64 r25_2 = (r1_6 + 1ull);
-    if (r25_2 == r6_10) { r6_11 = r17_2; r6_12 = r11_2; goto l_after_2; }
-    r6_13 = r17_2;
-    r6_14 = r11_2;
+    if (r25_2 == r6_9) { r6_10 = r17_2; r6_11 = r11_2; goto l_after_2; }
+    r6_12 = r17_2;
+    r6_13 = r11_2;
     r1_6 = r25_2;
     goto l_join_8;
 l_after_2:;
-    if (r6_11 == 0ull) goto l_std_7;
-    r11_3 = (r6_12 + 1ull);
-    r17_3 = (r6_11 + 0xffffffffffffffffull);
-    u8 *r25_3 = (r26_4 + (i64)((r6_12 * 24ull)));
+    if (r6_10 == 0ull) goto l_std_7;
+    r11_3 = (r6_11 + 1ull);
+    r17_3 = (r6_10 + 0xffffffffffffffffull);
+    u8 *r25_3 = (r26_4 + (i64)((r6_11 * 24ull)));
     r0_8 = ldp(r25_3);
     r0_10 = ld64((r25_3 + 8));
     r0_12 = ld64((r25_3 + 16));
-    if (!(ld64(r1_5) == r6_7)) { r9_12 = r9_9; r8_3 = r6_7; goto l_core_4; }
-    u8 r24_3 = std_alloc_vec_Vec_grow_amortized_b9be21092a786ac5(slot_8);
+    if (!(ld64(r1_5) == r13_1)) { r9_13 = r9_10; r8_3 = r13_1; goto l_core_4; }
+    u8 r24_3 = std_alloc_vec_Vec_grow_amortized_b9be21092a786ac5(slot_4);
     if (!r24_3) goto l_arm_14;
-    r9_12 = ldp(slot_8);
+    r9_13 = ldp(slot_4);
     r8_3 = ld64(r22_1);
 l_core_4:;
-    u8 *r14_14 = (r9_12 + (i64)((r8_3 * 24ull)));
+    u8 *r14_14 = (r9_13 + (i64)((r8_3 * 24ull)));
     stp(r14_14, r0_8);
     st64((r14_14 + 8), r0_10);
     st64((r14_14 + 16), r0_12);
     u64 r17_4 = (r8_3 + 1ull);
     st64(r22_1, r17_4);
-    r6_7 = r17_4;
-    r9_9 = r9_12;
-    r6_8 = r17_3;
-    r6_9 = r11_3;
+    r13_1 = r17_4;
+    r9_10 = r9_13;
+    r6_7 = r17_3;
+    r6_8 = r11_3;
     r1248_1 = 1u;
-    r6_10 = 0ull;
+    r6_9 = 0ull;
     goto l_loop_1;
 l_arm_14:;
     if (r0_12 == 0ull) goto l_core_5;
     rattle_dealloc(r0_8);
 l_core_5:;
     if (r17_3 == 0ull) goto l_std_8;
-    r52_2 = (r6_12 + r6_11);
+    r52_2 = (r6_11 + r6_10);
     if (r11_3 < r52_2) { r0_13 = r11_3; goto l_join_9; }
     goto l_std_8;
 l_join_9:;
-    r9_14 = (r26_4 + (i64)((r0_13 * 24ull)));
-    if (ld64((r9_14 + 16)) == 0ull) goto l_core_6;
-    rattle_dealloc(ldp(r9_14));
+    r9_15 = (r26_4 + (i64)((r0_13 * 24ull)));
+    if (ld64((r9_15 + 16)) == 0ull) goto l_core_6;
+    rattle_dealloc(ldp(r9_15));
 l_core_6:;
     u64 r12_6 = (r0_13 + 1ull);
     if (!(r12_6 == r52_2)) { r0_13 = r12_6; goto l_join_9; }
@@ -10716,542 +10571,593 @@ l_std_8:;
     if (t1) goto l_std_9;
     rattle_dealloc(r26_4);
 l_std_9:;
-    r41_1 = ldp(slot_8);
-    r41_2 = ld64(r22_1);
-    r41_3 = ld64(r1_5);
-    if (r41_2 == 0ull) goto l_std_10;
+    r40_1 = ldp(slot_4);
+    r40_2 = ld64(r22_1);
+    r40_3 = ld64(r1_5);
+    if (r40_2 == 0ull) goto l_std_10;
     r0_14 = 0ull;
 l_join_10:;
-    r9_15 = (r41_1 + (i64)((r0_14 * 24ull)));
-    if (ld64((r9_15 + 16)) == 0ull) goto l_core_7;
-    rattle_dealloc(ldp(r9_15));
+    r9_16 = (r40_1 + (i64)((r0_14 * 24ull)));
+    if (ld64((r9_16 + 16)) == 0ull) goto l_core_7;
+    rattle_dealloc(ldp(r9_16));
 l_core_7:;
     u64 r12_7 = (r0_14 + 1ull);
-    if (!(r12_7 == r41_2)) { r0_14 = r12_7; goto l_join_10; }
+    if (!(r12_7 == r40_2)) { r0_14 = r12_7; goto l_join_10; }
 l_std_10:;
-    if (r41_3 == 0ull) goto l_arm_12;
-    rattle_dealloc(r41_1);
+    if (r40_3 == 0ull) goto l_arm_12;
+    rattle_dealloc(r40_1);
     goto l_arm_12;
 l_std_7:;
-    if (t1) goto l_std_11;
+    if (t1) goto l_arm_15;
     rattle_dealloc(r26_4);
-l_std_11:;
-    r4_4 = ldp(slot_8);
-    switch (r6_7) {
-    case 3ull: goto l_then_3;
-    case 1ull: goto l_then_4;
-    default: { r36_1 = 0u; r36_2 = 0u; r36_3 = 0u; r36_4 = 0ull; r36_5 = 0u; goto l_capnp_1; }
+    goto l_arm_15;
+l_arm_12:;
+    goto l_arm_16;
+l_arm_15:;
+    r13_3 = ldp(slot_4);
+    r13_4 = ld64(r1_5);
+    switch (r13_1) {
+    case 1ull: goto l_then_3;
+    case 3ull: goto l_then_4;
+    default: goto l_arm_17;
     }
-l_then_4:;
-    u64 r6_17 = ld64(away(r4_4, 8ull));
-    stp(slot_2, ldp(r4_4));
-    st64((slot_2 + 8), r6_17);
-    stp(slot_3, ((u8 *)g_static_4));
+l_arm_13:;
+    u8 r95_2 = layout_tool_complain(((u8 *)g_static_1), 13ull);
+    r0_15 = r95_2;
+    goto l_arm_18;
+l_then_3:;
+    r4_4 = ldp(r13_3);
+    r6_16 = ld64(away(r13_3, 8ull));
+    stp(slot_19, r4_4);
+    st64((slot_19 + 8), r6_16);
+    u8 r114_1 = core_cmp_text_RefStrPartialEq_eq(slot_19, slot_18);
+    if (!r114_1) goto l_then_5;
+    st32(slot_3, 1u);
+    r9_17 = (slot_3 + 4);
+    memset(r9_17, 0u, 1132);
+    r9_18 = (slot_3 + 1136);
+    st32(r9_18, 32u);
+    r9_19 = (slot_3 + 1140);
+    r9_20 = (slot_3 + 1152);
+    memset(r9_19, 0u, 12);
+    st64(r9_20, 0xffffffffffffffffull);
+    r9_21 = (slot_3 + 1160);
+    memset(r9_21, 0u, 16);
+    mv24(slot_2, r9_18);
+    st32(r9_18, 32u);
+    memset(r9_19, 0u, 12);
+    st64(r9_20, 0xffffffffffffffffull);
+    r10_4 = (slot_3 + 1032);
+    r11_5 = 0ull;
+    r5_3 = 478ull;
+    r5_4 = ((u8 *)g_static_2);
+l_arm_19:;
+    r20_1 = away(r5_4, 1ull);
+    r23_1 = (r5_3 + 0xffffffffffffffffull);
+    r52_3 = ld8(r5_4);
+    if (!(r11_5 > 1023ull)) { r339_1 = r11_5; goto l_std_11; }
+    u8 r18_1 = std_io_io_buffer_Buffer_flush(slot_3);
+    u64 r33_1 = ld64(r10_4);
+    if (r18_1 ? (r33_1 < 1024ull) : 0u) { r339_1 = r33_1; goto l_std_11; }
+    goto l_core_8;
+l_std_11:;
+    st8((r9_17 + (i64)(r339_1)), r52_3);
+    r48_2 = (r339_1 + 1ull);
+    st64(r10_4, r48_2);
+    if (!(r23_1 == 0ull)) { r11_5 = r48_2; r5_3 = r23_1; r5_4 = r20_1; goto l_arm_19; }
+    mv24(r9_18, slot_2);
+    mv24(slot_2, r9_18);
+    st32(r9_18, 32u);
+    memset(r9_19, 0u, 12);
+    st64(r9_20, 0xffffffffffffffffull);
+    if (ld64(r9_21) == 0ull) goto l_arm_20;
+    goto l_else_1;
+l_core_8:;
+    mv24(r9_18, slot_2);
+    r14_19 = 0u;
+    goto l_join_11;
+l_arm_20:;
+    if (!(r339_1 > 1022ull)) { r339_2 = r48_2; goto l_std_12; }
+    u8 r18_2 = std_io_io_buffer_Buffer_flush(slot_3);
+    u64 r33_2 = ld64(r10_4);
+    if (r18_2 ? (r33_2 < 1024ull) : 0u) { r339_2 = r33_2; goto l_std_12; }
+    r0_16 = 0u;
+    goto l_core_9;
+l_std_12:;
+    st8((r9_17 + (i64)(r339_2)), 10u);
+    st64(r10_4, (r339_2 + 1ull));
+    r0_16 = 1u;
+    goto l_core_9;
+l_else_1:;
+    u8 r32_5 = core_fmt_formatter_Formatter_write_indented_bf264aed5fa78656(slot_3, ((u8 *)g_static_6), 1ull);
+    r0_16 = (r32_5 == 0u);
+l_core_9:;
+    mv24(r9_18, slot_2);
+    r14_19 = r0_16;
+l_join_11:;
+    st32(slot_2, ld32(slot_3));
+    memcpy((slot_2 + 4), r9_17, 1132);
+    r10_7 = std_io_io_buffer_Buffer_flush(slot_2);
+    if (ld64((r13_3 + 16)) == 0ull) goto l_std_13;
+    rattle_dealloc(ldp(r13_3));
+l_std_13:;
+    spec_1 = ((u8)((u8)r14_19 & (u8)r10_7) ? 0u : 2u);
+    if (r13_4 == 0ull) { r0_15 = spec_1; goto l_arm_18; }
+    rattle_dealloc(r13_3);
+    r0_15 = spec_1;
+    goto l_arm_18;
+l_then_5:;
+    stp(slot_2, r4_4);
+    st64((slot_2 + 8), r6_16);
+    stp(slot_3, ((u8 *)g_static_10));
     st64((slot_3 + 8), 5ull);
-    stp(slot_4, ((u8 *)g_static_5));
+    stp(slot_4, ((u8 *)g_static_11));
     st64((slot_4 + 8), 7ull);
     u8 r30_4 = core_cmp_text_RefStrPartialEq_eq(slot_2, slot_3);
-    if (r30_4) { r15_1 = 1u; r15_2 = 3u; goto l_capnp_2; }
+    if (r30_4) { r15_1 = 1u; r15_2 = 3u; goto l_capnp_1; }
     u8 r47_1 = core_cmp_text_RefStrPartialEq_eq(slot_2, slot_4);
     r15_1 = (u8)r47_1;
     r15_2 = (r47_1 ? 4u : 0u);
-l_capnp_2:;
-    r36_6 = r15_1;
-    r36_7 = r15_2;
-    goto l_capnp_3;
-l_then_3:;
-    r4_6 = ldp(away(r4_4, 24ull));
-    r6_19 = ld64(away(r4_4, 32ull));
-    if (r6_19 == 0ull) { r36_6 = 0u; r36_7 = 0u; goto l_capnp_3; }
-    r35_1 = ld8(r4_6);
-    r37_1 = (u32)r35_1;
-    if ((i8)r35_1 > (i8)255u) { r0_15 = r37_1; goto l_core_8; }
-    r53_2 = (u32)(u8)(ld8((r4_6 + 1)) & 63u);
-    if (!(r35_1 < 224u)) goto l_join_11;
-    r0_15 = (((u32)(r37_1 << 6u) & 1984u) | r53_2);
-    goto l_core_8;
-l_join_11:;
-    r76_3 = (u32)(u8)(ld8((r4_6 + 2)) & 63u);
-    if (!(r35_1 < 240u)) goto l_join_12;
-    r0_15 = (((u32)(r53_2 << 6u) | ((u32)(r37_1 << 12u) & 61440u)) | r76_3);
-    goto l_core_8;
+l_capnp_1:;
+    r12_9 = r15_1;
+    r12_10 = r15_2;
+    r12_11 = 0u;
+    r12_12 = 0ull;
+    r12_13 = 0u;
+    goto l_capnp_2;
+l_then_4:;
+    r4_5 = ldp(away(r13_3, 24ull));
+    r6_18 = ld64(away(r13_3, 32ull));
+    if (r6_18 == 0ull) goto l_arm_21;
+    r35_3 = ld8(r4_5);
+    r37_1 = (u32)r35_3;
+    if ((i8)r35_3 > (i8)255u) { r0_17 = r37_1; goto l_core_10; }
+    r53_2 = (u32)(u8)(ld8((r4_5 + 1)) & 63u);
+    if (!(r35_3 < 224u)) goto l_join_12;
+    r0_17 = (((u32)(r37_1 << 6u) & 1984u) | r53_2);
+    goto l_core_10;
 l_join_12:;
-    r0_15 = (((u32)(r76_3 << 6u) | ((u32)(r53_2 << 12u) | ((u32)(r37_1 << 18u) & 0x1c0000u))) | (u32)(u8)(ld8((r4_6 + 3)) & 63u));
-l_core_8:;
-    if (r0_15 == 43u) { r36_6 = 0u; r36_7 = 0u; goto l_capnp_3; }
-    switch (r35_1) {
-    case 45u: goto l_then_5;
-    case 43u: goto l_then_6;
-    default: { r4_7 = 0ull; r5_4 = 0ull; goto l_join_13; }
+    r76_3 = (u32)(u8)(ld8((r4_5 + 2)) & 63u);
+    if (!(r35_3 < 240u)) goto l_join_13;
+    r0_17 = (((u32)(r53_2 << 6u) | ((u32)(r37_1 << 12u) & 61440u)) | r76_3);
+    goto l_core_10;
+l_join_13:;
+    r0_17 = (((u32)(r76_3 << 6u) | ((u32)(r53_2 << 12u) | ((u32)(r37_1 << 18u) & 0x1c0000u))) | (u32)(u8)(ld8((r4_5 + 3)) & 63u));
+l_core_10:;
+    if (r0_17 == 43u) goto l_arm_21;
+    switch (r35_3) {
+    case 45u: goto l_then_6;
+    case 43u: goto l_then_7;
+    default: { r4_6 = 0ull; r5_6 = 0ull; goto l_join_14; }
     }
-l_then_5:;
-    if (r6_19 == 1ull) { r36_6 = 0u; r36_7 = 0u; goto l_capnp_3; }
-    r4_8 = 0ull;
-    r5_5 = 1ull;
-    goto l_join_14;
-l_loop_2:;
-    u64 r113_2 = (r5_5 + 1ull);
-    if (r113_2 == r6_19) goto l_arm_15;
-    r4_8 = r11_5;
-    r5_5 = r113_2;
-l_join_14:;
-    r51_1 = ld8((r4_6 + (i64)(r5_5)));
-    if (!((u8)(r51_1 + 208u) < 10u)) { r36_1 = 0u; r36_2 = 0u; r36_3 = 0u; r36_4 = 0ull; r36_5 = 0u; goto l_capnp_1; }
-    r19_1 = (r4_8 * 10ull);
-    r85_3 = (u64)(u8)(r51_1 & 15u);
-    if (r19_1 > (r85_3 ^ 0xffffffffffffffffull)) { r36_1 = 0u; r36_2 = 0u; r36_3 = 0u; r36_4 = 0ull; r36_5 = 0u; goto l_capnp_1; }
-    r11_5 = (r19_1 + r85_3);
-    if (r11_5 > 0x80000000ull) { r36_1 = 0u; r36_2 = 0u; r36_3 = 0u; r36_4 = 0ull; r36_5 = 0u; goto l_capnp_1; }
-    goto l_loop_2;
-l_arm_15:;
-    ph_1 = (0u - (u32)r11_5);
-    goto l_arm_16;
 l_then_6:;
-    if (r6_19 == 1ull) { r36_6 = 0u; r36_7 = 0u; goto l_capnp_3; }
-    r4_9 = 0ull;
+    if (r6_18 == 1ull) goto l_arm_21;
+    r4_7 = 0ull;
     r5_7 = 1ull;
     goto l_join_15;
-l_loop_3:;
-    u64 r113_3 = (r5_7 + 1ull);
-    if (r113_3 == r6_19) { r11_7 = r11_6; goto l_arm_17; }
-    r4_9 = r11_6;
-    r5_7 = r113_3;
+l_loop_2:;
+    u64 r113_2 = (r5_7 + 1ull);
+    if (r113_2 == r6_18) goto l_arm_22;
+    r4_7 = r11_6;
+    r5_7 = r113_2;
 l_join_15:;
-    r51_2 = ld8((r4_6 + (i64)(r5_7)));
-    if (!((u8)(r51_2 + 208u) < 10u)) { r36_1 = 0u; r36_2 = 0u; r36_3 = 0u; r36_4 = 0ull; r36_5 = 0u; goto l_capnp_1; }
-    r19_2 = (r4_9 * 10ull);
+    r51_1 = ld8((r4_5 + (i64)(r5_7)));
+    if (!((u8)(r51_1 + 208u) < 10u)) goto l_arm_17;
+    r19_1 = (r4_7 * 10ull);
+    r85_3 = (u64)(u8)(r51_1 & 15u);
+    if (r19_1 > (r85_3 ^ 0xffffffffffffffffull)) goto l_arm_17;
+    r11_6 = (r19_1 + r85_3);
+    if (r11_6 > 0x80000000ull) goto l_arm_17;
+    goto l_loop_2;
+l_arm_22:;
+    ph_1 = (0u - (u32)r11_6);
+    goto l_arm_23;
+l_then_7:;
+    if (r6_18 == 1ull) goto l_arm_21;
+    r4_8 = 0ull;
+    r5_9 = 1ull;
+    goto l_join_16;
+l_loop_3:;
+    u64 r113_3 = (r5_9 + 1ull);
+    if (r113_3 == r6_18) { r11_8 = r11_7; goto l_arm_24; }
+    r4_8 = r11_7;
+    r5_9 = r113_3;
+l_join_16:;
+    r51_2 = ld8((r4_5 + (i64)(r5_9)));
+    if (!((u8)(r51_2 + 208u) < 10u)) goto l_arm_17;
+    r19_2 = (r4_8 * 10ull);
     r85_4 = (u64)(u8)(r51_2 & 15u);
-    if (r19_2 > (r85_4 ^ 0xffffffffffffffffull)) { r36_1 = 0u; r36_2 = 0u; r36_3 = 0u; r36_4 = 0ull; r36_5 = 0u; goto l_capnp_1; }
-    r11_6 = (r19_2 + r85_4);
-    if (r11_6 > 0x7fffffffull) { r36_1 = 0u; r36_2 = 0u; r36_3 = 0u; r36_4 = 0ull; r36_5 = 0u; goto l_capnp_1; }
+    if (r19_2 > (r85_4 ^ 0xffffffffffffffffull)) goto l_arm_17;
+    r11_7 = (r19_2 + r85_4);
+    if (r11_7 > 0x7fffffffull) goto l_arm_17;
     goto l_loop_3;
 l_loop_4:;
-    u64 r113_4 = (r5_4 + 1ull);
-    if (r113_4 == r6_19) { r11_7 = r11_8; goto l_arm_17; }
-    r4_7 = r11_8;
-    r5_4 = r113_4;
-l_join_13:;
-    r51_3 = ld8((r4_6 + (i64)(r5_4)));
-    if (!((u8)(r51_3 + 208u) < 10u)) { r36_1 = 0u; r36_2 = 0u; r36_3 = 0u; r36_4 = 0ull; r36_5 = 0u; goto l_capnp_1; }
-    r19_3 = (r4_7 * 10ull);
+    u64 r113_4 = (r5_6 + 1ull);
+    if (r113_4 == r6_18) { r11_8 = r11_9; goto l_arm_24; }
+    r4_6 = r11_9;
+    r5_6 = r113_4;
+l_join_14:;
+    r51_3 = ld8((r4_5 + (i64)(r5_6)));
+    if (!((u8)(r51_3 + 208u) < 10u)) goto l_arm_17;
+    r19_3 = (r4_6 * 10ull);
     r85_5 = (u64)(u8)(r51_3 & 15u);
-    if (r19_3 > (r85_5 ^ 0xffffffffffffffffull)) { r36_1 = 0u; r36_2 = 0u; r36_3 = 0u; r36_4 = 0ull; r36_5 = 0u; goto l_capnp_1; }
-    r11_8 = (r19_3 + r85_5);
-    if (r11_8 > 0x7fffffffull) { r36_1 = 0u; r36_2 = 0u; r36_3 = 0u; r36_4 = 0ull; r36_5 = 0u; goto l_capnp_1; }
+    if (r19_3 > (r85_5 ^ 0xffffffffffffffffull)) goto l_arm_17;
+    r11_9 = (r19_3 + r85_5);
+    if (r11_9 > 0x7fffffffull) goto l_arm_17;
     goto l_loop_4;
-l_arm_17:;
-    ph_1 = (u32)r11_7;
-l_arm_16:;
-    r4_10 = ldp(away(r4_4, 48ull));
-    r6_20 = ld64(away(r4_4, 56ull));
-    stp(slot_2, r4_10);
-    st64((slot_2 + 8), r6_20);
-    stp(slot_3, ((u8 *)g_static_6));
+l_arm_24:;
+    ph_1 = (u32)r11_8;
+l_arm_23:;
+    r4_9 = ldp(away(r13_3, 48ull));
+    r6_19 = ld64(away(r13_3, 56ull));
+    stp(slot_2, r4_9);
+    st64((slot_2 + 8), r6_19);
+    stp(slot_3, ((u8 *)g_static_12));
     st64((slot_3 + 8), 4ull);
-    u8 r23_1 = core_cmp_text_RefStrPartialEq_eq(slot_2, slot_3);
-    if (r23_1) { r29_2 = 0ull; r29_3 = 0u; goto l_arm_18; }
-    if (r6_20 == 0ull) goto l_arm_19;
-    r35_2 = ld8(r4_10);
-    r37_2 = (u32)r35_2;
-    if ((i8)r35_2 > (i8)255u) { r0_16 = r37_2; goto l_core_9; }
-    r53_3 = (u32)(u8)(ld8((r4_10 + 1)) & 63u);
-    if (!(r35_2 < 224u)) goto l_join_16;
-    r0_16 = (((u32)(r37_2 << 6u) & 1984u) | r53_3);
-    goto l_core_9;
-l_join_16:;
-    r76_4 = (u32)(u8)(ld8((r4_10 + 2)) & 63u);
-    if (!(r35_2 < 240u)) goto l_join_17;
-    r0_16 = (((u32)(r53_3 << 6u) | ((u32)(r37_2 << 12u) & 61440u)) | r76_4);
-    goto l_core_9;
+    u8 r23_2 = core_cmp_text_RefStrPartialEq_eq(slot_2, slot_3);
+    if (r23_2) { r29_2 = 0ull; r29_3 = 0u; goto l_arm_25; }
+    if (r6_19 == 0ull) goto l_arm_26;
+    r35_4 = ld8(r4_9);
+    r37_2 = (u32)r35_4;
+    if ((i8)r35_4 > (i8)255u) { r0_18 = r37_2; goto l_core_11; }
+    r53_3 = (u32)(u8)(ld8((r4_9 + 1)) & 63u);
+    if (!(r35_4 < 224u)) goto l_join_17;
+    r0_18 = (((u32)(r37_2 << 6u) & 1984u) | r53_3);
+    goto l_core_11;
 l_join_17:;
-    r0_16 = (((u32)(r76_4 << 6u) | ((u32)(r53_3 << 12u) | ((u32)(r37_2 << 18u) & 0x1c0000u))) | (u32)(u8)(ld8((r4_10 + 3)) & 63u));
-l_core_9:;
-    if (r0_16 == 43u) goto l_arm_19;
-    if (!(r35_2 == 43u)) { r4_11 = 0ull; r5_11 = 0ull; goto l_join_18; }
-    if (r6_20 == 1ull) goto l_arm_19;
-    r4_12 = 0ull;
-    r5_12 = 1ull;
-l_join_19:;
-    r51_4 = ld8((r4_10 + (i64)(r5_12)));
-    if (!(u8)((u8)(r4_12 < 0x199999999999999aull) & (u8)((u8)(r51_4 + 208u) < 10u))) goto l_arm_19;
-    r19_4 = (r4_12 * 10ull);
-    r85_7 = (u64)(u8)(r51_4 & 15u);
-    if (r19_4 > (r85_7 ^ 0xffffffffffffffffull)) goto l_arm_19;
-    u64 r11_9 = (r19_4 + r85_7);
-    u64 r113_6 = (r5_12 + 1ull);
-    if (r113_6 == r6_20) { r29_2 = r11_9; r29_3 = 1u; goto l_arm_18; }
-    r4_12 = r11_9;
-    r5_12 = r113_6;
-    goto l_join_19;
+    r76_4 = (u32)(u8)(ld8((r4_9 + 2)) & 63u);
+    if (!(r35_4 < 240u)) goto l_join_18;
+    r0_18 = (((u32)(r53_3 << 6u) | ((u32)(r37_2 << 12u) & 61440u)) | r76_4);
+    goto l_core_11;
 l_join_18:;
-    r51_5 = ld8((r4_10 + (i64)(r5_11)));
-    if (!(u8)((u8)(r4_11 < 0x199999999999999aull) & (u8)((u8)(r51_5 + 208u) < 10u))) goto l_arm_19;
-    r19_5 = (r4_11 * 10ull);
-    r85_8 = (u64)(u8)(r51_5 & 15u);
-    if (r19_5 > (r85_8 ^ 0xffffffffffffffffull)) goto l_arm_19;
-    u64 r11_10 = (r19_5 + r85_8);
-    u64 r113_7 = (r5_11 + 1ull);
-    if (r113_7 == r6_20) { r29_2 = r11_10; r29_3 = 1u; goto l_arm_18; }
+    r0_18 = (((u32)(r76_4 << 6u) | ((u32)(r53_3 << 12u) | ((u32)(r37_2 << 18u) & 0x1c0000u))) | (u32)(u8)(ld8((r4_9 + 3)) & 63u));
+l_core_11:;
+    if (r0_18 == 43u) goto l_arm_26;
+    if (!(r35_4 == 43u)) { r4_10 = 0ull; r5_13 = 0ull; goto l_join_19; }
+    if (r6_19 == 1ull) goto l_arm_26;
+    r4_11 = 0ull;
+    r5_14 = 1ull;
+l_join_20:;
+    r51_4 = ld8((r4_9 + (i64)(r5_14)));
+    if (!(u8)((u8)(r4_11 < 0x199999999999999aull) & (u8)((u8)(r51_4 + 208u) < 10u))) goto l_arm_26;
+    r19_4 = (r4_11 * 10ull);
+    r85_7 = (u64)(u8)(r51_4 & 15u);
+    if (r19_4 > (r85_7 ^ 0xffffffffffffffffull)) goto l_arm_26;
+    u64 r11_10 = (r19_4 + r85_7);
+    u64 r113_6 = (r5_14 + 1ull);
+    if (r113_6 == r6_19) { r29_2 = r11_10; r29_3 = 1u; goto l_arm_25; }
     r4_11 = r11_10;
-    r5_11 = r113_7;
-    goto l_join_18;
-l_arm_18:;
-    u64 r6_21 = ld64(away(r4_4, 8ull));
-    stp(slot_2, ldp(r4_4));
-    st64((slot_2 + 8), r6_21);
-    stp(slot_3, ((u8 *)g_static_7));
+    r5_14 = r113_6;
+    goto l_join_20;
+l_join_19:;
+    r51_5 = ld8((r4_9 + (i64)(r5_13)));
+    if (!(u8)((u8)(r4_10 < 0x199999999999999aull) & (u8)((u8)(r51_5 + 208u) < 10u))) goto l_arm_26;
+    r19_5 = (r4_10 * 10ull);
+    r85_8 = (u64)(u8)(r51_5 & 15u);
+    if (r19_5 > (r85_8 ^ 0xffffffffffffffffull)) goto l_arm_26;
+    u64 r11_11 = (r19_5 + r85_8);
+    u64 r113_7 = (r5_13 + 1ull);
+    if (r113_7 == r6_19) { r29_2 = r11_11; r29_3 = 1u; goto l_arm_25; }
+    r4_10 = r11_11;
+    r5_13 = r113_7;
+    goto l_join_19;
+l_arm_25:;
+    u64 r6_20 = ld64(away(r13_3, 8ull));
+    stp(slot_2, ldp(r13_3));
+    st64((slot_2 + 8), r6_20);
+    stp(slot_3, ((u8 *)g_static_13));
     st64((slot_3 + 8), 5ull);
-    stp(slot_4, ((u8 *)g_static_8));
+    stp(slot_4, ((u8 *)g_static_14));
     st64((slot_4 + 8), 5ull);
-    stp(slot_5, ((u8 *)g_static_9));
+    stp(slot_5, ((u8 *)g_static_15));
     st64((slot_5 + 8), 4ull);
-    stp(slot_6, ((u8 *)g_static_10));
+    stp(slot_6, ((u8 *)g_static_16));
     st64((slot_6 + 8), 12ull);
-    stp(slot_7, ((u8 *)g_static_11));
+    stp(slot_7, ((u8 *)g_static_17));
     st64((slot_7 + 8), 12ull);
     u8 r73_2 = core_cmp_text_RefStrPartialEq_eq(slot_2, slot_3);
-    if (r73_2) { r34_3 = 1u; r34_4 = 0u; r34_5 = r29_3; r34_6 = r29_2; r34_7 = ph_1; goto l_capnp_4; }
+    if (r73_2) { r34_3 = 1u; r34_4 = 0u; r34_5 = r29_3; r34_6 = r29_2; r34_7 = ph_1; goto l_capnp_3; }
     u8 r97_2 = core_cmp_text_RefStrPartialEq_eq(slot_2, slot_4);
-    if (r97_2) { r34_3 = 1u; r34_4 = 1u; r34_5 = r29_3; r34_6 = r29_2; r34_7 = ph_1; goto l_capnp_4; }
+    if (r97_2) { r34_3 = 1u; r34_4 = 1u; r34_5 = r29_3; r34_6 = r29_2; r34_7 = ph_1; goto l_capnp_3; }
     u8 r121_3 = core_cmp_text_RefStrPartialEq_eq(slot_2, slot_5);
-    if (r121_3) { r34_3 = 1u; r34_4 = 2u; r34_5 = r29_3; r34_6 = r29_2; r34_7 = ph_1; goto l_capnp_4; }
+    if (r121_3) { r34_3 = 1u; r34_4 = 2u; r34_5 = r29_3; r34_6 = r29_2; r34_7 = ph_1; goto l_capnp_3; }
     u8 r145_1 = core_cmp_text_RefStrPartialEq_eq(slot_2, slot_6);
-    if (r145_1) { r34_3 = 1u; r34_4 = 5u; r34_5 = r29_3; r34_6 = r29_2; r34_7 = ph_1; goto l_capnp_4; }
+    if (r145_1) { r34_3 = 1u; r34_4 = 5u; r34_5 = r29_3; r34_6 = r29_2; r34_7 = ph_1; goto l_capnp_3; }
     u8 r169_1 = core_cmp_text_RefStrPartialEq_eq(slot_2, slot_7);
     r34_3 = (u8)r169_1;
     r34_4 = (r169_1 ? 6u : 0u);
     r34_5 = (r169_1 ? r29_3 : 0u);
     r34_6 = (r169_1 ? r29_2 : 0ull);
     r34_7 = (r169_1 ? ph_1 : 0u);
-l_capnp_4:;
-    r36_1 = r34_3;
-    r36_2 = r34_4;
-    r36_3 = r34_5;
-    r36_4 = r34_6;
-    r36_5 = r34_7;
-    goto l_capnp_1;
-l_arm_19:;
-    r36_1 = 0u;
-    r36_2 = 0u;
-    r36_3 = 0u;
-    r36_4 = 0ull;
-    r36_5 = 0u;
-    goto l_capnp_1;
 l_capnp_3:;
-    r43_3 = ld64(r1_5);
-    r36_8 = 0u;
-    r36_9 = 0ull;
-    r36_10 = 0u;
-    r36_11 = r36_7;
-    r36_12 = r36_6;
-    goto l_join_20;
-l_capnp_1:;
-    u64 r43_4 = ld64(r1_5);
-    if (r6_7 == 0ull) { r43_5 = r43_4; r36_13 = r36_5; r36_14 = r36_4; r36_15 = r36_3; r36_16 = r36_2; r36_17 = r36_1; goto l_std_12; }
-    r43_3 = r43_4;
-    r36_8 = r36_5;
-    r36_9 = r36_4;
-    r36_10 = r36_3;
-    r36_11 = r36_2;
-    r36_12 = r36_1;
-l_join_20:;
-    r0_17 = 0ull;
-l_join_21:;
-    r9_16 = (r4_4 + (i64)((r0_17 * 24ull)));
-    if (ld64((r9_16 + 16)) == 0ull) goto l_core_10;
-    rattle_dealloc(ldp(r9_16));
-l_core_10:;
-    u64 r12_8 = (r0_17 + 1ull);
-    if (r12_8 == r6_7) { r43_5 = r43_3; r36_13 = r36_8; r36_14 = r36_9; r36_15 = r36_10; r36_16 = r36_11; r36_17 = r36_12; goto l_std_12; }
-    r0_17 = r12_8;
-    goto l_join_21;
-l_std_12:;
-    if (r43_5 == 0ull) goto l_arm_20;
-    rattle_dealloc(r4_4);
-l_arm_20:;
-    if (r36_17 == 1u) goto l_arm_21;
-    goto l_arm_13;
-l_arm_12:;
-    goto l_arm_22;
-l_arm_21:;
-    r42_1 = (u64)r36_15;
-    struct s_i64_i64 r0_18 = rattle_alloc(8192ull, 1ull);
-    r0_19 = r0_18;
-    if (!(u8)(r0_19.f0 & 1)) goto l_arm_23;
-    u64 r0_21 = c_lseek(0u, 0ull, 1u);
+    r12_9 = r34_3;
+    r12_10 = r34_4;
+    r12_11 = r34_5;
+    r12_12 = r34_6;
+    r12_13 = r34_7;
+    goto l_capnp_2;
+l_arm_26:;
+    goto l_arm_17;
+l_capnp_2:;
+    if (!(r12_9 == 1u)) goto l_arm_17;
+    r145_2 = (u64)r12_11;
+    struct s_i64_i64 r0_19 = rattle_alloc(8192ull, 1ull);
+    r0_20 = r0_19;
+    if (!(u8)(r0_20.f0 & 1)) goto l_arm_27;
+    u64 r0_22 = c_lseek(0u, 0ull, 1u);
     memset(slot_16, 0u, 8208);
-    st8((slot_16 + 8208), (u8)((i64)r0_21 > (i64)0xffffffffffffffffull));
-    r11_12 = (slot_16 + 8216);
+    st8((slot_16 + 8208), (u8)((i64)r0_22 > (i64)0xffffffffffffffffull));
+    r11_13 = (slot_16 + 8216);
     memset((slot_16 + 8209), 0u, 15);
     st64(slot_17, (u64)(uptr)slot_1);
-    r14_21 = (slot_17 + 8);
-    stp(r14_21, ((u8 *)(uptr)r0_19.f1));
-    r14_22 = (slot_17 + 16);
-    st64(r14_22, 0ull);
-    r14_23 = (slot_17 + 24);
-    st64(r14_23, 8192ull);
-    r14_24 = (slot_17 + 32);
+    r14_23 = (slot_17 + 8);
+    stp(r14_23, ((u8 *)(uptr)r0_20.f1));
+    r14_24 = (slot_17 + 16);
     st64(r14_24, 0ull);
+    r14_25 = (slot_17 + 24);
+    st64(r14_25, 8192ull);
+    r14_26 = (slot_17 + 32);
+    st64(r14_26, 0ull);
     memset(slot_15, 0u, 24);
     stp(slot_2, slot_1);
-    r6_23 = (slot_2 + 8);
-    memset(r6_23, 0u, 16);
+    r6_21 = (slot_2 + 8);
+    memset(r6_21, 0u, 16);
     memset(slot_3, 0u, 4096);
     r3_5 = (slot_16 + 8200);
-    r5_16 = (slot_16 + 8192);
+    r5_18 = (slot_16 + 8192);
     r1_13 = (slot_2 + 16);
-    r6_24 = 0ull;
+    r6_22 = 0ull;
     r8_8 = slot_1;
-    goto l_join_22;
+    goto l_join_21;
 l_loop_5:;
-    if ((u8)(ld8(r11_12) & 1)) goto l_arm_24;
-    r6_24 = r17_6;
+    if ((u8)(ld8(r11_13) & 1)) goto l_arm_28;
+    r6_22 = r17_6;
     r8_8 = r8_9;
-l_join_22:;
-    r4_15 = ld64(r3_5);
-    r6_25 = ld64(r5_16);
-    if (!(r4_15 == r6_25)) goto l_join_23;
+l_join_21:;
+    r4_14 = ld64(r3_5);
+    r6_23 = ld64(r5_18);
+    if (!(r4_14 == r6_23)) goto l_join_22;
     r3_6 = c_read(0u, slot_3, 4096ull);
-    if ((i64)r3_6 < (i64)0ull) goto l_arm_25;
-    r0_22 = umin64(r3_6, 4096ull);
-    goto l_arm_26;
-l_join_23:;
-    u64 a1_1 = umin64((r4_15 - r6_25), 4096ull);
-    memcpy_or_none(slot_3, away(slot_16, r6_25), a1_1);
-    st64(r5_16, (a1_1 + r6_25));
-    r0_22 = a1_1;
-    goto l_arm_26;
-l_arm_25:;
+    if ((i64)r3_6 < (i64)0ull) goto l_arm_29;
+    r0_23 = umin64(r3_6, 4096ull);
+    goto l_arm_30;
+l_join_22:;
+    u64 a1_1 = umin64((r4_14 - r6_23), 4096ull);
+    memcpy_or_none(slot_3, away(slot_16, r6_23), a1_1);
+    st64(r5_18, (a1_1 + r6_23));
+    r0_23 = a1_1;
+    goto l_arm_30;
+l_arm_29:;
     rattle_errno();
-    goto l_arm_24;
-l_arm_26:;
-    if (r0_22 == 0ull) goto l_arm_27;
+    goto l_arm_28;
+l_arm_30:;
+    if (r0_23 == 0ull) goto l_arm_31;
     r8_10 = r8_8;
-    r2_25 = r6_24;
+    r2_25 = r6_22;
     r3_7 = 0ull;
-l_join_24:;
+l_join_23:;
     r29_6 = ld8(away(slot_3, r3_7));
-    if (!(ld64(r1_13) == r2_25)) { r8_9 = r8_10; r7_16 = r2_25; goto l_std_13; }
+    if (!(ld64(r1_13) == r2_25)) { r8_9 = r8_10; r7_16 = r2_25; goto l_std_14; }
     u8 r24_4 = std_alloc_vec_Vec_grow_amortized_044c3d3b74b9c55e(slot_2, 1ull);
-    if (!r24_4) goto l_arm_28;
+    if (!r24_4) goto l_arm_32;
     r8_9 = ldp(slot_2);
-    r7_16 = ld64(r6_23);
-l_std_13:;
+    r7_16 = ld64(r6_21);
+l_std_14:;
     st8((r8_9 + (i64)(r7_16)), r29_6);
     r17_6 = (r7_16 + 1ull);
-    st64(r6_23, r17_6);
+    st64(r6_21, r17_6);
     u64 r46_1 = (r3_7 + 1ull);
-    if (r46_1 == r0_22) goto l_loop_5;
+    if (r46_1 == r0_23) goto l_loop_5;
     r8_10 = r8_9;
     r2_25 = r17_6;
     r3_7 = r46_1;
-    goto l_join_24;
+    goto l_join_23;
+l_arm_32:;
+    if (ld64(r1_13) == 0ull) { r6_24 = 1u; goto l_capnp_4; }
+    r6_25 = 1u;
+    goto l_arm_33;
 l_arm_28:;
-    if (ld64(r1_13) == 0ull) { r6_26 = 1u; goto l_capnp_5; }
-    r6_27 = 1u;
-    goto l_arm_29;
-l_arm_24:;
-    if (ld64(r1_13) == 0ull) { r6_26 = 0u; goto l_capnp_5; }
-    r6_27 = 0u;
-    goto l_arm_29;
-l_arm_27:;
-    r6_28 = ldp(slot_2);
-    r6_29 = ld64(r1_13);
+    if (ld64(r1_13) == 0ull) { r6_24 = 0u; goto l_capnp_4; }
+    r6_25 = 0u;
+    goto l_arm_33;
+l_arm_31:;
+    r6_26 = ldp(slot_2);
+    r6_27 = ld64(r1_13);
     stp(slot_3, slot_1);
-    r11_14 = (slot_3 + 8);
-    memset(r11_14, 0u, 16);
-    if (r6_24 == 0ull) { r0_23 = slot_1; r0_24 = 0ull; r0_25 = 0ull; r3_8 = 0ull; t27 = 1u; r0_26 = 0u; goto l_capnp_6; }
-    r5_17 = (slot_2 + 8);
+    r11_15 = (slot_3 + 8);
+    memset(r11_15, 0u, 16);
+    if (r6_22 == 0ull) { r0_24 = slot_1; r0_25 = 0ull; r0_26 = 0ull; r3_8 = 0ull; t28 = 1u; r0_27 = 0u; goto l_capnp_5; }
+    r5_19 = (slot_2 + 8);
     r1_14 = (slot_2 + 16);
     r1_15 = (slot_3 + 16);
     r2_27 = 0ull;
-    r5_18 = r6_28;
-    r5_19 = r6_24;
-l_arm_40:;
-    r20_4 = r5_18;
+    r5_20 = r6_26;
+    r5_21 = r6_22;
+l_arm_44:;
+    r20_5 = r5_20;
     r3_9 = 0ull;
-    r23_2 = r5_19;
-l_arm_30:;
-    if (ld8(r20_4) == 10u) { t24 = r3_9; goto l_capnp_7; }
-    u64 r23_3 = (r23_2 + 0xffffffffffffffffull);
-    if (r23_3 == 0ull) { t24 = r5_19; goto l_capnp_7; }
-    u8 *r20_6 = away(r20_4, 1ull);
+    r23_3 = r5_21;
+l_arm_34:;
+    if (ld8(r20_5) == 10u) { t25 = r3_9; goto l_capnp_6; }
+    u64 r23_4 = (r23_3 + 0xffffffffffffffffull);
+    if (r23_4 == 0ull) { t25 = r5_21; goto l_capnp_6; }
+    u8 *r20_7 = away(r20_5, 1ull);
     u64 r3_10 = (r3_9 + 1ull);
-    u64 r23_4 = r23_3;
-    r20_4 = r20_6;
+    u64 r23_5 = r23_4;
+    r20_5 = r20_7;
     r3_9 = r3_10;
-    r23_2 = r23_4;
-    goto l_arm_30;
-l_capnp_7:;
-    r25_5 = (t24 >= r5_19);
-    u64 r34_8 = (t24 + 1ull);
-    r41_4 = (r5_19 - r34_8);
-    r6_30 = umin64(t24, r5_19);
-    r6_31 = (r25_5 ? ((u8 *)g_static_3) : away(r5_18, r34_8));
+    r23_3 = r23_5;
+    goto l_arm_34;
+l_capnp_6:;
+    r25_6 = (t25 >= r5_21);
+    u64 r34_8 = (t25 + 1ull);
+    r41_1 = (r5_21 - r34_8);
+    r6_28 = umin64(t25, r5_21);
+    r6_29 = (r25_6 ? ((u8 *)g_static_5) : away(r5_20, r34_8));
     stp(slot_2, slot_1);
-    memset(r5_17, 0u, 16);
-    r287_1 = (u64)(r6_30 >> 1ull);
+    memset(r5_19, 0u, 16);
+    r287_1 = (u64)(r6_28 >> 1ull);
     if (r287_1 == 0ull) goto l_after_3;
     r8_12 = slot_1;
     r2_29 = 0ull;
-    r6_32 = 0ull;
-l_join_25:;
-    if (!(ld64(r1_14) == r2_29)) { r8_13 = r8_12; r7_20 = r2_29; goto l_std_14; }
+    r6_30 = 0ull;
+l_join_24:;
+    if (!(ld64(r1_14) == r2_29)) { r8_13 = r8_12; r7_20 = r2_29; goto l_std_15; }
     u8 r24_5 = std_alloc_vec_Vec_grow_amortized_044c3d3b74b9c55e(slot_2, 1ull);
-    if (!r24_5) goto l_arm_31;
+    if (!r24_5) goto l_arm_35;
     r8_13 = ldp(slot_2);
-    r7_20 = ld64(r5_17);
-l_std_14:;
+    r7_20 = ld64(r5_19);
+l_std_15:;
     st8((r8_13 + (i64)(r7_20)), 0u);
     r17_8 = (r7_20 + 1ull);
-    st64(r5_17, r17_8);
-    u64 r54_3 = (r6_32 + 1ull);
+    st64(r5_19, r17_8);
+    u64 r54_3 = (r6_30 + 1ull);
     if (r54_3 == r287_1) goto l_after_4;
     r8_12 = r8_13;
     r2_29 = r17_8;
-    r6_32 = r54_3;
-    goto l_join_25;
-l_arm_31:;
-    if (ld64(r1_14) == 0ull) { r3_11 = 1ull; r16_7 = 1u; goto l_arm_32; }
+    r6_30 = r54_3;
+    goto l_join_24;
+l_arm_35:;
+    if (ld64(r1_14) == 0ull) { r3_11 = 1ull; r16_7 = 1u; goto l_arm_36; }
     r3_12 = 1ull;
-    r4_17 = ldp(slot_2);
+    r4_16 = ldp(slot_2);
     r16_8 = 1u;
-    goto l_arm_33;
+    goto l_arm_37;
 l_after_4:;
-    r4_18 = ldp(slot_2);
-    if ((u8)((u8)((r6_30 & 1ull) == 0ull) & (u8)(r287_1 == r17_8))) { r5_20 = 0ull; goto l_join_26; }
-    goto l_arm_34;
+    r4_17 = ldp(slot_2);
+    if ((u8)((u8)((r6_28 & 1ull) == 0ull) & (u8)(r287_1 == r17_8))) { r5_22 = 0ull; goto l_join_25; }
+    goto l_arm_38;
 l_after_3:;
-    if (t24 == 0ull) { r2_31 = r2_27; r20_7 = 0ull; r20_8 = slot_1; goto l_arm_35; }
+    if (t25 == 0ull) { r2_31 = r2_27; r20_8 = 0ull; r20_9 = slot_1; goto l_arm_39; }
     r3_11 = 0ull;
     r16_7 = 0u;
-    goto l_arm_32;
-l_join_26:;
-    u8 *r101_1 = (r5_18 + (i64)((u64)(r5_20 << 1ull)));
+    goto l_arm_36;
+l_join_25:;
+    u8 *r101_1 = (r5_20 + (i64)((u64)(r5_22 << 1ull)));
     r103_1 = ld8(r101_1);
     r113_8 = ld8((r101_1 + 1));
-    if (r103_1 < 48u) goto l_arm_34;
-    if (r103_1 < 58u) { sink_1 = 208u; goto l_arm_36; }
-    if (r103_1 < 65u) goto l_arm_34;
-    if (r103_1 < 71u) { sink_1 = 201u; goto l_arm_36; }
-    if ((u8)(r103_1 + 159u) < 6u) { sink_1 = 169u; goto l_arm_36; }
-    goto l_arm_34;
-l_arm_36:;
-    r18_1 = (u8)(sink_1 + r103_1);
-    if (r113_8 < 48u) goto l_arm_34;
-    if (r113_8 < 58u) { sink105_1 = 208u; goto l_arm_37; }
-    if (r113_8 < 65u) goto l_arm_34;
-    if (r113_8 < 71u) { sink105_1 = 201u; goto l_arm_37; }
-    if ((u8)(r113_8 + 159u) < 6u) { sink105_1 = 169u; goto l_arm_37; }
-    goto l_arm_34;
-l_arm_37:;
-    st8((r4_18 + (i64)(r5_20)), (u8)((u8)((u8)((u32)r18_1 << 4u) + r113_8) + sink105_1));
-    u64 r153_1 = (r5_20 + 1ull);
-    if (r153_1 == r287_1) goto l_arm_38;
-    r5_20 = r153_1;
-    goto l_join_26;
-l_arm_34:;
-    if (ld64(r1_14) == 0ull) { r3_11 = 0ull; r16_7 = 0u; goto l_arm_32; }
-    r3_12 = 0ull;
-    r4_17 = r4_18;
-    r16_8 = 0u;
-    goto l_arm_33;
+    if (r103_1 < 48u) goto l_arm_38;
+    if (r103_1 < 58u) { sink_1 = 208u; goto l_arm_40; }
+    if (r103_1 < 65u) goto l_arm_38;
+    if (r103_1 < 71u) { sink_1 = 201u; goto l_arm_40; }
+    if ((u8)(r103_1 + 159u) < 6u) { sink_1 = 169u; goto l_arm_40; }
+    goto l_arm_38;
+l_arm_40:;
+    r18_3 = (u8)(sink_1 + r103_1);
+    if (r113_8 < 48u) goto l_arm_38;
+    if (r113_8 < 58u) { sink105_1 = 208u; goto l_arm_41; }
+    if (r113_8 < 65u) goto l_arm_38;
+    if (r113_8 < 71u) { sink105_1 = 201u; goto l_arm_41; }
+    if ((u8)(r113_8 + 159u) < 6u) { sink105_1 = 169u; goto l_arm_41; }
+    goto l_arm_38;
+l_arm_41:;
+    st8((r4_17 + (i64)(r5_22)), (u8)((u8)((u8)((u32)r18_3 << 4u) + r113_8) + sink105_1));
+    u64 r153_1 = (r5_22 + 1ull);
+    if (r153_1 == r287_1) goto l_arm_42;
+    r5_22 = r153_1;
+    goto l_join_25;
 l_arm_38:;
-    r2_31 = ld64(r11_14);
-    r20_7 = ld64(r1_14);
-    r20_8 = r4_18;
-l_arm_35:;
-    if (!(ld64(r1_15) == r2_31)) { r8_15 = r2_31; goto l_join_27; }
+    if (ld64(r1_14) == 0ull) { r3_11 = 0ull; r16_7 = 0u; goto l_arm_36; }
+    r3_12 = 0ull;
+    r4_16 = r4_17;
+    r16_8 = 0u;
+    goto l_arm_37;
+l_arm_42:;
+    r2_31 = ld64(r11_15);
+    r20_8 = ld64(r1_14);
+    r20_9 = r4_17;
+l_arm_39:;
+    if (!(ld64(r1_15) == r2_31)) { r8_15 = r2_31; goto l_join_26; }
     u8 r24_7 = std_alloc_vec_Vec_grow_amortized_5b0ad133dd2f927c(slot_3);
-    if (!r24_7) goto l_arm_39;
-    r8_15 = ld64(r11_14);
-    goto l_join_27;
-l_arm_33:;
-    rattle_dealloc(r4_17);
+    if (!r24_7) goto l_arm_43;
+    r8_15 = ld64(r11_15);
+    goto l_join_26;
+l_arm_37:;
+    rattle_dealloc(r4_16);
     r3_11 = r3_12;
     r16_7 = r16_8;
-l_arm_32:;
+l_arm_36:;
     r29_7 = ldp(slot_3);
-    r29_8 = ld64(r11_14);
+    r29_8 = ld64(r11_15);
     r29_9 = ld64(r1_15);
-    if (r29_8 == 0ull) goto l_std_15;
-    r0_27 = 0ull;
-l_join_28:;
-    r9_18 = (r29_7 + (i64)((r0_27 * 24ull)));
-    if (ld64((r9_18 + 16)) == 0ull) goto l_core_11;
-    rattle_dealloc(ldp(r9_18));
-l_core_11:;
-    u64 r12_9 = (r0_27 + 1ull);
-    if (!(r12_9 == r29_8)) { r0_27 = r12_9; goto l_join_28; }
-l_std_15:;
-    if (r29_9 == 0ull) { r0_23 = ((u8 *)0); r0_24 = 0ull; r0_25 = 0ull; r3_8 = r3_11; t27 = 0u; r0_26 = r16_7; goto l_capnp_6; }
-    rattle_dealloc(r29_7);
-    r0_23 = ((u8 *)0);
-    r0_24 = 0ull;
-    r0_25 = 0ull;
-    r3_8 = r3_11;
-    t27 = 0u;
-    r0_26 = r16_7;
-    goto l_capnp_6;
-l_arm_39:;
-    if (r20_7 == 0ull) goto l_then_7;
-    rattle_dealloc(r20_8);
-    goto l_then_7;
-l_join_27:;
-    r9_19 = ldp(slot_3);
-    u8 *r14_35 = (r9_19 + (i64)((r8_15 * 24ull)));
-    stp(r14_35, r20_8);
-    st64((r14_35 + 8), r287_1);
-    st64((r14_35 + 16), r20_7);
-    r17_9 = (r8_15 + 1ull);
-    st64(r11_14, r17_9);
-    if ((u8)((u8)r25_5 | (u8)(r41_4 == 0ull))) goto l_after_5;
-    r2_27 = r17_9;
-    r5_18 = r6_31;
-    r5_19 = r41_4;
-    goto l_arm_40;
-l_then_7:;
-    r31_4 = ldp(slot_3);
-    r31_5 = ld64(r11_14);
-    r31_6 = ld64(r1_15);
-    if (r31_5 == 0ull) goto l_std_16;
+    if (r29_8 == 0ull) goto l_std_16;
     r0_28 = 0ull;
-l_join_29:;
-    r9_20 = (r31_4 + (i64)((r0_28 * 24ull)));
-    if (ld64((r9_20 + 16)) == 0ull) goto l_core_12;
-    rattle_dealloc(ldp(r9_20));
+l_join_27:;
+    r9_24 = (r29_7 + (i64)((r0_28 * 24ull)));
+    if (ld64((r9_24 + 16)) == 0ull) goto l_core_12;
+    rattle_dealloc(ldp(r9_24));
 l_core_12:;
-    u64 r12_10 = (r0_28 + 1ull);
-    if (!(r12_10 == r31_5)) { r0_28 = r12_10; goto l_join_29; }
+    u64 r12_14 = (r0_28 + 1ull);
+    if (!(r12_14 == r29_8)) { r0_28 = r12_14; goto l_join_27; }
 l_std_16:;
-    if (r31_6 == 0ull) { r0_23 = ((u8 *)0); r0_24 = 0ull; r0_25 = 0ull; r3_8 = 1ull; t27 = 0u; r0_26 = 1u; goto l_capnp_6; }
-    rattle_dealloc(r31_4);
-    r0_23 = ((u8 *)0);
-    r0_24 = 0ull;
+    if (r29_9 == 0ull) { r0_24 = ((u8 *)0); r0_25 = 0ull; r0_26 = 0ull; r3_8 = r3_11; t28 = 0u; r0_27 = r16_7; goto l_capnp_5; }
+    rattle_dealloc(r29_7);
+    r0_24 = ((u8 *)0);
     r0_25 = 0ull;
+    r0_26 = 0ull;
+    r3_8 = r3_11;
+    t28 = 0u;
+    r0_27 = r16_7;
+    goto l_capnp_5;
+l_arm_43:;
+    if (r20_8 == 0ull) goto l_then_8;
+    rattle_dealloc(r20_9);
+    goto l_then_8;
+l_join_26:;
+    r9_25 = ldp(slot_3);
+    u8 *r14_37 = (r9_25 + (i64)((r8_15 * 24ull)));
+    stp(r14_37, r20_9);
+    st64((r14_37 + 8), r287_1);
+    st64((r14_37 + 16), r20_8);
+    r17_9 = (r8_15 + 1ull);
+    st64(r11_15, r17_9);
+    if ((u8)((u8)r25_6 | (u8)(r41_1 == 0ull))) goto l_after_5;
+    r2_27 = r17_9;
+    r5_20 = r6_29;
+    r5_21 = r41_1;
+    goto l_arm_44;
+l_then_8:;
+    r31_4 = ldp(slot_3);
+    r31_5 = ld64(r11_15);
+    r31_6 = ld64(r1_15);
+    if (r31_5 == 0ull) goto l_std_17;
+    r0_29 = 0ull;
+l_join_28:;
+    r9_26 = (r31_4 + (i64)((r0_29 * 24ull)));
+    if (ld64((r9_26 + 16)) == 0ull) goto l_core_13;
+    rattle_dealloc(ldp(r9_26));
+l_core_13:;
+    u64 r12_15 = (r0_29 + 1ull);
+    if (!(r12_15 == r31_5)) { r0_29 = r12_15; goto l_join_28; }
+l_std_17:;
+    if (r31_6 == 0ull) { r0_24 = ((u8 *)0); r0_25 = 0ull; r0_26 = 0ull; r3_8 = 1ull; t28 = 0u; r0_27 = 1u; goto l_capnp_5; }
+    rattle_dealloc(r31_4);
+    r0_24 = ((u8 *)0);
+    r0_25 = 0ull;
+    r0_26 = 0ull;
     r3_8 = 1ull;
-    t27 = 0u;
-    r0_26 = 1u;
-    goto l_capnp_6;
+    t28 = 0u;
+    r0_27 = 1u;
+    goto l_capnp_5;
 l_after_5:;
-    r0_23 = r9_19;
-    r0_24 = r17_9;
-    r0_25 = ld64(r1_15);
+    r0_24 = r9_25;
+    r0_25 = r17_9;
+    r0_26 = ld64(r1_15);
     r3_8 = 0ull;
-    t27 = 1u;
-    r0_26 = 0u;
-l_capnp_6:;
-    if (r6_29 == 0ull) goto l_capnp_8;
-    rattle_dealloc(r6_28);
-    goto l_capnp_8;
-l_arm_29:;
-    rattle_dealloc(ldp(slot_2));
-    r6_26 = r6_27;
+    t28 = 1u;
+    r0_27 = 0u;
 l_capnp_5:;
-    r6_35 = r6_26;
-    goto l_arm_41;
-l_capnp_8:;
-    if (!t27) { r6_35 = r0_26; goto l_arm_41; }
+    if (r6_27 == 0ull) goto l_capnp_7;
+    rattle_dealloc(r6_26);
+    goto l_capnp_7;
+l_arm_33:;
+    rattle_dealloc(ldp(slot_2));
+    r6_24 = r6_25;
+l_capnp_4:;
+    r6_33 = r6_24;
+    goto l_arm_45;
+l_capnp_7:;
+    if (!t28) { r6_33 = r0_27; goto l_arm_45; }
     memset(slot_8, 0u, 24);
     memset(slot_9, 0u, 24);
     memset(slot_10, 0u, 40);
@@ -11259,86 +11165,86 @@ l_capnp_8:;
     memset(slot_12, 0u, 24);
     memset(slot_13, 0u, 32);
     memset(slot_14, 0u, 24);
-    switch (r36_16) {
-    case 0u: goto l_arm_42;
-    case 1u: goto l_arm_43;
-    case 2u: goto l_arm_44;
-    case 3u: goto l_arm_45;
-    case 4u: goto l_arm_46;
-    case 5u: goto l_arm_47;
-    case 6u: goto l_arm_48;
+    switch (r12_10) {
+    case 0u: goto l_arm_46;
+    case 1u: goto l_arm_47;
+    case 2u: goto l_arm_48;
+    case 3u: goto l_arm_49;
+    case 4u: goto l_arm_50;
+    case 5u: goto l_arm_51;
+    case 6u: goto l_arm_52;
     default: goto l_default_1;
     }
-l_arm_42:;
-    st64(slot_8, r42_1);
-    st64((slot_8 + 8), r36_14);
-    st32((slot_8 + 16), r36_13);
+l_arm_46:;
+    st64(slot_8, r145_2);
+    st64((slot_8 + 8), r12_12);
+    st32((slot_8 + 16), r12_13);
     stp(slot_11, slot_1);
     memset((slot_11 + 8), 0u, 16);
     st64((slot_11 + 24), r3_8);
-    stp(slot_12, r0_23);
-    st64((slot_12 + 8), r0_24);
-    st64((slot_12 + 16), r0_25);
+    stp(slot_12, r0_24);
+    st64((slot_12 + 8), r0_25);
+    st64((slot_12 + 16), r0_26);
     capnp_layout_tool_engine_canon_8738c8d4622c75c1(slot_10, slot_11, slot_12, slot_8, 1u, slot_17);
-    goto l_capnp_9;
-l_arm_43:;
-    if (r0_24 < 0x100000000ull) { r4_19 = r0_23; r23_7 = r0_24; goto l_loop_6; }
-l_join_31:;
-    r0_30 = 0ull;
-    goto l_join_30;
+    goto l_capnp_8;
+l_arm_47:;
+    if (r0_25 < 0x100000000ull) { r4_18 = r0_24; r23_8 = r0_25; goto l_loop_6; }
+l_join_30:;
+    r0_31 = 0ull;
+    goto l_join_29;
 l_loop_6:;
-    if (r23_7 == 0ull) goto l_arm_49;
-    if (ld64(away(r4_19, 8ull)) < 0x800000000ull) { u8 *r4_20 = away(r4_19, 24ull); u64 r23_9 = (r23_7 + 0xffffffffffffffffull); r4_19 = r4_20; r23_7 = r23_9; goto l_loop_6; }
-    goto l_join_31;
-l_arm_49:;
-    if (r0_24 == 0ull) { r80_2 = 12u; goto l_std_17; }
-    r10_8 = 0ull;
-    r11_16 = 0ull;
-l_arm_50:;
-    r44_2 = ((u64)(ld64(away(away(r0_23, (r11_16 * 24ull)), 8ull)) >> 3ull) + r10_8);
-    u64 r46_2 = (r11_16 + 1ull);
-    if (!(r46_2 == r0_24)) { r10_8 = r44_2; r11_16 = r46_2; goto l_arm_50; }
-    stp(slot_4, r0_23);
-    r20_12 = (slot_4 + 8);
-    st64(r20_12, r0_24);
-    r20_13 = (slot_4 + 16);
+    if (r23_8 == 0ull) goto l_arm_53;
+    if (ld64(away(r4_18, 8ull)) < 0x800000000ull) { u8 *r4_19 = away(r4_18, 24ull); u64 r23_10 = (r23_8 + 0xffffffffffffffffull); r4_18 = r4_19; r23_8 = r23_10; goto l_loop_6; }
+    goto l_join_30;
+l_arm_53:;
+    if (r0_25 == 0ull) { r80_2 = 12u; goto l_std_18; }
+    r10_12 = 0ull;
+    r11_17 = 0ull;
+l_arm_54:;
+    r44_2 = ((u64)(ld64(away(away(r0_24, (r11_17 * 24ull)), 8ull)) >> 3ull) + r10_12);
+    u64 r46_2 = (r11_17 + 1ull);
+    if (!(r46_2 == r0_25)) { r10_12 = r44_2; r11_17 = r46_2; goto l_arm_54; }
+    stp(slot_4, r0_24);
+    r20_13 = (slot_4 + 8);
     st64(r20_13, r0_25);
-    st32((slot_4 + 24), r36_13);
+    r20_14 = (slot_4 + 16);
+    st64(r20_14, r0_26);
+    st32((slot_4 + 24), r12_13);
     st32((slot_4 + 28), 0u);
     st64((slot_4 + 32), r44_2);
-    r6_37 = ld64(away(r0_23, 8ull));
-    if (r6_37 < 8ull) { r0_31 = 23u; goto l_arm_51; }
-    t29 = (r36_15 == 1u);
-    if (!t29) { r12_11 = r36_14; goto l_arm_52; }
-    if (r36_14 == 0ull) { r0_31 = 30u; goto l_arm_51; }
-    r12_11 = (r36_14 + 0xffffffffffffffffull);
-    goto l_arm_52;
-l_join_30:;
-    r9_22 = (r0_23 + (i64)((r0_30 * 24ull)));
-    if (ld64((r9_22 + 16)) == 0ull) goto l_core_13;
-    rattle_dealloc(ldp(r9_22));
-l_core_13:;
-    u64 r12_12 = (r0_30 + 1ull);
-    if (!(r12_12 == r0_24)) { r0_30 = r12_12; goto l_join_30; }
-    if (r0_25 == 0ull) { r0_32 = 27u; r0_33 = 0xffffffffffffffffull; goto l_capnp_10; }
-    r0_34 = 27u;
-    r0_35 = 0xffffffffffffffffull;
-    goto l_capnp_11;
-l_arm_52:;
-    r4_21 = ldp(r0_23);
-    u8 *t31 = (slot_3 + 56);
-    st64(t31, 0ull);
+    r6_35 = ld64(away(r0_24, 8ull));
+    if (r6_35 < 8ull) { r0_32 = 23u; goto l_arm_55; }
+    t30 = (r12_11 == 1u);
+    if (!t30) { r12_16 = r12_12; goto l_arm_56; }
+    if (r12_12 == 0ull) { r0_32 = 30u; goto l_arm_55; }
+    r12_16 = (r12_12 + 0xffffffffffffffffull);
+    goto l_arm_56;
+l_join_29:;
+    r9_28 = (r0_24 + (i64)((r0_31 * 24ull)));
+    if (ld64((r9_28 + 16)) == 0ull) goto l_core_14;
+    rattle_dealloc(ldp(r9_28));
+l_core_14:;
+    u64 r12_17 = (r0_31 + 1ull);
+    if (!(r12_17 == r0_25)) { r0_31 = r12_17; goto l_join_29; }
+    if (r0_26 == 0ull) { r0_33 = 27u; r0_34 = 0xffffffffffffffffull; goto l_capnp_9; }
+    r0_35 = 27u;
+    r0_36 = 0xffffffffffffffffull;
+    goto l_capnp_10;
+l_arm_56:;
+    r4_20 = ldp(r0_24);
+    u8 *t32 = (slot_3 + 56);
+    st64(t32, 0ull);
     st64((slot_3 + 8), (u64)(uptr)slot_4);
     memset((slot_3 + 16), 0u, 16);
-    stp((slot_3 + 32), r4_21);
-    st64((slot_3 + 40), (r6_37 & 0xfffffffffffffff8ull));
+    stp((slot_3 + 32), r4_20);
+    st64((slot_3 + 40), (r6_35 & 0xfffffffffffffff8ull));
     st32((slot_3 + 48), 0u);
     st32((slot_3 + 52), 0u);
     st64(slot_3, 0ull);
-    st32(t31, r36_13);
-    st64(slot_2, r42_1);
+    st32(t32, r12_13);
+    st64(slot_2, r145_2);
     r7_28 = (slot_2 + 8);
-    st64(r7_28, r12_11);
+    st64(r7_28, r12_16);
     r7_29 = (slot_2 + 16);
     st64(r7_29, 0ull);
     r7_30 = (slot_2 + 24);
@@ -11349,320 +11255,320 @@ l_arm_52:;
     st32(r7_32, 0u);
     r7_33 = (slot_2 + 40);
     st64(r7_33, 0ull);
-    r183_1 = (u64)(r6_37 >> 3ull);
-    r33_1 = ld64(r4_21);
-    if (!((r33_1 & 2ull) == 0ull)) { t46 = 1u; r0_36 = 0u; r0_37 = 0u; r0_38 = 0u; r0_39 = 0ull; goto l_capnp_12; }
-    if (r33_1 == 0ull) { t46 = 1u; r0_36 = 1u; r0_37 = 0u; r0_38 = 0u; r0_39 = 0ull; goto l_capnp_12; }
-    r5_23 = (u64)(r33_1 >> 32ull);
-    if (!((r33_1 & 1ull) == 0ull)) goto l_arm_53;
-    r4_23 = (u64)(r33_1 >> 48ull);
-    r1_19 = (r5_23 & 65535ull);
-    r14_41 = (r1_19 + r4_23);
+    r183_1 = (u64)(r6_35 >> 3ull);
+    r33_3 = ld64(r4_20);
+    if (!((r33_3 & 2ull) == 0ull)) { t47 = 1u; r0_37 = 0u; r0_38 = 0u; r0_39 = 0u; r0_40 = 0ull; goto l_capnp_11; }
+    if (r33_3 == 0ull) { t47 = 1u; r0_37 = 1u; r0_38 = 0u; r0_39 = 0u; r0_40 = 0ull; goto l_capnp_11; }
+    r5_25 = (u64)(r33_3 >> 32ull);
+    if (!((r33_3 & 1ull) == 0ull)) goto l_arm_57;
+    r4_22 = (u64)(r33_3 >> 48ull);
+    r1_19 = (r5_25 & 65535ull);
+    r14_43 = (r1_19 + r4_22);
     st64(r7_29, 1ull);
-    r21_5 = ((u64)(r33_1 >> 2ull) & 0x3fffffffull);
+    r21_5 = ((u64)(r33_3 >> 2ull) & 0x3fffffffull);
     r1_20 = (r183_1 & 0xffffffffull);
-    if (!(r21_5 < 0x20000000ull)) goto l_else_1;
-    if (r21_5 < r1_20) { r8_17 = (r21_5 + 1ull); goto l_arm_54; }
-    t46 = 0u;
-    r0_36 = 0u;
-    r0_37 = 23u;
-    r0_38 = 0u;
-    r0_39 = 0ull;
-    goto l_capnp_12;
-l_else_1:;
-    if (r21_5 == 0x3fffffffull) { r8_17 = 0ull; goto l_arm_54; }
-    t46 = 0u;
-    r0_36 = 0u;
-    r0_37 = 23u;
-    r0_38 = 0u;
-    r0_39 = 0ull;
-    goto l_capnp_12;
-l_arm_54:;
-    if ((i32)r36_13 < (i32)1u) { t46 = 0u; r0_36 = 0u; r0_37 = 26u; r0_38 = 0u; r0_39 = 0ull; goto l_capnp_12; }
-    if (r1_20 < (r8_17 + r14_41)) { t46 = 0u; r0_36 = 0u; r0_37 = 23u; r0_38 = 0u; r0_39 = 0ull; goto l_capnp_12; }
-    if (!t29) goto l_arm_55;
-    if (r12_11 < r14_41) { t46 = 0u; r0_36 = 0u; r0_37 = 30u; r0_38 = 0u; r0_39 = 0ull; goto l_capnp_12; }
+    if (!(r21_5 < 0x20000000ull)) goto l_else_2;
+    if (r21_5 < r1_20) { r8_17 = (r21_5 + 1ull); goto l_arm_58; }
+    t47 = 0u;
+    r0_37 = 0u;
+    r0_38 = 23u;
+    r0_39 = 0u;
+    r0_40 = 0ull;
+    goto l_capnp_11;
+l_else_2:;
+    if (r21_5 == 0x3fffffffull) { r8_17 = 0ull; goto l_arm_58; }
+    t47 = 0u;
+    r0_37 = 0u;
+    r0_38 = 23u;
+    r0_39 = 0u;
+    r0_40 = 0ull;
+    goto l_capnp_11;
+l_arm_58:;
+    if ((i32)r12_13 < (i32)1u) { t47 = 0u; r0_37 = 0u; r0_38 = 26u; r0_39 = 0u; r0_40 = 0ull; goto l_capnp_11; }
+    if (r1_20 < (r8_17 + r14_43)) { t47 = 0u; r0_37 = 0u; r0_38 = 23u; r0_39 = 0u; r0_40 = 0ull; goto l_capnp_11; }
+    if (!t30) goto l_arm_59;
+    if (r12_16 < r14_43) { t47 = 0u; r0_37 = 0u; r0_38 = 30u; r0_39 = 0u; r0_40 = 0ull; goto l_capnp_11; }
     st64(slot_2, 1ull);
-    st64(r7_28, (r12_11 - r14_41));
-l_arm_55:;
-    r6_40 = (u32)r4_23;
-    r1_21 = ((u32)r5_23 & 65535u);
-    if (!((r1_21 | r6_40) == 0u)) goto l_join_32;
-    if (r8_17 == 0ull) { t46 = 1u; r0_36 = 1u; r0_37 = 0u; r0_38 = 0u; r0_39 = 0ull; goto l_capnp_12; }
+    st64(r7_28, (r12_16 - r14_43));
+l_arm_59:;
+    r6_38 = (u32)r4_22;
+    r1_21 = ((u32)r5_25 & 65535u);
+    if (!((r1_21 | r6_38) == 0u)) goto l_join_31;
+    if (r8_17 == 0ull) { t47 = 1u; r0_37 = 1u; r0_38 = 0u; r0_39 = 0u; r0_40 = 0ull; goto l_capnp_11; }
     memset(r7_30, 0u, 20);
     st8((slot_2 + 44), 5u);
-    goto l_arm_56;
-l_join_32:;
-    if (r8_17 == 1ull) goto l_join_33;
+    goto l_arm_60;
+l_join_31:;
+    if (r8_17 == 1ull) goto l_join_32;
     memset(r7_30, 0u, 20);
     st8((slot_2 + 44), 6u);
-    goto l_arm_56;
+    goto l_arm_60;
+l_join_32:;
+    r33_4 = (r1_21 + 1u);
+    r36_2 = (r33_4 + r6_38);
+    r3_17 = (r4_22 == 0ull);
+    if (!r3_17) goto l_join_33;
+    struct s_i8_i32 t35 = (struct s_i8_i32){ 0u, 0u };
+    t35.f1 = r36_2;
+    r13_16 = t35;
+    goto l_capnp_12;
 l_join_33:;
-    r33_2 = (r1_21 + 1u);
-    r36_19 = (r33_2 + r6_40);
-    r3_17 = (r4_23 == 0ull);
-    if (!r3_17) goto l_join_34;
-    struct s_i8_i32 t34 = (struct s_i8_i32){ 0u, 0u };
-    t34.f1 = r36_19;
-    r13_11 = t34;
-    goto l_capnp_13;
-l_join_34:;
-    struct s_i8_i32 r9_24 = capnp_pointers_pointers_canonical_test_children_701703_62c5c8fc(slot_3, r33_2, r6_40, (r36_13 + 0xffffffffu), r36_19, slot_2);
-    r13_11 = r9_24;
-l_capnp_13:;
-    if (!(r13_11.f0 == 0u)) { r78_5 = 1u; goto l_arm_57; }
-    if (r1_21 == 0u) goto l_join_35;
-    if (!(r183_1 > r1_19)) goto l_then_8;
-    if (!(ld64((r4_21 + (i64)((u64)(r1_19 << 3ull)))) == 0ull)) goto l_join_35;
-l_then_8:;
+    struct s_i8_i32 r9_30 = capnp_pointers_pointers_canonical_test_children_701703_62c5c8fc(slot_3, r33_4, r6_38, (r12_13 + 0xffffffffu), r36_2, slot_2);
+    r13_16 = r9_30;
+l_capnp_12:;
+    if (!(r13_16.f0 == 0u)) { r78_5 = 1u; goto l_arm_61; }
+    if (r1_21 == 0u) goto l_join_34;
+    if (!(r183_1 > r1_19)) goto l_then_9;
+    if (!(ld64((r4_20 + (i64)((u64)(r1_19 << 3ull)))) == 0ull)) goto l_join_34;
+l_then_9:;
     memset(r7_30, 0u, 16);
     st32(r7_33, r1_21);
     st8((slot_2 + 44), 8u);
-    goto l_arm_56;
-l_join_35:;
-    if (r3_17) { t46 = 1u; r0_36 = 1u; r0_37 = 0u; r0_38 = 0u; r0_39 = 0ull; goto l_capnp_12; }
-    r19_9 = (r1_21 + r6_40);
-    r13_12 = (u64)r19_9;
-    if (!(r183_1 > r13_12)) goto l_then_9;
-    if (!(ld64((r4_21 + (i64)((u64)(r13_12 << 3ull)))) == 0ull)) { t46 = 1u; r0_36 = 1u; r0_37 = 0u; r0_38 = 0u; r0_39 = 0ull; goto l_capnp_12; }
-l_then_9:;
+    goto l_arm_60;
+l_join_34:;
+    if (r3_17) { t47 = 1u; r0_37 = 1u; r0_38 = 0u; r0_39 = 0u; r0_40 = 0ull; goto l_capnp_11; }
+    r19_9 = (r1_21 + r6_38);
+    r13_17 = (u64)r19_9;
+    if (!(r183_1 > r13_17)) goto l_then_10;
+    if (!(ld64((r4_20 + (i64)((u64)(r13_17 << 3ull)))) == 0ull)) { t47 = 1u; r0_37 = 1u; r0_38 = 0u; r0_39 = 0u; r0_40 = 0ull; goto l_capnp_11; }
+l_then_10:;
     memset(r7_30, 0u, 16);
     st32(r7_33, r19_9);
     st8((slot_2 + 44), 9u);
-    goto l_arm_56;
-l_arm_53:;
-    if (!((u8)((u8)((u8)r5_23 & 7u) + 255u) < 5u)) goto l_capnp_14;
-    r4_24 = (u64)(r33_1 >> 35ull);
-    r191_1 = (u64)(((ld64(away(away(((u8 *)switch_table_main_17), 8 * (r5_23 & 7ull)), 0xfffffffffffffff8ull)) * r4_24) + 63ull) >> 6ull);
-    r21_8 = ((u64)(r33_1 >> 2ull) & 0x3fffffffull);
+    goto l_arm_60;
+l_arm_57:;
+    if (!((u8)((u8)((u8)r5_25 & 7u) + 255u) < 5u)) goto l_capnp_13;
+    r4_23 = (u64)(r33_3 >> 35ull);
+    r191_1 = (u64)(((ld64(away(away(((u8 *)switch_table_main_17), 8 * (r5_25 & 7ull)), 0xfffffffffffffff8ull)) * r4_23) + 63ull) >> 6ull);
+    r21_8 = ((u64)(r33_3 >> 2ull) & 0x3fffffffull);
     r1_22 = (r183_1 & 0xffffffffull);
-    if (!(r21_8 < 0x20000000ull)) goto l_else_2;
-    if (r21_8 < r1_22) { r8_19 = (r21_8 + 1ull); goto l_arm_58; }
-    t46 = 0u;
-    r0_36 = 0u;
-    r0_37 = 23u;
-    r0_38 = 0u;
-    r0_39 = 0ull;
-    goto l_capnp_12;
-l_else_2:;
-    if (r21_8 == 0x3fffffffull) { r8_19 = 0ull; goto l_arm_58; }
-    t46 = 0u;
-    r0_36 = 0u;
-    r0_37 = 23u;
-    r0_38 = 0u;
-    r0_39 = 0ull;
-    goto l_capnp_12;
-l_arm_58:;
-    if ((i32)r36_13 < (i32)1u) { t46 = 0u; r0_36 = 0u; r0_37 = 28u; r0_38 = 0u; r0_39 = 0ull; goto l_capnp_12; }
-    if (r1_22 < (r8_19 + r191_1)) { t46 = 0u; r0_36 = 0u; r0_37 = 23u; r0_38 = 0u; r0_39 = 0ull; goto l_capnp_12; }
-    if (t29 ? (r12_11 < r191_1) : 0u) { t46 = 0u; r0_36 = 0u; r0_37 = 30u; r0_38 = 0u; r0_39 = 0ull; goto l_capnp_12; }
-    if (r8_19 == 1ull) goto l_join_36;
+    if (!(r21_8 < 0x20000000ull)) goto l_else_3;
+    if (r21_8 < r1_22) { r8_19 = (r21_8 + 1ull); goto l_arm_62; }
+    t47 = 0u;
+    r0_37 = 0u;
+    r0_38 = 23u;
+    r0_39 = 0u;
+    r0_40 = 0ull;
+    goto l_capnp_11;
+l_else_3:;
+    if (r21_8 == 0x3fffffffull) { r8_19 = 0ull; goto l_arm_62; }
+    t47 = 0u;
+    r0_37 = 0u;
+    r0_38 = 23u;
+    r0_39 = 0u;
+    r0_40 = 0ull;
+    goto l_capnp_11;
+l_arm_62:;
+    if ((i32)r12_13 < (i32)1u) { t47 = 0u; r0_37 = 0u; r0_38 = 28u; r0_39 = 0u; r0_40 = 0ull; goto l_capnp_11; }
+    if (r1_22 < (r8_19 + r191_1)) { t47 = 0u; r0_37 = 0u; r0_38 = 23u; r0_39 = 0u; r0_40 = 0ull; goto l_capnp_11; }
+    if (t30 ? (r12_16 < r191_1) : 0u) { t47 = 0u; r0_37 = 0u; r0_38 = 30u; r0_39 = 0u; r0_40 = 0ull; goto l_capnp_11; }
+    if (r8_19 == 1ull) goto l_join_35;
     memset(r7_30, 0u, 20);
     st8((slot_2 + 44), 6u);
-    goto l_arm_56;
-l_join_36:;
-    u64 r20_17 = (ld64(away(away(((u8 *)switch_table_main_17), 8 * (r5_23 & 7ull)), 0xfffffffffffffff8ull)) * r4_24);
-    r26_7 = ((u32)(u64)(r20_17 >> 6ull) + 1u);
-    r28_4 = (r20_17 & 63ull);
-    if (r28_4 == 0ull) { t46 = 1u; r0_36 = 1u; r0_37 = 0u; r0_38 = 0u; r0_39 = 0ull; goto l_capnp_12; }
-    if (any8(v8_of((u64)(ld64((r4_21 + (i64)((u64)((u64)r26_7 << 3ull)))) >> (r28_4 & 63u)))) == 0u) { t46 = 1u; r0_36 = 1u; r0_37 = 0u; r0_38 = 0u; r0_39 = 0ull; goto l_capnp_12; }
+    goto l_arm_60;
+l_join_35:;
+    u64 r20_18 = (ld64(away(away(((u8 *)switch_table_main_17), 8 * (r5_25 & 7ull)), 0xfffffffffffffff8ull)) * r4_23);
+    r26_7 = ((u32)(u64)(r20_18 >> 6ull) + 1u);
+    r28_4 = (r20_18 & 63ull);
+    if (r28_4 == 0ull) { t47 = 1u; r0_37 = 1u; r0_38 = 0u; r0_39 = 0u; r0_40 = 0ull; goto l_capnp_11; }
+    if (any8(v8_of((u64)(ld64((r4_20 + (i64)((u64)((u64)r26_7 << 3ull)))) >> (r28_4 & 63u)))) == 0u) { t47 = 1u; r0_37 = 1u; r0_38 = 0u; r0_39 = 0u; r0_40 = 0ull; goto l_capnp_11; }
     memset(r7_30, 0u, 16);
     st32(r7_33, r26_7);
     st8((slot_2 + 44), 7u);
-    goto l_arm_56;
-l_capnp_14:;
-    struct s_i8_i32 r95_2 = capnp_pointers_pointers_canonical_test_list_70170357b7303457(slot_3, 0u, r33_1, r36_13, 1u, slot_2);
-    u8 t41 = r95_2.f0;
-    if (t41 == 0u) { t46 = 1u; r0_36 = 1u; r0_37 = 0u; r0_38 = 0u; r0_39 = 0ull; goto l_capnp_12; }
-    r78_5 = t41;
-    goto l_arm_57;
-l_arm_56:;
+    goto l_arm_60;
+l_capnp_13:;
+    struct s_i8_i32 r95_3 = capnp_pointers_pointers_canonical_test_list_70170357b7303457(slot_3, 0u, r33_3, r12_13, 1u, slot_2);
+    u8 t42 = r95_3.f0;
+    if (t42 == 0u) { t47 = 1u; r0_37 = 1u; r0_38 = 0u; r0_39 = 0u; r0_40 = 0ull; goto l_capnp_11; }
+    r78_5 = t42;
+    goto l_arm_61;
+l_arm_60:;
     memset((slot_2 + 45), 0u, 3);
     r78_5 = 1u;
-l_arm_57:;
-    if (ld8(r7_30) == 0u) goto l_arm_59;
-    t46 = 0u;
-    r0_36 = 0u;
-    r0_37 = (u8)ld32(r7_31);
-    r0_38 = ld32(r7_32);
-    r0_39 = ld64(r7_33);
-    goto l_capnp_12;
-l_arm_59:;
-    t46 = 1u;
-    r0_36 = (r78_5 != 1u);
-    r0_37 = 0u;
-    r0_38 = 0u;
-    r0_39 = 0ull;
-l_capnp_12:;
-    r33_6 = ldp(slot_4);
-    r33_7 = ld64(r20_12);
-    r33_8 = ld64(r20_13);
-    if (r33_7 == 0ull) goto l_std_18;
-    r0_40 = 0ull;
-l_join_37:;
-    r9_26 = (r33_6 + (i64)((r0_40 * 24ull)));
-    if (ld64((r9_26 + 16)) == 0ull) goto l_core_14;
-    rattle_dealloc(ldp(r9_26));
-l_core_14:;
-    u64 r12_13 = (r0_40 + 1ull);
-    if (!(r12_13 == r33_7)) { r0_40 = r12_13; goto l_join_37; }
-l_std_18:;
-    if (r33_8 == 0ull) goto l_capnp_15;
-    rattle_dealloc(r33_6);
-    goto l_capnp_15;
-l_arm_51:;
-    r0_41 = 0ull;
-l_join_38:;
-    r9_27 = (r0_23 + (i64)((r0_41 * 24ull)));
-    if (ld64((r9_27 + 16)) == 0ull) goto l_core_15;
-    rattle_dealloc(ldp(r9_27));
-l_core_15:;
-    u64 r12_14 = (r0_41 + 1ull);
-    if (r12_14 == r0_24) { r80_2 = r0_31; goto l_std_17; }
-    r0_41 = r12_14;
-    goto l_join_38;
-l_std_17:;
-    if (r0_25 == 0ull) { r0_32 = r80_2; r0_33 = 0ull; goto l_capnp_10; }
-    r0_34 = r80_2;
-    r0_35 = 0ull;
-l_capnp_11:;
-    rattle_dealloc(r0_23);
-    r0_32 = r0_34;
-    r0_33 = r0_35;
-l_capnp_10:;
-    r11_18 = r0_32;
-    r0_42 = r0_33;
-    r0_43 = 0u;
-    goto l_arm_60;
-l_capnp_15:;
-    if (!t46) { r11_18 = r0_37; r0_42 = r0_39; r0_43 = r0_38; goto l_arm_60; }
-    if (!r0_36) goto l_else_3;
-    r50_1 = (slot_2 + 8);
-    r3_18 = ((u8 *)g_static_15);
-    r3_19 = 10ull;
-l_join_41:;
-    memset(slot_2, 0u, 96);
-    r2_50 = ld64(r14_22);
-    if (!(r3_19 < (ld64(r14_23) - r2_50))) goto l_std_19;
-    r38_1 = (r2_50 + r3_19);
-    r12_15 = away(ldp(r14_21), r2_50);
-    if (((u64)(uptr)r12_15 - (u64)(uptr)r3_18) < r3_19) { r0_44 = 0ull; goto l_join_39; }
-    memcpy_or_none(r12_15, r3_18, r3_19);
-    goto l_arm_61;
-l_join_39:;
-    st8((r12_15 + (i64)(r0_44)), ld8((r3_18 + (i64)(r0_44))));
-    u64 r30_15 = (r0_44 + 1ull);
-    if (!(r30_15 == r3_19)) { r0_44 = r30_15; goto l_join_39; }
 l_arm_61:;
-    st64(r14_22, r38_1);
-    r6_44 = r3_19;
-    goto l_arm_62;
+    if (ld8(r7_30) == 0u) goto l_arm_63;
+    t47 = 0u;
+    r0_37 = 0u;
+    r0_38 = (u8)ld32(r7_31);
+    r0_39 = ld32(r7_32);
+    r0_40 = ld64(r7_33);
+    goto l_capnp_11;
+l_arm_63:;
+    t47 = 1u;
+    r0_37 = (r78_5 != 1u);
+    r0_38 = 0u;
+    r0_39 = 0u;
+    r0_40 = 0ull;
+l_capnp_11:;
+    r33_8 = ldp(slot_4);
+    r33_9 = ld64(r20_13);
+    r33_10 = ld64(r20_14);
+    if (r33_9 == 0ull) goto l_std_19;
+    r0_41 = 0ull;
+l_join_36:;
+    r9_32 = (r33_8 + (i64)((r0_41 * 24ull)));
+    if (ld64((r9_32 + 16)) == 0ull) goto l_core_15;
+    rattle_dealloc(ldp(r9_32));
+l_core_15:;
+    u64 r12_18 = (r0_41 + 1ull);
+    if (!(r12_18 == r33_9)) { r0_41 = r12_18; goto l_join_36; }
 l_std_19:;
+    if (r33_10 == 0ull) goto l_capnp_14;
+    rattle_dealloc(r33_8);
+    goto l_capnp_14;
+l_arm_55:;
+    r0_42 = 0ull;
+l_join_37:;
+    r9_33 = (r0_24 + (i64)((r0_42 * 24ull)));
+    if (ld64((r9_33 + 16)) == 0ull) goto l_core_16;
+    rattle_dealloc(ldp(r9_33));
+l_core_16:;
+    u64 r12_19 = (r0_42 + 1ull);
+    if (r12_19 == r0_25) { r80_2 = r0_32; goto l_std_18; }
+    r0_42 = r12_19;
+    goto l_join_37;
+l_std_18:;
+    if (r0_26 == 0ull) { r0_33 = r80_2; r0_34 = 0ull; goto l_capnp_9; }
+    r0_35 = r80_2;
+    r0_36 = 0ull;
+l_capnp_10:;
+    rattle_dealloc(r0_24);
+    r0_33 = r0_35;
+    r0_34 = r0_36;
+l_capnp_9:;
+    r11_19 = r0_33;
+    r0_43 = r0_34;
+    r0_44 = 0u;
+    goto l_arm_64;
+l_capnp_14:;
+    if (!t47) { r11_19 = r0_38; r0_43 = r0_40; r0_44 = r0_39; goto l_arm_64; }
+    if (!r0_37) goto l_else_4;
+    r50_1 = (slot_2 + 8);
+    r3_18 = ((u8 *)g_static_21);
+    r3_19 = 10ull;
+l_join_40:;
+    memset(slot_2, 0u, 96);
+    r2_50 = ld64(r14_24);
+    if (!(r3_19 < (ld64(r14_25) - r2_50))) goto l_std_20;
+    r38_1 = (r2_50 + r3_19);
+    r12_20 = away(ldp(r14_23), r2_50);
+    if (((u64)(uptr)r12_20 - (u64)(uptr)r3_18) < r3_19) { r0_45 = 0ull; goto l_join_38; }
+    memcpy_or_none(r12_20, r3_18, r3_19);
+    goto l_arm_65;
+l_join_38:;
+    st8((r12_20 + (i64)(r0_45)), ld8((r3_18 + (i64)(r0_45))));
+    u64 r30_15 = (r0_45 + 1ull);
+    if (!(r30_15 == r3_19)) { r0_45 = r30_15; goto l_join_38; }
+l_arm_65:;
+    st64(r14_24, r38_1);
+    r6_42 = r3_19;
+    goto l_arm_66;
+l_std_20:;
     std_io_buffered_BufWriter_write_cold_89ca6214804c96d4(slot_2, slot_17, r3_18, r3_19);
-    u64 r4_25 = ld64(r50_1);
-    if ((ld8(slot_2) != 0u) ? 1u : (r4_25 == 0ull)) goto l_join_40;
-    r6_44 = r4_25;
-l_arm_62:;
-    u64 r55_5 = (r3_19 - r6_44);
-    if (r55_5 == 0ull) { r13_14 = 0u; goto l_capnp_16; }
-    u8 *r3_20 = away(r3_18, r6_44);
+    u64 r4_24 = ld64(r50_1);
+    if ((ld8(slot_2) != 0u) ? 1u : (r4_24 == 0ull)) goto l_join_39;
+    r6_42 = r4_24;
+l_arm_66:;
+    u64 r55_5 = (r3_19 - r6_42);
+    if (r55_5 == 0ull) { r13_19 = 0u; goto l_capnp_15; }
+    u8 *r3_20 = away(r3_18, r6_42);
     u64 r3_21 = r55_5;
     r3_18 = r3_20;
     r3_19 = r3_21;
-    goto l_join_41;
-l_else_3:;
+    goto l_join_40;
+l_else_4:;
     r50_2 = (slot_2 + 8);
-    r3_22 = ((u8 *)g_static_16);
+    r3_22 = ((u8 *)g_static_22);
     r3_23 = 14ull;
-l_join_43:;
-    memset(slot_2, 0u, 96);
-    r2_52 = ld64(r14_22);
-    if (!(r3_23 < (ld64(r14_23) - r2_52))) goto l_std_20;
-    r38_2 = (r2_52 + r3_23);
-    r12_16 = away(ldp(r14_21), r2_52);
-    if (((u64)(uptr)r12_16 - (u64)(uptr)r3_22) < r3_23) { r0_45 = 0ull; goto l_join_42; }
-    memcpy_or_none(r12_16, r3_22, r3_23);
-    goto l_arm_63;
 l_join_42:;
-    st8((r12_16 + (i64)(r0_45)), ld8((r3_22 + (i64)(r0_45))));
-    u64 r30_16 = (r0_45 + 1ull);
-    if (!(r30_16 == r3_23)) { r0_45 = r30_16; goto l_join_42; }
-l_arm_63:;
-    st64(r14_22, r38_2);
-    r6_45 = r3_23;
-    goto l_arm_64;
-l_std_20:;
+    memset(slot_2, 0u, 96);
+    r2_52 = ld64(r14_24);
+    if (!(r3_23 < (ld64(r14_25) - r2_52))) goto l_std_21;
+    r38_2 = (r2_52 + r3_23);
+    r12_21 = away(ldp(r14_23), r2_52);
+    if (((u64)(uptr)r12_21 - (u64)(uptr)r3_22) < r3_23) { r0_46 = 0ull; goto l_join_41; }
+    memcpy_or_none(r12_21, r3_22, r3_23);
+    goto l_arm_67;
+l_join_41:;
+    st8((r12_21 + (i64)(r0_46)), ld8((r3_22 + (i64)(r0_46))));
+    u64 r30_16 = (r0_46 + 1ull);
+    if (!(r30_16 == r3_23)) { r0_46 = r30_16; goto l_join_41; }
+l_arm_67:;
+    st64(r14_24, r38_2);
+    r6_43 = r3_23;
+    goto l_arm_68;
+l_std_21:;
     std_io_buffered_BufWriter_write_cold_89ca6214804c96d4(slot_2, slot_17, r3_22, r3_23);
-    u64 r4_26 = ld64(r50_2);
-    if ((ld8(slot_2) != 0u) ? 1u : (r4_26 == 0ull)) goto l_join_40;
-    r6_45 = r4_26;
-l_arm_64:;
-    u64 r55_6 = (r3_23 - r6_45);
-    if (r55_6 == 0ull) { r13_14 = 0u; goto l_capnp_16; }
-    u8 *r3_24 = away(r3_22, r6_45);
+    u64 r4_25 = ld64(r50_2);
+    if ((ld8(slot_2) != 0u) ? 1u : (r4_25 == 0ull)) goto l_join_39;
+    r6_43 = r4_25;
+l_arm_68:;
+    u64 r55_6 = (r3_23 - r6_43);
+    if (r55_6 == 0ull) { r13_19 = 0u; goto l_capnp_15; }
+    u8 *r3_24 = away(r3_22, r6_43);
     u64 r3_25 = r55_6;
     r3_22 = r3_24;
     r3_23 = r3_25;
-    goto l_join_43;
-l_join_40:;
-    st8(r14_24, 1u);
-    r13_14 = 3u;
-    goto l_capnp_16;
-l_arm_60:;
+    goto l_join_42;
+l_join_39:;
+    st8(r14_26, 1u);
+    r13_19 = 3u;
+    goto l_capnp_15;
+l_arm_64:;
     st64(slot_5, 0ull);
-    st32((slot_5 + 8), (u32)r11_18);
-    st32((slot_5 + 12), r0_43);
-    st64((slot_5 + 16), r0_42);
+    st32((slot_5 + 8), (u32)r11_19);
+    st32((slot_5 + 12), r0_44);
+    st64((slot_5 + 16), r0_43);
     u8 r46_3 = capnp_layout_tool_engine_refuse_05c50f83f81b9c23(slot_17, slot_5);
-    r13_14 = r46_3;
-l_capnp_16:;
-    st8(slot_10, r13_14);
+    r13_19 = r46_3;
+l_capnp_15:;
+    st8(slot_10, r13_19);
     stp((slot_10 + 8), slot_1);
     memset((slot_10 + 16), 0u, 16);
-    goto l_capnp_9;
-l_arm_44:;
+    goto l_capnp_8;
+l_arm_48:;
     memset(slot_5, 0u, 24);
-    if (r0_24 < 0x100000000ull) { r4_27 = r0_23; r23_12 = r0_24; goto l_loop_7; }
-l_join_45:;
-    r0_46 = 0ull;
-    goto l_join_44;
+    if (r0_25 < 0x100000000ull) { r4_26 = r0_24; r23_13 = r0_25; goto l_loop_7; }
+l_join_44:;
+    r0_47 = 0ull;
+    goto l_join_43;
 l_loop_7:;
-    if (r23_12 == 0ull) goto l_arm_65;
-    if (ld64(away(r4_27, 8ull)) < 0x800000000ull) { u8 *r4_28 = away(r4_27, 24ull); u64 r23_14 = (r23_12 + 0xffffffffffffffffull); r4_27 = r4_28; r23_12 = r23_14; goto l_loop_7; }
-    goto l_join_45;
-l_arm_65:;
-    t49 = (slot_4 + 56);
-    st64(t49, 0ull);
-    if (r0_24 == 0ull) { r80_3 = 12u; goto l_std_21; }
-    r10_15 = 0ull;
-    r11_21 = 0ull;
-l_arm_66:;
-    r44_3 = ((u64)(ld64(away(away(r0_23, (r11_21 * 24ull)), 8ull)) >> 3ull) + r10_15);
-    u64 r46_4 = (r11_21 + 1ull);
-    if (!(r46_4 == r0_24)) { r10_15 = r44_3; r11_21 = r46_4; goto l_arm_66; }
-    stp(slot_3, r0_23);
-    r14_47 = (slot_3 + 8);
-    st64(r14_47, r0_24);
-    r14_48 = (slot_3 + 16);
-    st64(r14_48, r0_25);
-    st32((slot_3 + 24), r36_13);
+    if (r23_13 == 0ull) goto l_arm_69;
+    if (ld64(away(r4_26, 8ull)) < 0x800000000ull) { u8 *r4_27 = away(r4_26, 24ull); u64 r23_15 = (r23_13 + 0xffffffffffffffffull); r4_26 = r4_27; r23_13 = r23_15; goto l_loop_7; }
+    goto l_join_44;
+l_arm_69:;
+    t50 = (slot_4 + 56);
+    st64(t50, 0ull);
+    if (r0_25 == 0ull) { r80_3 = 12u; goto l_std_22; }
+    r10_19 = 0ull;
+    r11_22 = 0ull;
+l_arm_70:;
+    r44_3 = ((u64)(ld64(away(away(r0_24, (r11_22 * 24ull)), 8ull)) >> 3ull) + r10_19);
+    u64 r46_4 = (r11_22 + 1ull);
+    if (!(r46_4 == r0_25)) { r10_19 = r44_3; r11_22 = r46_4; goto l_arm_70; }
+    stp(slot_3, r0_24);
+    r14_49 = (slot_3 + 8);
+    st64(r14_49, r0_25);
+    r14_50 = (slot_3 + 16);
+    st64(r14_50, r0_26);
+    st32((slot_3 + 24), r12_13);
     st32((slot_3 + 28), 0u);
     st64((slot_3 + 32), r44_3);
-    r6_47 = ld64(away(r0_23, 8ull));
-    if (r6_47 < 8ull) { r0_47 = 23u; goto l_arm_67; }
-    if (!(r36_15 == 1u)) { r10_16 = r36_14; goto l_arm_68; }
-    if (r36_14 == 0ull) { r0_47 = 30u; goto l_arm_67; }
-    r10_16 = (r36_14 + 0xffffffffffffffffull);
-l_arm_68:;
-    u8 *r4_29 = ldp(r0_23);
+    r6_45 = ld64(away(r0_24, 8ull));
+    if (r6_45 < 8ull) { r0_48 = 23u; goto l_arm_71; }
+    if (!(r12_11 == 1u)) { r10_20 = r12_12; goto l_arm_72; }
+    if (r12_12 == 0ull) { r0_48 = 30u; goto l_arm_71; }
+    r10_20 = (r12_12 + 0xffffffffffffffffull);
+l_arm_72:;
+    u8 *r4_28 = ldp(r0_24);
     st64(slot_4, 0ull);
     st64((slot_4 + 8), (u64)(uptr)slot_3);
     memset((slot_4 + 16), 0u, 16);
-    stp((slot_4 + 32), r4_29);
-    st64((slot_4 + 40), (r6_47 & 0xfffffffffffffff8ull));
+    stp((slot_4 + 32), r4_28);
+    st64((slot_4 + 40), (r6_45 & 0xfffffffffffffff8ull));
     st32((slot_4 + 48), 0u);
     st32((slot_4 + 52), 0u);
-    st32(t49, r36_13);
+    st32(t50, r12_13);
     r2_56 = (slot_2 + 16);
     memset(slot_2, 0u, 16);
     st32(r2_56, 30u);
@@ -11670,534 +11576,534 @@ l_arm_68:;
     st32(r2_57, 0u);
     r2_58 = (slot_2 + 24);
     st64(r2_58, 0ull);
-    st64((slot_2 + 32), r42_1);
-    st64((slot_2 + 40), r10_16);
+    st64((slot_2 + 32), r145_2);
+    st64((slot_2 + 40), r10_20);
     st64((slot_2 + 48), 0ull);
-    u8 r22_9 = capnp_pointers_pointers_sizes_add_object_70170357b7303457(slot_4, 0u, r36_13, slot_2);
+    u8 r22_9 = capnp_pointers_pointers_sizes_add_object_70170357b7303457(slot_4, 0u, r12_13, slot_2);
     trunc_1 = (u8)(r22_9 & 1);
-    if (trunc_1) goto l_arm_69;
+    if (trunc_1) goto l_arm_73;
     r8_22 = ld32(slot_2);
     r8_23 = ld32((slot_2 + 4));
     r8_24 = ld64((slot_2 + 8));
-    goto l_capnp_17;
-l_arm_69:;
+    goto l_capnp_16;
+l_arm_73:;
     r8_22 = (u32)ld8(r2_56);
     r8_23 = ld32(r2_57);
     r8_24 = ld64(r2_58);
-l_capnp_17:;
+l_capnp_16:;
     r26_12 = ldp(slot_3);
-    r26_13 = ld64(r14_47);
-    r26_14 = ld64(r14_48);
-    if (r26_13 == 0ull) goto l_std_22;
-    r0_48 = 0ull;
-l_join_46:;
-    r9_31 = (r26_12 + (i64)((r0_48 * 24ull)));
-    if (ld64((r9_31 + 16)) == 0ull) goto l_core_16;
-    rattle_dealloc(ldp(r9_31));
-l_core_16:;
-    u64 r12_19 = (r0_48 + 1ull);
-    if (!(r12_19 == r26_13)) { r0_48 = r12_19; goto l_join_46; }
-l_std_22:;
-    if (r26_14 == 0ull) goto l_capnp_18;
-    rattle_dealloc(r26_12);
-    goto l_capnp_18;
-l_arm_67:;
+    r26_13 = ld64(r14_49);
+    r26_14 = ld64(r14_50);
+    if (r26_13 == 0ull) goto l_std_23;
     r0_49 = 0ull;
-l_join_47:;
-    r9_32 = (r0_23 + (i64)((r0_49 * 24ull)));
-    if (ld64((r9_32 + 16)) == 0ull) goto l_core_17;
-    rattle_dealloc(ldp(r9_32));
+l_join_45:;
+    r9_37 = (r26_12 + (i64)((r0_49 * 24ull)));
+    if (ld64((r9_37 + 16)) == 0ull) goto l_core_17;
+    rattle_dealloc(ldp(r9_37));
 l_core_17:;
-    u64 r12_20 = (r0_49 + 1ull);
-    if (r12_20 == r0_24) { r80_3 = r0_47; goto l_std_21; }
-    r0_49 = r12_20;
-    goto l_join_47;
-l_std_21:;
-    if (r0_25 == 0ull) goto l_capnp_19;
-    rattle_dealloc(r0_23);
-    goto l_capnp_19;
-l_join_44:;
-    r9_33 = (r0_23 + (i64)((r0_46 * 24ull)));
-    if (ld64((r9_33 + 16)) == 0ull) goto l_core_18;
-    rattle_dealloc(ldp(r9_33));
-l_core_18:;
-    u64 r12_21 = (r0_46 + 1ull);
-    if (!(r12_21 == r0_24)) { r0_46 = r12_21; goto l_join_44; }
-    if (r0_25 == 0ull) { r11_22 = 27u; r8_25 = 0xffffffffffffffffull; r8_26 = 0u; goto l_arm_70; }
-    rattle_dealloc(r0_23);
-    r11_22 = 27u;
-    r8_25 = 0xffffffffffffffffull;
-    r8_26 = 0u;
-    goto l_arm_70;
-l_capnp_19:;
-    r11_22 = r80_3;
-    r8_25 = 0ull;
-    r8_26 = 0u;
-    goto l_arm_70;
-l_capnp_18:;
-    if (trunc_1) { r11_22 = r8_22; r8_25 = r8_24; r8_26 = r8_23; goto l_arm_70; }
-    r11_26 = ((u64)((u64)r8_23 << 32ull) | (u64)r8_22);
-    r50_3 = (slot_2 + 8);
-    r3_26 = ((u8 *)g_static_20);
-    r3_27 = 6ull;
-l_join_49:;
-    memset(slot_2, 0u, 96);
-    r2_71 = ld64(r14_22);
-    if (!(r3_27 < (ld64(r14_23) - r2_71))) goto l_std_23;
-    r38_4 = (r2_71 + r3_27);
-    r12_22 = away(ldp(r14_21), r2_71);
-    if (((u64)(uptr)r12_22 - (u64)(uptr)r3_26) < r3_27) { r0_50 = 0ull; goto l_join_48; }
-    memcpy_or_none(r12_22, r3_26, r3_27);
-    goto l_arm_71;
-l_join_48:;
-    st8((r12_22 + (i64)(r0_50)), ld8((r3_26 + (i64)(r0_50))));
-    u64 r30_18 = (r0_50 + 1ull);
-    if (!(r30_18 == r3_27)) { r0_50 = r30_18; goto l_join_48; }
-l_arm_71:;
-    st64(r14_22, r38_4);
-    r6_51 = r3_27;
-    goto l_arm_72;
+    u64 r12_24 = (r0_49 + 1ull);
+    if (!(r12_24 == r26_13)) { r0_49 = r12_24; goto l_join_45; }
 l_std_23:;
-    std_io_buffered_BufWriter_write_cold_89ca6214804c96d4(slot_2, slot_17, r3_26, r3_27);
-    u64 r4_30 = ld64(r50_3);
-    if ((ld8(slot_2) != 0u) ? 1u : (r4_30 == 0ull)) goto l_arm_73;
-    r6_51 = r4_30;
-l_arm_72:;
-    u64 r55_7 = (r3_27 - r6_51);
-    if (!(r55_7 == 0ull)) { u8 *r3_28 = away(r3_26, r6_51); u64 r3_29 = r55_7; r3_26 = r3_28; r3_27 = r3_29; goto l_join_49; }
-    u8 r43_7 = capnp_messages_text_write_number_05c50f83f81b9c23(slot_17, r11_26);
-    if ((u8)(r43_7 & 1)) { r13_17 = 3u; goto l_capnp_20; }
-    goto l_arm_74;
-l_arm_73:;
-    st8(r14_24, 1u);
-    r13_17 = 3u;
-    goto l_capnp_20;
-l_arm_74:;
-    r50_4 = (slot_2 + 8);
-    r3_30 = ((u8 *)g_static_21);
-    r3_31 = 6ull;
-l_join_51:;
-    memset(slot_2, 0u, 96);
-    r2_73 = ld64(r14_22);
-    if (!(r3_31 < (ld64(r14_23) - r2_73))) goto l_std_24;
-    r38_5 = (r2_73 + r3_31);
-    r12_23 = away(ldp(r14_21), r2_73);
-    if (((u64)(uptr)r12_23 - (u64)(uptr)r3_30) < r3_31) { r0_51 = 0ull; goto l_join_50; }
-    memcpy_or_none(r12_23, r3_30, r3_31);
-    goto l_arm_75;
-l_join_50:;
-    st8((r12_23 + (i64)(r0_51)), ld8((r3_30 + (i64)(r0_51))));
-    u64 r30_19 = (r0_51 + 1ull);
-    if (!(r30_19 == r3_31)) { r0_51 = r30_19; goto l_join_50; }
-l_arm_75:;
-    st64(r14_22, r38_5);
-    r6_52 = r3_31;
-    goto l_arm_76;
-l_std_24:;
-    std_io_buffered_BufWriter_write_cold_89ca6214804c96d4(slot_2, slot_17, r3_30, r3_31);
-    u64 r4_31 = ld64(r50_4);
-    if ((ld8(slot_2) != 0u) ? 1u : (r4_31 == 0ull)) goto l_arm_77;
-    r6_52 = r4_31;
-l_arm_76:;
-    u64 r55_8 = (r3_31 - r6_52);
-    if (!(r55_8 == 0ull)) { u8 *r3_32 = away(r3_30, r6_52); u64 r3_33 = r55_8; r3_30 = r3_32; r3_31 = r3_33; goto l_join_51; }
-    u8 r69_3 = capnp_messages_text_write_number_05c50f83f81b9c23(slot_17, (r8_24 & 0xffffffffull));
-    if ((u8)(r69_3 & 1)) { r13_17 = 3u; goto l_capnp_20; }
-    goto l_arm_78;
-l_arm_77:;
-    st8(r14_24, 1u);
-    r13_17 = 3u;
-    goto l_capnp_20;
-l_arm_78:;
-    r50_5 = (slot_2 + 8);
-    r3_34 = ((u8 *)g_static_22);
-    r3_35 = 1ull;
-l_join_53:;
-    memset(slot_2, 0u, 96);
-    r2_75 = ld64(r14_22);
-    if (!(r3_35 < (ld64(r14_23) - r2_75))) goto l_std_25;
-    r38_6 = (r2_75 + r3_35);
-    r12_24 = away(ldp(r14_21), r2_75);
-    if (((u64)(uptr)r12_24 - (u64)(uptr)r3_34) < r3_35) { r0_52 = 0ull; goto l_join_52; }
-    memcpy_or_none(r12_24, r3_34, r3_35);
-    goto l_arm_79;
-l_join_52:;
-    st8((r12_24 + (i64)(r0_52)), ld8((r3_34 + (i64)(r0_52))));
-    u64 r30_20 = (r0_52 + 1ull);
-    if (!(r30_20 == r3_35)) { r0_52 = r30_20; goto l_join_52; }
-l_arm_79:;
-    st64(r14_22, r38_6);
-    r6_53 = r3_35;
-    goto l_arm_80;
-l_std_25:;
-    std_io_buffered_BufWriter_write_cold_89ca6214804c96d4(slot_2, slot_17, r3_34, r3_35);
-    u64 r4_32 = ld64(r50_5);
-    if ((ld8(slot_2) != 0u) ? 1u : (r4_32 == 0ull)) goto l_arm_81;
-    r6_53 = r4_32;
-l_arm_80:;
-    u64 r55_9 = (r3_35 - r6_53);
-    if (r55_9 == 0ull) { r13_17 = 0u; goto l_capnp_20; }
-    u8 *r3_36 = away(r3_34, r6_53);
-    u64 r3_37 = r55_9;
-    r3_34 = r3_36;
-    r3_35 = r3_37;
-    goto l_join_53;
-l_arm_81:;
-    st8(r14_24, 1u);
-    r13_17 = 3u;
-    goto l_capnp_20;
-l_arm_70:;
-    st64(slot_5, 0ull);
-    st32((slot_5 + 8), (r11_22 & 255u));
-    st32((slot_5 + 12), r8_26);
-    st64((slot_5 + 16), r8_25);
-    u8 r44_4 = capnp_layout_tool_engine_refuse_05c50f83f81b9c23(slot_17, slot_5);
-    r13_17 = r44_4;
-l_capnp_20:;
-    st8(slot_10, r13_17);
-    stp((slot_10 + 8), slot_1);
-    memset((slot_10 + 16), 0u, 16);
-    goto l_capnp_9;
-l_arm_45:;
-    if (r0_24 < 0x100000000ull) { r4_33 = r0_23; r23_18 = r0_24; goto l_loop_8; }
-    r4_34 = 0ull;
-    r4_35 = 27u;
-    r4_36 = 0xffffffffffffffffull;
-    goto l_arm_82;
-l_loop_8:;
-    if (r23_18 == 0ull) goto l_join_54;
-    if (ld64(away(r4_33, 8ull)) < 0x800000000ull) { u8 *r4_37 = away(r4_33, 24ull); u64 r23_20 = (r23_18 + 0xffffffffffffffffull); r4_33 = r4_37; r23_18 = r23_20; goto l_loop_8; }
-    r4_34 = 0ull;
-    r4_35 = 27u;
-    r4_36 = 0xffffffffffffffffull;
-    goto l_arm_82;
-l_join_54:;
-    if (r0_24 == 0ull) { r4_34 = 1ull; r4_35 = 0u; r4_36 = 0ull; goto l_arm_82; }
-    if (r0_24 > 512ull) { r4_34 = 1ull; r4_35 = 1u; r4_36 = r0_24; goto l_arm_82; }
-    r23_21 = (u32)r0_24;
-    u8 r28_6 = capnp_layout_tool_frames_write_number_05c50f83f81b9c23(slot_17, (r23_21 + 0xffffffffu));
-    if ((u8)(r28_6 & 1)) { r0_53 = 3u; goto l_capnp_21; }
-    indvars_1 = 0ull;
-    goto l_capnp_22;
-l_loop_9:;
-    u64 indvars_2 = (indvars_1 + 1ull);
-    if (indvars_2 == r0_24) goto l_arm_83;
-    indvars_1 = indvars_2;
-l_capnp_22:;
-    u8 r35_3 = capnp_layout_tool_frames_write_number_05c50f83f81b9c23(slot_17, (u32)(u64)(ld64(away(away(r0_23, (indvars_1 * 24ull)), 8ull)) >> 3ull));
-    if ((u8)(r35_3 & 1)) { r0_53 = 3u; goto l_capnp_21; }
-    goto l_loop_9;
-l_arm_83:;
-    if (!((r23_21 & 1u) == 0u)) goto l_join_55;
-    u8 r12_25 = capnp_layout_tool_frames_write_number_05c50f83f81b9c23(slot_17, 0u);
-    if ((u8)(r12_25 & 1)) { r0_53 = 3u; goto l_capnp_21; }
-l_join_55:;
-    indvars_3 = 0ull;
-    goto l_join_56;
-l_loop_10:;
-    u64 indvars_4 = (indvars_3 + 1ull);
-    if (indvars_4 == r0_24) goto l_arm_84;
-    indvars_3 = indvars_4;
-l_join_56:;
-    if (!(r0_24 > indvars_3)) { r3_38 = 0ull; r3_39 = ((u8 *)g_static_3); goto l_capnp_23; }
-    u8 *r19_13 = away(r0_23, (indvars_3 * 24ull));
-    r3_38 = ld64(away(r19_13, 8ull));
-    r3_39 = ldp(r19_13);
-l_capnp_23:;
-    u8 r28_7 = capnp_layout_tool_writing_write_digits_05c50f83f81b9c23(slot_17, r3_39, r3_38);
-    if ((u8)(r28_7 & 1)) { r0_53 = 3u; goto l_capnp_21; }
-    goto l_loop_10;
-l_arm_84:;
-    r50_6 = (slot_2 + 8);
-    r3_40 = ((u8 *)g_static_22);
-    r3_41 = 1ull;
-l_join_58:;
-    memset(slot_2, 0u, 96);
-    r2_79 = ld64(r14_22);
-    if (!(r3_41 < (ld64(r14_23) - r2_79))) goto l_std_26;
-    r38_7 = (r2_79 + r3_41);
-    r12_27 = away(ldp(r14_21), r2_79);
-    if (((u64)(uptr)r12_27 - (u64)(uptr)r3_40) < r3_41) { r0_54 = 0ull; goto l_join_57; }
-    memcpy_or_none(r12_27, r3_40, r3_41);
-    goto l_arm_85;
-l_join_57:;
-    st8((r12_27 + (i64)(r0_54)), ld8((r3_40 + (i64)(r0_54))));
-    u64 r30_21 = (r0_54 + 1ull);
-    if (!(r30_21 == r3_41)) { r0_54 = r30_21; goto l_join_57; }
-l_arm_85:;
-    st64(r14_22, r38_7);
-    r6_56 = r3_41;
-    goto l_arm_86;
-l_std_26:;
-    std_io_buffered_BufWriter_write_cold_89ca6214804c96d4(slot_2, slot_17, r3_40, r3_41);
-    u64 r4_39 = ld64(r50_6);
-    if ((ld8(slot_2) != 0u) ? 1u : (r4_39 == 0ull)) goto l_arm_87;
-    r6_56 = r4_39;
-l_arm_86:;
-    u64 r55_10 = (r3_41 - r6_56);
-    if (r55_10 == 0ull) { r0_53 = 0u; goto l_capnp_21; }
-    u8 *r3_42 = away(r3_40, r6_56);
-    u64 r3_43 = r55_10;
-    r3_40 = r3_42;
-    r3_41 = r3_43;
-    goto l_join_58;
-l_arm_87:;
-    st8(r14_24, 1u);
-    r0_53 = 3u;
-l_capnp_21:;
-    r0_55 = 0ull;
-l_join_59:;
-    r9_39 = (r0_23 + (i64)((r0_55 * 24ull)));
+    if (r26_14 == 0ull) goto l_capnp_17;
+    rattle_dealloc(r26_12);
+    goto l_capnp_17;
+l_arm_71:;
+    r0_50 = 0ull;
+l_join_46:;
+    r9_38 = (r0_24 + (i64)((r0_50 * 24ull)));
+    if (ld64((r9_38 + 16)) == 0ull) goto l_core_18;
+    rattle_dealloc(ldp(r9_38));
+l_core_18:;
+    u64 r12_25 = (r0_50 + 1ull);
+    if (r12_25 == r0_25) { r80_3 = r0_48; goto l_std_22; }
+    r0_50 = r12_25;
+    goto l_join_46;
+l_std_22:;
+    if (r0_26 == 0ull) goto l_capnp_18;
+    rattle_dealloc(r0_24);
+    goto l_capnp_18;
+l_join_43:;
+    r9_39 = (r0_24 + (i64)((r0_47 * 24ull)));
     if (ld64((r9_39 + 16)) == 0ull) goto l_core_19;
     rattle_dealloc(ldp(r9_39));
 l_core_19:;
-    u64 r12_28 = (r0_55 + 1ull);
-    if (!(r12_28 == r0_24)) { r0_55 = r12_28; goto l_join_59; }
-    if (r0_25 == 0ull) { r0_56 = r0_53; goto l_capnp_24; }
-    r0_57 = r0_53;
-    goto l_return_1;
+    u64 r12_26 = (r0_47 + 1ull);
+    if (!(r12_26 == r0_25)) { r0_47 = r12_26; goto l_join_43; }
+    if (r0_26 == 0ull) { r11_23 = 27u; r8_25 = 0xffffffffffffffffull; r8_26 = 0u; goto l_arm_74; }
+    rattle_dealloc(r0_24);
+    r11_23 = 27u;
+    r8_25 = 0xffffffffffffffffull;
+    r8_26 = 0u;
+    goto l_arm_74;
+l_capnp_18:;
+    r11_23 = r80_3;
+    r8_25 = 0ull;
+    r8_26 = 0u;
+    goto l_arm_74;
+l_capnp_17:;
+    if (trunc_1) { r11_23 = r8_22; r8_25 = r8_24; r8_26 = r8_23; goto l_arm_74; }
+    r11_27 = ((u64)((u64)r8_23 << 32ull) | (u64)r8_22);
+    r50_3 = (slot_2 + 8);
+    r3_26 = ((u8 *)g_static_26);
+    r3_27 = 6ull;
+l_join_48:;
+    memset(slot_2, 0u, 96);
+    r2_71 = ld64(r14_24);
+    if (!(r3_27 < (ld64(r14_25) - r2_71))) goto l_std_24;
+    r38_4 = (r2_71 + r3_27);
+    r12_27 = away(ldp(r14_23), r2_71);
+    if (((u64)(uptr)r12_27 - (u64)(uptr)r3_26) < r3_27) { r0_51 = 0ull; goto l_join_47; }
+    memcpy_or_none(r12_27, r3_26, r3_27);
+    goto l_arm_75;
+l_join_47:;
+    st8((r12_27 + (i64)(r0_51)), ld8((r3_26 + (i64)(r0_51))));
+    u64 r30_18 = (r0_51 + 1ull);
+    if (!(r30_18 == r3_27)) { r0_51 = r30_18; goto l_join_47; }
+l_arm_75:;
+    st64(r14_24, r38_4);
+    r6_49 = r3_27;
+    goto l_arm_76;
+l_std_24:;
+    std_io_buffered_BufWriter_write_cold_89ca6214804c96d4(slot_2, slot_17, r3_26, r3_27);
+    u64 r4_29 = ld64(r50_3);
+    if ((ld8(slot_2) != 0u) ? 1u : (r4_29 == 0ull)) goto l_arm_77;
+    r6_49 = r4_29;
+l_arm_76:;
+    u64 r55_7 = (r3_27 - r6_49);
+    if (!(r55_7 == 0ull)) { u8 *r3_28 = away(r3_26, r6_49); u64 r3_29 = r55_7; r3_26 = r3_28; r3_27 = r3_29; goto l_join_48; }
+    u8 r43_3 = capnp_messages_text_write_number_05c50f83f81b9c23(slot_17, r11_27);
+    if ((u8)(r43_3 & 1)) { r13_22 = 3u; goto l_capnp_19; }
+    goto l_arm_78;
+l_arm_77:;
+    st8(r14_26, 1u);
+    r13_22 = 3u;
+    goto l_capnp_19;
+l_arm_78:;
+    r50_4 = (slot_2 + 8);
+    r3_30 = ((u8 *)g_static_27);
+    r3_31 = 6ull;
+l_join_50:;
+    memset(slot_2, 0u, 96);
+    r2_73 = ld64(r14_24);
+    if (!(r3_31 < (ld64(r14_25) - r2_73))) goto l_std_25;
+    r38_5 = (r2_73 + r3_31);
+    r12_28 = away(ldp(r14_23), r2_73);
+    if (((u64)(uptr)r12_28 - (u64)(uptr)r3_30) < r3_31) { r0_52 = 0ull; goto l_join_49; }
+    memcpy_or_none(r12_28, r3_30, r3_31);
+    goto l_arm_79;
+l_join_49:;
+    st8((r12_28 + (i64)(r0_52)), ld8((r3_30 + (i64)(r0_52))));
+    u64 r30_19 = (r0_52 + 1ull);
+    if (!(r30_19 == r3_31)) { r0_52 = r30_19; goto l_join_49; }
+l_arm_79:;
+    st64(r14_24, r38_5);
+    r6_50 = r3_31;
+    goto l_arm_80;
+l_std_25:;
+    std_io_buffered_BufWriter_write_cold_89ca6214804c96d4(slot_2, slot_17, r3_30, r3_31);
+    u64 r4_30 = ld64(r50_4);
+    if ((ld8(slot_2) != 0u) ? 1u : (r4_30 == 0ull)) goto l_arm_81;
+    r6_50 = r4_30;
+l_arm_80:;
+    u64 r55_8 = (r3_31 - r6_50);
+    if (!(r55_8 == 0ull)) { u8 *r3_32 = away(r3_30, r6_50); u64 r3_33 = r55_8; r3_30 = r3_32; r3_31 = r3_33; goto l_join_50; }
+    u8 r69_3 = capnp_messages_text_write_number_05c50f83f81b9c23(slot_17, (r8_24 & 0xffffffffull));
+    if ((u8)(r69_3 & 1)) { r13_22 = 3u; goto l_capnp_19; }
+    goto l_arm_82;
+l_arm_81:;
+    st8(r14_26, 1u);
+    r13_22 = 3u;
+    goto l_capnp_19;
 l_arm_82:;
-    st64(slot_3, r4_34);
-    st32((slot_3 + 8), r4_35);
-    st32((slot_3 + 12), 0u);
-    st64((slot_3 + 16), r4_36);
-    r34_9 = capnp_layout_tool_engine_refuse_05c50f83f81b9c23(slot_17, slot_3);
-    if (r0_24 == 0ull) goto l_std_27;
-    r0_58 = 0ull;
-l_join_60:;
-    r9_40 = (r0_23 + (i64)((r0_58 * 24ull)));
-    if (ld64((r9_40 + 16)) == 0ull) goto l_core_20;
-    rattle_dealloc(ldp(r9_40));
-l_core_20:;
-    u64 r12_29 = (r0_58 + 1ull);
-    if (!(r12_29 == r0_24)) { r0_58 = r12_29; goto l_join_60; }
-l_std_27:;
-    if (r0_25 == 0ull) { r0_56 = r34_9; goto l_capnp_24; }
-    r0_57 = r34_9;
-l_return_1:;
-    rattle_dealloc(r0_23);
-    r0_56 = r0_57;
-l_capnp_24:;
-    st8(slot_10, r0_56);
+    r50_5 = (slot_2 + 8);
+    r3_34 = ((u8 *)g_static_6);
+    r3_35 = 1ull;
+l_join_52:;
+    memset(slot_2, 0u, 96);
+    r2_75 = ld64(r14_24);
+    if (!(r3_35 < (ld64(r14_25) - r2_75))) goto l_std_26;
+    r38_6 = (r2_75 + r3_35);
+    r12_29 = away(ldp(r14_23), r2_75);
+    if (((u64)(uptr)r12_29 - (u64)(uptr)r3_34) < r3_35) { r0_53 = 0ull; goto l_join_51; }
+    memcpy_or_none(r12_29, r3_34, r3_35);
+    goto l_arm_83;
+l_join_51:;
+    st8((r12_29 + (i64)(r0_53)), ld8((r3_34 + (i64)(r0_53))));
+    u64 r30_20 = (r0_53 + 1ull);
+    if (!(r30_20 == r3_35)) { r0_53 = r30_20; goto l_join_51; }
+l_arm_83:;
+    st64(r14_24, r38_6);
+    r6_51 = r3_35;
+    goto l_arm_84;
+l_std_26:;
+    std_io_buffered_BufWriter_write_cold_89ca6214804c96d4(slot_2, slot_17, r3_34, r3_35);
+    u64 r4_31 = ld64(r50_5);
+    if ((ld8(slot_2) != 0u) ? 1u : (r4_31 == 0ull)) goto l_arm_85;
+    r6_51 = r4_31;
+l_arm_84:;
+    u64 r55_9 = (r3_35 - r6_51);
+    if (r55_9 == 0ull) { r13_22 = 0u; goto l_capnp_19; }
+    u8 *r3_36 = away(r3_34, r6_51);
+    u64 r3_37 = r55_9;
+    r3_34 = r3_36;
+    r3_35 = r3_37;
+    goto l_join_52;
+l_arm_85:;
+    st8(r14_26, 1u);
+    r13_22 = 3u;
+    goto l_capnp_19;
+l_arm_74:;
+    st64(slot_5, 0ull);
+    st32((slot_5 + 8), (r11_23 & 255u));
+    st32((slot_5 + 12), r8_26);
+    st64((slot_5 + 16), r8_25);
+    u8 r44_4 = capnp_layout_tool_engine_refuse_05c50f83f81b9c23(slot_17, slot_5);
+    r13_22 = r44_4;
+l_capnp_19:;
+    st8(slot_10, r13_22);
     stp((slot_10 + 8), slot_1);
     memset((slot_10 + 16), 0u, 16);
-    goto l_capnp_9;
-l_arm_46:;
-    memset(slot_6, 0u, 184);
-    stp(slot_3, r0_23);
-    st64((slot_3 + 8), r0_24);
-    st64((slot_3 + 16), r0_25);
-    if (r0_24 > 1ull) { r0_59 = 0ull; goto l_join_61; }
-    goto l_join_62;
-l_join_61:;
-    r9_41 = (r0_23 + (i64)((r0_59 * 24ull)));
-    if (ld64((r9_41 + 16)) == 0ull) goto l_core_21;
-    rattle_dealloc(ldp(r9_41));
+    goto l_capnp_8;
+l_arm_49:;
+    if (r0_25 < 0x100000000ull) { r4_32 = r0_24; r23_19 = r0_25; goto l_loop_8; }
+    r4_33 = 0ull;
+    r4_34 = 27u;
+    r4_35 = 0xffffffffffffffffull;
+    goto l_arm_86;
+l_loop_8:;
+    if (r23_19 == 0ull) goto l_join_53;
+    if (ld64(away(r4_32, 8ull)) < 0x800000000ull) { u8 *r4_36 = away(r4_32, 24ull); u64 r23_21 = (r23_19 + 0xffffffffffffffffull); r4_32 = r4_36; r23_19 = r23_21; goto l_loop_8; }
+    r4_33 = 0ull;
+    r4_34 = 27u;
+    r4_35 = 0xffffffffffffffffull;
+    goto l_arm_86;
+l_join_53:;
+    if (r0_25 == 0ull) { r4_33 = 1ull; r4_34 = 0u; r4_35 = 0ull; goto l_arm_86; }
+    if (r0_25 > 512ull) { r4_33 = 1ull; r4_34 = 1u; r4_35 = r0_25; goto l_arm_86; }
+    r23_22 = (u32)r0_25;
+    u8 r28_6 = capnp_layout_tool_frames_write_number_05c50f83f81b9c23(slot_17, (r23_22 + 0xffffffffu));
+    if ((u8)(r28_6 & 1)) { r0_54 = 3u; goto l_capnp_20; }
+    indvars_1 = 0ull;
+    goto l_capnp_21;
+l_loop_9:;
+    u64 indvars_2 = (indvars_1 + 1ull);
+    if (indvars_2 == r0_25) goto l_arm_87;
+    indvars_1 = indvars_2;
+l_capnp_21:;
+    u8 r35_5 = capnp_layout_tool_frames_write_number_05c50f83f81b9c23(slot_17, (u32)(u64)(ld64(away(away(r0_24, (indvars_1 * 24ull)), 8ull)) >> 3ull));
+    if ((u8)(r35_5 & 1)) { r0_54 = 3u; goto l_capnp_20; }
+    goto l_loop_9;
+l_arm_87:;
+    if (!((r23_22 & 1u) == 0u)) goto l_join_54;
+    u8 r12_30 = capnp_layout_tool_frames_write_number_05c50f83f81b9c23(slot_17, 0u);
+    if ((u8)(r12_30 & 1)) { r0_54 = 3u; goto l_capnp_20; }
+l_join_54:;
+    indvars_3 = 0ull;
+    goto l_join_55;
+l_loop_10:;
+    u64 indvars_4 = (indvars_3 + 1ull);
+    if (indvars_4 == r0_25) goto l_arm_88;
+    indvars_3 = indvars_4;
+l_join_55:;
+    if (!(r0_25 > indvars_3)) { r3_38 = 0ull; r3_39 = ((u8 *)g_static_5); goto l_capnp_22; }
+    u8 *r19_13 = away(r0_24, (indvars_3 * 24ull));
+    r3_38 = ld64(away(r19_13, 8ull));
+    r3_39 = ldp(r19_13);
+l_capnp_22:;
+    u8 r28_7 = capnp_layout_tool_writing_write_digits_05c50f83f81b9c23(slot_17, r3_39, r3_38);
+    if ((u8)(r28_7 & 1)) { r0_54 = 3u; goto l_capnp_20; }
+    goto l_loop_10;
+l_arm_88:;
+    r50_6 = (slot_2 + 8);
+    r3_40 = ((u8 *)g_static_6);
+    r3_41 = 1ull;
+l_join_57:;
+    memset(slot_2, 0u, 96);
+    r2_79 = ld64(r14_24);
+    if (!(r3_41 < (ld64(r14_25) - r2_79))) goto l_std_27;
+    r38_7 = (r2_79 + r3_41);
+    r12_32 = away(ldp(r14_23), r2_79);
+    if (((u64)(uptr)r12_32 - (u64)(uptr)r3_40) < r3_41) { r0_55 = 0ull; goto l_join_56; }
+    memcpy_or_none(r12_32, r3_40, r3_41);
+    goto l_arm_89;
+l_join_56:;
+    st8((r12_32 + (i64)(r0_55)), ld8((r3_40 + (i64)(r0_55))));
+    u64 r30_21 = (r0_55 + 1ull);
+    if (!(r30_21 == r3_41)) { r0_55 = r30_21; goto l_join_56; }
+l_arm_89:;
+    st64(r14_24, r38_7);
+    r6_54 = r3_41;
+    goto l_arm_90;
+l_std_27:;
+    std_io_buffered_BufWriter_write_cold_89ca6214804c96d4(slot_2, slot_17, r3_40, r3_41);
+    u64 r4_38 = ld64(r50_6);
+    if ((ld8(slot_2) != 0u) ? 1u : (r4_38 == 0ull)) goto l_arm_91;
+    r6_54 = r4_38;
+l_arm_90:;
+    u64 r55_10 = (r3_41 - r6_54);
+    if (r55_10 == 0ull) { r0_54 = 0u; goto l_capnp_20; }
+    u8 *r3_42 = away(r3_40, r6_54);
+    u64 r3_43 = r55_10;
+    r3_40 = r3_42;
+    r3_41 = r3_43;
+    goto l_join_57;
+l_arm_91:;
+    st8(r14_26, 1u);
+    r0_54 = 3u;
+l_capnp_20:;
+    r0_56 = 0ull;
+l_join_58:;
+    r9_45 = (r0_24 + (i64)((r0_56 * 24ull)));
+    if (ld64((r9_45 + 16)) == 0ull) goto l_core_20;
+    rattle_dealloc(ldp(r9_45));
+l_core_20:;
+    u64 r12_33 = (r0_56 + 1ull);
+    if (!(r12_33 == r0_25)) { r0_56 = r12_33; goto l_join_58; }
+    if (r0_26 == 0ull) { r0_57 = r0_54; goto l_capnp_23; }
+    r0_58 = r0_54;
+    goto l_return_1;
+l_arm_86:;
+    st64(slot_3, r4_33);
+    st32((slot_3 + 8), r4_34);
+    st32((slot_3 + 12), 0u);
+    st64((slot_3 + 16), r4_35);
+    r34_9 = capnp_layout_tool_engine_refuse_05c50f83f81b9c23(slot_17, slot_3);
+    if (r0_25 == 0ull) goto l_std_28;
+    r0_59 = 0ull;
+l_join_59:;
+    r9_46 = (r0_24 + (i64)((r0_59 * 24ull)));
+    if (ld64((r9_46 + 16)) == 0ull) goto l_core_21;
+    rattle_dealloc(ldp(r9_46));
 l_core_21:;
-    u64 r12_30 = (r0_59 + 1ull);
-    if (!(r12_30 == r0_24)) { r0_59 = r12_30; goto l_join_61; }
-    if (r0_25 == 0ull) { r0_60 = 2u; goto l_capnp_25; }
-    r0_61 = 2u;
+    u64 r12_34 = (r0_59 + 1ull);
+    if (!(r12_34 == r0_25)) { r0_59 = r12_34; goto l_join_59; }
+l_std_28:;
+    if (r0_26 == 0ull) { r0_57 = r34_9; goto l_capnp_23; }
+    r0_58 = r34_9;
+l_return_1:;
+    rattle_dealloc(r0_24);
+    r0_57 = r0_58;
+l_capnp_23:;
+    st8(slot_10, r0_57);
+    stp((slot_10 + 8), slot_1);
+    memset((slot_10 + 16), 0u, 16);
+    goto l_capnp_8;
+l_arm_50:;
+    memset(slot_6, 0u, 184);
+    stp(slot_3, r0_24);
+    st64((slot_3 + 8), r0_25);
+    st64((slot_3 + 16), r0_26);
+    if (r0_25 > 1ull) { r0_60 = 0ull; goto l_join_60; }
+    goto l_join_61;
+l_join_60:;
+    r9_47 = (r0_24 + (i64)((r0_60 * 24ull)));
+    if (ld64((r9_47 + 16)) == 0ull) goto l_core_22;
+    rattle_dealloc(ldp(r9_47));
+l_core_22:;
+    u64 r12_35 = (r0_60 + 1ull);
+    if (!(r12_35 == r0_25)) { r0_60 = r12_35; goto l_join_60; }
+    if (r0_26 == 0ull) { r0_61 = 2u; goto l_capnp_24; }
+    r0_62 = 2u;
     goto l_return_2;
-l_join_62:;
+l_join_61:;
     capnp_layout_tool_framed_frame_in(slot_6, slot_3);
     r28_8 = (slot_6 + 8);
-    if (!(ld8(slot_6) == 0u)) goto l_arm_88;
+    if (!(ld8(slot_6) == 0u)) goto l_arm_92;
     memcpy(slot_4, r28_8, 176);
     r1_26 = ld64(slot_4);
-    t60 = (r1_26 & 0xffffffffull);
-    if (t60 == 0ull) { r0_62 = 0u; goto l_capnp_26; }
+    t61 = (r1_26 & 0xffffffffull);
+    if (t61 == 0ull) { r0_63 = 0u; goto l_capnp_25; }
     r67_3 = (slot_4 + 40);
-    t61 = (slot_4 + 48);
+    t62 = (slot_4 + 48);
     r50_7 = (slot_2 + 8);
     r15_9 = ldp((slot_4 + 8));
-    r10_27 = ldp((slot_4 + 24));
+    r10_31 = ldp((slot_4 + 24));
     indvars_5 = 0ull;
-l_join_68:;
-    if (!(r1_26 > indvars_5)) { r3_45 = 0ull; r3_46 = ((u8 *)g_static_3); goto l_capnp_27; }
-    r25_12 = (indvars_5 & 0xffffffe0ull);
-    r27_7 = (r25_12 + 32ull);
-    r47_10 = ((u64)(indvars_5 >> 2ull) & 0x3ffffff8ull);
-    if (!(((indvars_5 & 31ull) > 16ull) ? (r27_7 < r1_26) : 0u)) goto l_join_63;
-    r55_11 = ld64(away(t61, r47_10));
-    if (r27_7 > indvars_5) { r3_47 = 0ull; r4_40 = indvars_5; goto l_join_64; }
-    r3_48 = 0ull;
-    goto l_capnp_28;
-l_join_64:;
-    u64 r25_13 = (r3_47 + (u64)ld32((r15_9 + (i64)((u64)(r4_40 << 2ull)))));
-    u64 r27_8 = (r4_40 + 1ull);
-    if (r27_8 == r27_7) { r3_48 = r25_13; goto l_capnp_28; }
-    r3_47 = r25_13;
-    r4_40 = r27_8;
-    goto l_join_64;
-l_capnp_28:;
-    r4_41 = (r55_11 - r3_48);
-    goto l_capnp_29;
-l_join_63:;
-    r72_4 = ld64((r67_3 + (i64)(r47_10)));
-    if (r25_12 == indvars_5) { r3_49 = 0ull; goto l_capnp_30; }
-    r3_50 = 0ull;
-    r4_42 = r25_12;
-l_join_65:;
-    u64 r25_14 = (r3_50 + (u64)ld32((r15_9 + (i64)((u64)(r4_42 << 2ull)))));
-    u64 r27_9 = (r4_42 + 1ull);
-    if (r27_9 == indvars_5) { r3_49 = r25_14; goto l_capnp_30; }
-    r3_50 = r25_14;
-    r4_42 = r27_9;
-    goto l_join_65;
-l_capnp_30:;
-    r4_41 = (r3_49 + r72_4);
-l_capnp_29:;
-    r3_45 = (u64)((u64)ld32((r15_9 + (i64)((u64)(indvars_5 << 2ull)))) << 3ull);
-    r3_46 = away(r10_27, (u64)(r4_41 << 3ull));
-l_capnp_27:;
-    u8 r15_12 = capnp_layout_tool_writing_write_digits_05c50f83f81b9c23(slot_17, r3_46, r3_45);
-    if ((u8)(r15_12 & 1)) { r0_62 = 3u; goto l_capnp_26; }
-    r3_51 = ((u8 *)g_static_22);
-    r3_52 = 1ull;
 l_join_67:;
-    memset(slot_2, 0u, 96);
-    r2_90 = ld64(r14_22);
-    if (!(r3_52 < (ld64(r14_23) - r2_90))) goto l_std_28;
-    r38_8 = (r2_90 + r3_52);
-    r12_31 = away(ldp(r14_21), r2_90);
-    if (((u64)(uptr)r12_31 - (u64)(uptr)r3_51) < r3_52) { r0_63 = 0ull; goto l_join_66; }
-    memcpy_or_none(r12_31, r3_51, r3_52);
-    goto l_arm_89;
+    if (!(r1_26 > indvars_5)) { r3_45 = 0ull; r3_46 = ((u8 *)g_static_5); goto l_capnp_26; }
+    r25_13 = (indvars_5 & 0xffffffe0ull);
+    r27_7 = (r25_13 + 32ull);
+    r47_10 = ((u64)(indvars_5 >> 2ull) & 0x3ffffff8ull);
+    if (!(((indvars_5 & 31ull) > 16ull) ? (r27_7 < r1_26) : 0u)) goto l_join_62;
+    r55_11 = ld64(away(t62, r47_10));
+    if (r27_7 > indvars_5) { r3_47 = 0ull; r4_39 = indvars_5; goto l_join_63; }
+    r3_48 = 0ull;
+    goto l_capnp_27;
+l_join_63:;
+    u64 r25_14 = (r3_47 + (u64)ld32((r15_9 + (i64)((u64)(r4_39 << 2ull)))));
+    u64 r27_8 = (r4_39 + 1ull);
+    if (r27_8 == r27_7) { r3_48 = r25_14; goto l_capnp_27; }
+    r3_47 = r25_14;
+    r4_39 = r27_8;
+    goto l_join_63;
+l_capnp_27:;
+    r4_40 = (r55_11 - r3_48);
+    goto l_capnp_28;
+l_join_62:;
+    r72_4 = ld64((r67_3 + (i64)(r47_10)));
+    if (r25_13 == indvars_5) { r3_49 = 0ull; goto l_capnp_29; }
+    r3_50 = 0ull;
+    r4_41 = r25_13;
+l_join_64:;
+    u64 r25_15 = (r3_50 + (u64)ld32((r15_9 + (i64)((u64)(r4_41 << 2ull)))));
+    u64 r27_9 = (r4_41 + 1ull);
+    if (r27_9 == indvars_5) { r3_49 = r25_15; goto l_capnp_29; }
+    r3_50 = r25_15;
+    r4_41 = r27_9;
+    goto l_join_64;
+l_capnp_29:;
+    r4_40 = (r3_49 + r72_4);
+l_capnp_28:;
+    r3_45 = (u64)((u64)ld32((r15_9 + (i64)((u64)(indvars_5 << 2ull)))) << 3ull);
+    r3_46 = away(r10_31, (u64)(r4_40 << 3ull));
+l_capnp_26:;
+    u8 r15_12 = capnp_layout_tool_writing_write_digits_05c50f83f81b9c23(slot_17, r3_46, r3_45);
+    if ((u8)(r15_12 & 1)) { r0_63 = 3u; goto l_capnp_25; }
+    r3_51 = ((u8 *)g_static_6);
+    r3_52 = 1ull;
 l_join_66:;
-    st8((r12_31 + (i64)(r0_63)), ld8((r3_51 + (i64)(r0_63))));
-    u64 r30_23 = (r0_63 + 1ull);
-    if (!(r30_23 == r3_52)) { r0_63 = r30_23; goto l_join_66; }
-l_arm_89:;
-    st64(r14_22, r38_8);
-    r6_60 = r3_52;
-    goto l_arm_90;
-l_std_28:;
+    memset(slot_2, 0u, 96);
+    r2_90 = ld64(r14_24);
+    if (!(r3_52 < (ld64(r14_25) - r2_90))) goto l_std_29;
+    r38_8 = (r2_90 + r3_52);
+    r12_36 = away(ldp(r14_23), r2_90);
+    if (((u64)(uptr)r12_36 - (u64)(uptr)r3_51) < r3_52) { r0_64 = 0ull; goto l_join_65; }
+    memcpy_or_none(r12_36, r3_51, r3_52);
+    goto l_arm_93;
+l_join_65:;
+    st8((r12_36 + (i64)(r0_64)), ld8((r3_51 + (i64)(r0_64))));
+    u64 r30_23 = (r0_64 + 1ull);
+    if (!(r30_23 == r3_52)) { r0_64 = r30_23; goto l_join_65; }
+l_arm_93:;
+    st64(r14_24, r38_8);
+    r6_58 = r3_52;
+    goto l_arm_94;
+l_std_29:;
     std_io_buffered_BufWriter_write_cold_89ca6214804c96d4(slot_2, slot_17, r3_51, r3_52);
-    u64 r4_43 = ld64(r50_7);
-    if ((ld8(slot_2) != 0u) ? 1u : (r4_43 == 0ull)) goto l_arm_91;
-    r6_60 = r4_43;
-l_arm_90:;
-    u64 r55_12 = (r3_52 - r6_60);
-    if (r55_12 == 0ull) goto l_arm_92;
-    u8 *r3_53 = away(r3_51, r6_60);
+    u64 r4_42 = ld64(r50_7);
+    if ((ld8(slot_2) != 0u) ? 1u : (r4_42 == 0ull)) goto l_arm_95;
+    r6_58 = r4_42;
+l_arm_94:;
+    u64 r55_12 = (r3_52 - r6_58);
+    if (r55_12 == 0ull) goto l_arm_96;
+    u8 *r3_53 = away(r3_51, r6_58);
     u64 r3_54 = r55_12;
     r3_51 = r3_53;
     r3_52 = r3_54;
-    goto l_join_67;
-l_arm_91:;
-    st8(r14_24, 1u);
-    r0_62 = 3u;
-    goto l_capnp_26;
-l_arm_92:;
+    goto l_join_66;
+l_arm_95:;
+    st8(r14_26, 1u);
+    r0_63 = 3u;
+    goto l_capnp_25;
+l_arm_96:;
     u64 indvars_6 = (indvars_5 + 1ull);
-    if (indvars_6 == t60) { r0_62 = 0u; goto l_capnp_26; }
+    if (indvars_6 == t61) { r0_63 = 0u; goto l_capnp_25; }
     indvars_5 = indvars_6;
-    goto l_join_68;
-l_capnp_26:;
-    if (r0_24 == 0ull) goto l_std_29;
-    if (ld64((r0_23 + 16)) == 0ull) goto l_std_29;
-    rattle_dealloc(ldp(r0_23));
-l_std_29:;
-    if (r0_25 == 0ull) { r0_60 = r0_62; goto l_capnp_25; }
-    r0_61 = r0_62;
+    goto l_join_67;
+l_capnp_25:;
+    if (r0_25 == 0ull) goto l_std_30;
+    if (ld64((r0_24 + 16)) == 0ull) goto l_std_30;
+    rattle_dealloc(ldp(r0_24));
+l_std_30:;
+    if (r0_26 == 0ull) { r0_61 = r0_63; goto l_capnp_24; }
+    r0_62 = r0_63;
     goto l_return_2;
-l_arm_88:;
+l_arm_92:;
     st64(slot_5, (u64)ld8(r28_8));
     st32((slot_5 + 8), (u32)ld8((slot_6 + 16)));
     st32((slot_5 + 12), ld32((slot_6 + 20)));
     st64((slot_5 + 16), ld64((slot_6 + 24)));
     r47_12 = capnp_layout_tool_engine_refuse_05c50f83f81b9c23(slot_17, slot_5);
-    if (r0_24 == 0ull) goto l_std_30;
-    if (ld64((r0_23 + 16)) == 0ull) goto l_std_30;
-    rattle_dealloc(ldp(r0_23));
-l_std_30:;
-    if (r0_25 == 0ull) { r0_60 = r47_12; goto l_capnp_25; }
-    r0_61 = r47_12;
+    if (r0_25 == 0ull) goto l_std_31;
+    if (ld64((r0_24 + 16)) == 0ull) goto l_std_31;
+    rattle_dealloc(ldp(r0_24));
+l_std_31:;
+    if (r0_26 == 0ull) { r0_61 = r47_12; goto l_capnp_24; }
+    r0_62 = r47_12;
 l_return_2:;
-    rattle_dealloc(r0_23);
-    r0_60 = r0_61;
-l_capnp_25:;
-    st8(slot_10, r0_60);
+    rattle_dealloc(r0_24);
+    r0_61 = r0_62;
+l_capnp_24:;
+    st8(slot_10, r0_61);
     stp((slot_10 + 8), slot_1);
     memset((slot_10 + 16), 0u, 16);
-    goto l_capnp_9;
-l_arm_47:;
-    st64(slot_9, r42_1);
-    st64((slot_9 + 8), r36_14);
-    st32((slot_9 + 16), r36_13);
+    goto l_capnp_8;
+l_arm_51:;
+    st64(slot_9, r145_2);
+    st64((slot_9 + 8), r12_12);
+    st32((slot_9 + 16), r12_13);
     stp(slot_13, slot_1);
     memset((slot_13 + 8), 0u, 16);
     st64((slot_13 + 24), r3_8);
-    stp(slot_14, r0_23);
-    st64((slot_14 + 8), r0_24);
-    st64((slot_14 + 16), r0_25);
+    stp(slot_14, r0_24);
+    st64((slot_14 + 8), r0_25);
+    st64((slot_14 + 16), r0_26);
     capnp_layout_tool_engine_canon_8738c8d4622c75c1(slot_10, slot_13, slot_14, slot_9, 0u, slot_17);
-    goto l_capnp_9;
-l_arm_48:;
+    goto l_capnp_8;
+l_arm_52:;
     memset(slot_7, 0u, 24);
-    stp(slot_6, r0_23);
-    st64((slot_6 + 8), r0_24);
-    st64((slot_6 + 16), r0_25);
-    if (r0_24 > 1ull) { r0_64 = 0ull; goto l_join_69; }
-    goto l_join_70;
+    stp(slot_6, r0_24);
+    st64((slot_6 + 8), r0_25);
+    st64((slot_6 + 16), r0_26);
+    if (r0_25 > 1ull) { r0_65 = 0ull; goto l_join_68; }
+    goto l_join_69;
+l_join_68:;
+    r9_49 = (r0_24 + (i64)((r0_65 * 24ull)));
+    if (ld64((r9_49 + 16)) == 0ull) goto l_core_23;
+    rattle_dealloc(ldp(r9_49));
+l_core_23:;
+    u64 r12_37 = (r0_65 + 1ull);
+    if (!(r12_37 == r0_25)) { r0_65 = r12_37; goto l_join_68; }
+    if (r0_26 == 0ull) { r0_66 = 2u; goto l_capnp_30; }
+    r0_67 = 2u;
+    goto l_capnp_31;
 l_join_69:;
-    r9_43 = (r0_23 + (i64)((r0_64 * 24ull)));
-    if (ld64((r9_43 + 16)) == 0ull) goto l_core_22;
-    rattle_dealloc(ldp(r9_43));
-l_core_22:;
-    u64 r12_32 = (r0_64 + 1ull);
-    if (!(r12_32 == r0_24)) { r0_64 = r12_32; goto l_join_69; }
-    if (r0_25 == 0ull) { r0_65 = 2u; goto l_capnp_31; }
-    r0_66 = 2u;
-    goto l_capnp_32;
-l_join_70:;
     memset(slot_5, 0u, 184);
     capnp_layout_tool_framed_frame_in(slot_5, slot_6);
     r1_29 = ld64((slot_5 + 8));
     r1_31 = ld64((slot_5 + 16));
     r1_33 = ld64((slot_5 + 24));
-    if (!(ld8(slot_5) == 0u)) goto l_capnp_33;
+    if (!(ld8(slot_5) == 0u)) goto l_capnp_32;
     r1_34 = (slot_5 + 32);
-    t67 = ((u8 *)(uptr)r1_31);
-    if (!(r1_29 == 0ull)) { r10_30 = 0ull; r11_32 = 0ull; goto l_join_71; }
-    goto l_arm_93;
-l_join_71:;
-    r4414_1 = (r10_30 + (u64)ld32((t67 + (i64)(((u64)(r11_32 << 2ull) & 0x3fffffffcull)))));
-    u64 r46_5 = (r11_32 + 1ull);
-    if (!(r46_5 == r1_29)) { r10_30 = r4414_1; r11_32 = r46_5; goto l_join_71; }
+    t68 = ((u8 *)(uptr)r1_31);
+    if (!(r1_29 == 0ull)) { r10_34 = 0ull; r11_33 = 0ull; goto l_join_70; }
+    goto l_arm_97;
+l_join_70:;
+    r4414_1 = (r10_34 + (u64)ld32((t68 + (i64)(((u64)(r11_33 << 2ull) & 0x3fffffffcull)))));
+    u64 r46_5 = (r11_33 + 1ull);
+    if (!(r46_5 == r1_29)) { r10_34 = r4414_1; r11_33 = r46_5; goto l_join_70; }
     st64(slot_4, r1_29);
-    stp((slot_4 + 8), t67);
+    stp((slot_4 + 8), t68);
     st64((slot_4 + 16), r1_33);
     r17_12 = (slot_4 + 24);
     memcpy(r17_12, r1_34, 152);
-    st32((slot_4 + 176), r36_13);
+    st32((slot_4 + 176), r12_13);
     st32((slot_4 + 180), 0u);
-    r11_37 = (slot_4 + 184);
-    st64(r11_37, r4414_1);
-    t68 = (slot_3 + 56);
-    st64(t68, 0ull);
-    if (!(r1_29 == 1ull)) goto l_arm_93;
-    r18_15 = ld32(t67);
-    if (r18_15 == 0u) { r18_16 = 23u; r18_17 = 0u; r18_18 = 0ull; goto l_capnp_34; }
-    t69 = (r36_15 == 1u);
-    if (!t69) { r9_44 = r36_14; goto l_arm_94; }
-    if (r36_14 == 0ull) { r18_16 = 30u; r18_17 = 0u; r18_18 = 0ull; goto l_capnp_34; }
-    r9_44 = (r36_14 + 0xffffffffffffffffull);
-l_arm_94:;
-    r40_5 = (u64)r18_15;
+    r11_38 = (slot_4 + 184);
+    st64(r11_38, r4414_1);
+    t69 = (slot_3 + 56);
+    st64(t69, 0ull);
+    if (!(r1_29 == 1ull)) goto l_arm_97;
+    r18_17 = ld32(t68);
+    if (r18_17 == 0u) { r18_18 = 23u; r18_19 = 0u; r18_20 = 0ull; goto l_capnp_33; }
+    t70 = (r12_11 == 1u);
+    if (!t70) { r9_50 = r12_12; goto l_arm_98; }
+    if (r12_12 == 0ull) { r18_18 = 30u; r18_19 = 0u; r18_20 = 0ull; goto l_capnp_33; }
+    r9_50 = (r12_12 + 0xffffffffffffffffull);
+l_arm_98:;
+    r40_8 = (u64)r18_17;
     r49_11 = away(ldp(r17_12), (u64)(ld64((slot_4 + 40)) << 3ull));
     st64(slot_3, 0ull);
     st64((slot_3 + 8), (u64)(uptr)slot_4);
     memset((slot_3 + 16), 0u, 16);
     stp((slot_3 + 32), r49_11);
-    st64((slot_3 + 40), (u64)(r40_5 << 3ull));
+    st64((slot_3 + 40), (u64)(r40_8 << 3ull));
     st32((slot_3 + 48), 0u);
     st32((slot_3 + 52), 0u);
-    st32(t68, r36_13);
-    st64(slot_2, r42_1);
+    st32(t69, r12_13);
+    st64(slot_2, r145_2);
     r7_52 = (slot_2 + 8);
-    st64(r7_52, r9_44);
+    st64(r7_52, r9_50);
     r7_53 = (slot_2 + 16);
     st64(r7_53, 0ull);
     r7_54 = (slot_2 + 24);
@@ -12208,347 +12114,396 @@ l_arm_94:;
     st32(r7_56, 0u);
     r7_57 = (slot_2 + 40);
     st64(r7_57, 0ull);
-    r33_12 = ld64(r49_11);
-    if ((r33_12 & 2ull) == 0ull) goto l_join_72;
-    goto l_arm_93;
-l_join_72:;
-    if (r33_12 == 0ull) { r0_67 = 1ull; goto l_arm_95; }
-    r5_37 = (u64)(r33_12 >> 32ull);
-    if (!((r33_12 & 1ull) == 0ull)) goto l_arm_96;
-    r4_45 = (u64)(r33_12 >> 48ull);
-    r1_35 = (r5_37 & 65535ull);
-    r14_71 = (r1_35 + r4_45);
+    r33_14 = ld64(r49_11);
+    if ((r33_14 & 2ull) == 0ull) goto l_join_71;
+    goto l_arm_97;
+l_join_71:;
+    if (r33_14 == 0ull) { r0_68 = 1ull; goto l_arm_99; }
+    r5_39 = (u64)(r33_14 >> 32ull);
+    if (!((r33_14 & 1ull) == 0ull)) goto l_arm_100;
+    r4_44 = (u64)(r33_14 >> 48ull);
+    r1_35 = (r5_39 & 65535ull);
+    r14_73 = (r1_35 + r4_44);
     st64(r7_53, 1ull);
-    r21_9 = ((u64)(r33_12 >> 2ull) & 0x3fffffffull);
-    if (!(r21_9 < 0x20000000ull)) goto l_else_4;
-    if (r21_9 < r40_5) { r8_32 = (r21_9 + 1ull); goto l_arm_97; }
-    r0_68 = 23u;
-    goto l_arm_98;
-l_else_4:;
-    if (r21_9 == 0x3fffffffull) { r8_32 = 0ull; goto l_arm_97; }
-    r0_68 = 23u;
-    goto l_arm_98;
-l_arm_97:;
-    if ((i32)r36_13 < (i32)1u) { r0_68 = 26u; goto l_arm_98; }
-    if ((r8_32 + r14_71) > r40_5) { r0_68 = 23u; goto l_arm_98; }
-    if (!t69) goto l_arm_99;
-    if (r9_44 < r14_71) { r0_68 = 30u; goto l_arm_98; }
+    r21_9 = ((u64)(r33_14 >> 2ull) & 0x3fffffffull);
+    if (!(r21_9 < 0x20000000ull)) goto l_else_5;
+    if (r21_9 < r40_8) { r8_32 = (r21_9 + 1ull); goto l_arm_101; }
+    r0_69 = 23u;
+    goto l_arm_102;
+l_else_5:;
+    if (r21_9 == 0x3fffffffull) { r8_32 = 0ull; goto l_arm_101; }
+    r0_69 = 23u;
+    goto l_arm_102;
+l_arm_101:;
+    if ((i32)r12_13 < (i32)1u) { r0_69 = 26u; goto l_arm_102; }
+    if ((r8_32 + r14_73) > r40_8) { r0_69 = 23u; goto l_arm_102; }
+    if (!t70) goto l_arm_103;
+    if (r9_50 < r14_73) { r0_69 = 30u; goto l_arm_102; }
     st64(slot_2, 1ull);
-    st64(r7_52, (r9_44 - r14_71));
-l_arm_99:;
-    r6_63 = (u32)r4_45;
-    r1_36 = ((u32)r5_37 & 65535u);
-    if ((r1_36 | r6_63) == 0u) goto l_then_10;
-    goto l_join_73;
-l_arm_98:;
+    st64(r7_52, (r9_50 - r14_73));
+l_arm_103:;
+    r6_61 = (u32)r4_44;
+    r1_36 = ((u32)r5_39 & 65535u);
+    if ((r1_36 | r6_61) == 0u) goto l_then_11;
+    goto l_join_72;
+l_arm_102:;
     st64(r7_54, 1ull);
-    st32(r7_55, r0_68);
+    st32(r7_55, r0_69);
     st32(r7_56, 0u);
     st64(r7_57, 0ull);
-    r0_69 = 0u;
-    r0_70 = 1u;
-    goto l_capnp_35;
-l_then_10:;
-    if (r8_32 == 0ull) { r0_69 = 1u; r0_70 = 0u; goto l_capnp_35; }
+    r0_70 = 0u;
+    r0_71 = 1u;
+    goto l_capnp_34;
+l_then_11:;
+    if (r8_32 == 0ull) { r0_70 = 1u; r0_71 = 0u; goto l_capnp_34; }
     memset(r7_54, 0u, 20);
     st8((slot_2 + 44), 5u);
     memset((slot_2 + 45), 0u, 3);
-    r0_69 = 0u;
-    r0_70 = 1u;
-    goto l_capnp_35;
-l_join_73:;
-    if (r8_32 == 1ull) goto l_join_74;
+    r0_70 = 0u;
+    r0_71 = 1u;
+    goto l_capnp_34;
+l_join_72:;
+    if (r8_32 == 1ull) goto l_join_73;
     memset(r7_54, 0u, 20);
     st8((slot_2 + 44), 6u);
     memset((slot_2 + 45), 0u, 3);
-    r0_69 = 0u;
-    r0_70 = 1u;
+    r0_70 = 0u;
+    r0_71 = 1u;
+    goto l_capnp_34;
+l_join_73:;
+    r33_15 = (r1_36 + 1u);
+    r36_7 = (r33_15 + r6_61);
+    r3_59 = (r4_44 == 0ull);
+    if (!r3_59) goto l_join_74;
+    struct s_i8_i32 t74 = (struct s_i8_i32){ 0u, 0u };
+    t74.f1 = r36_7;
+    r13_27 = t74;
     goto l_capnp_35;
 l_join_74:;
-    r33_13 = (r1_36 + 1u);
-    r36_24 = (r33_13 + r6_63);
-    r3_59 = (r4_45 == 0ull);
-    if (!r3_59) goto l_join_75;
-    struct s_i8_i32 t73 = (struct s_i8_i32){ 0u, 0u };
-    t73.f1 = r36_24;
-    r13_22 = t73;
-    goto l_capnp_36;
-l_join_75:;
-    struct s_i8_i32 r9_46 = capnp_pointers_pointers_canonical_test_children_1e87a1_c3c6e6a7(slot_3, r33_13, r6_63, (r36_13 + 0xffffffffu), r36_24, slot_2);
-    r13_22 = r9_46;
-l_capnp_36:;
-    r43_10 = r13_22.f1;
-    if (!(r13_22.f0 == 0u)) { r0_69 = 0u; r0_70 = 1u; goto l_capnp_35; }
-    if (r1_36 == 0u) goto l_join_76;
-    if (!(ld64((r49_11 + (i64)((u64)(r1_35 << 3ull)))) == 0ull)) goto l_join_76;
+    struct s_i8_i32 r9_52 = capnp_pointers_pointers_canonical_test_children_1e87a1_c3c6e6a7(slot_3, r33_15, r6_61, (r12_13 + 0xffffffffu), r36_7, slot_2);
+    r13_27 = r9_52;
+l_capnp_35:;
+    r43_6 = r13_27.f1;
+    if (!(r13_27.f0 == 0u)) { r0_70 = 0u; r0_71 = 1u; goto l_capnp_34; }
+    if (r1_36 == 0u) goto l_join_75;
+    if (!(ld64((r49_11 + (i64)((u64)(r1_35 << 3ull)))) == 0ull)) goto l_join_75;
     memset(r7_54, 0u, 16);
     st32(r7_57, r1_36);
     st8((slot_2 + 44), 8u);
     memset((slot_2 + 45), 0u, 3);
-    r0_69 = 0u;
-    r0_70 = 1u;
-    goto l_capnp_35;
-l_join_76:;
-    if (r3_59) { r0_69 = r43_10; r0_70 = 0u; goto l_capnp_35; }
-    r19_15 = (r1_36 + r6_63);
-    if (!(r18_15 > r19_15)) goto l_then_11;
-    if (!(ld64((r49_11 + (i64)((u64)(u32)(r19_15 << 3u)))) == 0ull)) { r0_69 = r43_10; r0_70 = 0u; goto l_capnp_35; }
-l_then_11:;
+    r0_70 = 0u;
+    r0_71 = 1u;
+    goto l_capnp_34;
+l_join_75:;
+    if (r3_59) { r0_70 = r43_6; r0_71 = 0u; goto l_capnp_34; }
+    r19_15 = (r1_36 + r6_61);
+    if (!(r18_17 > r19_15)) goto l_then_12;
+    if (!(ld64((r49_11 + (i64)((u64)(u32)(r19_15 << 3u)))) == 0ull)) { r0_70 = r43_6; r0_71 = 0u; goto l_capnp_34; }
+l_then_12:;
     memset(r7_54, 0u, 16);
     st32(r7_57, r19_15);
     st8((slot_2 + 44), 9u);
     memset((slot_2 + 45), 0u, 3);
-    r0_69 = 0u;
-    r0_70 = 1u;
-l_capnp_35:;
+    r0_70 = 0u;
+    r0_71 = 1u;
+l_capnp_34:;
     struct s_i8_i32 r106_3 = (struct s_i8_i32){ 0 };
-    r106_3.f0 = r0_70;
+    r106_3.f0 = r0_71;
     struct s_i8_i32 r106_4 = r106_3;
-    r106_4.f1 = r0_69;
+    r106_4.f1 = r0_70;
     r78_6 = r106_4;
-    goto l_capnp_37;
-l_arm_96:;
-    if (!((u8)((u8)((u8)r5_37 & 7u) + 255u) < 5u)) goto l_join_77;
-    r4_46 = (u64)(r33_12 >> 35ull);
-    r191_2 = (u64)(((ld64(away(away(((u8 *)switch_table_main_17), 8 * (r5_37 & 7ull)), 0xfffffffffffffff8ull)) * r4_46) + 63ull) >> 6ull);
-    r21_11 = ((u64)(r33_12 >> 2ull) & 0x3fffffffull);
-    if (!(r21_11 < 0x20000000ull)) goto l_else_5;
-    if (r21_11 < r40_5) { r8_34 = (r21_11 + 1ull); goto l_arm_100; }
-    narrow_1 = 23u;
-    goto l_arm_101;
-l_else_5:;
-    if (r21_11 == 0x3fffffffull) { r8_34 = 0ull; goto l_arm_100; }
-    narrow_1 = 23u;
-    goto l_arm_101;
+    goto l_capnp_36;
 l_arm_100:;
-    if ((i32)r36_13 < (i32)1u) { narrow_1 = 28u; goto l_arm_101; }
-    if ((r8_34 + r191_2) > r40_5) { narrow_1 = 23u; goto l_arm_101; }
-    if (t69 ? (r9_44 < r191_2) : 0u) { narrow_1 = 30u; goto l_arm_101; }
-    if (r8_34 == 1ull) goto l_join_78;
-    goto l_then_12;
-l_arm_101:;
+    if (!((u8)((u8)((u8)r5_39 & 7u) + 255u) < 5u)) goto l_join_76;
+    r4_45 = (u64)(r33_14 >> 35ull);
+    r191_2 = (u64)(((ld64(away(away(((u8 *)switch_table_main_17), 8 * (r5_39 & 7ull)), 0xfffffffffffffff8ull)) * r4_45) + 63ull) >> 6ull);
+    r21_11 = ((u64)(r33_14 >> 2ull) & 0x3fffffffull);
+    if (!(r21_11 < 0x20000000ull)) goto l_else_6;
+    if (r21_11 < r40_8) { r8_34 = (r21_11 + 1ull); goto l_arm_104; }
+    narrow_1 = 23u;
+    goto l_arm_105;
+l_else_6:;
+    if (r21_11 == 0x3fffffffull) { r8_34 = 0ull; goto l_arm_104; }
+    narrow_1 = 23u;
+    goto l_arm_105;
+l_arm_104:;
+    if ((i32)r12_13 < (i32)1u) { narrow_1 = 28u; goto l_arm_105; }
+    if ((r8_34 + r191_2) > r40_8) { narrow_1 = 23u; goto l_arm_105; }
+    if (t70 ? (r9_50 < r191_2) : 0u) { narrow_1 = 30u; goto l_arm_105; }
+    if (r8_34 == 1ull) goto l_join_77;
+    goto l_then_13;
+l_arm_105:;
     st64(r7_54, 1ull);
     st32(r7_55, narrow_1);
     st32(r7_56, 0u);
     st64(r7_57, 0ull);
-    r0_71 = 0u;
-    r0_72 = 1u;
-    goto l_capnp_38;
-l_then_12:;
+    r0_72 = 0u;
+    r0_73 = 1u;
+    goto l_capnp_37;
+l_then_13:;
     memset(r7_54, 0u, 20);
     st8((slot_2 + 44), 6u);
     memset((slot_2 + 45), 0u, 3);
-    r0_71 = 0u;
-    r0_72 = 1u;
-    goto l_capnp_38;
-l_join_78:;
-    u64 r20_27 = (ld64(away(away(((u8 *)switch_table_main_17), 8 * (r5_37 & 7ull)), 0xfffffffffffffff8ull)) * r4_46);
-    r24_18 = (u32)(u64)(r20_27 >> 6ull);
+    r0_72 = 0u;
+    r0_73 = 1u;
+    goto l_capnp_37;
+l_join_77:;
+    u64 r20_28 = (ld64(away(away(((u8 *)switch_table_main_17), 8 * (r5_39 & 7ull)), 0xfffffffffffffff8ull)) * r4_45);
+    r24_18 = (u32)(u64)(r20_28 >> 6ull);
     r26_25 = (r24_18 + 1u);
-    r28_13 = (r20_27 & 63ull);
-    if (r28_13 == 0ull) { r0_71 = r26_25; r0_72 = 0u; goto l_capnp_38; }
-    if (any8(v8_of((u64)(ld64((r49_11 + (i64)((u64)((u64)r26_25 << 3ull)))) >> (r28_13 & 63u)))) == 0u) { r0_71 = (r24_18 + 2u); r0_72 = 0u; goto l_capnp_38; }
+    r28_13 = (r20_28 & 63ull);
+    if (r28_13 == 0ull) { r0_72 = r26_25; r0_73 = 0u; goto l_capnp_37; }
+    if (any8(v8_of((u64)(ld64((r49_11 + (i64)((u64)((u64)r26_25 << 3ull)))) >> (r28_13 & 63u)))) == 0u) { r0_72 = (r24_18 + 2u); r0_73 = 0u; goto l_capnp_37; }
     memset(r7_54, 0u, 16);
     st32(r7_57, r26_25);
     st8((slot_2 + 44), 7u);
     memset((slot_2 + 45), 0u, 3);
-    r0_71 = 0u;
-    r0_72 = 1u;
-l_capnp_38:;
-    struct s_i8_i32 r93_3 = (struct s_i8_i32){ 0 };
-    r93_3.f0 = r0_72;
-    struct s_i8_i32 r93_4 = r93_3;
-    r93_4.f1 = r0_71;
-    r78_6 = r93_4;
-    goto l_capnp_37;
-l_join_77:;
-    struct s_i8_i32 r95_3 = capnp_pointers_pointers_canonical_test_list_1e87a151ef20e12e(slot_3, 0u, r33_12, r36_13, 1u, slot_2);
-    r78_6 = r95_3;
+    r0_72 = 0u;
+    r0_73 = 1u;
 l_capnp_37:;
-    r20_28 = r78_6.f0;
-    if (!(r20_28 == 0u)) goto l_arm_102;
-    r0_67 = (u64)r78_6.f1;
-l_arm_95:;
-    r5_50 = r0_67;
-    goto l_arm_103;
-l_arm_102:;
-    if (!(ld8(r7_54) == 0u)) goto l_arm_104;
-    if (r20_28 == 1u) goto l_arm_93;
-    r5_50 = 1ull;
-    goto l_arm_103;
-l_arm_104:;
-    r18_16 = ld32(r7_55);
-    r18_17 = ld32(r7_56);
-    r18_18 = ld64(r7_57);
-    goto l_capnp_34;
-l_capnp_33:;
+    struct s_i8_i32 r93_3 = (struct s_i8_i32){ 0 };
+    r93_3.f0 = r0_73;
+    struct s_i8_i32 r93_4 = r93_3;
+    r93_4.f1 = r0_72;
+    r78_6 = r93_4;
+    goto l_capnp_36;
+l_join_76:;
+    struct s_i8_i32 r95_4 = capnp_pointers_pointers_canonical_test_list_1e87a151ef20e12e(slot_3, 0u, r33_14, r12_13, 1u, slot_2);
+    r78_6 = r95_4;
+l_capnp_36:;
+    r20_29 = r78_6.f0;
+    if (!(r20_29 == 0u)) goto l_arm_106;
+    r0_68 = (u64)r78_6.f1;
+l_arm_99:;
+    r5_52 = r0_68;
+    goto l_arm_107;
+l_arm_106:;
+    if (!(ld8(r7_54) == 0u)) goto l_arm_108;
+    if (r20_29 == 1u) goto l_arm_97;
+    r5_52 = 1ull;
+    goto l_arm_107;
+l_arm_108:;
+    r18_18 = ld32(r7_55);
+    r18_19 = ld32(r7_56);
+    r18_20 = ld64(r7_57);
+    goto l_capnp_33;
+l_capnp_32:;
     r15_15 = (u32)r1_31;
     r15_16 = (r1_29 & 255ull);
-    r18_19 = r1_33;
-    r18_20 = (u32)(u64)(r1_31 >> 32ull);
-    goto l_arm_105;
-l_capnp_34:;
-    r15_15 = r18_16;
+    r18_21 = r1_33;
+    r18_22 = (u32)(u64)(r1_31 >> 32ull);
+    goto l_arm_109;
+l_capnp_33:;
+    r15_15 = r18_18;
     r15_16 = 0ull;
-    r18_19 = r18_18;
-    r18_20 = r18_17;
-    goto l_arm_105;
-l_arm_93:;
-    goto l_else_6;
-l_arm_103:;
-    if (!(ld64(r11_37) == r5_50)) goto l_else_6;
-    r50_8 = (slot_2 + 8);
-    r3_60 = ((u8 *)g_static_25);
-    r3_61 = 18ull;
-l_join_81:;
-    memset(slot_2, 0u, 96);
-    r2_104 = ld64(r14_22);
-    if (!(r3_61 < (ld64(r14_23) - r2_104))) goto l_std_31;
-    r38_10 = (r2_104 + r3_61);
-    r12_33 = away(ldp(r14_21), r2_104);
-    if (((u64)(uptr)r12_33 - (u64)(uptr)r3_60) < r3_61) { r0_73 = 0ull; goto l_join_79; }
-    memcpy_or_none(r12_33, r3_60, r3_61);
-    goto l_arm_106;
-l_join_79:;
-    st8((r12_33 + (i64)(r0_73)), ld8((r3_60 + (i64)(r0_73))));
-    u64 r30_30 = (r0_73 + 1ull);
-    if (!(r30_30 == r3_61)) { r0_73 = r30_30; goto l_join_79; }
-l_arm_106:;
-    st64(r14_22, r38_10);
-    r6_65 = r3_61;
-    goto l_arm_107;
-l_std_31:;
-    std_io_buffered_BufWriter_write_cold_89ca6214804c96d4(slot_2, slot_17, r3_60, r3_61);
-    u64 r4_47 = ld64(r50_8);
-    if ((ld8(slot_2) != 0u) ? 1u : (r4_47 == 0ull)) goto l_join_80;
-    r6_65 = r4_47;
+    r18_21 = r18_20;
+    r18_22 = r18_19;
+    goto l_arm_109;
+l_arm_97:;
+    goto l_else_7;
 l_arm_107:;
-    u64 r55_13 = (r3_61 - r6_65);
-    if (r55_13 == 0ull) { r2_106 = 0u; goto l_capnp_39; }
-    u8 *r3_62 = away(r3_60, r6_65);
+    if (!(ld64(r11_38) == r5_52)) goto l_else_7;
+    r50_8 = (slot_2 + 8);
+    r3_60 = ((u8 *)g_static_30);
+    r3_61 = 18ull;
+l_join_80:;
+    memset(slot_2, 0u, 96);
+    r2_104 = ld64(r14_24);
+    if (!(r3_61 < (ld64(r14_25) - r2_104))) goto l_std_32;
+    r38_10 = (r2_104 + r3_61);
+    r12_38 = away(ldp(r14_23), r2_104);
+    if (((u64)(uptr)r12_38 - (u64)(uptr)r3_60) < r3_61) { r0_74 = 0ull; goto l_join_78; }
+    memcpy_or_none(r12_38, r3_60, r3_61);
+    goto l_arm_110;
+l_join_78:;
+    st8((r12_38 + (i64)(r0_74)), ld8((r3_60 + (i64)(r0_74))));
+    u64 r30_30 = (r0_74 + 1ull);
+    if (!(r30_30 == r3_61)) { r0_74 = r30_30; goto l_join_78; }
+l_arm_110:;
+    st64(r14_24, r38_10);
+    r6_63 = r3_61;
+    goto l_arm_111;
+l_std_32:;
+    std_io_buffered_BufWriter_write_cold_89ca6214804c96d4(slot_2, slot_17, r3_60, r3_61);
+    u64 r4_46 = ld64(r50_8);
+    if ((ld8(slot_2) != 0u) ? 1u : (r4_46 == 0ull)) goto l_join_79;
+    r6_63 = r4_46;
+l_arm_111:;
+    u64 r55_13 = (r3_61 - r6_63);
+    if (r55_13 == 0ull) { r2_106 = 0u; goto l_capnp_38; }
+    u8 *r3_62 = away(r3_60, r6_63);
     u64 r3_63 = r55_13;
     r3_60 = r3_62;
     r3_61 = r3_63;
-    goto l_join_81;
-l_else_6:;
+    goto l_join_80;
+l_else_7:;
     r50_9 = (slot_2 + 8);
-    r3_64 = ((u8 *)g_static_26);
+    r3_64 = ((u8 *)g_static_31);
     r3_65 = 24ull;
-l_join_83:;
-    memset(slot_2, 0u, 96);
-    r2_107 = ld64(r14_22);
-    if (!(r3_65 < (ld64(r14_23) - r2_107))) goto l_std_32;
-    r38_11 = (r2_107 + r3_65);
-    r12_34 = away(ldp(r14_21), r2_107);
-    if (((u64)(uptr)r12_34 - (u64)(uptr)r3_64) < r3_65) { r0_74 = 0ull; goto l_join_82; }
-    memcpy_or_none(r12_34, r3_64, r3_65);
-    goto l_arm_108;
 l_join_82:;
-    st8((r12_34 + (i64)(r0_74)), ld8((r3_64 + (i64)(r0_74))));
-    u64 r30_31 = (r0_74 + 1ull);
-    if (!(r30_31 == r3_65)) { r0_74 = r30_31; goto l_join_82; }
-l_arm_108:;
-    st64(r14_22, r38_11);
-    r6_66 = r3_65;
-    goto l_arm_109;
-l_std_32:;
+    memset(slot_2, 0u, 96);
+    r2_107 = ld64(r14_24);
+    if (!(r3_65 < (ld64(r14_25) - r2_107))) goto l_std_33;
+    r38_11 = (r2_107 + r3_65);
+    r12_39 = away(ldp(r14_23), r2_107);
+    if (((u64)(uptr)r12_39 - (u64)(uptr)r3_64) < r3_65) { r0_75 = 0ull; goto l_join_81; }
+    memcpy_or_none(r12_39, r3_64, r3_65);
+    goto l_arm_112;
+l_join_81:;
+    st8((r12_39 + (i64)(r0_75)), ld8((r3_64 + (i64)(r0_75))));
+    u64 r30_31 = (r0_75 + 1ull);
+    if (!(r30_31 == r3_65)) { r0_75 = r30_31; goto l_join_81; }
+l_arm_112:;
+    st64(r14_24, r38_11);
+    r6_64 = r3_65;
+    goto l_arm_113;
+l_std_33:;
     std_io_buffered_BufWriter_write_cold_89ca6214804c96d4(slot_2, slot_17, r3_64, r3_65);
-    u64 r4_48 = ld64(r50_9);
-    if ((ld8(slot_2) != 0u) ? 1u : (r4_48 == 0ull)) goto l_join_80;
-    r6_66 = r4_48;
-l_arm_109:;
-    u64 r55_14 = (r3_65 - r6_66);
-    if (r55_14 == 0ull) { r2_106 = 0u; goto l_capnp_39; }
-    u8 *r3_66 = away(r3_64, r6_66);
+    u64 r4_47 = ld64(r50_9);
+    if ((ld8(slot_2) != 0u) ? 1u : (r4_47 == 0ull)) goto l_join_79;
+    r6_64 = r4_47;
+l_arm_113:;
+    u64 r55_14 = (r3_65 - r6_64);
+    if (r55_14 == 0ull) { r2_106 = 0u; goto l_capnp_38; }
+    u8 *r3_66 = away(r3_64, r6_64);
     u64 r3_67 = r55_14;
     r3_64 = r3_66;
     r3_65 = r3_67;
-    goto l_join_83;
-l_join_80:;
-    st8(r14_24, 1u);
+    goto l_join_82;
+l_join_79:;
+    st8(r14_26, 1u);
     r2_106 = 3u;
-l_capnp_39:;
-    if (r0_24 == 0ull) goto l_std_33;
-    if (ld64((r0_23 + 16)) == 0ull) goto l_std_33;
-    rattle_dealloc(ldp(r0_23));
-l_std_33:;
-    if (r0_25 == 0ull) { r0_65 = r2_106; goto l_capnp_31; }
-    r0_66 = r2_106;
-    goto l_capnp_32;
-l_arm_105:;
+l_capnp_38:;
+    if (r0_25 == 0ull) goto l_std_34;
+    if (ld64((r0_24 + 16)) == 0ull) goto l_std_34;
+    rattle_dealloc(ldp(r0_24));
+l_std_34:;
+    if (r0_26 == 0ull) { r0_66 = r2_106; goto l_capnp_30; }
+    r0_67 = r2_106;
+    goto l_capnp_31;
+l_arm_109:;
     st64(slot_7, r15_16);
     st32((slot_7 + 8), (r15_15 & 255u));
-    st32((slot_7 + 12), r18_20);
-    st64((slot_7 + 16), r18_19);
+    st32((slot_7 + 12), r18_22);
+    st64((slot_7 + 16), r18_21);
     r57_3 = capnp_layout_tool_engine_refuse_05c50f83f81b9c23(slot_17, slot_7);
-    if (r0_24 == 0ull) goto l_std_34;
-    if (ld64((r0_23 + 16)) == 0ull) goto l_std_34;
-    rattle_dealloc(ldp(r0_23));
-l_std_34:;
-    if (r0_25 == 0ull) { r0_65 = r57_3; goto l_capnp_31; }
-    r0_66 = r57_3;
-l_capnp_32:;
-    rattle_dealloc(r0_23);
-    r0_65 = r0_66;
+    if (r0_25 == 0ull) goto l_std_35;
+    if (ld64((r0_24 + 16)) == 0ull) goto l_std_35;
+    rattle_dealloc(ldp(r0_24));
+l_std_35:;
+    if (r0_26 == 0ull) { r0_66 = r57_3; goto l_capnp_30; }
+    r0_67 = r57_3;
 l_capnp_31:;
-    st8(slot_10, r0_65);
+    rattle_dealloc(r0_24);
+    r0_66 = r0_67;
+l_capnp_30:;
+    st8(slot_10, r0_66);
     stp((slot_10 + 8), slot_1);
     memset((slot_10 + 16), 0u, 16);
-    goto l_capnp_9;
+    goto l_capnp_8;
 l_default_1:;
     UNREACHABLE();
-l_arm_41:;
-    if (r6_35 == 0u) { r9_50 = 2u; goto l_capnp_40; }
+l_arm_45:;
+    if (r6_33 == 0u) { r9_56 = 2u; goto l_capnp_39; }
     memset(slot_15, 0u, 24);
-    u8 r36_26 = capnp_layout_tool_engine_refuse_05c50f83f81b9c23(slot_17, slot_15);
-    r9_50 = r36_26;
+    u8 r36_9 = capnp_layout_tool_engine_refuse_05c50f83f81b9c23(slot_17, slot_15);
+    r9_56 = r36_9;
+l_capnp_39:;
+    r9_57 = r9_56;
+    goto l_capnp_40;
+l_capnp_8:;
+    r9_58 = ld8(slot_10);
+    r9_60 = ldp((slot_10 + 8));
+    if (ld64((slot_10 + 24)) == 0ull) { r9_57 = r9_58; goto l_capnp_40; }
+    rattle_dealloc(r9_60);
+    r9_57 = r9_58;
 l_capnp_40:;
-    r9_51 = r9_50;
-    goto l_capnp_41;
-l_capnp_9:;
-    r9_52 = ld8(slot_10);
-    r9_54 = ldp((slot_10 + 8));
-    if (ld64((slot_10 + 24)) == 0ull) { r9_51 = r9_52; goto l_capnp_41; }
-    rattle_dealloc(r9_54);
-    r9_51 = r9_52;
-l_capnp_41:;
     memset(slot_2, 0u, 96);
     std_io_buffered_BufWriter_flush_buf_89ca6214804c96d4(slot_2, slot_17);
-    spec_1 = ((ld8(slot_2) == 0u) ? r9_51 : 3u);
+    spec_2 = ((ld8(slot_2) == 0u) ? r9_57 : 3u);
     mv32(slot_2, slot_17);
     std_io_buffered_BufWriter_flush_buf_89ca6214804c96d4(slot_3, slot_2);
-    if (ld64((slot_2 + 24)) == 0ull) goto l_std_35;
+    if (ld64((slot_2 + 24)) == 0ull) goto l_std_36;
     rattle_dealloc(ldp((slot_2 + 8)));
-l_std_35:;
-    r26_30 = ld64(r5_16);
+l_std_36:;
+    r26_30 = ld64(r5_18);
     r26_31 = ld64(r3_5);
-    if (r26_31 == r26_30) goto l_arm_110;
+    if (r26_31 == r26_30) goto l_arm_114;
     c_lseek(0u, (r26_30 - r26_31), 1u);
-    goto l_arm_110;
-l_arm_13:;
-    u8 r99_1 = layout_tool_complain(((u8 *)g_static_0), 13ull);
-    r6_67 = r99_1;
-    goto l_layout_2;
-l_arm_110:;
-    switch (spec_1) {
-    case 0u: { r6_67 = spec_1; goto l_layout_2; }
-    case 1u: { r6_67 = spec_1; goto l_layout_2; }
-    case 2u: goto l_arm_111;
-    case 3u: goto l_arm_112;
+    goto l_arm_114;
+l_arm_21:;
+    u8 r157353_1 = layout_tool_complain(((u8 *)g_static_1), 13ull);
+    r157355_1 = r157353_1;
+    goto l_join_83;
+l_arm_17:;
+    u8 r157_2 = layout_tool_complain(((u8 *)g_static_1), 13ull);
+    if (r13_1 == 0ull) { r157356_1 = r157_2; goto l_std_37; }
+    r157355_1 = r157_2;
+l_join_83:;
+    r0_76 = 0ull;
+l_join_84:;
+    r9_64 = (r13_3 + (i64)((r0_76 * 24ull)));
+    if (ld64((r9_64 + 16)) == 0ull) goto l_core_24;
+    rattle_dealloc(ldp(r9_64));
+l_core_24:;
+    u64 r12_40 = (r0_76 + 1ull);
+    if (r12_40 == r13_1) { r157356_1 = r157355_1; goto l_std_37; }
+    r0_76 = r12_40;
+    goto l_join_84;
+l_std_37:;
+    if (r13_4 == 0ull) { r0_15 = r157356_1; goto l_arm_18; }
+    rattle_dealloc(r13_3);
+    r0_15 = r157356_1;
+    goto l_arm_18;
+l_arm_114:;
+    switch (spec_2) {
+    case 0u: { r54_5 = spec_2; goto l_join_85; }
+    case 1u: { r54_5 = spec_2; goto l_join_85; }
+    case 2u: goto l_arm_115;
+    case 3u: goto l_arm_116;
     default: goto l_noarm_1;
     }
-l_arm_23:;
-    goto l_arm_22;
-l_arm_111:;
-    u8 r130_1 = layout_tool_complain(((u8 *)g_static_1), 9ull);
-    r6_67 = r130_1;
-    goto l_layout_2;
-l_arm_112:;
-    r6_67 = 2u;
-    goto l_layout_2;
+l_arm_27:;
+    if (r13_1 == 0ull) goto l_std_38;
+    r0_77 = 0ull;
+l_join_86:;
+    r9_65 = (r13_3 + (i64)((r0_77 * 24ull)));
+    if (ld64((r9_65 + 16)) == 0ull) goto l_core_25;
+    rattle_dealloc(ldp(r9_65));
+l_core_25:;
+    u64 r12_41 = (r0_77 + 1ull);
+    if (!(r12_41 == r13_1)) { r0_77 = r12_41; goto l_join_86; }
+l_std_38:;
+    if (r13_4 == 0ull) goto l_arm_16;
+    rattle_dealloc(r13_3);
+    goto l_arm_16;
+l_arm_115:;
+    u8 r188_1 = layout_tool_complain(((u8 *)g_static_3), 9ull);
+    r54_5 = r188_1;
+    goto l_join_85;
+l_arm_116:;
+    r54_5 = 2u;
+l_join_85:;
+    if (r13_1 == 0ull) goto l_std_39;
+    r0_78 = 0ull;
+l_join_87:;
+    r9_66 = (r13_3 + (i64)((r0_78 * 24ull)));
+    if (ld64((r9_66 + 16)) == 0ull) goto l_core_26;
+    rattle_dealloc(ldp(r9_66));
+l_core_26:;
+    u64 r12_42 = (r0_78 + 1ull);
+    if (!(r12_42 == r13_1)) { r0_78 = r12_42; goto l_join_87; }
+l_std_39:;
+    if (r13_4 == 0ull) { r0_15 = r54_5; goto l_arm_18; }
+    rattle_dealloc(r13_3);
+    r0_15 = r54_5;
+    goto l_arm_18;
 l_noarm_1:;
     UNREACHABLE();
-l_arm_22:;
+l_arm_18:;
+    r6_68 = r0_15;
+    goto l_layout_2;
+l_arm_16:;
     st32(slot_3, 1u);
     r8_37 = (slot_3 + 4);
     memset(r8_37, 0u, 1132);
@@ -12564,88 +12519,88 @@ l_arm_22:;
     st32(r8_38, 32u);
     memset(r8_39, 0u, 12);
     st64(r8_40, 0xffffffffffffffffull);
-    r10_38 = (slot_3 + 1032);
-    r11_42 = 0ull;
-    r5_54 = 8ull;
-    r5_55 = ((u8 *)g_static_27);
-l_arm_113:;
-    r20_32 = away(r5_55, 1ull);
-    r23_26 = (r5_54 + 0xffffffffffffffffull);
-    r52_6 = ld8(r5_55);
-    if (!(r11_42 > 1023ull)) { r339_1 = r11_42; goto l_std_36; }
-    u8 r18_23 = std_io_io_buffer_Buffer_flush(slot_3);
-    u64 r33_17 = ld64(r10_38);
-    if (r18_23 ? (r33_17 < 1024ull) : 0u) { r339_1 = r33_17; goto l_std_36; }
-    goto l_core_23;
-l_std_36:;
-    st8((r8_37 + (i64)(r339_1)), r52_6);
-    r48_3 = (r339_1 + 1ull);
-    st64(r10_38, r48_3);
-    if (!(r23_26 == 0ull)) { r11_42 = r48_3; r5_54 = r23_26; r5_55 = r20_32; goto l_arm_113; }
-    u8 t93 = (ld64(r8_41) == 0ull);
-    st32(r8_38, 32u);
-    memset(r8_39, 0u, 12);
-    st64(r8_40, 0xffffffffffffffffull);
-    if (t93) { r11_43 = r48_3; r5_56 = 16ull; r5_57 = ((u8 *)g_static_29); goto l_arm_114; }
-    goto l_core_24;
-l_arm_114:;
+    r10_42 = (slot_3 + 1032);
+    r11_43 = 0ull;
+    r5_56 = 8ull;
+    r5_57 = ((u8 *)g_static_32);
+l_arm_117:;
     r20_33 = away(r5_57, 1ull);
     r23_27 = (r5_56 + 0xffffffffffffffffull);
     r52_7 = ld8(r5_57);
-    if (!(r11_43 > 1023ull)) { r339_2 = r11_43; goto l_std_37; }
-    u8 r18_24 = std_io_io_buffer_Buffer_flush(slot_3);
-    u64 r33_18 = ld64(r10_38);
-    if (r18_24 ? (r33_18 < 1024ull) : 0u) { r339_2 = r33_18; goto l_std_37; }
-    goto l_core_23;
-l_std_37:;
-    st8((r8_37 + (i64)(r339_2)), r52_7);
-    u64 r48_4 = (r339_2 + 1ull);
-    st64(r10_38, r48_4);
-    if (r23_27 == 0ull) goto l_core_25;
-    r11_43 = r48_4;
-    r5_56 = r23_27;
-    r5_57 = r20_33;
-    goto l_arm_114;
-l_core_23:;
+    if (!(r11_43 > 1023ull)) { r339_3 = r11_43; goto l_std_40; }
+    u8 r18_25 = std_io_io_buffer_Buffer_flush(slot_3);
+    u64 r33_19 = ld64(r10_42);
+    if (r18_25 ? (r33_19 < 1024ull) : 0u) { r339_3 = r33_19; goto l_std_40; }
+    goto l_core_27;
+l_std_40:;
+    st8((r8_37 + (i64)(r339_3)), r52_7);
+    r48_5 = (r339_3 + 1ull);
+    st64(r10_42, r48_5);
+    if (!(r23_27 == 0ull)) { r11_43 = r48_5; r5_56 = r23_27; r5_57 = r20_33; goto l_arm_117; }
+    u8 t94 = (ld64(r8_41) == 0ull);
+    st32(r8_38, 32u);
+    memset(r8_39, 0u, 12);
+    st64(r8_40, 0xffffffffffffffffull);
+    if (t94) { r11_44 = r48_5; r5_58 = 16ull; r5_59 = ((u8 *)g_static_34); goto l_arm_118; }
+    goto l_core_28;
+l_arm_118:;
+    r20_34 = away(r5_59, 1ull);
+    r23_28 = (r5_58 + 0xffffffffffffffffull);
+    r52_8 = ld8(r5_59);
+    if (!(r11_44 > 1023ull)) { r339_4 = r11_44; goto l_std_41; }
+    u8 r18_26 = std_io_io_buffer_Buffer_flush(slot_3);
+    u64 r33_20 = ld64(r10_42);
+    if (r18_26 ? (r33_20 < 1024ull) : 0u) { r339_4 = r33_20; goto l_std_41; }
+    goto l_core_27;
+l_std_41:;
+    st8((r8_37 + (i64)(r339_4)), r52_8);
+    u64 r48_6 = (r339_4 + 1ull);
+    st64(r10_42, r48_6);
+    if (r23_28 == 0ull) goto l_core_29;
+    r11_44 = r48_6;
+    r5_58 = r23_28;
+    r5_59 = r20_34;
+    goto l_arm_118;
+l_core_27:;
     mv24(r8_38, slot_2);
-    r13_27 = 0u;
+    r13_32 = 0u;
     goto l_layout_3;
-l_core_25:;
+l_core_29:;
     mv24(r8_38, slot_2);
-    goto l_arm_115;
-l_core_24:;
-    u8 r32_6 = core_fmt_formatter_Formatter_write_indented_bf264aed5fa78656(slot_3, ((u8 *)g_static_29), 16ull);
+    goto l_arm_119;
+l_core_28:;
+    u8 r32_7 = core_fmt_formatter_Formatter_write_indented_bf264aed5fa78656(slot_3, ((u8 *)g_static_34), 16ull);
     mv24(r8_38, slot_2);
-    if (!(r32_6 == 0u)) { r13_27 = 0u; goto l_layout_3; }
-l_arm_115:;
+    if (!(r32_7 == 0u)) { r13_32 = 0u; goto l_layout_3; }
+l_arm_119:;
     mv24(slot_2, r8_38);
     st32(r8_38, 32u);
     memset(r8_39, 0u, 12);
     st64(r8_40, 0xffffffffffffffffull);
-    if (!(ld64(r8_41) == 0ull)) goto l_else_7;
-    u64 r11_44 = ld64(r10_38);
-    if (!(r11_44 > 1023ull)) { r339_3 = r11_44; goto l_std_38; }
-    u8 r18_25 = std_io_io_buffer_Buffer_flush(slot_3);
-    u64 r33_19 = ld64(r10_38);
-    if (r18_25 ? (r33_19 < 1024ull) : 0u) { r339_3 = r33_19; goto l_std_38; }
-    r0_75 = 0u;
-    goto l_core_26;
-l_std_38:;
-    st8((r8_37 + (i64)(r339_3)), 10u);
-    st64(r10_38, (r339_3 + 1ull));
-    r0_75 = 1u;
-    goto l_core_26;
-l_else_7:;
-    u8 r32_7 = core_fmt_formatter_Formatter_write_indented_bf264aed5fa78656(slot_3, ((u8 *)g_static_22), 1ull);
-    r0_75 = (r32_7 == 0u);
-l_core_26:;
+    if (!(ld64(r8_41) == 0ull)) goto l_else_8;
+    u64 r11_45 = ld64(r10_42);
+    if (!(r11_45 > 1023ull)) { r339_5 = r11_45; goto l_std_42; }
+    u8 r18_27 = std_io_io_buffer_Buffer_flush(slot_3);
+    u64 r33_21 = ld64(r10_42);
+    if (r18_27 ? (r33_21 < 1024ull) : 0u) { r339_5 = r33_21; goto l_std_42; }
+    r0_79 = 0u;
+    goto l_core_30;
+l_std_42:;
+    st8((r8_37 + (i64)(r339_5)), 10u);
+    st64(r10_42, (r339_5 + 1ull));
+    r0_79 = 1u;
+    goto l_core_30;
+l_else_8:;
+    u8 r32_8 = core_fmt_formatter_Formatter_write_indented_bf264aed5fa78656(slot_3, ((u8 *)g_static_6), 1ull);
+    r0_79 = (r32_8 == 0u);
+l_core_30:;
     mv24(r8_38, slot_2);
-    r13_27 = r0_75;
+    r13_32 = r0_79;
 l_layout_3:;
     st32(slot_2, ld32(slot_3));
     memcpy((slot_2 + 4), r8_37, 1132);
-    u8 r10_41 = std_io_io_buffer_Buffer_flush(slot_2);
-    r6_67 = ((u8)((u8)r13_27 & (u8)r10_41) ? 1u : 2u);
+    u8 r10_45 = std_io_io_buffer_Buffer_flush(slot_2);
+    r6_68 = ((u8)((u8)r13_32 & (u8)r10_45) ? 1u : 2u);
 l_layout_2:;
-    return (u32)r6_67;
+    return (u32)r6_68;
 }

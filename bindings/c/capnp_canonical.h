@@ -29,8 +29,8 @@
  * others, the calls that copy take memory with malloc, about the size of the canonical message, and free it before they
  * return. No other call takes any.
  *
- * Stack. A level of nesting takes up to 624 bytes as ./install builds the library, which is for x86-64-v2 and later. In
- * a release in plain C, which isn't tied to these processors, it takes up to 640 bytes with clang, 768 with gcc, and
+ * Stack. A level of nesting takes up to 624 bytes as ./install builds the library, which is for x86-64-v2 and later. As
+ * make builds it from generated/, for any 64-bit processor, it takes up to 640 bytes with clang, 768 with gcc, and
  * 11,056 if the compiler doesn't optimise. A call takes another 8 KB, or 21 KB if it doesn't. This is measured on
  * x86-64, not proved.
  *
