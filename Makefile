@@ -7,6 +7,7 @@
 #     make install            installs them below PREFIX, with DESTDIR in front; LIBDIR and others can be set separately
 #     make install-python     installs the Python module into PYTHONDIR
 #     make wasm               the library for JavaScript, with clang and wasm-ld
+#     make crate              a package of the Rust crate that contains the C, in bindings/rust/target/package, with cargo
 #
 # CC, CFLAGS, CPPFLAGS, LDFLAGS, AR and INSTALL are as usual. SHARED_FLAGS makes the shared library; set it if your linker is
 # neither Apple's nor takes -soname and --version-script. RUNNER runs a program for another machine, for example
@@ -100,7 +101,12 @@ install-python:
 wasm:
 	sh bindings/js/build.sh generated
 
+crate:
+	mkdir -p bindings/rust/native
+	cp generated/$(NAME).c bindings/c/$(NAME).h bindings/rust/native
+	cargo package --offline --allow-dirty --manifest-path bindings/rust/Cargo.toml; status=$$?; rm -r bindings/rust/native; exit $$status
+
 clean:
 	rm -rf $(BUILD)
 
-.PHONY: all check check-streams clean install install-python test wasm
+.PHONY: all check check-streams clean crate install install-python test wasm

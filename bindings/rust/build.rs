@@ -1,6 +1,6 @@
-//! Finds the library: in the folder that `CAPNP_CANONICAL_LIB_DIR` names; or else compiles it from
-//! `native/capnp_canonical.c`, if that is there, with the C compiler `$CC` or `cc`; or else asks `pkg-config`. It
-//! links an installed `libcapnp_canonical.a`, or `libcapnp_canonical.so` if there is no archive or
+//! Finds the library: in the folder that `CAPNP_CANONICAL_LIB_DIR` names; or else compiles its C, if that is in
+//! `native/` or in the repository that this crate is in, with the C compiler `$CC` or `cc`; or else asks `pkg-config`.
+//! It links an installed `libcapnp_canonical.a`, or `libcapnp_canonical.so` if there is no archive or
 //! `CAPNP_CANONICAL_STATIC` is 0. Without a library the crate builds, but can't be linked.
 //!
 //! As in make and CMake, `CC` and `AR` may be several words, such as `ccache gcc`.
@@ -10,8 +10,11 @@ use std::process::Command;
 
 const FOLDER: &str = "CAPNP_CANONICAL_LIB_DIR";
 const STATIC: &str = "CAPNP_CANONICAL_STATIC";
-const SOURCE: &str = "native/capnp_canonical.c";
-const HEADER: &str = "native/capnp_canonical.h";
+/// The places of the C and of its header: in a package, and in the repository.
+const SOURCES: [(&str, &str); 2] = [
+    ("native/capnp_canonical.c", "native"),
+    ("../../generated/capnp_canonical.c", "../c"),
+];
 
 fn main() -> Result<(), String> {
     for name in [FOLDER, STATIC, "PKG_CONFIG_PATH", "CFLAGS"] {
@@ -42,8 +45,10 @@ fn library() -> Result<Option<PathBuf>, String> {
     if env::var_os("DOCS_RS").is_some() {
         return Ok(None);
     }
-    if Path::new(SOURCE).exists() {
-        return compiled().map(Some);
+    for (source, include) in SOURCES {
+        if Path::new(source).exists() && Path::new(include).is_dir() {
+            return compiled(source, include).map(Some);
+        }
     }
     Ok(folder_by_pkg_config())
 }
@@ -59,17 +64,16 @@ fn folder_by_pkg_config() -> Option<PathBuf> {
 }
 
 /// Compiles the library into cargo's output folder.
-fn compiled() -> Result<PathBuf, String> {
-    for file in [SOURCE, HEADER] {
-        println!("cargo:rerun-if-changed={file}");
-    }
+fn compiled(source: &str, include: &str) -> Result<PathBuf, String> {
+    println!("cargo:rerun-if-changed={source}");
+    println!("cargo:rerun-if-changed={include}/capnp_canonical.h");
     let folder = PathBuf::from(env::var_os("OUT_DIR").ok_or("OUT_DIR isn't set")?);
     let object = folder.join("capnp_canonical.o");
     let cflags = env::var("CFLAGS").unwrap_or_default();
     run(tool("CC", "gcc", "cc")
         .args(["-std=gnu11", "-O2", "-fPIC"])
         .args(cflags.split_whitespace())
-        .args(["-c", SOURCE, "-o"])
+        .args(["-I", include, "-c", source, "-o"])
         .arg(&object))?;
     let archive = folder.join("libcapnp_canonical.a");
     run(tool("AR", "ar", "ar").arg("crs").arg(archive).arg(&object))?;

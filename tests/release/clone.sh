@@ -251,7 +251,7 @@ if is_wanted cargo && has cargo cargo; then
     part 'cargo add --path' by_cargo path --path "$clone/bindings/rust"
     part 'cargo add --git' by_cargo git --git "file://$clone" capnp_canonical
     part 'cargo test' env CARGO_TARGET_DIR="$work/target" cargo test --offline --locked --manifest-path bindings/rust/Cargo.toml
-    part 'cargo package' env CARGO_TARGET_DIR="$work/target" cargo package --offline --manifest-path bindings/rust/Cargo.toml
+    part 'cargo package' env CARGO_TARGET_DIR="$work/target" make crate
 fi
 if is_wanted release && has release python3; then part 'release' released; fi
 if is_wanted wasm && has 'make wasm' clang wasm-ld; then part 'make wasm' by_wasm; fi

@@ -1,1 +1,0 @@
-../../../generated/capnp_canonical.c

@@ -1,1 +1,0 @@
-../../c/capnp_canonical.h
