@@ -55,9 +55,9 @@ use std::alloc::Global;
 /// Makes the canonical copy of the message in `segments`, with memory from `allocator`
 /// ("Canonicalization").
 ///
-/// Succeeds exactly if the message has a value without capabilities within both limits, unless the
-/// allocator refuses memory; it counts such a refusal. The copy is one segment with exactly that
-/// value's canonical words.
+/// Succeeds exactly if the message has a value without capabilities within both limits, whose
+/// canonical words fit a segment, unless the allocator refuses memory, which adds one to its
+/// `refusals`. The copy is one segment with exactly these words.
 pub fn canonical_copy<A: Allocator, S: ReaderSegments + Drop>(
     alloc: Global,
     allocator: A,
@@ -313,9 +313,9 @@ pub fn canonical_test_at<S: ReaderSegments>(
 /// Makes the canonical copy of the value of the pointer at `place`, with memory from `allocator`.
 ///
 /// Succeeds exactly if the pointer means a value without capabilities within the nesting limit of
-/// `arena`, and `lim` covers what reading it costs, unless the allocator refuses memory; it counts
-/// such a refusal. Charges `lim` that cost, and counts each pointer; a refusal leaves `lim`
-/// unchanged.
+/// `arena`, its canonical words fit a segment, and `lim` covers what reading it costs, unless the
+/// allocator refuses memory, which adds one to its `refusals`. `lim` is charged that cost, and
+/// counts each non-null pointer; a refusal leaves it unchanged.
 pub fn canonical_copy_at<A: Allocator, S: ReaderSegments>(
     alloc: Global,
     allocator: A,

@@ -162,8 +162,8 @@ impl<'a, A: BuilderArena> PointerBuilder<'a, A> {
     }
 
     /// Makes the pointer lead to a new struct, all zero, and returns the struct's place;
-    /// `into_struct` makes a builder of that. It only borrows the pointer, so its contract states
-    /// what success and a refusal leave; `init_struct` does both steps.
+    /// `into_struct` makes a builder of that, and `init_struct` does both steps. The pointer can be
+    /// used afterwards, so the contract says what it is after success and after a refusal.
     ///
     /// Refusals: `AllocationFailed`, or `MessageTooLarge` with the struct's words plus one. After a
     /// refusal the pointer is null.
@@ -435,8 +435,8 @@ impl<'a, A: BuilderArena> PointerBuilder<'a, A> {
 
     /// Makes the pointer lead to a new text: the bytes `bytes`, followed by a zero byte ("Lists").
     ///
-    /// Refusals: `AllocationFailed`, or `MessageTooLarge` with the words of the bytes plus one.
-    /// After a refusal the pointer is null.
+    /// Refusals: `AllocationFailed`, or `MessageTooLarge` with one more than the words of the text
+    /// and its zero byte. After a refusal the pointer is null.
     #[inline(always)]
     pub fn set_text(&mut self, bytes: &[u8]) -> Result<(), ErrorKind>
         requires there { IsThere (built A.view self.old) }

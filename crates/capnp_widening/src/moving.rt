@@ -29,7 +29,9 @@ use capnp_making::zeroing::zero_pads;
 use capnp_words::error::ErrorKind;
 use capnp_words::wire_pointer::{WirePointer, WirePointerKind};
 
-/// Writes a pointer at `to`, where it is null, that leads to the object of the pointer at `from`.
+/// Replaces the null pointer at `to` by one to the object that the pointer at `from` leads to. A
+/// far pointer or a capability is copied as it is. Nothing is written if the pointer at `from` is
+/// null or leads out of its segment.
 ///
 /// Refuses only if there is no memory for two words. Then nothing changes except the allocator's
 /// count `refused`.

@@ -8,9 +8,9 @@ use capnp_layout::error::ErrorKind;
 use capnp_layout::wire_pointer::ElementSize;
 use std::alloc::{AllocError, Global};
 
-/// The answer to a line: how many pointers of a list were set, how many requests were refused, what
-/// `get_segments_for_output` answered, and the words of the message. Holds `held` bytes until it
-/// has answered.
+/// The output for a line of input: how many pointers of a list were set, how many allocations were
+/// refused, what `get_segments_for_output` returned, and the words of the message. Until that has
+/// returned, `held` bytes stay allocated.
 pub fn answer(alloc: Global, count: u32, held: usize) -> Result<String, AllocError> {
     let held = Vec::from_elem(alloc, 0u8, held)?;
     let mut arena = BuilderArenaImpl::new(alloc, HeapAllocator::new(alloc, 1));

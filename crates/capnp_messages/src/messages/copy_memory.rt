@@ -90,8 +90,8 @@ impl Segment for CopySegment {
 }
 
 /// Allocates segments on the heap, each of the requested size. Keeps the memory of the segment that
-/// was returned last, and uses it for the next segment. So a message of one segment takes no memory
-/// if that memory is large enough for it.
+/// was deallocated last, and uses it for the next segment. So a message of one segment that fits
+/// there allocates nothing.
 #[derive(Drop)]
 pub struct CopyMemory {
     alloc: Global,
