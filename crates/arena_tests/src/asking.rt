@@ -68,8 +68,8 @@ fn words_elsewhere(rt: HostRuntime) {
     assert!(rt; arena.into_allocator().requests() == &asked[..]);
 }
 
-/// Allocates the two words of a segment, the second as the first one that has room, and writes
-/// them.
+/// Allocates the two words of segment `id`, and writes them. Asks for the second word wherever
+/// there is room: `id` has to be the first segment with room.
 fn use_segment<A: BuilderArena>(rt: &impl Abort, arena: &mut A, id: u32) {
     assert!(rt; take_of(rt, arena, id, 1) == Some(0));
     assert!(rt; take(arena, 1) == Ok((id, 1)));
@@ -82,8 +82,8 @@ fn use_segment<A: BuilderArena>(rt: &impl Abort, arena: &mut A, id: u32) {
     assert!(rt; arena.contains_interval(id, 0, 2, &mut lim) == Ok(()));
 }
 
-/// Makes `segments` segments of two words in an arena, does in each what requests nothing, and gets
-/// the output of all. Returns the allocator.
+/// Makes `segments` segments of two words in an arena, uses each by calls that request nothing, and
+/// gets the output of all. Returns the allocator.
 fn use_all<A: Allocator>(rt: &impl Abort, mut arena: BuilderArenaImpl<A>, segments: u32) -> A {
     for _ in 0..segments {
         arena.allocate_segment(2).expect(rt, "memory");
@@ -97,8 +97,8 @@ fn use_all<A: Allocator>(rt: &impl Abort, mut arena: BuilderArenaImpl<A>, segmen
     arena.into_allocator()
 }
 
-/// Whether each segment of `words` words was requested once, each with its row except for the
-/// `rowless` ones, and no others.
+/// Whether `requests` are for `segments` segments of `words` words, each followed by its row except
+/// for the first `rowless` ones, and for nothing else.
 fn asked_once(requests: &[Request], words: u32, segments: usize, rowless: usize) -> bool {
     let mut asked = requests.iter();
     for id in 0..segments {
@@ -123,8 +123,8 @@ fn nothing_is_asked_of_many(rt: HostRuntime) {
     }
 }
 
-/// However many segments there are, each request is for a segment or its row, if the first needs no
-/// row.
+/// If the first segment needs no row, none is requested for it. However many segments there are,
+/// each request is for a segment or its row.
 #[test]
 fn nothing_is_asked_behind_the_first(rt: HostRuntime) {
     for segments in [1, 10, 1_000] {

@@ -6,7 +6,7 @@ use std::alloc::Global;
 use std::process::Abort;
 use test_support::has_words;
 
-/// Whether the arena's output is these segments, and a single one if there is one.
+/// Whether the arena's output is these segments, as a `SingleSegment` if there is just one.
 fn gives(rt: &impl Abort, arena: &BuilderArenaImpl<HeapAllocator>, want: &[&[u8]]) -> bool {
     let output = arena.get_segments_for_output().expect(rt, "memory");
     let is_single = matches!(output, OutputSegments::SingleSegment(_));

@@ -11,7 +11,7 @@ const WORDS: &[u8] = b"\x08\0\0\0\x03\0\x02\0\x19\0\0\0\xaa\x01\0\0";
 const PACKED: &[u8] = b"\x51\x08\x03\x02\x31\x19\xaa\x01";
 
 /// Four words without a zero byte: the first is packed after its tag, then come the number of the
-/// following ones, and these unchanged.
+/// other words, and those words unchanged.
 const PACKED_WHOLE: &[u8] =
     b"\xff\x8a\x8a\x8a\x8a\x8a\x8a\x8a\x8a\x03\x8a\x8a\x8a\x8a\x8a\x8a\x8a\x8a\x8a\x8a\x8a\x8a\x8a\x8a\x8a\x8a\x8a\x8a\x8a\x8a\x8a\x8a\x8a\x8a";
 
@@ -21,7 +21,8 @@ fn are_packed(alloc: Global, words: &[u8], packed: &[u8]) -> Result<bool, Packin
     Ok(there && unpack(alloc, packed, words.len())?.as_slice() == words)
 }
 
-/// The number of words is one byte: of 257 zero words, the last has a tag of its own.
+/// The number of zero words after a tag's own is one byte, so the last of 257 zero words has its
+/// own tag.
 #[test]
 fn in_memory(rt: HostRuntime) {
     for (words, packed) in [

@@ -1,6 +1,6 @@
 //! What is returned to the allocator of an arena that is dropped or taken apart: each segment once,
-//! in order of number, with the number of its used words; before these, at once and unused, each
-//! whose row was refused. An arena without its allocator returns nothing.
+//! in order of number, with the number of its used words. A segment whose row was refused was
+//! returned before, at once and unused. An arena without its allocator returns nothing.
 use capnp_arena::arena::{Allocator, BuilderArena, BuilderArenaImpl, HeapAllocator};
 use capnp_words::error::ErrorKind;
 use std::alloc::Global;
@@ -21,8 +21,8 @@ const NONE_USED: u64 = 3_00_05_00_07_00_11_00;
 
 const FIRST_USED: u64 = 5_00_07_00_11_00_03_03;
 
-/// Allocates words in three segments, and in a fourth, if there are rows for them. Returns the
-/// arena and the number of segments.
+/// Allocates words in up to four segments, in as many as there are rows for. Returns the arena and
+/// the number of segments.
 fn filled_of<A: Allocator>(
     rt: &impl Abort,
     alloc: Global,
@@ -54,8 +54,8 @@ fn filled<'a>(
     )
 }
 
-/// Checks the number of segments made, and what was returned by the time the arena was dropped or
-/// taken apart: afterwards the allocator returns nothing more.
+/// Drops the arena or takes it apart. Checks the number of segments made, and what was returned:
+/// dropping the allocator afterwards returns nothing more.
 fn check_returned<A: Allocator>(
     rt: &impl Abort,
     (arena, segments): (BuilderArenaImpl<A>, u64),
@@ -74,10 +74,10 @@ fn check_returned<A: Allocator>(
     assert!(rt; returned.get() == want, "{made} segments");
 }
 
-/// An arena that is granted all four segments, and memory for the rows of four, of three or of
-/// none, is dropped or taken apart (`into_allocator`). Compares what was returned, and how many
-/// segments were made and refused, with what the test expects. As in every test, `rt`, the runtime
-/// of the host, provides the heap's allocator, and ends the test at the first assertion that fails.
+/// An arena that is granted all four segments, and memory for four rows, three or none, is dropped
+/// or taken apart (`into_allocator`). Compares what was returned, and how many segments were made
+/// and refused, with what the test expects. As in every test, `rt`, the runtime of the host,
+/// provides the heap's allocator, and ends the test at the first assertion that fails.
 #[test]
 fn dropped_or_taken_apart(rt: HostRuntime) {
     for (rows, made, want) in [(4, 4, ALL_USED), (3, 3, LAST_AT_ONCE), (0, 0, NONE_USED)] {
@@ -89,8 +89,8 @@ fn dropped_or_taken_apart(rt: HostRuntime) {
     }
 }
 
-/// The first segment needs no row if that is in the arena. A segment after it is returned at once
-/// if its row is refused, and isn't dropped.
+/// The first segment requests no row if the arena holds that row itself. A later segment whose row
+/// is refused is returned at once, and isn't dropped.
 #[test]
 fn first_in_the_arena(rt: HostRuntime) {
     for (rows, made, want) in [(3, 4, ALL_USED), (2, 3, LAST_AT_ONCE), (0, 1, FIRST_USED)] {
@@ -102,8 +102,8 @@ fn first_in_the_arena(rt: HostRuntime) {
     }
 }
 
-/// An arena without its allocator keeps its segments and gets no more. Once the allocator is back,
-/// it gets them all back, also one that it granted since.
+/// An arena without its allocator keeps its segments and gets no more. Once the allocator is put
+/// back, it gets back all segments, also one that it granted since.
 #[test]
 fn allocator_taken_out(rt: HostRuntime) {
     let returned = Cell::new(0);

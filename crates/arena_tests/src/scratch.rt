@@ -21,7 +21,7 @@ fn outgrow<A: BuilderArena>(rt: &impl Abort, alloc: Global, arena: &mut A) {
     assert!(rt; arena.refused() == 0);
 }
 
-/// An arena uses the memory for its first segment and ignores what it held.
+/// An arena uses the lent memory for its first segment, and ignores what that memory held.
 fn use_once<'a>(
     rt: &impl Abort,
     alloc: Global,
@@ -54,8 +54,8 @@ fn check_segment(
     assert!(rt; segment.bytes() == &[0; 32][..bytes.min(32)]);
 }
 
-/// The scratch space is used once, for what it is large enough for, and never if it has no whole
-/// word.
+/// The scratch space is used once, for a segment that it is large enough for. It is never used if
+/// it has no whole word.
 #[test]
 fn borrowed_or_owned(rt: HostRuntime) {
     let mut scratch = [0xff; 16];

@@ -1,5 +1,5 @@
-//! Steps without clauses about what they leave: a test that takes one knows nothing of the result
-//! from it.
+//! Steps without clauses about what they leave: a test knows nothing of a step's result but what it
+//! checks itself.
 use capnp_arena::arena::BuilderArena;
 use capnp_words::error::ErrorKind;
 use std::process::Abort;

@@ -1,5 +1,5 @@
-//! What calls of builders request: nothing, if the words fit the segment. Has each call that no
-//! case makes.
+//! What calls of builders request from the allocator: nothing, if the words fit the segment. Makes
+//! each call that no case makes.
 use crate::messages::{ONE_EACH, arena_of_root, check_struct, root};
 use capnp_arena::arena::{BuilderArena, BuilderArenaImpl, HeapAllocator, ReaderArena};
 use capnp_builders::builders::{PrimitiveElement, StructBuilder};

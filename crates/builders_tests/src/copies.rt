@@ -13,7 +13,7 @@ use std::alloc::Global;
 use std::process::Abort;
 use test_support::{arena_of, has_words};
 
-/// Copies nothing to the root, which is null then.
+/// Copies a null reader to the root, and checks that the root is then null.
 fn check_nothing<A: BuilderArena>(rt: &impl Abort, arena: &mut A, canonicalize: bool) {
     let mut lim = ReadLimiter::new(Some(1));
     let null: PointerReader<'_, NullArena> = PointerReader::new_default();
@@ -24,7 +24,7 @@ fn check_nothing<A: BuilderArena>(rt: &impl Abort, arena: &mut A, canonicalize: 
     assert!(rt; lim.followed() == 0);
 }
 
-/// A copy of a pointer from nothing is null, over null and over a capability.
+/// A copy of a null reader is null, whether the root was null or a capability.
 #[test]
 fn nothing(rt: HostRuntime) {
     for canonicalize in [true, false] {
@@ -48,8 +48,8 @@ fn check_source<A: ReaderArena>(rt: &impl Abort, alloc: Global, source: PointerR
     assert!(rt; result == Ok(()) && has_words(alloc, &copy, STRUCT));
 }
 
-/// What is read of a message being built, and copied, is the same in one segment and in more, and
-/// costs nothing.
+/// What is read and copied from a message being built is the same in one segment and in several,
+/// and costs nothing.
 #[test]
 fn built_messages(rt: HostRuntime) {
     let edits = &[
@@ -65,7 +65,7 @@ fn built_messages(rt: HostRuntime) {
     }
 }
 
-/// Sets a struct without pointers at the root of an empty message, and checks the words of that.
+/// Sets a struct without pointers at the root of an empty message, and checks the message's words.
 fn check_set<A: ReaderArena>(
     rt: &impl Abort,
     alloc: Global,
@@ -127,7 +127,7 @@ fn narrow_structs(rt: HostRuntime) {
     }
 }
 
-/// Sets a list at the root of an empty message, and checks the words of that.
+/// Sets a list at the root of an empty message, and checks the message's words.
 fn check_set_list<A: ReaderArena>(
     rt: &impl Abort,
     alloc: Global,

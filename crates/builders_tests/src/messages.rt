@@ -18,7 +18,7 @@ pub const ONE_EACH: StructSize = StructSize {
 /// A struct of a data word, 7, and of a pointer to the bytes of the text `a`.
 pub const STRUCT: &str = "0000000001000100 0700000000000000 0100000012000000 6100000000000000";
 
-/// The message `STRUCT` with each object after a landing pad in a segment of its own.
+/// The message `STRUCT` with each object in a segment of its own, after a landing pad.
 pub const STRUCT_APART: &str =
     "0200000001000000, 0000000001000100 0700000000000000 0200000002000000, 0100000012000000 6100000000000000";
 

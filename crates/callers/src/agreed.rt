@@ -16,8 +16,8 @@ ghost use Rattle.capnp_objects.specs.Source.{levels};
 ghost use Rattle.capnp_messages.specs.CanonicalMessages.{IsCanonicalMessage, IsCanonicalOf};
 ghost use Rattle.capnp_messages.specs.Messages.{IsValueOf};
 
-/// A place means at most one value, at one cost, for all nesting limits. So a message has at most
-/// one value, for all limits.
+/// A place means at most one value, at one cost; neither depends on the nesting limit. So a message
+/// has at most one value, which doesn't depend on the limits.
 pub fn one_value()
     ensures place { (S : Segments) (n m s p : ℕ) (t u : Tree) (c e : ℕ) → Means S n s p t c
         → Means S m s p u e → (t ≡ u) × (c ≡ e) }
@@ -49,8 +49,8 @@ pub fn no_words_begin_others()
         → encoding (trim t) ++ more ≡ encoding (trim u) → more ≡ [] }
 {}
 
-/// The canonical words of a message are a canonical message themselves. Its value, within the same
-/// limits, is the trimmed value of the first message.
+/// The canonical words of a message are themselves a canonical message. Within the same limits, the
+/// value of this second message is the trimmed value of the first one.
 pub fn copy_is_canonical()
     ensures { (S : Segments) (limits : ReaderOptions) (t : Tree) → AreWords S → IsValueOf S limits t
         → 1 + word_count (trim t) ≤ max_segment_words
@@ -58,8 +58,9 @@ pub fn copy_is_canonical()
         × IsValueOf (encoding (trim t) ∷ []) limits (trim t) }
 {}
 
-/// The canonical message of a value has that value, and no other one. It has it exactly within
-/// limits that are at least the value's depth and its cost, including the word of the root.
+/// The canonical message of a value has this value, and no other one. It has the value exactly if
+/// the nesting limit is at least the value's depth, and the traversal limit at least the value's
+/// cost plus one word for the root.
 pub fn canonical_has_value()
     ensures means { (S : Segments) (t : Tree) (n : ℕ) → IsCanonicalOf S t → depth t ≤ n
         → Means S n 0 0 t (charge t) }

@@ -32,7 +32,8 @@ pub fn append<A: BuilderArena>(arena: &mut A, id: u32, word: u64) -> bool
 }
 
 /// Allocates two words of segment `id`, and writes `first` and `second` there. Returns `false` if
-/// the segment has no room for both; if it has room for one, allocates one and writes `first`.
+/// the segment has no room for both words. If it has room for only one, allocates this one, and
+/// writes `first` there.
 #[tactic(auto, using(crate::proofs::Extending::extending))]
 pub fn append_both<A: BuilderArena>(arena: &mut A, id: u32, first: u64, second: u64) -> bool
     requires { id < length (A.view arena.old).words }
@@ -59,8 +60,8 @@ pub fn put_two<A: BuilderArena>(arena: &mut A, id: u32, first: u64, second: u64)
     arena.set_word(id, 1, second);
 }
 
-/// Writes `word` over the second word of segment `id` and returns 1; if `word` is 7, writes nothing
-/// and returns 0.
+/// If `word` is 7, writes nothing and returns 0; otherwise writes `word` over the second word of
+/// segment `id` and returns 1.
 pub fn put_either<A: BuilderArena>(arena: &mut A, id: u32, word: u64) -> u32
     requires { 2 ≤ length (segment (A.view arena.old).words id) }
     ensures kept { word ≡ 7 → (result ≡ 0) × (A.view arena.new ≡ A.view arena.old) }

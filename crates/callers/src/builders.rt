@@ -1,5 +1,5 @@
 //! Functions that call builders, for any arena, and are proved from the builders' contracts only.
-//! They show that these contracts tell the value of the message after each call, whether it
+//! They show that these contracts tell the value of the message after each call, whether the call
 //! succeeds or is refused.
 ghost use Rattle.std.specs.Prelude.{ℕ, ◌≡◌, ◌<◌, ◌≤◌, ◌+◌, ◌^◌, ◌∷◌, [], length, IsOk, IsOkAnd, IfErr, IfOk, OnOk, OnErr};
 ghost use Rattle.capnp_words.specs.declared.error.ErrorKind.TheVariants.{AllocationFailed};
@@ -40,7 +40,7 @@ pub enum Built {
     Both,
 }
 
-/// Makes the root lead to a struct of size `outer`, and the first pointer of that to a struct of
+/// Makes the root lead to a struct of size `outer`, and the first pointer of this struct to one of
 /// size `inner`. Returns how far it got.
 pub fn two_structs<A: BuilderArena>(arena: &mut A, outer: StructSize, inner: StructSize) -> Built
     requires place { IsPlace (A.view arena.old).words 0 0 }
@@ -101,9 +101,9 @@ fn field_struct<A: BuilderArena>(
     field.put_struct(size)
 }
 
-/// Returns a reader of the output segments of the message `built`. It reads the words of the
-/// message, so each place means the same for it as in the message. Refuses only if memory runs out,
-/// and never if the message has one segment.
+/// Returns a reader of the output segments of the message `built`. The reader has the words of the
+/// message, so each place means the same in both. Refuses only if memory runs out, and never if the
+/// message has one segment.
 pub fn read_back<'a, L: Allocator>(
     built: &'a BuilderArenaImpl<L>,
 ) -> Result<ReaderArenaImpl<OutputSegments<'a>>, ErrorKind>
@@ -121,8 +121,8 @@ pub fn read_back<'a, L: Allocator>(
     Ok(ReaderArenaImpl::new(output, ReaderOptions::default()))
 }
 
-/// Applies `edits`, and returns a reader of the message's output segments. Its root means the value
-/// that the edits make, with the refusals in `outcomes`.
+/// Applies `edits`, and returns a reader of the message's output segments. The reader's root means
+/// the value that the edits make, with the refusals in `outcomes`.
 pub fn edited<'a, L: Allocator>(
     built: &'a mut BuilderArenaImpl<L>,
     edits: &[Edit<'_>],
@@ -216,7 +216,7 @@ pub(crate) fn root_word<A: BuilderArena>(arena: &mut A)
 }
 
 /// Calls `text_and_number` for a message whose first segment is an array of four words on the
-/// stack. The message needs no other memory, so no call is refused for lack of it.
+/// stack. The message needs no other memory, so no call is refused for lack of memory.
 pub fn built_on_the_stack(alloc: Global, number: u64) -> Result<(), ErrorKind>
     ensures { IsOk result }
 {

@@ -21,12 +21,15 @@ use capnp_words::error::ErrorKind;
 use capnp_words::read_limiter::ReadLimiter;
 use std::alloc::Global;
 
-/// Makes the canonical copy of the value of the pointer at `place`, with memory from the heap.
+/// Makes the canonical copy of the value that the pointer at `place` means, with memory from the
+/// heap.
 ///
-/// Succeeds exactly if the pointer means a value without capabilities within the nesting limit of
-/// `arena`, and `lim` covers what reading it costs, unless memory runs out. Charges `lim` that
-/// cost, and counts each pointer; a refusal leaves `lim` unchanged. The copy's segment has room for
-/// at most as many words as the message has plus one, or for less than twice the words written.
+/// Succeeds only if the pointer means a value without capabilities within the nesting limit of
+/// `arena`, and `lim` covers what reading this value costs. If so, and if the value's canonical
+/// words fit a segment, refuses only if memory runs out. A success charges `lim` that cost, and
+/// counts each non-null pointer of the value in `lim`; a refusal leaves `lim` unchanged. The copy's
+/// segment has room for at most one word more than the message has, or for less than twice the
+/// words written.
 pub fn heap_copy_at<S: ReaderSegments>(
     alloc: Global,
     arena: &ReaderArenaImpl<S>,

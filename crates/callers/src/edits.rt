@@ -15,8 +15,8 @@ use capnp_words::error::ErrorKind;
 use capnp_words::wire_pointer::{ElementSize, StructSize};
 use std::alloc::Global;
 
-/// Applies `edits`, which only make objects, or write pointers, fields, elements and bytes, to a
-/// message that is all in its first segment. That segment has room for the words of all objects to
+/// Applies `edits` to a message that is all in its first segment. The edits only make objects, or
+/// write pointers, fields, elements and bytes. The segment has room for the words of all objects to
 /// make, so no edit is refused for lack of memory.
 pub fn edits_in_room<A: BuilderArena>(
     arena: &mut A,
@@ -57,8 +57,8 @@ fn pass_memory(outcome: Option<ErrorKind>) -> Result<(), ErrorKind>
 }
 
 /// Makes the root lead to a struct of a number and a text, with three edits of a message whose only
-/// word is a null root. Would fail if an edit were refused for lack of memory, but the words of all
-/// fit the segment.
+/// word is a null root. Would fail only if an edit were refused for lack of memory, but the segment
+/// has room for all words.
 #[tactic(auto, using(crate::proofs::Fitting::root_forest, crate::proofs::Fitting::root_first, crate::proofs::Fitting::three_ask, crate::proofs::Fitting::none_at))]
 pub fn three_edits<A: BuilderArena>(arena: &mut A) -> Result<(), ErrorKind>
     requires root { (A.view arena.old).words ≡ (0 ∷ []) ∷ [] }
@@ -92,7 +92,7 @@ pub fn three_edits<A: BuilderArena>(arena: &mut A) -> Result<(), ErrorKind>
 }
 
 /// Calls `three_edits` for a message whose first segment is an array of four words on the stack.
-/// The message needs no other memory, so no edit is refused for lack of it.
+/// The message needs no other memory, so no edit is refused for lack of memory.
 pub fn edited_on_the_stack(alloc: Global) -> Result<(), ErrorKind>
     ensures { IsOk result }
 {

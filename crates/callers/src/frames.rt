@@ -11,8 +11,8 @@ use capnp_arena::arena::{Allocator, BuilderArena, BuilderArenaImpl, ReaderArena,
 use capnp_framing::devices::{MemoryOutput, Output};
 use capnp_framing::framing::{FrameError, FrameSegments, read_from_flat_slice, write};
 
-/// Reads `bytes`, which are the frame of a message with nothing after it. Reads it as that message,
-/// however large it is.
+/// If `bytes` are the frame of a message, with nothing after the frame, reads this message, however
+/// large it is.
 pub fn read_frame(bytes: &[u8]) -> Result<FrameSegments<'_>, FrameError>
     ensures { (S : Segments) → IsFrameOf S bytes.now → IsOkAnd result
         (λ f. message (⟦<FrameSegments<'static> as ReaderSegments>⟧.segments f) ≡ S) }
@@ -43,9 +43,9 @@ fn write_frame<L: Allocator>(
     }
 }
 
-/// Writes the message `built` as a frame, and reads it from the bytes written: each place means
-/// what it means in the message. Refuses if memory runs out, or the message has no segment or more
-/// than 512. Never refuses to read what was written.
+/// Writes the message `built` as a frame, and reads this frame from the bytes written. Each place
+/// means the same in what is read as in `built`. Refuses if memory runs out, or the message has no
+/// segment or more than 512. Never refuses to read what was written.
 pub fn framed<'a, L: Allocator>(
     built: &BuilderArenaImpl<L>,
     to: &'a mut MemoryOutput,

@@ -1,6 +1,6 @@
 //! The theorem of the README as contracts: the canonical copy, the test for canonical form
 //! (encoding specification, "Canonicalization"), and the value of a message after any list of
-//! edits. `docs/THEOREM.md` has all definitions that they cite.
+//! edits. `docs/THEOREM.md` has all definitions that these contracts cite.
 ghost use Rattle.std.specs.Prelude.{◌≡◌, ◌↔◌, ◌⊎◌, ◌∷◌, ◌+◌, ◌*◌, ◌<◌, ◌≤◌, [], ℕ, List, Ok, true, false, length, map, sum, IsOk, IsTrue, IfOk, IfErr, OnOk, OnErr};
 ghost use Rattle.capnp_words.specs.declared.error.ErrorKind.TheVariants.{AllocationFailed};
 ghost use Rattle.capnp_words.specs.Meter.{FitsIn};
@@ -55,9 +55,10 @@ use std::alloc::Global;
 /// Makes the canonical copy of the message in `segments`, with memory from `allocator`
 /// ("Canonicalization").
 ///
-/// Succeeds exactly if the message has a value without capabilities within both limits, whose
-/// canonical words fit a segment, unless the allocator refuses memory, which adds one to its
-/// `refusals`. The copy is one segment with exactly these words.
+/// A message has a canonical copy if it has a value without capabilities within both limits, and
+/// this value's canonical words fit a segment. Any other message is refused. A message with a
+/// canonical copy is refused only if the allocator refuses memory, which adds one to the
+/// allocator's `refusals`. The copy is one segment with exactly the canonical words.
 pub fn canonical_copy<A: Allocator, S: ReaderSegments + Drop>(
     alloc: Global,
     allocator: A,
@@ -100,13 +101,14 @@ fn is_short<A: BuilderArena>(made: &A)
     ensures { length (segment (A.view made.now).words 0) ≤ max_segment_words }
 {}
 
-/// Makes the canonical copy of the message in `segments` in the only segment of the message in
-/// `arena`, which has a null root and no other word.
+/// Makes the canonical copy of the message in `segments` in `arena`. Precondition: the message in
+/// `arena` is one segment, whose only word is a null root.
 ///
-/// Succeeds and stays in that segment exactly if the message has a value without capabilities
-/// within both limits whose canonical words fit there, whatever memory there is. If they don't fit,
-/// a copy that succeeds has further segments, and means the same value. After a refusal all words
-/// are zero.
+/// Succeeds only if the message in `segments` has a value without capabilities within both limits.
+/// If this value's canonical words fit the segment in `arena`, always succeeds, even if the
+/// allocator refuses memory, and this segment is then exactly these words. If they don't fit, a
+/// copy that succeeds has further segments, and means the same value, trimmed. After a refusal all
+/// words in `arena` are zero.
 pub fn canonical_copy_in_room<A: BuilderArena, S: ReaderSegments + Drop>(
     arena: &mut A,
     segments: S,
@@ -139,8 +141,9 @@ pub fn canonical_copy_in_room<A: BuilderArena, S: ReaderSegments + Drop>(
 /// Writes the canonical copy of the message in `segments` as bytes: either as a frame of one
 /// segment, or as that segment's bytes, depending on `form`.
 ///
-/// Writes them exactly if the message has a canonical copy, unless the allocator refuses memory or
-/// `output` fails. Writes nothing if the message is refused.
+/// Refuses a message without a canonical copy (see `canonical_copy`). Refuses any other message
+/// only if the allocator refuses memory, or `output` fails. A refusal writes nothing, unless
+/// `output` fails.
 pub fn canonical_copy_in_bytes<W: Output, A: Allocator, S: ReaderSegments + Drop>(
     alloc: Global,
     allocator: A,
@@ -195,8 +198,9 @@ fn write_bytes<W: Output, A: Allocator>(
     }
 }
 
-/// Makes the canonical copies of two messages, and returns whether the copies are the same bytes:
-/// they are exactly if the trimmed values are equal, however the two messages are encoded.
+/// Makes the canonical copies of two messages, and returns whether the copies are the same bytes.
+/// They are exactly if the values of the two messages are equal once trimmed, however the messages
+/// are encoded.
 ///
 /// Refuses only if one of the messages has no canonical copy, or an allocator refuses memory.
 pub fn two_copies<A: Allocator, S: ReaderSegments + Drop, R: ReaderSegments + Drop>(
@@ -248,9 +252,9 @@ fn same_bytes<A: Allocator>(left: &BuilderArenaImpl<A>, right: &BuilderArenaImpl
 
 /// Tests whether the message in `segments` is in canonical form ("Canonicalization").
 ///
-/// Returns `true` exactly for a message that is one segment with the canonical words of a value,
-/// and never for one that exceeds a limit. Never refuses a message of one segment that has a value
-/// within both limits, nor a message without exactly one segment.
+/// Unless it refuses, returns `true` exactly if the message is one segment with the canonical words
+/// of a value, and no other words. This value is then within both limits. Never refuses a message
+/// that has a value within both limits, or that has no segment or several.
 pub fn canonical_test<S: ReaderSegments + Drop>(
     segments: S,
     limits: ReaderOptions,
@@ -271,10 +275,12 @@ pub fn canonical_test<S: ReaderSegments + Drop>(
 /// Tests whether the pointer at `place` leads to a value in canonical form. `head` is the position
 /// in the pointer's segment, in words, at which the value's first object has to start.
 ///
-/// Returns `true` exactly if the pointer and the words from `head` on are the canonical words of a
-/// value. The pointer then means that value within the nesting limit of `arena`, and the test has
-/// moved `head` past the words, and charged and counted in `lim` what reading the value costs.
-/// Never refuses if canonical words are there, within both limits.
+/// Unless it refuses, returns `true` exactly if the pointer and the words that start at `head` are
+/// the canonical words of a value; other words may follow. The pointer then means this value within
+/// the nesting limit of `arena`. The test has moved `head` past the value's words, charged `lim`
+/// what reading the value costs, and counted each non-null pointer of the value in `lim`. Never
+/// refuses canonical words inside the segment, if the value is within the nesting limit and `lim`
+/// covers what reading it costs.
 pub fn canonical_test_at<S: ReaderSegments>(
     arena: &ReaderArenaImpl<S>,
     place: PointerPlace,
@@ -310,12 +316,14 @@ pub fn canonical_test_at<S: ReaderSegments>(
     PointerReader::of_pointer(pointer_at(arena, place)).is_canonical(lim, head)
 }
 
-/// Makes the canonical copy of the value of the pointer at `place`, with memory from `allocator`.
+/// Makes the canonical copy of the value that the pointer at `place` means, with memory from
+/// `allocator`.
 ///
-/// Succeeds exactly if the pointer means a value without capabilities within the nesting limit of
-/// `arena`, its canonical words fit a segment, and `lim` covers what reading it costs, unless the
-/// allocator refuses memory, which adds one to its `refusals`. `lim` is charged that cost, and
-/// counts each non-null pointer; a refusal leaves it unchanged.
+/// Succeeds only if the pointer means a value without capabilities within the nesting limit of
+/// `arena`, `lim` covers what reading this value costs, and the value's canonical words fit a
+/// segment. If all of this is true, refuses only if the allocator refuses memory, which adds one to
+/// the allocator's `refusals`. A success charges `lim` that cost, and counts each non-null pointer
+/// of the value in `lim`; a refusal leaves `lim` unchanged.
 pub fn canonical_copy_at<A: Allocator, S: ReaderSegments>(
     alloc: Global,
     allocator: A,
@@ -359,13 +367,15 @@ pub fn canonical_copy_at<A: Allocator, S: ReaderSegments>(
     copy_canonical_with(alloc, allocator, pointer_at(arena, place), lim)
 }
 
-/// Makes the canonical copy of the value of the pointer at `place` of `source` in the only segment
-/// of the message in `arena`, which has a null root and no other word.
+/// Makes the canonical copy of the value that the pointer at `place` of `source` means, in `arena`.
+/// Precondition: the message in `arena` is one segment, whose only word is a null root.
 ///
-/// Succeeds and stays in that segment exactly if the pointer means a value without capabilities
-/// within the nesting limit of `source`, `lim` covers what reading it costs, and its canonical
-/// words fit there, with any amount of memory. Then `lim` is charged that cost, and has counted
-/// each pointer. After a refusal all words are zero.
+/// Succeeds only if the pointer means a value without capabilities within the nesting limit of
+/// `source`, and `lim` covers what reading this value costs. If so, and if the value's canonical
+/// words fit the segment in `arena`, always succeeds, even if the allocator refuses memory, and
+/// this segment is then exactly these words. If they don't fit, a copy that succeeds has further
+/// segments, and means the same value, trimmed. A success charges `lim` that cost, and counts each
+/// non-null pointer of the value in `lim`. After a refusal all words in `arena` are zero.
 pub fn canonical_copy_at_in_room<A: BuilderArena, S: ReaderSegments>(
     arena: &mut A,
     source: &ReaderArenaImpl<S>,
@@ -412,9 +422,9 @@ pub(crate) fn pointer_at<S: ReaderSegments>(
     Pointer::at(arena, place, arena.nesting_limit())
 }
 
-/// Makes the pointer of `builder` lead to a new struct, all zero. Wherever in the message's tree
-/// this pointer is, the message then has the tree with that struct there, or with null if the call
-/// is refused. Returns where the struct's sections are.
+/// Makes the pointer of `builder` lead to a new struct, all zero. The pointer may be anywhere in
+/// the message's tree. Afterwards the message has the same tree, except that the struct is at the
+/// pointer's place; if the call is refused, null is there. Returns where the struct's sections are.
 pub fn struct_made<A: BuilderArena>(
     builder: &mut PointerBuilder<'_, A>,
     size: StructSize,
@@ -448,9 +458,9 @@ pub fn struct_made<A: BuilderArena>(
 
 /// Applies `edits`, any of which may be refused.
 ///
-/// If the words of the message were those of a value before, they are so afterwards, and this value
-/// is what the edits make of the one before. Lack of memory is reported exactly if an allocator has
-/// refused.
+/// If the words of the message hold a value before, they hold a value afterwards: what the edits,
+/// with the refusals in `outcomes`, make of the first value. The outcome of an edit is
+/// `AllocationFailed` exactly if the arena's allocator has refused memory for this edit.
 pub fn edited_tree<A: BuilderArena>(
     arena: &mut A,
     edits: &[Edit<'_>],

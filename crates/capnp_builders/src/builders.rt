@@ -161,9 +161,10 @@ impl<'a, A: BuilderArena> PointerBuilder<'a, A> {
         initializing::set_capability(&mut *self.arena, self.segment, self.at, index);
     }
 
-    /// Makes the pointer lead to a new struct, all zero, and returns the struct's place;
-    /// `into_struct` makes a builder of that, and `init_struct` does both steps. The pointer can be
-    /// used afterwards, so the contract says what it is after success and after a refusal.
+    /// Makes the pointer lead to a new struct, all zero, and returns the struct's place.
+    /// `into_struct` makes a builder from the place; `init_struct` does both steps. `self` can be
+    /// used afterwards, and the contract says what its pointer is after success and after a
+    /// refusal.
     ///
     /// Refusals: `AllocationFailed`, or `MessageTooLarge` with the struct's words plus one. After a
     /// refusal the pointer is null.
@@ -229,9 +230,8 @@ impl<'a, A: BuilderArena> PointerBuilder<'a, A> {
     }
 
     /// Makes the pointer lead to a new list of `count` elements that aren't structs, all zero or
-    /// null, and returns the list's place; `into_list` makes a builder of that. It only borrows the
-    /// pointer, so its contract states what success and a refusal leave; `init_list` does both
-    /// steps.
+    /// null, and returns the list's place. `into_list` makes a builder from the place; `init_list`
+    /// does both steps. The contract states what success and a refusal leave.
     ///
     /// Refusals: `AllocationFailed`, or `MessageTooLarge` with the list's words plus one. After a
     /// refusal the pointer is null.
@@ -301,11 +301,11 @@ impl<'a, A: BuilderArena> PointerBuilder<'a, A> {
     }
 
     /// Makes the pointer lead to a new list of `count` structs, all zero, and returns the list's
-    /// place; `into_list` makes a builder of that. It only borrows the pointer, so its contract
-    /// states what success and a refusal leave; `init_struct_list` does both steps.
+    /// place. `into_list` makes a builder from the place; `init_struct_list` does both steps. The
+    /// contract states what success and a refusal leave.
     ///
-    /// Refusals: `AllocationFailed`, or `MessageTooLarge` with the words of the structs and the tag
-    /// plus one. After a refusal the pointer is null.
+    /// Refusals: `AllocationFailed`, or `MessageTooLarge` with the structs' words plus two (the tag
+    /// and a landing pad). After a refusal the pointer is null.
     pub fn put_struct_list(&mut self, count: u32, size: StructSize) -> Result<ListPlace, ErrorKind>
         requires there { IsThere (built A.view self.old) }
         requires few { count < 2 ^ 30 }
@@ -334,9 +334,9 @@ impl<'a, A: BuilderArena> PointerBuilder<'a, A> {
 
     /// Makes the pointer lead to a new list of `count` structs, all zero.
     ///
-    /// Refusals: `AllocationFailed`, or `MessageTooLarge` with the words of the structs and the tag
-    /// plus one. After a refusal the pointer is null; the contract of `put_struct_list` states what
-    /// else holds.
+    /// Refusals: `AllocationFailed`, or `MessageTooLarge` with the structs' words plus two (the tag
+    /// and a landing pad). After a refusal the pointer is null; the contract of `put_struct_list`
+    /// states what else holds.
     pub fn init_struct_list(
         mut self,
         count: u32,
@@ -378,8 +378,8 @@ impl<'a, A: BuilderArena> PointerBuilder<'a, A> {
         lent::bytes_mut(arena, bytes)
     }
 
-    /// Makes the pointer lead to new data of `size` bytes, all zero, and lends them for writing in
-    /// place ("Lists").
+    /// Makes the pointer lead to new data of `size` bytes, all zero, and lends these bytes for
+    /// writing in place ("Lists").
     ///
     /// Refusals: `AllocationFailed`, or `MessageTooLarge` with the list's words plus one. After a
     /// refusal the pointer is null. `put_list` followed by `bytes_mut` does the same; their
@@ -397,8 +397,8 @@ impl<'a, A: BuilderArena> PointerBuilder<'a, A> {
         lent::init_data(arena, segment, at, size)
     }
 
-    /// Makes the pointer lead to a new text of `size` bytes, all zero, and lends them for writing
-    /// in place, without the zero byte after them ("Lists").
+    /// Makes the pointer lead to a new text of `size` bytes, all zero, and lends these bytes, but
+    /// not the zero byte after them, for writing in place ("Lists").
     ///
     /// Refusals: `AllocationFailed`, or `MessageTooLarge` with the list's words plus one. After a
     /// refusal the pointer is null. `put_list` followed by `bytes_mut` does the same; their
@@ -418,8 +418,8 @@ impl<'a, A: BuilderArena> PointerBuilder<'a, A> {
 
     /// Makes the pointer lead to new data with the bytes `bytes` ("Lists").
     ///
-    /// Refusals: `AllocationFailed`, or `MessageTooLarge` with the words of the bytes plus one.
-    /// After a refusal the pointer is null.
+    /// Refusals: `AllocationFailed`, or `MessageTooLarge` with one more than the number of words
+    /// for `bytes`. After a refusal the pointer is null.
     #[inline(always)]
     pub fn set_data(&mut self, bytes: &[u8]) -> Result<(), ErrorKind>
         requires there { IsThere (built A.view self.old) }
@@ -435,8 +435,8 @@ impl<'a, A: BuilderArena> PointerBuilder<'a, A> {
 
     /// Makes the pointer lead to a new text: the bytes `bytes`, followed by a zero byte ("Lists").
     ///
-    /// Refusals: `AllocationFailed`, or `MessageTooLarge` with one more than the words of the text
-    /// and its zero byte. After a refusal the pointer is null.
+    /// Refusals: `AllocationFailed`, or `MessageTooLarge` with one more than the number of words
+    /// for `bytes` and the zero byte. After a refusal the pointer is null.
     #[inline(always)]
     pub fn set_text(&mut self, bytes: &[u8]) -> Result<(), ErrorKind>
         requires there { IsThere (built A.view self.old) }
@@ -466,22 +466,22 @@ impl<'a, A: BuilderArena> PointerBuilder<'a, A> {
     /// plain ("Canonicalization"). Charges `lim` what reading the whole value costs.
     ///
     /// First zeroes what the pointer held; those words stay allocated. If the copy fits the
-    /// pointer's segment, or the message has one segment afterwards, its words come after those of
-    /// that segment, in the canonical order of objects. Otherwise it is in as many segments as it
-    /// needs. A plain copy has all words of the sections and elements; one in canonical form has
-    /// those of the trimmed value.
+    /// pointer's segment, or the message has one segment afterwards, the copy's words follow the
+    /// old words of the pointer's segment, in the canonical order of objects. Otherwise the copy is
+    /// in as many segments as it needs. A plain copy has all words of the sections and elements; a
+    /// canonical copy has those of the trimmed value.
     ///
     /// Refusals: the first one of reading `from`; `CannotCreateACanonicalMessageWithACapability`
-    /// for a capability in canonical form; if the words don't fit the pointer's segment, and an
-    /// object finds no room elsewhere, `AllocationFailed`, or `MessageTooLarge` with that object's
+    /// for a capability if `canonicalize`. If the copy doesn't fit the pointer's segment, and an
+    /// object finds no room elsewhere: `AllocationFailed`, or `MessageTooLarge` with that object's
     /// words plus one.
     ///
     /// After a refusal the pointer is null, the words that were allocated are zero and stay
     /// allocated, and what was charged stays charged.
     ///
     /// Allocates at most as many words as reading the value costs, plus one landing pad for each
-    /// object that has no room in its pointer's segment. If the copy is refused, the cost of
-    /// reading up to the refused object counts.
+    /// object that has no room in its pointer's segment. If the copy is refused, that cost is the
+    /// cost of reading up to the refused object.
     pub fn copy_from<B: ReaderArena>(
         &mut self,
         from: PointerReader<'_, B>,
@@ -527,19 +527,19 @@ impl<'a, A: BuilderArena> PointerBuilder<'a, A> {
     }
 
     /// Copies the struct `value` to this pointer, in canonical form if `canonicalize`, otherwise
-    /// plain ("Structs", "Canonicalization"). Pads its data section with zeros to whole words.
-    /// Charges `lim` what reading the values of its pointers costs, and nothing for the struct's
-    /// own words; the nesting limit is that of `value`.
+    /// plain ("Structs", "Canonicalization"). Pads the struct's data section with zeros to whole
+    /// words. Charges `lim` what reading the values of the struct's pointers costs, and nothing for
+    /// the struct's own words; the nesting limit is that of `value`.
     ///
     /// First zeroes what the pointer held. If the copy fits the pointer's segment, or the message
-    /// has one segment afterwards, its words come after those of that segment, in the canonical
-    /// order of objects.
+    /// has one segment afterwards, the copy's words follow the old words of the pointer's segment,
+    /// in the canonical order of objects.
     ///
-    /// Refusals: the first one of reading the values of the pointers; if the words don't fit the
-    /// pointer's segment, `AllocationFailed`, or `MessageTooLarge` with an object's words plus one;
-    /// `CannotCreateACanonicalMessageWithACapability` for a capability in canonical form;
-    /// `MessageTooLarge` with the number of data words to copy if that is above 65535, and then
-    /// nothing is charged.
+    /// Refusals: the first one of reading the values of the struct's pointers;
+    /// `CannotCreateACanonicalMessageWithACapability` for a capability if `canonicalize`. If the
+    /// copy doesn't fit the pointer's segment: `AllocationFailed`, or `MessageTooLarge` with an
+    /// object's words plus one. If there are more than 65535 data words to copy: `MessageTooLarge`
+    /// with their number, and nothing is charged.
     ///
     /// After a refusal the pointer is null, the words that were allocated are zero and stay
     /// allocated, and what was charged stays charged.
@@ -572,19 +572,19 @@ impl<'a, A: BuilderArena> PointerBuilder<'a, A> {
     }
 
     /// Copies the list `value` to this pointer, in canonical form if `canonicalize`, otherwise
-    /// plain ("Lists", "Canonicalization"). In both, zeros follow the last number of a list of
-    /// numbers. Charges `lim` what reading the values of the list's pointers costs, and nothing for
-    /// the list's own words and its number of elements; the nesting limit is that of `value`.
+    /// plain ("Lists", "Canonicalization"). In both forms, zeros follow the last number of a list
+    /// of numbers. Charges `lim` what reading the values of the list's pointers costs, and nothing
+    /// for the list's own words or its number of elements; the nesting limit is that of `value`.
     ///
     /// First zeroes what the pointer held. If the copy fits the pointer's segment, or the message
-    /// has one segment afterwards, its words come after those of that segment, in the canonical
-    /// order of objects.
+    /// has one segment afterwards, the copy's words follow the old words of the pointer's segment,
+    /// in the canonical order of objects.
     ///
-    /// Refusals: the first one of reading the values of the list's pointers; if the words don't fit
-    /// the pointer's segment, `AllocationFailed`, or `MessageTooLarge` with an object's words plus
-    /// one; `CannotCreateACanonicalMessageWithACapability` for a capability in canonical form;
-    /// `MessageTooLarge(usize::MAX)` for a list of more elements or words than a list pointer can
-    /// state, which no message holds.
+    /// Refusals: the first one of reading the values of the list's pointers;
+    /// `CannotCreateACanonicalMessageWithACapability` for a capability if `canonicalize`. If the
+    /// copy doesn't fit the pointer's segment: `AllocationFailed`, or `MessageTooLarge` with an
+    /// object's words plus one. Refuses a list of more elements or words than a list pointer can
+    /// state with `MessageTooLarge(usize::MAX)`; no message holds such a list.
     ///
     /// After a refusal the pointer is null, the words that were allocated are zero and stay
     /// allocated, and what was charged stays charged.

@@ -13,10 +13,10 @@ ghost use Rattle.capnp_widening.specs.Opening.{existing_struct};
 ghost use Rattle.capnp_builders.specs.Content.{TakesBytes, HoldContent, up_to};
 ghost use Rattle.capnp_builders.specs.Places.{struct_place};
 
-/// If `copy_content_from` copies the data of another struct and all the pointers, the place that
-/// stored the struct then stores one with the data copied and the copies as its children, followed
-/// by zeros and null pointers. It starts where the old one did, and nothing else of the message is
-/// changed (encoding specification, "Structs").
+/// Suppose `copy_content_from` copies the data and pointers of another struct, and refuses no
+/// pointer. The place that stored the old struct then stores one with the copied data, followed by
+/// zeros, and with the copied children, followed by null pointers. The new struct starts where the
+/// old one did, and nothing else of the message changes (encoding specification, "Structs").
 pub fn content_taken()
     ensures { (S M R : Segments) (s p : ℕ) (ws : List ℕ) (ts us : Trees) (place : StructPlace)
         (bits : ℕ) (bytes : List ℕ) → IsStored S s p (Struct ws ts)
@@ -30,7 +30,8 @@ pub fn content_taken()
 {}
 
 /// If the copy of a pointer is refused, which leaves it null, the place stores a struct with the
-/// data copied and the copies made before it, followed by zeros and null pointers.
+/// copied data, followed by zeros, and with the children copied before the refusal, followed by
+/// null pointers.
 pub fn content_stopped()
     ensures { (S M F R : Segments) (s p : ℕ) (ws : List ℕ) (ts us : Trees) (place : StructPlace)
         (bits : ℕ) (bytes : List ℕ) → IsStored S s p (Struct ws ts)
@@ -44,9 +45,9 @@ pub fn content_stopped()
         × (target R s p ≡ target S s p) }
 {}
 
-/// If `copy_content_from` copies the data of another struct and all the pointers to an element of a
-/// list of structs, the place that stored the list then stores it with that content in the element,
-/// and nothing else of the message is changed ("Lists").
+/// Suppose `copy_content_from` copies the data and pointers of another struct to an element of a
+/// list of structs, and refuses no pointer. The place that stored the list then stores the list
+/// with that content in the element, and nothing else of the message changes ("Lists").
 pub fn element_content_taken()
     ensures { (S M R : Segments) (s p d q : ℕ) (es : Elements) (i : ℕ) (ws : List ℕ)
         (ts us : Trees) (place : StructPlace) (bits : ℕ) (bytes : List ℕ)
@@ -63,8 +64,9 @@ pub fn element_content_taken()
         (Structs d q (put_struct es i (Struct vs (up_to q us)))) }
 {}
 
-/// If the copy of a pointer of the element is refused, the place stores the list with an element
-/// that has the data copied and the copies made before it, followed by zeros and null pointers.
+/// If the copy of a pointer of the element is refused, the place stores the list with this content
+/// in the element: the copied data, followed by zeros, and the children copied before the refusal,
+/// followed by null pointers.
 pub fn element_content_stopped()
     ensures { (S M F R : Segments) (s p d q : ℕ) (es : Elements) (i : ℕ) (ws : List ℕ)
         (ts us : Trees) (place : StructPlace) (bits : ℕ) (bytes : List ℕ)

@@ -19,7 +19,7 @@ use std::io::{self, BufReader, Read};
 /// Why a run ends before all inputs are answered.
 #[derive(Clone, Copy)]
 pub enum Unanswered {
-    /// The reason is written to standard error, and the answers before it are flushed.
+    /// The reason is written to standard error, and the answers so far are flushed.
     Said,
     /// Writing the output failed.
     WriteFailed,
@@ -165,7 +165,8 @@ fn run_flat<R: BufferedInput, W: BufferedOutput>(
 }
 
 /// Reports which message is refused, counted from 1, at which byte it begins, and why. If it is the
-/// first message, and the input looks like something that the task doesn't read, reports that, too.
+/// first message, and the input looks like something that the task doesn't read, also reports what
+/// it looks like.
 fn refuse(rt: &HostRuntime, task: Task, name: Option<&str>, stop: Stop, seen: &Seen) {
     let (name, colon) = match name {
         Some(name) => (name, ": "),

@@ -1,6 +1,6 @@
 //! The program `capnp_canon`: reads a stream of framed messages from standard input or from files,
-//! and writes each message in canonical form, says whether it is in that form, or how large it is.
-//! `capnp_canon --help` explains the arguments.
+//! and writes each message in canonical form, or says whether it is in that form or how large it
+//! is. `capnp_canon --help` explains the arguments.
 #![tactic(auto)]
 
 mod inputs;

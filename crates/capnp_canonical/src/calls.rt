@@ -50,8 +50,8 @@ fn table(words: u32) -> [u8; 8]
     [0, 0, 0, 0, a, b, c, d]
 }
 
-/// Writes a frame whose one segment is `segment` to the front of `to`, and returns its size in
-/// bytes.
+/// Writes a frame whose one segment is `segment` to the front of `to`, and returns the frame's size
+/// in bytes.
 fn put_frame(segment: &[u8], to: &mut [u8]) -> Result<usize, Refusal>
     requires short { length segment.now < 2 ^ 35 }
     ensures put { Fills result to.old to.new (λ bytes. (words : List ℕ)
@@ -98,8 +98,8 @@ fn put(form: Form, segment: &[u8], to: &mut [u8]) -> Result<usize, Refusal>
     }
 }
 
-/// The bytes of stack memory for copying a small message. Copying one is cheaper than testing it
-/// first.
+/// The bytes of stack memory for copying a small message. Copying a small message is cheaper than
+/// testing first whether it is canonical.
 const SMALL: usize = 512;
 
 /// Copies the message in canonical form on the heap, and writes the copy to the front of `to`, in a
@@ -178,8 +178,8 @@ fn copy_large<S: ReaderSegments>(
 ///
 /// A message of fewer than 64 words takes heap memory only if its copy has more than 64 words. A
 /// message of 64 words or more takes no heap memory if it is canonical already and has at most
-/// 536,870,911 words: it is written from its own segment. Otherwise it takes heap memory for the
-/// copy.
+/// 536,870,911 words: it is written from its own segment. Any other message of 64 words or more
+/// takes heap memory for the copy.
 pub fn copy<S: ReaderSegments + Drop>(
     alloc: Global,
     form: Form,

@@ -18,7 +18,7 @@ use capnp_messages::messages::{Form, canonical_fault_of, size_of};
 use capnp_pointers::pointers::{CanonicalFault, MessageSize};
 use std::alloc::Global;
 
-/// The message whose frame is at the front of `bytes`. Refuses one of more than `words` words.
+/// The message whose frame is at the front of `bytes`. Refuses more than `words` words.
 fn message_in(bytes: &[u8], words: u64) -> Result<FrameSegments<'_>, Refusal>
     ensures begins { IfOk result (λ f. BeginsWithFrame bytes.now words
         (message (⟦<FrameSegments<'static> as ReaderSegments>⟧.segments f))) }

@@ -1,6 +1,6 @@
 //! Canonical form (encoding specification, "Canonicalization") for C, and for languages that call
-//! C: copies, tests and measures a message, given as a frame in a buffer, as segments, or as the
-//! words of its only segment; and unpacks packed bytes. Keeps no state between calls.
+//! C. Copies, tests and measures a message that is given as a frame in a buffer, as segments, or as
+//! the words of its only segment. Also unpacks packed bytes. Keeps no state between calls.
 //!
 //! `bindings/c/capnp_canonical.h` says how to call each function. A function returns 0 or the
 //! number of a refusal. Names, texts and versions are never refused.
@@ -41,10 +41,11 @@ use std::alloc::Global;
 use words::{check_words, copy_words, size_words};
 
 /// Writes the frame's message in canonical form to the front of `to`, as a frame of one segment,
-/// and stores its size in bytes in `written`.
+/// and stores the number of bytes written in `written`.
 ///
-/// If `to` is too small, stores the size that it needs in `written`; after any other refusal, 0.
-/// The bytes of `to` after the copy are unchanged; after a refusal, all bytes of `to` are.
+/// If `to` is too small, stores the number of bytes needed in `written`; for any other refusal, 0.
+/// The bytes of `to` behind the copy are unchanged. If the call is refused, all bytes of `to` are
+/// unchanged.
 #[unsafe(no_mangle)]
 pub extern "C" fn capnp_canonical_copy(
     alloc: Global,
@@ -113,11 +114,11 @@ pub extern "C" fn capnp_canonical_copy_flat(
 }
 
 /// Tests whether the frame's message is canonical: it has one segment, which holds the canonical
-/// words of a value and nothing else. If it isn't, stores why and where in `fault`.
+/// words of a value and nothing else. If it isn't canonical, stores why and where in `fault`.
 ///
 /// `nesting` is how many structs and lists may be inside one another. `words` limits both the words
 /// of the frame and the words that may be read. After a refusal `is_canonical` is false and `fault`
-/// all 0. So `false` says that the message isn't canonical only if the call returned 0.
+/// all 0. So only if the call returned 0 does `false` say that the message isn't canonical.
 #[unsafe(no_mangle)]
 pub extern "C" fn capnp_canonical_check(
     frame: &[u8],
@@ -149,7 +150,7 @@ pub extern "C" fn capnp_canonical_check(
     }
 }
 
-/// Stores the number of words and of capabilities in the frame's message, without its root pointer
+/// Stores the numbers of words and capabilities in the frame's message, without the root pointer
 /// and landing pads.
 #[unsafe(no_mangle)]
 pub extern "C" fn capnp_canonical_size(
@@ -426,8 +427,9 @@ pub extern "C" fn capnp_canonical_words_size(
 /// Unpacks `packed` (encoding specification, "Packing") to the front of `to`, and stores the number
 /// of unpacked bytes in `written`. Takes no memory.
 ///
-/// If `to` is too small, stores the size that it needs in `written`; after any other refusal, 0.
-/// The bytes of `to` after the unpacked ones are unchanged; after a refusal, all bytes of `to` are.
+/// If `to` is too small, stores the number of bytes needed in `written`; for any other refusal, 0.
+/// The bytes of `to` behind the unpacked bytes are unchanged. If the call is refused, all bytes of
+/// `to` are unchanged.
 #[unsafe(no_mangle)]
 pub extern "C" fn capnp_canonical_unpack(packed: &[u8], to: &mut [u8], written: &mut usize) -> u32
     ensures done { FillsByNumber result written.new to.old to.new (Packs packed.now) }
@@ -448,9 +450,9 @@ pub extern "C" fn capnp_canonical_unpack(packed: &[u8], to: &mut [u8], written: 
     }
 }
 
-/// Writes the name of the refusal with the number `answer` and a terminating zero byte to the front
-/// of `to`; cuts the name if `to` is too small. Returns the length of the whole name in bytes; 0 if
-/// no refusal has this number.
+/// Writes the name of the refusal with the number `answer` to the front of `to`, followed by a
+/// terminating zero byte; cuts the name if `to` is too small. Returns the length of the whole name
+/// in bytes; 0 if no refusal has this number.
 #[unsafe(no_mangle)]
 pub extern "C" fn capnp_canonical_name(answer: u32, to: &mut [u8]) -> usize
     ensures { (text : List ℕ) × IsTextOf answer_number answer_name answer text

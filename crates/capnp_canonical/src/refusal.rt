@@ -8,7 +8,7 @@ use capnp_words::error::ErrorKind;
 /// Why a call is refused.
 #[derive(Clone, Copy, Debug, PartialEq, Eq)]
 pub enum Refusal {
-    /// The buffer is too small. Carries the number of bytes that it needs.
+    /// The buffer is too small. Carries the number of bytes that are needed.
     NoRoom(usize),
     /// There are no bytes where a frame was expected.
     NoMessage,
@@ -35,7 +35,7 @@ impl Refusal {
         }
     }
 
-    /// The name of the refusal, without its number.
+    /// The name of the refusal, without the value that it carries.
     pub fn name(&self) -> &'static str
         ensures { result.now ≡ answer_name self.now }
     {

@@ -40,8 +40,8 @@ impl<'a> LentSegments<'a> {
     }
 }
 
-/// Returns `bytes`. If it is empty, C may have passed a null pointer; so an empty slice with
-/// another pointer is returned.
+/// Returns `bytes`. If `bytes` is empty, returns an empty slice with another pointer, because C may
+/// have passed a null pointer.
 pub fn without_null(bytes: &[u8]) -> &[u8]
     ensures { result.now ≡ bytes.now }
 {

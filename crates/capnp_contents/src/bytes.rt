@@ -1,6 +1,6 @@
 //! Makes a pointer lead to a text or to data (encoding specification, "Lists").
 //!
-//! Data is a list of bytes; a text is one followed by a zero byte.
+//! Data is a list of bytes; a text is a list of bytes whose last byte is zero.
 ghost use Rattle.std.specs.Prelude.{◌≡◌, ℕ, ◌<◌, ◌≤◌, ◌+◌, ◌-◌, ◌*◌, ◌^◌, ◌++◌, ◌∷◌, [], length, OnOk};
 ghost use Rattle.capnp_format.specs.Numbers.{words_for};
 ghost use Rattle.capnp_format.specs.Segments.{segment, IsPlace};
@@ -89,8 +89,8 @@ fn set_bytes<A: BuilderArena>(
     Ok(())
 }
 
-/// Writes the bytes of `from` into the message, from the word `start` on. Precondition: they are
-/// inside its segment.
+/// Writes the bytes of `from` into the message, from the word `start` on. Precondition: the bytes
+/// written over are inside the segment.
 fn write_bytes<A: BuilderArena>(arena: &mut A, start: Start, from: &[u8])
     requires there { start.segment < length (A.view arena.old).words }
     requires inside { 8 * start.at + length from.now

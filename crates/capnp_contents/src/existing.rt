@@ -100,8 +100,8 @@ pub fn get_struct<A: BuilderArena>(arena: &A, id: u32, at: u32) -> Option<Existi
     struct_of(arena, id, at, word)
 }
 
-/// The struct that `word`, the pointer at `at` of segment `id`, leads to, with the sections that it
-/// has; `None` if it doesn't lead to a struct. Precondition: `word` isn't zero.
+/// The struct that `word` leads to, with the sections that the struct has; `None` if `word` doesn't
+/// lead to a struct. Precondition: `word` is the pointer at `at` of segment `id`, and isn't zero.
 #[inline(always)]
 fn struct_of<A: BuilderArena>(
     arena: &A,
@@ -150,7 +150,8 @@ fn struct_behind_pad<A: BuilderArena>(
 }
 
 /// The list that the pointer at `at` of segment `id` leads to ("Lists"). Its elements have to be at
-/// least as wide as `expected`, which isn't the size of structs. `None` if the pointer is null.
+/// least as wide as `expected`. `None` if the pointer is null. Precondition: `expected` isn't
+/// `InlineComposite`.
 ///
 /// Refusals: `ExistingPointerIsNotAList` for anything but a list;
 /// `FoundStructListWhereBitListWasExpected` for a list of structs if bits are expected;
@@ -179,12 +180,12 @@ pub fn get_list<A: BuilderArena>(
     }
 }
 
-/// Where the pointer at `at` of segment `id`, which has to lead to a list, leads; `None` if it is
-/// null.
+/// Where the pointer at `at` of segment `id` leads, which has to be a list; `None` if the pointer
+/// is null.
 ///
-/// Refusals: `ExistingPointerIsNotAList` if it leads to something else;
-/// `MessageContainsOutOfBoundsPointer` if it leads out of the message, which no pointer of a
-/// message that a builder made does.
+/// Refusals: `ExistingPointerIsNotAList` if the pointer leads to something else;
+/// `MessageContainsOutOfBoundsPointer` if it leads out of the message, which doesn't happen in a
+/// message that a builder made.
 fn follow_list<A: BuilderArena>(arena: &A, id: u32, at: u32) -> Result<Option<Landing>, ErrorKind>
     ensures { FindsAt (A.view arena.now).words id at landing_in (listed result) }
 {
@@ -286,7 +287,7 @@ fn tag_at<A: BuilderArena>(arena: &A, landing: Landing) -> Option<WirePointer>
     }
 }
 
-/// The refusal of structs of sections `size` as elements of size `expected`; `None` if they fit.
+/// Why structs with sections `size` aren't elements of size `expected`; `None` if they fit.
 fn misfit_of_structs(expected: ElementSize, size: StructSize) -> Option<ErrorKind>
     ensures found { result ≡ structs_misfit expected size.data_words size.pointers }
     ensures named { IfSome result (λ k. is_unfound k ≡ true) }
@@ -334,8 +335,8 @@ pub fn get_data<A: BuilderArena>(
 /// The text that the pointer at `at` of segment `id` leads to, without the zero byte after it
 /// ("Lists"). `None` if the pointer is null.
 ///
-/// Refuses what isn't a list of bytes like `get_data`, and refuses bytes that don't end in a zero
-/// byte with `TextBlobMissingNULTerminator`.
+/// Refusals: those of `get_data`, if the pointer doesn't lead to a list of bytes;
+/// `TextBlobMissingNULTerminator` if the bytes don't end in a zero byte.
 pub fn get_text<A: BuilderArena>(
     arena: &A,
     id: u32,

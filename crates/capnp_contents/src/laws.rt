@@ -12,7 +12,7 @@ ghost use Rattle.capnp_making.specs.Stored.{IsStored, IsReplaced, Puts};
 
 /// A message is a forest if its value holds no word twice, and all other words are zero. After a
 /// call has put a value at the end of a path from the root of a forest, the message is a forest
-/// again, and its value differs only in the value at the end of the path.
+/// again, and its value differs only at the end of the path.
 pub fn forest_after()
     ensures { (S R : Segments) (t : Tree) (path : List Step) (u q : ℕ) (x y : Tree)
         → IsForest S t → PathLeads S (node 0 0 t) path (node u q x) → Puts S R u q y

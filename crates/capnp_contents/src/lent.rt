@@ -72,8 +72,8 @@ pub fn init_data<A: BuilderArena>(
     init_bytes(arena, id, at, size, size)
 }
 
-/// Makes the pointer at `at` of segment `id` lead to a new text of `size` bytes, all zero, and
-/// lends them for writing in place, without the zero byte after them ("Lists").
+/// Makes the pointer at `at` of segment `id` lead to a new text of `size` bytes, all zero. Lends
+/// these bytes for writing in place, without the zero byte after them ("Lists").
 ///
 /// First zeroes what the pointer held. Refuses with `AllocationFailed` if memory runs out, or with
 /// `MessageTooLarge`. After a refusal the pointer is null.

@@ -1,8 +1,9 @@
 //! Copies a pointer's value into a message of any number of segments, plain or in canonical form
 //! (encoding specification, "Structs", "Lists", "Inter-Segment Pointers" and "Canonicalization").
 //!
-//! Makes each object before its children: in the segment of its pointer if it fits, otherwise after
-//! a landing pad. So the pointer copied to leads to a value at any time.
+//! Makes each object before its children: in the segment of the object's pointer if the object fits
+//! there, otherwise after a landing pad. So at any time the pointer that is copied to leads to a
+//! value.
 ghost use Rattle.std.specs.Prelude.{◌≡◌, ◌⊎◌, IfErr, OnOk, OnErr};
 ghost use Rattle.capnp_words.specs.declared.error.ErrorKind.TheVariants.{CannotCreateACanonicalMessageWithACapability, UnknownPointerType};
 ghost use Rattle.capnp_format.specs.Segments.{IsPlace};
@@ -64,19 +65,19 @@ pub fn copy_value<A: BuilderArena, B: ReaderArena>(
 /// Copies the value of `from` to the null pointer at `to.place`, in the form `to.form`.
 ///
 /// If all words of the copy fit the pointer's segment, or the message has one segment afterwards,
-/// they come after that segment's words, in the canonical order of objects, and no other word
-/// changes except the pointer. A plain copy has all words of the sections and elements; one in
-/// canonical form has those of the trimmed value.
+/// the copy comes after the other words of the pointer's segment, in the canonical order of
+/// objects. In this case no other word of the message changes except the pointer. A plain copy has
+/// all words of the sections and elements; a canonical copy has the words of the trimmed value.
 ///
 /// Allocates at most as many words as reading the value costs, plus one landing pad for each object
 /// that has no room in its pointer's segment. If the copy is refused, the cost of reading up to the
-/// refused object counts. This also holds if `lim` has no limit, or nothing is charged.
+/// refused object counts. The bound also holds if `lim` has no limit, or nothing is charged.
 ///
-/// Refusals: those of reading the value; for a capability that `to.form` doesn't allow, the one
-/// that `CopyForm` states; the arena's `AllocationFailed` or `MessageTooLarge`, only at an object
-/// whose words, together with all that was read before it, don't fit after those of the pointer's
-/// segment. After a refusal the pointer is null, the words that were allocated are zero, and what
-/// was charged to `lim` stays charged.
+/// Refusals: those of reading the value; for a capability that `to.form` doesn't allow, the refusal
+/// that `CopyForm` states; `AllocationFailed` or `MessageTooLarge` from the arena. The arena
+/// refuses only an object whose words, together with all that was read before the object, don't fit
+/// after the words of the pointer's segment. After a refusal the pointer is null, the words that
+/// were allocated are zero, and what was charged to `lim` stays charged.
 pub fn copy_in_form<A: BuilderArena, B: ReaderArena>(
     arena: &mut A,
     to: Destination,
@@ -91,7 +92,7 @@ pub fn copy_in_form<A: BuilderArena, B: ReaderArena>(
     clear_refused(arena, to.place, copied)
 }
 
-/// Like `copy_in_form`, but if it is refused, leaves the objects that it made until then.
+/// Like `copy_in_form`, but a refusal leaves the objects that were made before it.
 #[cycle(copies)]
 #[inline(never)]
 fn copy_object<A: BuilderArena, B: ReaderArena>(
@@ -133,7 +134,7 @@ fn copy_object<A: BuilderArena, B: ReaderArena>(
 }
 
 /// Makes the pointer at `to.place` the capability with index `index`. If `to.form` doesn't allow
-/// one, refuses it and changes nothing.
+/// capabilities, refuses and changes nothing.
 #[inline(always)]
 fn copy_capability<A: BuilderArena>(
     arena: &mut A,

@@ -4,7 +4,7 @@ ghost use Rattle.capnp_copies.specs.Forms.{form_of, form_in};
 
 use capnp_making::making::Start;
 
-/// What a copy keeps of a value, and whether it may have capabilities.
+/// What a copy keeps of a value, and whether the value may have capabilities.
 #[derive(Clone, Copy)]
 pub enum CopyForm {
     /// The plain value, with its capabilities.
@@ -19,7 +19,7 @@ pub enum CopyForm {
 /// Where a copy goes, and its form.
 #[derive(Clone, Copy)]
 pub struct Destination {
-    /// The place of the pointer that is copied to; if several are, of the first one.
+    /// The place of the pointer that is copied to, or of the first one of several pointers.
     pub place: Start,
     /// The form of the copy.
     pub form: CopyForm,

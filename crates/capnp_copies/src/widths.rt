@@ -18,7 +18,7 @@ pub struct StructList {
 }
 
 /// The number of elements of a list of structs, and their sections in the source and in the copy.
-/// No section is longer in the copy.
+/// No section is longer in the copy than in the source.
 #[derive(Clone, Copy)]
 pub(crate) struct ElementSizes {
     /// The number of elements.
@@ -29,8 +29,8 @@ pub(crate) struct ElementSizes {
     pub kept: StructSize,
 }
 
-/// The smallest sections with which `count` elements, from word `start` of a segment on, lose only
-/// data words that are zero and pointers that are null.
+/// The smallest sections that cut only zero data words and null pointers off the `count` elements
+/// from word `start` of a segment on.
 pub(crate) fn least_widths(bytes: &[u8], start: u32, count: u32, size: StructSize) -> StructSize
     requires whole { length bytes.now ≡ 8 * length (words_of bytes.now) }
     requires inside { start + count * (size.data_words + size.pointers)

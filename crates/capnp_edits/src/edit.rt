@@ -44,39 +44,38 @@ pub struct Source<'a> {
 pub enum Op<'a> {
     /// Make a struct, all zero.
     InitStruct(StructSize),
-    /// Make a list of this many elements that aren't structs, fewer than 2^29, all zero or null.
+    /// Make a list of this many elements, fewer than 2^29, which are zero or null and aren't
+    /// structs.
     InitList(ElementSize, u32),
-    /// Make a list of this many structs, fewer than 2^30, all zero. Their words are fewer than
-    /// 2^29.
+    /// Make a list of this many structs, fewer than 2^30, all zero. Together they have fewer than
+    /// 2^29 words.
     InitStructList(u32, StructSize),
-    /// Make a text of this many bytes, all zero. With the zero byte after them they are fewer than
-    /// 2^29.
+    /// Make a text of this many bytes, fewer than 2^29 - 1, all zero. A zero byte follows them.
     InitText(u32),
     /// Make data of this many bytes, fewer than 2^29, all zero.
     InitData(u32),
-    /// Make a text of these bytes. With the zero byte after them they are fewer than 2^29.
+    /// Make a text of these bytes, fewer than 2^29 - 1. A zero byte follows them.
     SetText(&'a [u8]),
-    /// Make data of these bytes; fewer than 2^29.
+    /// Make data of these bytes, fewer than 2^29.
     SetData(&'a [u8]),
     /// Make the pointer a capability, by its index.
     SetCapability(u32),
     /// Make the pointer null.
     Clear,
-    /// Write a number of a struct's data section: of 1, 2, 4 or 8 bytes, at this index, counted in
-    /// numbers of that width.
+    /// Write a number of 1, 2, 4 or 8 bytes into a struct's data section, at this index, counted in
+    /// numbers of its width.
     SetField(ElementSize, u32, u64),
     /// Write a bit of a struct's data section, by its index.
     SetBool(u32, bool),
-    /// Write a bit, or a number of 1, 2, 4 or 8 bytes, into the lowest bits of an element of a
-    /// list: of this size, at this index. Looks for the list like `PointerBuilder::get_list` with
-    /// this size.
+    /// Write a number of this size, a bit or 1, 2, 4 or 8 bytes, into the lowest bits of the list
+    /// element at this index. Looks for the list like `PointerBuilder::get_list` with this size.
     SetElement(ElementSize, u32, u64),
     /// Write a byte of a text, but not the zero after it.
     WriteText(u32, u8),
     /// Write a byte of data.
     WriteData(u32, u8),
     /// Look for a struct, and make it at least this large, like `PointerBuilder::get_struct` with
-    /// this size and default. The default of a search has fewer than 2^32 words.
+    /// this size and default. Here and below, a default has fewer than 2^32 words.
     GetStruct(StructSize, Option<&'a [u8]>),
     /// Look for a list, like `PointerBuilder::get_list` with this size and default.
     GetList(ElementSize, Option<&'a [u8]>),
@@ -99,9 +98,10 @@ pub enum Op<'a> {
     /// Looks for the list like `PointerReader::get_list` with the size `Void`, so it can't be a
     /// list of bits.
     SetList(Source<'a>, bool),
-    /// Replace the content of a struct by that of the struct that the root of another message leads
-    /// to, like `StructBuilder::copy_content_from`. If the root is null, replaces it by zeros and
-    /// null pointers. Looks for the other message's struct like `PointerReader::get_struct`.
+    /// Replace the content of a struct by that of another struct, to which another message's root
+    /// leads, like `StructBuilder::copy_content_from`. If the root is null, the new content is
+    /// zeros and null pointers. Looks for the other message's struct like
+    /// `PointerReader::get_struct`.
     CopyContent(Source<'a>),
 }
 
@@ -117,19 +117,21 @@ pub struct Edit<'a> {
 /// Applies `edit` to the message in `arena`.
 ///
 /// Refusals that change nothing: `NoSuchPlace` if the path leads nowhere, the operation is for a
-/// place of another kind, or a number is out of range; if the edit looks for a struct, a list, a
-/// text or data, the refusal of `PointerBuilder`'s `get_struct`, `get_struct_list`, `get_list`,
-/// `get_text` or `get_data`; if there is nothing to copy, that of `PointerReader`'s
-/// `get_root_from_arena`, `get_struct` or `get_list`.
+/// place of another kind, or a number is out of range. If the edit looks for a struct, a list, a
+/// text or data, also the refusal of `PointerBuilder`'s `get_struct`, `get_struct_list`,
+/// `get_list`, `get_text` or `get_data`. If there is nothing to copy, also the refusal of
+/// `PointerReader`'s `get_root_from_arena`, `get_struct` or `get_list`.
 ///
-/// After `AllocationFailed` or `MessageTooLarge`, which are the arena's, and after a copy is
-/// refused for what it reads, the pointer is null, with two exceptions. If copying a struct's
-/// content is refused like this, the data and the pointers before the refused one are copied, and
-/// the other pointers are null. The second exception is an edit that looks for something.
+/// After the arena's `AllocationFailed` or `MessageTooLarge`, or after a copy is refused for what
+/// it reads, the pointer is null, with two exceptions. If copying a struct's content is refused for
+/// one of these reasons, the data and the pointers before the refused one are copied, and the other
+/// pointers are null. The second exception is an edit that looks for a struct, a list, a text or
+/// data.
 ///
-/// Such an edit first replaces a null pointer by the value of its default. If that copy is refused,
-/// the pointer is null. If the value found is of the wrong kind, or there is no memory to make it
-/// larger, it stays, whether it is the default's or was there before.
+/// Before it looks, such an edit replaces a null pointer by a copy of the default's value. If that
+/// copy is refused, the pointer is null. If the value found is of the wrong kind, or there is no
+/// memory to make it larger, that value stays, whether it came from the default or was there
+/// before.
 pub fn apply<A: BuilderArena>(arena: &mut A, edit: &Edit<'_>) -> Result<(), ErrorKind>
     ensures { IsStep (A.view arena.old) (A.view arena.new) edit.now (refusal_of result) }
 {

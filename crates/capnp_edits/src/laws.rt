@@ -26,8 +26,9 @@ pub fn copied_or_refused()
         → HasNothingToCopy c.source c.wanted k ⊎ IsUnreadable c k → ⊥ }
 {}
 
-/// If the root of another message leads to a struct, and the pointers of it to copy mean values
-/// within both limits, copying the struct's content isn't refused for what is read.
+/// If the root of another message leads to a struct, and those of its pointers that are to be
+/// copied mean values within both limits, copying the struct's content isn't refused for what is
+/// read.
 pub fn filled_or_refused()
     ensures { (source : Source) (q : ℕ) (k : ErrorKind) (all : ContentRead source)
         → count all.children ≡ min q all.from.pointers
@@ -36,8 +37,8 @@ pub fn filled_or_refused()
         × IsNextUnreadable source some k) → ⊥ }
 {}
 
-/// If the path of an edit leads to a pointer, the edit is applied at that pointer: it is the place
-/// about which the contract of `apply` speaks.
+/// If the path of an edit leads to a pointer, the edit is applied there: that pointer is the place
+/// that the contract of `apply` is about.
 pub fn step_is_there()
     ensures { (old new : View) (edit : Edit) (r : Option ErrorKind) (t x : Tree) (u q : ℕ)
         (s : IsStep old new edit r) → IsForest old.words t

@@ -34,7 +34,8 @@ pub fn levels_from_depth()
 {}
 
 /// The function `decode` finds a value and its cost exactly if the relation `Means` has them for
-/// the place (`found`), and finds none exactly if `Means` has none (`nothing`).
+/// the place (`found`), and finds nothing exactly if `Means` has no value for the place
+/// (`nothing`).
 #[tactic(auto, using(crate::proofs::LawLemmas::decode_agrees, crate::proofs::LawLemmas::decode_refuses))]
 pub fn decode_agrees()
     ensures found { (S : Segments) (n s p : ℕ) (t : Tree) (c : ℕ)
@@ -44,7 +45,7 @@ pub fn decode_agrees()
 {}
 
 /// If the words of a message have 64 bits, a value that a place means is a value of the format:
-/// each size in it fits the bits of its pointer word.
+/// each size in it fits the bits that a pointer word has for that size.
 #[tactic(auto, using(crate::proofs::Bounds::means_value))]
 pub fn meaning_is_value()
     ensures { (S : Segments) (n s p : ℕ) (t : Tree) (c : ℕ) → AreWords S → Means S n s p t c
@@ -59,8 +60,8 @@ pub fn body_length()
 {}
 
 /// The canonical words of a value, followed by any words, mean that value at its least cost
-/// (`alone`). So does a canonical pointer at any place, if the value's body is at position h of the
-/// same segment (`anywhere`).
+/// (`alone`). A canonical pointer at any place also means the value at this cost, if the value's
+/// body is at position h of the same segment (`anywhere`).
 #[tactic(auto, using(crate::proofs::LawLemmas::canonical_words_mean, crate::proofs::Unique::stands_means))]
 pub fn canonical_words_mean()
     ensures alone { (t : Tree) (more : List ℕ) (n : ℕ) → IsValue t → IsEncodable t → depth t ≤ n
@@ -107,8 +108,8 @@ pub fn small_is_encodable()
     ensures { (t : Tree) → IsValue t → word_count t < 2 ^ 29 → IsEncodable t }
 {}
 
-/// Changing other words than a value's pointer and those that the value covers, or adding words to
-/// segments, changes neither the value nor which words it covers.
+/// If a value's pointer and the words that the value covers stay the same, so do the value and
+/// which words it covers. Other words may change, and words may be added to segments.
 #[tactic(auto, using(crate::proofs::Frame::frame))]
 pub fn others_may_change()
     ensures { (S R : Segments) (n s p : ℕ) (t : Tree) (c : ℕ) → Grows S R
@@ -118,7 +119,7 @@ pub fn others_may_change()
 {}
 
 /// Reading the canonical words of a place's value costs no more than reading the place (`cost`).
-/// There are no more of these words, without the root pointer, than reading the place costs
+/// The number of these words, without the root pointer, is at most what reading the place costs
 /// (`length`).
 #[tactic(auto, using(crate::proofs::LawLemmas::canonical_cost, crate::proofs::LawLemmas::canonical_length))]
 pub fn canonical_words_are_cheap()
@@ -149,8 +150,8 @@ pub fn canonical_again()
 {}
 
 /// Trimming cuts a section as short as possible without losing anything but zero words and null
-/// pointers. In a list of structs it cuts all elements to one size, the smallest that loses nothing
-/// else in any of them.
+/// pointers. In a list of structs it cuts all elements to one size: the smallest at which no
+/// element loses anything else.
 #[tactic(auto, using(crate::proofs::LawLemmas::least_children))]
 pub fn least_widths()
     ensures words { (n : ℕ) (ws : List ℕ)
@@ -179,19 +180,19 @@ pub fn one_arena_value()
 {}
 
 /// If the test for canonical form accepts a message's root, a canonical copy has the same words.
-/// That is: if a value's canonical words are at the root, with the body right after it, and the
-/// root means a value within some nesting limit, this value has no capability, and its canonical
-/// words are a prefix of the first segment.
+/// That is: let a value's canonical words be at the root, with the body right after the root, and
+/// let the root mean a value within some nesting limit. Then the value that the root means has no
+/// capability, and its canonical words are a prefix of the first segment.
 #[tactic(auto, using(crate::proofs::Agreements::tested_is_copied))]
 pub fn tested_is_copied()
     ensures { (S : Segments) (n c : ℕ) (t u : Tree) → Stands S 0 0 1 t → Means S n 0 0 u c
         → (capabilities u ≡ 0) × (more : List ℕ) × (segment S 0 ≡ encoding (trim u) ++ more) }
 {}
 
-/// If a place means a value without capabilities, within n levels and at cost c, the test for
-/// canonical form accepts the words of its canonical copy, followed by any words, within n levels
-/// and at cost c or less (`found`). A canonical copy of those words has the same words (`again`).
-/// Both assume that the offsets fit (`IsEncodable`).
+/// Let a place mean a value without capabilities, within n levels and at cost c. Then the test for
+/// canonical form accepts the words of the value's canonical copy, followed by any words, within n
+/// levels and at cost c or less (`found`). A canonical copy of those words has the same words
+/// (`again`). Both laws assume that the offsets fit (`IsEncodable`).
 #[tactic(auto, using(crate::proofs::Agreements::copied_again))]
 pub fn copied_is_tested()
     ensures found { (S : Segments) (n s p c : ℕ) (t : Tree) (more : List ℕ) → AreWords S

@@ -9,8 +9,9 @@ ghost use Rattle.capnp_framing.specs.Frames.{AreSegmentWords, CanBeFramed, IsFra
 ghost use Rattle.capnp_framing.specs.Reading.{NoFrame, total};
 ghost use Rattle.capnp_framing.specs.declared.framing.frame_error.FrameError.{FrameError};
 
-/// If two frames begin the same bytes, they are equal, and are frames of the same message. So bytes
-/// are a frame of at most one message, and no frame begins another one.
+/// If the same bytes begin with two frames, the frames are equal, and are frames of the same
+/// message. So bytes are a frame of at most one message, and no frame is the beginning of a
+/// different frame.
 pub fn one_frame()
     ensures begins { (S R : Segments) (a b rest more : List ℕ) → IsFrameOf S a → IsFrameOf R b
         → a ++ rest ≡ b ++ more → (S ≡ R) × (a ≡ b) × (rest ≡ more) }
@@ -18,8 +19,8 @@ pub fn one_frame()
         → S ≡ R }
 {}
 
-/// What `write` writes for a message is a frame of it, and of no other message. Any other frame of
-/// the message has the same length; only its padding may differ.
+/// What `write` writes for a message is a frame of that message, and of no other. Any other frame
+/// of the message has the same length; only its padding may differ.
 pub fn written_frames()
     ensures framed { (S : Segments) → CanBeFramed S → IsFrameOf S (frame S) }
     ensures long { (S : Segments) (bytes : List ℕ) → IsFrameOf S bytes
@@ -27,15 +28,15 @@ pub fn written_frames()
     ensures same { (S R : Segments) → CanBeFramed S → CanBeFramed R → frame S ≡ frame R → S ≡ R }
 {}
 
-/// A frame of at most `most` words is never refused for its contents, with any bytes after it.
+/// A frame of at most `most` words is never refused for its contents, whatever bytes follow it.
 pub fn frame_is_read()
     ensures { (S : Segments) (bytes rest : List ℕ) (most : ℕ) (e : FrameError) → IsFrameOf S bytes
         → total S ≤ most → NoFrame (bytes ++ rest) most e → ⊥ }
 {}
 
 /// The bytes of a segment's words, without a frame, are read as the message of only that segment,
-/// if it has at most `most` words. Whole words are never refused for their contents, if there are
-/// at most `most`, and no more than a segment can have.
+/// if the segment has at most `most` words. Whole words are never refused for their contents, if
+/// there are at most `most`, and no more than a segment can have.
 pub fn bare_words()
     ensures same { (ws : List ℕ) (most : ℕ) → AreSegmentWords ws → length ws ≤ most_bare most
         → AreBareWords (bytes_of_words ws) most × (message (bytes_of_words ws ∷ []) ≡ ws ∷ []) }

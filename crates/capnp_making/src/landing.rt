@@ -81,8 +81,8 @@ pub fn landing_of<A: BuilderArena>(
     }
 }
 
-/// Where `word`, at `at` of segment `id`, leads as a pointer that isn't far; `None` if out of the
-/// segment. `pads` is the number of words of landing pads read until then.
+/// Where `word`, at `at` of segment `id`, leads if it is read as a pointer that isn't far; `None`
+/// if that is out of the segment. `pads` is the number of words of landing pads read so far.
 fn follow_near<A: BuilderArena>(
     arena: &A,
     id: u32,
@@ -103,7 +103,8 @@ fn follow_near<A: BuilderArena>(
     }
 }
 
-/// Where the far pointer `word` leads. The result has no meaning if it leads out of the message.
+/// Where the far pointer `word` leads. The result has no meaning if `word` leads out of the
+/// message.
 #[cold]
 #[inline(never)]
 fn follow_far<A: BuilderArena>(arena: &A, word: WirePointer) -> Option<Landing>

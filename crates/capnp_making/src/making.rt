@@ -35,7 +35,8 @@ use capnp_words::wire_pointer::{
 pub enum Shape {
     /// A struct.
     Struct(StructSize),
-    /// A list, with the number in its pointer: of elements, or of words in a list of structs.
+    /// A list, with the number that its pointer states: of elements, or of words for a list of
+    /// structs.
     List(ElementSize, u32),
 }
 
@@ -66,8 +67,8 @@ pub fn pointer_to(shape: Shape, position: u32, target: u32) -> WirePointer
 /// Makes an object of `amount` words, all zero, and makes the pointer at `at` of segment `id` lead
 /// to it.
 ///
-/// Refuses like `BuilderArena::allocate_anywhere` for `amount + 1` words. Then nothing changes
-/// except the allocator's count `refused`.
+/// Refuses like `BuilderArena::allocate_anywhere` for `amount + 1` words. After a refusal nothing
+/// has changed except the allocator's count `refused`.
 #[inline(always)]
 fn put_object<A: BuilderArena>(
     arena: &mut A,
@@ -107,11 +108,11 @@ fn put_object<A: BuilderArena>(
     }
 }
 
-/// Makes an object of `amount` words, all zero, after a landing pad, where the arena finds room for
-/// both, and makes the pointer at `at` of segment `id` lead to it.
+/// Makes a landing pad followed by an object of `amount` words, all zero, where the arena finds
+/// room for both. Makes the pointer at `at` of segment `id` lead to the object.
 ///
-/// Refuses like `BuilderArena::allocate_anywhere` for `amount + 1` words. Then nothing changes
-/// except the allocator's count `refused`.
+/// Refuses like `BuilderArena::allocate_anywhere` for `amount + 1` words. After a refusal nothing
+/// has changed except the allocator's count `refused`.
 #[inline(always)]
 fn put_far<A: BuilderArena>(
     arena: &mut A,
@@ -155,8 +156,8 @@ pub fn clear<A: BuilderArena>(arena: &mut A, id: u32, at: u32)
 /// Makes a struct, all zero, and makes the pointer at `at` of segment `id` lead to it. A struct
 /// without sections takes no words.
 ///
-/// Refuses with `AllocationFailed` if memory runs out, or with `MessageTooLarge`. Then nothing
-/// changes except the allocator's count `refused`.
+/// Refuses with `AllocationFailed` if memory runs out, or with `MessageTooLarge`. After a refusal
+/// nothing has changed except the allocator's count `refused`.
 #[inline(always)]
 pub fn make_struct<A: BuilderArena>(
     arena: &mut A,
@@ -195,8 +196,8 @@ pub fn make_struct<A: BuilderArena>(
 /// Makes a list of `count` elements that aren't structs, all zero or null, and makes the pointer at
 /// `at` of segment `id` lead to it.
 ///
-/// Refuses with `AllocationFailed` if memory runs out, or with `MessageTooLarge`. Then nothing
-/// changes except the allocator's count `refused`.
+/// Refuses with `AllocationFailed` if memory runs out, or with `MessageTooLarge`. After a refusal
+/// nothing has changed except the allocator's count `refused`.
 #[inline(always)]
 pub fn make_list<A: BuilderArena>(
     arena: &mut A,
@@ -244,8 +245,8 @@ fn words_of_list(size: ElementSize, count: u32) -> u32
 /// Makes a list of `count` structs, all zero, and makes the pointer at `at` of segment `id` lead to
 /// it. The first word of the list is the tag.
 ///
-/// Refuses with `AllocationFailed` if memory runs out, or with `MessageTooLarge`. Then nothing
-/// changes except the allocator's count `refused`.
+/// Refuses with `AllocationFailed` if memory runs out, or with `MessageTooLarge`. After a refusal
+/// nothing has changed except the allocator's count `refused`.
 pub fn make_struct_list<A: BuilderArena>(
     arena: &mut A,
     id: u32,

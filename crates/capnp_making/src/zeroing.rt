@@ -17,8 +17,8 @@ use capnp_words::wire_pointer::{
     ElementSize, StructSize, WirePointer, WirePointerKind, data_bits_per_element,
 };
 
-/// Zeroes the `n` words of segment `id` from `start` on. Changes nothing if they aren't all inside
-/// it.
+/// Zeroes the `n` words of segment `id` from `start` on. Changes nothing unless all of them are
+/// inside the segment.
 pub fn zero_part<A: BuilderArena>(arena: &mut A, id: u32, start: u32, n: u64)
     requires { n < 2 ^ 63 }
     ensures zeroed { start + n ≤ length (segment (A.view arena.old).words id)
@@ -70,8 +70,8 @@ fn zero_far_pads<A: BuilderArena>(arena: &mut A, word: WirePointer)
 }
 
 /// Zeroes the pointer at `at` of segment `id` and what it holds: its object, all objects below it,
-/// and their landing pads. If the segments aren't a message that a builder made, it may zero any
-/// words, but never writes anything else.
+/// and their landing pads. If the segments aren't a message that a builder made, this may zero any
+/// words, but writes only zeros.
 #[cycle(zeroing)]
 #[inline(always)]
 pub fn zero_object<A: BuilderArena>(arena: &mut A, id: u32, at: u32)
@@ -95,8 +95,8 @@ pub fn zero_object<A: BuilderArena>(arena: &mut A, id: u32, at: u32)
     }
 }
 
-/// Zeroes the object at `landing` and all objects below it, if it is a value that holds no word
-/// twice. Otherwise may zero other words.
+/// Zeroes the object at `landing` and all objects below it, if the object is a value that holds no
+/// word twice. Otherwise may zero other words.
 #[cycle(zeroing)]
 #[cold]
 #[inline(never)]
@@ -147,7 +147,7 @@ fn zero_struct<A: BuilderArena>(arena: &mut A, id: u32, start: u32, size: Struct
 }
 
 /// Zeroes the `count` consecutive pointers from `start` of segment `id` on, and all objects below
-/// them, if they mean values.
+/// them, if the pointers mean values.
 #[cycle(zeroing)]
 #[tactic(auto, using(crate::proofs::Zeros::fewer))]
 fn zero_pointers<A: BuilderArena>(arena: &mut A, id: u32, start: u32, count: u32)
@@ -183,7 +183,7 @@ fn zero_structs<A: BuilderArena>(arena: &mut A, id: u32, start: u32)
 }
 
 /// Zeroes the pointers of `count` consecutive elements from `start` of segment `id` on, and all
-/// objects below them, if they mean values.
+/// objects below them, if the pointers mean values.
 #[cycle(zeroing)]
 #[tactic(auto, using(crate::proofs::Zeros::fewer))]
 fn zero_elements<A: BuilderArena>(arena: &mut A, id: u32, start: u32, size: StructSize, count: u32)

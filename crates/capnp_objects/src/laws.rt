@@ -1,6 +1,6 @@
 //! Laws of refusals and sizes. Each function does nothing: its contract is the law, proved for all
 //! messages and limits. `specs/Refusals.antt` has the definitions with which contracts state a
-//! refusal, and docs/FORMAT.md has them in plain words.
+//! refusal, and docs/FORMAT.md explains these in plain words.
 
 ghost use Rattle.std.specs.Prelude.{◌≡◌, ◌≢◌, ◌⊎◌, ◌+◌, ◌<◌, ◌≤◌, ℕ, true, Some};
 ghost use Rattle.capnp_words.specs.declared.error.ErrorKind.{ErrorKind};
@@ -17,10 +17,11 @@ ghost use Rattle.capnp_objects.specs.Refusals.{Refused, StopsWithin, IsTried};
 ghost use Rattle.capnp_objects.specs.Sizing.{SizedThere, tally, WalksPlace};
 ghost use Rattle.capnp_objects.specs.Wanted.{Form, FollowsTo, AllowsCapabilities};
 
-/// A demand is a condition for reading an object, with the name of its refusal. A reading is
-/// refused for one of two reasons: a place that it reaches breaks a demand, and the refusal has
-/// that demand's name; or such a place charges more words than the limiter has left, and the
-/// refusal is `ReadLimitExceeded` (`named`). `ReadLimitExceeded` has no other cause (`limit`).
+/// A demand is a condition for reading an object, and has a name, that of its refusal. A reading is
+/// refused for one of two reasons: a place that the reading reaches breaks a demand, and the
+/// refusal has that demand's name; or a place that the reading reaches charges more words than the
+/// limiter has left, and the refusal is `ReadLimitExceeded` (`named`). `ReadLimitExceeded` has no
+/// other cause (`limit`).
 pub fn refused_truly()
     ensures named { (form : Form) (r : Reading) (m m' : Meter) (k : ErrorKind)
         → Refused form r m m' k
@@ -29,23 +30,23 @@ pub fn refused_truly()
         → Refused form r m m' ReadLimitExceeded → Somewhere (Exceeds m') r }
 {}
 
-/// If a reading is refused, the place means no value that `form` accepts within both the nesting
-/// limit and the traversal limit.
+/// If a reading is refused, the place means no value that `form` accepts and that both the nesting
+/// limit and the traversal limit allow.
 pub fn refused_rightly()
     ensures { (form : Form) (r : Reading) (m m' : Meter) (k : ErrorKind)
         → Refused form r m m' k → (t : Tree) (c : ℕ) → MeansThere r t c
         → AllowsCapabilities form (capabilities t) → Affords r.charging m c → ⊥ }
 {}
 
-/// If there is no traversal limit, or nothing is charged, each refusal names a demand that a place
-/// reached by the reading breaks.
+/// If there is no traversal limit, or nothing is charged, each refusal names a demand, and the
+/// reading reaches a place that breaks this demand.
 pub fn refused_unlimited()
     ensures { (form : Form) (r : Reading) (m m' : Meter) (k : ErrorKind)
         → ((x : ℕ) → Affords r.charging m x) → Refused form r m m' k → HasFault form r k }
 {}
 
-/// Either a place means a value that `form` accepts, within its nesting limit, or a place that a
-/// reading of it reaches breaks a demand.
+/// Either a place means, within its nesting limit, a value that `form` accepts; or a reading of the
+/// place reaches a place that breaks a demand.
 pub fn value_or_fault()
     ensures { (form : Form) (r : Reading)
         → ((t : Tree) × (c : ℕ) × MeansThere r t c × AllowsCapabilities form (capabilities t))
@@ -62,9 +63,9 @@ pub fn few_followed()
         → m'.followed ≤ m.followed + (x + 1) }
 {}
 
-/// If a place means a value, a walk over the place counts the words and capabilities of that value,
-/// for any nesting limits of the two (`size`). The value's canonical words, without the root
-/// pointer, are at most as many as the words counted (`canonical`).
+/// If a place means a value, a walk over the place counts the words and capabilities of that value;
+/// the walk and the value may have different nesting limits (`size`). The value's canonical words,
+/// without the root pointer, are at most as many as the words counted (`canonical`).
 pub fn size_of_value()
     ensures size { (r : Reading) (n : ℕ) (m m' : Meter) (words caps : ℕ) (t : Tree) (c : ℕ)
         → WalksPlace r (tally 0 0 m) (tally words caps m')
@@ -76,15 +77,15 @@ pub fn size_of_value()
         → word_count (trim t) ≤ words }
 {}
 
-/// If a place means a value, and the nesting limit is above the value's depth, a walk counts its
-/// size at no greater cost than reading it.
+/// If a place means a value, and the nesting limit is above the value's depth, a walk counts the
+/// value's size at no greater cost than that of reading the value.
 pub fn values_have_sizes()
     ensures { (r : Reading) (n : ℕ) (t : Tree) (c : ℕ) → MeansThere (record r { levels = n }) t c
         → depth t < r.levels → (k : ℕ) × (k ≤ c) × SizedThere r t k }
 {}
 
 /// If following a pointer ends at a word that isn't a far pointer, then that word describes the
-/// object that the pointer leads to in the meaning of the message. This includes every pointer
+/// object that the pointer leads to in the meaning of the message. This is so for every pointer
 /// whose object is read.
 pub fn followed_leads()
     ensures { (r : Reading) (a : Target) → FollowsTo r a → kind a.word ≢ 2 → LeadsTo r a }

@@ -1,5 +1,6 @@
-//! Reads one object of a message in place: follows the pointer to it, checks that the words which
-//! it claims are inside a segment, and charges them to a limiter, all before they are read.
+//! Reads one object of a message in place: follows the pointer to the object, checks that the words
+//! that the object claims are inside a segment, and charges these words to a limiter before they
+//! are read.
 #![tactic(auto)]
 
 pub mod laws;

@@ -1,5 +1,6 @@
 //! What readers read from: an arena, a field's default value, or nothing. A pointer is read in two
-//! steps, each with its checks and charges: following it, and entering the object where it leads.
+//! steps, each with its checks and charges: following the pointer, and entering the object that it
+//! leads to.
 ghost use Rattle.std.specs.Prelude.{◌≡◌, ◌<◌, ◌≤◌, ◌↔◌, IfOk, IsOk, OnOk, OnErr, IfErr, length};
 ghost use Rattle.capnp_format.specs.Word.{kind, element_size};
 ghost use Rattle.capnp_words.specs.Meter.{counted_once};
@@ -54,12 +55,13 @@ impl<'a, A: ReaderArena> Source<'a, A> {
     /// specification, "Structs", "Lists", "Inter-Segment Pointers" and "Capabilities
     /// (Interfaces)").
     ///
-    /// Returns `Object::Null` if the word at `place` is zero, or `place` is outside of its segment;
-    /// counts and charges nothing in `lim` then. Otherwise counts the pointer in `lim` as followed,
-    /// and charges words, each before it is read: those of its landing pads, those that the object
-    /// claims, and one for each list element without width. If the source isn't an arena that
-    /// charges, `lim` is unchanged. A struct and a list take a level, so `nesting_limit` must be at
-    /// least 1. A capability takes no level, and is charged no words except its landing pads.
+    /// If the word at `place` is zero, or `place` is outside of its segment, returns
+    /// `Object::Null`, and counts and charges nothing in `lim`. Otherwise counts the pointer in
+    /// `lim` as followed, and charges words, each before it is read: those of its landing pads,
+    /// those that the object claims, and one for each list element without width. If the source
+    /// isn't an arena that charges, `lim` is unchanged. A struct and a list take a level, and are
+    /// refused if `nesting_limit` is below 1. A capability takes no level, and only the words of
+    /// its landing pads are charged.
     ///
     /// Refuses with the first fault found: `InvalidSegmentId`, `MessageContainsOutOfBoundsPointer`,
     /// `MalformedDoubleFarPointer`, `UnknownPointerType`,
@@ -122,8 +124,9 @@ impl<'a, A: ReaderArena> Source<'a, A> {
         entrance.enter(purpose, lim)
     }
 
-    /// Reads the struct that `pointer`, which isn't a far pointer, leads to, like `read_object`.
-    /// Returns the position in the pointer's segment where the struct starts, in words.
+    /// Reads the struct that `pointer` leads to, like `read_object`. Returns the position, in
+    /// words, where the struct starts in the pointer's segment. Precondition: `pointer` is itself a
+    /// struct pointer, not a far pointer.
     #[inline(always)]
     pub fn read_near_struct(
         self,
@@ -140,9 +143,10 @@ impl<'a, A: ReaderArena> Source<'a, A> {
         self.enter_near(pointer, pointer.word.struct_word_size(), lim)
     }
 
-    /// Reads the list of bits or numbers that `pointer`, which isn't a far pointer, leads to, like
-    /// `read_object`. Returns the position in the pointer's segment where the elements start, in
-    /// words. Precondition: the list claims `words` words.
+    /// Reads the list of bits or numbers that `pointer` leads to, like `read_object`. Returns the
+    /// position, in words, where the elements start in the pointer's segment. Preconditions:
+    /// `pointer` is itself a pointer to such a list, not a far pointer; the list claims `words`
+    /// words.
     #[inline(always)]
     pub fn read_near_flat(
         self,

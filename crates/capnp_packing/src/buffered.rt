@@ -1,6 +1,6 @@
 //! Devices that buffer bytes: an input that reads ahead, and an output that flushes later. Suppose
-//! that a peer waits for an answer before it sends more. It gets the answer if the program flushes
-//! the output before each read that may wait for input.
+//! that a peer waits for an answer before it sends more. The peer gets the answer if the program
+//! flushes the output before each read that may wait for input.
 ghost use Rattle.std.specs.Prelude.{◌≡◌, ◌⊎◌, false, true, ℕ, IsTrue, OnOk, OnErr};
 ghost use Rattle.std.specs.Io.KnownBytes.{Keeps};
 
@@ -12,7 +12,7 @@ pub trait BufferedInput: Input {
     ghost has_enough: { Self → Type 0 };
 
     /// Whether enough bytes are read ahead that reading the next message certainly won't wait. For
-    /// `UnpackingInput`: that reading the next unpacked word won't.
+    /// `UnpackingInput`: enough that reading the next unpacked word certainly won't.
     fn is_ahead(&self) -> bool
         ensures { IsTrue result → has_enough self.now };
 }

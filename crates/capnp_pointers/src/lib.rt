@@ -1,5 +1,5 @@
-//! Pointers of a message, read in place, with the calls that go through all that a pointer leads
-//! to: its size, and the test for canonical form.
+//! Pointers of a message, read in place. The calls for sizes and the test for canonical form go
+//! through the whole value that a pointer leads to.
 #![tactic(auto)]
 
 pub mod pointers;

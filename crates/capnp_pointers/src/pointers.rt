@@ -83,7 +83,7 @@ impl<'a, A: ReaderArena> Pointer<'a, A> {
     /// Returns the root pointer of a message, word 0 of segment 0 (encoding specification,
     /// "Messages"). Charges `lim` this one word. The pointer's nesting limit is the arena's.
     ///
-    /// Refusals: `MessageContainsOutOfBoundsPointer` if there is no such word;
+    /// Refusals: `MessageContainsOutOfBoundsPointer` if segment 0 has no word;
     /// `InvalidSegmentId(0)` if there is no segment; `TriedToReadFromNullArena` in a `NullArena`;
     /// `ReadLimitExceeded` if the limiter has no word left. A refusal leaves the limiter unchanged.
     pub fn get_root_from_arena(arena: &'a A, lim: &mut ReadLimiter) -> Result<Self, ErrorKind>

@@ -14,8 +14,8 @@ ghost use Rattle.capnp_objects.specs.Reading.{Reading, word_of, segment_read};
 ghost use Rattle.capnp_objects.specs.Wanted.{canonical};
 ghost use Rattle.capnp_pointers.specs.Checking.{Progress, progress, Finds, CanBeFound, CanAllBeFound, TestStops, TestEnds, TestsEnd, IsUnfit, Unread};
 
-/// The test for canonical form is never refused if the words at its place are canonical and within
-/// both limits. The same holds for consecutive pointers.
+/// The test for canonical form is never refused if the words at its place are canonical, and within
+/// the nesting limit and the traversal limit. The same holds for consecutive pointers.
 pub fn canonical_is_answered()
     ensures place { (k : ErrorKind) (r : Reading) (from : Progress) (m' : Meter)
         → TestStops k r from m' → CanBeFound r from → ⊥ }
@@ -23,9 +23,9 @@ pub fn canonical_is_answered()
         → TestsEnd (Unread k) r i from m' → CanAllBeFound r i from → ⊥ }
 {}
 
-/// The test accepts the words of a canonical copy, wherever they are, within the limits within
-/// which the copy was made. The pointer may be at any place, with the other words from any position
-/// of its segment on.
+/// The test accepts the words of a canonical copy if it starts with the nesting limit and the
+/// limiter that the copying started with. The copy's pointer may be at any place, and its other
+/// words may start at any position of the pointer's segment.
 pub fn copy_is_answered()
     ensures { (r q : Reading) (m m' : Meter) (h : ℕ) (t : Tree)
         → AreWords r.segments → Reads canonical r m m' t
@@ -34,16 +34,16 @@ pub fn copy_is_answered()
         → CanBeFound q (progress h m) }
 {}
 
-/// If the test accepts a value at a place, the place means that value within its nesting limit, at
-/// exactly the cost that the test charged.
+/// If the test accepts a value at a place, the place means that value within the nesting limit, and
+/// reading the value costs exactly what the test charged.
 pub fn found_is_meant()
     ensures { (r : Reading) (from to : Progress) (t : Tree)
         → Finds r from to t → MeansThere r t (charge t) }
 {}
 
-/// Take two pointers, each at the same position of its segment, that the test accepts from the same
-/// position `head` on. They have the same value exactly if their words are the same: the pointer's
-/// own, and those past which the test moved `head`.
+/// Take two pointers at the same position of their segments, which the test accepts with the same
+/// `head`. Their values are the same exactly if their words are: the word of the pointer itself,
+/// and the words past which the test moved `head`.
 pub fn same_words()
     ensures { (r q : Reading) (from to start end : Progress) (t u : Tree)
         → Finds r from to t → Finds q start end u
@@ -53,9 +53,10 @@ pub fn same_words()
         ↔ (t ≡ u) }
 {}
 
-/// A test that finds a fault or is refused leaves the limiter as reading does: with fewer words
-/// left, by those that it granted, and with a higher count of pointers, by those that were
-/// followed. If nothing is charged, for example for a default value, the limiter is unchanged.
+/// A test that finds a fault or is refused changes the limiter as reading does: the words that were
+/// granted are subtracted from the words left, and the pointers that were followed are added to the
+/// count of pointers. If nothing is charged, for example for a default value, the limiter is
+/// unchanged.
 pub fn end_is_charged()
     ensures failed { (r : Reading) (from : Progress) (m' : Meter) → TestEnds IsUnfit r from m'
         → (g : ℕ) × (i : ℕ) × Paid r.charging from.meter m' g i }

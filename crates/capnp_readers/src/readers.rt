@@ -78,7 +78,7 @@ impl<'a, A: ReaderArena> PointerReader<'a, A> {
 
     /// A null pointer that isn't in any message: its source is `Source::Nothing`, its place word 0
     /// of segment 0, and its nesting limit `i32::MAX`. A pointer field that its struct doesn't have
-    /// is read as this one, "from nothing".
+    /// is read as this pointer, "from nothing".
     pub fn new_default() -> Self
         ensures source { result.source ≡ Source.Nothing }
         ensures place { (result.place.segment ≡ 0) × (result.place.at ≡ 0) }
@@ -90,7 +90,7 @@ impl<'a, A: ReaderArena> PointerReader<'a, A> {
     /// Returns the root pointer of a message, word 0 of segment 0 (encoding specification,
     /// "Messages"). Charges `lim` this one word. The reader's nesting limit is the arena's.
     ///
-    /// Refusals: `MessageContainsOutOfBoundsPointer` if there is no such word;
+    /// Refusals: `MessageContainsOutOfBoundsPointer` if segment 0 has no word;
     /// `InvalidSegmentId(0)` if there is no segment; `TriedToReadFromNullArena` in a `NullArena`;
     /// `ReadLimitExceeded` if the limiter has no word left. A refusal leaves the limiter unchanged.
     pub fn get_root_from_arena(arena: &'a A, lim: &mut ReadLimiter) -> Result<Self, ErrorKind>
@@ -120,11 +120,11 @@ impl<'a, A: ReaderArena> PointerReader<'a, A> {
     }
 
     /// The pointer in the first word of a field's default value. `bytes` are one segment that no
-    /// far pointer leads to; up to 7 bytes after the last whole word are ignored. Reading it
-    /// charges nothing, and its nesting limit is `i32::MAX`. Precondition: `bytes` has fewer than
-    /// 2^32 words.
+    /// far pointer leads to; up to 7 bytes after the last whole word are ignored. Reading the
+    /// pointer charges nothing, and its nesting limit is `i32::MAX`. Precondition: `bytes` has
+    /// fewer than 2^32 words.
     ///
-    /// Refuses with `MessageContainsOutOfBoundsPointer` if `bytes` has no whole word.
+    /// Refuses with `MessageContainsOutOfBoundsPointer` if `bytes` has fewer than 8 bytes.
     pub fn from_default(bytes: &'a [u8]) -> Result<Self, ErrorKind>
         requires { length bytes.now / 8 < 2 ^ 32 }
         ensures exactly { IsOk result ↔ (8 ≤ length bytes.now) }
@@ -157,7 +157,7 @@ impl<'a, A: ReaderArena> PointerReader<'a, A> {
         *self
     }
 
-    /// The `Pointer`, for copying, for its size, and for the test for canonical form.
+    /// This pointer as a `Pointer`: for copying, for its size, and for the test for canonical form.
     #[inline(always)]
     pub fn pointer(self) -> Pointer<'a, A>
         ensures source { result.source ≡ self.entry.source }
@@ -268,23 +268,23 @@ impl<'a, A: ReaderArena> PointerReader<'a, A> {
     }
 
     /// The struct that the pointer leads to ("Structs"). If the pointer is null, returns the struct
-    /// of `default`. Without a default, or if the default's pointer is null, returns a struct
-    /// without sections.
+    /// of `default`; if there is no default, or the default's pointer is null too, a struct without
+    /// sections.
     ///
-    /// Requires a nesting limit of at least 1; that of the struct is one less. Counts the pointer
-    /// in `lim` as followed, and charges `lim` the words of its landing pads and of the struct,
-    /// each before it is read.
+    /// Takes a level: the struct's nesting limit is one less than that of `self`. Counts the
+    /// pointer in `lim` as followed, and charges `lim` the words of its landing pads and of the
+    /// struct, each before it is read.
     ///
-    /// Refusals: `MessageIsTooDeeplyNestedOrContainsCycles` if the nesting limit is below 1;
-    /// `MessageContainsNonStructPointerWhereStructPointerWasExpected` if the object is of another
-    /// kind; `MessageContainsOutOfBoundsPointer` if a place is outside of its segment;
-    /// `InvalidSegmentId` if a segment doesn't exist; `ReadLimitExceeded` if the limiter doesn't
-    /// cover the words. What was charged before stays charged.
+    /// Refusals: `MessageIsTooDeeplyNestedOrContainsCycles` if the nesting limit of `self` is below
+    /// 1; `MessageContainsNonStructPointerWhereStructPointerWasExpected` if the object is of
+    /// another kind; `MessageContainsOutOfBoundsPointer` if a landing pad or the struct is outside
+    /// of its segment; `InvalidSegmentId` if a segment doesn't exist; `ReadLimitExceeded` if the
+    /// limiter doesn't cover the words. What was charged before a refusal stays charged.
     ///
-    /// `default` is one segment with its pointer in word 0, and has fewer than 2^32 words. It is
-    /// read within the pointer's own nesting limit, and charges and counts nothing. Refuses a
-    /// default without a whole word with `MessageContainsOutOfBoundsPointer`, and a far pointer in
-    /// it with `TriedToReadFromNullArena`.
+    /// `default` is one segment with its pointer in word 0. It is read only if `self` is null, with
+    /// the nesting limit of `self`; this counts and charges nothing. Refuses a default under 8
+    /// bytes with `MessageContainsOutOfBoundsPointer`, and one whose pointer is a far pointer with
+    /// `TriedToReadFromNullArena`. Precondition: `default` has fewer than 2^32 words.
     pub fn get_struct(
         self,
         lim: &mut ReadLimiter,
@@ -312,21 +312,22 @@ impl<'a, A: ReaderArena> PointerReader<'a, A> {
     /// The list that the pointer leads to ("Lists"). Its elements have to be as wide as
     /// `expected_element_size` or wider, and keep their own width in the list returned. `Void` and
     /// `InlineComposite` accept elements of any width except bits. If the pointer is null, returns
-    /// the list of `default`. Without a default, or if the default's pointer is null, returns a
-    /// list of void without elements.
+    /// the list of `default`; if there is no default, or the default's pointer is null too, a list
+    /// of void without elements.
     ///
-    /// Requires a nesting limit of at least 1, otherwise refuses with `NestingLimitExceeded`; that
-    /// of the list is one less. Counts, charges and refuses like `PointerReader::next`, except that
-    /// it refuses an object of another kind, before its words are charged, with
-    /// `MessageContainsNonListPointerWhereListPointerWasExpected`.
+    /// Takes a level: the list's nesting limit is one less than that of `self`. Refuses with
+    /// `NestingLimitExceeded` if the nesting limit of `self` is below 1. Otherwise counts, charges
+    /// and refuses like `PointerReader::next`, except that an object of another kind is refused
+    /// with `MessageContainsNonListPointerWhereListPointerWasExpected`, before its words are
+    /// charged.
     ///
-    /// Refusals after all is charged: `FoundBitListWhereStructListWasExpected` for a list of bits,
-    /// unless bits are expected; `MessageContainsListWithIncompatibleElementType` for other
+    /// Refusals after all words are charged: `FoundBitListWhereStructListWasExpected` for a list of
+    /// bits, unless bits are expected; `MessageContainsListWithIncompatibleElementType` for other
     /// elements that are too narrow. For a list of structs:
     /// `FoundStructListWhereBitListWasExpected` if bits are expected;
     /// `ExpectedAPrimitiveListButGotAListOfPointerOnlyStructs` if numbers are expected and the
     /// structs have no data; `ExpectedAPointerListButGotAListOfDataOnlyStructs` if pointers are
-    /// expected and the structs have none.
+    /// expected and the structs have no pointers.
     ///
     /// `default` is read as in `PointerReader::get_struct`.
     pub fn get_list(
@@ -362,14 +363,14 @@ impl<'a, A: ReaderArena> PointerReader<'a, A> {
     /// Takes no level. Counts the pointer in `lim` as followed, and charges `lim` the words of its
     /// landing pads and of the bytes, each before it is read.
     ///
-    /// Refusals: `MessageContainsNonListPointerWhereTextWasExpected` if it isn't a list,
-    /// `MessageContainsListPointerOfNonBytesWhereTextWasExpected` if the elements aren't bytes,
-    /// both before the words of the bytes are charged; `MessageContainsTextThatIsNotNULTerminated`,
-    /// after they are charged, if there are no bytes or the last one isn't 0. Other refusals are
-    /// those of `PointerReader::next`.
+    /// Refusals before the words of the bytes are charged:
+    /// `MessageContainsNonListPointerWhereTextWasExpected` if the object isn't a list;
+    /// `MessageContainsListPointerOfNonBytesWhereTextWasExpected` if its elements aren't bytes.
+    /// Refusal after these words are charged: `MessageContainsTextThatIsNotNULTerminated` if there
+    /// are no bytes or the last byte isn't 0. Other refusals are those of `PointerReader::next`.
     ///
-    /// `default` is read as in `PointerReader::get_struct`. If its pointer is null, it is refused
-    /// like an object that isn't a list.
+    /// `default` is read as in `PointerReader::get_struct`. A default whose pointer is null is
+    /// refused like an object that isn't a list.
     pub fn get_text(
         self,
         lim: &mut ReadLimiter,
@@ -396,9 +397,10 @@ impl<'a, A: ReaderArena> PointerReader<'a, A> {
     /// The bytes of the data that the pointer leads to, in place ("Lists"). If the pointer is null,
     /// returns the data of `default`; without a default, no bytes.
     ///
-    /// Like `PointerReader::get_text`, but the last byte can be anything, and is returned as well.
-    /// Refusals: `MessageContainsNonListPointerWhereDataWasExpected` if it isn't a list,
-    /// `MessageContainsListPointerOfNonBytesWhereDataWasExpected` if the elements aren't bytes.
+    /// Like `PointerReader::get_text`, but there may be no bytes, and the last byte can be anything
+    /// and is returned as well. Refusals: `MessageContainsNonListPointerWhereDataWasExpected` if
+    /// the object isn't a list; `MessageContainsListPointerOfNonBytesWhereDataWasExpected` if its
+    /// elements aren't bytes.
     pub fn get_data(
         &self,
         lim: &mut ReadLimiter,
@@ -422,12 +424,12 @@ impl<'a, A: ReaderArena> PointerReader<'a, A> {
         }
     }
 
-    /// The capability that the pointer is, by its index in the message's capability table
-    /// ("Capabilities (Interfaces)"). Doesn't follow the pointer, and counts and charges nothing.
+    /// The index of the pointer's capability in the message's capability table ("Capabilities
+    /// (Interfaces)"). Doesn't follow the pointer, and counts and charges nothing.
     ///
-    /// Refusals: `MessageContainsNullCapabilityPointer` if it is null;
+    /// Refusals: `MessageContainsNullCapabilityPointer` if the pointer is null;
     /// `MessageContainsNonCapabilityPointerWhereCapabilityPointerWasExpected` for any other
-    /// pointer, also a far pointer to a capability.
+    /// pointer, even a far pointer to a capability.
     pub fn get_capability(&self) -> Result<u32, ErrorKind>
         ensures exactly { IsOk result ↔ (lower_half (word_of (read_by A.ReaderArena self.now))
             ≡ 3) }
@@ -451,13 +453,14 @@ impl<'a, A: ReaderArena> PointerReader<'a, A> {
     }
 
     /// What the pointer leads to: nothing, a struct, a list or a capability. This is the kind of
-    /// the word that describes the object: the pointer itself, its landing pad, or the second pad
-    /// of a double-far pointer. The object itself is neither checked nor charged.
+    /// the word that describes the object: the pointer itself, its landing pad, or, for a
+    /// double-far pointer, the second word of the landing pad. The object itself is neither checked
+    /// nor charged.
     ///
     /// A null pointer counts and charges nothing in `lim`. Any other pointer is counted in `lim` as
-    /// followed, and charged the words of its landing pads. Refusals: `UnexpectedFarPointer` if the
-    /// word that describes the object is a far pointer; `UnknownPointerType` if it is of no known
-    /// kind; those of `PointerReader::next` if the pointer can't be followed.
+    /// followed, and the words of its landing pads are charged. Refusals: `UnexpectedFarPointer` if
+    /// the word that describes the object is a far pointer; `UnknownPointerType` if that word is of
+    /// no known kind; those of `PointerReader::next` if the pointer can't be followed.
     pub fn get_pointer_type(&self, lim: &mut ReadLimiter) -> Result<PointerType, ErrorKind>
         ensures of_type { IfOk result (IsOfType (read_by A.ReaderArena self.now) lim.old lim.new) }
         ensures exactly { IsOk result ↔ (t : PointerType) × (left : Meter)
@@ -472,10 +475,10 @@ impl<'a, A: ReaderArena> PointerReader<'a, A> {
     /// "Inter-Segment Pointers", "Capabilities (Interfaces)").
     ///
     /// A null pointer counts and charges nothing in `lim`. Any other pointer is counted in `lim` as
-    /// followed, and charged the words of its landing pads, the object's own words, and one word
-    /// for each list element without width, each before it is read. A default value and an arena
-    /// being built count and charge nothing. Refuses with the first fault found; what was charged
-    /// before stays charged.
+    /// followed. `lim` is charged the words of its landing pads, the object's own words, and one
+    /// word for each list element without width, each before it is read. A default value and an
+    /// arena being built count and charge nothing. Refuses with the first fault found, like
+    /// `Source::read_object`; what was charged before stays charged.
     pub fn next(&self, lim: &mut ReadLimiter) -> Result<Target<'a, A>, ErrorKind>
         ensures target { IfOk result (IsTarget A.ReaderArena self.now lim.old lim.new) }
         ensures exactly { IsOk result ↔ CanBeRead Value (read_by A.ReaderArena self.now) lim.old }

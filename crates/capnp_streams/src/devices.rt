@@ -150,8 +150,8 @@ impl BufferedOutput for NoOutput {
     }
 }
 
-/// An output of lines that puts a name and `: ` before each. Its contract doesn't state what bytes
-/// `output` then holds.
+/// An output that puts a name and `: ` before each line. Its contract doesn't state what bytes a
+/// write adds to `output`.
 #[derive(Drop)]
 pub struct NamedLines<'n, 'w, W> {
     name: &'n str,
@@ -197,7 +197,7 @@ impl<'n, 'w, W: Output> NamedLines<'n, 'w, W> {
     }
 }
 
-/// The position after the first line feed in `bytes`, or their end.
+/// The position after the first line feed in `bytes`; the end of `bytes` if they have none.
 fn line_end(bytes: &[u8]) -> usize
     ensures some { 0 < length bytes.now → 0 < result }
     ensures within { result ≤ length bytes.now }

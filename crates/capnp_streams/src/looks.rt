@@ -1,5 +1,5 @@
-//! If the first message of an input can't be answered: a guess from the first bytes what the input
-//! is, to tell the user.
+//! Guesses from an input's first bytes what the input is, to tell the user if its first message
+//! can't be answered.
 ghost use Rattle.std.specs.Prelude.{◌<◌, ◌≤◌, ◌^◌, IfSome};
 
 use crate::streams::{Fault, Task};
@@ -48,9 +48,9 @@ impl Looks {
     }
 }
 
-/// What an input looks like, after `task` refused its first message with `fault`; `None` if it
-/// looks like what `task` reads, or like nothing known. `first` has the first bytes of the input,
-/// which has at least `given` bytes.
+/// What an input looks like, after `task` refused its first message with `fault`; `None` if the
+/// input looks like what `task` reads, or like nothing known. `first` has the first bytes of the
+/// input; the input has at least `given` bytes.
 pub fn looks_like(task: Task, fault: Fault, first: &[u8], given: u64) -> Option<Looks> {
     if is_of_devices(fault) {
         return None;
@@ -71,8 +71,8 @@ pub fn looks_like(task: Task, fault: Fault, first: &[u8], given: u64) -> Option<
     }
 }
 
-/// Whether `fault` says nothing about the input: it is that of memory, of a device, or of too many
-/// messages.
+/// Whether `fault` says nothing about the input: memory ran out, a device failed, or there are too
+/// many messages.
 fn is_of_devices(fault: Fault) -> bool {
     match fault {
         Fault::Frame(error) => matches!(
@@ -150,8 +150,8 @@ fn may_begin_packed_frame(first: &[u8]) -> bool {
     may_begin_frame(&unpacked[..count])
 }
 
-/// Unpacks `first` to `unpacked`, as far as that has room, and returns the number of unpacked
-/// bytes; 0 if that fails.
+/// Unpacks `first` to `unpacked`, as far as there is room, and returns the number of unpacked
+/// bytes; 0 if unpacking fails.
 fn unpack(first: &[u8], unpacked: &mut [u8; 32]) -> usize
     ensures { result ≤ 32 }
 {
@@ -162,9 +162,9 @@ fn unpack(first: &[u8], unpacked: &mut [u8; 32]) -> usize
     }
 }
 
-/// Whether `bytes` look like the beginning of a frame: the root pointer is among them, and it leads
-/// to a struct in the first segment, or to a landing pad in one of several segments, or is null and
-/// the only word of the first segment.
+/// Whether `bytes` look like the beginning of a frame, and reach to the end of its root pointer.
+/// That pointer leads to a struct in the first segment, or to a landing pad in one of several
+/// segments; or it is null and the first segment's only word.
 fn begins_with_frame(bytes: &[u8]) -> bool {
     let Some((segments, words)) = table_of(bytes) else {
         return false;
@@ -207,7 +207,8 @@ fn may_begin_frame(bytes: &[u8]) -> bool {
     }
 }
 
-/// The number of segments, and of words in the first one, if `bytes` begin with a frame's table.
+/// The number of segments, and the number of words in the first segment, if `bytes` begin with a
+/// frame's table.
 fn table_of(bytes: &[u8]) -> Option<(u64, u64)>
     ensures { IfSome result (λ table. table.0 < 2 ^ 33) }
 {
@@ -215,8 +216,8 @@ fn table_of(bytes: &[u8]) -> Option<(u64, u64)>
     Some(((numbers & 0xffff_ffff) + 1, numbers >> 32))
 }
 
-/// The first word after the table of a frame of `segments` segments, if `bytes` begin with both.
-/// The table holds the number of segments and each one's size, two numbers a word.
+/// The first word after a frame's table for `segments` segments, if `bytes` reach to the end of
+/// that word. The table holds the number of segments and each one's size, two numbers a word.
 fn root_of(bytes: &[u8], segments: u64) -> Option<u64>
     requires { segments < 2 ^ 33 }
 {
@@ -233,7 +234,7 @@ fn word(bytes: &[u8], at: u64) -> Option<u64> {
 }
 
 /// Whether `word`, the first of `words` words, is a pointer to a struct or a list that ends inside
-/// them.
+/// these words.
 fn leads_within(word: u64, words: u64) -> bool {
     let pointer = WirePointer(word);
     match (object_words(pointer), pointer.target(0, short(words))) {

@@ -8,7 +8,7 @@ use std::io::{self, Read, Write};
 /// The number of bytes kept.
 const KEPT: usize = 32;
 
-/// The first bytes read from a device, and the number of all.
+/// The first bytes read from a device, and the number of all bytes read.
 #[derive(Clone, Copy)]
 pub struct Front {
     first: [u8; KEPT],

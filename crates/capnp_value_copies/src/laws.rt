@@ -20,18 +20,18 @@ pub fn whole_sections()
 {}
 
 /// A copy allocates exactly the words of the objects that it makes and of their landing pads. There
-/// is no landing pad if the words fit the segment of the pointer copied to, or the message has one
-/// segment afterwards ("Inter-Segment Pointers").
+/// is no landing pad if the objects fit the segment of the pointer copied to, or the message has
+/// one segment afterwards ("Inter-Segment Pointers").
 pub fn pads_apart()
     ensures { (id words pads : ℕ) (old new : View) → Makes id old new words pads
         → (sum_by length new.words ≡ sum_by length old.words + (words + pads))
         × (id < length old.words → StayInSegment old new id words → pads ≡ 0) }
 {}
 
-/// With x words left in the limiter, a copy, complete or refused, allocates at most x words and at
-/// most x + 1 landing pads, each for an object in another segment than its pointer. There is no
-/// landing pad if x words fit the segment of the pointer copied to, or the message has one segment
-/// afterwards. The copy follows at most x + 1 pointers.
+/// With x words left in the limiter, a copy, complete or refused, allocates at most x words, and
+/// besides them at most x + 1 landing pads. Each landing pad is for an object in another segment
+/// than its pointer. There is no landing pad if x words fit the segment of the pointer copied to,
+/// or the message has one segment afterwards. The copy follows at most x + 1 pointers.
 pub fn few_taken()
     ensures { (r : Reading) (c : Change) (x : ℕ) (result : Result ⊤ ErrorKind)
         → r.charging ≡ true → c.before.left ≡ Some x → TakesAtMost result (value_original r) c

@@ -1,5 +1,5 @@
-//! The words of the data section of a struct being read, which may end inside a word, and even
-//! inside a byte (encoding specification, "Structs").
+//! The words of the data section of a struct being read. The section may end inside a word, and
+//! even inside a byte (encoding specification, "Structs").
 ghost use Rattle.std.specs.Prelude.{◌≡◌, ◌+◌, ◌*◌, ◌/◌, ◌%◌, ◌^◌, ◌≤◌, length, take, drop};
 ghost use Rattle.capnp_format.specs.Numbers.{from_digits};
 ghost use Rattle.capnp_format.specs.Segments.{segment};

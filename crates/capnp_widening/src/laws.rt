@@ -27,8 +27,8 @@ pub fn wider_list()
 {}
 
 /// If a struct or a list of structs is widened anywhere inside a value that a place stores, the
-/// place then stores a value of the same canonical form: a canonical copy of it has the same words
-/// as before.
+/// place then stores a value of the same canonical form: a canonical copy of that value has the
+/// same words as before.
 pub fn widened_within()
     ensures structs { (S R : Segments) (s p : ℕ) (t : Tree) (path : List Step)
         (u q : ℕ) (ws : List ℕ) (ts : Trees) (size : StructSize)
@@ -44,7 +44,7 @@ pub fn widened_within()
 {}
 
 /// If a struct or a list of structs is widened anywhere in a message, the message keeps its
-/// canonical words, and the words that its value doesn't hold are zero afterwards, too.
+/// canonical words, and all words outside its value are still zero.
 pub fn message_widened()
     ensures structs { (S R : Segments) (t : Tree) (path : List Step)
         (u q : ℕ) (ws : List ℕ) (ts : Trees) (size : StructSize)

@@ -19,10 +19,10 @@ use capnp_words::error::ErrorKind;
 use capnp_words::wire_pointer::{ElementSize, StructSize};
 
 /// Returns the list that the pointer at `at` of segment `id` leads to, as a list of structs with
-/// both sections at least as large as `size` says; `None` if the pointer is null. A list whose
-/// elements aren't structs, or have too small a section, is moved to new words: a number becomes
-/// the lowest bits of a struct's first data word, a pointer a struct's first pointer, and each
-/// section gets the larger one of its old size and that in `size`.
+/// both sections at least as large as in `size`; `None` if the pointer is null. A list whose
+/// elements aren't structs, or have too small a section, is moved to new words. A number becomes
+/// the lowest bits of a struct's first data word, and a pointer becomes a struct's first pointer.
+/// Each section gets the larger one of its old size and its size in `size`.
 ///
 /// Refusals: `ExistingPointerIsNotAList` for anything but a list;
 /// `FoundBitListWhereStructListWasExpected` for a list of bits; `MessageTooLarge` with the words of

@@ -1,11 +1,11 @@
 //! Writes pointers at new places, which lead to the objects of old pointers (encoding
 //! specification, "Inter-Segment Pointers").
 //!
-//! A pointer that isn't far becomes a far pointer if its new place is in another segment than its
-//! object: to a landing pad of one word after the words of the object's segment if there is room,
-//! otherwise to a pad of two words where the arena finds room. In the object's segment it stays
-//! near. A far pointer and a capability are copied unchanged. The old pointer stays, so for a while
-//! two pointers lead to one object.
+//! A near pointer becomes a far pointer if its new place is in another segment than its object. Its
+//! landing pad has one word, after the words of the object's segment, if there is room; otherwise
+//! it has two words, where the arena finds room. If the new place is in the object's segment, the
+//! pointer stays near. A far pointer and a capability are copied unchanged. The old pointer stays,
+//! so for a while two pointers lead to one object.
 ghost use Rattle.std.specs.Prelude.{ℕ, ◌⊎◌, ◌*◌, ◌≡◌, ◌≢◌, ◌<◌, ◌≤◌, ◌+◌, ◌-◌, ◌^◌, ◌∷◌, [], length, true, false, IsOk, OnOk, IfErr, OnErr};
 ghost use Rattle.capnp_arena_traits.specs.View.{KeepsLimits};
 ghost use Rattle.capnp_format.specs.Canonical.{Reaches, offset_to};
@@ -33,8 +33,8 @@ use capnp_words::wire_pointer::{WirePointer, WirePointerKind};
 /// far pointer or a capability is copied as it is. Nothing is written if the pointer at `from` is
 /// null or leads out of its segment.
 ///
-/// Refuses only if there is no memory for two words. Then nothing changes except the allocator's
-/// count `refused`.
+/// Refuses only if there is no memory for two words. A refusal changes nothing except the
+/// allocator's count `refused`.
 #[inline(always)]
 pub fn move_pointer<A: BuilderArena>(arena: &mut A, from: Start, to: Start) -> Result<(), ErrorKind>
     requires from { IsPlace (A.view arena.old).words from.segment from.at }
@@ -181,11 +181,11 @@ fn tag_of(shape: Shape) -> WirePointer
     }
 }
 
-/// Writes `count` consecutive pointers from `to` on, where they are null, that lead to the objects
-/// of those from `from` on.
+/// Replaces the `count` consecutive null pointers from `to` on by pointers to the objects that
+/// those from `from` on lead to.
 ///
-/// Refuses only if there is no memory for two words. Then the first of the pointers may already be
-/// written.
+/// Refuses only if there is no memory for two words. The pointers before the refused one may
+/// already be written.
 #[inline(always)]
 pub fn move_row<A: BuilderArena>(
     arena: &mut A,
@@ -262,8 +262,8 @@ pub fn unmove_row<A: BuilderArena>(arena: &mut A, from: Start, to: Start, count:
 }
 
 /// Zeroes the landing pads that `move_pointer` wrote when it moved the pointer at `at` of segment
-/// `id` to `to_at` of segment `to_id`. If it copied the pointer unchanged, the pads belong to the
-/// old pointer, and stay.
+/// `id` to `to_at` of segment `to_id`. If `move_pointer` copied the pointer unchanged, the pads
+/// belong to the old pointer, and stay.
 fn unmove_pointer<A: BuilderArena>(arena: &mut A, id: u32, at: u32, to_id: u32, to_at: u32)
     ensures { TakesBack (A.view arena.old) (A.view arena.new)
         (row_of_moves (record { segment = id; at = at }) (record { segment = to_id; at = to_at })
@@ -286,11 +286,11 @@ pub struct PointerRows {
     pub step: u32,
 }
 
-/// Writes the pointers of `count` rows, `pointers` in each, into the rows of `to`, where they are
-/// null. They lead to the objects of those in the rows of `from`.
+/// Replaces the null pointers of `count` rows of `to`, `pointers` in each, by pointers to the
+/// objects that those in the rows of `from` lead to.
 ///
-/// Refuses only if there is no memory for two words. Then the first of the pointers may already be
-/// written.
+/// Refuses only if there is no memory for two words. The pointers before the refused one may
+/// already be written.
 pub fn move_rows<A: BuilderArena>(
     arena: &mut A,
     from: PointerRows,

@@ -25,8 +25,8 @@ use capnp_words::wire_pointer::{ElementSize, StructSize, data_bits_per_element};
 /// Turns the list of numbers `old`, which the pointer at `at` of segment `id` leads to, into a list
 /// of structs of `size`, which has at least one data word.
 ///
-/// If that place stores `old`, refuses only if memory runs out, and then leaves the old list
-/// unchanged.
+/// If that place stores `old`, the only refusals are for lack of memory, and these leave the old
+/// list unchanged.
 pub(crate) fn widen_numbers<A: BuilderArena>(
     arena: &mut A,
     id: u32,
@@ -64,7 +64,7 @@ fn words_of_numbers(list: ExistingList) -> u64
 }
 
 /// Turns the list of numbers `old`, which the pointer at `at` of segment `id` leads to, into a list
-/// of structs. Precondition: its words are inside their segment.
+/// of structs. Precondition: the words of `old` are inside their segment.
 fn remake_numbers<A: BuilderArena>(
     arena: &mut A,
     id: u32,
@@ -106,7 +106,8 @@ fn remake_numbers<A: BuilderArena>(
     })
 }
 
-/// Copies the numbers of `old` into the words at `to` and every `step` words after it.
+/// Copies the numbers of `old`, each into a word: the first at `to`, the next ones `step` words
+/// apart.
 fn copy_numbers<A: BuilderArena>(arena: &mut A, old: ExistingList, to: Start, step: u32)
     requires kind { (2 ≤ size_number old.size) × (size_number old.size ≤ 5) }
     requires inside { NumbersInside (A.view arena.old).words old }

@@ -152,8 +152,8 @@ fn open_narrow_struct<A: BuilderArena>(
 ///
 /// Refusals that change nothing: `ExistingPointerIsNotAList` if the pointer leads to something
 /// else; `FoundBitListWhereStructListWasExpected` for a list of bits; `MessageTooLarge` with the
-/// words of the new elements if these are 2^29 or more. Others are the arena's `AllocationFailed`
-/// or `MessageTooLarge`, and leave the old list.
+/// words of the new elements if these are 2^29 or more. Other refusals are the arena's
+/// `AllocationFailed` or `MessageTooLarge`, and leave the old list.
 pub fn open_struct_list<A: BuilderArena>(
     arena: &mut A,
     id: u32,

@@ -99,11 +99,12 @@ pub(crate) fn begin_list<A: BuilderArena>(
     Ok(room)
 }
 
-/// Copies the data words of the elements of `old` into structs of `size` from `first` on, which are
-/// all zero and at least as large, and moves the elements' pointers there.
+/// Copies the data words of the elements of `old` into the structs of `size` from `first` on, and
+/// moves the elements' pointers there. Before the call, the structs are all zero. They are at least
+/// as large as the elements.
 ///
-/// Refuses only if there is no memory for two words. Then the landing pads that it wrote are zeroed
-/// again.
+/// Refuses only if there is no memory for two words. After a refusal, the landing pads written for
+/// these pointers are zeroed again.
 fn fill_rows<A: BuilderArena>(
     arena: &mut A,
     old: ElementRows,
@@ -176,8 +177,8 @@ fn fill_rows<A: BuilderArena>(
 /// Makes a list of structs of `size` from the elements of `old`, which the pointer at `at` of
 /// segment `id` leads to.
 ///
-/// If that place stores `old`, refuses only if memory runs out, and then leaves the old list
-/// unchanged.
+/// If that place stores `old`, the only refusals are for lack of memory, and these leave the old
+/// list unchanged.
 pub(crate) fn widen_rows<A: BuilderArena>(
     arena: &mut A,
     id: u32,

@@ -126,9 +126,10 @@ pub(crate) fn settle<A: BuilderArena>(arena: &mut A, id: u32, at: u32, room: Roo
 
 /// Widens the struct `old`, to which the pointer at `at` of segment `id` leads. At least one of its
 /// sections is smaller than in `size`. Moves the struct to new words, in which each section has the
-/// larger one of its two sizes. Precondition: the caller has found `old` at that pointer.
+/// larger one of its sizes in `old` and in `size`. Precondition: the caller has found `old` at that
+/// pointer.
 ///
-/// Refuses with `AllocationFailed` if there is no memory for its words or for a landing pad, or
+/// Refuses with `AllocationFailed` if there is no memory for the new words or for a landing pad, or
 /// with `MessageTooLarge`. After a refusal the old struct is unchanged.
 pub(crate) fn widen_known<A: BuilderArena>(
     arena: &mut A,

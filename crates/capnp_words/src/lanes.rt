@@ -97,7 +97,7 @@ fn end_of_blocks(bytes: &[u8]) -> usize
 }
 
 /// The number of words up to and including the last one that isn't zero. If the last word of
-/// `bytes` isn't zero, reads no other. Precondition: there is at least one word.
+/// `bytes` isn't zero, reads only this word. Precondition: there is at least one word.
 fn used_of_many(bytes: &[u8]) -> usize
     requires { 8 ≤ length bytes.now }
     ensures { result ≡ used_words (words_of bytes.now) }

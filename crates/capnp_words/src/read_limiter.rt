@@ -33,8 +33,8 @@ impl ReadLimiter {
         }
     }
 
-    /// Charges `amount` words. Refuses with `ReadLimitExceeded` if fewer are left, and charges
-    /// nothing then. Without a limit, never refuses.
+    /// Charges `amount` words. Refuses with `ReadLimitExceeded` if fewer words are left; a refusal
+    /// charges nothing. Without a limit, never refuses.
     pub fn can_read(&mut self, amount: usize) -> Result<(), ErrorKind>
         ensures exactly { IsOk result ↔ Allows self.old amount }
         ensures granted { OnOk result (self.new ≡ spent self.old amount) }
@@ -57,15 +57,15 @@ impl ReadLimiter {
         self.words
     }
 
-    /// The number of non-null pointers that charged reads have followed. It stays at `u64::MAX`
-    /// once it is reached.
+    /// The number of non-null pointers that charged reads have followed. Once this number is
+    /// `u64::MAX`, it stays the same.
     pub fn followed(&self) -> u64
         ensures { result ≡ self.now.followed }
     {
         self.pointers
     }
 
-    /// Adds 1 to the number of pointers followed, unless it is `u64::MAX`.
+    /// Adds 1 to the number of pointers followed, unless that number is `u64::MAX`.
     pub fn count(&mut self)
         ensures counted { self.new ≡ counted self.old }
         ensures small { self.old.followed < 2 ^ 64 }

@@ -170,7 +170,7 @@ impl WirePointer {
 
     /// A pointer to a list that starts `offset` words after the word that follows the pointer
     /// ("Lists"). `count`, below 2^29, is the number of elements; if `size` is `InlineComposite`,
-    /// the number of their words without the tag.
+    /// it is the number of the elements' words, without the tag.
     pub fn new_list(offset: i32, size: ElementSize, count: ElementCount32) -> Self
         requires near { IsOffset offset }
         requires few { count < 2 ^ 29 }
@@ -267,7 +267,7 @@ impl WirePointer {
     }
 
     /// The position that the offset leads to, from a pointer at `position` of a segment of `length`
-    /// words. `None` if it isn't from 0 to `length`.
+    /// words. `None` if this position isn't from 0 to `length`.
     pub fn target(self, position: WordCount32, length: WordCount32) -> Option<WordCount32>
         ensures { result ≡ offset_leads length position (offset_bits self.0) }
     {
@@ -343,8 +343,8 @@ impl WirePointer {
         }
     }
 
-    /// The number of elements of a list; for a struct list, the number of their words without the
-    /// tag.
+    /// The number of elements of a list; for a struct list, the number of the elements' words,
+    /// without the tag.
     pub fn list_element_count(self) -> ElementCount32
         ensures value { result ≡ list_count self.0 }
         ensures few { result < 2 ^ 29 }
@@ -397,8 +397,8 @@ impl WirePointer {
 }
 
 /// The offset of a pointer at `position` that leads to `target`, both in words from the start of
-/// the same segment. They are less than 2^29 words apart, counted from the word that follows the
-/// pointer.
+/// the same segment. Precondition: the offset, counted from the word that follows the pointer, is
+/// from -2^29 to 2^29 - 1.
 pub fn offset_between(position: WordCount32, target: WordCount32) -> i32
     requires { Reaches position target }
     ensures distance { pos target ≡ pos (position + 1) +ℤ result }

@@ -40,8 +40,9 @@ type Built = BuilderArenaImpl<HeapAllocator>;
 
 /// Builds the canonical form of a message's value, at most 1024 words.
 ///
-/// The clause is proved for all bytes that the segments can hold: the only segment of an `Ok` is
-/// the canonical words of the value that the root, word 0 of segment 0, leads to within 64 levels.
+/// The clause is proved for all bytes that the segments can hold: after `Ok`, the only segment is
+/// the canonical words of the root's value. The root is word 0 of segment 0, and is read with a
+/// nesting limit of 64.
 fn canonical(alloc: Global, segments: &[&[u8]]) -> Result<Built, ErrorKind>
     ensures { let from = message (map (λ s. s.now) segments.now) in
         IfOk result (λ b. (t : Tree) × (c : ℕ) × Means from 64 0 0 t c

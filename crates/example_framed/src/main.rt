@@ -25,7 +25,7 @@ use std::process::ExitCode;
 /// Writes a message's value as the frame of a canonical message.
 ///
 /// The clause is proved: what is written is the frame of one segment, the canonical words of the
-/// value that the root, word 0 of segment 0, leads to within 64 levels.
+/// root's value. The root is word 0 of segment 0, and is read with a nesting limit of 64.
 fn write_message<W: Output>(
     alloc: Global,
     segments: OwnedSegments,
@@ -47,8 +47,8 @@ fn write_message<W: Output>(
     }
 }
 
-/// Reads a message of at most 8,388,608 words, and writes it. Writes nothing if the input is at its
-/// end.
+/// Reads a message of at most 8,388,608 words, and writes it by `write_message`. Writes nothing if
+/// the input is at its end.
 fn copy_message(rt: &(impl Input + Print + AllocGlobal)) -> Result<(), CanonicalError> {
     let mut input = ReaderInput::new(rt.reader());
     let mut output = WriterOutput::new(io::writer(rt));

@@ -16,7 +16,8 @@ pub enum Task {
     Calls,
 }
 
-/// The answer to a line of a number of words, a number of segments, and what builds the message.
+/// The answer to a line that holds a number of words, a number of segments, and what builds the
+/// message.
 pub fn answer(alloc: Global, task: Task, line: &str) -> Result<String, Fault> {
     let words = parse::words(alloc, line)?;
     let [size, segments, calls @ ..] = words.as_slice() else {

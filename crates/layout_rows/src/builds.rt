@@ -95,8 +95,8 @@ fn call_once<A: Allocator>(
     Ok(None)
 }
 
-/// The place that a call is made on, and the call. The place is given by its number before a point;
-/// otherwise it is the one kept last.
+/// The place that a call is made on, and the call. The place is that of the number before a point,
+/// or the one kept last if there is no number.
 fn made_of<'a>(kept: &[Place], text: &'a str) -> (Option<Place>, &'a str) {
     match text.split_once('.') {
         Some((number, call)) if parse::is_number(number) => {
@@ -148,7 +148,7 @@ fn allocated<A: BuilderArena>(arena: &mut A, segment: u32, out: &mut Output) {
     }
 }
 
-/// Writes one of the bytes of a segment that are lent for writing, if there are any.
+/// If the arena lends a segment's bytes for writing, writes one of them.
 fn write_allocated<A: BuilderArena>(
     arena: &mut A,
     segment: u32,

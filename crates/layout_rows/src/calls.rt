@@ -7,10 +7,10 @@ use capnp_arena::arena::ReaderOptions;
 use capnp_words::wire_pointer::{ElementSize, StructSize};
 
 /// A call that lines may hold: its name, a letter for each of its arguments (see `Values::put`),
-/// the least number of these, and what the call is.
+/// the least number of arguments, and what the call is.
 pub type Form<T> = (&'static str, &'static str, usize, T);
 
-/// The arguments of a call, by kind. Those that it doesn't have are zero or missing.
+/// The arguments of a call, by kind. Those that the call doesn't have are zero or missing.
 #[derive(Clone, Copy)]
 pub struct Values<'l> {
     pub sections: StructSize,
@@ -139,8 +139,8 @@ fn find<T: Copy>(forms: &[Form<T>], name: &str, count: usize) -> Option<(&'stati
     None
 }
 
-/// The arguments of these letters. Reports one that isn't of its form before one that is out of its
-/// type's range.
+/// The arguments of these letters. An argument of the wrong form is reported before one that is out
+/// of its type's range.
 fn values_of<'l>(letters: &str, arguments: Option<&'l str>) -> Result<Values<'l>, Fault> {
     let mut values = Values::none();
     let Some(arguments) = arguments else {

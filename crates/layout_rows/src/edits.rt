@@ -122,7 +122,7 @@ fn step_of(text: &str) -> Result<Step, Fault> {
     }
 }
 
-/// Applies an operation at the end of a path, whose bytes are still to be parsed.
+/// Parses the bytes of an operation, and applies it at the end of a path.
 fn read_bytes<A: BuilderArena>(
     alloc: Global,
     arena: &mut A,
@@ -138,8 +138,7 @@ fn read_bytes<A: BuilderArena>(
     read_source(alloc, arena, path, (name, values, given))
 }
 
-/// Applies an operation with given bytes at the end of a path. The message to copy from is still to
-/// be parsed.
+/// Parses the message to copy from, and applies an operation with given bytes at the end of a path.
 fn read_source<A: BuilderArena>(
     alloc: Global,
     arena: &mut A,
@@ -155,7 +154,7 @@ fn read_source<A: BuilderArena>(
     Ok(apply_at(arena, path, call, &message)?)
 }
 
-/// Applies an operation with given bytes at the end of a path, with a message to copy from.
+/// Applies an operation at the end of a path, with given bytes and a message to copy from.
 fn apply_at<'a, A: BuilderArena>(
     arena: &mut A,
     path: &'a [Step],

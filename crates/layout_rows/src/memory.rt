@@ -23,9 +23,9 @@ pub struct Memory {
 }
 
 impl Memory {
-    /// Parses the memory: segments of at least `words` words. `segments` of them are granted, or
-    /// any number for `none`. After a `/`, `words` has the words of a scratch space, if there is
-    /// one, and `segments` the number of rows of segments that are kept, if it is limited.
+    /// Parses the memory: segments of at least `words` words, of which `segments` are granted, or
+    /// any number for `none`. After a `/`, `words` may also have the words of a scratch space, and
+    /// `segments` a limit on the rows of segments that are kept.
     pub fn new(words: &str, segments: &str) -> Result<Self, Fault> {
         let (words, scratch_words) = match words.split_once('/') {
             Some((words, scratch)) => (words, Some(parse::number(scratch)?)),
@@ -44,7 +44,7 @@ impl Memory {
         })
     }
 
-    /// The bytes of the scratch space, without a zero, if there is one.
+    /// The bytes of the scratch space, if there is one. None of these bytes is zero.
     pub fn scratch(&self, alloc: Global) -> Result<Option<Vec<u8>>, Fault> {
         match self.scratch_words {
             Some(words) => Ok(Some(Vec::from_elem(alloc, 0xff, 8 * words as usize)?)),
@@ -76,9 +76,10 @@ fn count(text: &str) -> Result<u32, Fault> {
     }
 }
 
-/// A limited allocator over a scratch space, as a type of its own: a function that is generic over
-/// allocators can't be called with a `LimitedAllocator` of one that names a lifetime, since that
-/// call would have no generated proof.
+/// A limited allocator over a scratch space. It is a type of its own because the type
+/// `LimitedAllocator<ScratchSpaceHeapAllocator<'_>>` names a lifetime in its argument. No proof
+/// would be generated for a call that passes an allocator of that type to a function that is
+/// generic over allocators.
 #[derive(Drop)]
 pub struct LimitedScratch<'a> {
     inner: LimitedAllocator<ScratchSpaceHeapAllocator<'a>>,

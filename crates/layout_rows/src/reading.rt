@@ -15,7 +15,7 @@ pub enum Task {
     Calls,
 }
 
-/// The answer to a line of a nesting limit, a traversal limit, segments, and calls.
+/// The answer to a line that holds a nesting limit, a traversal limit, segments, and calls.
 pub fn answer(alloc: Global, task: Task, line: &str) -> Result<String, Fault> {
     let words = parse::words(alloc, line)?;
     let [nesting, budget, segments, calls @ ..] = words.as_slice() else {

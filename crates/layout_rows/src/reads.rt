@@ -84,7 +84,8 @@ impl Reading {
         self.out.text(";");
     }
 
-    /// Makes a call, on a kept reader if there is one. A reader that it returns isn't shown yet.
+    /// Makes a call, on a kept reader if there is one. A reader that the call returns isn't shown
+    /// yet.
     fn call<'a, A: ReaderArena>(
         &mut self,
         arena: &'a A,
@@ -444,7 +445,7 @@ impl Reading {
     }
 }
 
-/// The pointer at a place, if there is a word.
+/// The pointer at a place, if there is a word there.
 fn reader_at<'a, A: ReaderArena>(
     arena: &'a A,
     values: &Values<'_>,

@@ -17,10 +17,11 @@ use std::alloc::{AllocError, Global};
 /// How many words may be read.
 const BUDGET: usize = 1 << 23;
 
-/// The answer to a line: how many pointers of a list were set, each to `size` bytes; how many
-/// requests were refused; the outcomes of writing the frame, of reading it in place, of reading it
-/// as an input, and of the canonical copy of what was read; how many words may still be read then;
-/// and both frames. Holds `held` bytes until all is done.
+/// The answer to a line. It starts with how many pointers of a list were set, each to `size` bytes,
+/// and how many requests were refused. Then come the outcomes of writing the frame, of reading it
+/// in place, of reading it as an input, and of the canonical copy of what was read. At the end are
+/// the number of words that may still be read, and the frames of the message and of the copy.
+/// `held` bytes stay allocated until all steps are done.
 pub fn answer(alloc: Global, count: u32, size: usize, held: usize) -> Result<String, AllocError> {
     let held = Vec::from_elem(alloc, 0u8, held)?;
     let mut data = Vec::from_elem(alloc, 0u8, size)?;
@@ -42,7 +43,7 @@ pub fn answer(alloc: Global, count: u32, size: usize, held: usize) -> Result<Str
 }
 
 /// Writes a message as a frame, reads it back in place and as an input, and makes a canonical copy
-/// of what was read. Returns the outcome of each, `-` if it wasn't tried.
+/// of what was read. Returns the outcome of each step, `-` for one that wasn't tried.
 fn steps(
     alloc: Global,
     arena: &BuilderArenaImpl<HeapAllocator>,
@@ -75,7 +76,7 @@ fn written(arena: &BuilderArenaImpl<HeapAllocator>, to: &mut MemoryOutput) -> &'
     }
 }
 
-/// Reads a frame in place: `ok`, `other` if it isn't that of the message, or the name of the
+/// Reads a frame in place: `ok`, `other` if the frame isn't that of the message, or the name of the
 /// refusal.
 fn read_in_place(arena: &BuilderArenaImpl<HeapAllocator>, frame: &[u8]) -> &'static str {
     match read_from_flat_slice(frame, BUDGET as u64) {

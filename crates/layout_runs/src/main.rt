@@ -1,6 +1,6 @@
-//! The program `layout_runs`: makes runs of `layout_tool` whose devices fail and whose memory is
-//! refused at given places, and messages of many segments. Answers each line of standard input with
-//! a line of standard output. tests/cases/README.md says what a line holds.
+//! The program `layout_runs`: runs `layout_tool` with devices that fail and memory that is refused
+//! at given places, and makes messages of many segments. Answers each line of standard input with a
+//! line of standard output. tests/cases/README.md says what a line holds.
 #![tactic(auto)]
 
 mod frames;

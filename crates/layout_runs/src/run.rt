@@ -102,7 +102,7 @@ fn read_run<'l>(
     })
 }
 
-/// The first `calls` calls succeed, of a byte each.
+/// The first `calls` calls succeed, and each moves a byte.
 fn by_bytes(calls: u64) -> Strain {
     Strain { calls, most: 1 }
 }
@@ -140,7 +140,7 @@ fn run_once(alloc: Global, run: &Run<'_>) -> Result<String, AllocError> {
     Ok(text)
 }
 
-/// Appends what was written, with `/` for a line feed; `-` if that is nothing.
+/// Appends what was written, with `/` for a line feed; `-` if nothing was written.
 fn put_written(bytes: &[u8], text: &mut String) -> Result<(), AllocError> {
     if bytes.is_empty() {
         return text.push('-');

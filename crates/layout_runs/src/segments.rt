@@ -9,8 +9,8 @@ use capnp_layout::wire_pointer::ElementSize;
 use std::alloc::{AllocError, Global};
 
 /// The output for a line of input: how many pointers of a list were set, how many allocations were
-/// refused, what `get_segments_for_output` returned, and the words of the message. Until that has
-/// returned, `held` bytes stay allocated.
+/// refused, what `get_segments_for_output` returned, and the words of the message. `held` bytes
+/// stay allocated until `get_segments_for_output` has returned.
 pub fn answer(alloc: Global, count: u32, held: usize) -> Result<String, AllocError> {
     let held = Vec::from_elem(alloc, 0u8, held)?;
     let mut arena = BuilderArenaImpl::new(alloc, HeapAllocator::new(alloc, 1));
@@ -23,9 +23,9 @@ pub fn answer(alloc: Global, count: u32, held: usize) -> Result<String, AllocErr
     Ok(text)
 }
 
-/// Makes a list of `count` pointers, and sets them to data, whose first eight bytes are replaced by
-/// the pointer's number, until one is refused. Returns how many were set. Each object has a segment
-/// of its own.
+/// Makes a list of `count` pointers, and sets one after the other, until one is refused. Each leads
+/// to a copy of `data` with the pointer's number in the first eight bytes. Returns how many were
+/// set. Each object has a segment of its own.
 pub fn build(arena: &mut BuilderArenaImpl<HeapAllocator>, count: u32, data: &mut [u8]) -> u32 {
     if arena.allocate_segment(1).is_err() {
         return 0;

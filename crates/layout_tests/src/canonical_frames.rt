@@ -13,9 +13,9 @@ use test_support::arena_of;
 const DOUBLED: &str =
     "0000000000000200 0400000000000200 0000000000000200 0400000000000200 0000000000000200 0400000001000000 0000000001000000 0900000000000000";
 
-/// A struct of two words of data, and a value that takes several tries, are each written as one
-/// frame, and charged and counted once. If the limiter doesn't cover the copy, nothing is written,
-/// charged or counted.
+/// A struct of two words of data, and a value whose copy takes several tries, are each written as
+/// one frame, and charged and counted once. If the limiter doesn't cover the copy, nothing is
+/// written, charged or counted.
 #[test]
 fn frames(rt: HostRuntime) {
     let two = "0000000002000000 1111111111111111 0000000000000080";

@@ -1,5 +1,5 @@
-//! What a run requests from its allocator: rows for the input, and for canonical words a segment
-//! and its row at each try.
+//! What a run requests from its allocator: rows for the input, and, at each try to make it
+//! canonical, a segment and its row.
 use capnp_layout::arena::{HeapAllocator, ReaderOptions};
 use capnp_layout::devices::{MemoryInput, MemoryOutput};
 use capnp_layout::tool::{Args, Outcome, run_with};
@@ -17,8 +17,8 @@ const DOUBLED: &[u8] =
 /// One word: a pointer to a struct of one word, after the end of the segment.
 const BEYOND: &[u8] = b"0000000001000000\n";
 
-/// The requests to an allocator, after those for the input's rows, if these are the rooms of the
-/// tries.
+/// The requests to an allocator, after those for the input's rows, if the tries have segments of
+/// `rooms` words.
 fn asked(alloc: Global, rooms: &[u32]) -> Result<Vec<Request>, AllocError> {
     let mut requests = Vec::new(alloc);
     for room in rooms {
@@ -28,9 +28,9 @@ fn asked(alloc: Global, rooms: &[u32]) -> Result<Vec<Request>, AllocError> {
     Ok(requests)
 }
 
-/// The first try requests the words of the input plus one, each further one twice as many as the
-/// one before, and nothing else is requested: no segment for a check, a size or a frame. For a
-/// message that can't be read there is one request.
+/// The first try requests a segment with one word more than the input, and each further try one
+/// twice as large as the try before. No other segment is requested: none for a check, a size or a
+/// frame. For a message that can't be read there is only the first try.
 #[test]
 fn rooms(rt: HostRuntime) -> Result<(), AllocError> {
     let options = ReaderOptions::default();

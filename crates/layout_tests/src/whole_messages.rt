@@ -13,7 +13,7 @@ use capnp_layout::read_limiter::ReadLimiter;
 use std::process::Abort;
 use test_support::{arena_of, bytes_of};
 
-/// A struct of three words that ends in a zero word, followed by a word.
+/// A root that leads to a struct of three words, the last of them zero.
 const LONG: &str = "0000000003000000 1111111111111111 0000000000000080 0000000000000000";
 
 /// The canonical words of the same value.
@@ -43,7 +43,8 @@ fn copies(rt: HostRuntime) {
     }
 }
 
-/// The root costs a word, its struct its own words, and a message of several segments nothing.
+/// The test charges one word for the root, and the struct's words for the struct. For a message of
+/// several segments it charges nothing.
 #[test]
 fn canonical_messages(rt: HostRuntime) {
     let unread = "0000000000000000,0000000000000000";
@@ -59,8 +60,8 @@ fn canonical_messages(rt: HostRuntime) {
     }
 }
 
-/// Two words are the only segment; if one may be read they are too many, and half a word is cut
-/// short.
+/// Two words become the only segment. They are too many if only one may be read, and half a word is
+/// cut short.
 #[test]
 fn words_without_a_frame(rt: HostRuntime) {
     let bytes = [7u8; 20];

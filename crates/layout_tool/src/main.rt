@@ -1,8 +1,8 @@
-//! The program `layout_tool`: writes the canonical form of a message, says whether it is in that
-//! form, or how large it is; and writes its frame, the segments in a frame, and whether a framed
-//! message is canonical. Its arguments are `frame`, `unframe`, or `canon`, `check`, `size`,
-//! `framed-canon` or `framed-check` followed by `NESTING BUDGET`. Its input is lines of hex digits,
-//! each a segment, or one line with a frame.
+//! The program `layout_tool`: writes the canonical form of a message, whether it is in that form,
+//! how large it is, or its frame; or the segments in a frame, or whether a framed message is
+//! canonical. The arguments are `frame` or `unframe` alone; or `canon`, `check`, `size`,
+//! `framed-canon` or `framed-check`, followed by `NESTING BUDGET`. The input is lines of hex
+//! digits, each a segment, or one line with a frame.
 #![tactic(auto)]
 
 use capnp_layout::devices::{ReaderInput, WriterOutput};

@@ -1,6 +1,6 @@
-//! The program `stream_runs`: makes runs of the engine of `capnp_canon` whose devices move few
-//! bytes at a time and fail at given places. Answers each line of standard input with a line of
-//! standard output. tests/cases/README.md says what a line holds.
+//! The program `stream_runs`: runs the engine of `capnp_canon` with devices that move few bytes at
+//! a time and fail at given places. Answers each line of standard input with a line of standard
+//! output. tests/cases/README.md says what a line holds.
 #![tactic(auto)]
 
 mod run;

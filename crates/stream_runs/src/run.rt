@@ -1,6 +1,6 @@
-//! One run, as a line of text asks for it. A word of that line, parsed as a `Strain`, describes
-//! each device: how many of its calls succeed, and how many bytes each moves at most, separated by
-//! a comma (`none`: no limit).
+//! One run, as a line of text asks for it. For each device, a word of that line, parsed as a
+//! `Strain`, says how many of its calls succeed, and how many bytes each call moves at most. A
+//! comma separates the two numbers; `none` is no limit.
 ghost use Rattle.std.specs.Prelude.{◌≡◌, false};
 
 use capnp_packing::buffered::BufferedOutput;
@@ -63,8 +63,8 @@ fn read_task(alloc: Global, text: &str) -> Result<Option<Task>, AllocError> {
     })
 }
 
-/// Parses how a device works: two numbers separated by a comma, how many of its calls succeed and
-/// how many bytes each moves at most; each in decimal digits with an optional `+`, or `none` for no
+/// Parses how a device works: how many of its calls succeed, a comma, and how many bytes each call
+/// moves at most. Either number is in decimal digits with an optional `+`, or is `none` for no
 /// limit. Returns `None` if the text doesn't have this form.
 fn read_strain(text: &str) -> Option<Strain> {
     let (calls, most) = text.split_once(',')?;

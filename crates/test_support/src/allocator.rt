@@ -24,9 +24,8 @@ pub struct TestAllocator<'a> {
 }
 
 impl<'a> TestAllocator<'a> {
-    /// An allocator that has refused nothing yet. `returned` will hold the words of each segment
-    /// that is returned and the number of those used, each as two decimal digits after those of the
-    /// earlier ones.
+    /// An allocator that has refused nothing yet. `returned` will hold, for each returned segment
+    /// in turn, the number of its words and that of its used words, as two decimal digits each.
     pub fn new(heap: HeapAllocator, granted: Granted, returned: &'a Cell<u64>) -> Self
         ensures { result.refused ≡ 0 }
     {

@@ -5,7 +5,7 @@ use std::io::{self, BufReader, BufWriter, Read, Write};
 use std::process::ExitCode;
 
 /// Answers each line of standard input with a line of standard output. The program fails if reading
-/// or writing does, or memory runs out.
+/// or writing fails, or memory runs out.
 pub fn answer_lines<F: Fn(Global, &str) -> Result<String, AllocError>>(
     rt: &HostRuntime,
     answer: F,
@@ -37,7 +37,7 @@ fn respond<F: Fn(Global, &str) -> Result<String, AllocError>>(
     writer.flush()
 }
 
-/// The arguments of a program as one word, separated by commas.
+/// The arguments of a program, given as one word in which commas separate them.
 pub fn arguments(alloc: Global, text: &str) -> Result<Vec<String>, AllocError> {
     let mut words = Vec::new(alloc);
     for word in text.split(',') {

@@ -19,8 +19,9 @@ pub fn bytes_of(alloc: Global, text: &str) -> Option<Vec<u8>> {
     Some(bytes)
 }
 
-/// The arena of a message whose segments are hex digits, as in `bytes_of`, separated by commas; of
-/// whole words, at most 512 segments. `None` if the text holds anything else, or memory runs out.
+/// The arena of a message of at most 512 segments, each of whole words. `text` has their hex
+/// digits, as in `bytes_of`, separated by commas. `None` if the text holds anything else, or memory
+/// runs out.
 pub fn arena_of(
     alloc: Global,
     text: &str,

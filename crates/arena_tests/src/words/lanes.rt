@@ -13,7 +13,7 @@ fn numbers() -> [u8; LENGTH] {
     bytes
 }
 
-/// Sets one bit of the bytes, each in turn, and none: checks the number of zero words at the end.
+/// Checks the number of zero words at the end: first with no bit set, then with each bit set alone.
 fn check_one_bit(rt: &impl Abort, bytes: &mut [u8]) {
     let words = bytes.len() / 8;
     assert!(rt; is_zero(bytes) && trailing_zero_words(&bytes[..8 * words]) == words);

@@ -29,7 +29,7 @@ fn check_put(rt: &impl Abort, bytes: &mut [u8; 36]) {
     assert!(rt; word_at(part(bytes, 1, 2), 0) == WORD);
 }
 
-/// Copies words after it, moves all, and zeroes one.
+/// Copies two words to after that of `check_put`, moves all three, and zeroes one.
 fn check_moved(rt: &impl Abort, bytes: &mut [u8; 36]) {
     copy_words(bytes, 2, b"\x09\0\0\0\0\0\0\0\x08\0\0\0\0\0\0\0");
     move_words(bytes, 1, 0, 3);

@@ -1,5 +1,5 @@
-//! Segments of messages that are edited, with every request for memory refused in turn: each is
-//! returned once.
+//! Segments of messages that are edited, with every request for memory refused in turn: each
+//! segment is returned once.
 use super::messages::{edit, size};
 use capnp_arena::arena::{
     BuilderArena, HeapAllocator, ReaderArena, ReaderArenaImpl, ReaderOptions, SegmentArray,
@@ -23,8 +23,8 @@ const LIST: &[u8] =
     b"\x01\0\0\0\x17\0\0\0\x08\0\0\0\0\0\x01\0\x05\0\0\0\x12\0\0\0\0\0\0\0\0\0\0\0a\0\0\0\0\0\0\0";
 
 /// Applies edits in segments of a word or more, with `requests` requests for memory granted; each
-/// segment takes two. Clearing the root then takes no words and returns no segment. Checks the
-/// words of each segment as they are returned, and then those that were used.
+/// segment takes two requests. Clearing the root then takes no words and returns no segment. Checks
+/// the words of each segment as they are returned, and then those that were used.
 fn check(rt: &impl Abort, alloc: Global, edits: &[Edit<'_>], requests: u64, segments: u64) {
     let returned = Cell::new(0);
     let heap = HeapAllocator::new(alloc, 1);

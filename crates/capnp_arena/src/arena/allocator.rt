@@ -61,8 +61,9 @@ pub trait Allocator: Drop {
 
     /// Whether an arena stores the row of its first segment (the segment, and what the arena knows
     /// of it) in the arena itself. The first segment then takes memory only if the allocator does,
-    /// but each access has to test whether it is to the first segment. If not, the arena stores all
-    /// rows in a list. All calls for a type of allocator return the same.
+    /// but each access has to test whether it is to the first segment. If this function returns
+    /// `false`, the arena stores all rows in a list. All calls for a type of allocator return the
+    /// same.
     fn keeps_first_in_arena() -> bool
         ensures { result ≡ first_in_arena };
 
@@ -78,7 +79,7 @@ pub trait Allocator: Drop {
     /// Returns a segment of zeros, of at least `min_words` words and at most 536,870,911.
     ///
     /// Refusals: `MessageTooLarge(min_words)` if `min_words` is above 536,870,911;
-    /// `AllocationFailed` for any other reason, which adds 1 to `refused`.
+    /// `AllocationFailed`, which adds 1 to `refused`, for any other reason.
     fn allocate_segment(&mut self, min_words: u32) -> Result<Self::Segment, ErrorKind>
         ensures fresh { IfOk result (λ s. IsFresh min_words (Self.Segment.content s)) }
         ensures sure { IsTrue (grants self.old min_words) → IsOk result }
@@ -100,7 +101,7 @@ pub trait Allocator: Drop {
         ensures refusals { refusals self.new ≡ refusals self.old }
         ensures offers { offers self.new ≡ offers self.old };
 
-    /// Appends `row` to `list`, and returns `None`. If there is no memory for it, returns `row`,
+    /// Appends `row` to `list`, and returns `None`. If there is no memory for `row`, returns it,
     /// leaves `list` unchanged, and adds 1 to `refused`.
     fn keep<T>(&mut self, list: &mut Vec<T>, row: T) -> Option<T>
         ensures kept { IsNone result → (list.new.items ≡ list.old.items ++ row ∷ [])

@@ -4,7 +4,7 @@
 //! The rows are cut into ranges as in a Fenwick tree: counted from 1, row i is the last of a range
 //! whose length is the greatest power of two that divides i. So the rows up to row i form at most
 //! as many ranges as i has binary digits. Each row stores a bound: no row of its range has more
-//! room than that. So a range without room is skipped with one look at its bound.
+//! room than this bound. So a range without room is skipped with one look at its bound.
 //!
 //! The room of a row only shrinks, so allocating words leaves the bounds correct. A new row starts
 //! with the greatest bound that there is. If a bound is greater than needed, the search may look at

@@ -33,13 +33,14 @@ use std::alloc::Global;
 /// A message of any number of segments, each from an allocator. Its nesting limit is `i32::MAX`,
 /// and reading it charges nothing.
 ///
-/// Dropping it returns each segment to the allocator exactly once, in order of number.
+/// Dropping the arena returns each segment to the allocator exactly once, in order of number.
 pub struct BuilderArenaImpl<A: Allocator> {
     alloc: Global,
     allocator: A,
     /// All rows, if `keeps_first_in_arena` of the allocator is `false`; otherwise empty.
     listed: Listed<A::Segment>,
-    /// All rows, if it is `true`, with the first one outside of the list; otherwise empty.
+    /// All rows, with the first one outside of the list, if `keeps_first_in_arena` of the allocator
+    /// is `true`; otherwise empty.
     apart: Rows<A::Segment>,
 }
 
@@ -352,8 +353,8 @@ impl<A: Allocator> BuilderArenaImpl<A> {
     }
 
     /// Separates the arena from its allocator, and returns both. The arena keeps its segments and
-    /// their words, can allocate words only in these, and counts refusals from 0. `with_allocator`
-    /// puts an allocator in again.
+    /// their words, can allocate words only in these segments, and counts refusals from 0.
+    /// `with_allocator` puts an allocator in again.
     ///
     /// Dropping the arena without its allocator drops the segments: they aren't returned to the
     /// allocator.

@@ -161,7 +161,7 @@ impl<S: Segment> Listed<S> {
         row.move_words(from, to, n);
     }
 
-    /// Copies `n` words from place `from` to place `to`, in another row.
+    /// Copies `n` words from place `from` to place `to`, which is in another row.
     #[inline(always)]
     pub(crate) fn copy_across(&mut self, from: WordPlace, to: WordPlace, n: u32)
         requires rows { (from.segment < length self.old.rows.items)

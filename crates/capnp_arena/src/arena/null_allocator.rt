@@ -9,11 +9,11 @@ use std::marker::PhantomData;
 /// allocator `A`, and gets no further ones: it can allocate words only in these.
 ///
 /// Refuses a request of more than 536,870,911 words with `MessageTooLarge`, and any other with
-/// `AllocationFailed`. Its `refused` counts the latter; `refused` of the allocator `A` doesn't.
-/// Drops each segment that is returned to it.
+/// `AllocationFailed`. Its `refused` counts each `AllocationFailed`; `refused` of the allocator `A`
+/// doesn't. Drops each segment that is returned to it.
 ///
 /// `BuilderArenaImpl::without_allocator` makes an arena with this allocator, and `with_allocator`
-/// replaces it by an allocator `A`.
+/// replaces this allocator by an allocator `A`.
 #[derive(Drop)]
 pub struct NullAllocator<A: Allocator> {
     of: PhantomData<A>,

@@ -12,7 +12,7 @@ use capnp_words::error::ErrorKind;
 #[derive(Clone, Copy)]
 pub struct ReaderOptions {
     /// The traversal limit: how many words may be read; `None` for no limit. A program makes its
-    /// `ReadLimiter` from it.
+    /// `ReadLimiter` from this limit.
     pub traversal_limit_in_words: Option<usize>,
     /// The nesting limit: how many structs and lists may be inside one another.
     pub nesting_limit: i32,
@@ -42,8 +42,8 @@ pub struct ReaderArenaImpl<S: ReaderSegments> {
 }
 
 impl<S: ReaderSegments> ReaderArenaImpl<S> {
-    /// The arena of these segments. Precondition: there are fewer than 2^32, each of fewer than
-    /// 2^32 words.
+    /// The arena of these segments. Precondition: there are fewer than 2^32 segments, each of fewer
+    /// than 2^32 words.
     #[tactic(auto, using(capnp_arena_traits::proofs::MessageLemmas::message_wholes))]
     pub fn new(segments: S, options: ReaderOptions) -> Self
         requires { IsSmall (S.segments segments) }

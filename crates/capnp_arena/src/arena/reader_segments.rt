@@ -32,8 +32,8 @@ pub struct SegmentArray<'a> {
 }
 
 impl<'a> SegmentArray<'a> {
-    /// The segments in this order. `None` exactly if there are 2^32 segments or more, or one has
-    /// 2^32 words or more.
+    /// The segments in this order. `None` exactly if there are 2^32 segments or more, or a segment
+    /// has 2^32 words or more.
     pub fn new(segments: &'a [&'a [u8]]) -> Option<Self>
         ensures exactly { IsSome result ↔ AreSmall segments.now }
         ensures segments { IfSome result (λ r. r.segments.now ≡ segments.now) }

@@ -68,11 +68,12 @@ fn front_of<S: Segment>(segment: &mut S, n: usize) -> &mut [u8]
     &mut bytes[..n]
 }
 
-/// A segment, and the number of its allocated words, which are ready; the others are zero.
+/// A segment, and the number of its allocated words. The allocated words are ready; all other words
+/// are zero.
 pub(crate) struct Row<S: Segment> {
     pub(crate) segment: S,
     pub(crate) used: u32,
-    /// No row of the range that ends with this one (module `bounds`) has more room than this.
+    /// No row of the range that ends with this one (module `bounds`) has more room than `bound`.
     pub(crate) bound: u32,
     ghost clear: { IsRow used (S.ready segment) (length (S.content segment)) },
 }

@@ -1,6 +1,6 @@
-//! The rows of a builder arena, one for each segment, if `keeps_first_in_arena` of its allocator is
-//! `true`: the first row is in the struct itself, so it takes no memory, and the others are in a
-//! list. Any other builder arena uses module `listed`.
+//! The rows of a builder arena, one for each segment, for an allocator whose `keeps_first_in_arena`
+//! is `true`. The first row is in the struct itself, so this row takes no memory; the others are in
+//! a list. Any other builder arena uses module `listed`.
 //!
 //! Most messages have one segment, and most words are written in it. So the code for row 0 is
 //! inlined, and that for other rows is in functions that aren't.
@@ -134,7 +134,7 @@ pub(crate) struct At {
     pub(crate) at: u32,
 }
 
-/// Copies `n` words of `row`, from position `from` on, over those at `to`, in a row of `rows`.
+/// Copies `n` words of `row`, from position `from` on, over those from place `to` of `rows` on.
 #[inline(never)]
 #[tactic(auto, using(crate::proofs::RowsLemmas::rows_written))]
 fn copy_in<S: Segment>(rows: &mut [Row<S>], to: At, row: &Row<S>, from: u32, n: u32)
@@ -150,7 +150,7 @@ fn copy_in<S: Segment>(rows: &mut [Row<S>], to: At, row: &Row<S>, from: u32, n: 
     written.copy_from(to.at, row, from, n);
 }
 
-/// Copies `n` words from place `from` to place `to`, in another row.
+/// Copies `n` words from place `from` to place `to`, which is in another row.
 pub(crate) fn copy_across_in<S: Segment>(rows: &mut [Row<S>], from: At, to: At, n: u32)
     requires rows { (from.row < length rows.old) × (to.row < length rows.old) }
     requires apart { from.row ≢ to.row }
@@ -357,7 +357,7 @@ impl<S: Segment> Rows<S> {
         }
     }
 
-    /// Copies `n` words from place `from` to place `to`, in another row.
+    /// Copies `n` words from place `from` to place `to`, which is in another row.
     #[tactic(auto, using(crate::proofs::ListedLemmas::listing))]
     pub(crate) fn copy_across(&mut self, from: WordPlace, to: WordPlace, n: u32)
         requires rows { (from.segment < length (all S.Segment self.old))

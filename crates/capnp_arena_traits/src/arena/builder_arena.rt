@@ -17,8 +17,8 @@ pub mod sealed {
 }
 
 /// An arena that can be written. In this repository only `BuilderArenaImpl` of `capnp_arena`
-/// implements it. `sealed::Closed` is public, so another crate can implement it too, if it proves
-/// the contracts of all calls and the laws below.
+/// implements this trait. `sealed::Closed` is public, so another crate can implement it too, if
+/// that crate proves the contracts of all calls and the laws below.
 pub trait BuilderArena: ReaderArena + sealed::Closed {
     // The words of each segment, how many it has room for, how often memory was refused, and how a
     // request may be met.
@@ -35,8 +35,8 @@ pub trait BuilderArena: ReaderArena + sealed::Closed {
             (with_bytes self.old id)) }
         ensures bytes { slice_get (Self.segments self.old) id ≡ Some result.now };
 
-    /// Lends the bytes of the allocated words of segment `id` for writing; returns `None` exactly
-    /// if `id` isn't below the number of segments, and leaves the arena unchanged then.
+    /// Lends the bytes of the allocated words of segment `id` for writing. Returns `None`, and
+    /// leaves the arena unchanged, exactly if no segment has this number.
     ///
     /// No clause states what the arena is afterwards; only test cases show it. `segment_mut` lends
     /// the same bytes of a segment that exists, and its contract states exactly what the arena is
@@ -94,9 +94,9 @@ pub trait BuilderArena: ReaderArena + sealed::Closed {
         ensures taken { IfSome result (GrowsSegment (view self.old) (view self.new) amount id) }
         ensures none { IsNone result → view self.new ≡ view self.old };
 
-    /// Allocates `amount` words in the first segment with room, in order of number, or in a new
-    /// segment for which it requests `amount` words. Returns the segment and the position; the
-    /// words are zero.
+    /// Allocates `amount` words in the first segment with room, in order of number. If no segment
+    /// has room, allocates them in a new one, for which it requests `amount` words. Returns the
+    /// segment and the position; the words are zero.
     ///
     /// Refusals, if no segment has room: `MessageTooLarge(usize::MAX)` if there are 4,294,967,295
     /// segments; `MessageTooLarge(amount)` if `amount` is above 536,870,911; `AllocationFailed` if

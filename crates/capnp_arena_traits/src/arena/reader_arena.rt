@@ -76,11 +76,11 @@ pub trait ReaderArena {
         }
     }
 
-    /// Charges `lim` for `amount` words that a message claims and doesn't hold, for instance those
+    /// Charges `lim` for `amount` words that a message claims but doesn't hold, for instance those
     /// of a list of empty structs.
     ///
-    /// Refuses with `ReadLimitExceeded` if fewer are left, and leaves `lim` unchanged then. If
-    /// `charges` returns `false`, grants every amount and leaves `lim` unchanged.
+    /// Refuses with `ReadLimitExceeded` if fewer words are left; a refusal leaves `lim` unchanged.
+    /// If `charges` returns `false`, grants every amount and leaves `lim` unchanged.
     fn amplified_read(&self, amount: u64, lim: &mut ReadLimiter) -> Result<(), ErrorKind>
         ensures exactly { IsOk result ↔ Affords (charging self.now) lim.old amount }
         ensures granted { OnOk result (lim.new ≡ charged (charging self.now) lim.old amount) }

@@ -20,14 +20,14 @@ use capnp_words::read_limiter::ReadLimiter;
 use capnp_words::words;
 
 /// Copies the value of `default`, plain, to the null pointer at `at` of segment `id` ("Default
-/// Values"). The pointer of `default` is its first word. Preconditions: `default` has that word,
-/// and fewer than 2^32 words.
+/// Values"). The first word of `default` is its pointer. Preconditions: `default` has at least one
+/// word and fewer than 2^32 words.
 ///
 /// Charges nothing, and may enter `i32::MAX` levels. Refusals: `UnknownPointerType` for a
-/// capability in `default`; `TriedToReadFromNullArena` for a far pointer in it; those of reading
-/// for any other fault; the arena's `AllocationFailed` or `MessageTooLarge`, only if the words
-/// don't fit after those of the pointer's segment. After a refusal the pointer is null, and the
-/// words that were allocated are zero.
+/// capability in `default`; `TriedToReadFromNullArena` for a far pointer in `default`; those of
+/// reading for any other fault. Only if the copy doesn't fit after the words of the pointer's
+/// segment: the arena's `AllocationFailed` or `MessageTooLarge`. After a refusal the pointer is
+/// null, and the words that were allocated are zero.
 #[inline(never)]
 pub fn copy_default<A: BuilderArena>(
     arena: &mut A,
@@ -55,11 +55,11 @@ pub fn copy_default<A: BuilderArena>(
 }
 
 /// If the pointer at `at` of segment `id` is null, copies the value of `default` to it, like
-/// `copy_default`. Leaves a pointer that isn't null. A null pointer stays null if there is no
-/// default, or its first word is null.
+/// `copy_default`. A pointer that isn't null stays as it is. A null pointer stays null if `default`
+/// is `None` or starts with a null word.
 ///
-/// Refuses a default without a whole word with `MessageContainsOutOfBoundsPointer`, and then
-/// changes nothing. Other refusals are those of `copy_default`.
+/// Refuses a default under 8 bytes with `MessageContainsOutOfBoundsPointer`, and then changes
+/// nothing. Other refusals are those of `copy_default`.
 pub(crate) fn put_default<A: BuilderArena>(
     arena: &mut A,
     id: u32,
@@ -88,8 +88,8 @@ pub(crate) fn put_default<A: BuilderArena>(
     copy_default(arena, id, at, bytes)
 }
 
-/// Like `put_default`, for a text or data. If the pointer is null, and so is the first word of
-/// `default`, refuses with `ExistingPointerIsNotAList`.
+/// Like `put_default`, for a text or data. Refuses with `ExistingPointerIsNotAList` if both the
+/// pointer and the first word of `default` are null.
 pub(crate) fn put_blob_default<A: BuilderArena>(
     arena: &mut A,
     id: u32,

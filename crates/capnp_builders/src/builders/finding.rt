@@ -36,16 +36,17 @@ use capnp_words::wire_pointer::{ElementSize, StructSize};
 impl<'a, A: BuilderArena> PointerBuilder<'a, A> {
     ghost use Rattle.capnp_builders.specs.Building.{FindsStored, GivesList, GivesStruct, HandsOn, IsNull, IsThere, KeepsBuilder, LooksUp, OfStored, StaysThere, built, calling};
 
-    /// If the pointer is null, makes a plain copy of the value of `default` ("Default Values"). The
-    /// pointer of `default` is its first word. Leaves a pointer that isn't null. A null pointer
-    /// stays null if there is no default, or its first word is null.
+    /// If the pointer is null, makes it lead to a plain copy of the value of `default` ("Default
+    /// Values"). The first word of `default` is its pointer. A pointer that isn't null stays as it
+    /// is. A null pointer stays null if `default` is `None` or starts with a null word.
     ///
     /// Charges nothing, and may enter `i32::MAX` levels. Refusals:
-    /// `MessageContainsOutOfBoundsPointer` if `default` has no whole word, or a pointer in it leads
-    /// out of it; `UnknownPointerType` for a capability in it; `TriedToReadFromNullArena` for a far
-    /// pointer in it; those of reading for any other fault; if the message has no room,
-    /// `AllocationFailed`, or `MessageTooLarge` with an object's words plus one. After a refusal
-    /// the pointer is null, and the words that were allocated are zero.
+    /// `MessageContainsOutOfBoundsPointer` if `default` is under 8 bytes, or one of its pointers
+    /// leads out of it; `UnknownPointerType` for a capability in `default`;
+    /// `TriedToReadFromNullArena` for a far pointer in `default`; those of reading for any other
+    /// fault. If the message has no room: `AllocationFailed`, or `MessageTooLarge` with an object's
+    /// words plus one. After a refusal the pointer is null, and the words that were allocated are
+    /// zero.
     pub fn put_default(&mut self, default: Option<&[u8]>) -> Result<(), ErrorKind>
         requires { TakesDefault (built A.view self.old) default }
         ensures put { PutsDefaultBy (object_default default.entry)
@@ -59,9 +60,8 @@ impl<'a, A: BuilderArena> PointerBuilder<'a, A> {
         put_default(&mut *self.arena, self.segment, self.at, default)
     }
 
-    /// Does what `get_struct` does, but returns the struct's place instead of its builder, which
-    /// `into_struct` makes of the place. Unlike `get_struct`, it only borrows the pointer, so its
-    /// contract also states what a refusal leaves.
+    /// Does what `get_struct` does, but returns the struct's place. `into_struct` makes the builder
+    /// from the place. The contract also states what a refusal leaves.
     #[inline(always)]
     pub fn find_struct(
         &mut self,
@@ -101,15 +101,17 @@ impl<'a, A: BuilderArena> PointerBuilder<'a, A> {
 
     /// Returns the struct that the pointer leads to, for writing, with sections at least as large
     /// as in `size` ("Structs"). A struct that is large enough is unchanged. If a section is too
-    /// small, moves the struct to new words, in which each section has the larger one of its old
-    /// size and that in `size`: its data and its children are the same, followed by zeros and null
-    /// pointers. If the pointer is null, first copies the value of `default` to it, like
-    /// `PointerBuilder::put_default`; if it stays null, makes a struct of exactly `size`, all zero.
+    /// small, moves the struct to new words, in which each section has the larger of its old size
+    /// and its size in `size`. The data stays the same, followed by zeros; so do the children,
+    /// followed by null pointers. If the pointer is null, first copies the value of `default` to
+    /// it, like `PointerBuilder::put_default`; if the pointer stays null, makes a struct of exactly
+    /// `size`, all zero.
     ///
     /// Refusals: `MessageContainsNonStructPointerWhereStructPointerWasExpected` if the pointer
-    /// leads to something else; those of `put_default`; `AllocationFailed`, or `MessageTooLarge`
-    /// with the words of a struct or of landing pads, and then the old struct stays. A default
-    /// value that replaced null stays even if the call is refused afterwards.
+    /// leads to something other than a struct; those of `put_default`. If the message has no room:
+    /// `AllocationFailed`, or `MessageTooLarge` with the words of a struct or of landing pads; the
+    /// old struct then stays. A default value that replaced null stays even if the call is refused
+    /// afterwards.
     #[inline(always)]
     pub fn get_struct(
         mut self,
@@ -142,9 +144,8 @@ impl<'a, A: BuilderArena> PointerBuilder<'a, A> {
         Ok(self.into_struct(place))
     }
 
-    /// Does what `get_struct_list` does, but returns the list's place instead of its builder, which
-    /// `into_list` makes of the place. Unlike `get_struct_list`, it only borrows the pointer, so
-    /// its contract also states what a refusal leaves.
+    /// Does what `get_struct_list` does, but returns the list's place. `into_list` makes the
+    /// builder from the place. The contract also states what a refusal leaves.
     pub fn find_struct_list(
         &mut self,
         size: StructSize,
@@ -172,18 +173,18 @@ impl<'a, A: BuilderArena> PointerBuilder<'a, A> {
     /// at least as large as in `size` ("Lists").
     ///
     /// A list of structs that are large enough is unchanged. Any other list is moved to new words
-    /// as a list of structs: each section has the larger one of its old size and that in `size`, a
-    /// number becomes the lowest bits of a struct's first data word, and a pointer a struct's first
-    /// pointer. If the pointer is null, first copies the value of `default` to it, like
-    /// `PointerBuilder::put_default`; if it stays null, returns a list of void without elements,
-    /// and changes nothing.
+    /// as a list of structs. Each section has the larger of its old size and its size in `size`; a
+    /// number becomes the lowest bits of a struct's first data word, and a pointer becomes a
+    /// struct's first pointer. If the pointer is null, first copies the value of `default` to it,
+    /// like `PointerBuilder::put_default`; if the pointer stays null, returns a list of void
+    /// without elements, and changes nothing.
     ///
-    /// Refusals: `ExistingPointerIsNotAList` if the pointer leads to something else;
+    /// Refusals: `ExistingPointerIsNotAList` if the pointer leads to something other than a list;
     /// `FoundBitListWhereStructListWasExpected` for a list of bits; `MessageTooLarge` with the
-    /// words of the new elements if these are 2^29 or more; those of `put_default`;
-    /// `AllocationFailed`, or `MessageTooLarge` with the words of a list or of landing pads, and
-    /// then the old list stays. A default value that replaced null stays even if the call is
-    /// refused afterwards.
+    /// number of words of the new elements if that is 2^29 or more; those of `put_default`. If the
+    /// message has no room: `AllocationFailed`, or `MessageTooLarge` with the words of a list or of
+    /// landing pads; the old list then stays. A default value that replaced null stays even if the
+    /// call is refused afterwards.
     pub fn get_struct_list(
         mut self,
         size: StructSize,
@@ -200,9 +201,8 @@ impl<'a, A: BuilderArena> PointerBuilder<'a, A> {
         Ok(self.into_list(place))
     }
 
-    /// Does what `get_list` does, but returns the list's place instead of its builder. `into_list`
-    /// makes the builder from the place. Unlike `get_list`, it only borrows the pointer, so its
-    /// contract also states what a refusal leaves.
+    /// Does what `get_list` does, but returns the list's place. `into_list` makes the builder from
+    /// the place. The contract also states what a refusal leaves.
     pub fn find_list(
         &mut self,
         size: ElementSize,
@@ -222,15 +222,15 @@ impl<'a, A: BuilderArena> PointerBuilder<'a, A> {
 
     /// Returns the list that the pointer leads to, for writing. Its elements have to be of `size`
     /// or wider; the list is never changed. If the pointer is null, first copies the value of
-    /// `default` to it, like `PointerBuilder::put_default`; if it stays null, returns a list of
-    /// void without elements.
+    /// `default` to it, like `PointerBuilder::put_default`; if the pointer stays null, returns a
+    /// list of void without elements.
     ///
-    /// Refusals: `ExistingPointerIsNotAList` if the pointer leads to something else;
-    /// `FoundStructListWhereBitListWasExpected` for a list of structs if `size` is `Bit`;
-    /// `ExistingListValueIsIncompatibleWithExpectedType` for elements with fewer bits of data or
-    /// fewer pointers than `size` has, for structs without data words if `size` is that of numbers,
-    /// and for structs without pointers if it is that of pointers; those of `put_default`. A
-    /// default value that replaced null stays even if it is then refused.
+    /// Refusals: `ExistingPointerIsNotAList` if the pointer leads to something other than a list;
+    /// `FoundStructListWhereBitListWasExpected` for a list of structs if `size` is `Bit`; those of
+    /// `put_default`. Refuses elements with fewer bits of data or fewer pointers than `size` has
+    /// with `ExistingListValueIsIncompatibleWithExpectedType`. This includes structs without data
+    /// words if `size` is that of numbers, and structs without pointers if `size` is that of
+    /// pointers. A default value that replaced null stays even if the call is refused afterwards.
     pub fn get_list(
         mut self,
         size: ElementSize,
@@ -248,9 +248,8 @@ impl<'a, A: BuilderArena> PointerBuilder<'a, A> {
         Ok(self.into_list(place))
     }
 
-    /// Does what `get_data` does, but returns where the data is instead of lending its bytes, which
-    /// `bytes_mut` does. Unlike `get_data`, it only borrows the pointer, so its contract also
-    /// states what a refusal leaves.
+    /// Does what `get_data` does, but returns where the data is instead of lending its bytes.
+    /// `bytes_mut` then lends them. The contract also states what a refusal leaves.
     pub fn find_data(&mut self, default: Option<&[u8]>) -> Result<ExistingBytes, ErrorKind>
         requires { TakesDefault (built A.view self.old) default }
         ensures found { LooksUp A.view (FindsBytes data_in default.entry)
@@ -264,14 +263,15 @@ impl<'a, A: BuilderArena> PointerBuilder<'a, A> {
     }
 
     /// Lends the data that the pointer leads to, for writing in place ("Lists"). If the pointer is
-    /// null, first copies the value of `default` to it, like `PointerBuilder::put_default`; without
-    /// a default, lends no bytes.
+    /// null, first copies the value of `default` to it, like `PointerBuilder::put_default`, or
+    /// lends no bytes if there is no default.
     ///
-    /// Refusals: `ExistingPointerIsNotAList` if the pointer leads to something else, or if it is
-    /// null and so is the first word of `default`; `ExistingListPointerIsNotByteSized` if the
-    /// elements aren't bytes; those of `put_default`. A default value that replaced null stays even
-    /// if it is then refused. `find_data` followed by `bytes_mut` does the same; their contracts
-    /// also state what the message is once the bytes are written.
+    /// Refusals: `ExistingPointerIsNotAList` if the pointer leads to something other than a list,
+    /// or if both the pointer and the first word of `default` are null;
+    /// `ExistingListPointerIsNotByteSized` if the elements aren't bytes; those of `put_default`. A
+    /// default value that replaced null stays even if the call is refused afterwards. `find_data`
+    /// followed by `bytes_mut` does the same; their contracts also state what the message is once
+    /// the bytes are written.
     pub fn get_data(mut self, default: Option<&[u8]>) -> Result<&'a mut [u8], ErrorKind>
         requires { TakesDefault (built A.view self) default }
         ensures found { ReachesArena (LendsBytes A.segments)
@@ -281,9 +281,8 @@ impl<'a, A: BuilderArena> PointerBuilder<'a, A> {
         Ok(self.into_bytes(bytes))
     }
 
-    /// Does what `get_text` does, but returns where the text is instead of lending its bytes, which
-    /// `bytes_mut` does. Unlike `get_text`, it only borrows the pointer, so its contract also
-    /// states what a refusal leaves.
+    /// Does what `get_text` does, but returns where the text is instead of lending its bytes.
+    /// `bytes_mut` then lends them. The contract also states what a refusal leaves.
     pub fn find_text(&mut self, default: Option<&[u8]>) -> Result<ExistingBytes, ErrorKind>
         requires { TakesDefault (built A.view self.old) default }
         ensures found { LooksUp A.view (FindsBytes text_in default.entry)
@@ -298,11 +297,11 @@ impl<'a, A: BuilderArena> PointerBuilder<'a, A> {
 
     /// Lends the text that the pointer leads to, without the zero byte after it, for writing in
     /// place ("Lists"). If the pointer is null, first copies the value of `default` to it, like
-    /// `PointerBuilder::put_default`; without a default, lends no bytes.
+    /// `PointerBuilder::put_default`, or lends no bytes if there is no default.
     ///
-    /// Refuses what isn't a list of bytes like `get_data`, and refuses bytes that don't end in a
-    /// zero byte with `TextBlobMissingNULTerminator`. `find_text` followed by `bytes_mut` does the
-    /// same; their contracts also state what the message is once the bytes are written.
+    /// Refusals: those of `get_data`; `TextBlobMissingNULTerminator` if the bytes don't end in a
+    /// zero byte. `find_text` followed by `bytes_mut` does the same; their contracts also state
+    /// what the message is once the bytes are written.
     pub fn get_text(mut self, default: Option<&[u8]>) -> Result<&'a mut [u8], ErrorKind>
         requires { TakesDefault (built A.view self) default }
         ensures found { ReachesArena (LendsBytes A.segments)

@@ -17,7 +17,7 @@ use capnp_readers::readers::ListPlace;
 use capnp_words::error::ErrorKind;
 use capnp_words::wire_pointer::ElementSize;
 
-/// The place of the list `found`. If it is `None`, which is for a null pointer, the place of a list
+/// The place of the list `found`. For `None`, which stands for a null pointer, the place of a list
 /// of void without elements in segment `segment`.
 pub(crate) fn found_list(segment: u32, found: Option<ExistingList>) -> ListPlace
     ensures { list_given segment (Ok found) ≡ Ok result }
@@ -34,8 +34,8 @@ pub(crate) fn found_list(segment: u32, found: Option<ExistingList>) -> ListPlace
     }
 }
 
-/// Returns the list that the pointer at `at` of segment `id` leads to, whose elements have to be of
-/// `size` or wider. Changes nothing.
+/// Returns the place of the list that the pointer at `at` of segment `id` leads to. The elements
+/// have to be of `size` or wider. Changes nothing.
 pub(crate) fn look_for_list<A: BuilderArena>(
     arena: &A,
     id: u32,
@@ -54,11 +54,11 @@ pub(crate) fn look_for_list<A: BuilderArena>(
     Ok(found_list(id, found))
 }
 
-/// The bytes `found`. If that is `None`, which is for a null pointer, no bytes at the start of
+/// The bytes `found`. For `None`, which stands for a null pointer, no bytes, at the start of
 /// segment `segment`.
 ///
-/// Refuses bytes outside of the message, to which no pointer of a built message leads, with
-/// `MessageContainsOutOfBoundsPointer`.
+/// Refuses bytes outside of the message with `MessageContainsOutOfBoundsPointer`. No pointer of a
+/// built message leads to such bytes.
 #[inline(always)]
 pub(crate) fn found_bytes<A: BuilderArena>(
     arena: &A,

@@ -159,7 +159,7 @@ impl<'a, A: BuilderArena> ListBuilder<'a, A> {
     #[tactic(auto, using(crate::proofs::ElementPlaces::element_inside))]
     /// Element `index` as a struct: a number becomes a struct whose data section is that number, a
     /// pointer a struct with one pointer. Preconditions: the elements aren't bits; `index` is below
-    /// their number.
+    /// the number of elements.
     pub fn get_struct_element(self, index: u32) -> StructBuilder<'a, A>
         requires inside { IsListPlace (A.view self.arena.now).words self.place }
         requires range { index < self.place.count }
@@ -177,7 +177,7 @@ impl<'a, A: BuilderArena> ListBuilder<'a, A> {
 
     #[tactic(auto, using(crate::proofs::ElementPlaces::pointer_inside))]
     /// Pointer `index`: the element itself, or a struct element's first pointer. Preconditions: the
-    /// elements hold a pointer; `index` is below their number.
+    /// elements hold a pointer; `index` is below the number of elements.
     pub fn get_pointer_element(self, index: u32) -> PointerBuilder<'a, A>
         requires inside { IsListPlace (A.view self.arena.now).words self.place }
         requires range { index < self.place.count }

@@ -7,8 +7,8 @@ use capnp_readers::readers::{ListPlace, StructPlace};
 
 /// The place that a `StructBuilder` of the struct `found` has.
 ///
-/// If the pointers of `found` started at word 2^32 or after it, which no struct of a message has,
-/// the place would have word 2^32 - 1 instead.
+/// If the pointers of `found` start at word 2^32 or later, the place has word 2^32 - 1 instead. No
+/// struct of a message has its pointers there.
 #[inline(always)]
 pub fn struct_place(found: ExistingStruct) -> StructPlace
     ensures place { found.start + found.size.data_words < 2 ^ 32 → result ≡ struct_place found }

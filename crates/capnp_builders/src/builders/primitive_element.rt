@@ -1,4 +1,4 @@
-//! Elements of lists that are numbers, bits or nothing: read from a list being read, and read and
+//! List elements that are numbers, bits or nothing: read from a list being read, and read and
 //! written in a list being built (encoding specification, "Lists").
 ghost use Rattle.std.specs.Prelude.{◌≡◌, ◌<◌, ◌≤◌, ℕ, List, cond};
 ghost use Rattle.capnp_format.specs.Numbers.{element_bits};
@@ -18,7 +18,7 @@ use capnp_readers::readers::ListReader;
 use capnp_words::primitive::Primitive;
 use capnp_words::wire_pointer::ElementSize;
 
-/// A type that elements of a list can be read as and written from: a number, a bit, or nothing.
+/// A type as which elements of a list can be read and written: a number, a bit, or nothing.
 pub trait PrimitiveElement {
     // The element size of a list of such elements.
     ghost size: { ElementSize };
@@ -30,7 +30,7 @@ pub trait PrimitiveElement {
     ghost bits_of: { Self → ℕ };
 
     /// Reads element `index` of `list`: the number in the lowest bytes of the element's data, or
-    /// its lowest bit.
+    /// the lowest bit of that data.
     ///
     /// Preconditions, except for `()`: `index` is below the number of elements, and each element
     /// has at least as many bits of data as the value. The data of a struct is its data section, so
@@ -51,10 +51,10 @@ pub trait PrimitiveElement {
         ensures { HasField (A.view list.now.arena.now) list.now.place.segment list.now.place.byte
             (lowest_bits list.now.place index (element_bits (size_number size)) (bits_of result)) };
 
-    /// Writes element `index` of `list`: as many of the lowest bits of its data as `value` has. The
-    /// data of a struct is its data section. Preconditions, except for `()`, which writes nothing:
-    /// `index` is below the number of elements, and each element has at least as many bits of data
-    /// as the value.
+    /// Writes element `index` of `list`: replaces the lowest bits of its data by those of `value`.
+    /// The data of a struct is its data section. Preconditions, except for `()`, which writes
+    /// nothing: `index` is below the number of elements, and each element has at least as many bits
+    /// of data as the value.
     fn set<A: BuilderArena>(list: &mut ListBuilder<'_, A>, index: u32, value: Self)
         requires inside { IsListPlace (A.view list.old.arena.now).words list.old.place }
         requires range { 0 < element_bits (size_number size) → index < list.old.place.count }

@@ -90,17 +90,18 @@ impl<'a, A: BuilderArena> StructBuilder<'a, A> {
         }
     }
 
-    /// Replaces the struct's content by a plain copy of that of `value`. Copies as much data as
-    /// both structs have, and zeroes the rest of this data section. Then makes all pointers null,
-    /// zeroes what they held, and copies as many pointers as both structs have, in order. Charges
-    /// `lim` what reading the values of the copied pointers costs, and nothing else; the nesting
-    /// limit is that of `value`.
+    /// Replaces the struct's content by a plain copy of the content of `value`. Copies as much data
+    /// as both structs have, and zeroes the rest of the data section of `self`. Then makes all
+    /// pointers of `self` null, zeroes what they held, and copies as many pointers as both structs
+    /// have, in order. Charges `lim` what reading the values of the copied pointers costs, and
+    /// nothing else; the nesting limit is that of `value`.
     ///
-    /// Refusals: the first one of reading the values of the pointers; if their words don't fit
-    /// after those of the struct's segment, `AllocationFailed`, or `MessageTooLarge` with an
-    /// object's words plus one. After a refusal, the data and the pointers before the refused one
-    /// are copied, and the refused one and those after it are null. The words that were allocated
-    /// for the refused one are zero and stay allocated, and what was charged stays charged.
+    /// Refusals: the first one of reading the values of the copied pointers. If the copies don't
+    /// fit after the words of the struct's segment: `AllocationFailed`, or `MessageTooLarge` with
+    /// an object's words plus one. After a refusal, the data and the pointers before the refused
+    /// pointer are copied; the refused pointer and those after it are null. The words that were
+    /// allocated for the refused pointer are zero and stay allocated, and what was charged stays
+    /// charged.
     pub fn copy_content_from<B: ReaderArena>(
         &mut self,
         value: &StructReader<'_, B>,

@@ -44,7 +44,7 @@ pub fn copy_children<A: BuilderArena, B: ReaderArena>(
     copy_row(arena, to.place, from, count, lim, to.form)
 }
 
-/// Like `copy_children`, but not inlined: it is called for each level of structs, and takes the
+/// Like `copy_children`, but not inlined, because it is called for each level of structs. Takes the
 /// place and the form of a `Destination` separately, so that they are passed in registers.
 #[cycle(copies)]
 #[inline(never)]
@@ -91,9 +91,9 @@ pub(crate) fn copy_in_line<A: BuilderArena, B: ReaderArena>(
     Ok(())
 }
 
-/// Copies the value of `from` to the null pointer at `to.place`. If the pointer isn't far, and
-/// leads to a struct or to a list of bits or numbers, uses only its word, and makes no `Object`,
-/// which would have to be written to memory.
+/// Copies the value of `from` to the null pointer at `to.place`. If `from` isn't a far pointer, and
+/// leads to a struct or to a list of bits or numbers, uses only the word of `from`, and makes no
+/// `Object`, which would have to be written to memory.
 #[cycle(copies)]
 #[inline(always)]
 fn copy_child<A: BuilderArena, B: ReaderArena>(
@@ -147,8 +147,8 @@ fn copy_near_struct<A: BuilderArena, B: ReaderArena>(
     copy_struct(arena, to, inner, word.struct_size(), lim)
 }
 
-/// Copies the list of bits or numbers that `from` leads to, which is the same in every form. `word`
-/// is the word of `from`, and not a far pointer.
+/// Copies the list of bits or numbers that `from` leads to. The copy is the same in every form.
+/// `word` is the word of `from`, and not a far pointer.
 #[inline(always)]
 fn copy_near_flat<A: BuilderArena, B: ReaderArena>(
     arena: &mut A,
@@ -180,7 +180,7 @@ fn copy_near_flat<A: BuilderArena, B: ReaderArena>(
     copy_flat(arena, to, size, count, elements)
 }
 
-/// Whether `word` is a pointer, not a far one, to a list of bits or numbers.
+/// Whether `word` is a pointer to a list of bits or numbers, and not a far pointer.
 fn is_list_of_bits(word: WirePointer) -> bool
     ensures { IsTrue result
         ↔ (kind word.0 ≡ 1) × (0 < element_size word.0) × (element_size word.0 ≤ 5) }

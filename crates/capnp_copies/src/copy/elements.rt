@@ -23,8 +23,8 @@ use capnp_words::error::ErrorKind;
 use capnp_words::read_limiter::ReadLimiter;
 use capnp_words::words::{count, part};
 
-/// Copies the elements of a list of structs, from the word `from` on, over zero words from
-/// `to.place` on. Cuts each to the sections `sizes.kept`.
+/// Copies the elements of a list of structs, which start at `from`, over the zero words from
+/// `to.place` on. Cuts each element to the sections `sizes.kept`.
 #[cycle(copies)]
 #[inline(always)]
 pub(crate) fn copy_elements<A: BuilderArena, B: ReaderArena>(
@@ -86,7 +86,7 @@ pub(crate) fn copy_elements<A: BuilderArena, B: ReaderArena>(
     Ok(())
 }
 
-/// Writes `words` over those of segment `id` from `at` on; nothing if there are none.
+/// Writes `words` over the words of segment `id` from `at` on; nothing if `words` is empty.
 pub fn put_words<A: BuilderArena>(arena: &mut A, id: u32, at: u32, words: &[u8])
     requires whole { length words.now ≡ 8 * length (words_of words.now) }
     requires inside { at + length (words_of words.now)

@@ -58,8 +58,8 @@ pub fn copy_flat<A: BuilderArena>(
     Ok(())
 }
 
-/// Writes `elements`, of `bits` bits together, over the words of segment `id` from `start` on.
-/// Zeroes the bits after them in their last word.
+/// Writes `elements`, which have `bits` bits in total, over the words of segment `id` from `start`
+/// on. Zeroes the bits after the elements in the last word.
 #[inline(always)]
 fn put_elements<A: BuilderArena>(arena: &mut A, id: u32, start: u32, elements: &[u8], bits: u64)
     requires whole { length elements.now ≡ 8 * length (words_of elements.now) }

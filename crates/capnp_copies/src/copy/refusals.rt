@@ -8,8 +8,8 @@ use capnp_arena_traits::arena::BuilderArena;
 use capnp_making::making::{Start, clear};
 use capnp_words::error::ErrorKind;
 
-/// Ends a copy to the pointer at `to`. If it was refused, makes that pointer null, and zeroes what
-/// was made for it. Returns `copied`.
+/// Ends a copy to the pointer at `to`. If the copy was refused, makes the pointer null, and zeroes
+/// what was made for the copy. Returns `copied`.
 #[inline(always)]
 pub fn clear_refused<A: BuilderArena>(
     arena: &mut A,

@@ -41,8 +41,8 @@ pub(crate) struct Copying<'a> {
 /// A pointer of another message.
 pub(crate) type SourceReader<'a> = PointerReader<'a, ReaderArenaImpl<SegmentArray<'a>>>;
 
-/// Returns the root of another message, and the limiter for reading it, from which the root's word
-/// is already charged.
+/// Returns the root of another message, and the limiter for reading that message, which is already
+/// charged for the root's word.
 pub(crate) fn open_source<'a>(
     source: Source<'a>,
 ) -> Result<(SourceReader<'a>, ReadLimiter), ErrorKind>

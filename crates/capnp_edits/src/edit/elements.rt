@@ -51,7 +51,7 @@ fn bits_of(list: ExistingList) -> u32
     }
 }
 
-/// Whether the list has element `index`, inside the message, of at least the width `size`.
+/// Whether the list is inside the message, and has an element `index` of at least the width `size`.
 fn has_element<A: BuilderArena>(
     arena: &A,
     list: ExistingList,
@@ -95,8 +95,8 @@ fn put_element<A: BuilderArena>(
     }
 }
 
-/// Writes `number` into the lowest bits of an element of the list `found`; refuses if that has no
-/// such element.
+/// Writes `number` into the lowest bits of an element of the list `found`; refuses if the list has
+/// no such element.
 fn set_element<A: BuilderArena>(
     arena: &mut A,
     found: Result<Option<ExistingList>, ErrorKind>,
@@ -124,7 +124,7 @@ fn set_element<A: BuilderArena>(
     }
 }
 
-/// Writes byte `index` of the text or data `found`; refuses if that has no such byte.
+/// Writes byte `index` of the text or data `found`; refuses if there is no such byte.
 fn write_byte<A: BuilderArena>(
     arena: &mut A,
     found: Result<Option<ExistingBytes>, ErrorKind>,

@@ -42,9 +42,9 @@ fn place_in<A: BuilderArena>(arena: &A, parent: ExistingStruct) -> Option<Struct
 ///
 /// A null root counts as a struct without words: `parent` then has zeros and null pointers. If the
 /// root doesn't lead to a struct, or can't be read, nothing changes. If the copy of a pointer is
-/// refused, the data and the pointers before it are copied, and the refused pointer and those after
-/// it are null. In the clauses, `AtElement parent` is the struct `parent`, whether it is an element
-/// of a list or a pointer leads to it.
+/// refused, the data and the pointers before that one are copied, and that one and those after it
+/// are null. In the clauses, `AtElement parent` is the struct `parent`, whether it is an element of
+/// a list or a pointer leads to it.
 pub(crate) fn fill<A: BuilderArena>(
     arena: &mut A,
     parent: ExistingStruct,

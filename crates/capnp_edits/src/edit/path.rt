@@ -47,8 +47,8 @@ fn child_of<A: BuilderArena>(arena: &A, parent: ExistingStruct, i: u16) -> Optio
     }
 }
 
-/// Where element `i` of `list` is; `None` if the list has no such element, or it is neither a
-/// pointer nor a struct.
+/// Where element `i` of `list` is; `None` if the list has no such element, or the element is
+/// neither a pointer nor a struct.
 fn element_of<A: BuilderArena>(arena: &A, list: ExistingList, i: u32) -> Option<PathEnd>
     ensures { IsEndFound (A.view arena.now).words (element_in list i) result }
 {

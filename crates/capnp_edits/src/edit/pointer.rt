@@ -47,7 +47,7 @@ fn make<A: BuilderArena>(
     }
 }
 
-/// Makes `pointer` the capability with the index `capability`, or null if that is `None`.
+/// Makes `pointer` the capability with the index `capability`, or null if `capability` is `None`.
 fn point<A: BuilderArena>(pointer: &mut PointerBuilder<'_, A>, capability: Option<u32>)
     requires { IsThere (built A.view pointer.old) }
     ensures { IsDoneBy A.view pointer.old pointer.new (Point capability) None }

@@ -41,8 +41,8 @@ pub(crate) struct Number {
 pub(crate) enum StructChange<'a> {
     /// Write a number of the struct's data section.
     Bits(Number),
-    /// Replace the struct's content by that of the struct that the root of another message leads
-    /// to.
+    /// Replace the struct's content by that of another struct, to which another message's root
+    /// leads.
     Content(Source<'a>),
 }
 

@@ -7,7 +7,7 @@ use super::{DeviceFault, Input, Output};
 use std::io::{Read, Write};
 
 /// The bytes of a reader. An error of the reader becomes a `DeviceFault`, without its reason; after
-/// one, the reader isn't read any more.
+/// an error, the reader isn't read any more.
 #[derive(Drop)]
 pub struct ReaderInput<R> {
     reader: R,

@@ -37,8 +37,8 @@ pub struct FrameSegments<'a> {
     ghost sized: { size ≡ table_size count + 8 * words_told count table.now },
 }
 
-/// The number of words before every 32nd segment, and the number of all words, by the `count` sizes
-/// in `table`.
+/// From the `count` sizes in `table`: the number of words before every 32nd segment, and the number
+/// of all words.
 fn starts_of(table: &[u8], count: usize) -> ([u64; STARTS], u64)
     requires inside { 4 * count ≤ length table.now }
     requires few { count ≤ 512 }

@@ -46,7 +46,7 @@ impl OwnedSegments {
         self.ends.as_slice()[id]
     }
 
-    /// The number of words before segment `id`, or in all segments.
+    /// The number of words before segment `id`; in all segments, if `id` is their number.
     fn words_before(&self, id: usize) -> usize
         requires { id ≤ self.now.count }
         ensures { result ≡ words_told id self.now.table.items }

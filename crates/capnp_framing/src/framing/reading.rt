@@ -17,7 +17,7 @@ use capnp_arena::arena::{Allocator, HeapAllocator, ReaderSegments};
 use std::alloc::{AllocError, Global};
 
 /// The most bytes that memory grows by before bytes arrive to fill it. A table may announce more
-/// words than follow it, so it isn't trusted further.
+/// words than follow it, so the table isn't trusted further.
 const PIECE: usize = 1 << 18;
 
 /// Reads until `to` is full or the input ends, and returns the number of bytes read.
@@ -42,8 +42,8 @@ pub(super) fn read_up_to<R: Input>(input: &mut R, to: &mut [u8]) -> Result<usize
     Ok(n)
 }
 
-/// If `to` has no bytes after the first `n`, grows it by some, at most `more`. Takes memory from
-/// the heap; asks the allocator only if the heap refuses.
+/// If `to` has no bytes after the first `n`, grows `to` by some bytes, at most `more`. Takes memory
+/// from the heap; asks the allocator only if the heap refuses.
 pub(super) fn make_room<A: Allocator>(
     allocator: &mut A,
     to: &mut Vec<u8>,
@@ -189,7 +189,7 @@ pub(super) fn words_between(table: &[u8], first: usize, end: usize) -> u64
 }
 
 /// For each of the `count` segments with sizes in `table`, stores in `ends` the number of words up
-/// to its end. Returns the number of all words.
+/// to the segment's end. Returns the number of all words.
 fn ends_of<A: Allocator>(
     allocator: &mut A,
     table: &[u8],
@@ -250,22 +250,23 @@ fn read_count<R: Input>(input: &mut R, first: &mut [u8; 4]) -> Result<Option<usi
 }
 
 /// Reads a message from the front of `input` into `into`, whose memory is reused, and leaves what
-/// follows it unread. Returns `false` if the input is at its end; `into` has no segments then.
+/// follows the message unread. Returns `false` if the input is at its end; `into` has no segments
+/// then.
 ///
 /// Refusals, in this order: `Truncated` if there are fewer than four bytes; `TooManySegments`, with
 /// their number, if there are more than 512; `Truncated` if the table is cut short, padding
 /// included; `MessageTooLong`, with the number of words, if there are more than `max_words`;
-/// `Truncated` if the words are cut short. Also `ReadFailed` if the input failed, which then is the
-/// only refusal; and `AllocationFailed` if memory ran out.
+/// `Truncated` if the words are cut short. Also `ReadFailed` exactly if the input failed; and
+/// `AllocationFailed` if memory ran out.
 ///
 /// What has been read after a refusal: for `TooManySegments`, the four bytes of the number; for
-/// `MessageTooLong`, the table; for `Truncated`, all of the input; otherwise this is unspecified.
-/// Which segments `into` has after a refusal is unspecified, too.
+/// `MessageTooLong`, the table; for `Truncated`, all of the input; for all other refusals, this is
+/// unspecified. Which segments `into` has after a refusal is unspecified, too.
 ///
 /// The memory taken grows with the bytes that arrive, not with those that the table announces.
-/// Takes none for a message with no more segments and words than one read before. The memory comes
-/// from the heap; the allocator is asked only if the heap refuses. The allocator's `refused` grows
-/// by 1 for an `AllocationFailed`, and otherwise not.
+/// Takes memory only for a message with more segments or more words than each read into `into`
+/// before. The memory comes from the heap; the allocator is asked only if the heap refuses. The
+/// allocator's `refused` grows by 1 for an `AllocationFailed`, and otherwise not.
 pub fn read_into_with<A: Allocator, R: Input>(
     allocator: &mut A,
     input: &mut R,
@@ -326,8 +327,8 @@ pub fn read_into<R: Input>(
     read_into_with(&mut heap, input, max_words, into)
 }
 
-/// Reads a message from the front of `input`, and leaves what follows it unread. Returns `None` if
-/// the input is at its end.
+/// Reads a message from the front of `input`, and leaves what follows the message unread. Returns
+/// `None` if the input is at its end.
 ///
 /// Refuses what `read_into` refuses, and has then read as much of the input as `read_into` would.
 pub fn read<R: Input>(

@@ -22,7 +22,7 @@ const MAX_WORDS: u64 = (1 << 32) - 1;
 /// bytes as have arrived.
 const FIRST_PIECE: usize = 1 << 12;
 
-/// Reads to the front of `to`, which grows as bytes arrive, until there are `most` bytes or the
+/// Reads to the front of `to`, which grows as bytes arrive, until `most` bytes are read or the
 /// input ends. Returns the number of bytes read.
 fn read_to_end<A: Allocator, R: Input>(
     allocator: &mut A,
@@ -59,8 +59,8 @@ fn read_to_end<A: Allocator, R: Input>(
     Ok(n)
 }
 
-/// Appends `bytes` to `list`. If there is no memory for one, refuses with `AllocationFailed`, which
-/// the allocator counts.
+/// Appends `bytes` to `list`. If there is no memory for a byte, refuses with `AllocationFailed`,
+/// which the allocator counts.
 fn keep_bytes<A: Allocator>(
     allocator: &mut A,
     list: &mut Vec<u8>,
@@ -77,8 +77,8 @@ fn keep_bytes<A: Allocator>(
     Ok(())
 }
 
-/// Stores the table of a message with one segment of `words` words in `table`, and where that
-/// segment ends in `ends`.
+/// For a message whose only segment has `words` words, stores the table in `table`, and the
+/// segment's end in `ends`.
 fn tell_only<A: Allocator>(
     allocator: &mut A,
     words: u32,
@@ -103,14 +103,15 @@ fn tell_only<A: Allocator>(
 /// reused. From an input without bytes, reads a segment of no words.
 ///
 /// Refusals: `MessageTooLong` if there are more than `max_words` words, or more than 2^32 - 1, the
-/// most that a segment can have; it carries the number of the first word too many, counted from 1,
-/// and no word after that one is read. `Truncated` if the bytes end inside a word. `ReadFailed` if
-/// the input failed, which then is the only refusal. `AllocationFailed` if memory ran out. After a
-/// refusal `into` has no segments.
+/// most that a segment can have. It carries the number of the first word too many, counted from 1;
+/// no word after that one is read. `Truncated` if the bytes end inside a word. `ReadFailed` exactly
+/// if the input failed. `AllocationFailed` if memory ran out. After a refusal `into` has no
+/// segments.
 ///
-/// The memory taken grows with the bytes that arrive, to at most twice as many, or 4 KiB. Takes
-/// none for a message with no more words than one that this call read before. The allocator's
-/// `refused` grows by 1 for an `AllocationFailed`, and otherwise not.
+/// The memory taken grows with the bytes that arrive, to at most twice as many bytes, or 4 KiB if
+/// that is more. Takes memory only for a message with more words than each that this call read into
+/// `into` before. The allocator's `refused` grows by 1 for an `AllocationFailed`, and otherwise
+/// not.
 pub fn read_segment_into_with<A: Allocator, R: Input>(
     allocator: &mut A,
     input: &mut R,

@@ -37,7 +37,7 @@ fn put_number(to: &mut [u8], at: usize, number: u32)
     to[at..at + 4].copy_from_slice(number.to_le_bytes().as_slice());
 }
 
-/// The bytes of `first` and then `second`, the lowest first.
+/// The bytes of `first`, then those of `second`; the lowest byte of each number comes first.
 fn two_numbers(first: u32, second: u32) -> [u8; 8]
     ensures { result ≡ to_le_bytes w32 first ++ to_le_bytes w32 second }
 {
@@ -114,8 +114,8 @@ fn write_contents<W: Output, S: ReaderSegments>(
 /// words of each segment. Bytes after a segment's last whole word aren't written. Takes no memory.
 ///
 /// Refusals: `NoSegments` if there are no segments; `TooManySegments`, with their number, if there
-/// are more than 512. After these, nothing is written. `WriteFailed` if the output failed; how much
-/// is written then is unspecified.
+/// are more than 512. After these two refusals, nothing is written. `WriteFailed` if the output
+/// failed; after it, how much is written is unspecified.
 pub fn write<W: Output, S: ReaderSegments>(output: &mut W, segments: &S) -> Result<(), FrameError>
     requires works { W.has_failed output.old ≡ false }
     requires small { IsSmall (S.segments segments.now) }

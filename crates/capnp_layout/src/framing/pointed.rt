@@ -32,8 +32,8 @@ use capnp_words::error::ErrorKind;
 use capnp_words::read_limiter::ReadLimiter;
 use std::alloc::Global;
 
-/// Returns a reader of the message's root and charges `lim` for its word, like
-/// `PointerReader::get_root_from_arena`, for any type that holds the segments.
+/// Returns a reader of a message's root pointer, and charges `lim` the pointer's word. Like
+/// `PointerReader::get_root_from_arena`, but any type may hold the segments.
 ///
 /// Refusals, which charge nothing: `InvalidSegmentId(0)` if there are no segments;
 /// `MessageContainsOutOfBoundsPointer` if the first segment has no word; `ReadLimitExceeded` if
@@ -55,16 +55,16 @@ pub fn read_root<'a, S: ReaderSegments>(
     Ok(PointerReader::of_pointer(messages::read_root(arena, lim)?))
 }
 
-/// Copies the value of `from` in canonical form into a message of one segment (encoding
-/// specification, "Canonicalization"), which `allocator` grants. If refused, returns the allocator,
-/// and leaves `lim` unchanged.
+/// Copies the value of `from` in canonical form (encoding specification, "Canonicalization") into a
+/// message of one segment, which `allocator` grants. If refused, returns the allocator, and leaves
+/// `lim` unchanged.
 ///
-/// Finds the size of the segment by tries. The first try requests as many words as the source
-/// message has, plus one, and each further try twice as many as the one before. However many tries
+/// Finds the size of the segment by tries. The first try requests one word more than the source
+/// message has, and each further try twice as many words as the try before. However many tries
 /// there are, `lim` is charged for one copy, and counts each non-null pointer once.
 ///
-/// Refusals: the first one of reading `from`; `MessageTooLarge(536870911)` if the copy has more
-/// than 536,870,911 words; `AllocationFailed` if memory ran out (the allocator counts that).
+/// Refusals: the first one met while reading `from`; `MessageTooLarge(536870911)` if the copy has
+/// more than 536,870,911 words; `AllocationFailed`, which the allocator counts, if memory ran out.
 pub fn copy_canonical_with<A: Allocator, B: ReaderArena>(
     alloc: Global,
     allocator: A,
@@ -104,16 +104,16 @@ pub fn copy_canonical<B: ReaderArena>(
     messages::copy_canonical(alloc, from.pointer(), lim)
 }
 
-/// Writes the value of `from` as the frame of a canonical message: one segment with its canonical
-/// words.
+/// Writes the value of `from` as the frame of a canonical message: one segment with the value's
+/// canonical words.
 ///
-/// Copies the value first, like `copy_canonical`. However many tries that takes, `lim` is charged
-/// for one copy, and counts each non-null pointer once.
+/// Copies the value first, like `copy_canonical`. `lim` is charged for one copy, and counts each
+/// non-null pointer once, even if a segment was too small and the copy was made again.
 ///
 /// Refusals: `Layout` if the value can't be copied, with `MessageTooLarge(536870911)` inside if the
-/// copy has more than 536,870,911 words; then nothing is written, and `lim` is unchanged. `Frame`
-/// if the output fails; then `lim` is charged for the copy, and how much the output took is
-/// unspecified.
+/// copy has more than 536,870,911 words. After `Layout`, nothing is written, and `lim` is
+/// unchanged. `Frame` if the output fails. After `Frame`, `lim` is charged for the copy, and how
+/// much the output took is unspecified.
 pub fn write_canonical<W: Output, B: ReaderArena>(
     alloc: Global,
     output: &mut W,

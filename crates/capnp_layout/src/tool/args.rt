@@ -32,8 +32,9 @@ pub enum Args {
     FramedCheck(ReaderOptions),
 }
 
-/// Parses the arguments after the program's name: `frame`, `unframe`, or `canon NESTING BUDGET` and
-/// likewise `check`, `size`, `framed-canon` and `framed-check`. Returns `None` for anything else.
+/// Parses the arguments after the program's name: `frame`, `unframe`, or `canon NESTING BUDGET`,
+/// where `check`, `size`, `framed-canon` or `framed-check` can replace `canon`. Returns `None` for
+/// anything else.
 ///
 /// NESTING is the nesting limit, an `i32` in decimal digits with an optional `-`. BUDGET is the
 /// traversal limit in words, a `u64` in decimal digits, or `none`.

@@ -61,7 +61,7 @@ fn read_message<A: Allocator, R: Input>(
     read_lines(alloc, allocator, text.as_slice())
 }
 
-/// Returns `outcome` if the text was written, otherwise the output's failure.
+/// Returns `outcome` if the text was written, and `WriteFailed` if the output failed.
 pub(super) fn ended(written: Result<(), DeviceFault>, outcome: Outcome) -> Outcome
     ensures written { OnOk written (result ≡ outcome) }
     ensures failed { OnErr written (result ≡ Outcome.WriteFailed) }
@@ -167,8 +167,8 @@ fn respond<A: Allocator, W: Output>(
 }
 
 /// Reads lines from an input, and writes the answer to a command, or a line with `refused` and the
-/// name of the refusal. The allocator grants the segments of copies, and appends what is read to
-/// lists with `keep`.
+/// name of the refusal. `allocator` grants the segments of copies. Its `keep` appends what is read
+/// to lists.
 ///
 /// The answers are, by command:
 ///
@@ -179,7 +179,7 @@ fn respond<A: Allocator, W: Output>(
 /// - `Size`: `words N caps M`, the numbers of words and capabilities that the root leads to,
 ///   without landing pads, in decimal digits.
 /// - `Frame`: the frame of the message as hex digits.
-/// - `FramedCanon`: the frame of its canonical words.
+/// - `FramedCanon`: the frame of the message's canonical words as hex digits.
 /// - `Unframe`: a line for each segment of the message in the frame at the start of the only line.
 /// - `FramedCheck`: `canonical message` or `not a canonical message`.
 ///
@@ -233,32 +233,33 @@ pub fn run_with<A: Allocator, R: Input, W: Output>(
 /// Reads lines from an input, and writes the answer to a command, or a line with `refused` and the
 /// name of the refusal.
 ///
-/// A line of the input is a segment, in pairs of hex digits in either case. Without bytes there are
-/// no segments. The root pointer costs one word of the traversal limit. The answers are, by
+/// A line of the input is a segment, in pairs of hex digits in either case. An input without bytes
+/// has no segments. The root pointer costs one word of the traversal limit. The answers are, by
 /// command:
 ///
 /// - `Canon`: the canonical words of the message's value as lower case hex digits, each word's
 ///   lowest byte first ("Canonicalization").
 /// - `Check`: `canonical` if the canonical words of a value are at the root, with the first object
-///   right after the root pointer, otherwise `not canonical`. Ignores words after these and other
-///   segments.
+///   right after the root pointer, otherwise `not canonical`. Ignores other segments, and words
+///   after the canonical ones.
 /// - `Size`: `words N caps M`, the numbers of words and capabilities that the root leads to,
 ///   without landing pads, in decimal digits ("Structs", "Lists").
 /// - `Frame`: the frame of the message as hex digits ("Serialization Over a Stream"). Refusals:
 ///   `NoSegments` if there are no segments, `TooManySegments` if there are more than 512.
 /// - `FramedCanon`: the frame of the canonical words, in one segment. Refuses like `Canon`.
 /// - `Unframe`: a line for each segment of the message in the frame at the start of the only line.
-/// - `FramedCheck`: `canonical message` if that message is the canonical words of a value and
-///   nothing else, otherwise `not a canonical message`.
+/// - `FramedCheck`: `canonical message` if the message in the frame at the start of the only line
+///   is the canonical words of a value and nothing else, otherwise `not a canonical message`.
 ///
-/// `Unframe` and `FramedCheck` take one line, and a message of at most 8,388,608 words: more than
-/// one line is `BadInput`; no line and an empty one are refused with `NoMessage`; a line that
+/// `Unframe` and `FramedCheck` take one line, and a message of at most 8,388,608 words. More than
+/// one line is `BadInput`. No line, or an empty line, is refused with `NoMessage`. A line that
 /// doesn't begin with a frame is refused like an input of `framing::read`.
 ///
 /// If a read fails, the outcome is always `BadInput`. The refusal `AllocationFailed` means that
-/// memory ran out. `MessageTooLarge` means more segments or words than a reader takes, more
-/// canonical words than the 536,870,911 of a segment, or a size whose words don't fit 64 bits or
-/// whose capabilities don't fit 32.
+/// memory ran out. `MessageTooLarge` means one of these: more segments or words than a reader
+/// takes; more than 536,870,911 canonical words, the most in a segment; a number of words that
+/// doesn't fit 64 bits, or a number of capabilities that doesn't fit 32 bits, as the answer to
+/// `Size`.
 pub fn run<R: Input, W: Output>(
     alloc: Global,
     args: &Args,

@@ -18,7 +18,7 @@ use capnp_framing::framing::{FrameError, FrameSegments, MAX_SEGMENTS, read_from_
 use capnp_messages::messages::is_canonical;
 use capnp_words::error::ErrorKind;
 
-/// The most words of a message whose frame is read.
+/// The most words that a message read from a frame may have.
 const MAX_FRAME_WORDS: u64 = 8_388_608;
 
 /// The message in the frame at the start of the only line.
@@ -54,7 +54,7 @@ fn is_canonical_frame(lines: &Message, options: ReaderOptions) -> Result<bool, R
     }
 }
 
-/// The number of segments of `source`; a refusal if it can't be framed.
+/// The number of segments of `source`; a refusal if `source` can't be framed.
 fn count_of(source: &Message) -> Result<usize, Refusal>
     ensures small { OnOk result (IsSmall (segments_in source.now)) }
     ensures answered { OnOk result (HasAnswer (segments_in source.now) Args.Frame) }
@@ -85,8 +85,8 @@ pub(crate) fn frame<W: Output>(source: Message, output: &mut W) -> Outcome
     }
 }
 
-/// Writes a line for each segment of the message in the frame at the start of the only line, or the
-/// line of the refusal. More than one line is `BadInput`.
+/// Reads the frame at the start of the only line, and writes a line for each segment of its
+/// message, or the line of the refusal. More than one line is `BadInput`.
 pub(crate) fn unframe<W: Output>(lines: Message, output: &mut W) -> Outcome
     requires { W.has_failed output.old ≡ false }
     ensures { Responds W.Output output.old output.new
@@ -101,8 +101,8 @@ pub(crate) fn unframe<W: Output>(lines: Message, output: &mut W) -> Outcome
     }
 }
 
-/// Writes the line that says whether the message in the frame at the start of the only line is
-/// canonical as a whole, or the line of the refusal. More than one line is `BadInput`.
+/// Reads the frame at the start of the only line, and writes the line that says whether its message
+/// is canonical as a whole, or the line of the refusal. More than one line is `BadInput`.
 pub(crate) fn framed_check<W: Output>(
     lines: Message,
     options: ReaderOptions,

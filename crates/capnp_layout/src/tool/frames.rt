@@ -55,7 +55,7 @@ fn write_lengths<W: Output, S: ReaderSegments>(
     Ok(())
 }
 
-/// Writes the padding after `count` sizes, which is zero.
+/// Writes the padding after `count` sizes, all zero bytes.
 fn write_padding<W: Output>(output: &mut W, count: u32) -> Result<(), DeviceFault>
     requires works { W.has_failed output.old ≡ false }
     requires few { count ≤ max_frame_segments }
@@ -84,7 +84,7 @@ fn write_contents<W: Output, S: ReaderSegments>(
     Ok(())
 }
 
-/// Writes the frame of a message as one line of hex digits. Its padding is zero.
+/// Writes the frame of a message as one line of hex digits. The frame's padding is zero.
 pub(crate) fn write_frame<W: Output, S: ReaderSegments>(
     output: &mut W,
     segments: &S,

@@ -7,8 +7,8 @@ ghost use Rattle.capnp_layout.specs.Messages.{segments_in};
 use super::lines::Message;
 use capnp_words::error::ErrorKind;
 
-/// Tests whether a message is within the limits of a reader. Refuses one beyond them with
-/// `MessageTooLarge`.
+/// Tests whether a message is within the limits of a reader. Refuses with `MessageTooLarge` if it
+/// isn't.
 pub(crate) fn within_limits(source: &Message) -> Result<(), ErrorKind>
     ensures small { IsOk result ↔ IsSmall (segments_in source.now) }
     ensures named { IfErr result (λ k. k ≡ MessageTooLarge (2 ^ 64 - 1)) }

@@ -64,7 +64,7 @@ impl ReaderSegments for Message {
     }
 }
 
-/// Appends `bytes` to `list`. Stops with `NoMemory` if the allocator refuses memory for one.
+/// Appends `bytes` to `list`. Stops with `NoMemory` if the allocator refuses memory for a byte.
 pub(crate) fn keep_bytes<A: Allocator>(
     allocator: &mut A,
     list: &mut Vec<u8>,

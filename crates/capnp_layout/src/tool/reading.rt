@@ -8,8 +8,8 @@ use capnp_arena::arena::Allocator;
 use std::alloc::Global;
 
 /// Reads all bytes that an input still has. Refusals, which lose the bytes read so far: `BadInput`
-/// if a read failed; `NoMemory` if the allocator refused, which it has counted. The list of bytes
-/// is made over `alloc`, and grows by `Allocator::keep`, so `allocator` may refuse any byte.
+/// if a read failed; `NoMemory` if `allocator` refused a byte, and counted the refusal. The list of
+/// bytes is made over `alloc`, and grows by `Allocator::keep`, so `allocator` may refuse any byte.
 pub(crate) fn read_text<A: Allocator, R: Input>(
     alloc: Global,
     allocator: &mut A,

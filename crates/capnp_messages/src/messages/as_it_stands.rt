@@ -17,9 +17,9 @@ use capnp_arena::arena::{
 };
 use capnp_words::read_limiter::ReadLimiter;
 
-/// Returns the bytes of the only segment of a message that is canonical as a whole: the canonical
-/// words of its value. `None` if the message isn't canonical, if `limits` don't allow the test, or
-/// if it has more than 536,870,911 words, the most that a copy can have. Takes no memory.
+/// If a message is canonical as a whole, returns the bytes of its only segment: the canonical words
+/// of its value. `None` if the message isn't canonical, if `limits` don't allow the test, or if the
+/// message has more than 536,870,911 words, the most that a copy can have. Takes no memory.
 pub fn canonical_segment<S: ReaderSegments>(
     source: &ReaderArenaImpl<S>,
     limits: ReaderOptions,

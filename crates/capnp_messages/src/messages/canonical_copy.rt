@@ -1,8 +1,8 @@
 //! A copy in canonical form (encoding specification, "Canonicalization"), in one segment, whose
-//! size is found by tries. The first try requests as many words as the source message has, plus
-//! one; each further try requests twice as many as the one before. So all tries together take no
-//! longer than twice the last one. During a try the message has no allocator, so the copy can't get
-//! a second segment.
+//! size is found by tries. The first try requests one word more than the source message has; each
+//! further try requests twice as many words as the try before. So all tries together take no longer
+//! than twice the last try. During a try the message has no allocator, so the copy can't get a
+//! second segment.
 ghost use Rattle.std.specs.Prelude.{◌≡◌, ◌⊎◌, ◌<◌, ◌≤◌, ◌+◌, ◌*◌, ◌++◌, ◌∷◌, [], false, length, min, ℕ, IsTrue, OnOk, IfOk, OnErr, IfErr};
 ghost use Rattle.std.specs.Bool.{OnFalse, OnTrue};
 ghost use Rattle.capnp_format.specs.Canonical.{trim, encoding};
@@ -39,10 +39,10 @@ fn is_want_of_room(kind: ErrorKind) -> bool
     )
 }
 
-/// Copies the value of `from` in canonical form to the root of a message whose only word is that
-/// root, which is null. Words that don't fit after the root go into further segments if the
-/// allocator grants any; otherwise the copy is refused. Returns the limiter that the copy was
-/// charged to, which had `left` words at first.
+/// Copies the value of `from` in canonical form to the root of a message whose only word is the
+/// root, a null pointer. Words that don't fit after the root go into further segments if the
+/// allocator grants any; otherwise the copy is refused. Charges the copy to a new limiter with
+/// `left` words left, and returns this limiter.
 fn copy_root<A: BuilderArena, B: ReaderArena>(
     arena: &mut A,
     from: Pointer<'_, B>,
@@ -100,8 +100,8 @@ fn copy_to_segment<A: Allocator, B: ReaderArena>(
     }
 }
 
-/// For `made` without segments: allocates a segment with room for at least `room` words, and in it
-/// the first word, which is the root and null.
+/// Allocates a segment with room for at least `room` words in `made`, which has no segment yet.
+/// Allocates the segment's first word: the root, a null pointer.
 fn make_root<A: Allocator>(made: &mut BuilderArenaImpl<A>, room: u32) -> Result<(), ErrorKind>
     requires none { ⟦<BuilderArenaImpl<A> as ReaderArena>⟧.segments made.old ≡ [] }
     requires room { IsSegmentRoom room }
@@ -135,9 +135,9 @@ fn count_pointers(lim: &mut ReadLimiter, pointers: u64)
     }
 }
 
-/// Charges `lim` for what a copy was charged on `own`, and counts the pointers that it followed.
-/// Before the copy, `own` had as many words left as `lim`, and no pointer followed. If `lim` has no
-/// pointer followed either, replaces `lim` by `own`, which has the same result.
+/// Charges `lim` what a copy has charged to `own`, and counts the pointers that the copy followed.
+/// Before the copy, `own` had as many words left as `lim`, and had counted no pointers. If `lim`
+/// has counted no pointers either, replaces `lim` by `own`, which has the same result.
 fn settle(lim: &mut ReadLimiter, own: ReadLimiter)
     requires { IsLeftOf own.left lim.old.left }
     ensures left { lim.new.left ≡ own.left }
@@ -201,7 +201,7 @@ fn is_too_large(kind: ErrorKind) -> bool
     matches!(kind, ErrorKind::MessageTooLarge(_))
 }
 
-/// The room of the first try: the words of the source plus one, but at most 536,870,911.
+/// The room of the first try: one word more than the source has, but at most 536,870,911 words.
 fn first_room(words: usize) -> u32
     ensures first { result ≡ room_of_try words 0 }
     ensures can_be_asked { IsSegmentRoom result }
@@ -213,7 +213,7 @@ fn first_room(words: usize) -> u32
     }
 }
 
-/// The room of the try after one with `room`: twice as much, but at most 536,870,911.
+/// The room of the try after a try with `room` words: twice as many, but at most 536,870,911.
 fn next_room(room: u32) -> u32
     requires { room ≤ max_segment_words }
     ensures { result ≡ min (2 * room) max_segment_words }
@@ -221,7 +221,7 @@ fn next_room(room: u32) -> u32
     (2 * room).min(MAX_SEGMENT_WORDS)
 }
 
-/// The number of words in the arena of `from`; 0 if it has none.
+/// The number of words in the arena of `from`; 0 if `from` has no arena.
 fn words_of_source<B: ReaderArena>(from: &Pointer<'_, B>) -> usize
     ensures { result ≡ words_read (reading B.ReaderArena from.now) }
 {
@@ -232,7 +232,8 @@ fn words_of_source<B: ReaderArena>(from: &Pointer<'_, B>) -> usize
 }
 
 /// Copies the value of `from` in canonical form into `made`, which has no segment yet, in one
-/// segment of `room` words. Returns `false` if that is too small, or there is no memory for it.
+/// segment of `room` words. Returns `false` if the segment is too small for the copy, or there is
+/// no memory for the segment.
 pub(super) fn copy_in_room<A: Allocator, B: ReaderArena>(
     made: &mut BuilderArenaImpl<A>,
     from: Pointer<'_, B>,
@@ -269,16 +270,16 @@ pub(super) fn copy_in_room<A: Allocator, B: ReaderArena>(
     }
 }
 
-/// Copies the value of `from` in canonical form into a message of one segment (encoding
-/// specification, "Canonicalization"), which `allocator` grants. If refused, returns the allocator,
-/// and leaves `lim` unchanged.
+/// Copies the value of `from` in canonical form (encoding specification, "Canonicalization") into a
+/// message of one segment, which `allocator` grants. If refused, returns the allocator, and leaves
+/// `lim` unchanged.
 ///
-/// Finds the size of the segment by tries. The first try requests as many words as the source
-/// message has, plus one, and each further try twice as many as the one before. However many tries
+/// Finds the size of the segment by tries. The first try requests one word more than the source
+/// message has, and each further try twice as many words as the try before. However many tries
 /// there are, `lim` is charged for one copy, and counts each non-null pointer once.
 ///
-/// Refusals: the first one of reading `from`; `MessageTooLarge(536870911)` if the copy has more
-/// than 536,870,911 words; `AllocationFailed` if memory ran out (the allocator counts that).
+/// Refusals: the first one met while reading `from`; `MessageTooLarge(536870911)` if the copy has
+/// more than 536,870,911 words; `AllocationFailed`, which the allocator counts, if memory ran out.
 pub fn copy_canonical_with<A: Allocator, B: ReaderArena>(
     alloc: Global,
     allocator: A,

@@ -18,7 +18,7 @@ pub enum CanonicalError {
 }
 
 impl CanonicalError {
-    /// The name of the refusal that this one carries.
+    /// The name of the refusal that `self` carries.
     pub fn name(&self) -> &'static str
         ensures layout { (k : ErrorKind) → self.now ≡ CanonicalError.Layout k
             → result.now ≡ name_of k }

@@ -5,7 +5,7 @@
 pub enum Form {
     /// As a frame of one segment (encoding specification, "Serialization Over a Stream").
     Framed,
-    /// As raw words: its words, without a frame.
+    /// As raw words, without a frame.
     Flat,
 }
 

@@ -11,12 +11,12 @@ use std::mem;
 /// processor's cache until they are written.
 const PIECE: usize = 64 * 1024;
 
-/// A segment on the heap, whose memory can be reused. Reserves all of it at once, and zeroes it as
-/// words are allocated, 64 KiB or more at a time. Never touches the memory after the bytes that it
-/// has zeroed.
+/// A segment on the heap, whose memory can be reused. Reserves all its memory at once, and zeroes
+/// the memory as words are allocated, 64 KiB or more at a time. Never touches the memory after the
+/// zeroed bytes.
 #[derive(Drop)]
 pub struct CopySegment {
-    /// The bytes that are ready, with capacity for the others.
+    /// The bytes that are ready, with capacity for the `unready` ones.
     bytes: Vec<u8>,
     /// The number of further bytes, not ready yet.
     unready: usize,
@@ -91,7 +91,7 @@ impl Segment for CopySegment {
 
 /// Allocates segments on the heap, each of the requested size. Keeps the memory of the segment that
 /// was deallocated last, and uses it for the next segment. So a message of one segment that fits
-/// there allocates nothing.
+/// the kept memory allocates nothing.
 #[derive(Drop)]
 pub struct CopyMemory {
     alloc: Global,

@@ -9,15 +9,16 @@ ghost use Rattle.capnp_format.specs.Canonical.{charge};
 ghost use Rattle.capnp_framing.specs.Frames.{CanBeFramed, frame};
 ghost use Rattle.capnp_messages.specs.CanonicalMessages.{IsCanonicalOf};
 
-/// A message is the canonical form of at most one value. Its root means that value, under any
-/// nesting limit that is at least the value's depth, and reading it has the value's least cost.
+/// A message is the canonical form of at most one value. The root of a canonical message means this
+/// value under any nesting limit that is at least the value's depth. Reading the root has the
+/// value's least cost.
 pub fn canonical_message()
     ensures value { (S : Segments) (t u : Tree) → IsCanonicalOf S t → IsCanonicalOf S u → t ≡ u }
     ensures means { (S : Segments) (t : Tree) (n : ℕ) → IsCanonicalOf S t → depth t ≤ n
         → Means S n 0 0 t (charge t) }
 {}
 
-/// The frames of two canonical messages are equal exactly if their values are.
+/// The frames of two canonical messages are equal exactly if the messages' values are.
 pub fn canonical_frames()
     ensures { (S R : Segments) (t u : Tree) → CanBeFramed S → CanBeFramed R
         → IsCanonicalOf S t → IsCanonicalOf R u → (frame S ≡ frame R) ↔ (t ≡ u) }

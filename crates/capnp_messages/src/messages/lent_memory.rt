@@ -48,10 +48,10 @@ impl<'a> LentZeros<'a> {
     }
 }
 
-/// An allocator that grants one segment, in lent memory and of exactly the requested size. Refuses
-/// a request that the memory is too small for, and may still grant a smaller one afterwards. After
-/// it has granted a segment, refuses every request. Only `keep` takes other memory, from the heap,
-/// for its list.
+/// An allocator that grants one segment of exactly the requested size, in lent memory. Refuses a
+/// request that the memory is too small for, and may still grant a smaller request afterwards.
+/// Refuses every request after it has granted a segment. Only `keep` takes other memory: for its
+/// list, from the heap.
 #[derive(Drop)]
 pub struct LentMemory<'a> {
     memory: Option<LentZeros<'a>>,
@@ -72,8 +72,8 @@ impl<'a> LentMemory<'a> {
         }
     }
 
-    /// Lends the first `words` words, if there are as many and none were lent yet. Otherwise
-    /// returns `None`, and changes nothing.
+    /// Lends the first `words` words, if the memory has that many and none of it was lent yet.
+    /// Otherwise returns `None`, and changes nothing.
     fn lend(&mut self, words: u32) -> Option<&'a mut [u8]>
         ensures lent { IfSome self.old.memory (λ bytes. 8 * words ≤ bytes → IsSome result) }
         ensures fresh { IfSome result (λ s. s.now ≡ zeros words) }

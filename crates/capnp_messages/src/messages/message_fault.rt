@@ -35,8 +35,8 @@ fn segment_count_fault<A: ReaderArena>(arena: &A) -> Option<CanonicalFault>
 /// Returns where and why a message isn't canonical as a whole, or `None` if it is. Reads, charges
 /// and refuses like `is_canonical_message`.
 ///
-/// Returns the first fault of these: a number of segments other than 1; the fault of
-/// `PointerReader::canonical_fault` at the root; words after the value. The reason of the fault is
+/// Returns the first fault of these: a number of segments other than 1; the fault that
+/// `PointerReader::canonical_fault` finds at the root; words after the value. The fault's reason is
 /// true of the word that the fault names.
 pub fn canonical_fault<S: ReaderSegments>(
     arena: &ReaderArenaImpl<S>,

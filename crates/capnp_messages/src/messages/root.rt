@@ -11,8 +11,8 @@ use capnp_pointers::pointers::Pointer;
 use capnp_words::error::ErrorKind;
 use capnp_words::read_limiter::ReadLimiter;
 
-/// Returns a reader of the message's root and charges `lim` for its word, like
-/// `Pointer::get_root_from_arena`, for any type that holds the segments.
+/// Returns the root pointer of a message, and charges `lim` the pointer's word. Like
+/// `Pointer::get_root_from_arena`, but any type may hold the segments.
 ///
 /// Refusals, which charge nothing: `InvalidSegmentId(0)` if there are no segments;
 /// `MessageContainsOutOfBoundsPointer` if the first segment has no word; `ReadLimitExceeded` if

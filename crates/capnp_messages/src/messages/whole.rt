@@ -50,8 +50,8 @@ pub fn canonical_from<A: Allocator, S: ReaderSegments>(
 }
 
 /// Copies a message in canonical form into `made`, which has no segment yet, in one segment of
-/// `room` words. Returns `false` if that is too small, or there is no memory for it;
-/// `canonical_from` finds a size that is large enough.
+/// `room` words. Returns `false` if the segment is too small for the copy, or there is no memory
+/// for the segment; `canonical_from` finds a size that is large enough.
 pub fn canonical_in_room<A: Allocator, S: ReaderSegments>(
     made: &mut BuilderArenaImpl<A>,
     room: u32,
@@ -83,8 +83,8 @@ pub fn canonical_in_room<A: Allocator, S: ReaderSegments>(
 /// one segment, whose memory `allocator` grants. If refused, returns the allocator.
 ///
 /// Reads the value from the root on, within `limits`; the root pointer costs one word. Refusals:
-/// the first one of reading; `AllocationFailed` if memory ran out (the allocator counts that);
-/// `MessageTooLarge(536870911)` if there are more than 536,870,911 canonical words.
+/// the first one met while reading; `AllocationFailed`, which the allocator counts, if memory ran
+/// out; `MessageTooLarge(536870911)` if there are more than 536,870,911 canonical words.
 pub fn canonical_with<A: Allocator, S: ReaderSegments + Drop>(
     alloc: Global,
     allocator: A,
@@ -112,8 +112,8 @@ pub fn canonical_with<A: Allocator, S: ReaderSegments + Drop>(
 /// specification, "Canonicalization"). Takes no memory.
 ///
 /// Returns the first fault found, like `canonical_fault`. Reads a message of one segment within
-/// `limits`, and may refuse it. Never refuses a message of another number of segments: its fault is
-/// `SegmentCount`. If there is no fault, the value is within both limits.
+/// `limits`, and may refuse it. Never refuses a message with any other number of segments, whose
+/// fault is `SegmentCount`. If there is no fault, the value is within `limits`.
 pub fn canonical_fault_of<S: ReaderSegments + Drop>(
     segments: S,
     limits: ReaderOptions,

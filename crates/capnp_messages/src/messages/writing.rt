@@ -97,16 +97,16 @@ pub fn write_copy<W: Output, A: Allocator>(
     }
 }
 
-/// Writes the value of `from` as the frame of a canonical message: one segment with its canonical
-/// words.
+/// Writes the value of `from` as the frame of a canonical message: one segment with the value's
+/// canonical words.
 ///
 /// Copies the value first, like `copy_canonical`. `lim` is charged for one copy, and counts each
 /// non-null pointer once, even if a segment was too small and the copy was made again.
 ///
-/// Refusals: `Layout` if the value can't be copied; then nothing is written, and `lim` is
-/// unchanged. Inside is `MessageTooLarge(536870911)` if the copy has more than 536,870,911 words.
-/// `Frame` if the output fails; then `lim` is charged for the copy, and how much the output took is
-/// unspecified.
+/// Refusals: `Layout` if the value can't be copied, with `MessageTooLarge(536870911)` inside if the
+/// copy has more than 536,870,911 words. After `Layout`, nothing is written, and `lim` is
+/// unchanged. `Frame` if the output fails. After `Frame`, `lim` is charged for the copy, and how
+/// much the output took is unspecified.
 pub fn write_canonical<W: Output, B: ReaderArena>(
     alloc: Global,
     output: &mut W,

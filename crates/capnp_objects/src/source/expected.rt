@@ -22,18 +22,18 @@ use capnp_words::wire_pointer::{
 use capnp_words::words::word_at;
 
 impl<'a, A: ReaderArena> Source<'a, A> {
-    /// Reads the object that the pointer at `place` leads to, and refuses it if it isn't what
-    /// `expected` says (encoding specification, "Structs" and "Lists").
+    /// Reads the object that the pointer at `place` leads to, and refuses the object if it isn't
+    /// what `expected` says (encoding specification, "Structs" and "Lists").
     ///
-    /// Returns `Object::Null` if the word at `place` is zero, and counts and charges nothing in
+    /// If the word at `place` is zero, returns `Object::Null`, and counts and charges nothing in
     /// `lim`. Otherwise checks, counts and charges like `Source::read_object`, except as follows.
     ///
-    /// A struct and a list require `nesting_limit` to be at least 1 before the pointer is followed.
-    /// Otherwise the refusal is `MessageIsTooDeeplyNestedOrContainsCycles` for a struct, and
+    /// If `nesting_limit` is below 1 and a struct or a list is expected, refuses before the pointer
+    /// is followed: with `MessageIsTooDeeplyNestedOrContainsCycles` for a struct, and with
     /// `NestingLimitExceeded` for a list. A text and data require no level. An object of another
     /// kind is refused after its landing pads are charged and before its own words are. A list
-    /// whose elements are too narrow, or a text whose last byte isn't 0, is refused after both are
-    /// charged.
+    /// whose elements are too narrow, or a text that doesn't end in a zero byte, is refused after
+    /// its own words are charged as well.
     #[inline(always)]
     pub fn read_expected(
         self,

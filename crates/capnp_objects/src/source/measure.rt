@@ -19,15 +19,15 @@ impl<'a, A: ReaderArena> Source<'a, A> {
     /// its size (encoding specification, "Structs", "Lists", "Inter-Segment Pointers" and
     /// "Capabilities (Interfaces)").
     ///
-    /// Returns `Object::Null` if the word at `place` is zero, or `place` is outside of its segment;
-    /// counts and charges nothing in `lim` then. Any other pointer takes a level, even one to a
-    /// capability, so `nesting_limit` must be at least 1. Counts the pointer in `lim` as followed,
-    /// and charges the words of its landing pads and those that the object claims, each before it
-    /// is read. A list of void may be outside of its segment and costs nothing; the number of
-    /// elements without width isn't charged. If the source isn't an arena that charges, `lim` is
-    /// unchanged.
+    /// If the word at `place` is zero, or `place` is outside of its segment, returns
+    /// `Object::Null`, and counts and charges nothing in `lim`. Any other pointer takes a level,
+    /// even one to a capability, and is refused if `nesting_limit` is below 1. Counts the pointer
+    /// in `lim` as followed, and charges the words of its landing pads and those that the object
+    /// claims, each before it is read. A list of void may be outside of its segment and costs
+    /// nothing; the number of elements without width isn't charged. If the source isn't an arena
+    /// that charges, `lim` is unchanged.
     ///
-    /// Refuses with the first fault found: `MessageIsTooDeeplyNested`, after which nothing is
+    /// Refuses with the first fault found: `MessageIsTooDeeplyNested`, before the pointer is
     /// counted; `InvalidSegmentId`, `MessageContainsOutOfBoundsPointer`,
     /// `MalformedDoubleFarPointer`, `UnknownPointerType`, `CantHandleNonStructInlineComposite`,
     /// `InlineCompositeListsElementsOverrunItsWordCount`, `TriedToReadFromNullArena` for a far
@@ -65,7 +65,7 @@ impl<'a, A: ReaderArena> Source<'a, A> {
     }
 
     /// Reads the object that `pointer` leads to only for its size, like `measure_object`. Returns
-    /// the position in the pointer's segment where the object starts, in words. Preconditions:
+    /// the position, in words, where the object starts in the pointer's segment. Preconditions:
     /// `pointer` isn't a far pointer; it leads to a struct or a list, but not to a list of void or
     /// of structs; the object claims `words` words.
     #[inline(always)]

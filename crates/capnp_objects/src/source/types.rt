@@ -15,14 +15,15 @@ use capnp_words::wire_pointer::{PointerType, WirePointer, WirePointerKind};
 
 impl<'a, A: ReaderArena> Source<'a, A> {
     /// Returns the kind of object that the pointer at `place` leads to. This is the kind of the
-    /// word that describes the object: the pointer itself, its landing pad, or the second pad of a
-    /// double-far pointer. The object itself is neither checked nor charged.
+    /// word that describes the object: the pointer itself, its landing pad, or, for a double-far
+    /// pointer, the second word of the landing pad. The object itself is neither checked nor
+    /// charged.
     ///
-    /// Returns `PointerType::Null` if the word at `place` is zero, and counts and charges nothing
+    /// If the word at `place` is zero, returns `PointerType::Null`, and counts and charges nothing
     /// in `lim`. Otherwise counts the pointer in `lim` as followed, and charges the words of its
     /// landing pads. Refusals: `UnexpectedFarPointer` if the word that describes the object is a
-    /// far pointer; `UnknownPointerType` if it is of no known kind; those of `Source::read_object`
-    /// if the pointer can't be followed.
+    /// far pointer; `UnknownPointerType` if that word is of no known kind; those of
+    /// `Source::read_object` if the pointer can't be followed.
     pub fn read_type(
         self,
         place: Place<'a>,

@@ -13,7 +13,7 @@ const CAPACITY: usize = 8192;
 
 /// An output of whole words, which packs them. Holds packed bytes back until there are many of
 /// them, or until it is flushed. A write of 1 to 7 bytes fails, since it has no whole word; any
-/// other fails only if the output of packed bytes has failed.
+/// other write fails only if the output of packed bytes has failed.
 #[derive(Drop)]
 pub struct PackingOutput<W> {
     packed: W,
@@ -66,7 +66,7 @@ impl<W: Output> PackingOutput<W> {
         Ok(())
     }
 
-    /// Returns the output that it packs to. Loses packed bytes that aren't written yet, so flush
+    /// Returns the output of packed bytes. Loses packed bytes that aren't written yet, so flush
     /// first.
     pub fn into_packed(self) -> W
         ensures { result ≡ self.packed }

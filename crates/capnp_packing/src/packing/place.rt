@@ -29,8 +29,8 @@ pub struct Taken {
     pub next: Place,
 }
 
-/// For a packed word with `left` bytes to go: the number of zero bytes before its next packed byte
-/// or its end, and the place after these.
+/// For a packed word with `left` bytes to go: the number of zero bytes before the next packed byte
+/// or the word's end, and the place after these zero bytes.
 fn within_word(bits: u8, left: u8) -> (u8, Place)
     ensures zeros { result.0 ≡ lead left bits }
     ensures place { result.1 ≡ place_within left bits }
@@ -156,7 +156,7 @@ fn step_raw(left: u16, byte: u8) -> Taken
     }
 }
 
-/// What `byte` unpacks to at `place`, and the place after it.
+/// What `byte` unpacks to at `place`, and the next place.
 pub fn step(place: Place, byte: u8) -> Taken
     ensures byte { result.byte ≡ byte_given place byte }
     ensures zeros { result.zeros ≡ zeros_given place byte }

@@ -32,7 +32,7 @@ fn count_given(place: Place, byte: u8) -> Given
     }
 }
 
-/// Returns `count`, or `room` if that is less. By the contract it never is; but a C program may
+/// Returns `count`, or `room` if that is less. By the contract `room` never is; but a C program may
 /// break the contract, with packed bytes that overlap `to`, or that another thread changes after
 /// they were counted. Even then, each write is inside `to`.
 #[inline(always)]
@@ -55,7 +55,7 @@ fn put_first(byte: u8, to: &mut [u8])
     }
 }
 
-/// Writes what `byte` unpacks to at `place` to the front of `to`.
+/// Unpacks `byte` at `place`, and writes the result to the front of `to`.
 fn put_given(place: Place, byte: u8, to: &mut [u8]) -> Given
     requires { length (all_given place byte) ≤ length to.old }
     ensures bytes { take result.count to.new ≡ all_given place byte }
@@ -80,8 +80,8 @@ fn put_given(place: Place, byte: u8, to: &mut [u8]) -> Given
     }
 }
 
-/// The number of unpacked bytes, and the place after the packed bytes, which is `Tag` exactly if
-/// these aren't cut short. `None` if there are 2^64 unpacked bytes or more.
+/// The number of unpacked bytes, and the place after the packed bytes. That place is `Tag` exactly
+/// if the packed bytes aren't cut short. `None` if there are 2^64 unpacked bytes or more.
 pub fn unpacked_size(packed: &[u8]) -> Option<(usize, Place)>
     ensures size { IfSome result (λ s. s.0 ≡ length (unpacked_bytes Place.Tag packed.now)) }
     ensures place { IfSome result (λ s. s.1 ≡ place_at_end Place.Tag packed.now) }
@@ -114,8 +114,8 @@ fn unpack_bytes(start: Place, packed: &[u8], to: &mut [u8])
     }
 }
 
-/// Unpacks `packed` to `to`, which has exactly the unpacked size: by words while enough packed
-/// bytes are left for any word, and then byte by byte.
+/// Unpacks `packed` to `to`, which has exactly the unpacked size. Does so by words while enough
+/// packed bytes are left for any word, and then byte by byte.
 pub fn unpack_to_slice(packed: &[u8], to: &mut [u8])
     requires { length (unpacked_bytes Place.Tag packed.now) ≡ length to.old }
     ensures { to.new ≡ unpacked_bytes Place.Tag packed.now }

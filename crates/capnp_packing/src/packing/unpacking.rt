@@ -33,7 +33,7 @@ pub(super) fn put_zeros(to: &mut [u8])
 }
 
 /// For each four bits of a tag, the factors that move the next four packed bytes to their positions
-/// in a number of four bytes; 0 for those that have no position in it.
+/// in a number of four bytes; 0 for a packed byte that has no position in that number.
 static MULTIPLIERS: [[u32; 4]; 16] = [
     [0, 0, 0, 0],
     [1, 0, 0, 0],
@@ -53,8 +53,8 @@ static MULTIPLIERS: [[u32; 4]; 16] = [
     [1, 1 << 8, 1 << 16, 1 << 24],
 ];
 
-/// Four bytes of a word as a number, the first byte lowest: the next packed byte for each bit that
-/// is set, and zero for the others.
+/// Four bytes of a word as a number, the first byte lowest: for each of the lowest four bits of
+/// `bits`, the next packed byte if the bit is set, and zero if not.
 #[inline(always)]
 fn half_word(bits: u8, packed: &[u8]) -> u32
     requires bits { bits < 16 }
@@ -86,8 +86,8 @@ fn last_half(bits: u8, packed: &[u8]) -> u32
     half_word(bits, packed)
 }
 
-/// Writes the bytes of a word: the next packed byte for each bit of `tag` that is set, and zero for
-/// the others. Returns the number of packed bytes taken.
+/// Writes the bytes of a word: for each bit of `tag`, the next packed byte if the bit is set, and
+/// zero if not. Returns the number of packed bytes taken.
 #[inline(always)]
 fn put_word(tag: u8, packed: &[u8], to: &mut [u8]) -> usize
     requires packed { length packed.now ≡ 8 }
@@ -132,7 +132,7 @@ fn unpack_zeros(more: u8, to: &mut [u8]) -> Progress
     }
 }
 
-/// Copies the word after a tag of 255, which isn't packed. Also copies the further words that its
+/// After a tag of 255, copies its word, which isn't packed. Also copies the further words that the
 /// count states, if all of them are in `packed` and fit in `to`; otherwise copies none of them.
 #[inline(always)]
 fn unpack_whole(packed: &[u8], to: &mut [u8]) -> Progress
@@ -167,7 +167,7 @@ fn unpack_whole(packed: &[u8], to: &mut [u8]) -> Progress
     }
 }
 
-/// Unpacks a tag with its word, and the further words that its count states, if it has one.
+/// Unpacks a tag with its word and, if a count follows, the further words that the count states.
 #[inline(always)]
 fn unpack_unit(packed: &[u8], to: &mut [u8]) -> Progress
     requires { CanUnpack packed.now to.old }

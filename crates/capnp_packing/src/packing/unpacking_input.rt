@@ -66,7 +66,7 @@ impl<R: Input> UnpackingInput<R> {
         Ok(n == 0 && self.is_whole())
     }
 
-    /// Whether the packed bytes read so far end before a tag, not inside a word or before a count,
+    /// Whether the packed bytes read so far end before a tag (not inside a word or before a count),
     /// and no byte unpacked from them is left.
     pub fn is_whole(&self) -> bool
         ensures { IsTrue result ↔ (self.now.zeros ≡ 0) × (self.now.place ≡ Place.Tag) }
@@ -154,7 +154,7 @@ impl<R: Input> UnpackingInput<R> {
         progress.given
     }
 
-    /// Writes zero bytes that are due to the front of `to`, and returns their number.
+    /// Writes due zero bytes to the front of `to`, and returns their number.
     fn give_zeros(&mut self, to: &mut [u8]) -> usize
         requires due { 0 < self.old.zeros }
         requires room { 0 < length to.old }
@@ -166,7 +166,7 @@ impl<R: Input> UnpackingInput<R> {
         n
     }
 
-    /// Reads bytes of words that aren't packed straight into `to`. `left` + 1 of these bytes
+    /// Reads bytes of words that aren't packed, directly into `to`. `left` + 1 of these bytes
     /// remain.
     fn read_raw(&mut self, left: u16, to: &mut [u8]) -> Result<usize, DeviceFault>
         requires place { self.old.place ≡ Place.Raw left }

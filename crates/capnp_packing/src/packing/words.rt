@@ -43,7 +43,8 @@ fn zero_words(bytes: &[u8]) -> u8
     n
 }
 
-/// Whether at most one byte of the word is zero. `zeros` has the highest bit of each zero byte.
+/// Whether at most one byte of the word is zero. In the body, `zeros` has the highest bit of each
+/// zero byte.
 #[inline(always)]
 fn is_full(word: u64) -> bool {
     const LOW: u64 = 0x7f7f_7f7f_7f7f_7f7f;
@@ -83,7 +84,7 @@ fn put_kept(to: &mut [u8], bytes: &[u8]) -> usize
 }
 
 /// Writes the bytes of `word` that aren't zero to the front of `to`, and returns their number. In
-/// most words the last three are zero, as in a small number or the pointer to a short text.
+/// most words the last three bytes are zero, as in a small number or the pointer to a short text.
 #[inline(always)]
 fn put_kept_of(tag: u8, to: &mut [u8], word: &[u8]) -> usize
     requires tag { tag ≡ tag_of_word word.now }
@@ -99,7 +100,7 @@ fn put_kept_of(tag: u8, to: &mut [u8], word: &[u8]) -> usize
     n + put_kept(&mut to[n..], &word[5..])
 }
 
-/// Packs a zero word, and the zero words that follow it, at most 255.
+/// Packs a zero word, and at most 255 zero words right after it.
 #[inline(always)]
 fn pack_zeros(to: &mut [u8], from: &[u8]) -> Packed
     requires ready { CanPack to.old from.now }
@@ -115,8 +116,8 @@ fn pack_zeros(to: &mut [u8], from: &[u8]) -> Packed
     }
 }
 
-/// Packs a word without a zero byte, and the words that follow it with at most one zero byte each,
-/// at most 255.
+/// Packs a word without a zero byte, and at most 255 words right after it that have at most one
+/// zero byte each.
 #[inline(always)]
 fn pack_full(to: &mut [u8], from: &[u8]) -> Packed
     requires { CanPack to.old from.now }

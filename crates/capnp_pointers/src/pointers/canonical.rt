@@ -32,24 +32,24 @@ impl<'a, A: ReaderArena> Pointer<'a, A> {
     /// "Canonicalization"). Returns `None` if it does, otherwise where and why it doesn't.
     ///
     /// Returns `None` exactly if the words from `head` on are the canonical words of a value, and
-    /// the pointer is its canonical one: no far pointer, objects in the order of their pointers, no
-    /// capability, sections and elements no larger than they use, zeros after the last element of a
-    /// list. Words after these, and other segments, don't matter. A null pointer is canonical; a
-    /// place without a word isn't. If it returns `None`, moves `head` past the canonical words;
-    /// otherwise leaves it.
+    /// the pointer is the canonical pointer to that value. Then there are no far pointers and no
+    /// capabilities, and objects are in the order of their pointers. Sections and elements are no
+    /// larger than needed, and zeros follow the last element of a list. Words after the value, and
+    /// other segments, don't matter. A null pointer is canonical; a place without a word isn't.
+    /// After `None`, `head` is past the canonical words; otherwise it is unchanged.
     ///
-    /// Tests the pointers in order. Counts each one that isn't null in `lim`, and charges the words
-    /// that its object claims, and one word for each list element without width. A struct and a
-    /// list take a level.
+    /// Tests the pointers in order. Counts in `lim` each pointer that isn't null. Charges the words
+    /// that the pointer's object claims, and one word for each list element without width. A struct
+    /// and a list take a level.
     ///
-    /// Never refuses if the pointer and words at some position of its segment, `head` or another
-    /// one, are canonical, `lim` covers these charges, and the nesting limit is at least the
-    /// value's depth. Otherwise it may refuse, with the first error found. After a fault or a
-    /// refusal, what was charged before stays charged.
+    /// Never refuses if all of this holds: the pointer and words at some position of its segment,
+    /// `head` or another one, are canonical; `lim` covers these charges; and the nesting limit is
+    /// at least the value's depth. Otherwise it may refuse, with the first error found. After a
+    /// fault or a refusal, what was charged before stays charged.
     ///
-    /// Returns the first fault found; its reason holds for the word that it names. If both sections
-    /// of a struct, or of the elements of a list, are wider than needed, the fault is the data
-    /// section's.
+    /// Returns the first fault found; the fault's reason holds for the word that the fault names.
+    /// If both sections of a struct, or of the elements of a list, are wider than needed, the fault
+    /// is the data section's.
     pub fn canonical_fault(
         &self,
         lim: &mut ReadLimiter,
@@ -85,8 +85,8 @@ impl<'a, A: ReaderArena> Pointer<'a, A> {
         }
     }
 
-    /// Tests whether `count` consecutive pointers, from this one on, lead to values in canonical
-    /// form whose first object starts at `head`.
+    /// Tests whether `count` consecutive pointers, from `self` on, lead to values in canonical form
+    /// whose first object starts at `head`.
     ///
     /// If so, returns `true` and moves `head` past the values' words. Otherwise returns `false` and
     /// leaves `head`. Tests, counts, charges and refuses each pointer like `canonical_fault`.
@@ -128,9 +128,9 @@ impl<'a, A: ReaderArena> Pointer<'a, A> {
     }
 }
 
-/// Tests the pointer at `at` of the segment of `from`, with its first object at `head`. Returns the
-/// position after the canonical words. All objects have to be in this segment, so every level is
-/// tested with the same `from`.
+/// Tests the pointer at position `at` of the segment of `from`; its first object has to start at
+/// `head`. Returns the position after the canonical words. All objects have to be in this segment,
+/// so every level is tested with the same `from`.
 #[cycle(tests)]
 #[inline(always)]
 fn test_place<A: ReaderArena>(
@@ -165,7 +165,8 @@ fn test_place<A: ReaderArena>(
     }
 }
 
-/// Tests `count` consecutive pointers from position `at` on, with their first object at `first`.
+/// Tests `count` consecutive pointers from position `at` on; their first object has to start at
+/// `first`.
 #[cycle(tests)]
 fn test_children<A: ReaderArena>(
     from: &Pointer<'_, A>,
@@ -235,7 +236,8 @@ fn test_struct<A: ReaderArena>(
     test_sections(from, start, size, less(nesting_limit), test)
 }
 
-/// Tests the sections of a struct that starts at `start`, with its first object right after it.
+/// Tests the sections of a struct that starts at `start`. The first object that its pointers lead
+/// to has to start right after the struct.
 #[cycle(tests)]
 #[inline(always)]
 fn test_sections<A: ReaderArena>(
@@ -422,8 +424,8 @@ fn test_structs<A: ReaderArena>(
     test_rows(from, start, size, count, nesting_limit, test)
 }
 
-/// Tests `count` consecutive elements of a list of structs from `start` on, with their first object
-/// right after them.
+/// Tests `count` consecutive elements of a list of structs from `start` on. The first object that
+/// their pointers lead to has to start right after the elements.
 #[cycle(tests)]
 fn test_rows<A: ReaderArena>(
     from: &Pointer<'_, A>,
@@ -536,7 +538,7 @@ fn test_flat(
 }
 
 /// Returns the position after a list of `count` numbers that starts at `start`. If the bits after
-/// the last number aren't all zero, returns the position of their word as an error.
+/// the last number aren't all zero, returns the position of the word with these bits as an error.
 #[inline(always)]
 fn padded_end(bytes: &[u8], start: u32, size: ElementSize, count: u32) -> Result<u32, u32>
     requires inside { start + words_for (size_number size) count ≤ length (words_of bytes.now) }

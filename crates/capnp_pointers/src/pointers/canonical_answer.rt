@@ -15,8 +15,9 @@ use std::mem;
 /// be read.
 pub(crate) type Answer = Result<CanonicalFault, ErrorKind>;
 
-/// States that a test has stopped; the answer is in its `Test`. It has no content, so a `Result`
-/// with it is returned in a register; one with the answer would be written to memory at each level.
+/// States that a test has stopped; the answer is in its `Test`. `Stopped` has no content, so a
+/// `Result` with it is returned in a register; a `Result` with the answer would be written to
+/// memory at each level.
 #[derive(Clone, Copy)]
 pub(crate) struct Stopped;
 
@@ -30,8 +31,8 @@ pub(crate) struct Test {
 }
 
 impl Test {
-    /// Begins a test, and moves the limiter from `lim` into it. The caller moves it back at the
-    /// end.
+    /// Begins a test, and moves the limiter from `lim` into it. The caller moves the limiter back
+    /// at the end.
     pub(crate) fn begin(lim: &mut ReadLimiter) -> Self
         ensures { result.lim ≡ lim.old }
     {

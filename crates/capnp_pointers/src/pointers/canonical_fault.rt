@@ -22,9 +22,9 @@ pub struct CanonicalFault {
 #[derive(Clone, Copy, Debug, PartialEq, Eq, Error)]
 pub enum CanonicalFaultReason {
     /// There isn't exactly one segment. The word is the first of segment 1, or of segment 0 if
-    /// there is none.
+    /// there are no segments.
     SegmentCount,
-    /// There is no word for the pointer. The word is where it would be.
+    /// There is no word for the pointer. The word is where the pointer would be.
     NoPointer,
     /// The word is a far pointer.
     FarPointer,
@@ -34,7 +34,8 @@ pub enum CanonicalFaultReason {
     UnknownPointer,
     /// A struct without words doesn't start at its pointer. The word is the pointer.
     EmptyStructPlace,
-    /// An object doesn't start right after the object before it. The word is the pointer to it.
+    /// An object doesn't start right after the previous object. The word is the pointer to the
+    /// misplaced object.
     ObjectPlace,
     /// The bits after the last number of a list aren't zero. The word is the one with these bits.
     Padding,

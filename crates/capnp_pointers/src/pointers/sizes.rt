@@ -36,18 +36,18 @@ impl<'a, A: ReaderArena> Pointer<'a, A> {
     ///
     /// A null pointer has no words and no capabilities. A list of structs counts its tag and its
     /// elements, even if its pointer claims more words. Each pointer that isn't null takes a level,
-    /// even one to a capability. It is counted in `lim` as followed, and charged the words of its
-    /// landing pads and those that its object claims, each before they are read. A list of void may
-    /// be outside of its segment, and elements without width aren't charged; so a pointer that
-    /// leads to no value may have a size. For a default value and an arena being built, `lim` is
-    /// unchanged.
+    /// even one to a capability. Counts each such pointer in `lim` as followed, and charges the
+    /// words of its landing pads and the words that its object claims, each before it is read. A
+    /// list of void may be outside of its segment, and elements without width aren't charged; so a
+    /// pointer that leads to no value may have a size. For a default value and an arena being
+    /// built, `lim` is unchanged.
     ///
-    /// Refuses with the first fault found, and keeps what was charged: `MessageIsTooDeeplyNested`,
-    /// `InvalidSegmentId`, `MessageContainsOutOfBoundsPointer`, `MalformedDoubleFarPointer`,
-    /// `UnknownPointerType`, `CantHandleNonStructInlineComposite`,
-    /// `InlineCompositeListsElementsOverrunItsWordCount`, `TriedToReadFromNullArena` for a far
-    /// pointer in a default value, `ReadLimitExceeded`, or `MessageTooLarge(usize::MAX)` if the
-    /// words don't fit 64 bits or the capabilities 32.
+    /// Refuses with the first fault found: `MessageIsTooDeeplyNested`, `InvalidSegmentId`,
+    /// `MessageContainsOutOfBoundsPointer`, `MalformedDoubleFarPointer`, `UnknownPointerType`,
+    /// `CantHandleNonStructInlineComposite`, `InlineCompositeListsElementsOverrunItsWordCount`,
+    /// `TriedToReadFromNullArena` for a far pointer in a default value, `ReadLimitExceeded`, or
+    /// `MessageTooLarge(usize::MAX)` if the number of words doesn't fit 64 bits, or that of
+    /// capabilities doesn't fit 32 bits. What was charged before stays charged.
     pub fn total_size(&self, lim: &mut ReadLimiter) -> Result<MessageSize, ErrorKind>
         ensures sized { IfOk result (λ z. WalksPlace (reading A.ReaderArena self.now)
             (tally 0 0 lim.old) (so_far z lim.new)) }
@@ -71,7 +71,7 @@ impl<'a, A: ReaderArena> Pointer<'a, A> {
     }
 
     /// Counts the size of an object and of all objects below it. The object has `own_words` words,
-    /// and its `count` consecutive pointers start with this one.
+    /// and its `count` consecutive pointers start with `self`.
     ///
     /// The sum of words starts at `own_words`, which aren't charged; the object itself takes no
     /// level. Counts, charges and refuses each of its pointers like `total_size`, in order.

@@ -18,8 +18,8 @@ pub(crate) struct Walk {
 }
 
 /// The sums of a walk, and its refusal once it has stopped. The refusal is here so that calls
-/// return a `Result` with `Stopped`, which fits a register; one with the refusal would be written
-/// to memory at each level.
+/// return a `Result` with `Stopped`, which fits a register; a `Result` with the refusal would be
+/// written to memory at each level.
 #[derive(Drop)]
 pub(crate) struct Sums {
     /// The sums so far.
@@ -35,7 +35,7 @@ pub(crate) struct Stopped;
 
 impl Walk {
     /// Begins a walk whose sum of words starts at `words`, and moves the limiter from `lim` into
-    /// it. The caller moves it back at the end.
+    /// it. The caller moves the limiter back at the end.
     pub(crate) fn begin(words: u64, lim: &mut ReadLimiter) -> Self
         ensures words { result.sums.size.word_count ≡ words }
         ensures caps { result.sums.size.cap_count ≡ 0 }

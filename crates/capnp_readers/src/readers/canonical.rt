@@ -18,25 +18,24 @@ impl<'a, A: ReaderArena> PointerReader<'a, A> {
     /// "Canonicalization").
     ///
     /// Returns `true` exactly if the words from `head` on are the canonical words of a value, and
-    /// the pointer is its canonical one: no far pointer, objects in the order of their pointers, no
-    /// capability, sections and elements no larger than they use, zeros after the last element of a
-    /// list. Words after these, and other segments, don't matter. A null pointer is canonical; a
-    /// place without a word isn't. If it returns `true`, moves `head` past the canonical words;
-    /// otherwise leaves it.
+    /// the pointer is the canonical pointer to that value. Then there are no far pointers and no
+    /// capabilities, and objects are in the order of their pointers. Sections and elements are no
+    /// larger than needed, and zeros follow the last element of a list. Words after the value, and
+    /// other segments, don't matter. A null pointer is canonical; a place without a word isn't.
+    /// After `true`, `head` is past the canonical words; otherwise it is unchanged.
     ///
-    /// Tests the pointers in order. Counts each one that isn't null in `lim`, and charges the words
-    /// that its object claims, and one word for each list element without width. A struct and a
-    /// list take a level.
+    /// Tests the pointers in order. Counts in `lim` each pointer that isn't null. Charges the words
+    /// that the pointer's object claims, and one word for each list element without width. A struct
+    /// and a list take a level.
     ///
-    /// Never refuses if the pointer and words at some position of its segment, `head` or another
-    /// one, are canonical, `lim` covers these charges, and the nesting limit is at least the
-    /// value's depth. Otherwise it may refuse, with the first fault found:
-    /// `MessageContainsOutOfBoundsPointer`; if no level is left,
-    /// `MessageIsTooDeeplyNestedOrContainsCycles` for a struct and `NestingLimitExceeded` for a
-    /// list; `InlineCompositeListsOfNonStructTypeAreNotSupported`,
-    /// `InlineCompositeListsElementsOverrunItsWordCount` or `ReadLimitExceeded`. Returns `false` at
-    /// the first word that isn't canonical. After a refusal or `false`, what was charged before
-    /// stays charged.
+    /// Never refuses if all of this holds: the pointer and words at some position of its segment,
+    /// `head` or another one, are canonical; `lim` covers these charges; and the nesting limit is
+    /// at least the value's depth. Otherwise it may refuse, with the first fault found:
+    /// `MessageContainsOutOfBoundsPointer`, `InlineCompositeListsOfNonStructTypeAreNotSupported`,
+    /// `InlineCompositeListsElementsOverrunItsWordCount` or `ReadLimitExceeded`; or, if no level is
+    /// left, `MessageIsTooDeeplyNestedOrContainsCycles` for a struct and `NestingLimitExceeded` for
+    /// a list. Returns `false` at the first word that isn't canonical. After a refusal or `false`,
+    /// what was charged before stays charged.
     pub fn is_canonical(&self, lim: &mut ReadLimiter, head: &mut u32) -> Result<bool, ErrorKind>
         ensures exactly { IfOk result (λ b. IsTrue b
             ↔ IsCanonicalAt (read_by A.ReaderArena self.now) head.old) }
@@ -56,13 +55,13 @@ impl<'a, A: ReaderArena> PointerReader<'a, A> {
         Ok(self.canonical_fault(lim, head)?.is_none())
     }
 
-    /// Like `PointerReader::is_canonical`, but returns `None` instead of `true`, and instead of
-    /// `false` where and why the pointer doesn't lead to a value in canonical form whose first
-    /// object starts at `head`.
+    /// Like `PointerReader::is_canonical`, but returns `None` instead of `true`, and the fault
+    /// instead of `false`: where and why the pointer doesn't lead to a value in canonical form
+    /// whose first object starts at `head`.
     ///
-    /// Returns the first fault found; its reason holds for the word that it names. If both sections
-    /// of a struct, or of the elements of a list, are wider than needed, the fault is the data
-    /// section's.
+    /// Returns the first fault found; the fault's reason holds for the word that the fault names.
+    /// If both sections of a struct, or of the elements of a list, are wider than needed, the fault
+    /// is the data section's.
     pub fn canonical_fault(
         &self,
         lim: &mut ReadLimiter,
@@ -88,20 +87,20 @@ impl<'a, A: ReaderArena> PointerReader<'a, A> {
 }
 
 impl<'a, A: ReaderArena> StructReader<'a, A> {
-    /// Tests whether the struct starts at `read_head`, a position in words, its data section is
-    /// whole words, and its pointers lead to values in canonical form whose first object starts at
-    /// `ptr_head` ("Canonicalization").
+    /// Tests whether three conditions hold: the struct starts at `read_head`, a position in words;
+    /// its data section is whole words; its pointers lead to values in canonical form whose first
+    /// object starts at `ptr_head` ("Canonicalization").
     ///
-    /// If so, returns `true`, moves `read_head` past the struct and `ptr_head` past the words of
-    /// these values. Sets `data_trunc` to whether the data section is empty or its last word isn't
-    /// zero, and `ptr_trunc` likewise for the pointer section. If the position after the struct is
-    /// above `u32::MAX`, `read_head` becomes `u32::MAX`. After `false` or a refusal, all four are
-    /// unchanged.
+    /// If they hold, returns `true`, and moves `read_head` past the struct and `ptr_head` past the
+    /// words of these values. Then also sets `data_trunc` to whether the data section is empty or
+    /// its last word isn't zero, and `ptr_trunc` likewise for the pointer section. If the position
+    /// after the struct is above `u32::MAX`, `read_head` becomes `u32::MAX`. After `false` or a
+    /// refusal, both heads and both flags are unchanged.
     ///
-    /// Returns `false` for a struct that isn't in any message. Charges nothing for it, nor for a
-    /// struct that starts elsewhere or whose data section isn't whole words. Tests, counts, charges
-    /// and refuses each pointer like `PointerReader::is_canonical`, with the struct's own nesting
-    /// limit; doesn't charge the struct's own words.
+    /// Returns `false` for a struct that isn't in any message. Charges nothing for such a struct,
+    /// or for one that starts elsewhere than at `read_head` or whose data section isn't whole
+    /// words. Tests, counts, charges and refuses each pointer like `PointerReader::is_canonical`,
+    /// with the struct's own nesting limit; doesn't charge the struct's own words.
     pub fn is_canonical(
         &self,
         lim: &mut ReadLimiter,
@@ -156,9 +155,9 @@ impl<'a, A: ReaderArena> StructReader<'a, A> {
         Ok(true)
     }
 
-    /// Like `StructReader::is_canonical` with `head` for both positions: the struct starts at
-    /// `head`, and the first object of its pointers right after the struct. If it returns `true`,
-    /// moves `head` past the struct and these objects.
+    /// Like `StructReader::is_canonical` with `head` for both positions: the struct has to start at
+    /// `head`, and the first object that its pointers lead to right after the struct. If the call
+    /// returns `true`, it moves `head` past the struct and all objects below it.
     pub fn is_canonical_shared(
         &self,
         lim: &mut ReadLimiter,

@@ -221,8 +221,8 @@ impl<'a, A: ReaderArena> ListReader<'a, A> {
         self.content
     }
 
-    /// The number of bits of data of an element: for a struct those of its data section, for a
-    /// pointer 0.
+    /// The number of data bits in an element: for a struct those of its data section, for a pointer
+    /// 0.
     pub fn element_data_bits(&self) -> u32
         ensures { result ≡ data_bits self.now.element_size self.now.struct_size }
     {
@@ -293,7 +293,7 @@ impl<'a, A: ReaderArena> ListReader<'a, A> {
     }
 
     /// Pointer `index`: the element itself, or a struct element's first pointer. Preconditions: the
-    /// elements hold a pointer; `index` is below their number.
+    /// elements hold a pointer; `index` is below the number of elements.
     #[tactic(auto, using(crate::proofs::Sections::elements))]
     pub fn get_pointer_element(self, index: u32) -> PointerReader<'a, A>
         requires range { index < self.count }
@@ -321,8 +321,8 @@ impl<'a, A: ReaderArena> ListReader<'a, A> {
     }
 
     /// Element `index` as a struct, with the list's own nesting limit. A number becomes a struct
-    /// whose data section is that number, a pointer a struct with one pointer. Preconditions: the
-    /// elements aren't bits; `index` is below their number.
+    /// whose data section is that number; a pointer becomes a struct with one pointer.
+    /// Preconditions: the elements aren't bits; `index` is below the number of elements.
     pub fn get_struct_element(&self, index: u32) -> StructReader<'a, A>
         requires range { index < self.now.count }
         requires size { size_number self.now.element_size ≢ 1 }

@@ -21,7 +21,7 @@ pub trait PrimitiveElement {
     ghost value_at: { List ℕ → ℕ → Self };
 
     /// Reads element `index` of `list`: the number in the lowest bytes of the element's data, or
-    /// its lowest bit.
+    /// the lowest bit of that data.
     ///
     /// Preconditions, except for `()`: `index` is below the number of elements, and each element
     /// has at least as many bits of data as the value. The data of a struct is its data section, so
@@ -34,8 +34,8 @@ pub trait PrimitiveElement {
         ensures { result ≡ value_at list.now.content.now
             (element_start A.ReaderArena list.now index) };
 
-    /// The element size of a list of this type: the one with the type's number of bytes, `Bit` for
-    /// a `bool`, or `Void` for `()` ("Lists").
+    /// The element size of a list of this type: the size with as many bytes as a number of this
+    /// type, `Bit` for a `bool`, or `Void` for `()` ("Lists").
     fn element_size() -> ElementSize
         ensures { result ≡ size };
 }

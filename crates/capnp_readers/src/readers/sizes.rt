@@ -17,18 +17,18 @@ impl<'a, A: ReaderArena> PointerReader<'a, A> {
     ///
     /// A null pointer has no words and no capabilities. A list of structs counts its tag and its
     /// elements, even if its pointer claims more words. Each pointer that isn't null takes a level,
-    /// even one to a capability. It is counted in `lim` as followed, and charged the words of its
-    /// landing pads and those that its object claims, each before they are read. A list of void may
-    /// be outside of its segment, and elements without width aren't charged; so a pointer that
-    /// leads to no value may have a size. For a default value and an arena being built, `lim` is
-    /// unchanged.
+    /// even one to a capability. Counts each such pointer in `lim` as followed, and charges the
+    /// words of its landing pads and the words that its object claims, each before it is read. A
+    /// list of void may be outside of its segment, and elements without width aren't charged; so a
+    /// pointer that leads to no value may have a size. For a default value and an arena being
+    /// built, `lim` is unchanged.
     ///
-    /// Refuses with the first fault found, and keeps what was charged: `MessageIsTooDeeplyNested`,
-    /// `InvalidSegmentId`, `MessageContainsOutOfBoundsPointer`, `MalformedDoubleFarPointer`,
-    /// `UnknownPointerType`, `CantHandleNonStructInlineComposite`,
-    /// `InlineCompositeListsElementsOverrunItsWordCount`, `TriedToReadFromNullArena` for a far
-    /// pointer in a default value, `ReadLimitExceeded`, or `MessageTooLarge(usize::MAX)` if the
-    /// words don't fit 64 bits or the capabilities 32.
+    /// Refuses with the first fault found: `MessageIsTooDeeplyNested`, `InvalidSegmentId`,
+    /// `MessageContainsOutOfBoundsPointer`, `MalformedDoubleFarPointer`, `UnknownPointerType`,
+    /// `CantHandleNonStructInlineComposite`, `InlineCompositeListsElementsOverrunItsWordCount`,
+    /// `TriedToReadFromNullArena` for a far pointer in a default value, `ReadLimitExceeded`, or
+    /// `MessageTooLarge(usize::MAX)` if the number of words doesn't fit 64 bits, or that of
+    /// capabilities doesn't fit 32 bits. What was charged before stays charged.
     pub fn total_size(&self, lim: &mut ReadLimiter) -> Result<MessageSize, ErrorKind>
         ensures sized { IfOk result (λ z. WalksPlace (read_by A.ReaderArena self.now)
             (tally 0 0 lim.old) (so_far z lim.new)) }
@@ -46,9 +46,10 @@ impl<'a, A: ReaderArena> StructReader<'a, A> {
     /// Counts the words and the capabilities of the struct, with all objects below it and without
     /// landing pads ("Structs").
     ///
-    /// The sum of words starts at the struct's own words, its data section rounded up to words and
-    /// its pointers. They aren't charged, and the struct itself takes no level. Counts, charges and
-    /// refuses each of its pointers like `PointerReader::total_size`, in order.
+    /// The sum of words starts at the number of the struct's own words: its data section, rounded
+    /// up to whole words, and its pointers. These words aren't charged, and the struct itself takes
+    /// no level. Counts, charges and refuses each of its pointers like `PointerReader::total_size`,
+    /// in order.
     pub fn total_size(&self, lim: &mut ReadLimiter) -> Result<MessageSize, ErrorKind>
         ensures sized { IfOk result (λ z. WalksPointers
             (pointers_read A.ReaderArena self.now) self.now.pointer_count

@@ -155,7 +155,7 @@ impl<'a, A: ReaderArena> StructReader<'a, A> {
         }
     }
 
-    /// The bytes of the data section. It may end inside the last byte.
+    /// The bytes of the data section, which may end inside the last byte.
     pub fn data_bytes(&self) -> &'a [u8]
         ensures { result.now ≡ self.now.content.now }
     {
@@ -183,8 +183,8 @@ impl<'a, A: ReaderArena> StructReader<'a, A> {
         }
     }
 
-    /// Pointer `index` of the pointer section. If the section is shorter, a null pointer that isn't
-    /// in any message.
+    /// Pointer `index` of the pointer section. If the section has no such pointer, returns a null
+    /// pointer that isn't in any message.
     pub fn get_pointer_field(&self, index: usize) -> PointerReader<'a, A>
         ensures source { index < self.now.pointer_count → result.source ≡ self.now.source }
         ensures place { index < self.now.pointer_count
@@ -232,7 +232,7 @@ impl<'a, A: ReaderArena> StructReader<'a, A> {
         )
     }
 
-    /// Whether pointer `index` of the pointer section is null, or the section is shorter.
+    /// Whether pointer `index` of the pointer section is null, or the section has no such pointer.
     pub fn is_pointer_field_null(&self, index: usize) -> bool
         ensures { IsTrue result
             ↔ (index < self.now.pointer_count
@@ -242,8 +242,8 @@ impl<'a, A: ReaderArena> StructReader<'a, A> {
         self.get_pointer_field(index).is_null()
     }
 
-    /// The field of the data section at `offset`, counted in values of `T`; zero if it isn't wholly
-    /// inside the section.
+    /// The field of the data section at `offset`, counted in values of `T`; zero if the field isn't
+    /// wholly inside the section.
     pub fn get_data_field<T: Primitive + Zero>(&self, offset: usize) -> T
         ensures inside { IsInside self.now.bits (8 * T.BYTES) offset
             → result ≡ T.value_of
@@ -259,8 +259,8 @@ impl<'a, A: ReaderArena> StructReader<'a, A> {
         }
     }
 
-    /// The field that `StructReader::get_data_field` returns, with its default `mask` applied. The
-    /// mask also applies to the zero returned for a field outside of the section.
+    /// The value that `StructReader::get_data_field` returns, with the field's default `mask`
+    /// applied. The mask also applies to the zero returned for a field outside of the section.
     pub fn get_data_field_mask<T: Primitive + Zero + Mask>(
         &self,
         offset: usize,
@@ -276,7 +276,7 @@ impl<'a, A: ReaderArena> StructReader<'a, A> {
         T::mask(self.get_data_field(offset), mask)
     }
 
-    /// The bit of the data section at `offset`; `false` if the section ends before it.
+    /// The bit of the data section at `offset`; `false` if the section ends before that bit.
     pub fn get_bool_field(&self, offset: usize) -> bool
         ensures { IsTrue result ↔ (offset < self.now.bits)
             × (bit_at self.now.content.now offset ≡ 1) }
@@ -284,8 +284,8 @@ impl<'a, A: ReaderArena> StructReader<'a, A> {
         offset < self.bits as usize && self.content[offset / 8] >> (offset % 8) & 1 == 1
     }
 
-    /// The bit that `StructReader::get_bool_field` returns, with its default `mask` applied. The
-    /// mask also applies to the `false` returned for a bit after the section.
+    /// The bit that `StructReader::get_bool_field` returns, with the field's default `mask`
+    /// applied. The mask also applies to the `false` returned for a bit after the section.
     pub fn get_bool_field_mask(&self, offset: usize, mask: bool) -> bool
         ensures plain { mask ≡ false
             → (IsTrue result ↔ (offset < self.now.bits)

@@ -26,7 +26,7 @@ pub(super) struct Memory<A: Allocator> {
     /// The allocator of messages and copies; `None` only while a copy is made.
     pub(super) allocator: Option<A>,
     /// Whether the previous message was canonical already. Testing a message before copying it pays
-    /// off only if it is canonical, so a message is tested only if the one before it was.
+    /// off only if it is canonical, so a message is tested only if the previous one was canonical.
     was_canonical: bool,
 }
 
@@ -75,7 +75,8 @@ fn if_written(written: Result<(), DeviceFault>, holds: bool) -> Result<bool, Fau
     }
 }
 
-/// Writes the message in canonical form by a copy, and notes whether it was canonical already.
+/// Copies the message in canonical form, writes the copy, and notes whether the message was
+/// canonical already.
 fn canon_copy<A: Allocator, S: ReaderSegments, W: Output>(
     memory: &mut Memory<A>,
     form: Form,

@@ -186,7 +186,8 @@ impl Line {
         }
     }
 
-    /// The fault of an option of the line that its command doesn't have; `None` if there is none.
+    /// The fault if the command doesn't have one of the line's options; `None` if it has all of
+    /// them.
     fn verb_exclusion(&self) -> Option<ArgumentFault>
         ensures { result ≡ verb_exclusion self.now.verb self.now }
     {
@@ -205,8 +206,8 @@ impl Line {
         Some(ArgumentFault::NotOfCommand(verb, option))
     }
 
-    /// The fault of two options of the line that exclude each other: hex digits are neither raw
-    /// words nor packed, and raw words are never read packed. `None` if there are none.
+    /// The fault if two of the line's options exclude each other; otherwise `None`. Hex digits are
+    /// neither raw words nor packed, and raw words are never read packed.
     fn form_exclusion(&self) -> Option<ArgumentFault>
         ensures { result ≡ form_exclusion self.now }
     {
@@ -354,7 +355,7 @@ impl Line {
         }
     }
 
-    /// The step of the argument `text`, which looks like an option and isn't one without a `=`.
+    /// The step of the argument `text`, which looks like an option but isn't just an option's name.
     fn with_parted(self, text: &str) -> Result<ArgumentStep, ArgumentFault>
         ensures { result ≡ parted_step text.now self }
     {
@@ -483,7 +484,7 @@ fn verb_of(text: &str) -> Option<Verb>
     }
 }
 
-/// What comes before and after the first `=` of `text`; `None` if it has none.
+/// What comes before and after the first `=` of `text`; `None` if there is no `=`.
 fn parted(text: &str) -> Option<(&str, &str)>
     ensures { MatchOption result (position_or_len is_equals text.now ≡ length text.now) (λ x.
         (position_or_len is_equals text.now < length text.now)

@@ -18,22 +18,22 @@ use std::alloc::Global;
 /// Does a task with the one message that the input holds, writes the answer, and returns whether it
 /// is yes.
 ///
-/// The input's bytes up to its end are the words of the message's only segment, without a frame:
-/// what `Canon` writes in the form `Flat` (encoding specification, "Canonicalization"). There may
-/// be at most as many words as the traversal limit. The answer is the one that `run_with` writes
-/// for the message. An empty input is a segment of no words, which has no root:
+/// All bytes of the input are the words of the message's only segment, without a frame, as `Canon`
+/// writes them in the form `Flat` (encoding specification, "Canonicalization"). There may be at
+/// most as many words as the traversal limit. The answer is the one that `run_with` writes for the
+/// message. An empty input is a segment of no words, which has no root:
 /// `MessageContainsOutOfBoundsPointer`.
 ///
 /// Refusals: `Truncated` if the bytes end inside a word; `MessageTooLong` if there are more words
 /// than the limit; the fault of the message, if it can't be copied, tested or measured;
-/// `WriteFailed` if the output failed. Except after `WriteFailed`, nothing is written. If the raw
-/// words are a message that has an answer within the limits, the only refusals are that memory runs
-/// out or a device fails.
+/// `WriteFailed` if the output failed. After all refusals but `WriteFailed`, nothing is written. If
+/// the raw words are a message that has an answer within the limits, the only refusals are that
+/// memory runs out or a device fails.
 ///
 /// Copies take memory from the allocator. The bytes read take memory from the heap, and the
 /// allocator is asked only if the heap refuses; so the allocator doesn't bound the memory for these
-/// bytes. Its `refused` grows by 1 for an `AllocationFailed`, and otherwise not. `Check` and `Size`
-/// take memory only for the bytes read.
+/// bytes. The allocator's `refused` grows by 1 for an `AllocationFailed`, and otherwise not.
+/// `Check` and `Size` take memory only for the bytes read.
 pub fn run_flat_with<A: Allocator, R: Input, W: Output>(
     alloc: Global,
     allocator: A,

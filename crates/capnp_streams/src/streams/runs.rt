@@ -60,8 +60,8 @@ pub(super) fn words_of(limits: ReaderOptions) -> u64
 
 /// Reads the next message and answers it. Returns `None` at the end of the input.
 ///
-/// Precondition: the message is read ahead, or the output holds nothing back. So the sender of the
-/// next message has all answers before it.
+/// Precondition: the message is read ahead, or the output holds nothing back. So no read waits for
+/// a sender while the output holds an answer back.
 fn answer_next<A: Allocator, R: BufferedInput, W: BufferedOutput>(
     task: Task,
     input: &mut R,
@@ -141,8 +141,9 @@ fn next<A: Allocator, R: BufferedInput, W: BufferedOutput>(
 
 /// Does a task with each message of the input, and writes the answers in the order of the messages.
 ///
-/// The input is a stream of frames, each of a message of at most as many words as the traversal
-/// limit. Both limits apply to each message separately. The answers are, by command:
+/// The input is a stream of frames. Each holds a message of at most as many words as the traversal
+/// limit. The nesting limit and the traversal limit apply to each message separately. The answers
+/// are, by command:
 ///
 /// - `Canon`: the message's canonical words (encoding specification, "Canonicalization"), as a
 ///   frame of one segment or without a frame; with `hex`, as a line of lower case hex digits, two a
@@ -155,15 +156,15 @@ fn next<A: Allocator, R: BufferedInput, W: BufferedOutput>(
 /// refused, or the output fails. Unless the output failed, the output then has the answers to all
 /// messages before that one, and nothing for that one. If every message of a stream of frames has
 /// an answer within the limits, the only refusals are that memory runs out or a device fails. Holds
-/// one message in memory at a time, and takes no memory for one that is no larger than those before
-/// it. After a message that is refused, takes nothing more from the input. Before it reads a
+/// one message in memory at a time, and takes memory for a message only if it is larger than all
+/// before it. After a message that is refused, takes nothing more from the input. Before it reads a
 /// message that isn't read ahead, flushes the answers so far: no clause of this contract states
 /// this, but a precondition of `answer_next` does.
 ///
 /// Copies take memory from the allocator. Frames take memory from the heap, and the allocator is
-/// asked only if the heap refuses; so the allocator doesn't bound the memory for frames. Its
-/// `refused` grows by 1 for an `AllocationFailed`, and otherwise not. `Check` and `Size` take
-/// memory only for frames.
+/// asked only if the heap refuses; so the allocator doesn't bound the memory for frames. The
+/// allocator's `refused` grows by 1 for an `AllocationFailed`, and otherwise not. `Check` and
+/// `Size` take memory only for frames.
 pub fn run_with<A: Allocator, R: BufferedInput, W: BufferedOutput>(
     alloc: Global,
     allocator: A,

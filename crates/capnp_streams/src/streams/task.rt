@@ -39,7 +39,7 @@ pub enum Request {
 /// The first wrong argument.
 #[derive(Clone, Copy)]
 pub struct WrongArgument {
-    /// The number of arguments before it. If that is all of them, an argument is missing.
+    /// The number of arguments before it. If these are all the arguments, one is missing.
     pub at: usize,
     /// What is wrong with it.
     pub fault: ArgumentFault,
@@ -54,16 +54,16 @@ pub struct WrongArgument {
 /// written neither raw nor packed. `--from-flat`, and `--flat` of `check` and `size`, exclude
 /// `--packed`: raw words are never read packed.
 ///
-/// An argument looks like an option if it begins with `-` and is longer; `-` is standard input. The
-/// first argument that doesn't look like an option, and isn't the value of one, is the command; the
-/// others are files. After `--` no argument is an option. What follows `--help` or `-h`, or
-/// `--version` or `-V`, is ignored.
+/// An argument looks like an option if it is `-` followed by more; `-` alone is standard input. Of
+/// the arguments that neither look like an option nor are the value of one, the first is the
+/// command, and the others are files. After `--` no argument is an option. What follows `--help` or
+/// `-h`, or `--version` or `-V`, is ignored.
 ///
 /// The nesting limit is an `i32` in decimal digits with an optional `-`; default 64. The traversal
 /// limit in words is a `u64` in decimal digits, or `none`; default 8,388,608.
 ///
-/// Refuses all other arguments, with the first one that can't follow those before it. The arguments
-/// after that one don't matter.
+/// Refuses all other arguments. The `WrongArgument` is the first one that can't follow those before
+/// it; the arguments after that one don't matter.
 pub fn parse_args(args: &[String]) -> Result<Request, WrongArgument>
     ensures parsed { result ≡ request_of (map string_bytes args.now) }
     ensures first { IfErr result (λ wrong. wrong.at < length args.now → (more : List (List ℕ))

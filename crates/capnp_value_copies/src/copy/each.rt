@@ -22,7 +22,7 @@ use capnp_words::read_limiter::ReadLimiter;
 ///
 /// Refuses with the first refusal of `copy_value`. The pointers before the refused one are then
 /// copied; the refused one and those after it are null. Never refuses if all the pointers can be
-/// read, and the words of their values fit after those of the segment of `to`.
+/// read, and the copies fit after the words of the segment of `to`.
 pub fn copy_each<A: BuilderArena, B: ReaderArena>(
     arena: &mut A,
     to: Start,

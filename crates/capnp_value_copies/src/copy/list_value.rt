@@ -20,20 +20,20 @@ use capnp_words::read_limiter::ReadLimiter;
 use capnp_words::wire_pointer::{ElementSize, StructSize};
 
 /// Copies the list `value` to the null pointer at `to`, in canonical form if `canonicalize`,
-/// otherwise plain. In both, zeros follow the last number of a list of numbers. Charges `lim` what
-/// reading the values of the list's pointers costs, and nothing for the list's own words and its
-/// number of elements.
+/// otherwise plain. In both forms, zeros follow the last number of a list of numbers. Charges `lim`
+/// what reading the values of the list's pointers costs, and nothing for the list's own words or
+/// its number of elements.
 ///
 /// If all words of the copy fit the pointer's segment, or the message has one segment afterwards,
-/// they come after that segment's words, in the canonical order of objects, and no other word
-/// changes except the pointer.
+/// they follow the old words of the pointer's segment, in the canonical order of objects, and of
+/// the old words only the pointer changes.
 ///
 /// Refusals: those of reading the values; `CannotCreateACanonicalMessageWithACapability` for a
-/// capability in canonical form; the arena's `AllocationFailed` or `MessageTooLarge`, only if the
-/// words don't fit after those of the pointer's segment; `MessageTooLarge(usize::MAX)` for a list
-/// of more elements or words than a list pointer can state, which no message holds. After a refusal
-/// the pointer is null, the words that were allocated are zero, and what was charged to `lim` stays
-/// charged.
+/// capability if `canonicalize`. Only if the copy doesn't fit after the words of the pointer's
+/// segment: the arena's `AllocationFailed` or `MessageTooLarge`. Refuses a list of more elements or
+/// words than a list pointer can state with `MessageTooLarge(usize::MAX)`; no message holds such a
+/// list. After a refusal the pointer is null, the words that were allocated are zero, and what was
+/// charged to `lim` stays charged.
 pub fn copy_list<A: BuilderArena, B: ReaderArena>(
     arena: &mut A,
     to: Start,
@@ -71,7 +71,7 @@ pub fn copy_list<A: BuilderArena, B: ReaderArena>(
     }
 }
 
-/// Whether a list pointer, and the tag of a list of structs, can have the number `count`.
+/// Whether a list pointer, and for structs also the tag, can state a list of `count` elements.
 fn fits_list_pointer(size: ElementSize, sections: StructSize, count: u32) -> bool
     ensures { IsTrue result ↔ FitsListPointer size count (sections.data_words + sections.pointers) }
 {

@@ -23,18 +23,19 @@ use capnp_words::wire_pointer::StructSize;
 use capnp_words::words::used_part;
 
 /// Copies the struct `value` to the null pointer at `to`, in canonical form if `canonicalize`,
-/// otherwise plain. Pads its data section with zeros to whole words. Charges `lim` what reading the
-/// values of its pointers costs, and nothing for the struct's own words.
+/// otherwise plain. Pads the struct's data section with zeros to whole words. Charges `lim` what
+/// reading the values of the struct's pointers costs, and nothing for the struct's own words.
 ///
 /// If all words of the copy fit the pointer's segment, or the message has one segment afterwards,
-/// they come after that segment's words, in the canonical order of objects, and no other word
-/// changes except the pointer.
+/// they follow the old words of the pointer's segment, in the canonical order of objects, and of
+/// the old words only the pointer changes.
 ///
 /// Refusals: those of reading the values; `CannotCreateACanonicalMessageWithACapability` for a
-/// capability in canonical form; the arena's `AllocationFailed` or `MessageTooLarge`, only if the
-/// words don't fit after those of the pointer's segment; `MessageTooLarge` with the number of data
-/// words if that is above 65535, and then nothing is charged. After a refusal the pointer is null,
-/// the words that were allocated are zero, and what was charged to `lim` stays charged.
+/// capability if `canonicalize`. Only if the copy doesn't fit after the words of the pointer's
+/// segment: the arena's `AllocationFailed` or `MessageTooLarge`. If there are more than 65535 data
+/// words to copy: `MessageTooLarge` with their number, and nothing is charged. After a refusal the
+/// pointer is null, the words that were allocated are zero, and what was charged to `lim` stays
+/// charged.
 pub fn copy_struct_value<A: BuilderArena, B: ReaderArena>(
     arena: &mut A,
     to: Start,

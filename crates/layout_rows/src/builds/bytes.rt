@@ -11,7 +11,7 @@ use capnp_arena::arena::BuilderArena;
 use capnp_readers::readers::PointerPlace;
 use std::alloc::Global;
 
-/// Makes a call on a text or on data, with its bytes, also as a default, and adds its answer.
+/// Makes a call on a text or on data, and adds its answer. The call's bytes may be its default.
 pub fn call<A: BuilderArena>(
     alloc: Global,
     arena: &mut A,

@@ -14,11 +14,11 @@ pub enum Call {
     Pointer(PointerCall),
     /// A call on a pointer that leads to text or to data.
     Bytes(Blob, BlobCall),
-    /// A call on a pointer that copies to it.
+    /// A call that copies to a pointer.
     Copy(Copying),
     /// A call on a struct.
     Struct(StructCall),
-    /// A call on a struct that replaces its content by a copy.
+    /// A call that replaces a struct's content by a copy.
     Content,
     /// A call on a list.
     List(ListCall),
@@ -135,7 +135,7 @@ pub enum ListCall {
     Struct,
     /// The pointer of an element.
     Pointer,
-    /// An element that is neither.
+    /// An element that is neither a struct nor a pointer.
     Element(Access),
 }
 

@@ -20,7 +20,7 @@ use capnp_words::zero::Zero;
 use std::fmt::Display;
 use std::str::FromStr;
 
-/// Adds a number of a type, of a struct or a list, or writes it.
+/// Adds a number in a struct or a list to the answer, or writes the number. `of` is its type.
 pub fn number<A: BuilderArena>(
     arena: &mut A,
     place: Place,

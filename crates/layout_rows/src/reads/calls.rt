@@ -25,8 +25,8 @@ pub enum Op {
     Size,
     /// The test for canonical form, from a head on.
     Canonical,
-    /// The test of a struct for canonical form, with a head for it and one for what its pointers
-    /// lead to.
+    /// The test of a struct for canonical form, with one head for the struct and one for what its
+    /// pointers lead to.
     CanonicalStruct,
     CanonicalShared,
     Number(NumberType),
@@ -87,7 +87,7 @@ static FORMS: [Form<Op>; 37] = [
 /// A call.
 #[derive(Drop)]
 pub struct Call<'l> {
-    /// The number of the reader that it is made on; the last one if there is none.
+    /// The number of the reader that the call is made on; `None` for the last reader.
     pub of: Option<usize>,
     pub op: Op,
     pub values: Values<'l>,
@@ -123,7 +123,7 @@ fn read_call<'l>(alloc: Global, word: &'l str) -> Result<Call<'l>, Fault> {
     })
 }
 
-/// The number of a reader. One that is too large is that of no reader.
+/// The number of a reader. A number that is too large is that of no reader.
 fn number_of(digits: &str) -> Result<usize, Fault> {
     match parse::number(digits) {
         Err(Fault::Unfit) => Ok(usize::MAX),

@@ -1,6 +1,6 @@
-//! Where the pointers of a message lead (encoding specification, "Inter-Segment Pointers"). The
-//! audit doesn't use the code that builds messages for this, and trusts no landing pad, because it
-//! has to find what a builder has done wrong.
+//! Where the pointers of a message lead (encoding specification, "Inter-Segment Pointers"). For
+//! this, the audit doesn't use the code that builds messages, and trusts no landing pad, because
+//! the audit has to find what a builder has done wrong.
 ghost use Rattle.std.specs.Prelude.{◌≡◌, ◌<◌, ◌/◌, ◌^◌, IsTrue, ◌↔◌, length, option_map};
 ghost use Rattle.capnp_format.specs.Bytes.{message, words_of};
 ghost use Rattle.capnp_format.specs.Segments.{segment, word_at, leads, near, far};
@@ -72,8 +72,8 @@ pub(crate) fn follow<A: ReaderArena>(arena: &A, id: u32, at: u32) -> Option<Poin
     }
 }
 
-/// Where `word`, at `at` of segment `id`, leads as a pointer that isn't far; `None` if out of the
-/// segment. `pads` is the number of words of landing pads read until then.
+/// Where `word`, at `at` of segment `id`, leads as a near pointer; `None` if out of the segment.
+/// `pads` is the number of landing pad words read before.
 fn follow_near<A: ReaderArena>(
     arena: &A,
     id: u32,
@@ -94,9 +94,9 @@ fn follow_near<A: ReaderArena>(
 }
 
 /// Where the far pointer `word` leads, by its landing pad of one or two words. `None` if the pad
-/// isn't inside its segment; if what describes the object, the pad of one word or the second word
-/// of two, is itself a far pointer; if a pad of one word leads out of its segment; or if a pad of
-/// two words names a segment that doesn't exist. The position in that segment isn't checked here.
+/// isn't inside its segment, or the pad's last word, which describes the object, is itself a far
+/// pointer. Also `None` if a pad of one word leads out of its segment, or a pad of two words names
+/// a segment that doesn't exist. The position in the named segment isn't checked here.
 fn follow_far<A: ReaderArena>(arena: &A, word: WirePointer) -> Option<PointerTarget>
     ensures { option_map target_at result
         ≡ far (message (A.segments arena.now)) word.0 (is_double word.0) }

@@ -9,8 +9,9 @@ use capnp_words::error::ErrorKind;
 ///
 /// A request of more than 536,870,911 words is refused with `MessageTooLarge`, and doesn't count in
 /// `refused`. Any other request beyond the limit, or refused by the other allocator, is refused
-/// with `AllocationFailed`. A row that isn't kept is returned. Both count in `refused`. A segment
-/// that was returned and is used again counts once more as a segment made.
+/// with `AllocationFailed`, and counts in `refused`. A row that isn't kept is returned, and counts
+/// in `refused`, too. A segment that was returned and is used again counts once more as a segment
+/// made.
 #[derive(Drop)]
 pub struct LimitedAllocator<A: Allocator> {
     inner: A,

@@ -20,9 +20,9 @@ use capnp_words::words;
 use std::alloc::{AllocError, Global};
 
 /// Tests whether `segments` are as a builder leaves them: the root pointer means a value; each word
-/// of an object or a landing pad is inside its segment, and belongs to only one of them; the bits
-/// after the elements of lists are zero; lists of structs claim exactly the words of their
-/// elements; and every other word is zero.
+/// of an object or a landing pad is inside its segment, and belongs to no other object or landing
+/// pad; the bits after the elements of lists are zero; lists of structs claim exactly the words of
+/// their elements; and every other word is zero.
 ///
 /// Preconditions: there are fewer than 2^32 segments, each of fewer than 2^32 words, and segment 0
 /// has a word. Fails with `AllocationFailed` if memory runs out. Uses a byte of memory for each
@@ -136,8 +136,8 @@ fn rest_is_zero<A: ReaderArena>(arena: &A, marks: &Marks) -> bool
     true
 }
 
-/// Whether each word of a segment that isn't marked is zero. `bytes` are the bytes of the segment,
-/// and `row` the marks of its words.
+/// Whether each unmarked word of a segment is zero. `bytes` are the bytes of the segment, and `row`
+/// the marks of its words.
 fn is_zero_behind(bytes: &[u8], row: &[u8]) -> bool
     requires { length row.now ≡ length (words_of bytes.now) }
     ensures { IsTrue result
