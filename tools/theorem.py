@@ -265,7 +265,7 @@ def count(number):
 def both_counts():
     first, second, _ = (found for found, _, _ in parts().values())
     return [
-        f'To judge the claims about copies and the test, for the root of a message, you read {len(first)} definitions with {length(first):,} lines.',
+        f'To judge the claims about copying and testing a message at its root, you read {len(first)} definitions with {length(first):,} lines.',
         f'To judge the same for any other pointer, and the claim about builders, you read another {len(second)} definitions with {length(second):,} lines.',
     ]
 

@@ -25,8 +25,9 @@ pub fn one_value()
         → IsValueOf S limits t → IsValueOf S others u → t ≡ u }
 {}
 
-/// Two values whose canonical words fit a segment have the same canonical words exactly if they are
-/// equal. So two messages have the same canonical words exactly if their trimmed values are equal.
+/// The encodings of two untrimmed values that fit a segment are the same words exactly if the
+/// values are equal. So two messages have the same canonical words exactly if their trimmed values
+/// are equal.
 pub fn same_words()
     ensures values { (t u : Tree) → IsValue t → IsValue u → 1 + word_count t ≤ max_segment_words
         → 1 + word_count u ≤ max_segment_words → (encoding t ≡ encoding u) ↔ (t ≡ u) }

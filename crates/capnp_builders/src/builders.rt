@@ -123,7 +123,7 @@ impl<'a, A: BuilderArena> PointerBuilder<'a, A> {
         reader_at(&*self.arena, self.segment, self.at)
     }
 
-    /// The pointer, for reading once building is over. Reading it charges nothing, and may enter
+    /// The pointer, for reading when building is over. Reading it charges nothing, and may enter
     /// `i32::MAX` levels.
     pub fn into_reader(self) -> PointerReader<'a, A>
         ensures { IsPointerReader A.ReaderArena self.entry result }

@@ -29,7 +29,7 @@ pub enum Unanswered {
 /// whether every answer was yes. Ends at the first file that can't be opened or isn't answered to
 /// its end.
 ///
-/// If there are several files, each line of an answer begins with the file's name.
+/// If there are several files, each line of `check` and `size` begins with the file's name.
 pub fn answer_all<W: BufferedOutput>(
     rt: &HostRuntime,
     task: Task,

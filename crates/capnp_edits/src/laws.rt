@@ -47,10 +47,10 @@ pub fn step_is_there()
 {}
 
 /// Take edits that only make objects, or write pointers, fields, elements and bytes. If all words
-/// of the message are in its first segment, and the words of all objects to make fit there too, no
-/// edit is refused for lack of memory. Each is applied, or refused because of its path. All words
-/// stay in that segment. It grows by at most these objects' words, its capacity is unchanged, and
-/// the allocator refuses nothing.
+/// of the message are in its first segment, and those of all new objects fit there too, no edit is
+/// refused for lack of memory. Each is applied, or refused because of its path. All words stay in
+/// that segment. It grows by at most these objects' words, its capacity is unchanged, and the
+/// allocator refuses nothing.
 pub fn fitting_edits()
     ensures { (old new : View) (edits : List Edit) (rs : List (Option ErrorKind)) (t : Tree)
         → IsForest old.words t → AreInFirst old.words

@@ -26,14 +26,14 @@ use capnp_words::words::used_part;
 /// otherwise plain. Pads the struct's data section with zeros to whole words. Charges `lim` what
 /// reading the values of the struct's pointers costs, and nothing for the struct's own words.
 ///
-/// If all words of the copy fit the pointer's segment, or the message has one segment afterwards,
-/// they follow the old words of the pointer's segment, in the canonical order of objects, and of
-/// the old words only the pointer changes.
+/// If the whole copy fits the pointer's segment, or the message has one segment afterwards, the
+/// copy follows the segment's old words, in the canonical order of objects. Of the old words only
+/// the pointer changes.
 ///
 /// Refusals: those of reading the values; `CannotCreateACanonicalMessageWithACapability` for a
-/// capability if `canonicalize`. Only if the copy doesn't fit after the words of the pointer's
-/// segment: the arena's `AllocationFailed` or `MessageTooLarge`. If there are more than 65535 data
-/// words to copy: `MessageTooLarge` with their number, and nothing is charged. After a refusal the
+/// capability if `canonicalize`; the arena's `AllocationFailed` and `MessageTooLarge`, which occur
+/// only if the copy doesn't fit after the segment's words. If there are more than 65535 data words
+/// to copy: `MessageTooLarge` with their number, and nothing is charged. After a refusal the
 /// pointer is null, the words that were allocated are zero, and what was charged to `lim` stays
 /// charged.
 pub fn copy_struct_value<A: BuilderArena, B: ReaderArena>(
