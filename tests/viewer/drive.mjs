@@ -149,7 +149,7 @@ async function views() {
   check('canonical words', await text('map'), /segment 0: 55 words/);
   await click('next');
   check('the fault is marked', await evaluate(`document.querySelectorAll('.word.fault').length`), 1);
-  check('about the fault', await text('about'), /Here it isn’t canonical: a struct list that could do with less data/);
+  check('about the fault', await text('about'), /Here it isn’t canonical: a list of structs with more data words than any element needs/);
   check('zeros that canonical form drops', await evaluate(`getComputedStyle(document.querySelector('.word .r12')).textDecorationLine`), 'line-through');
   await shot('fault');
   await goto(rows.out_of_bounds[1]);
