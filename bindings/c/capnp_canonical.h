@@ -25,7 +25,7 @@
  * Answers. Each call returns CAPNP_CANONICAL_DONE or the number of a refusal. A number never changes its meaning.
  *
  * Memory. No call keeps anything, so several threads may call at once. If both a message and its copy have fewer than
- * 64 words, the copy is made on the stack. A longer message that is already canonical is copied from where it lies. For
+ * 64 words, the copy is made on the stack. A longer message that is already canonical is copied from your buffer. For
  * others, the calls that copy take memory with malloc, about the size of the canonical message, and free it before they
  * return. No other call takes any.
  *

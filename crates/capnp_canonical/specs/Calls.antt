@@ -80,8 +80,8 @@ RefusesSegment bytes r =
     ⊎ ((r ≡ Layout (MessageTooLarge (2 ^ 64 - 1))) × (length bytes / 8 < 2 ^ 32 → ⊥))
 
 -- The packed bytes aren't unpacked: they end within a word or before a number; or they are whole,
--- and stand for more bytes than there is room for; or they stand for so many that no buffer has
--- room for them.
+-- and unpack to more bytes than there is room for; or they unpack to more bytes than any buffer
+-- can hold.
 abbrev pub RefusesPacked : List ℕ → ℕ → Refusal → Type 0
 RefusesPacked packed room r =
     let size = length (unpacked_bytes Tag packed) in

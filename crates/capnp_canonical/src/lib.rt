@@ -44,7 +44,7 @@ use words::{check_words, copy_words, size_words};
 /// and stores the number of bytes written in `written`.
 ///
 /// If `to` is too small, stores the number of bytes needed in `written`; for any other refusal, 0.
-/// The bytes of `to` behind the copy are unchanged. If the call is refused, all bytes of `to` are
+/// The bytes of `to` after the copy are unchanged. If the call is refused, all bytes of `to` are
 /// unchanged.
 #[unsafe(no_mangle)]
 pub extern "C" fn capnp_canonical_copy(
@@ -428,7 +428,7 @@ pub extern "C" fn capnp_canonical_words_size(
 /// of unpacked bytes in `written`. Takes no memory.
 ///
 /// If `to` is too small, stores the number of bytes needed in `written`; for any other refusal, 0.
-/// The bytes of `to` behind the unpacked bytes are unchanged. If the call is refused, all bytes of
+/// The bytes of `to` after the unpacked bytes are unchanged. If the call is refused, all bytes of
 /// `to` are unchanged.
 #[unsafe(no_mangle)]
 pub extern "C" fn capnp_canonical_unpack(packed: &[u8], to: &mut [u8], written: &mut usize) -> u32

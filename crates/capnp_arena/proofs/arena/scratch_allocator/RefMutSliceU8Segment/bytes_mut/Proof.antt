@@ -1,4 +1,4 @@
--- A slice behind a `&mut` is lent for the time of the outer `&mut`: a walk of the function's MIR by
+-- A slice under a `&mut` is lent for the time of the outer `&mut`: a walk of the function's MIR by
 -- hand.
 use Rattle.std.proofs.Common.{ℕ, ◌*◌, ◌^◌, List, [], ◌∷◌, length, refl}
 use Rattle.std.proofs.raw_atomic.Walks.{proved}
