@@ -1,4 +1,5 @@
-//! What an arena requests from its allocator.
+//! Tests what an arena requests from its allocator: segments and rows. A row is the arena's entry
+//! for a segment, in a list that the arena holds.
 use crate::steps::{take, take_of};
 use capnp_arena::arena::{
     Allocator, BuilderArena, BuilderArenaImpl, HeapAllocator, OutputSegments, ReaderArena,
@@ -33,8 +34,8 @@ fn read_words<A: BuilderArena>(rt: &impl Abort, arena: &A) {
     assert!(rt; arena.refused() == 0);
 }
 
-/// Allocating words in a segment with room, lending a segment's words for writing, output of one
-/// segment, and reading: none of these requests anything.
+/// Allocates words in a segment that has room for them, lends a segment's words for writing, gets
+/// the output of one segment, and reads. None of these requests anything from the allocator.
 #[test]
 fn nothing_is_asked(rt: HostRuntime) {
     let heap = HeapAllocator::new(rt.alloc(), 4);
@@ -50,7 +51,8 @@ fn nothing_is_asked(rt: HostRuntime) {
     assert!(rt; asked_once(arena.into_allocator().requests(), 1, 1, 0));
 }
 
-/// Requests a segment with exactly the words that found no room, and then its row.
+/// If words fit in no segment, the arena requests a segment of exactly this many words, and then
+/// the segment's row.
 #[test]
 fn words_elsewhere(rt: HostRuntime) {
     let heap = HeapAllocator::new(rt.alloc(), 4);
@@ -68,8 +70,8 @@ fn words_elsewhere(rt: HostRuntime) {
     assert!(rt; arena.into_allocator().requests() == &asked[..]);
 }
 
-/// Allocates the two words of segment `id`, and writes them. Asks for the second word wherever
-/// there is room: `id` has to be the first segment with room.
+/// Allocates the two words of segment `id`, and writes them. Lets the arena choose the segment of
+/// the second word; so the caller passes an arena whose first segment with room is `id`.
 fn use_segment<A: BuilderArena>(rt: &impl Abort, arena: &mut A, id: u32) {
     assert!(rt; take_of(rt, arena, id, 1) == Some(0));
     assert!(rt; take(arena, 1) == Ok((id, 1)));
@@ -82,8 +84,9 @@ fn use_segment<A: BuilderArena>(rt: &impl Abort, arena: &mut A, id: u32) {
     assert!(rt; arena.contains_interval(id, 0, 2, &mut lim) == Ok(()));
 }
 
-/// Makes `segments` segments of two words in an arena, uses each by calls that request nothing, and
-/// gets the output of all. Returns the allocator.
+/// Makes `segments` segments of two words in an arena, calls `use_segment` for each, and gets the
+/// output of all. Only making a segment requests something from the allocator. Returns the
+/// allocator.
 fn use_all<A: Allocator>(rt: &impl Abort, mut arena: BuilderArenaImpl<A>, segments: u32) -> A {
     for _ in 0..segments {
         arena.allocate_segment(2).expect(rt, "memory");
@@ -97,8 +100,8 @@ fn use_all<A: Allocator>(rt: &impl Abort, mut arena: BuilderArenaImpl<A>, segmen
     arena.into_allocator()
 }
 
-/// Whether `requests` are for `segments` segments of `words` words, each followed by its row except
-/// for the first `rowless` ones, and for nothing else.
+/// Whether `requests` are exactly these: a request for each of `segments` segments of `words`
+/// words, followed by one for the segment's row, except after the first `rowless` segments.
 fn asked_once(requests: &[Request], words: u32, segments: usize, rowless: usize) -> bool {
     let mut asked = requests.iter();
     for id in 0..segments {
@@ -112,7 +115,7 @@ fn asked_once(requests: &[Request], words: u32, segments: usize, rowless: usize)
     asked.next().is_none()
 }
 
-/// However many segments there are, each request is for a segment or its row.
+/// However many segments there are, each request is for a segment or for its row.
 #[test]
 fn nothing_is_asked_of_many(rt: HostRuntime) {
     for segments in [1, 10, 1_000] {
@@ -124,7 +127,7 @@ fn nothing_is_asked_of_many(rt: HostRuntime) {
 }
 
 /// If the first segment needs no row, none is requested for it. However many segments there are,
-/// each request is for a segment or its row.
+/// each request is for a segment or for its row.
 #[test]
 fn nothing_is_asked_behind_the_first(rt: HostRuntime) {
     for segments in [1, 10, 1_000] {

@@ -1,4 +1,4 @@
-//! Messages being built.
+//! Tests of messages being built.
 use capnp_arena::arena::{
     BuilderArena, BuilderArenaImpl, HeapAllocator, OutputSegments, ReaderArena, ReaderSegments,
 };
@@ -6,7 +6,8 @@ use std::alloc::Global;
 use std::process::Abort;
 use test_support::has_words;
 
-/// Whether the arena's output is these segments, as a `SingleSegment` if there is just one.
+/// Whether the arena's output is the segments `want`, as a `SingleSegment` exactly if there is one
+/// segment.
 fn gives(rt: &impl Abort, arena: &BuilderArenaImpl<HeapAllocator>, want: &[&[u8]]) -> bool {
     let output = arena.get_segments_for_output().expect(rt, "memory");
     let is_single = matches!(output, OutputSegments::SingleSegment(_));
@@ -45,7 +46,7 @@ fn write_words<A: BuilderArena>(rt: &impl Abort, arena: &mut A) {
     arena.zero_words(0, 1, 1);
 }
 
-/// The output of no segment, of one, and of two.
+/// Checks the output of an arena without segments, with one, and with two.
 #[test]
 fn words_given_out(rt: HostRuntime) {
     let mut arena = BuilderArenaImpl::new(rt.alloc(), HeapAllocator::new(rt.alloc(), 2));

@@ -1,4 +1,4 @@
-//! An output over a writer: no clause states that it flushes the writer.
+//! Tests that an output over a writer flushes the writer, which no contract states.
 ghost use Rattle.std.specs.Prelude.{None};
 
 use capnp_framing::devices::WriterOutput;

@@ -1,6 +1,7 @@
 //! Tests of capnp_arena, by its public calls: places and words of segments being read, messages
 //! being built, and refused memory. Also tests of capnp_words, capnp_framing and capnp_packing.
-//! What cases, streams and runs of programs show isn't shown here again.
+//! They leave out what the test cases (`tests/cases`), the streams of frames (`tests/streams`) and
+//! the runs of whole programs already show.
 #![tactic(auto)]
 
 #[cfg(test)]

@@ -1,4 +1,4 @@
-//! The names that no other test here uses, and each trait as a bound.
+//! Uses the names of capnp_arena that no other test here uses, and each trait as a bound.
 use capnp_arena::arena::{
     Allocator, BuilderArena, BuilderArenaImpl, HeapAllocator, HeapSegment, MAX_SEGMENT_WORDS,
     NullArena, ReaderArena, ReaderArenaImpl, ReaderOptions, ReaderSegments, Segment, SegmentArray,

@@ -1,5 +1,5 @@
-//! Words in memory, with what they pack to, and what is refused. The bytes are those of the
-//! encoding specification's "Packing".
+//! Tests packing and unpacking of words in memory, and their refusals. The first three pairs of
+//! words and packed bytes are the examples of the encoding specification's "Packing".
 use capnp_framing::devices::{DeviceFault, MemoryOutput, Output};
 use capnp_packing::packing::{PackingError, PackingOutput, pack, unpack};
 use std::alloc::Global;
@@ -7,22 +7,22 @@ use std::alloc::Global;
 /// Two words with a few bytes that aren't zero.
 const WORDS: &[u8] = b"\x08\0\0\0\x03\0\x02\0\x19\0\0\0\xaa\x01\0\0";
 
-/// `WORDS` packed: the bytes of each word that aren't zero, after its tag.
+/// `WORDS` packed: for each word, a tag and the bytes that aren't zero.
 const PACKED: &[u8] = b"\x51\x08\x03\x02\x31\x19\xaa\x01";
 
-/// Four words without a zero byte: the first is packed after its tag, then come the number of the
-/// other words, and those words unchanged.
+/// Four words without a zero byte, packed: a tag, the bytes of the first word, the number of the
+/// other words, and these words unchanged.
 const PACKED_WHOLE: &[u8] =
     b"\xff\x8a\x8a\x8a\x8a\x8a\x8a\x8a\x8a\x03\x8a\x8a\x8a\x8a\x8a\x8a\x8a\x8a\x8a\x8a\x8a\x8a\x8a\x8a\x8a\x8a\x8a\x8a\x8a\x8a\x8a\x8a\x8a\x8a";
 
-/// Whether the words pack to these bytes, and these unpack to the words.
+/// Whether `words` packs to `packed`, and `packed` unpacks to `words`.
 fn are_packed(alloc: Global, words: &[u8], packed: &[u8]) -> Result<bool, PackingError> {
     let there = pack(alloc, words)?.as_slice() == packed;
     Ok(there && unpack(alloc, packed, words.len())?.as_slice() == words)
 }
 
-/// The number of zero words after a tag's own is one byte, so the last of 257 zero words has its
-/// own tag.
+/// After the tag of a zero word, one byte states how many more zero words follow, at most 255. So
+/// the last of 257 zero words has a tag of its own.
 #[test]
 fn in_memory(rt: HostRuntime) {
     for (words, packed) in [

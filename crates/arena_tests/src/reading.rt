@@ -1,4 +1,5 @@
-//! Places and words of segments being read, and what they are charged.
+//! Tests which places and intervals are inside segments being read, and what is charged for reading
+//! an interval.
 use capnp_arena::arena::{ReaderArena, ReaderArenaImpl, ReaderOptions, SegmentArray};
 use capnp_words::error::ErrorKind;
 use capnp_words::read_limiter::ReadLimiter;

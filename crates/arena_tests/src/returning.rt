@@ -1,6 +1,8 @@
-//! What is returned to the allocator of an arena that is dropped or taken apart: each segment once,
-//! in order of number, with the number of its used words. A segment whose row was refused was
-//! returned before, at once and unused. An arena without its allocator returns nothing.
+//! Tests what an arena returns to its allocator when the arena is dropped or taken apart: each
+//! segment once, in the order of the segments' numbers, with the number of its used words. A row is
+//! the arena's entry for a segment, in a list of the arena. A segment whose row was refused has
+//! already been returned, at once and without a used word. An arena without its allocator returns
+//! nothing.
 use capnp_arena::arena::{Allocator, BuilderArena, BuilderArenaImpl, HeapAllocator};
 use capnp_words::error::ErrorKind;
 use std::alloc::Global;
@@ -21,8 +23,8 @@ const NONE_USED: u64 = 3_00_05_00_07_00_11_00;
 
 const FIRST_USED: u64 = 5_00_07_00_11_00_03_03;
 
-/// Allocates words in up to four segments, in as many as there are rows for. Returns the arena and
-/// the number of segments.
+/// Allocates words in up to four segments, in as many as the allocator grants rows for. Returns the
+/// arena and the number of segments.
 fn filled_of<A: Allocator>(
     rt: &impl Abort,
     alloc: Global,
@@ -39,7 +41,7 @@ fn filled_of<A: Allocator>(
     (arena, made)
 }
 
-/// Does `filled_of` with an allocator that grants all segments, and `rows` rows.
+/// Does `filled_of` with an allocator that grants all segments, and at most `rows` rows.
 fn filled<'a>(
     rt: &impl Abort,
     alloc: Global,
@@ -54,8 +56,8 @@ fn filled<'a>(
     )
 }
 
-/// Drops the arena or takes it apart. Checks the number of segments made, and what was returned:
-/// dropping the allocator afterwards returns nothing more.
+/// Takes the arena apart if `is_apart`, otherwise drops it. Checks that `made` segments were made,
+/// and that `want` is what was returned, also after the allocator is dropped.
 fn check_returned<A: Allocator>(
     rt: &impl Abort,
     (arena, segments): (BuilderArenaImpl<A>, u64),
@@ -90,7 +92,7 @@ fn dropped_or_taken_apart(rt: HostRuntime) {
 }
 
 /// The first segment requests no row if the arena holds that row itself. A later segment whose row
-/// is refused is returned at once, and isn't dropped.
+/// is refused isn't dropped, but returned at once.
 #[test]
 fn first_in_the_arena(rt: HostRuntime) {
     for (rows, made, want) in [(3, 4, ALL_USED), (2, 3, LAST_AT_ONCE), (0, 1, FIRST_USED)] {
@@ -102,8 +104,9 @@ fn first_in_the_arena(rt: HostRuntime) {
     }
 }
 
-/// An arena without its allocator keeps its segments and gets no more. Once the allocator is put
-/// back, it gets back all segments, also one that it granted since.
+/// An arena without its allocator keeps its segments and gets no more. If the allocator is put back
+/// and the arena is then dropped, the allocator gets back all segments, also one that it granted
+/// after it was put back.
 #[test]
 fn allocator_taken_out(rt: HostRuntime) {
     let returned = Cell::new(0);

@@ -1,4 +1,4 @@
-//! Segments whose first one is in memory lent by the caller.
+//! Tests of arenas whose first segment is in the scratch space: memory lent by the caller.
 use crate::steps::{take, take_of};
 use capnp_arena::arena::{
     Allocator, BuilderArena, BuilderArenaImpl, ScratchSegment, ScratchSpaceHeapAllocator, Segment,
@@ -7,7 +7,8 @@ use std::alloc::Global;
 use std::process::Abort;
 use test_support::has_words;
 
-/// The first segment is four zero words. Writes them, and outgrows them.
+/// Allocates all four words of the first segment, checks that they are zero, and writes them. Then
+/// allocates words that don't fit there.
 fn outgrow<A: BuilderArena>(rt: &impl Abort, alloc: Global, arena: &mut A) {
     assert!(rt; take_of(rt, arena, 0, 4) == Some(0));
     let zeros = "0000000000000000 0000000000000000 0000000000000000 0000000000000000";
@@ -21,7 +22,8 @@ fn outgrow<A: BuilderArena>(rt: &impl Abort, alloc: Global, arena: &mut A) {
     assert!(rt; arena.refused() == 0);
 }
 
-/// An arena uses the lent memory for its first segment, and ignores what that memory held.
+/// Checks that an arena uses the lent memory for its first segment, and ignores what that memory
+/// held. Returns the allocator.
 fn use_once<'a>(
     rt: &impl Abort,
     alloc: Global,
@@ -42,7 +44,8 @@ fn handed_out_again(rt: HostRuntime) {
     drop(use_once(&rt, rt.alloc(), allocator));
 }
 
-/// Requests a segment, and checks whether it is lent, and its size in bytes.
+/// Requests a segment of `words` words. Checks that it is in the scratch space exactly if
+/// `is_lent`, and that it has `bytes` bytes, all zero.
 fn check_segment(
     rt: &impl Abort,
     allocator: &mut ScratchSpaceHeapAllocator<'_>,
@@ -54,8 +57,8 @@ fn check_segment(
     assert!(rt; segment.bytes() == &[0; 32][..bytes.min(32)]);
 }
 
-/// The scratch space is used once, for a segment that it is large enough for. It is never used if
-/// it has no whole word.
+/// The scratch space is used for the first request that it is large enough for, and not again
+/// before it is returned. It is never used if it has no whole word.
 #[test]
 fn borrowed_or_owned(rt: HostRuntime) {
     let mut scratch = [0xff; 16];

@@ -1,15 +1,16 @@
-//! Steps without clauses about what they leave: a test knows nothing of a step's result but what it
-//! checks itself.
+//! Calls of an arena, wrapped in functions that have no contract. So the proofs of a test know of a
+//! result only what the test checks itself.
 use capnp_arena::arena::BuilderArena;
 use capnp_words::error::ErrorKind;
 use std::process::Abort;
 
-/// Allocates words wherever there is room. Returns their segment, and where they start.
+/// Allocates `amount` words in any segment. Returns the segment, and where in it they start.
 pub fn take<A: BuilderArena>(arena: &mut A, amount: u32) -> Result<(u32, u32), ErrorKind> {
     arena.allocate_anywhere(amount)
 }
 
-/// Allocates words of segment `id`, which has to exist, if it has room. Returns where they start.
+/// Allocates `amount` words in segment `id`. Returns where they start; `None` if the segment has no
+/// room for them. Fails if there is no segment `id`.
 pub fn take_of<A: BuilderArena>(
     rt: &impl Abort,
     arena: &mut A,

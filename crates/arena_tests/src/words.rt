@@ -1,5 +1,5 @@
-//! Tests of capnp_words, by its public calls: worked pointer words, numbers and words in bytes, the
-//! texts of refusals, and the laws of the format.
+//! Tests of capnp_words, by its public calls: pointer words, numbers and words in bytes, the texts
+//! of refusals, and the laws of the format.
 
 mod lanes;
 mod names;

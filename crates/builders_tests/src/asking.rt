@@ -1,5 +1,5 @@
-//! What calls of builders request from the allocator: nothing, if the words fit the segment. Makes
-//! each call that no case makes.
+//! Tests what calls of builders request from the allocator: nothing, if the words that they need
+//! fit in the segment. Also makes each call that no test case (`tests/cases`) makes.
 use crate::messages::{ONE_EACH, arena_of_root, check_struct, root};
 use capnp_arena::arena::{BuilderArena, BuilderArenaImpl, HeapAllocator, ReaderArena};
 use capnp_builders::builders::{PrimitiveElement, StructBuilder};
@@ -10,19 +10,21 @@ use std::alloc::Global;
 use std::process::Abort;
 use test_support::{NotingAllocator, Request, has_words};
 
-/// A message with a word for the root, and room for 63 more in its segment.
+/// Makes a message of one segment, with a word for the root and room for 63 more words.
 fn message(rt: &impl Abort, alloc: Global) -> BuilderArenaImpl<NotingAllocator> {
     let heap = HeapAllocator::new(alloc, 64);
     arena_of_root(rt, alloc, NotingAllocator::new(alloc, heap))
 }
 
-/// Checks that nothing was requested but the segment and its row.
+/// Checks that nothing was requested except the segment and its row, which is its entry in the
+/// arena's list of segments.
 fn check_asked(rt: &impl Abort, arena: BuilderArenaImpl<NotingAllocator>) {
     let asked = [Request::Segment(1), Request::Row];
     assert!(rt; arena.into_allocator().requests() == &asked[..]);
 }
 
-/// Clears a pointer, and makes it a capability, and a struct of no words.
+/// Clears the root pointer, then makes it a capability, then makes it lead to a struct without
+/// words.
 fn check_pointer<A: BuilderArena>(rt: &impl Abort, arena: &mut A) {
     let size = StructSize {
         data_words: 0,
@@ -106,7 +108,8 @@ fn write_bytes<A: BuilderArena>(rt: &impl Abort, arena: &mut A) {
     bytes[0] = b'y';
 }
 
-/// Bytes that are found are lent, and written in place.
+/// `bytes_mut` lends the bytes of the data that `find_data` finds, and what is written there is
+/// written in the message.
 #[test]
 fn bytes(rt: HostRuntime) {
     let mut arena = message(&rt, rt.alloc());

@@ -1,5 +1,5 @@
-//! Copies of what no case names: of nothing, of a message being built, of data sections that aren't
-//! whole words, and of a list that is too long.
+//! Tests of copies that no test case makes: of a null reader, of a message being built, of data
+//! sections that aren't whole words, and of a list that is too long.
 use crate::edits::messages::{check_outcomes, edit};
 use crate::messages::{ONE_EACH, STRUCT, STRUCT_APART, arena_of_root, root, struct_at};
 use capnp_arena::arena::{BuilderArena, HeapAllocator, NullArena, ReaderArena, ReaderOptions};
@@ -36,7 +36,8 @@ fn nothing(rt: HostRuntime) {
     }
 }
 
-/// Reads a struct of the number 7 and of the text `a`, which costs nothing, and copies it.
+/// Reads `source`, a struct with the number 7 and the text `a`, and copies it. Neither needs any
+/// traversal limit, because reading a message that is being built isn't charged.
 fn check_source<A: ReaderArena>(rt: &impl Abort, alloc: Global, source: PointerReader<'_, A>) {
     let mut lim = ReadLimiter::new(Some(0));
     let reader = source.get_struct(&mut lim, None).expect(rt, "a struct");
@@ -48,8 +49,8 @@ fn check_source<A: ReaderArena>(rt: &impl Abort, alloc: Global, source: PointerR
     assert!(rt; result == Ok(()) && has_words(alloc, &copy, STRUCT));
 }
 
-/// What is read and copied from a message being built is the same in one segment and in several,
-/// and costs nothing.
+/// Reading and copying from a message being built has the same results whether the message has one
+/// segment or several, and isn't charged.
 #[test]
 fn built_messages(rt: HostRuntime) {
     let edits = &[
@@ -82,8 +83,8 @@ fn check_set<A: ReaderArena>(
     );
 }
 
-/// Data sections that are a byte, or end inside a word or a byte: the bits after them aren't
-/// copied.
+/// Sets structs with a data section that is one byte, or ends inside a word or inside a byte. The
+/// bits after the data section aren't copied.
 #[test]
 fn narrow_structs(rt: HostRuntime) {
     let message = "ffffffffffffffff 00000000000000ff 0100020000000000";
@@ -143,7 +144,7 @@ fn check_set_list<A: ReaderArena>(
     );
 }
 
-/// More elements than a list pointer can state.
+/// A list of as many elements as a list pointer can state is copied; a list of one more is refused.
 #[test]
 fn long_lists(rt: HostRuntime) {
     let source = arena_of(rt.alloc(), "0000000000000000", ReaderOptions::default());

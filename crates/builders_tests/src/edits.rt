@@ -1,5 +1,5 @@
-//! Tests of capnp_edits by its public calls: what the cases of `tests/cases/edits_worked.jsonl`
-//! can't show.
+//! Tests of capnp_edits by its public calls. They show what the cases of
+//! `tests/cases/edits_worked.jsonl` can't show.
 
 mod applied;
 pub(crate) mod messages;

@@ -1,4 +1,4 @@
-//! Messages being built, and their places.
+//! Makes messages being built, and finds builders and readers at places in them.
 ghost use Rattle.std.specs.Prelude.{◌<◌, [], get_or, length};
 ghost use Rattle.capnp_readers.specs.Readers.{IsStructPlace};
 
@@ -15,14 +15,15 @@ pub const ONE_EACH: StructSize = StructSize {
     pointers: 1,
 };
 
-/// A struct of a data word, 7, and of a pointer to the bytes of the text `a`.
+/// A message in hex digits: its root is a struct with one data word, 7, and one pointer, which
+/// leads to the text `a`.
 pub const STRUCT: &str = "0000000001000100 0700000000000000 0100000012000000 6100000000000000";
 
 /// The message `STRUCT` with each object in a segment of its own, after a landing pad.
 pub const STRUCT_APART: &str =
     "0200000001000000, 0000000001000100 0700000000000000 0200000002000000, 0100000012000000 6100000000000000";
 
-/// An arena with one segment, and in it a word for the root.
+/// Makes an arena with one segment, in which one word is allocated: the root pointer.
 pub fn arena_of_root<A: Allocator>(
     rt: &impl Abort,
     alloc: Global,
@@ -31,7 +32,7 @@ pub fn arena_of_root<A: Allocator>(
     test_support::arena_of_root(alloc, allocator).expect(rt, "memory")
 }
 
-/// The root pointer, whose word has to exist.
+/// Returns a builder at the root pointer. Fails if the first segment has no word.
 pub fn root<'a, A: BuilderArena>(rt: &impl Abort, arena: &'a mut A) -> PointerBuilder<'a, A>
     ensures { result.at < length (get_or (A.view result.arena.now).words result.segment []) }
 {
@@ -40,7 +41,7 @@ pub fn root<'a, A: BuilderArena>(rt: &impl Abort, arena: &'a mut A) -> PointerBu
     PointerBuilder::get_root(arena)
 }
 
-/// Checks that both sections of a struct are inside its message.
+/// Checks that both sections of a struct are inside its segment.
 pub fn check_struct<A: BuilderArena>(rt: &impl Abort, builder: &StructBuilder<'_, A>)
     ensures { IsStructPlace (A.view builder.now.arena.now).words builder.now.place }
 {
@@ -55,8 +56,9 @@ pub fn check_struct<A: BuilderArena>(rt: &impl Abort, builder: &StructBuilder<'_
     assert!(rt; place.pointers_at as usize + place.pointers as usize <= words);
 }
 
-/// A reader of `bits` bits of data from byte `byte` of a message on, without pointers. The message
-/// has a word.
+/// Makes a reader of a struct without pointers, whose data section is the `bits` bits from byte
+/// `byte` of the first segment on. The caller passes a message whose first segment has at least one
+/// word. Fails if the data section isn't inside that segment.
 pub fn struct_at<'a, A: ReaderArena>(
     rt: &impl Abort,
     arena: &'a A,

@@ -1,4 +1,4 @@
-//! Tests capnp_readers with its public calls, in what no case of `tests/cases/reads.jsonl` states:
+//! Tests capnp_readers by its public calls. Shows what no case of `tests/cases/reads.jsonl` shows:
 //! fields, laws, copies, readers at places that the caller names, other arenas, and the objects
 //! that the readers are built on.
 

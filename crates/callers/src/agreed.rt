@@ -1,7 +1,6 @@
-//! What users of the canonical copy and of the test for canonical form want to know of both
-//! (encoding specification, "Canonicalization"): a message has at most one value and one list of
-//! canonical words, and the copy and the test agree. Each function does nothing: its contract is
-//! the law.
+//! Laws for users of canonical copies and of the test for canonical form (encoding specification,
+//! "Canonicalization"): a message has at most one value and one list of canonical words, and the
+//! copy and the test agree with one another. Each function does nothing: its contract is the law.
 ghost use Rattle.std.specs.Prelude.{◌≡◌, ◌↔◌, ◌∷◌, ◌++◌, ◌+◌, ◌≤◌, [], ℕ, List};
 ghost use Rattle.capnp_words.specs.Meter.{FitsIn};
 ghost use Rattle.capnp_format.specs.Canonical.{charge, encoding, trim, word_count};
@@ -16,8 +15,9 @@ ghost use Rattle.capnp_objects.specs.Source.{levels};
 ghost use Rattle.capnp_messages.specs.CanonicalMessages.{IsCanonicalMessage, IsCanonicalOf};
 ghost use Rattle.capnp_messages.specs.Messages.{IsValueOf};
 
-/// A place means at most one value, at one cost; neither depends on the nesting limit. So a message
-/// has at most one value, which doesn't depend on the limits.
+/// A pointer leads to at most one value, and reading this value has one cost; neither the value nor
+/// the cost depends on the nesting limit. So a message has at most one value, the same for all
+/// limits.
 pub fn one_value()
     ensures place { (S : Segments) (n m s p : ℕ) (t u : Tree) (c e : ℕ) → Means S n s p t c
         → Means S m s p u e → (t ≡ u) × (c ≡ e) }
@@ -25,9 +25,10 @@ pub fn one_value()
         → IsValueOf S limits t → IsValueOf S others u → t ≡ u }
 {}
 
-/// The encodings of two untrimmed values that fit a segment are the same words exactly if the
+/// If the encodings of two values fit a segment, these encodings are the same words exactly if the
 /// values are equal. So two messages have the same canonical words exactly if their trimmed values
-/// are equal.
+/// are equal: the values without the zero words and null pointers that the canonical form cuts from
+/// the ends of sections.
 pub fn same_words()
     ensures values { (t u : Tree) → IsValue t → IsValue u → 1 + word_count t ≤ max_segment_words
         → 1 + word_count u ≤ max_segment_words → (encoding t ≡ encoding u) ↔ (t ≡ u) }
@@ -59,9 +60,9 @@ pub fn copy_is_canonical()
         × IsValueOf (encoding (trim t) ∷ []) limits (trim t) }
 {}
 
-/// The canonical message of a value has this value, and no other one. It has the value exactly if
-/// the nesting limit is at least the value's depth, and the traversal limit at least the value's
-/// cost plus one word for the root.
+/// The canonical message of a value has this value, and no other one. It has the value within given
+/// limits exactly if the nesting limit is at least the value's depth, and the traversal limit is at
+/// least the cost of reading the value, plus one word for the root pointer.
 pub fn canonical_has_value()
     ensures means { (S : Segments) (t : Tree) (n : ℕ) → IsCanonicalOf S t → depth t ≤ n
         → Means S n 0 0 t (charge t) }
@@ -77,8 +78,9 @@ pub fn canonical_is_own_copy()
         → IsCanonicalMessage S ↔ (S ≡ encoding (trim t) ∷ []) }
 {}
 
-/// A message whose only word is a null root is a forest with the value Null: its value holds no
-/// word twice, and all other words are zero. Building starts with this message.
+/// A message is a forest if its value uses no word twice, and all words that the value doesn't use
+/// are zero. The message whose only word is a null root is a forest with the value Null. Building
+/// starts with this message.
 pub fn fresh_forest()
     ensures { IsForest ((0 ∷ []) ∷ []) Null }
 {}

@@ -1,4 +1,4 @@
-//! Functions that call an arena, and are proved from its contracts only.
+//! Functions that call an arena, and are proved only from the contracts of its calls.
 ghost use Rattle.std.specs.Prelude.{◌≡◌, ◌≢◌, ◌<◌, ◌≤◌, ◌+◌, ◌^◌, ◌↔◌, ◌++◌, ◌∷◌, [], length, IsTrue, IsOk, IsSome, IsNone, IfSome, IfErr, OnOk, OnErr, slice_set, slice_index_or, replicate};
 ghost use Rattle.std.specs.Bool.{OnTrue, OnFalse};
 ghost use Rattle.capnp_format.specs.Bytes.{message};
@@ -12,8 +12,8 @@ use capnp_arena::arena::{BuilderArena, ReaderArena};
 use capnp_words::error::ErrorKind;
 use capnp_words::read_limiter::ReadLimiter;
 
-/// Allocates a word of segment `id`, and writes `word` there. Returns `false`, and changes nothing,
-/// if the segment has no room for it.
+/// Allocates a word of segment `id`, writes `word` there, and returns `true`. If the segment has no
+/// room for a word, changes nothing and returns `false`.
 #[tactic(auto, using(crate::proofs::Extending::extending))]
 pub fn append<A: BuilderArena>(arena: &mut A, id: u32, word: u64) -> bool
     requires { id < length (A.view arena.old).words }
@@ -31,9 +31,9 @@ pub fn append<A: BuilderArena>(arena: &mut A, id: u32, word: u64) -> bool
     }
 }
 
-/// Allocates two words of segment `id`, and writes `first` and `second` there. Returns `false` if
-/// the segment has no room for both words. If it has room for only one, allocates this one, and
-/// writes `first` there.
+/// Allocates two words of segment `id`, writes `first` and `second` there, and returns `true`. If
+/// the segment has no room for two words, returns `false`; if it has room for one, allocates this
+/// one, and writes `first` there.
 #[tactic(auto, using(crate::proofs::Extending::extending))]
 pub fn append_both<A: BuilderArena>(arena: &mut A, id: u32, first: u64, second: u64) -> bool
     requires { id < length (A.view arena.old).words }
@@ -76,8 +76,8 @@ pub fn put_either<A: BuilderArena>(arena: &mut A, id: u32, word: u64) -> u32
     1
 }
 
-/// Allocates a word of segment `id`, writes `word` there and returns its position. Returns `None`
-/// if the segment has no room for it.
+/// Allocates a word of segment `id`, writes `word` there, and returns the position of the word. If
+/// the segment has no room for a word, changes nothing and returns `None`.
 #[tactic(auto, using(crate::proofs::Extending::extending))]
 pub fn try_append<A: BuilderArena>(arena: &mut A, id: u32, word: u64) -> Option<u32>
     requires { id < length (A.view arena.old).words }
@@ -103,8 +103,9 @@ pub fn clear<A: BuilderArena>(arena: &mut A, id: u32)
     arena.segment_mut(id).fill(0);
 }
 
-/// Asks to read the first `words` words of segment 0. The contract states exactly when this is
-/// granted, what `lim` then has left, and each refusal.
+/// Requests to read the first `words` words of segment 0, as a reader does before it reads them.
+/// The contract states exactly when the request is granted, what `lim` then has left, and each
+/// refusal.
 pub fn granted<A: ReaderArena>(
     arena: &A,
     words: u32,

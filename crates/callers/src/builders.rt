@@ -1,6 +1,6 @@
-//! Functions that call builders, for any arena, and are proved from the builders' contracts only.
-//! They show that these contracts tell the value of the message after each call, whether the call
-//! succeeds or is refused.
+//! Functions that call builders, for any arena, and are proved only from the contracts of these
+//! calls. They show that these contracts state the value of the message after each call, whether
+//! the call succeeds or is refused.
 ghost use Rattle.std.specs.Prelude.{ℕ, ◌≡◌, ◌<◌, ◌≤◌, ◌+◌, ◌^◌, ◌∷◌, [], length, IsOk, IsOkAnd, IfErr, IfOk, OnOk, OnErr};
 ghost use Rattle.capnp_words.specs.declared.error.ErrorKind.TheVariants.{AllocationFailed};
 ghost use Rattle.capnp_making.specs.Makes.{call_at};
@@ -32,16 +32,17 @@ use std::alloc::Global;
 /// How far `two_structs` got.
 #[derive(Clone, Copy, Debug, PartialEq, Eq)]
 pub enum Built {
-    /// No struct: the root is null.
+    /// No struct was made: the root is null.
     Nothing,
-    /// Only the root, whose first pointer is null.
+    /// Only the root's struct was made; its first pointer is null.
     Root,
-    /// Both structs.
+    /// Both structs were made.
     Both,
 }
 
-/// Makes the root lead to a struct of size `outer`, and the first pointer of this struct to one of
-/// size `inner`. Returns how far it got.
+/// Makes the root lead to a struct of size `outer`, and the first pointer of this struct to a
+/// struct of size `inner`. Returns which of the two structs it has made. The caller passes an
+/// `outer` with at least one pointer.
 pub fn two_structs<A: BuilderArena>(arena: &mut A, outer: StructSize, inner: StructSize) -> Built
     requires place { IsPlace (A.view arena.old).words 0 0 }
     requires forest { (t : Tree) × IsForest (A.view arena.old).words t }
@@ -101,9 +102,9 @@ fn field_struct<A: BuilderArena>(
     field.put_struct(size)
 }
 
-/// Returns a reader of the output segments of the message `built`. The reader has the words of the
-/// message, so each place means the same in both. Refuses only if memory runs out, and never if the
-/// message has one segment.
+/// Returns a reader of the output segments of the message `built`. The reader has the same words as
+/// the message, so each pointer leads to the same value in both. Refuses only if memory runs out,
+/// and never if the message has one segment.
 pub fn read_back<'a, L: Allocator>(
     built: &'a BuilderArenaImpl<L>,
 ) -> Result<ReaderArenaImpl<OutputSegments<'a>>, ErrorKind>
@@ -121,8 +122,9 @@ pub fn read_back<'a, L: Allocator>(
     Ok(ReaderArenaImpl::new(output, ReaderOptions::default()))
 }
 
-/// Applies `edits`, and returns a reader of the message's output segments. The reader's root means
-/// the value that the edits make, with the refusals in `outcomes`.
+/// Applies `edits`, and returns a reader of the message's output segments. If the message had a
+/// value before, the reader's root leads to the value that the edits make of it, given which of
+/// them `outcomes` shows as refused.
 pub fn edited<'a, L: Allocator>(
     built: &'a mut BuilderArenaImpl<L>,
     edits: &[Edit<'_>],
@@ -140,7 +142,7 @@ pub fn edited<'a, L: Allocator>(
     read_back(built)
 }
 
-/// Makes the root lead to a struct of `size`, which has at least one word.
+/// Makes the root lead to a struct of `size`. Precondition: `size` has at least one word.
 fn root_with_room<A: BuilderArena>(
     arena: &mut A,
     size: StructSize,
@@ -182,8 +184,8 @@ fn text_with_room<A: BuilderArena>(
     field.set_text(text)
 }
 
-/// Makes the root lead to a struct of a text and a number. Never refuses if segment 0 has room for
-/// all the words.
+/// Makes the root lead to a struct with a text and a number. Never refuses if segment 0 has room
+/// for the words of the struct and of the text.
 pub fn text_and_number<A: BuilderArena>(
     arena: &mut A,
     text: &[u8],
@@ -205,7 +207,8 @@ pub fn text_and_number<A: BuilderArena>(
     Ok(())
 }
 
-/// Allocates the root's word in an empty segment, which has room for it.
+/// Allocates the word of the root pointer. Precondition: the message is one segment without words,
+/// which has room for a word.
 pub(crate) fn root_word<A: BuilderArena>(arena: &mut A)
     requires empty { (A.view arena.old).words ≡ [] ∷ [] }
     requires room { 1 ≤ (A.view arena.old).room 0 }
@@ -216,7 +219,7 @@ pub(crate) fn root_word<A: BuilderArena>(arena: &mut A)
 }
 
 /// Calls `text_and_number` for a message whose first segment is an array of four words on the
-/// stack. The message needs no other memory, so no call is refused for lack of memory.
+/// stack. The words of the message all fit this array, so no call is refused for lack of memory.
 pub fn built_on_the_stack(alloc: Global, number: u64) -> Result<(), ErrorKind>
     ensures { IsOk result }
 {

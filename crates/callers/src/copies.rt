@@ -1,4 +1,5 @@
-//! Functions that make canonical copies, and are proved from the contracts of the calls only.
+//! Functions that make canonical copies, and are proved only from the contracts of the calls that
+//! make them.
 ghost use Rattle.std.specs.Prelude.{◌≡◌, ◌⊎◌, ◌∷◌, ◌+◌, ◌*◌, ◌<◌, ◌≤◌, [], ℕ, true, length, map, sum, IfOk, IfErr, OnErr};
 ghost use Rattle.capnp_words.specs.declared.error.ErrorKind.TheVariants.{AllocationFailed};
 ghost use Rattle.capnp_words.specs.Meter.{FitsIn};
@@ -21,15 +22,15 @@ use capnp_words::error::ErrorKind;
 use capnp_words::read_limiter::ReadLimiter;
 use std::alloc::Global;
 
-/// Makes the canonical copy of the value that the pointer at `place` means, with memory from the
+/// Makes the canonical copy of the value that the pointer at `place` leads to, with memory from the
 /// heap.
 ///
-/// Succeeds only if the pointer means a value without capabilities within the nesting limit of
-/// `arena`, and `lim` covers what reading this value costs. If so, and if the value's canonical
-/// words fit a segment, refuses only if memory runs out. A success charges `lim` that cost, and
-/// counts each non-null pointer of the value in `lim`; a refusal leaves `lim` unchanged. The copy's
-/// segment has room for at most one word more than the message has, or for less than twice the
-/// words written.
+/// Succeeds only if the pointer leads to a value without capabilities, within the nesting limit of
+/// `arena`, and `lim` covers what reading this value costs. If both hold, and if the value's
+/// canonical words fit a segment, refuses only if memory runs out. A success charges `lim` that
+/// cost, and counts each non-null pointer of the value in `lim`; a refusal leaves `lim` unchanged.
+/// The copy's segment has room for at most one word more than the source message has, or for less
+/// than twice as many words as the copy has.
 pub fn heap_copy_at<S: ReaderSegments>(
     alloc: Global,
     arena: &ReaderArenaImpl<S>,

@@ -1,4 +1,5 @@
-//! Functions that apply edits, and are proved from the contracts of edits only.
+//! Examples of functions that call `apply_all`. Their proofs use only its contract, which shows that
+//! this contract tells a caller enough.
 ghost use Rattle.std.specs.Prelude.{◌≡◌, ◌≤◌, ◌+◌, ◌∷◌, [], length, true, IsOk, All};
 ghost use Rattle.std.specs.List.{sum_by};
 ghost use Rattle.capnp_format.specs.Forest.{IsForest};
@@ -15,9 +16,12 @@ use capnp_words::error::ErrorKind;
 use capnp_words::wire_pointer::{ElementSize, StructSize};
 use std::alloc::Global;
 
-/// Applies `edits` to a message that is all in its first segment. The edits only make objects, or
-/// write pointers, fields, elements and bytes. The segment has room for the words of all objects to
-/// make, so no edit is refused for lack of memory.
+/// Applies `edits`. Because of the preconditions, no edit is refused for lack of memory.
+///
+/// Preconditions: `outcomes` has as many entries as `edits`; the value of the message holds no word
+/// twice, and all other words of the message are zero; all words of the message are in its first
+/// segment; `edits` only make objects, or write pointers, fields, elements and bytes; and the first
+/// segment has room for the words of all objects that they make.
 pub fn edits_in_room<A: BuilderArena>(
     arena: &mut A,
     edits: &[Edit<'_>],
@@ -56,9 +60,10 @@ fn pass_memory(outcome: Option<ErrorKind>) -> Result<(), ErrorKind>
     }
 }
 
-/// Makes the root lead to a struct of a number and a text, with three edits of a message whose only
-/// word is a null root. Would fail only if an edit were refused for lack of memory, but the segment
-/// has room for all words.
+/// Applies three edits, which make the root lead to a struct with a number and a text.
+/// Preconditions: the only word of the message is a null root, and its segment has room for four
+/// words. An error would be the refusal of an edit for lack of memory, but the segment has room for
+/// all words.
 #[tactic(auto, using(crate::proofs::Fitting::root_forest, crate::proofs::Fitting::root_first, crate::proofs::Fitting::three_ask, crate::proofs::Fitting::none_at))]
 pub fn three_edits<A: BuilderArena>(arena: &mut A) -> Result<(), ErrorKind>
     requires root { (A.view arena.old).words ≡ (0 ∷ []) ∷ [] }
@@ -92,7 +97,7 @@ pub fn three_edits<A: BuilderArena>(arena: &mut A) -> Result<(), ErrorKind>
 }
 
 /// Calls `three_edits` for a message whose first segment is an array of four words on the stack.
-/// The message needs no other memory, so no edit is refused for lack of memory.
+/// Its words all fit this array, so no edit is refused for lack of memory.
 pub fn edited_on_the_stack(alloc: Global) -> Result<(), ErrorKind>
     ensures { IsOk result }
 {

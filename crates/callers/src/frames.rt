@@ -1,4 +1,5 @@
-//! Functions that read and write frames, and are proved from the contracts of the calls only.
+//! Functions that read and write frames, and are proved only from the contracts of the calls that
+//! do this.
 ghost use Rattle.std.specs.Prelude.{◌≡◌, ◌⊎◌, [], Some, false, length, IfOk, IfErr, IsOkAnd, OnOk};
 ghost use Rattle.capnp_format.specs.Bytes.{message};
 ghost use Rattle.capnp_format.specs.Segments.{Segments};
@@ -11,8 +12,8 @@ use capnp_arena::arena::{Allocator, BuilderArena, BuilderArenaImpl, ReaderArena,
 use capnp_framing::devices::{MemoryOutput, Output};
 use capnp_framing::framing::{FrameError, FrameSegments, read_from_flat_slice, write};
 
-/// If `bytes` are the frame of a message, with nothing after the frame, reads this message, however
-/// large it is.
+/// Reads the message in the frame at the start of `bytes`. If `bytes` are exactly one frame, always
+/// succeeds, however large the message is.
 pub fn read_frame(bytes: &[u8]) -> Result<FrameSegments<'_>, FrameError>
     ensures { (S : Segments) → IsFrameOf S bytes.now → IsOkAnd result
         (λ f. message (⟦<FrameSegments<'static> as ReaderSegments>⟧.segments f) ≡ S) }
@@ -23,7 +24,7 @@ pub fn read_frame(bytes: &[u8]) -> Result<FrameSegments<'_>, FrameError>
     }
 }
 
-/// Writes the message `built` as a frame to `to`, which is still empty.
+/// Writes the message `built` as a frame to `to`. Precondition: `to` is empty, and hasn't failed.
 fn write_frame<L: Allocator>(
     built: &BuilderArenaImpl<L>,
     to: &mut MemoryOutput,
@@ -43,9 +44,10 @@ fn write_frame<L: Allocator>(
     }
 }
 
-/// Writes the message `built` as a frame, and reads this frame from the bytes written. Each place
-/// means the same in what is read as in `built`. Refuses if memory runs out, or the message has no
-/// segment or more than 512. Never refuses to read what was written.
+/// Writes the message `built` as a frame to `to`, and reads this frame from the bytes written. Each
+/// pointer leads to the same value in the message read as in `built`. Refuses only if memory runs
+/// out, or if `built` has no segment or more than 512; never refuses to read the frame that it has
+/// written. Precondition: `to` is empty, and hasn't failed.
 pub fn framed<'a, L: Allocator>(
     built: &BuilderArenaImpl<L>,
     to: &'a mut MemoryOutput,

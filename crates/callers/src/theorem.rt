@@ -101,14 +101,15 @@ fn is_short<A: BuilderArena>(made: &A)
     ensures { length (segment (A.view made.now).words 0) ≤ max_segment_words }
 {}
 
-/// Makes the canonical copy of the message in `segments` in `arena`. Precondition: the message in
+/// Makes, in `arena`, the canonical copy of the message in `segments`. Precondition: the message in
 /// `arena` is one segment, whose only word is a null root.
 ///
 /// Succeeds only if the message in `segments` has a value without capabilities within both limits.
 /// If this value's canonical words fit the segment in `arena`, always succeeds, even if the
 /// allocator refuses memory, and this segment is then exactly these words. If they don't fit, a
-/// copy that succeeds has further segments, and means the same value, trimmed. After a refusal all
-/// words in `arena` are zero.
+/// copy that succeeds has further segments, and has the trimmed value: the same value without the
+/// zero words and null pointers that the canonical form cuts from the ends of sections. After a
+/// refusal all words in `arena` are zero.
 pub fn canonical_copy_in_room<A: BuilderArena, S: ReaderSegments + Drop>(
     arena: &mut A,
     segments: S,
@@ -175,7 +176,8 @@ pub fn canonical_copy_in_bytes<W: Output, A: Allocator, S: ReaderSegments + Drop
     }
 }
 
-/// Writes the only segment of the message `made` as a frame, or as its bytes.
+/// Writes the only segment of the message `made`: as a frame, or as the segment's bytes, depending
+/// on `form`.
 fn write_bytes<W: Output, A: Allocator>(
     output: &mut W,
     made: &BuilderArenaImpl<A>,
@@ -199,8 +201,9 @@ fn write_bytes<W: Output, A: Allocator>(
 }
 
 /// Makes the canonical copies of two messages, and returns whether the copies are the same bytes.
-/// They are exactly if the values of the two messages are equal once trimmed, however the messages
-/// are encoded.
+/// The copies are the same bytes exactly if the trimmed values of the two messages are equal,
+/// however the messages are encoded. A trimmed value is one without the zero words and null
+/// pointers that the canonical form cuts from the ends of sections.
 ///
 /// Refuses only if one of the messages has no canonical copy, or an allocator refuses memory.
 pub fn two_copies<A: Allocator, S: ReaderSegments + Drop, R: ReaderSegments + Drop>(
@@ -240,7 +243,8 @@ pub fn two_copies<A: Allocator, S: ReaderSegments + Drop, R: ReaderSegments + Dr
     }
 }
 
-/// Whether the messages `left` and `right`, of one segment each, are the same bytes.
+/// Returns whether the messages `left` and `right` are the same bytes. Precondition: each has one
+/// segment.
 fn same_bytes<A: Allocator>(left: &BuilderArenaImpl<A>, right: &BuilderArenaImpl<A>) -> bool
     requires left { length (⟦<BuilderArenaImpl<A> as ReaderArena>⟧.segments left.now) ≡ 1 }
     requires right { length (⟦<BuilderArenaImpl<A> as ReaderArena>⟧.segments right.now) ≡ 1 }
@@ -276,11 +280,11 @@ pub fn canonical_test<S: ReaderSegments + Drop>(
 /// in the pointer's segment, in words, at which the value's first object has to start.
 ///
 /// Unless it refuses, returns `true` exactly if the pointer and the words that start at `head` are
-/// the canonical words of a value; other words may follow. The pointer then means this value within
-/// the nesting limit of `arena`. The test has moved `head` past the value's words, charged `lim`
-/// what reading the value costs, and counted each non-null pointer of the value in `lim`. Never
-/// refuses canonical words inside the segment, if the value is within the nesting limit and `lim`
-/// covers what reading it costs.
+/// the canonical words of a value; other words may follow. After `true`, the pointer leads to this
+/// value within the nesting limit of `arena`, and the test has moved `head` past the value's words,
+/// charged `lim` what reading the value costs, and counted each non-null pointer of the value in
+/// `lim`. Never refuses canonical words inside the segment, if the value is within the nesting
+/// limit and `lim` covers what reading it costs.
 pub fn canonical_test_at<S: ReaderSegments>(
     arena: &ReaderArenaImpl<S>,
     place: PointerPlace,
@@ -316,10 +320,10 @@ pub fn canonical_test_at<S: ReaderSegments>(
     PointerReader::of_pointer(pointer_at(arena, place)).is_canonical(lim, head)
 }
 
-/// Makes the canonical copy of the value that the pointer at `place` means, with memory from
+/// Makes the canonical copy of the value that the pointer at `place` leads to, with memory from
 /// `allocator`.
 ///
-/// Succeeds only if the pointer means a value without capabilities within the nesting limit of
+/// Succeeds only if the pointer leads to a value without capabilities, within the nesting limit of
 /// `arena`, `lim` covers what reading this value costs, and the value's canonical words fit a
 /// segment. If all of this is true, refuses only if the allocator refuses memory, which adds one to
 /// the allocator's `refusals`. A success charges `lim` that cost, and counts each non-null pointer
@@ -367,15 +371,17 @@ pub fn canonical_copy_at<A: Allocator, S: ReaderSegments>(
     copy_canonical_with(alloc, allocator, pointer_at(arena, place), lim)
 }
 
-/// Makes the canonical copy of the value that the pointer at `place` of `source` means, in `arena`.
-/// Precondition: the message in `arena` is one segment, whose only word is a null root.
+/// Makes, in `arena`, the canonical copy of the value that the pointer at `place` of `source` leads
+/// to. Precondition: the message in `arena` is one segment, whose only word is a null root.
 ///
-/// Succeeds only if the pointer means a value without capabilities within the nesting limit of
-/// `source`, and `lim` covers what reading this value costs. If so, and if the value's canonical
-/// words fit the segment in `arena`, always succeeds, even if the allocator refuses memory, and
-/// this segment is then exactly these words. If they don't fit, a copy that succeeds has further
-/// segments, and means the same value, trimmed. A success charges `lim` that cost, and counts each
-/// non-null pointer of the value in `lim`. After a refusal all words in `arena` are zero.
+/// Succeeds only if the pointer leads to a value without capabilities, within the nesting limit of
+/// `source`, and `lim` covers what reading this value costs. If both hold, and if the value's
+/// canonical words fit the segment in `arena`, always succeeds, even if the allocator refuses
+/// memory, and this segment is then exactly these words. If they don't fit, a copy that succeeds
+/// has further segments, and has the trimmed value: the same value without the zero words and null
+/// pointers that the canonical form cuts from the ends of sections. A success charges `lim` that
+/// cost, and counts each non-null pointer of the value in `lim`. After a refusal all words in
+/// `arena` are zero.
 pub fn canonical_copy_at_in_room<A: BuilderArena, S: ReaderSegments>(
     arena: &mut A,
     source: &ReaderArenaImpl<S>,
@@ -408,7 +414,7 @@ pub fn canonical_copy_at_in_room<A: BuilderArena, S: ReaderSegments>(
     PointerBuilder::get_root(arena).copy_from(from, lim, true)
 }
 
-/// The pointer at `place` of `arena`, with the nesting limit of `arena`.
+/// Returns the pointer at `place` of `arena`, with the nesting limit of `arena`.
 pub(crate) fn pointer_at<S: ReaderSegments>(
     arena: &ReaderArenaImpl<S>,
     place: PointerPlace,
@@ -423,8 +429,9 @@ pub(crate) fn pointer_at<S: ReaderSegments>(
 }
 
 /// Makes the pointer of `builder` lead to a new struct, all zero. The pointer may be anywhere in
-/// the message's tree. Afterwards the message has the same tree, except that the struct is at the
-/// pointer's place; if the call is refused, null is there. Returns where the struct's sections are.
+/// the message's tree. Afterwards the message has the same tree of values, except that the new
+/// struct is at the pointer's place; after a refusal, null is there instead. Returns where the
+/// struct's sections are.
 pub fn struct_made<A: BuilderArena>(
     builder: &mut PointerBuilder<'_, A>,
     size: StructSize,
@@ -458,9 +465,9 @@ pub fn struct_made<A: BuilderArena>(
 
 /// Applies `edits`, any of which may be refused.
 ///
-/// If the words of the message hold a value before, they hold a value afterwards: what the edits,
-/// with the refusals in `outcomes`, make of the first value. The outcome of an edit is
-/// `AllocationFailed` exactly if the arena's allocator has refused memory for this edit.
+/// If the message has a value before the call, it has a value afterwards: the one that the edits
+/// make of the former value, given which of them `outcomes` shows as refused. The outcome of an
+/// edit is `AllocationFailed` exactly if the arena's allocator has refused memory for this edit.
 pub fn edited_tree<A: BuilderArena>(
     arena: &mut A,
     edits: &[Edit<'_>],

@@ -1,4 +1,5 @@
-//! What a message is to the crates above: segments of whole words, checked and charged, read or
+//! Arenas: the segments of a message, each of whole words. A reader arena tests whether places are
+//! inside of their segments, and charges reads to a traversal limit. A builder arena can also be
 //! written.
 
 mod allocator;
@@ -26,9 +27,9 @@ pub use reader_arena_impl::{ReaderArenaImpl, ReaderOptions};
 pub use reader_segments::{ReaderSegments, SegmentArray};
 pub use scratch_allocator::{ScratchSegment, ScratchSpaceHeapAllocator};
 
-/// The most words of a segment being built, 536,870,911: each position fits the 29 bits that a far
-/// pointer has for it (encoding specification, "Inter-Segment Pointers").
+/// The most words that a segment being built can have: 536,870,911, so each position fits the 29
+/// bits that a far pointer has for it (encoding specification, "Inter-Segment Pointers").
 pub const MAX_SEGMENT_WORDS: u32 = 0x1fff_ffff;
 
-/// The most segments of a message being built, 4,294,967,295: their number is a u32.
+/// The most segments that a message being built can have: 4,294,967,295, the greatest `u32`.
 const MAX_SEGMENTS: usize = 0xffff_ffff;

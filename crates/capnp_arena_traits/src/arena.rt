@@ -1,4 +1,6 @@
-//! The traits of arenas: segments of whole words, checked and charged, read or written.
+//! The traits of arenas, which hold the segments of a message, each of whole words. A `ReaderArena`
+//! tests whether places are inside of their segments, and charges reads to a traversal limit. A
+//! `BuilderArena` can also be written.
 
 mod builder_arena;
 mod reader_arena;

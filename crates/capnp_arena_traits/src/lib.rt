@@ -1,4 +1,4 @@
-//! What a message is to the crates above: the traits of arenas for reading and for building.
+//! The traits of arenas, through which other crates read and build messages.
 #![tactic(auto)]
 
 pub mod arena;

@@ -1,5 +1,5 @@
-//! Opens, reads and answers each input of a run in turn, and reports on standard error what can't
-//! be answered.
+//! Opens each input of a run in turn, reads its messages and answers them, and reports on standard
+//! error which message can't be answered.
 
 ghost use Rattle.std.specs.Prelude.{◌≡◌, false};
 
@@ -25,9 +25,9 @@ pub enum Unanswered {
     WriteFailed,
 }
 
-/// Does the task with each file in turn, or with standard input if there are no files; returns
-/// whether every answer was yes. Ends at the first file that can't be opened or isn't answered to
-/// its end.
+/// Does `task` with each message of each file in turn, or of standard input if there are no files.
+/// Returns `false` if the command is `check` and one of the messages isn't canonical; otherwise
+/// `true`. Ends with an error at the first file that can't be opened or isn't answered to its end.
 ///
 /// If there are several files, each line of `check` and `size` begins with the file's name.
 pub fn answer_all<W: BufferedOutput>(
@@ -53,7 +53,8 @@ pub fn answer_all<W: BufferedOutput>(
     Ok(holds)
 }
 
-/// Does the task with a file; `-` is standard input.
+/// Does `task` with the file `name`, or with standard input if `name` is `-`. Returns what
+/// `answer_all` returns.
 fn answer_file<W: BufferedOutput>(
     rt: &HostRuntime,
     task: Task,
@@ -84,8 +85,8 @@ fn pass_on<W: BufferedOutput>(output: &mut W) -> Result<(), Unanswered> {
     }
 }
 
-/// Does the task with the bytes of `reader`, and reports faults with the name `name`, if there is
-/// one.
+/// Does `task` with the bytes of `reader`. Reports a fault with `name`, the name of the input, if
+/// there is one. Returns what `answer_all` returns.
 fn answer<R: Read + Drop, W: BufferedOutput>(
     rt: &HostRuntime,
     task: Task,
@@ -120,7 +121,8 @@ fn answer<R: Read + Drop, W: BufferedOutput>(
     }
 }
 
-/// Does the task from `input` to `output`. Precondition: neither has failed.
+/// Does `task` with the messages of `input`, and writes the answers to `output`. Precondition:
+/// neither `input` nor `output` has failed.
 fn run<R: BufferedInput + Drop, W: BufferedOutput>(
     rt: &HostRuntime,
     task: Task,
@@ -139,8 +141,8 @@ fn run<R: BufferedInput + Drop, W: BufferedOutput>(
     }
 }
 
-/// Does the task with the one message that `input` holds as raw words, and returns what `run`
-/// returns for a stream of one message.
+/// Does `task` with the one message that `input` holds as raw words, and returns what `run` returns
+/// for a stream of one message.
 fn run_flat<R: BufferedInput, W: BufferedOutput>(
     rt: &HostRuntime,
     task: Task,
@@ -164,9 +166,9 @@ fn run_flat<R: BufferedInput, W: BufferedOutput>(
     }
 }
 
-/// Reports which message is refused, counted from 1, at which byte it begins, and why. If it is the
-/// first message, and the input looks like something that the task doesn't read, also reports what
-/// it looks like.
+/// Reports which message is refused, counted from 1, at which byte of the input it begins, and why
+/// it is refused. If this is the first message, and the input looks like something that `task`
+/// doesn't read, also reports what the input looks like.
 fn refuse(rt: &HostRuntime, task: Task, name: Option<&str>, stop: Stop, seen: &Seen) {
     let (name, colon) = match name {
         Some(name) => (name, ": "),
@@ -203,7 +205,7 @@ fn refuse(rt: &HostRuntime, task: Task, name: Option<&str>, stop: Stop, seen: &S
     }
 }
 
-/// The system's text for an error, without its number.
+/// Returns the system's text for `error`, without the error's number.
 pub fn said(alloc: Global, error: &io::Error) -> Result<String, AllocError> {
     let text = format!(in alloc; "{error}")?;
     match text.as_str().split_once(" (os error ") {

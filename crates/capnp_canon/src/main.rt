@@ -1,6 +1,6 @@
 //! The program `capnp_canon`: reads a stream of framed messages from standard input or from files,
-//! and writes each message in canonical form, or says whether it is in that form or how large it
-//! is. `capnp_canon --help` explains the arguments.
+//! and for each message writes its canonical copy, or whether it is in canonical form, or how large
+//! it is. `capnp_canon --help` explains the arguments.
 #![tactic(auto)]
 
 mod inputs;
@@ -28,8 +28,8 @@ fn main(rt: HostRuntime) -> ExitCode {
     }
 }
 
-/// Runs the command. Fails only if there is no memory for the arguments, and then reads and writes
-/// nothing.
+/// Runs the command that the program's arguments ask for, and returns the exit status. Fails only
+/// if there is no memory for the arguments, and then reads and writes nothing.
 fn answer(rt: &HostRuntime) -> Result<ExitCode, AllocError> {
     let Some(args) = arguments(rt)? else {
         let _ = rt.eprintln(NO_TEXT);
@@ -47,7 +47,7 @@ fn answer(rt: &HostRuntime) -> Result<ExitCode, AllocError> {
     }
 }
 
-/// The arguments without the program's name; `None` if one isn't text.
+/// Returns the arguments without the program's name; `None` if one of them isn't UTF-8.
 fn arguments(rt: &HostRuntime) -> Result<Option<Vec<String>>, AllocError> {
     let given = match env::args(rt) {
         Ok(given) => given,
@@ -61,7 +61,7 @@ fn arguments(rt: &HostRuntime) -> Result<Option<Vec<String>>, AllocError> {
     Ok(Some(args))
 }
 
-/// Reports the wrong argument, or the missing one, and how to get help.
+/// Reports which argument is wrong or missing, and how to get help, and returns status 2.
 fn misunderstood(rt: &HostRuntime, args: &[String], wrong: WrongArgument) -> ExitCode {
     let text = match args.get(wrong.at) {
         Some(arg) => arg.as_str(),
@@ -113,7 +113,8 @@ fn misunderstood(rt: &HostRuntime, args: &[String], wrong: WrongArgument) -> Exi
     complain(rt, HINT)
 }
 
-/// Does the task from these files, or from standard input if there are none, to standard output.
+/// Does `task` with the messages of `files`, or of standard input if there are no files, and writes
+/// the answers to standard output. Returns the program's exit status.
 fn run(rt: &HostRuntime, task: Task, files: &[String]) -> ExitCode {
     let seen = Seen::new();
     let writer = Watched::new(io::writer(rt), &seen);
@@ -131,8 +132,8 @@ fn run(rt: &HostRuntime, task: Task, files: &[String]) -> ExitCode {
     run_to(rt, task, files, &mut packing, &seen)
 }
 
-/// Does the task, flushes the output, and returns the status of the run. If the output fails,
-/// reports it.
+/// Does `task`, flushes `output`, and returns the program's exit status. If `output` fails, reports
+/// this failure.
 fn run_to<W: BufferedOutput>(
     rt: &HostRuntime,
     task: Task,
@@ -152,7 +153,8 @@ fn run_to<W: BufferedOutput>(
     }
 }
 
-/// Reports that the output failed, and why; reports nothing if nobody reads the output.
+/// Reports that the output failed, and why, and returns status 2. Reports nothing if the output is
+/// a pipe that nobody reads any more.
 fn write_failed(rt: &HostRuntime, fault: Option<io::Error>) -> ExitCode {
     let Some(error) = fault else {
         return complain(rt, WRITE_ERROR);
@@ -166,7 +168,7 @@ fn write_failed(rt: &HostRuntime, fault: Option<io::Error>) -> ExitCode {
     ExitCode::from(2)
 }
 
-/// Writes `text` to standard output.
+/// Writes `text` to standard output, and returns the program's exit status.
 fn say(rt: &HostRuntime, text: &str) -> ExitCode {
     match rt.println(text) {
         Ok(()) => ExitCode::SUCCESS,

@@ -3,16 +3,16 @@
 /// The program's name and version.
 pub const VERSION: &str = "capnp_canon 1.0.0";
 
-/// Printed after what is wrong with the arguments.
+/// Printed after the line that says what is wrong with the arguments.
 pub const HINT: &str = "Try 'capnp_canon --help' for more information.";
 
-/// Printed if an argument isn't text.
+/// Printed if an argument isn't UTF-8 text.
 pub const NO_TEXT: &str = "capnp_canon: an argument isn't UTF-8";
 
 /// Printed if there is no memory for the arguments or a buffer.
 pub const NO_MEMORY: &str = "capnp_canon: memory exhausted";
 
-/// Printed if the output failed, before the reason.
+/// Printed if the output failed; the reason follows, if it is known.
 pub const WRITE_ERROR: &str = "capnp_canon: write error";
 
 /// The help text.

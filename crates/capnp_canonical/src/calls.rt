@@ -1,4 +1,4 @@
-//! Copies a message in canonical form, for any type that holds its segments.
+//! Makes a canonical copy of a message, for any type that holds the message's segments.
 ghost use Rattle.std.specs.Prelude.{◌≡◌, ◌≢◌, ◌⊎◌, ◌≤◌, ◌<◌, ◌+◌, ◌*◌, ◌/◌, ◌^◌, ◌∷◌, [], ℕ, List, length, take, drop, Some, IfOk, IfErr, OnErr};
 ghost use Rattle.std.specs.Int.{to_le_bytes, w32};
 ghost use Rattle.capnp_format.specs.Bytes.{message};
@@ -42,7 +42,7 @@ impl Limits {
     }
 }
 
-/// The table of a frame with one segment of `words` words.
+/// The segment table of a frame with one segment of `words` words.
 fn table(words: u32) -> [u8; 8]
     ensures table { result ≡ 0 ∷ 0 ∷ 0 ∷ 0 ∷ to_le_bytes w32 words }
 {
@@ -68,7 +68,7 @@ fn put_frame(segment: &[u8], to: &mut [u8]) -> Result<usize, Refusal>
     Ok(size)
 }
 
-/// Writes `segment` to the front of `to`, and returns its size in bytes.
+/// Writes `segment` to the front of `to`, and returns the size of `segment` in bytes.
 fn put_flat(segment: &[u8], to: &mut [u8]) -> Result<usize, Refusal>
     ensures put { Fills result to.old to.new (λ bytes. bytes ≡ segment.now) }
     ensures refused { IfErr result (λ r. (r ≡ Refusal.NoRoom (length segment.now))
@@ -82,8 +82,8 @@ fn put_flat(segment: &[u8], to: &mut [u8]) -> Result<usize, Refusal>
     Ok(size)
 }
 
-/// Writes `segment` to the front of `to`, in a frame or without one, by `form`. Returns the number
-/// of bytes written.
+/// Writes `segment` to the front of `to`, in a frame or without one, as `form` says. Returns the
+/// number of bytes written.
 fn put(form: Form, segment: &[u8], to: &mut [u8]) -> Result<usize, Refusal>
     requires short { length segment.now < 2 ^ 35 }
     ensures put { Fills result to.old to.new (λ bytes. (words : List ℕ)
@@ -98,12 +98,13 @@ fn put(form: Form, segment: &[u8], to: &mut [u8]) -> Result<usize, Refusal>
     }
 }
 
-/// The bytes of stack memory for copying a small message. Copying a small message is cheaper than
-/// testing first whether it is canonical.
+/// The size in bytes of the stack memory into which a small message is copied. A small message is
+/// copied without a test whether it is canonical already, because such a test costs more than the
+/// copy.
 const SMALL: usize = 512;
 
-/// Copies the message in canonical form on the heap, and writes the copy to the front of `to`, in a
-/// frame or without one, by `form`. Returns the number of bytes written.
+/// Makes a canonical copy of the message in `source` on the heap, and writes the copy to the front
+/// of `to`, in a frame or without one, as `form` says. Returns the number of bytes written.
 #[inline(never)]
 fn copy_on_heap<S: ReaderSegments>(
     alloc: Global,
@@ -124,7 +125,7 @@ fn copy_on_heap<S: ReaderSegments>(
     }
 }
 
-/// Like `copy_on_heap`, but copies on the stack if the copy fits there.
+/// Like `copy_on_heap`, but makes the copy in `SMALL` bytes of stack memory if it fits there.
 fn copy_small<S: ReaderSegments>(
     alloc: Global,
     form: Form,
@@ -173,13 +174,13 @@ fn copy_large<S: ReaderSegments>(
     }
 }
 
-/// Writes the message in canonical form to the front of `to`, in a frame or without one, by `form`.
-/// Returns the number of bytes written.
+/// Makes a canonical copy of the message in `segments`, and writes the copy to the front of `to`,
+/// in a frame or without one, as `form` says. Returns the number of bytes written.
 ///
-/// A message of fewer than 64 words takes heap memory only if its copy has more than 64 words. A
-/// message of 64 words or more takes no heap memory if it is canonical already and has at most
-/// 536,870,911 words: it is written from its own segment. Any other message of 64 words or more
-/// takes heap memory for the copy.
+/// Copying a message of fewer than 64 words takes heap memory only if the copy has more than 64
+/// words. A message of 64 words or more isn't copied if it is canonical already and has at most
+/// 536,870,911 words: its own segment is written, which takes no heap memory. The copy of any other
+/// message of 64 words or more is made on the heap.
 pub fn copy<S: ReaderSegments + Drop>(
     alloc: Global,
     form: Form,

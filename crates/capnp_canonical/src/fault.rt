@@ -9,11 +9,11 @@ use capnp_pointers::pointers::{CanonicalFault, CanonicalFaultReason};
 #[repr(C)]
 #[derive(Clone, Copy)]
 pub struct Fault {
-    /// The number of the reason; 0 for none.
+    /// The number of the reason; 0 if there is no fault.
     pub reason: u32,
-    /// The position of the word in the segment, counted from 0.
+    /// The position of the faulty word in its segment, counted in words from 0.
     pub word: u32,
-    /// The number of the segment.
+    /// The number of the faulty word's segment.
     pub segment: u64,
 }
 
@@ -47,7 +47,7 @@ fn number_of(reason: CanonicalFaultReason) -> u32
 }
 
 impl Fault {
-    /// The fault with its reason as a number; `NO_FAULT` for `None`.
+    /// Returns the fault `found` with its reason as a number; `NO_FAULT` for `None`.
     pub fn of(found: Option<CanonicalFault>) -> Self
         ensures fault { IfSome found (λ f. result ≡ told_fault f) }
         ensures none { IsNone found → result ≡ no_fault }

@@ -18,7 +18,8 @@ use capnp_messages::messages::{Form, canonical_fault_of, size_of};
 use capnp_pointers::pointers::{CanonicalFault, MessageSize};
 use std::alloc::Global;
 
-/// The message whose frame is at the front of `bytes`. Refuses more than `words` words.
+/// Returns the message whose frame is at the front of `bytes`. Refuses a message of more than
+/// `words` words.
 fn message_in(bytes: &[u8], words: u64) -> Result<FrameSegments<'_>, Refusal>
     ensures begins { IfOk result (λ f. BeginsWithFrame bytes.now words
         (message (⟦<FrameSegments<'static> as ReaderSegments>⟧.segments f))) }
@@ -33,8 +34,9 @@ fn message_in(bytes: &[u8], words: u64) -> Result<FrameSegments<'_>, Refusal>
     }
 }
 
-/// Writes the frame's message in canonical form to the front of `to`, in a frame or without one, by
-/// `form`. Returns the number of bytes written.
+/// Makes a canonical copy of the message whose frame is at the front of `frame`, and writes the
+/// copy to the front of `to`, in a frame or without one, as `form` says. Returns the number of
+/// bytes written.
 pub fn copy_frame(
     alloc: Global,
     form: Form,
@@ -52,7 +54,8 @@ pub fn copy_frame(
     copy(alloc, form, segments, limits.options(), to)
 }
 
-/// Returns why and where the frame's message isn't canonical; `None` if it is.
+/// Returns why and where the message whose frame is at the front of `frame` isn't canonical; `None`
+/// if it is.
 pub fn check_frame(frame: &[u8], limits: Limits) -> Result<Option<CanonicalFault>, Refusal>
     ensures found { IfOk result (λ o. InFrame frame.now limits.words
         (TestFinds (limits_of limits.nesting limits.words) o)) }
@@ -64,7 +67,8 @@ pub fn check_frame(frame: &[u8], limits: Limits) -> Result<Option<CanonicalFault
     Ok(canonical_fault_of(segments, limits.options())?)
 }
 
-/// Measures the frame's message.
+/// Counts the words and capabilities of the message whose frame is at the front of `frame`, without
+/// the root pointer and landing pads.
 pub fn size_frame(frame: &[u8], limits: Limits) -> Result<MessageSize, Refusal>
     ensures size { IfOk result (λ z. InFrame frame.now limits.words
         (λ S. HasSizeOf S (limits_of limits.nesting limits.words) z.word_count z.cap_count)) }
@@ -76,7 +80,8 @@ pub fn size_frame(frame: &[u8], limits: Limits) -> Result<MessageSize, Refusal>
     Ok(size_of(segments, limits.options())?)
 }
 
-/// Returns the size in bytes of the frame at the front of `bytes`.
+/// Returns the size in bytes of the frame at the front of `bytes`. Refuses a message of more than
+/// `words` words.
 pub fn frame_size(bytes: &[u8], words: u64) -> Result<usize, Refusal>
     ensures size { IfOk result (λ n. InFrame bytes.now words (λ S. n ≡ length (frame S))) }
     ensures refused { IfErr result (RefusesBytes bytes.now words) }

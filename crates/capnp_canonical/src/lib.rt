@@ -2,8 +2,9 @@
 //! C. Copies, tests and measures a message that is given as a frame in a buffer, as segments, or as
 //! the words of its only segment. Also unpacks packed bytes. Keeps no state between calls.
 //!
-//! `bindings/c/capnp_canonical.h` says how to call each function. A function returns 0 or the
-//! number of a refusal. Names, texts and versions are never refused.
+//! `bindings/c/capnp_canonical.h` says how to call each function. A function returns 0 if it
+//! succeeded, otherwise the number of a refusal. The functions for names, texts and versions are
+//! never refused; they return a length or the version.
 #![tactic(auto)]
 
 ghost use Rattle.std.specs.Prelude.{◌≡◌, ◌≢◌, ◌⊎◌, ◌≤◌, ⊤, ◌+◌, ◌*◌, ◌++◌, ℕ, List, codes, false, length, take, drop};
@@ -40,8 +41,9 @@ use segments::{check_segments, copy_segments, size_segments};
 use std::alloc::Global;
 use words::{check_words, copy_words, size_words};
 
-/// Writes the frame's message in canonical form to the front of `to`, as a frame of one segment,
-/// and stores the number of bytes written in `written`.
+/// Makes a canonical copy of the message whose frame is at the front of `frame`, writes the copy to
+/// the front of `to`, as a frame of one segment, and stores the number of bytes written in
+/// `written`. `nesting` and `words` limit the reading, as in `capnp_canonical_check`.
 ///
 /// If `to` is too small, stores the number of bytes needed in `written`; for any other refusal, 0.
 /// The bytes of `to` after the copy are unchanged. If the call is refused, all bytes of `to` are
@@ -113,8 +115,9 @@ pub extern "C" fn capnp_canonical_copy_flat(
     }
 }
 
-/// Tests whether the frame's message is canonical: it has one segment, which holds the canonical
-/// words of a value and nothing else. If it isn't canonical, stores why and where in `fault`.
+/// Tests whether the message whose frame is at the front of `frame` is canonical: whether it has
+/// one segment, which holds the canonical words of a value and nothing else. If it isn't canonical,
+/// stores why and where in `fault`.
 ///
 /// `nesting` is how many structs and lists may be inside one another. `words` limits both the words
 /// of the frame and the words that may be read. After a refusal `is_canonical` is false and `fault`
@@ -150,8 +153,9 @@ pub extern "C" fn capnp_canonical_check(
     }
 }
 
-/// Stores the numbers of words and capabilities in the frame's message, without the root pointer
-/// and landing pads.
+/// Counts the words and capabilities of the message whose frame is at the front of `frame`, without
+/// the root pointer and landing pads. Stores the numbers in `word_count` and `cap_count`; after a
+/// refusal both are 0. `nesting` and `words` limit the reading, as in `capnp_canonical_check`.
 #[unsafe(no_mangle)]
 pub extern "C" fn capnp_canonical_size(
     frame: &[u8],
@@ -183,7 +187,8 @@ pub extern "C" fn capnp_canonical_size(
     }
 }
 
-/// Stores in `bytes` the size in bytes of the frame at the front of `frame`.
+/// Stores in `bytes` the size in bytes of the frame at the front of `frame`; after a refusal
+/// `bytes` is 0. Refuses a message of more than `words` words.
 #[unsafe(no_mangle)]
 pub extern "C" fn capnp_canonical_frame_size(frame: &[u8], words: u64, bytes: &mut usize) -> u32
     ensures done { result ≡ 0 → (S : Segments) × (front behind : List ℕ)
@@ -205,7 +210,8 @@ pub extern "C" fn capnp_canonical_frame_size(frame: &[u8], words: u64, bytes: &m
     }
 }
 
-/// Like `capnp_canonical_copy`, for a message in the caller's segments.
+/// Like `capnp_canonical_copy`, for a message that the caller passes as `segments`, without a
+/// frame.
 #[unsafe(no_mangle)]
 pub extern "C" fn capnp_canonical_segments_copy(
     alloc: Global,
@@ -236,7 +242,8 @@ pub extern "C" fn capnp_canonical_segments_copy(
     }
 }
 
-/// Like `capnp_canonical_copy_flat`, for a message in the caller's segments.
+/// Like `capnp_canonical_copy_flat`, for a message that the caller passes as `segments`, without a
+/// frame.
 #[unsafe(no_mangle)]
 pub extern "C" fn capnp_canonical_segments_copy_flat(
     alloc: Global,
@@ -267,7 +274,8 @@ pub extern "C" fn capnp_canonical_segments_copy_flat(
     }
 }
 
-/// Like `capnp_canonical_check`, for a message in the caller's segments.
+/// Like `capnp_canonical_check`, for a message that the caller passes as `segments`, without a
+/// frame.
 #[unsafe(no_mangle)]
 pub extern "C" fn capnp_canonical_segments_check(
     segments: &[&[u8]],
@@ -299,7 +307,8 @@ pub extern "C" fn capnp_canonical_segments_check(
     }
 }
 
-/// Like `capnp_canonical_size`, for a message in the caller's segments.
+/// Like `capnp_canonical_size`, for a message that the caller passes as `segments`, without a
+/// frame.
 #[unsafe(no_mangle)]
 pub extern "C" fn capnp_canonical_segments_size(
     segments: &[&[u8]],
@@ -331,7 +340,8 @@ pub extern "C" fn capnp_canonical_segments_size(
     }
 }
 
-/// Like `capnp_canonical_copy_flat`, for a message given as the words of its only segment.
+/// Like `capnp_canonical_copy_flat`, for a message with one segment, whose words the caller passes
+/// as `bytes`, without a frame.
 #[unsafe(no_mangle)]
 pub extern "C" fn capnp_canonical_words_copy(
     alloc: Global,
@@ -362,7 +372,8 @@ pub extern "C" fn capnp_canonical_words_copy(
     }
 }
 
-/// Like `capnp_canonical_check`, for a message given as the words of its only segment.
+/// Like `capnp_canonical_check`, for a message with one segment, whose words the caller passes as
+/// `bytes`, without a frame.
 #[unsafe(no_mangle)]
 pub extern "C" fn capnp_canonical_words_check(
     bytes: &[u8],
@@ -393,7 +404,8 @@ pub extern "C" fn capnp_canonical_words_check(
     }
 }
 
-/// Like `capnp_canonical_size`, for a message given as the words of its only segment.
+/// Like `capnp_canonical_size`, for a message with one segment, whose words the caller passes as
+/// `bytes`, without a frame.
 #[unsafe(no_mangle)]
 pub extern "C" fn capnp_canonical_words_size(
     bytes: &[u8],
@@ -462,7 +474,8 @@ pub extern "C" fn capnp_canonical_name(answer: u32, to: &mut [u8]) -> usize
     put_text(name_of_number(answer), to)
 }
 
-/// Writes the text of the reason with the number `reason`. Cuts it, and returns its length, like
+/// Writes the text of the reason with the number `reason` (see `Fault`) to the front of `to`.
+/// Terminates and cuts the text, and returns the length of the whole text, like
 /// `capnp_canonical_name`.
 #[unsafe(no_mangle)]
 pub extern "C" fn capnp_canonical_reason_text(reason: u32, to: &mut [u8]) -> usize
@@ -481,7 +494,8 @@ pub extern "C" fn capnp_canonical_version() -> u32
     10000
 }
 
-/// Writes the version as text. Cuts it, and returns its length, like `capnp_canonical_name`.
+/// Writes the library's version as text to the front of `to`. Terminates and cuts the text, and
+/// returns the length of the whole text, like `capnp_canonical_name`.
 #[unsafe(no_mangle)]
 pub extern "C" fn capnp_canonical_version_text(to: &mut [u8]) -> usize
     ensures length { result ≡ length (codes "1.0.0") }

@@ -10,7 +10,7 @@ use capnp_framing::framing::FrameError;
 use capnp_pointers::pointers::CanonicalFaultReason;
 use capnp_words::error::ErrorKind;
 
-/// The refusals of a frame, from number 16 on.
+/// The refusals of reading and writing a frame, in the order of their numbers, from 16 on.
 const FRAME_ERRORS: [FrameError; 7] = [
     FrameError::NoSegments,
     FrameError::TooManySegments(0),
@@ -21,7 +21,7 @@ const FRAME_ERRORS: [FrameError; 7] = [
     FrameError::AllocationFailed,
 ];
 
-/// The refusals of reading and copying a message, from number 32 on.
+/// The refusals of reading and copying a message, in the order of their numbers, from 32 on.
 const KINDS: [ErrorKind; 35] = [
     ErrorKind::AllocationFailed,
     ErrorKind::CannotCreateACanonicalMessageWithACapability,
@@ -60,7 +60,7 @@ const KINDS: [ErrorKind; 35] = [
     ErrorKind::UnknownPointerType,
 ];
 
-/// The reasons of faults, from number 1 on.
+/// The reasons of faults, in the order of their numbers, from 1 on.
 const REASONS: [CanonicalFaultReason; 14] = [
     CanonicalFaultReason::SegmentCount,
     CanonicalFaultReason::NoPointer,
@@ -78,7 +78,8 @@ const REASONS: [CanonicalFaultReason; 14] = [
     CanonicalFaultReason::WordsBehind,
 ];
 
-/// A refusal with this number, if there is one.
+/// Returns the refusal with the number `number`, with 0 as the value that it carries, if any;
+/// `None` if no refusal has this number.
 fn refusal_of(number: u32) -> Option<Refusal>
     ensures same { IfSome result (λ r. (answer_number r ≡ number)
         × ((other : Refusal) → answer_number other ≡ number → answer_name r ≡ answer_name other)) }
@@ -94,7 +95,8 @@ fn refusal_of(number: u32) -> Option<Refusal>
     }
 }
 
-/// The name of the refusal with this number; empty if there is none.
+/// Returns the name of the refusal with the number `number`; an empty text if no refusal has this
+/// number.
 pub fn name_of_number(number: u32) -> &'static str
     ensures { IsTextOf answer_number answer_name number result.now }
 {
@@ -104,7 +106,8 @@ pub fn name_of_number(number: u32) -> &'static str
     }
 }
 
-/// The text of the reason with this number; empty if there is none.
+/// Returns the text of the reason with the number `number`; an empty text if no reason has this
+/// number.
 pub fn text_of_reason(number: u32) -> &'static str
     ensures { IsTextOf reason_number fault_reason_text number result.now }
 {

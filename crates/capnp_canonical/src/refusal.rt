@@ -1,4 +1,4 @@
-//! Why a call is refused, by number and by name.
+//! The refusals of calls, with their numbers and names.
 ghost use Rattle.std.specs.Prelude.{◌≡◌, ◌<◌};
 ghost use Rattle.capnp_canonical.specs.Numbers.{frame_error_number, error_number, answer_name, answer_number, wanted_room};
 
@@ -69,7 +69,7 @@ impl From<ErrorKind> for Refusal {
     }
 }
 
-/// The number of a frame's refusal.
+/// The number of a refusal to read or write a frame.
 fn frame_number(error: FrameError) -> u32
     ensures number { result ≡ frame_error_number error }
     ensures some { 0 < result }

@@ -22,8 +22,9 @@ struct LentSegments<'a> {
 }
 
 impl<'a> LentSegments<'a> {
-    /// The segments in this order. Refuses a segment that isn't whole words, and too many segments
-    /// or words.
+    /// Wraps `segments`. Refuses with `SegmentIsNotWholeWords` if the bytes of a segment aren't
+    /// whole words, and with `MessageTooLarge` if there are more segments or words than
+    /// `SegmentArray::new` allows.
     fn new(segments: &'a [&'a [u8]]) -> Result<Self, Refusal>
         ensures segments { IfOk result (λ lent.
             ⟦<LentSegments<'static> as ReaderSegments>⟧.segments lent ≡ lent_bytes segments.now) }
@@ -67,8 +68,8 @@ impl ReaderSegments for LentSegments<'_> {
     }
 }
 
-/// Writes the segments' message in canonical form to the front of `to`, in a frame or without one,
-/// by `form`. Returns the number of bytes written.
+/// Makes a canonical copy of the message in `segments`, and writes the copy to the front of `to`,
+/// in a frame or without one, as `form` says. Returns the number of bytes written.
 pub fn copy_segments(
     alloc: Global,
     form: Form,
@@ -86,7 +87,7 @@ pub fn copy_segments(
     copy(alloc, form, lent, limits.options(), to)
 }
 
-/// Returns why and where the segments' message isn't canonical; `None` if it is.
+/// Returns why and where the message in `segments` isn't canonical; `None` if it is.
 pub fn check_segments(segments: &[&[u8]], limits: Limits) -> Result<Option<CanonicalFault>, Refusal>
     ensures found { IfOk result (λ o. InSegments segments.now
         (TestFinds (limits_of limits.nesting limits.words) o)) }
@@ -98,7 +99,8 @@ pub fn check_segments(segments: &[&[u8]], limits: Limits) -> Result<Option<Canon
     Ok(canonical_fault_of(lent, limits.options())?)
 }
 
-/// Measures the segments' message.
+/// Counts the words and capabilities of the message in `segments`, without the root pointer and
+/// landing pads.
 pub fn size_segments(segments: &[&[u8]], limits: Limits) -> Result<MessageSize, Refusal>
     ensures size { IfOk result (λ z. InSegments segments.now
         (λ S. HasSizeOf S (limits_of limits.nesting limits.words) z.word_count z.cap_count)) }

@@ -16,7 +16,8 @@ use capnp_pointers::pointers::{CanonicalFault, MessageSize};
 use capnp_words::error::ErrorKind;
 use std::alloc::Global;
 
-/// The message whose one segment is `words`.
+/// Returns the message whose one segment is `words`. Refuses with `SegmentIsNotWholeWords` if
+/// `words` isn't whole words, and with `MessageTooLarge` if it is 2^32 words or more.
 fn message_of(words: &[u8]) -> Result<OutputSegments<'_>, Refusal>
     ensures segments { IfOk result (λ s. output_bytes s ≡ words.now ∷ []) }
     ensures small { IfOk result (λ s. IsSmall (output_bytes s)) }
@@ -32,8 +33,8 @@ fn message_of(words: &[u8]) -> Result<OutputSegments<'_>, Refusal>
     Ok(OutputSegments::SingleSegment(without_null(words)))
 }
 
-/// Writes the message's canonical words, without a frame, to the front of `to`, and returns the
-/// number of bytes written.
+/// Makes a canonical copy of the message whose one segment is `words`, and writes the copy to the
+/// front of `to`, without a frame. Returns the number of bytes written.
 pub fn copy_words(
     alloc: Global,
     words: &[u8],
@@ -50,7 +51,7 @@ pub fn copy_words(
     copy(alloc, Form::Flat, message, limits.options(), to)
 }
 
-/// Returns why and where the message isn't canonical; `None` if it is.
+/// Returns why and where the message whose one segment is `words` isn't canonical; `None` if it is.
 pub fn check_words(words: &[u8], limits: Limits) -> Result<Option<CanonicalFault>, Refusal>
     ensures found { IfOk result (λ o. InWords words.now
         (TestFinds (limits_of limits.nesting limits.words) o)) }
@@ -62,7 +63,8 @@ pub fn check_words(words: &[u8], limits: Limits) -> Result<Option<CanonicalFault
     Ok(canonical_fault_of(message, limits.options())?)
 }
 
-/// Measures the message.
+/// Counts the words and capabilities of the message whose one segment is `words`, without the root
+/// pointer and landing pads.
 pub fn size_words(words: &[u8], limits: Limits) -> Result<MessageSize, Refusal>
     ensures size { IfOk result (λ z. InWords words.now
         (λ S. HasSizeOf S (limits_of limits.nesting limits.words) z.word_count z.cap_count)) }

@@ -24,12 +24,12 @@ use capnp_words::words;
 /// A list that a pointer leads to.
 #[derive(Clone, Copy, Debug)]
 pub struct ExistingList {
-    /// The segment of its elements.
+    /// The number of the segment that has the elements.
     pub segment: u32,
-    /// The word where the first element starts. In a list of structs, this is the word after the
-    /// tag.
+    /// The position of the word where the first element starts. In a list of structs, this is the
+    /// word after the tag.
     pub start: u32,
-    /// Its element size.
+    /// The element size.
     pub size: ElementSize,
     /// The sizes of the two sections of each element; 0 and 0 if the elements aren't structs.
     pub struct_size: StructSize,
@@ -40,9 +40,9 @@ pub struct ExistingList {
 /// The bytes of a text or of data that a pointer leads to.
 #[derive(Clone, Copy, Debug, PartialEq, Eq)]
 pub struct ExistingBytes {
-    /// The segment of the bytes.
+    /// The number of the segment that has the bytes.
     pub segment: u32,
-    /// The word that starts with the first byte.
+    /// The position of the word that starts with the first byte.
     pub start: u32,
     /// The number of bytes.
     pub length: u32,
@@ -51,20 +51,21 @@ pub struct ExistingBytes {
 /// A struct that a pointer leads to.
 #[derive(Clone, Copy, Debug)]
 pub struct ExistingStruct {
-    /// The segment of its sections.
+    /// The number of the segment that has the struct's sections.
     pub segment: u32,
-    /// The word where its data section starts. Its pointers come after its data words.
+    /// The position of the word where the data section starts. The pointer section follows the data
+    /// section.
     pub start: u32,
-    /// The number of its data words and pointers.
+    /// The numbers of data words and pointers.
     pub size: StructSize,
 }
 
-/// The index of the capability that the pointer at `at` of segment `id` is ("Capabilities
-/// (Interfaces)"). Doesn't follow the pointer.
+/// Returns the index of the capability that the pointer at `at` of segment `id` holds
+/// ("Capabilities (Interfaces)"). Doesn't follow the pointer.
 ///
 /// Refusals: `MessageContainsNullCapabilityPointer` if the pointer is null;
-/// `MessageContainsNonCapabilityPointerWhereCapabilityPointerWasExpected` for any other pointer,
-/// also a far pointer to a capability.
+/// `MessageContainsNonCapabilityPointerWhereCapabilityPointerWasExpected` if the pointer is neither
+/// null nor a capability pointer itself, even if it is a far pointer to one.
 pub fn get_capability<A: BuilderArena>(arena: &A, id: u32, at: u32) -> Result<u32, ErrorKind>
     ensures word { result ≡ capability_of (word_at (A.view arena.now).words id at) }
     ensures found { (t : Tree) → IsStored (A.view arena.now).words id at t
@@ -80,8 +81,8 @@ pub fn get_capability<A: BuilderArena>(arena: &A, id: u32, at: u32) -> Result<u3
     Ok(word.cap_index())
 }
 
-/// The struct that the pointer at `at` of segment `id` leads to, with the sections that it has
-/// ("Structs"). `None` if the pointer is null, or doesn't lead to a struct.
+/// Finds the struct that the pointer at `at` of segment `id` leads to, with the sizes that its
+/// sections have ("Structs"). Returns `None` if the pointer is null, or doesn't lead to a struct.
 #[inline(always)]
 pub fn get_struct<A: BuilderArena>(arena: &A, id: u32, at: u32) -> Option<ExistingStruct>
     ensures { FindsStructAt (A.view arena.now).words id at result }
@@ -100,8 +101,9 @@ pub fn get_struct<A: BuilderArena>(arena: &A, id: u32, at: u32) -> Option<Existi
     struct_of(arena, id, at, word)
 }
 
-/// The struct that `word` leads to, with the sections that the struct has; `None` if `word` doesn't
-/// lead to a struct. Precondition: `word` is the pointer at `at` of segment `id`, and isn't zero.
+/// Returns the struct that `word` leads to, with the sizes that its sections have; `None` if `word`
+/// doesn't lead to a struct. Precondition: `word` is the pointer at `at` of segment `id`, and isn't
+/// zero.
 #[inline(always)]
 fn struct_of<A: BuilderArena>(
     arena: &A,
@@ -149,11 +151,11 @@ fn struct_behind_pad<A: BuilderArena>(
     struct_of(arena, id, at, word)
 }
 
-/// The list that the pointer at `at` of segment `id` leads to ("Lists"). Its elements have to be at
-/// least as wide as `expected`. `None` if the pointer is null. Precondition: `expected` isn't
-/// `InlineComposite`.
+/// Finds the list that the pointer at `at` of segment `id` leads to ("Lists"). The list's elements
+/// have to be at least as wide as `expected`. Returns `None` if the pointer is null. Precondition:
+/// `expected` isn't `InlineComposite`.
 ///
-/// Refusals: `ExistingPointerIsNotAList` for anything but a list;
+/// Refusals: `ExistingPointerIsNotAList` if the pointer leads to something other than a list;
 /// `FoundStructListWhereBitListWasExpected` for a list of structs if bits are expected;
 /// `ExistingListValueIsIncompatibleWithExpectedType` for elements with fewer bits of data or fewer
 /// pointers than `expected` has, for structs without data words if numbers are expected, and for
@@ -180,8 +182,8 @@ pub fn get_list<A: BuilderArena>(
     }
 }
 
-/// Where the pointer at `at` of segment `id` leads, which has to be a list; `None` if the pointer
-/// is null.
+/// Finds where the pointer at `at` of segment `id` leads, and tests that it leads to a list.
+/// Returns `None` if the pointer is null.
 ///
 /// Refusals: `ExistingPointerIsNotAList` if the pointer leads to something else;
 /// `MessageContainsOutOfBoundsPointer` if it leads out of the message, which doesn't happen in a
@@ -205,8 +207,8 @@ fn follow_list<A: BuilderArena>(arena: &A, id: u32, at: u32) -> Result<Option<La
     }
 }
 
-/// The list at `landing`, with elements of size `size`, which aren't structs. Refuses elements that
-/// are narrower than `expected`.
+/// Returns the list at `landing`, whose elements have size `size`. The caller passes a list whose
+/// elements aren't structs. Refuses elements that are narrower than `expected`.
 fn plain_list_at(
     landing: Landing,
     size: ElementSize,
@@ -233,8 +235,8 @@ fn plain_list_at(
     }))
 }
 
-/// The list of structs at `landing`, by its tag. Refuses structs that can't be read as elements of
-/// size `expected`.
+/// Returns the list of structs at `landing`, according to its tag. Refuses structs that can't be
+/// read as elements of size `expected`.
 fn struct_list_at<A: BuilderArena>(
     arena: &A,
     landing: Landing,
@@ -266,7 +268,7 @@ fn struct_list_at<A: BuilderArena>(
     }
 }
 
-/// The tag of the list of structs at `landing`; `None` if the tag isn't inside the segment.
+/// Returns the tag of the list of structs at `landing`; `None` if the tag isn't inside the segment.
 fn tag_at<A: BuilderArena>(arena: &A, landing: Landing) -> Option<WirePointer>
     ensures there { landing.start < length (segment (A.view arena.now).words landing.segment)
         → IsSome result }
@@ -287,7 +289,8 @@ fn tag_at<A: BuilderArena>(arena: &A, landing: Landing) -> Option<WirePointer>
     }
 }
 
-/// Why structs with sections `size` aren't elements of size `expected`; `None` if they fit.
+/// Returns why structs of size `size` can't be read as elements of size `expected`; `None` if they
+/// can.
 fn misfit_of_structs(expected: ElementSize, size: StructSize) -> Option<ErrorKind>
     ensures found { result ≡ structs_misfit expected size.data_words size.pointers }
     ensures named { IfSome result (λ k. is_unfound k ≡ true) }
@@ -305,11 +308,11 @@ fn misfit_of_structs(expected: ElementSize, size: StructSize) -> Option<ErrorKin
     }
 }
 
-/// The data that the pointer at `at` of segment `id` leads to ("Lists"). `None` if the pointer is
-/// null.
+/// Finds the data that the pointer at `at` of segment `id` leads to ("Lists"). Returns `None` if
+/// the pointer is null.
 ///
-/// Refusals: `ExistingPointerIsNotAList` for anything but a list;
-/// `ExistingListPointerIsNotByteSized` if the elements aren't bytes.
+/// Refusals: `ExistingPointerIsNotAList` if the pointer leads to something other than a list;
+/// `ExistingListPointerIsNotByteSized` if the list's elements aren't bytes.
 pub fn get_data<A: BuilderArena>(
     arena: &A,
     id: u32,
@@ -332,8 +335,8 @@ pub fn get_data<A: BuilderArena>(
     }
 }
 
-/// The text that the pointer at `at` of segment `id` leads to, without the zero byte after it
-/// ("Lists"). `None` if the pointer is null.
+/// Finds the text that the pointer at `at` of segment `id` leads to, without the zero byte at its
+/// end ("Lists"). Returns `None` if the pointer is null.
 ///
 /// Refusals: those of `get_data`, if the pointer doesn't lead to a list of bytes;
 /// `TextBlobMissingNULTerminator` if the bytes don't end in a zero byte.
@@ -359,7 +362,7 @@ pub fn get_text<A: BuilderArena>(
     }
 }
 
-/// Whether the segment of `bytes` exists, and they are inside it.
+/// Whether the segment of `bytes` exists, and has all these bytes.
 pub fn are_inside<A: BuilderArena>(arena: &A, bytes: ExistingBytes) -> bool
     ensures { IsTrue result ↔ BytesLieIn (A.view arena.now).words bytes }
 {
@@ -372,7 +375,7 @@ pub fn are_inside<A: BuilderArena>(arena: &A, bytes: ExistingBytes) -> bool
     }
 }
 
-/// Whether the last one of `bytes` exists, and is 0.
+/// Whether there is at least one byte at `bytes`, and the last one is 0.
 fn is_terminated<A: BuilderArena>(arena: &A, bytes: ExistingBytes) -> bool
     ensures some { IsTrue result → 0 < bytes.length }
     ensures ends { AreInside (A.view arena.now).words bytes
@@ -385,7 +388,8 @@ fn is_terminated<A: BuilderArena>(arena: &A, bytes: ExistingBytes) -> bool
     }
 }
 
-/// Whether the last of the `count` bytes from word `start` of `segment` on exists, and is 0.
+/// Whether `count` isn't 0, and the last of the `count` bytes from word `start` of `segment` on is
+/// inside `segment` and is 0.
 fn last_is_zero(segment: &[u8], start: u32, count: u32) -> bool
     ensures some { IsTrue result → 0 < count }
     ensures ends { start + words_for 2 count ≤ length (words_of segment.now)

@@ -12,7 +12,7 @@ ghost use Rattle.capnp_making.specs.Stored.{IsStored, IsReplaced, Puts};
 
 /// A message is a forest if its value holds no word twice, and all other words are zero. After a
 /// call has put a value at the end of a path from the root of a forest, the message is a forest
-/// again, and its value differs only at the end of the path.
+/// again, and its value is the former one, except for what is at the end of the path.
 pub fn forest_after()
     ensures { (S R : Segments) (t : Tree) (path : List Step) (u q : ℕ) (x y : Tree)
         → IsForest S t → PathLeads S (node 0 0 t) path (node u q x) → Puts S R u q y
@@ -20,7 +20,7 @@ pub fn forest_after()
 {}
 
 /// A call that puts a value at a place of a forest changes only the pointer at that place, the
-/// words that its former value held, and words that it allocates.
+/// words of the value that this pointer led to before, and words that the call allocates.
 pub fn others_stay()
     ensures { (S R : Segments) (t : Tree) (path : List Step) (u q : ℕ) (x y : Tree)
         → IsForest S t → PathLeads S (node 0 0 t) path (node u q x) → Puts S R u q y
@@ -35,9 +35,10 @@ pub fn last_stands()
         → Puts S R u q y → Puts R Q u q z → Puts S Q u q z }
 {}
 
-/// If a number or a bit is written in the data section of a struct, the struct's place holds the
-/// struct with that number or bit, and nothing else of the message is changed (encoding
-/// specification, "Structs"). The position b of the number is in bits from the first data word on.
+/// If a number or a bit is written in the data section of a struct, the place of the struct holds
+/// the struct with that number or bit instead of the former one, and nothing else of the message is
+/// changed (encoding specification, "Structs"). The position b of the number is in bits from the
+/// first data word on.
 pub fn struct_field_written()
     ensures { (S R : Segments) (s p : ℕ) (ws : List ℕ) (ts : Trees) (b w v : ℕ)
         → IsStored S s p (Struct ws ts) → b < 64 * length ws
@@ -45,8 +46,8 @@ pub fn struct_field_written()
         → IsReplaced S R s p (Struct ws ts) (Struct (put_field ws b w v) ts) }
 {}
 
-/// If an element is written in a list of numbers or bits, the list's place holds the list with that
-/// element, and nothing else of the message is changed ("Lists").
+/// If an element is written in a list of numbers or bits, the place of the list holds the list with
+/// that element instead of the former one, and nothing else of the message is changed ("Lists").
 pub fn list_element_written()
     ensures { (S R : Segments) (s p size : ℕ) (ns : List ℕ) (i v : ℕ)
         → IsStored S s p (Flat size ns) → 0 < size → i < length ns → v < 2 ^ element_bits size

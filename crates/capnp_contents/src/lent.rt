@@ -1,4 +1,4 @@
-//! Bytes of a message being built, lent for writing in place (encoding specification, "Lists").
+//! Lends bytes of a message being built, for writing in place (encoding specification, "Lists").
 ghost use Rattle.std.specs.Prelude.{◌≡◌, ℕ, ◌+◌, ◌-◌, ◌^◌, ◌<◌, ◌≤◌, List, [], length, take, drop, get_or, slice_index_or, IfOk};
 ghost use Rattle.std.specs.Borrow.{sem, Lends, Array, u8 as byte};
 ghost use Rattle.capnp_format.specs.Segments.{IsPlace};
@@ -14,7 +14,8 @@ use capnp_arena_traits::arena::BuilderArena;
 use capnp_words::error::ErrorKind;
 use capnp_words::wire_pointer::ElementSize;
 
-/// Lends the bytes of segment `id` from `from` up to `end`; the other bytes stay unchanged.
+/// Lends the bytes of segment `id` from position `from` on, up to position `end`, which isn't
+/// included. The other bytes stay unchanged.
 fn part_of<A: BuilderArena>(arena: &mut A, id: u32, from: usize, end: usize) -> &mut [u8]
     requires there { id < length (A.segments arena.old) }
     requires order { from ≤ end }
@@ -30,7 +31,7 @@ fn part_of<A: BuilderArena>(arena: &mut A, id: u32, from: usize, end: usize) -> 
     &mut bytes[from..end]
 }
 
-/// Lends `bytes` of a message, for writing in place; nothing else changes.
+/// Lends the bytes at `bytes`, for writing in place; nothing else of the message changes.
 pub fn bytes_mut<A: BuilderArena>(arena: &mut A, bytes: ExistingBytes) -> &mut [u8]
     requires there { bytes.segment < length (A.view arena.old).words }
     requires inside { AreInside (A.view arena.old).words bytes }
@@ -50,11 +51,13 @@ pub fn bytes_mut<A: BuilderArena>(arena: &mut A, bytes: ExistingBytes) -> &mut [
     part_of(arena, bytes.segment, from, end)
 }
 
-/// Makes the pointer at `at` of segment `id` lead to new data of `size` bytes, all zero, and lends
-/// them for writing in place ("Lists").
+/// Makes the pointer at `at` of segment `id` lead to new data of `size` zero bytes, and lends these
+/// bytes for writing in place ("Lists").
 ///
-/// First zeroes what the pointer held. Refuses with `AllocationFailed` if memory runs out, or with
-/// `MessageTooLarge`. After a refusal the pointer is null.
+/// First zeroes the object that the pointer led to. Refusals: `AllocationFailed` if memory runs
+/// out; `MessageTooLarge` if the object needs a new segment, and the object and a landing pad have
+/// more than 536,870,911 words, or the message can't have more segments. After a refusal the
+/// pointer is null.
 pub fn init_data<A: BuilderArena>(
     arena: &mut A,
     id: u32,
@@ -72,11 +75,14 @@ pub fn init_data<A: BuilderArena>(
     init_bytes(arena, id, at, size, size)
 }
 
-/// Makes the pointer at `at` of segment `id` lead to a new text of `size` bytes, all zero. Lends
-/// these bytes for writing in place, without the zero byte after them ("Lists").
+/// Makes the pointer at `at` of segment `id` lead to a new text of `size` zero bytes, followed by
+/// the zero byte at a text's end. Lends the `size` bytes for writing in place, without that last
+/// one ("Lists").
 ///
-/// First zeroes what the pointer held. Refuses with `AllocationFailed` if memory runs out, or with
-/// `MessageTooLarge`. After a refusal the pointer is null.
+/// First zeroes the object that the pointer led to. Refusals: `AllocationFailed` if memory runs
+/// out; `MessageTooLarge` if the object needs a new segment, and the object and a landing pad have
+/// more than 536,870,911 words, or the message can't have more segments. After a refusal the
+/// pointer is null.
 pub fn init_text<A: BuilderArena>(
     arena: &mut A,
     id: u32,

@@ -1,5 +1,5 @@
-//! The contents of a message being built: finds, reads, writes and lends them in place, and
-//! replaces them after zeroing what was there.
+//! Works on the contents of a message being built: finds, reads, writes and lends objects in place,
+//! and replaces an object after zeroing its words.
 #![tactic(auto)]
 
 pub mod bytes;

@@ -1,9 +1,9 @@
-//! Copies a pointer's value into a message of any number of segments, plain or in canonical form
+//! Copies a pointer's value, plain or in canonical form, into a message of any number of segments
 //! (encoding specification, "Structs", "Lists", "Inter-Segment Pointers" and "Canonicalization").
 //!
 //! Makes each object before its children: in the segment of the object's pointer if the object fits
-//! there, otherwise after a landing pad. So at any time the pointer that is copied to leads to a
-//! value.
+//! there, otherwise after a landing pad. So at any time during a copy, the pointer that is copied
+//! to is null or leads to a well-formed value.
 ghost use Rattle.std.specs.Prelude.{◌≡◌, ◌⊎◌, IfErr, OnOk, OnErr};
 ghost use Rattle.capnp_words.specs.declared.error.ErrorKind.TheVariants.{CannotCreateACanonicalMessageWithACapability, UnknownPointerType};
 ghost use Rattle.capnp_format.specs.Segments.{IsPlace};
@@ -66,18 +66,20 @@ pub fn copy_value<A: BuilderArena, B: ReaderArena>(
 ///
 /// If all words of the copy fit the pointer's segment, or the message has one segment afterwards,
 /// the copy comes after the other words of the pointer's segment, in the canonical order of
-/// objects. In this case no other word of the message changes except the pointer. A plain copy has
-/// all words of the sections and elements; a canonical copy has the words of the trimmed value.
+/// objects. In this case, of the words that the message had before, only the pointer changes. A
+/// plain copy has all words of the sections and elements; a canonical copy leaves out the zero
+/// words and null pointers that "Canonicalization" cuts off the ends of sections.
 ///
 /// Allocates at most as many words as reading the value costs, plus one landing pad for each object
-/// that has no room in its pointer's segment. If the copy is refused, the cost of reading up to the
-/// refused object counts. The bound also holds if `lim` has no limit, or nothing is charged.
+/// that has no room in its pointer's segment. If the copy is refused, this bound has the cost of
+/// reading up to the refused object instead. The bound also holds if `lim` has no limit, or if
+/// reading the source isn't charged.
 ///
-/// Refusals: those of reading the value; for a capability that `to.form` doesn't allow, the refusal
-/// that `CopyForm` states; `AllocationFailed` or `MessageTooLarge` from the arena. The arena
-/// refuses only an object whose words, together with all that was read before the object, don't fit
-/// after the words of the pointer's segment. After a refusal the pointer is null, the words that
-/// were allocated are zero, and what was charged to `lim` stays charged.
+/// Refusals: those of reading the value; for a capability, the refusal that `CopyForm` documents
+/// for the form `to.form` (`Plain` refuses none); `AllocationFailed` or `MessageTooLarge` from the
+/// arena. The arena refuses an object only if the object's words, together with the words that were
+/// read before it, don't fit after the words of the pointer's segment. After a refusal the pointer
+/// is null, the words that were allocated are zero, and what was charged to `lim` stays charged.
 pub fn copy_in_form<A: BuilderArena, B: ReaderArena>(
     arena: &mut A,
     to: Destination,
@@ -92,7 +94,8 @@ pub fn copy_in_form<A: BuilderArena, B: ReaderArena>(
     clear_refused(arena, to.place, copied)
 }
 
-/// Like `copy_in_form`, but a refusal leaves the objects that were made before it.
+/// Like `copy_in_form`, but doesn't clear anything after a refusal: the objects that were made
+/// before it stay.
 #[cycle(copies)]
 #[inline(never)]
 fn copy_object<A: BuilderArena, B: ReaderArena>(

@@ -9,10 +9,10 @@ use capnp_making::making::Start;
 pub enum CopyForm {
     /// The plain value, with its capabilities.
     Plain,
-    /// The canonical form of the value. Refuses a capability with
+    /// The canonical form of the value. A capability is refused with
     /// `CannotCreateACanonicalMessageWithACapability`.
     Canonical,
-    /// The plain value of a field's default. Refuses a capability with `UnknownPointerType`.
+    /// The plain value of a field's default. A capability is refused with `UnknownPointerType`.
     OfDefault,
 }
 
@@ -26,7 +26,7 @@ pub struct Destination {
 }
 
 impl CopyForm {
-    /// The canonical form if `canonicalize`, otherwise the plain one.
+    /// Returns `Canonical` if `canonicalize`, otherwise `Plain`.
     pub fn of(canonicalize: bool) -> Self
         ensures { form_in result ≡ form_of canonicalize }
     {

@@ -29,8 +29,9 @@ pub(crate) struct ElementSizes {
     pub kept: StructSize,
 }
 
-/// The smallest sections that cut only zero data words and null pointers off the `count` elements
-/// from word `start` of a segment on.
+/// Returns the smallest sections to which the `count` structs from word `start` of `bytes` on can
+/// be cut, so that each of them loses only zero data words and null pointers. `size` is the
+/// sections of each before. Precondition: the structs are inside `bytes`.
 pub(crate) fn least_widths(bytes: &[u8], start: u32, count: u32, size: StructSize) -> StructSize
     requires whole { length bytes.now ≡ 8 * length (words_of bytes.now) }
     requires inside { start + count * (size.data_words + size.pointers)
@@ -62,8 +63,8 @@ pub(crate) fn least_widths(bytes: &[u8], start: u32, count: u32, size: StructSiz
     }
 }
 
-/// Of the `n` words from position `at` on, the number up to the last one that isn't zero, but at
-/// least `least`. Only reads the words after the first `least`.
+/// Returns the greater one of `least` and the number of words up to the last one that isn't zero,
+/// of the `n` words from word `at` of `bytes` on. Reads only the words after the first `least`.
 #[tactic(auto, using(crate::proofs::Scanning::used_section))]
 fn widened(bytes: &[u8], at: usize, n: u16, least: u16) -> u16
     requires inside { 8 * (at + n) ≤ length bytes.now }

@@ -26,11 +26,12 @@ use capnp_words::wire_pointer::{ElementSize, StructSize};
 pub enum Step {
     /// From a struct to one of its pointers, by its index.
     Child(u16),
-    /// From a list to one of its elements, by its index: a pointer, or a struct.
+    /// From a list to one of its elements, by the element's index. The element is a pointer or a
+    /// struct.
     Element(u32),
 }
 
-/// Another message, read with a limiter of its own.
+/// Another message, to copy from. It is read with a limiter of its own.
 #[derive(Clone, Copy)]
 pub struct Source<'a> {
     /// The message.
@@ -44,8 +45,8 @@ pub struct Source<'a> {
 pub enum Op<'a> {
     /// Make a struct, all zero.
     InitStruct(StructSize),
-    /// Make a list of this many elements, fewer than 2^29, which are zero or null and aren't
-    /// structs.
+    /// Make a list of this many elements of this size, all zero or null. The elements aren't
+    /// structs, and there are fewer than 2^29.
     InitList(ElementSize, u32),
     /// Make a list of this many structs, fewer than 2^30, all zero. Together they have fewer than
     /// 2^29 words.
@@ -105,33 +106,36 @@ pub enum Op<'a> {
     CopyContent(Source<'a>),
 }
 
-/// A change of a message: where, and what to do there.
+/// A change of a message: a place, and what to do there.
 #[derive(Clone, Copy)]
 pub struct Edit<'a> {
-    /// The steps from the root pointer on.
+    /// The steps from the root pointer to the place.
     pub path: &'a [Step],
-    /// What to do at their end.
+    /// What to do at the end of the path.
     pub op: Op<'a>,
 }
 
 /// Applies `edit` to the message in `arena`.
 ///
-/// Refusals that change nothing: `NoSuchPlace` if the path leads nowhere, the operation is for a
-/// place of another kind, or a number is out of range. If the edit looks for a struct, a list, a
-/// text or data, also the refusal of `PointerBuilder`'s `get_struct`, `get_struct_list`,
-/// `get_list`, `get_text` or `get_data`. If there is nothing to copy, also the refusal of
-/// `PointerReader`'s `get_root_from_arena`, `get_struct` or `get_list`.
+/// Refuses with `NoSuchPlace`, and changes nothing, if the path leads nowhere, the operation is for
+/// a place of another kind, or a number is out of range. An edit that copies also refuses like
+/// `PointerReader`'s `get_root_from_arena` if the source's root pointer can't be read; and like
+/// `PointerReader`'s `get_struct` or `get_list` if the edit copies a struct, its content, or a
+/// list, and the root doesn't lead to a struct or a list that can be read. Such a refusal changes
+/// nothing. An edit that looks for a struct, a list, a text or data also refuses like
+/// `PointerBuilder`'s `get_struct`, `get_struct_list`, `get_list`, `get_text` or `get_data`. The
+/// last paragraph says what such a refusal changes.
 ///
-/// After the arena's `AllocationFailed` or `MessageTooLarge`, or after a copy is refused for what
-/// it reads, the pointer is null, with two exceptions. If copying a struct's content is refused for
-/// one of these reasons, the data and the pointers before the refused one are copied, and the other
-/// pointers are null. The second exception is an edit that looks for a struct, a list, a text or
-/// data.
+/// If the arena refuses with `AllocationFailed` or `MessageTooLarge`, or a copy that has begun is
+/// refused because of what it reads, the pointer is null afterwards, with two exceptions. If
+/// copying a struct's content is refused for one of these reasons, the data and the pointers before
+/// the refused one are copied, and the other pointers are null. The second exception is an edit
+/// that looks for a struct, a list, a text or data.
 ///
-/// Before it looks, such an edit replaces a null pointer by a copy of the default's value. If that
-/// copy is refused, the pointer is null. If the value found is of the wrong kind, or there is no
-/// memory to make it larger, that value stays, whether it came from the default or was there
-/// before.
+/// If such an edit has a default and the pointer is null, the edit first makes the pointer lead to
+/// a copy of the default's value. If that copy is refused, the pointer is null. If the value found
+/// is of the wrong kind, or there is no memory to make it larger, that value stays, whether it is a
+/// copy of the default's or was there before.
 pub fn apply<A: BuilderArena>(arena: &mut A, edit: &Edit<'_>) -> Result<(), ErrorKind>
     ensures { IsStep (A.view arena.old) (A.view arena.new) edit.now (refusal_of result) }
 {
@@ -153,8 +157,9 @@ pub fn apply<A: BuilderArena>(arena: &mut A, edit: &Edit<'_>) -> Result<(), Erro
     }
 }
 
-/// Applies `edits` in order, and goes on after a refusal. Stores the outcome of each in `outcomes`:
-/// `None` if it was applied, otherwise the refusal of `apply`.
+/// Applies `edits` in order, and goes on after a refusal. Stores the outcome of each edit in
+/// `outcomes`: `None` if the edit was applied, otherwise the refusal of `apply`. Precondition:
+/// `outcomes` is as long as `edits`.
 pub fn apply_all<A: BuilderArena>(
     arena: &mut A,
     edits: &[Edit<'_>],

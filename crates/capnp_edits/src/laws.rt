@@ -19,16 +19,16 @@ ghost use Rattle.capnp_edits.specs.Sources.{ContentRead, Copies, HasNothingToCop
 ghost use Rattle.capnp_edits.specs.Steps.{AreSteps, IsStep};
 ghost use Rattle.capnp_edits.specs.Tasks.{task_of};
 
-/// If the value of another message's root can be copied, copying it is never refused for what is
-/// read.
+/// If the value of another message's root can be copied, a copy of it is never refused because of
+/// what it reads.
 pub fn copied_or_refused()
     ensures { (c : Copying) (u : Tree) (k : ErrorKind) → Copies c u
         → HasNothingToCopy c.source c.wanted k ⊎ IsUnreadable c k → ⊥ }
 {}
 
-/// If the root of another message leads to a struct, and those of its pointers that are to be
-/// copied mean values within both limits, copying the struct's content isn't refused for what is
-/// read.
+/// If the root of another message leads to a struct, and the struct's pointers that are to be
+/// copied lead to values within the nesting limit and the traversal limit, copying the struct's
+/// content isn't refused because of what it reads.
 pub fn filled_or_refused()
     ensures { (source : Source) (q : ℕ) (k : ErrorKind) (all : ContentRead source)
         → count all.children ≡ min q all.from.pointers
@@ -48,9 +48,9 @@ pub fn step_is_there()
 
 /// Take edits that only make objects, or write pointers, fields, elements and bytes. If all words
 /// of the message are in its first segment, and those of all new objects fit there too, no edit is
-/// refused for lack of memory. Each is applied, or refused because of its path. All words stay in
-/// that segment. It grows by at most these objects' words, its capacity is unchanged, and the
-/// allocator refuses nothing.
+/// refused for lack of memory. Each edit is applied, or refused because of what its path leads to.
+/// All words stay in the first segment. That segment grows by at most the new objects' words, its
+/// capacity is unchanged, and the allocator refuses nothing.
 pub fn fitting_edits()
     ensures { (old new : View) (edits : List Edit) (rs : List (Option ErrorKind)) (t : Tree)
         → IsForest old.words t → AreInFirst old.words

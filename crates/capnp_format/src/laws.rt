@@ -1,7 +1,9 @@
 //! Laws of the format's definitions. Each function does nothing: its contract is the law, proved
 //! for all messages and values. The definitions are in `specs/`, and docs/FORMAT.md goes through
-//! them in order. Laws about values assume values of the format (`IsValue`), and laws about words
-//! assume numbers of 64 bits (`AreWords`).
+//! them in order. A place of a message means a value if reading from the pointer at that place
+//! results in the value (`Means`). Laws about values assume that the values are values of the
+//! format (`IsValue`), and laws about words assume that the words are numbers of 64 bits
+//! (`AreWords`).
 
 mod examples;
 
@@ -33,9 +35,9 @@ pub fn levels_from_depth()
         → Means S m s p t c ↔ (depth t ≤ m) }
 {}
 
-/// The function `decode` finds a value and its cost exactly if the relation `Means` has them for
-/// the place (`found`), and finds nothing exactly if `Means` has no value for the place
-/// (`nothing`).
+/// The function `decode` finds a value and its cost at a place exactly if the place means that
+/// value at that cost, by the relation `Means` (`found`). It finds nothing exactly if the place
+/// means no value (`nothing`).
 #[tactic(auto, using(crate::proofs::LawLemmas::decode_agrees, crate::proofs::LawLemmas::decode_refuses))]
 pub fn decode_agrees()
     ensures found { (S : Segments) (n s p : ℕ) (t : Tree) (c : ℕ)
@@ -44,24 +46,25 @@ pub fn decode_agrees()
         → (decode S n s p ≡ None) ↔ ((t : Tree) (c : ℕ) → Means S n s p t c → ⊥) }
 {}
 
-/// If the words of a message have 64 bits, a value that a place means is a value of the format:
-/// each size in it fits the bits that a pointer word has for that size.
+/// If the words of a message have 64 bits, each value that a place of the message means is a value
+/// of the format: each size in it fits the bits that a pointer word has for that size.
 #[tactic(auto, using(crate::proofs::Bounds::means_value))]
 pub fn meaning_is_value()
     ensures { (S : Segments) (n s p : ℕ) (t : Tree) (c : ℕ) → AreWords S → Means S n s p t c
         → IsValue t }
 {}
 
-/// A value's body, its canonical words without the root pointer, has as many words as the value's
-/// objects together.
+/// A value's body is its canonical words without the root pointer. The body has as many words as
+/// the value's objects have together.
 #[tactic(auto, using(crate::proofs::LawLemmas::body_length))]
 pub fn body_length()
     ensures { (t : Tree) → IsValue t → length (body t) ≡ word_count t }
 {}
 
-/// The canonical words of a value, followed by any words, mean that value at its least cost
-/// (`alone`). A canonical pointer at any place also means the value at this cost, if the value's
-/// body is at position h of the same segment (`anywhere`).
+/// If a segment consists of a value's canonical words, followed by any words, its first word means
+/// that value, at the least cost that the value can have (`alone`). A canonical pointer at any
+/// place also means the value at this cost, if the value's body is at position h of the same
+/// segment (`anywhere`).
 #[tactic(auto, using(crate::proofs::LawLemmas::canonical_words_mean, crate::proofs::Unique::stands_means))]
 pub fn canonical_words_mean()
     ensures alone { (t : Tree) (more : List ℕ) (n : ℕ) → IsValue t → IsEncodable t → depth t ≤ n
@@ -92,8 +95,9 @@ pub fn no_encoding_begins_another()
         → encoding t ++ more ≡ encoding u → more ≡ [] }
 {}
 
-/// Two places, of one message or of two, have the same canonical words exactly if their values are
-/// equal once they are trimmed.
+/// The values of two places, of one message or of two, have the same canonical words exactly if
+/// these values are equal after trimming, which cuts zero words and null pointers from the ends of
+/// sections.
 #[tactic(auto, using(crate::proofs::LawLemmas::same_canonical_words))]
 pub fn same_canonical_words()
     ensures { (S R : Segments) (n s p m u q c e : ℕ) (t v : Tree) → AreWords S → AreWords R
@@ -108,8 +112,8 @@ pub fn small_is_encodable()
     ensures { (t : Tree) → IsValue t → word_count t < 2 ^ 29 → IsEncodable t }
 {}
 
-/// If a value's pointer and the words that the value covers stay the same, so do the value and
-/// which words it covers. Other words may change, and words may be added to segments.
+/// If a value's pointer and the words that the value covers stay the same, the value stays the
+/// same, and it covers the same words. Other words may change, and words may be added to segments.
 #[tactic(auto, using(crate::proofs::Frame::frame))]
 pub fn others_may_change()
     ensures { (S R : Segments) (n s p : ℕ) (t : Tree) (c : ℕ) → Grows S R
@@ -118,9 +122,9 @@ pub fn others_may_change()
         → Means S n s p t c → Means R n s p t c × (cover R s p t ≡ cover S s p t) }
 {}
 
-/// Reading the canonical words of a place's value costs no more than reading the place (`cost`).
-/// The number of these words, without the root pointer, is at most what reading the place costs
-/// (`length`).
+/// Reading the canonical words of a place's value costs no more than reading that value at the
+/// place (`cost`). The number of its canonical words, without the root pointer, is at most what
+/// reading it at the place costs (`length`).
 #[tactic(auto, using(crate::proofs::LawLemmas::canonical_cost, crate::proofs::LawLemmas::canonical_length))]
 pub fn canonical_words_are_cheap()
     ensures cost { (S : Segments) (n s p : ℕ) (t : Tree) (c : ℕ) → AreWords S → Means S n s p t c
@@ -129,7 +133,7 @@ pub fn canonical_words_are_cheap()
         → length (body (trim t)) ≤ c }
 {}
 
-/// A trimmed value is unchanged if it is trimmed again (`twice`). Trimming adds no words, and keeps
+/// Trimming a trimmed value again doesn't change it (`twice`). Trimming adds no words, and keeps
 /// the depth and the number of capabilities (`keeps`).
 #[tactic(auto, using(crate::proofs::LawLemmas::trim_twice, crate::proofs::LawLemmas::trim_keeps))]
 pub fn trimming()
@@ -140,8 +144,8 @@ pub fn trimming()
         × (capabilities (trim t) ≡ capabilities t) }
 {}
 
-/// Reading canonical words, with anything after them, and making them canonical again results in
-/// the same words.
+/// If canonical words, with any words after them, are read, the canonical words of the value read
+/// are the same words again.
 #[tactic(auto, using(crate::proofs::LawLemmas::canonical_again))]
 pub fn canonical_again()
     ensures { (t u : Tree) (more : List ℕ) (n c : ℕ) → IsValue t → IsEncodable (trim t)
@@ -149,9 +153,9 @@ pub fn canonical_again()
         → encoding (trim u) ≡ encoding (trim t) }
 {}
 
-/// Trimming cuts a section as short as possible without losing anything but zero words and null
-/// pointers. In a list of structs it cuts all elements to one size: the smallest at which no
-/// element loses anything else.
+/// Trimming makes a section as short as possible, such that it loses only zero words or null
+/// pointers. It makes all elements of a list of structs the same size: the smallest at which each
+/// element loses only zero words and null pointers.
 #[tactic(auto, using(crate::proofs::LawLemmas::least_children))]
 pub fn least_widths()
     ensures words { (n : ℕ) (ws : List ℕ)
@@ -163,8 +167,9 @@ pub fn least_widths()
         ↔ ((ws : List ℕ) (ts : Trees) → HasElement es ws ts → AreNullFrom q ts) }
 {}
 
-/// A list's words, read as one number with the lowest word first, are its bytes with the lowest
-/// byte first. Its elements are consecutive bits of that number, the first element the lowest ones.
+/// A list's words, read as one number with the lowest word first, are the same number as its bytes,
+/// read with the lowest byte first (`bytes`). The list's elements are consecutive bits of that
+/// number; the first element is the lowest bits (`elements`).
 #[tactic(auto, using(crate::proofs::LawLemmas::element_is_bits))]
 pub fn elements_are_bits()
     ensures bytes { (n : ℕ) (bytes : List ℕ) → length bytes ≡ 8 * n
@@ -191,8 +196,8 @@ pub fn tested_is_copied()
 
 /// Let a place mean a value without capabilities, within n levels and at cost c. Then the test for
 /// canonical form accepts the words of the value's canonical copy, followed by any words, within n
-/// levels and at cost c or less (`found`). A canonical copy of those words has the same words
-/// (`again`). Both laws assume that the offsets fit (`IsEncodable`).
+/// levels and at cost c or less (`found`). A canonical copy made from those words has the same
+/// words as the first copy (`again`). Both laws assume that the offsets fit (`IsEncodable`).
 #[tactic(auto, using(crate::proofs::Agreements::copied_again))]
 pub fn copied_is_tested()
     ensures found { (S : Segments) (n s p c : ℕ) (t : Tree) (more : List ℕ) → AreWords S

@@ -29,7 +29,7 @@ pub trait Input {
     ghost ends_whole: { Self → Option Bool };
 
     /// Reads at most `to.len()` bytes to the front of `to`, and returns their number. If `to` isn't
-    /// empty, 0 means the end of the input. A read that fails takes no bytes.
+    /// empty, 0 means the end of the input. A read that fails consumes no bytes of the input.
     fn read(&mut self, to: &mut [u8]) -> Result<usize, DeviceFault>
         ensures bound { IfOk result (λ n. n ≤ length to.new) }
         ensures bytes { ReadConsumes (remaining self.old) (remaining self.new) result to.new }
@@ -50,8 +50,8 @@ pub trait Output {
     // Whether a write has failed.
     ghost has_failed: { Self → Bool };
 
-    /// Takes bytes from the front of `from`, and returns their number: at least 1 unless `from` is
-    /// empty. A write that fails takes no bytes.
+    /// Writes bytes from the front of `from`, and returns their number: at least 1 unless `from` is
+    /// empty. A write that fails writes no bytes.
     fn write(&mut self, from: &[u8]) -> Result<usize, DeviceFault>
         ensures bound { IfOk result (λ n. n ≤ length from.now) }
         ensures some { 0 < length from.now → IfOk result (λ n. 0 < n) }

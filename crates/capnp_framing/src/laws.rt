@@ -34,9 +34,9 @@ pub fn frame_is_read()
         → total S ≤ most → NoFrame (bytes ++ rest) most e → ⊥ }
 {}
 
-/// The bytes of a segment's words, without a frame, are read as the message of only that segment,
-/// if the segment has at most `most` words. Whole words are never refused for their contents, if
-/// there are at most `most`, and no more than a segment can have.
+/// If a segment has at most `most` words, the bytes of these words, without a frame, are read as a
+/// message with this one segment. Whole words are never refused for their contents, if there are at
+/// most `most`, and no more than a segment can have.
 pub fn bare_words()
     ensures same { (ws : List ℕ) (most : ℕ) → AreSegmentWords ws → length ws ≤ most_bare most
         → AreBareWords (bytes_of_words ws) most × (message (bytes_of_words ws ∷ []) ≡ ws ∷ []) }

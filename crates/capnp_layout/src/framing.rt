@@ -1,5 +1,6 @@
-//! The segments of a message in a stream of bytes, and whole messages in canonical form (encoding
-//! specification, "Serialization Over a Stream" and "Canonicalization").
+//! Reads and writes the segments of a message in a stream of bytes, and makes and tests whole
+//! messages in canonical form (encoding specification, "Serialization Over a Stream" and
+//! "Canonicalization").
 
 mod pointed;
 

@@ -1,5 +1,6 @@
-//! Laws of the format's definitions, and, in a module for each subject, laws that follow from the
-//! contracts of the crates below.
+//! Functions whose contracts are laws. The functions listed here are laws of the format's
+//! definitions; the modules, one for each subject, have laws that follow from the contracts of the
+//! crates below.
 
 pub use capnp_builders::laws as builders;
 pub use capnp_contents::laws as contents;

@@ -8,17 +8,17 @@ use capnp_arena_traits::arena::BuilderArena;
 use capnp_words::wire_pointer::{WirePointer, WirePointerKind};
 use capnp_words::words;
 
-/// Where a pointer leads, with its landing pads read.
+/// Where a pointer leads, after any landing pads.
 #[derive(Clone, Copy)]
 pub struct Landing {
-    /// The word that describes the object: the pointer itself, its landing pad, or the second pad
-    /// of a double-far pointer.
+    /// The word that describes the object: the pointer itself, its landing pad, or for a double-far
+    /// pointer the second word of its landing pad.
     pub word: WirePointer,
     /// The segment of the object.
     pub segment: u32,
     /// The position where the object starts, in words.
     pub start: u32,
-    /// The number of words of the landing pads: 0, 1 or 2.
+    /// The number of words of the pointer's landing pad: 0 if it has none, otherwise 1 or 2.
     pub pads: u32,
 }
 
@@ -81,8 +81,9 @@ pub fn landing_of<A: BuilderArena>(
     }
 }
 
-/// Where `word`, at `at` of segment `id`, leads if it is read as a pointer that isn't far; `None`
-/// if that is out of the segment. `pads` is the number of words of landing pads read so far.
+/// Reads `word`, at `at` of segment `id`, as a pointer that isn't far, and returns where it leads;
+/// `None` if it leads out of the segment. `pads` is the number of words of the landing pad that was
+/// read before.
 fn follow_near<A: BuilderArena>(
     arena: &A,
     id: u32,

@@ -1,5 +1,5 @@
-//! Makes objects of a message being built, all zero, for a pointer at any place of the message, and
-//! zeroes them again.
+//! Makes a pointer in a message being built lead to a new object, all zero; and zeroes what a
+//! pointer leads to.
 #![tactic(auto)]
 
 pub mod landing;

@@ -3,8 +3,11 @@
 //!
 //! If the object fits after the words of its pointer's segment, it is put there. Otherwise it is
 //! put after a landing pad of one word, in any segment in which the arena finds room, and the
-//! pointer becomes a far pointer. What the pointer held before is zeroed first, with all objects
-//! below it and their landing pads; these words stay allocated.
+//! pointer becomes a far pointer.
+//!
+//! The calls that make an object overwrite the pointer's word, even if the pointer isn't null. So
+//! the caller first calls `clear` for such a pointer: that zeroes what the pointer leads to, with
+//! all objects below it and their landing pads. These words stay allocated.
 ghost use Rattle.std.specs.Prelude.{◌≡◌, ℕ, length, ◌∷◌, ◌<◌, ◌≤◌, ◌+◌, ◌-◌, ◌*◌, ◌^◌, IfOk, IsOk, OnOk, OnErr, IfErr};
 ghost use Rattle.capnp_format.specs.Canonical.{offset_to, Reaches};
 ghost use Rattle.capnp_format.specs.Segments.{segment, word_at, IsPlace};
@@ -35,8 +38,8 @@ use capnp_words::wire_pointer::{
 pub enum Shape {
     /// A struct.
     Struct(StructSize),
-    /// A list, with the number that its pointer states: of elements, or of words for a list of
-    /// structs.
+    /// A list, with the number that its pointer states: the number of elements, or for a list of
+    /// structs the number of words of all elements, without the tag.
     List(ElementSize, u32),
 }
 
@@ -49,7 +52,8 @@ pub struct Start {
     pub at: u32,
 }
 
-/// The word of a pointer, at `position` of a segment, to an object at `target` of the same segment.
+/// Returns the word of a pointer that is at `position` of a segment, and leads to an object at
+/// `target` of the same segment.
 pub fn pointer_to(shape: Shape, position: u32, target: u32) -> WirePointer
     requires reaches { Reaches position target }
     requires few { CountFits shape }
@@ -67,8 +71,9 @@ pub fn pointer_to(shape: Shape, position: u32, target: u32) -> WirePointer
 /// Makes an object of `amount` words, all zero, and makes the pointer at `at` of segment `id` lead
 /// to it.
 ///
-/// Refuses like `BuilderArena::allocate_anywhere` for `amount + 1` words. After a refusal nothing
-/// has changed except the allocator's count `refused`.
+/// Refuses like `BuilderArena::allocate_anywhere` for `amount + 1` words: the object's and one for
+/// a landing pad. A refusal changes nothing, except that `AllocationFailed` adds 1 to the
+/// allocator's `refused`.
 #[inline(always)]
 fn put_object<A: BuilderArena>(
     arena: &mut A,
@@ -108,11 +113,12 @@ fn put_object<A: BuilderArena>(
     }
 }
 
-/// Makes a landing pad followed by an object of `amount` words, all zero, where the arena finds
-/// room for both. Makes the pointer at `at` of segment `id` lead to the object.
+/// Makes a landing pad, and after it an object of `amount` words, all zero, in a segment in which
+/// the arena finds room for both. Makes the pointer at `at` of segment `id` lead to the object.
 ///
-/// Refuses like `BuilderArena::allocate_anywhere` for `amount + 1` words. After a refusal nothing
-/// has changed except the allocator's count `refused`.
+/// Refuses like `BuilderArena::allocate_anywhere` for `amount + 1` words: the object's and one for
+/// a landing pad. A refusal changes nothing, except that `AllocationFailed` adds 1 to the
+/// allocator's `refused`.
 #[inline(always)]
 fn put_far<A: BuilderArena>(
     arena: &mut A,
@@ -141,8 +147,8 @@ fn put_far<A: BuilderArena>(
     }
 }
 
-/// Makes the pointer at `at` of segment `id` null, and zeroes what it held: its object, all objects
-/// below it, and their landing pads.
+/// Makes the pointer at `at` of segment `id` null, and zeroes what it led to: its object, all
+/// objects below that, and their landing pads.
 pub fn clear<A: BuilderArena>(arena: &mut A, id: u32, at: u32)
     requires place { IsPlace (A.view arena.old).words id at }
     ensures cleared { Puts (A.view arena.old).words (A.view arena.new).words id at Null }
@@ -156,8 +162,8 @@ pub fn clear<A: BuilderArena>(arena: &mut A, id: u32, at: u32)
 /// Makes a struct, all zero, and makes the pointer at `at` of segment `id` lead to it. A struct
 /// without sections takes no words.
 ///
-/// Refuses with `AllocationFailed` if memory runs out, or with `MessageTooLarge`. After a refusal
-/// nothing has changed except the allocator's count `refused`.
+/// Refuses like `BuilderArena::allocate_anywhere` for the struct's words and one for a landing pad.
+/// A refusal changes nothing, except that `AllocationFailed` adds 1 to the allocator's `refused`.
 #[inline(always)]
 pub fn make_struct<A: BuilderArena>(
     arena: &mut A,
@@ -196,8 +202,8 @@ pub fn make_struct<A: BuilderArena>(
 /// Makes a list of `count` elements that aren't structs, all zero or null, and makes the pointer at
 /// `at` of segment `id` lead to it.
 ///
-/// Refuses with `AllocationFailed` if memory runs out, or with `MessageTooLarge`. After a refusal
-/// nothing has changed except the allocator's count `refused`.
+/// Refuses like `BuilderArena::allocate_anywhere` for the list's words and one for a landing pad. A
+/// refusal changes nothing, except that `AllocationFailed` adds 1 to the allocator's `refused`.
 #[inline(always)]
 pub fn make_list<A: BuilderArena>(
     arena: &mut A,
@@ -245,8 +251,9 @@ fn words_of_list(size: ElementSize, count: u32) -> u32
 /// Makes a list of `count` structs, all zero, and makes the pointer at `at` of segment `id` lead to
 /// it. The first word of the list is the tag.
 ///
-/// Refuses with `AllocationFailed` if memory runs out, or with `MessageTooLarge`. After a refusal
-/// nothing has changed except the allocator's count `refused`.
+/// Refuses like `BuilderArena::allocate_anywhere` for the list's words, its tag included, and one
+/// for a landing pad. A refusal changes nothing, except that `AllocationFailed` adds 1 to the
+/// allocator's `refused`.
 pub fn make_struct_list<A: BuilderArena>(
     arena: &mut A,
     id: u32,

@@ -1,4 +1,4 @@
-//! Zeroes what a pointer holds: its object, all objects below it, and their landing pads.
+//! Zeroes what a pointer leads to: its object, all objects below that, and their landing pads.
 ghost use Rattle.std.specs.Prelude.{◌≡◌, ℕ, ◌<◌, ◌≤◌, ◌+◌, ◌*◌, ◌^◌, ◌∷◌, [], length, IsTrue, ◌↔◌};
 ghost use Rattle.capnp_arena_traits.specs.View.{KeepsLimits};
 ghost use Rattle.capnp_format.specs.Segments.{segment, word_at, IsPlace};
@@ -69,9 +69,10 @@ fn zero_far_pads<A: BuilderArena>(arena: &mut A, word: WirePointer)
     );
 }
 
-/// Zeroes the pointer at `at` of segment `id` and what it holds: its object, all objects below it,
-/// and their landing pads. If the segments aren't a message that a builder made, this may zero any
-/// words, but writes only zeros.
+/// Zeroes the pointer at `at` of segment `id` and what it leads to: its object, all objects below
+/// that, and their landing pads. If the pointer doesn't lead to a value in which no word is used
+/// twice, may zero any words, but writes only zeros. In a message that a builder made, this can't
+/// happen.
 #[cycle(zeroing)]
 #[inline(always)]
 pub fn zero_object<A: BuilderArena>(arena: &mut A, id: u32, at: u32)
@@ -95,8 +96,8 @@ pub fn zero_object<A: BuilderArena>(arena: &mut A, id: u32, at: u32)
     }
 }
 
-/// Zeroes the object at `landing` and all objects below it, if the object is a value that holds no
-/// word twice. Otherwise may zero other words.
+/// Zeroes the object at `landing` and all objects below it, if together they are a value in which
+/// no word is used twice. Otherwise may zero any words, but writes only zeros.
 #[cycle(zeroing)]
 #[cold]
 #[inline(never)]
@@ -129,7 +130,8 @@ fn zero_landed<A: BuilderArena>(arena: &mut A, landing: Landing)
 }
 
 /// Zeroes the struct that starts at `start` of segment `id`, and all objects below it, if its
-/// pointers mean values.
+/// pointers lead to values, and no word is used twice. Otherwise may zero any words, but writes
+/// only zeros.
 #[cycle(zeroing)]
 fn zero_struct<A: BuilderArena>(arena: &mut A, id: u32, start: u32, size: StructSize)
     ensures { Zeroes (A.view arena.old) (A.view arena.new)
@@ -147,7 +149,8 @@ fn zero_struct<A: BuilderArena>(arena: &mut A, id: u32, start: u32, size: Struct
 }
 
 /// Zeroes the `count` consecutive pointers from `start` of segment `id` on, and all objects below
-/// them, if the pointers mean values.
+/// them, if the pointers lead to values, and no word is used twice. Otherwise may zero any words,
+/// but writes only zeros.
 #[cycle(zeroing)]
 #[tactic(auto, using(crate::proofs::Zeros::fewer))]
 fn zero_pointers<A: BuilderArena>(arena: &mut A, id: u32, start: u32, count: u32)
@@ -165,7 +168,8 @@ fn zero_pointers<A: BuilderArena>(arena: &mut A, id: u32, start: u32, count: u32
 }
 
 /// Zeroes the list of structs whose tag is at `start` of segment `id`, and all objects below it, if
-/// its pointers mean values.
+/// its pointers lead to values, and no word is used twice. Otherwise may zero any words, but writes
+/// only zeros.
 #[cycle(zeroing)]
 fn zero_structs<A: BuilderArena>(arena: &mut A, id: u32, start: u32)
     ensures { Zeroes (A.view arena.old) (A.view arena.new)
@@ -182,8 +186,9 @@ fn zero_structs<A: BuilderArena>(arena: &mut A, id: u32, start: u32)
     }
 }
 
-/// Zeroes the pointers of `count` consecutive elements from `start` of segment `id` on, and all
-/// objects below them, if the pointers mean values.
+/// Zeroes the pointers of `count` consecutive structs, the elements of a list, from `start` of
+/// segment `id` on, and all objects below them, if the pointers lead to values, and no word is used
+/// twice. Otherwise may zero any words, but writes only zeros.
 #[cycle(zeroing)]
 #[tactic(auto, using(crate::proofs::Zeros::fewer))]
 fn zero_elements<A: BuilderArena>(arena: &mut A, id: u32, start: u32, size: StructSize, count: u32)

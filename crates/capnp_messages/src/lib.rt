@@ -1,5 +1,6 @@
-//! Whole messages: the canonical copy and its frame, the test for canonical form, and the size,
-//! each with its refusals; and the text form of limits and numbers for programs.
+//! Works on whole messages: makes a canonical copy and writes it as a frame, tests for canonical
+//! form, and measures the size. For command-line programs, also parses limits and writes numbers as
+//! text.
 #![tactic(auto)]
 
 pub mod messages;

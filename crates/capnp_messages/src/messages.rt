@@ -1,5 +1,5 @@
-//! Whole messages: copied in canonical form, tested for it, and measured (encoding specification,
-//! "Canonicalization").
+//! Makes canonical copies of whole messages, tests whether messages are in canonical form, and
+//! measures them (encoding specification, "Canonicalization").
 
 mod as_it_stands;
 mod canonical_copy;

@@ -49,7 +49,7 @@ pub fn write_number<W: Output>(output: &mut W, n: u64) -> Result<(), DeviceFault
     write_all(output, &[b'0' + (n % 10) as u8])
 }
 
-/// Writes the line of a size, `words N caps M`.
+/// Writes a line with the numbers of words and capabilities of `size`: `words N caps M`.
 pub fn write_size<W: Output>(output: &mut W, size: MessageSize) -> Result<(), DeviceFault>
     requires { W.has_failed output.old ≡ false }
     ensures { Writes W.Output result output.old output.new

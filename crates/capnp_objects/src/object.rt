@@ -7,7 +7,8 @@ ghost use Rattle.capnp_format.specs.Bytes.{words_of};
 use capnp_words::wire_pointer::{ElementSize, StructSize, WirePointer};
 use capnp_words::words::word_at;
 
-/// A word of a segment, with the segment's bytes.
+/// The position of a word in a segment, with the segment's bytes. The segment may be too short to
+/// have that word.
 #[derive(Clone, Copy)]
 pub struct Place<'a> {
     /// The segment's number: below 2^32 in an arena; 2^32 for the bytes of a field's default value,
@@ -53,7 +54,7 @@ pub struct PointerWord<'a> {
     pub nesting_limit: i32,
 }
 
-/// One object. Its own words are checked and charged; its children aren't read yet.
+/// One object that was read: its own words were checked and charged, but its children weren't read.
 #[derive(Clone, Copy)]
 pub enum Object<'a> {
     /// Nothing: the pointer is zero.

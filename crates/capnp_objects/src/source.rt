@@ -58,10 +58,10 @@ impl<'a, A: ReaderArena> Source<'a, A> {
     /// If the word at `place` is zero, or `place` is outside of its segment, returns
     /// `Object::Null`, and counts and charges nothing in `lim`. Otherwise counts the pointer in
     /// `lim` as followed, and charges words, each before it is read: those of its landing pads,
-    /// those that the object claims, and one for each list element without width. If the source
-    /// isn't an arena that charges, `lim` is unchanged. A struct and a list take a level, and are
-    /// refused if `nesting_limit` is below 1. A capability takes no level, and only the words of
-    /// its landing pads are charged.
+    /// those that the object claims, and one for each list element without width. If the source is
+    /// a default value, or an arena that doesn't charge, such as one being built, `lim` is
+    /// unchanged. A struct and a list take a level, and are refused if `nesting_limit` is below 1.
+    /// A capability takes no level, and only the words of its landing pads are charged.
     ///
     /// Refuses with the first fault found: `InvalidSegmentId`, `MessageContainsOutOfBoundsPointer`,
     /// `MalformedDoubleFarPointer`, `UnknownPointerType`,

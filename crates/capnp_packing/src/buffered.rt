@@ -11,8 +11,8 @@ pub trait BufferedInput: Input {
     // What is known of the bytes read ahead if the input says that there are enough.
     ghost has_enough: { Self → Type 0 };
 
-    /// Whether enough bytes are read ahead that reading the next message certainly won't wait. For
-    /// `UnpackingInput`: enough that reading the next unpacked word certainly won't.
+    /// Returns `true` only if enough bytes are read ahead to read the next message without waiting
+    /// for input; for `UnpackingInput`, to read the next unpacked word.
     fn is_ahead(&self) -> bool
         ensures { IsTrue result → has_enough self.now };
 }

@@ -1,5 +1,6 @@
-//! Packed bytes (encoding specification, "Packing"): words without their zero bytes, unpacked as
-//! they are read from an input.
+//! Packed bytes (encoding specification, "Packing"): words without their zero bytes. Packs and
+//! unpacks bytes in memory, unpacks bytes while reading them from an input, and packs words while
+//! writing them to an output.
 #![tactic(auto)]
 
 pub mod buffered;

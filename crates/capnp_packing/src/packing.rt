@@ -1,5 +1,6 @@
-//! Packed bytes (encoding specification, "Packing"). A packed byte, by its place, unpacks to some
-//! bytes and leads to the next place. Packing takes a word or a run of words at a time.
+//! Packed bytes (encoding specification, "Packing"). What a packed byte unpacks to depends on its
+//! `Place`: whether it is a tag, a byte of a word, or a count. The place and the byte determine the
+//! next byte's place. Packing handles one word, or several consecutive words, at a time.
 
 mod in_memory;
 mod packing_error;

@@ -62,8 +62,8 @@ impl<'a, A: ReaderArena> Copy for Pointer<'a, A> {}
 impl<'a, A: ReaderArena> Pointer<'a, A> {
     ghost use Rattle.capnp_pointers.specs.Pointers.{reading};
 
-    /// A null pointer that isn't in any message: its source is `Source::Nothing`, its place word 0
-    /// of segment 0, and its nesting limit `i32::MAX`.
+    /// Returns a null pointer that isn't in any message: its source is `Source::Nothing`, its place
+    /// word 0 of segment 0, and its nesting limit `i32::MAX`.
     pub fn new_default() -> Self
         ensures source { result.source ≡ Source.Nothing }
         ensures place { (result.place.segment ≡ 0) × (result.place.at ≡ 0) }
@@ -107,7 +107,8 @@ impl<'a, A: ReaderArena> Pointer<'a, A> {
         Ok(Self::at(arena, place, arena.nesting_limit()))
     }
 
-    /// The pointer at `place` of `arena`. Precondition: `place` is inside a segment of `arena`.
+    /// Returns the pointer at `place` of `arena`. Precondition: `place` is inside a segment of
+    /// `arena`.
     pub fn at(arena: &'a A, place: PointerPlace, nesting_limit: i32) -> Self
         requires { IsPlace (message (A.segments arena.now)) place.segment place.word }
         ensures source { result.source ≡ Source.Arena arena.entry }

@@ -14,8 +14,9 @@ ghost use Rattle.capnp_objects.specs.Reading.{Reading, word_of, segment_read};
 ghost use Rattle.capnp_objects.specs.Wanted.{canonical};
 ghost use Rattle.capnp_pointers.specs.Checking.{Progress, progress, Finds, CanBeFound, CanAllBeFound, TestStops, TestEnds, TestsEnd, IsUnfit, Unread};
 
-/// The test for canonical form is never refused if the words at its place are canonical, and within
-/// the nesting limit and the traversal limit. The same holds for consecutive pointers.
+/// The test for canonical form never refuses a pointer if the pointer and words of its segment are
+/// the canonical words of a value, and reading them is within the nesting limit and the traversal
+/// limit. The same holds for a test of several consecutive pointers.
 pub fn canonical_is_answered()
     ensures place { (k : ErrorKind) (r : Reading) (from : Progress) (m' : Meter)
         → TestStops k r from m' → CanBeFound r from → ⊥ }
@@ -23,9 +24,9 @@ pub fn canonical_is_answered()
         → TestsEnd (Unread k) r i from m' → CanAllBeFound r i from → ⊥ }
 {}
 
-/// The test accepts the words of a canonical copy if it starts with the nesting limit and the
-/// limiter that the copying started with. The copy's pointer may be at any place, and its other
-/// words may start at any position of the pointer's segment.
+/// The test for canonical form accepts the words of a canonical copy if the test starts with the
+/// nesting limit and the limiter that the copying started with. The copy's pointer may be at any
+/// place, and its other words may start at any position of the pointer's segment.
 pub fn copy_is_answered()
     ensures { (r q : Reading) (m m' : Meter) (h : ℕ) (t : Tree)
         → AreWords r.segments → Reads canonical r m m' t
@@ -34,16 +35,18 @@ pub fn copy_is_answered()
         → CanBeFound q (progress h m) }
 {}
 
-/// If the test accepts a value at a place, the place means that value within the nesting limit, and
-/// reading the value costs exactly what the test charged.
+/// If the test for canonical form accepts the pointer at a place as one to some value, then by the
+/// encoding specification the pointer leads to this value, within the nesting limit, and reading
+/// the value costs exactly what the test charged.
 pub fn found_is_meant()
     ensures { (r : Reading) (from to : Progress) (t : Tree)
         → Finds r from to t → MeansThere r t (charge t) }
 {}
 
-/// Take two pointers at the same position of their segments, which the test accepts with the same
-/// `head`. Their values are the same exactly if their words are: the word of the pointer itself,
-/// and the words past which the test moved `head`.
+/// Suppose that two pointers are at the same position of their segments, and that the test for
+/// canonical form accepts both, each starting with the same `head`. Then their values are equal
+/// exactly if their words are equal: the pointer's own word, and the words past which the test
+/// moved `head`.
 pub fn same_words()
     ensures { (r q : Reading) (from to start end : Progress) (t u : Tree)
         → Finds r from to t → Finds q start end u
@@ -53,10 +56,10 @@ pub fn same_words()
         ↔ (t ≡ u) }
 {}
 
-/// A test that finds a fault or is refused changes the limiter as reading does: the words that were
-/// granted are subtracted from the words left, and the pointers that were followed are added to the
-/// count of pointers. If nothing is charged, for example for a default value, the limiter is
-/// unchanged.
+/// A test for canonical form that finds a fault or is refused changes the limiter as reading does:
+/// the words that were granted are subtracted from the words left, and the pointers that were
+/// followed are added to the count of pointers. If nothing is charged, for example for a default
+/// value, the limiter is unchanged.
 pub fn end_is_charged()
     ensures failed { (r : Reading) (from : Progress) (m' : Meter) → TestEnds IsUnfit r from m'
         → (g : ℕ) × (i : ℕ) × Paid r.charging from.meter m' g i }

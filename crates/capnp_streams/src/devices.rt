@@ -1,5 +1,5 @@
-//! A reader as an input that reads ahead, and a writer as an output that flushes later; an output
-//! that drops what it takes, and one that puts a name before each line.
+//! An input that reads ahead from a reader; an output that buffers bytes for a writer; an output
+//! that drops all bytes; and an output that puts a name before each line.
 ghost use Rattle.std.specs.Prelude.{◌≡◌, ◌<◌, ◌≤◌, ◌^◌, ◌-◌, length, false, true, None, Some, IfOk, IsErr};
 ghost use Rattle.std.specs.Io.Buffered.{reader_buffer, reader_remaining, writer_buffer, writer_contents};
 ghost use Rattle.capnp_format.specs.Segments.{Segments};
@@ -11,7 +11,8 @@ use capnp_framing::framing::read_from_flat_slice;
 use capnp_packing::buffered::{BufferedInput, BufferedOutput};
 use std::io::{BufReader, BufWriter, Read, Write};
 
-/// The bytes of a reader, read ahead. Doesn't read on after a failure.
+/// An input that reads ahead from a reader. After the reader has failed once, each read of the
+/// input fails without reading from the reader.
 #[derive(Drop)]
 pub struct BufReaderInput<R> {
     reader: BufReader<R>,
@@ -19,7 +20,7 @@ pub struct BufReaderInput<R> {
 }
 
 impl<R: Read> BufReaderInput<R> {
-    /// The input of a reader that hasn't failed.
+    /// Makes an input that reads from `reader`, and that hasn't failed yet.
     pub fn new(reader: BufReader<R>) -> Self
         ensures reader { result.reader ≡ reader }
         ensures works { result.failed ≡ false }
@@ -72,7 +73,7 @@ impl<R: Read> BufferedInput for BufReaderInput<R> {
     }
 }
 
-/// A writer that buffers bytes and flushes them later.
+/// An output that buffers bytes for a writer, and flushes them to the writer later.
 #[derive(Drop)]
 pub struct BufWriterOutput<W: Write + Drop> {
     writer: BufWriter<W>,
@@ -80,7 +81,7 @@ pub struct BufWriterOutput<W: Write + Drop> {
 }
 
 impl<W: Write + Drop> BufWriterOutput<W> {
-    /// The output to a writer that hasn't failed.
+    /// Makes an output that writes to `writer`, and that hasn't failed yet.
     pub fn new(writer: BufWriter<W>) -> Self
         ensures writer { result.writer ≡ writer }
         ensures works { result.failed ≡ false }
@@ -150,8 +151,8 @@ impl BufferedOutput for NoOutput {
     }
 }
 
-/// An output that puts a name and `: ` before each line. Its contract doesn't state what bytes a
-/// write adds to `output`.
+/// An output that writes to `output`, with `name` and `: ` before each line. Its contract doesn't
+/// state what bytes a write adds to `output`.
 #[derive(Drop)]
 pub struct NamedLines<'n, 'w, W> {
     name: &'n str,
@@ -162,7 +163,7 @@ pub struct NamedLines<'n, 'w, W> {
 }
 
 impl<'n, 'w, W: Output> NamedLines<'n, 'w, W> {
-    /// Writes lines to `output`, each with `name` and `: ` before it.
+    /// Makes an output that writes lines to `output`, each with `name` and `: ` before it.
     pub fn new(name: &'n str, output: &'w mut W) -> Self
         ensures works { result.failed ≡ false }
     {
@@ -174,8 +175,9 @@ impl<'n, 'w, W: Output> NamedLines<'n, 'w, W> {
         }
     }
 
-    /// Writes the name if a line begins, and then the bytes of `from` up to the line's end. Returns
-    /// the number of bytes of `from` that it took.
+    /// Writes `name` and `: ` to `output` if a line begins, and then bytes of `from`, at most up to
+    /// the end of the line. Returns the number of bytes of `from` that it wrote. Precondition:
+    /// `from` isn't empty.
     fn write_line(&mut self, from: &[u8]) -> Result<usize, DeviceFault>
         requires { 0 < length from.now }
         ensures some { IfOk result (λ n. 0 < n) }

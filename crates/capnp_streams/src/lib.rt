@@ -1,6 +1,6 @@
-//! Streams of framed messages (encoding specification, "Serialization Over a Stream"): makes each
-//! message of an input canonical, tests it or measures it, and writes the answers in order. This is
-//! the engine of the program `capnp_canon`.
+//! Streams of framed messages (encoding specification, "Serialization Over a Stream"): for each
+//! message of an input, makes its canonical copy, tests whether it is canonical, or counts its
+//! words, and writes the answers in order. This is the engine of the program `capnp_canon`.
 #![tactic(auto)]
 
 pub mod devices;

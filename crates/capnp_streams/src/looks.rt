@@ -1,5 +1,5 @@
-//! Guesses from an input's first bytes what the input is, to tell the user if its first message
-//! can't be answered.
+//! Guesses from an input's first bytes what the input is. If the input's first message can't be
+//! answered, the user is told the guess.
 ghost use Rattle.std.specs.Prelude.{◌<◌, ◌≤◌, ◌^◌, IfSome};
 
 use crate::streams::{Fault, Task};
@@ -10,7 +10,7 @@ use capnp_words::error::ErrorKind;
 use capnp_words::wire_pointer::{ElementSize, WirePointer, WirePointerKind, data_bits_per_element};
 use capnp_words::words::word_at;
 
-/// The most segments of a frame.
+/// The largest number of segments that a frame may have.
 const MOST_SEGMENTS: u32 = 512;
 
 /// What an input looks like.
@@ -27,12 +27,13 @@ pub enum Looks {
     Frames,
     /// A packed stream of frames (encoding specification, "Packing").
     PackedFrames,
-    /// The raw words of one message: its words without a frame's table.
+    /// The raw words of one message: the words of its only segment, without a frame's table.
     RawWords,
 }
 
 impl Looks {
-    /// Its name, and the option of `capnp_canon` that reads it, if there is one.
+    /// Returns a text with the name of this kind of input. If an option of `capnp_canon` reads such
+    /// an input, the text also has this option.
     pub fn text(&self) -> &'static str {
         match self {
             Looks::Gzip => "gzip",
@@ -48,9 +49,10 @@ impl Looks {
     }
 }
 
-/// What an input looks like, after `task` refused its first message with `fault`; `None` if the
-/// input looks like what `task` reads, or like nothing known. `first` has the first bytes of the
-/// input; the input has at least `given` bytes.
+/// Guesses what an input is, after a run of `task` has refused its first message with `fault`.
+/// Returns `None` if `fault` says nothing about the input, or if the input looks like what `task`
+/// reads, or like nothing known. `first` has the first bytes of the input; the input has at least
+/// `given` bytes.
 pub fn looks_like(task: Task, fault: Fault, first: &[u8], given: u64) -> Option<Looks> {
     if is_of_devices(fault) {
         return None;
@@ -84,7 +86,8 @@ fn is_of_devices(fault: Fault) -> bool {
     }
 }
 
-/// The kind of input that begins with `first`, if it is one that no task reads.
+/// Returns the kind of an input that begins with `first`, if it is a compressed file, an archive or
+/// text, which no task reads.
 fn by_bytes(first: &[u8]) -> Option<Looks> {
     match first {
         [0x1f, 0x8b, ..] => Some(Looks::Gzip),
@@ -97,13 +100,14 @@ fn by_bytes(first: &[u8]) -> Option<Looks> {
     }
 }
 
-/// Whether the byte is a printable ASCII character, a tab, or ends a line.
+/// Whether the byte is a printable ASCII character, a tab, a carriage return or a line feed.
 fn is_text(byte: u8) -> bool {
     matches!(byte, b'\t' | b'\n' | b'\r' | b' '..=b'~')
 }
 
-/// What an input that should be frames looks like instead. If `first` may begin a frame, there is
-/// no guess: that frame is cut short or longer than the limit.
+/// Guesses what an input is that should be frames, but can't be read as frames. Returns `None` if
+/// there is no guess, or if a frame may begin with `first`: then this frame may be cut short, or
+/// longer than the limit.
 fn unlike_frames(first: &[u8], given: u64) -> Option<Looks> {
     if may_begin_frame(first) {
         return None;
@@ -117,7 +121,8 @@ fn unlike_frames(first: &[u8], given: u64) -> Option<Looks> {
     None
 }
 
-/// What an input that should be packed looks like instead.
+/// Guesses what an input is that should be packed frames, but can't be read as such. Returns `None`
+/// if there is no guess.
 fn unlike_packed(first: &[u8]) -> Option<Looks> {
     if begins_with_frame(first) && !may_begin_packed_frame(first) {
         return Some(Looks::Frames);
@@ -125,7 +130,8 @@ fn unlike_packed(first: &[u8]) -> Option<Looks> {
     None
 }
 
-/// What an input that should be raw words looks like instead.
+/// Guesses what an input is that should be raw words, but can't be read as such. Returns `None` if
+/// there is no guess.
 fn unlike_words(first: &[u8]) -> Option<Looks> {
     if begins_with_frame(first) {
         return Some(Looks::Frames);
@@ -162,9 +168,9 @@ fn unpack(first: &[u8], unpacked: &mut [u8; 32]) -> usize
     }
 }
 
-/// Whether `bytes` look like the beginning of a frame, and reach to the end of its root pointer.
-/// That pointer leads to a struct in the first segment, or to a landing pad in one of several
-/// segments; or it is null and the first segment's only word.
+/// Whether `bytes` have the table of a frame and its root pointer, and this pointer is plausible:
+/// it leads to a struct in the first segment, or to a landing pad in one of several segments; or it
+/// is null and the first segment's only word.
 fn begins_with_frame(bytes: &[u8]) -> bool {
     let Some((segments, words)) = table_of(bytes) else {
         return false;
@@ -181,8 +187,9 @@ fn begins_with_frame(bytes: &[u8]) -> bool {
     }
 }
 
-/// Whether a frame may begin with `bytes`: they don't show more segments than a frame may have, a
-/// first segment without words, or a root pointer that leads nowhere.
+/// Whether a frame may begin with `bytes`. Returns `false` if `bytes` show that there are more
+/// segments than a frame may have, or that the first segment has no words, or that the root pointer
+/// leads nowhere.
 fn may_begin_frame(bytes: &[u8]) -> bool {
     if let [a, b, c, d, ..] = bytes {
         if MOST_SEGMENTS <= u32::from_le_bytes([*a, *b, *c, *d]) {
@@ -207,8 +214,8 @@ fn may_begin_frame(bytes: &[u8]) -> bool {
     }
 }
 
-/// The number of segments, and the number of words in the first segment, if `bytes` begin with a
-/// frame's table.
+/// Reads `bytes` as the start of a frame's table: returns the number of segments and the number of
+/// words in the first segment. Returns `None` if there are fewer than 8 bytes.
 fn table_of(bytes: &[u8]) -> Option<(u64, u64)>
     ensures { IfSome result (λ table. table.0 < 2 ^ 33) }
 {
@@ -216,15 +223,15 @@ fn table_of(bytes: &[u8]) -> Option<(u64, u64)>
     Some(((numbers & 0xffff_ffff) + 1, numbers >> 32))
 }
 
-/// The first word after a frame's table for `segments` segments, if `bytes` reach to the end of
-/// that word. The table holds the number of segments and each one's size, two numbers a word.
+/// The first word after a frame's table for `segments` segments, if `bytes` have this whole word.
+/// The table holds the number of segments and the size of each segment, two numbers in each word.
 fn root_of(bytes: &[u8], segments: u64) -> Option<u64>
     requires { segments < 2 ^ 33 }
 {
     word(bytes, segments / 2 + 1)
 }
 
-/// Word `at` of `bytes`, if it is whole.
+/// Returns word `at` of `bytes`; `None` if `bytes` don't have this whole word.
 fn word(bytes: &[u8], at: u64) -> Option<u64> {
     if at < bytes.len() as u64 / 8 {
         Some(word_at(bytes, at as usize))
@@ -243,12 +250,13 @@ fn leads_within(word: u64, words: u64) -> bool {
     }
 }
 
-/// `words`, at most `u32::MAX`.
+/// Returns `words`, or `u32::MAX` if `words` is larger.
 fn short(words: u64) -> u32 {
     words.min(u64::from(u32::MAX)) as u32
 }
 
-/// The number of words that the pointer's object takes.
+/// Returns the number of words of the struct or list that the pointer leads to; `None` for any
+/// other pointer.
 fn object_words(pointer: WirePointer) -> Option<u64>
     ensures { IfSome result (λ n. n < 2 ^ 62) }
 {

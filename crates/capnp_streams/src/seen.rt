@@ -1,14 +1,14 @@
-//! Watches the bytes that pass through a device: keeps the first of them, their number, and why the
-//! device failed.
+//! Watches a device: keeps the first 32 bytes read from it, the number of all bytes read from it,
+//! and why it failed.
 ghost use Rattle.std.specs.Prelude.{◌≡◌, ◌≤◌};
 
 use std::cell::Cell;
 use std::io::{self, Read, Write};
 
-/// The number of bytes kept.
+/// The largest number of bytes that a `Front` keeps.
 const KEPT: usize = 32;
 
-/// The first bytes read from a device, and the number of all bytes read.
+/// The first bytes read from a device, at most 32, and the number of all bytes read from it.
 #[derive(Clone, Copy)]
 pub struct Front {
     first: [u8; KEPT],
@@ -16,7 +16,7 @@ pub struct Front {
 }
 
 impl Front {
-    /// The front before any byte is read.
+    /// Makes the `Front` of a device from which no byte has been read.
     fn new() -> Self {
         Front {
             first: [0; KEPT],
@@ -37,12 +37,12 @@ impl Front {
         &self.first[..kept]
     }
 
-    /// The number of bytes read.
+    /// The number of all bytes read, at most `u64::MAX`.
     pub fn given(&self) -> u64 {
         self.given
     }
 
-    /// The front after reading `more`.
+    /// Returns the `Front` after `more` has been read, too.
     fn with(self, more: &[u8]) -> Self {
         let kept = self.kept();
         let count = more.len().min(KEPT - kept);
@@ -55,7 +55,8 @@ impl Front {
     }
 }
 
-/// What is known about a device. Can be read while the device is lent or after it is gone.
+/// What is known about a device. The caller can read it while the device is lent, or after the
+/// device is gone.
 #[derive(Drop)]
 pub struct Seen {
     front: Cell<Front>,
@@ -63,7 +64,7 @@ pub struct Seen {
 }
 
 impl Seen {
-    /// Nothing is known yet.
+    /// Makes the `Seen` of a device about which nothing is known yet.
     pub fn new() -> Self {
         Seen {
             front: Cell::new(Front::new()),
@@ -71,7 +72,7 @@ impl Seen {
         }
     }
 
-    /// The first bytes read.
+    /// Returns the first bytes read, and the number of all bytes read.
     pub fn front(&self) -> Front {
         self.front.get()
     }
@@ -81,7 +82,7 @@ impl Seen {
         self.fault.get()
     }
 
-    /// Notes bytes that were read.
+    /// Adds bytes that were read to what is known.
     fn read(&self, bytes: &[u8]) {
         self.front.set(self.front.get().with(bytes));
     }
@@ -92,7 +93,7 @@ impl Seen {
     }
 }
 
-/// A watched reader or writer.
+/// A reader or writer whose reads and failures are noted in `seen`.
 #[derive(Drop)]
 pub struct Watched<'a, D> {
     device: D,
@@ -100,7 +101,8 @@ pub struct Watched<'a, D> {
 }
 
 impl<'a, D> Watched<'a, D> {
-    /// Watches a device and notes in `seen` what it reads and why it fails.
+    /// Makes a device that reads and writes like `device`, and notes in `seen` the bytes that are
+    /// read and why the device fails.
     pub fn new(device: D, seen: &'a Seen) -> Self
         ensures { result.device ≡ device }
     {

@@ -28,10 +28,12 @@ pub fn pads_apart()
         × (id < length old.words → StayInSegment old new id words → pads ≡ 0) }
 {}
 
-/// With x words left in the limiter, a copy, complete or refused, allocates at most x words, and
-/// besides them at most x + 1 landing pads. Each landing pad is for an object in another segment
-/// than its pointer. There is no landing pad if x words fit the segment of the pointer copied to,
-/// or the message has one segment afterwards. The copy follows at most x + 1 pointers.
+/// If reading the source is charged and the limiter has x words left, a copy, complete or refused,
+/// allocates at most x words for objects, and one word each for at most x + 1 landing pads. Each
+/// landing pad is for an object in another segment than its pointer. There is no landing pad if x
+/// words fit the segment of the pointer copied to, or the message has one segment afterwards. The
+/// copy follows at most x + 1 pointers: the one whose value is copied, and at most one in each of
+/// the x words.
 pub fn few_taken()
     ensures { (r : Reading) (c : Change) (x : ℕ) (result : Result ⊤ ErrorKind)
         → r.charging ≡ true → c.before.left ≡ Some x → TakesAtMost result (value_original r) c
@@ -42,8 +44,9 @@ pub fn few_taken()
         × (c.after.followed ≤ c.before.followed + (x + 1)) }
 {}
 
-/// If the limiter has x words left, and x words fit the segment of the pointer copied to, a copy is
-/// refused only with a refusal of reading its source, never for lack of memory.
+/// If reading the source is charged, the limiter has x words left, and x words fit the segment of
+/// the pointer copied to, then a copy is refused only with a refusal of reading its source, never
+/// for lack of memory.
 pub fn budget_has_room()
     ensures { (r : Reading) (c : Change) (x : ℕ) (k : ErrorKind)
         → r.charging ≡ true → c.before.left ≡ Some x → HasOwnRoom c.old c.segment x

@@ -1,5 +1,5 @@
-//! Laws of the calls that widen structs and lists of structs: they don't change canonical words.
-//! Each function does nothing: its contract is the law, proved for all values and messages.
+//! Laws about widening structs and lists of structs: it doesn't change the canonical words of a
+//! value. Each function does nothing: its contract is the law, proved for all values and messages.
 ghost use Rattle.std.specs.Prelude.{◌≡◌, ℕ, List, Ok};
 ghost use Rattle.capnp_format.specs.Forest.{IsForest};
 ghost use Rattle.capnp_format.specs.Segments.{Segments};
@@ -17,18 +17,19 @@ pub fn wider_struct()
         → SameCanonicalForm (Struct ws ts) (Struct (fill_words d ws) (fill_trees q ts)) }
 {}
 
-/// A list of structs keeps its canonical words if its elements are widened to any size: what is
-/// added to each comes after the last word and the last pointer that any element uses. This
-/// includes a list without elements, and elements without words.
+/// A list of structs keeps its canonical words if its elements are widened to any size, because the
+/// zeros and null pointers that are added to each element come after the last data word and the
+/// last pointer that any element uses. This also holds for a list without elements, and for
+/// elements without words.
 pub fn wider_list()
     ensures { (d q e k : ℕ) (es : Elements) (u : Tree)
         → HaveSize e k es → list_widened d q (Structs e k es) ≡ Ok u
         → SameCanonicalForm (Structs e k es) u }
 {}
 
-/// If a struct or a list of structs is widened anywhere inside a value that a place stores, the
-/// place then stores a value of the same canonical form: a canonical copy of that value has the
-/// same words as before.
+/// If a struct or a list of structs is widened anywhere inside the value of a pointer, the
+/// pointer's value keeps its canonical form. So a canonical copy of this value has the same words
+/// before and after.
 pub fn widened_within()
     ensures structs { (S R : Segments) (s p : ℕ) (t : Tree) (path : List Step)
         (u q : ℕ) (ws : List ℕ) (ts : Trees) (size : StructSize)
@@ -43,8 +44,9 @@ pub fn widened_within()
         → (w : Tree) × IsReplaced S R s p t w × SameCanonicalForm t w }
 {}
 
-/// If a struct or a list of structs is widened anywhere in a message, the message keeps its
-/// canonical words, and all words outside its value are still zero.
+/// If a struct or a list of structs is widened anywhere in a built message, the message keeps its
+/// canonical words. Before and after, every word outside of the root pointer, the objects and their
+/// landing pads is zero.
 pub fn message_widened()
     ensures structs { (S R : Segments) (t : Tree) (path : List Step)
         (u q : ℕ) (ws : List ℕ) (ts : Trees) (size : StructSize)

@@ -22,12 +22,13 @@ use capnp_words::wire_pointer::{ElementSize, StructSize};
 /// both sections at least as large as in `size`; `None` if the pointer is null. A list whose
 /// elements aren't structs, or have too small a section, is moved to new words. A number becomes
 /// the lowest bits of a struct's first data word, and a pointer becomes a struct's first pointer.
-/// Each section gets the larger one of its old size and its size in `size`.
+/// Each section gets the larger one of its size in `size` and its old size, which is one data word
+/// for a number and one pointer for a pointer.
 ///
 /// Refusals: `ExistingPointerIsNotAList` for anything but a list;
-/// `FoundBitListWhereStructListWasExpected` for a list of bits; `MessageTooLarge` with the words of
-/// the new elements if these are 2^29 or more; the arena's `AllocationFailed` or `MessageTooLarge`.
-/// After a refusal the old list is unchanged.
+/// `FoundBitListWhereStructListWasExpected` for a list of bits; `MessageTooLarge(n)`, where n is
+/// the number of words of the new elements, if n is 2^29 or more; the arena's `AllocationFailed` or
+/// `MessageTooLarge`. After a refusal the old list is unchanged.
 pub fn get_struct_list<A: BuilderArena>(
     arena: &mut A,
     id: u32,
@@ -60,7 +61,7 @@ pub fn get_struct_list<A: BuilderArena>(
     }
 }
 
-/// Whether `list` is a list of structs whose sections are at least as large as `wanted`.
+/// Whether `list` is a list of structs whose sections are at least as large as those of `wanted`.
 fn is_wide_list(list: ExistingList, wanted: StructSize) -> bool
     ensures { IsTrue result
         ↔ ((list.size ≡ InlineComposite)
@@ -70,8 +71,9 @@ fn is_wide_list(list: ExistingList, wanted: StructSize) -> bool
     list.size == ElementSize::InlineComposite && is_wide(list.struct_size, wanted)
 }
 
-/// Turns the list `old` into a list of structs, by the kind of its elements. Precondition: `old`
-/// isn't a list of structs that are at least as large as `size`.
+/// Turns the list `old`, to which the pointer at `at` of segment `id` leads, into a list of structs
+/// with sections at least as large as in `size`. Refuses a list of bits. Precondition: `old` isn't
+/// already such a list of structs.
 fn widen_list<A: BuilderArena>(
     arena: &mut A,
     id: u32,
@@ -102,8 +104,9 @@ fn widen_list<A: BuilderArena>(
     }
 }
 
-/// The smallest struct that holds an element of `list`: one data word for a number, one pointer for
-/// a pointer, the struct itself for a struct, and no words for void. Isn't used for bits.
+/// The sections of the smallest struct that holds an element of `list`: one data word for a number,
+/// one pointer for a pointer, its own sections for a struct, and no words for void. Never called
+/// for a list of bits, which `widen_list` refuses.
 fn struct_for(list: ExistingList) -> StructSize
     ensures { result ≡ struct_for list.size list.struct_size }
 {
@@ -124,8 +127,9 @@ fn struct_for(list: ExistingList) -> StructSize
     }
 }
 
-/// The elements of `list` as rows of words, each as large as the smallest struct that holds the
-/// element. Isn't used for numbers and bits, which aren't whole words.
+/// The elements of `list` as rows: one row of whole words for each element, with the sections of
+/// the smallest struct that holds it. Never called for a list of numbers, which `widen_numbers`
+/// moves, or of bits, which `widen_list` refuses.
 fn element_rows(list: ExistingList) -> ElementRows
     ensures { result ≡ element_rows list }
 {
@@ -139,7 +143,8 @@ fn element_rows(list: ExistingList) -> ElementRows
     }
 }
 
-/// The number of words before the first element of a list: 1 for the tag of structs, otherwise 0.
+/// The number of words that a list has before its first element: 1, the tag, for a list of structs;
+/// otherwise 0.
 fn tag_words(size: ElementSize) -> u32
     ensures { result ≡ tag_words size }
 {

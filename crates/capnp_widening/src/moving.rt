@@ -1,11 +1,12 @@
-//! Writes pointers at new places, which lead to the objects of old pointers (encoding
-//! specification, "Inter-Segment Pointers").
+//! Moves pointers: writes pointers at new places, to the objects that the pointers at the old
+//! places lead to (encoding specification, "Inter-Segment Pointers").
 //!
 //! A near pointer becomes a far pointer if its new place is in another segment than its object. Its
-//! landing pad has one word, after the words of the object's segment, if there is room; otherwise
-//! it has two words, where the arena finds room. If the new place is in the object's segment, the
-//! pointer stays near. A far pointer and a capability are copied unchanged. The old pointer stays,
-//! so for a while two pointers lead to one object.
+//! landing pad is one word after the words of the object's segment if there is room for it,
+//! otherwise two words in any segment in which the arena finds or makes room. If the new place is
+//! in the object's segment, the pointer stays near. A far pointer and a capability are copied
+//! unchanged. The old pointer stays until the caller zeroes it, so until then two pointers lead to
+//! one object.
 ghost use Rattle.std.specs.Prelude.{ℕ, ◌⊎◌, ◌*◌, ◌≡◌, ◌≢◌, ◌<◌, ◌≤◌, ◌+◌, ◌-◌, ◌^◌, ◌∷◌, [], length, true, false, IsOk, OnOk, IfErr, OnErr};
 ghost use Rattle.capnp_arena_traits.specs.View.{KeepsLimits};
 ghost use Rattle.capnp_format.specs.Canonical.{Reaches, offset_to};
@@ -29,12 +30,12 @@ use capnp_making::zeroing::zero_pads;
 use capnp_words::error::ErrorKind;
 use capnp_words::wire_pointer::{WirePointer, WirePointerKind};
 
-/// Replaces the null pointer at `to` by one to the object that the pointer at `from` leads to. A
-/// far pointer or a capability is copied as it is. Nothing is written if the pointer at `from` is
+/// Replaces the null pointer at `to` by a pointer to the object that the pointer at `from` leads
+/// to. Copies a far pointer or a capability unchanged. Writes nothing if the pointer at `from` is
 /// null or leads out of its segment.
 ///
-/// Refuses only if there is no memory for two words. A refusal changes nothing except the
-/// allocator's count `refused`.
+/// Refuses only if the arena refuses two words for a landing pad. A refusal changes no word; if it
+/// is `AllocationFailed`, the allocator has counted it.
 #[inline(always)]
 pub fn move_pointer<A: BuilderArena>(arena: &mut A, from: Start, to: Start) -> Result<(), ErrorKind>
     requires from { IsPlace (A.view arena.old).words from.segment from.at }
@@ -72,7 +73,8 @@ pub fn move_pointer<A: BuilderArena>(arena: &mut A, from: Start, to: Start) -> R
     }
 }
 
-/// The object that `word`, which isn't a far pointer or a capability, describes.
+/// The kind and the size of the object that `word` describes. The caller passes a struct pointer or
+/// a list pointer.
 fn shape_of(word: WirePointer) -> Shape
     ensures shape { kind word.0 < 2 → IsShape result word.0 }
     ensures few { CountFits result }
@@ -84,7 +86,8 @@ fn shape_of(word: WirePointer) -> Shape
     }
 }
 
-/// Makes the pointer at `to` lead to the object `shape` that starts at `object`.
+/// Makes the pointer at `to` lead to the object that starts at `object` and has the kind and the
+/// size `shape`.
 #[inline(always)]
 fn point_to<A: BuilderArena>(
     arena: &mut A,
@@ -136,8 +139,9 @@ fn point_to<A: BuilderArena>(
     }
 }
 
-/// The word of a pointer at `position` of a segment to an object at `target` of the same segment.
-/// To a struct without sections, the offset is -1.
+/// The word of a pointer at `position` of a segment to the object `shape` at `target` of the same
+/// segment. If the object is a struct without sections, the word has the offset -1 instead,
+/// wherever `target` is.
 fn near_word(shape: Shape, position: u32, target: u32) -> WirePointer
     requires reaches { Reaches position target }
     requires few { CountFits shape }
@@ -167,8 +171,8 @@ fn is_empty(shape: Shape) -> bool
     }
 }
 
-/// The second word of a double-far pointer's landing pad, which describes the object, with offset
-/// 0.
+/// The second word of a double-far pointer's landing pad: it describes the object `shape`, and has
+/// the offset 0.
 #[tactic(auto, using(crate::proofs::Basics::zero_offset))]
 fn tag_of(shape: Shape) -> WirePointer
     requires few { CountFits shape }
@@ -181,11 +185,11 @@ fn tag_of(shape: Shape) -> WirePointer
     }
 }
 
-/// Replaces the `count` consecutive null pointers from `to` on by pointers to the objects that
-/// those from `from` on lead to.
+/// Replaces the `count` consecutive null pointers from `to` on by pointers to the objects that the
+/// `count` pointers from `from` on lead to.
 ///
-/// Refuses only if there is no memory for two words. The pointers before the refused one may
-/// already be written.
+/// Refuses only if the arena refuses two words for a landing pad. The pointers before the refused
+/// one, and their landing pads, are then already written.
 #[inline(always)]
 pub fn move_row<A: BuilderArena>(
     arena: &mut A,
@@ -204,8 +208,8 @@ pub fn move_row<A: BuilderArena>(
     }
 }
 
-/// Does what `move_row` does, into another segment. Not inlined, because most objects stay in their
-/// segment.
+/// Does what `move_row` does, if `to` is in another segment than `from`. Not inlined, because this
+/// is rare: most objects stay in their segment.
 #[cold]
 #[inline(never)]
 fn move_row_apart<A: BuilderArena>(
@@ -221,8 +225,8 @@ fn move_row_apart<A: BuilderArena>(
     move_each(arena, from, to, count)
 }
 
-/// Does what `move_row` does, one pointer after the other. Inlined separately for moves within a
-/// segment, in which no pointer becomes far.
+/// Does what `move_row` does, one pointer after the other. Inlined once for moves within a segment,
+/// in which no pointer becomes far, and once for moves into another segment.
 #[inline(always)]
 fn move_each<A: BuilderArena>(
     arena: &mut A,
@@ -278,7 +282,7 @@ fn unmove_pointer<A: BuilderArena>(arena: &mut A, id: u32, at: u32, to_id: u32, 
 /// Rows of consecutive pointers, one row every `step` words.
 #[derive(Clone, Copy)]
 pub struct PointerRows {
-    /// The segment.
+    /// The segment that the rows are in.
     pub segment: u32,
     /// Where the first pointer of the first row is.
     pub at: u32,
@@ -286,11 +290,11 @@ pub struct PointerRows {
     pub step: u32,
 }
 
-/// Replaces the null pointers of `count` rows of `to`, `pointers` in each, by pointers to the
-/// objects that those in the rows of `from` lead to.
+/// Replaces the null pointers in the first `count` rows of `to`, `pointers` pointers in each row,
+/// by pointers to the objects that the pointers in the same rows of `from` lead to.
 ///
-/// Refuses only if there is no memory for two words. The pointers before the refused one may
-/// already be written.
+/// Refuses only if the arena refuses two words for a landing pad. The pointers before the refused
+/// one, and their landing pads, are then already written.
 pub fn move_rows<A: BuilderArena>(
     arena: &mut A,
     from: PointerRows,
@@ -325,7 +329,8 @@ pub fn move_rows<A: BuilderArena>(
     Ok(())
 }
 
-/// Zeroes the landing pads that `move_rows` wrote when it moved the pointers of `count` rows.
+/// Zeroes the landing pads that `move_rows` wrote when it moved the pointers of `count` rows,
+/// `pointers` pointers in each row.
 pub fn unmove_rows<A: BuilderArena>(
     arena: &mut A,
     from: PointerRows,

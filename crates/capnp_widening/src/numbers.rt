@@ -23,10 +23,10 @@ use capnp_words::error::ErrorKind;
 use capnp_words::wire_pointer::{ElementSize, StructSize, data_bits_per_element};
 
 /// Turns the list of numbers `old`, which the pointer at `at` of segment `id` leads to, into a list
-/// of structs of `size`, which has at least one data word.
+/// of structs of `size`. Precondition: `size` has at least one data word.
 ///
-/// If that place stores `old`, the only refusals are for lack of memory, and these leave the old
-/// list unchanged.
+/// If `old` is the list that this pointer leads to, refuses only if the arena refuses the new
+/// words, and then leaves the old list unchanged.
 pub(crate) fn widen_numbers<A: BuilderArena>(
     arena: &mut A,
     id: u32,
@@ -106,8 +106,8 @@ fn remake_numbers<A: BuilderArena>(
     })
 }
 
-/// Copies the numbers of `old`, each into a word: the first at `to`, the next ones `step` words
-/// apart.
+/// Copies each number of `old` into a word of its own: the first number to `to`, each further
+/// number to `step` words after the one before.
 fn copy_numbers<A: BuilderArena>(arena: &mut A, old: ExistingList, to: Start, step: u32)
     requires kind { (2 ≤ size_number old.size) × (size_number old.size ≤ 5) }
     requires inside { NumbersInside (A.view arena.old).words old }

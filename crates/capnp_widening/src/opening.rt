@@ -28,8 +28,8 @@ use capnp_words::wire_pointer::StructSize;
 /// small, moves the struct to new words. Otherwise the struct is unchanged.
 ///
 /// Refusals: `MessageContainsNonStructPointerWhereStructPointerWasExpected` if the pointer leads to
-/// something else, and then nothing changes; the arena's `AllocationFailed` or `MessageTooLarge`,
-/// and then the old struct, or null, stays.
+/// something else than a struct, and then nothing changes; the arena's `AllocationFailed` or
+/// `MessageTooLarge`, and then the old struct, or the null pointer, is unchanged.
 #[inline(always)]
 pub fn open_struct<A: BuilderArena>(
     arena: &mut A,
@@ -77,7 +77,7 @@ pub fn open_struct<A: BuilderArena>(
     }
 }
 
-/// Makes a struct, all zero, for the pointer at `at` of segment `id`, which is null.
+/// Makes the null pointer at `at` of segment `id` lead to a new struct of `size`, all zero.
 #[inline(never)]
 fn new_struct<A: BuilderArena>(
     arena: &mut A,
@@ -109,8 +109,9 @@ fn new_struct<A: BuilderArena>(
     })
 }
 
-/// Widens the struct at `start`, whose sections `narrow` are too small for `size`. Takes `start`
-/// and `narrow` instead of an `ExistingStruct`, so that they are passed in registers.
+/// Widens the struct at `start`, to which the pointer at `place` leads, like `widen_known`.
+/// `narrow` is the struct's old sections; at least one of them is smaller than in `size`. Takes
+/// `start` and `narrow` instead of an `ExistingStruct`, so that they are passed in registers.
 #[inline(never)]
 fn open_narrow_struct<A: BuilderArena>(
     arena: &mut A,
@@ -150,10 +151,10 @@ fn open_narrow_struct<A: BuilderArena>(
 /// nothing. A list of structs that are large enough is unchanged; any other list is turned into a
 /// list of structs in new words.
 ///
-/// Refusals that change nothing: `ExistingPointerIsNotAList` if the pointer leads to something
-/// else; `FoundBitListWhereStructListWasExpected` for a list of bits; `MessageTooLarge` with the
-/// words of the new elements if these are 2^29 or more. Other refusals are the arena's
-/// `AllocationFailed` or `MessageTooLarge`, and leave the old list.
+/// Refusals that change nothing: `ExistingPointerIsNotAList` if the pointer leads to something else
+/// than a list; `FoundBitListWhereStructListWasExpected` for a list of bits; `MessageTooLarge(n)`,
+/// where n is the number of words of the new elements, if n is 2^29 or more. Other refusals are the
+/// arena's `AllocationFailed` or `MessageTooLarge`; after these, the old list is unchanged.
 pub fn open_struct_list<A: BuilderArena>(
     arena: &mut A,
     id: u32,

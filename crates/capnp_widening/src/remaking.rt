@@ -22,14 +22,15 @@ use capnp_making::zeroing::{zero_pads, zero_part};
 use capnp_words::error::ErrorKind;
 use capnp_words::wire_pointer::{ElementSize, StructSize, WirePointer};
 
-/// The elements of a list, in rows of whole words.
+/// The elements of a list as rows: one row of whole words for each element.
 #[derive(Clone, Copy)]
 pub struct ElementRows {
     /// The segment of the list.
     pub segment: u32,
-    /// The first word of the list, including its tag.
+    /// The position of the list's first word: of its tag if there is one, otherwise of its first
+    /// element.
     pub at: u32,
-    /// The number of words before the first element: 1 if there is a tag, otherwise 0.
+    /// The number of words of the list before its first element: 1 if there is a tag, otherwise 0.
     pub tag: u32,
     /// The number of data words and pointers of each row.
     pub size: StructSize,
@@ -37,8 +38,8 @@ pub struct ElementRows {
     pub count: u32,
 }
 
-/// Copies the first `words` words of each of the `count` rows of `from` over those of the rows of
-/// `to`.
+/// Copies the first `words` words of each of the `count` rows of `from` over the first `words`
+/// words of the same row of `to`.
 fn copy_rows<A: BuilderArena>(
     arena: &mut A,
     from: PointerRows,
@@ -75,8 +76,9 @@ fn copy_rows<A: BuilderArena>(
     }
 }
 
-/// Allocates words for a list of `count` structs, in segment `id` if they fit there, and writes its
-/// tag.
+/// Allocates words for a list of `count` structs of `size`, and writes the list's tag. The words
+/// are in segment `id` if they fit there, otherwise after a word for a landing pad, in any segment
+/// in which the arena finds or makes room.
 pub(crate) fn begin_list<A: BuilderArena>(
     arena: &mut A,
     id: u32,
@@ -100,11 +102,11 @@ pub(crate) fn begin_list<A: BuilderArena>(
 }
 
 /// Copies the data words of the elements of `old` into the structs of `size` from `first` on, and
-/// moves the elements' pointers there. Before the call, the structs are all zero. They are at least
-/// as large as the elements.
+/// moves the elements' pointers there. The caller has allocated the structs, all zero.
+/// Precondition: no section of an element is larger than in `size`.
 ///
-/// Refuses only if there is no memory for two words. After a refusal, the landing pads written for
-/// these pointers are zeroed again.
+/// Refuses only if the arena refuses two words for a landing pad. After a refusal, the landing pads
+/// that were written for these pointers are zero again.
 fn fill_rows<A: BuilderArena>(
     arena: &mut A,
     old: ElementRows,
@@ -177,8 +179,8 @@ fn fill_rows<A: BuilderArena>(
 /// Makes a list of structs of `size` from the elements of `old`, which the pointer at `at` of
 /// segment `id` leads to.
 ///
-/// If that place stores `old`, the only refusals are for lack of memory, and these leave the old
-/// list unchanged.
+/// If `old` is the list that this pointer leads to, refuses only if the arena refuses the new words
+/// or a landing pad, and then leaves the old list unchanged.
 pub(crate) fn widen_rows<A: BuilderArena>(
     arena: &mut A,
     id: u32,

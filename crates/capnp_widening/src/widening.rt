@@ -1,6 +1,7 @@
-//! Widens structs and lists that are too small: allocates new words for the object, moves its
-//! pointers there, and only then overwrites the pointer to it. Until then the old object is
-//! unchanged; after a refusal the new words are zero.
+//! Widens structs and lists that are smaller than a caller requests: allocates new words for the
+//! object, copies its data and moves its pointers there, and only then makes the pointer to the
+//! object lead to the new words. Until then the old words are unchanged. After a refusal the new
+//! words are zero.
 ghost use Rattle.std.specs.Prelude.{ℕ, Some, ◌≡◌, ◌≢◌, ◌↔◌, ◌<◌, ◌≤◌, ◌+◌, ◌*◌, ◌^◌, max, List, IsTrue, length, IsOk, IfOk, OnOk, IfErr, OnErr};
 ghost use Rattle.capnp_arena_traits.specs.View.{KeepsLimits};
 ghost use Rattle.capnp_format.specs.Segments.{segment, IsPlace};
@@ -27,13 +28,13 @@ use capnp_making::zeroing::{zero_pads, zero_part};
 use capnp_words::error::ErrorKind;
 use capnp_words::wire_pointer::{StructSize, WirePointer};
 
-/// Words that are allocated for an object and its landing pad.
+/// The words that are allocated for an object and, if it needs one, for its landing pad.
 #[derive(Clone, Copy)]
 pub struct Room {
     /// The segment of the words.
     pub segment: u32,
-    /// The position of the first of these words: of the landing pad if there is one, otherwise of
-    /// the object.
+    /// The position of the first of these words in the segment: of the landing pad if there is one,
+    /// otherwise of the object.
     pub at: u32,
     /// The number of words of the landing pad: 0 if the object is in the segment of its pointer,
     /// otherwise 1.
@@ -41,7 +42,8 @@ pub struct Room {
 }
 
 /// Allocates `amount` words for an object whose pointer is in segment `id`: in that segment if they
-/// fit there, otherwise after a landing pad of one word, where the arena finds room.
+/// fit there. Otherwise allocates one word more, for a landing pad before the object, in any
+/// segment in which the arena finds or makes room.
 pub(crate) fn take<A: BuilderArena>(arena: &mut A, id: u32, amount: u32) -> Result<Room, ErrorKind>
     requires there { id < length (A.view arena.old).words }
     requires small { amount < 2 ^ 31 }
@@ -67,7 +69,8 @@ pub(crate) fn take<A: BuilderArena>(arena: &mut A, id: u32, amount: u32) -> Resu
 }
 
 /// Copies the `count` words from `from` on over those from `to` on. Most data sections are one
-/// word, which is copied by itself; more are copied in one call.
+/// word, so a single word is read and written here; any other number of words is copied by one call
+/// of the arena.
 #[inline(always)]
 pub(crate) fn copy_words<A: BuilderArena>(arena: &mut A, from: Start, to: Start, count: u32)
     requires inside { BothLieInside (A.view arena.old).words from to count }
@@ -82,7 +85,7 @@ pub(crate) fn copy_words<A: BuilderArena>(arena: &mut A, from: Start, to: Start,
     }
 }
 
-/// Copies the `count` words from `from` on over those from `to` on, in one call.
+/// Copies the `count` words from `from` on over those from `to` on, by one call of the arena.
 #[inline(never)]
 fn copy_many<A: BuilderArena>(arena: &mut A, from: Start, to: Start, count: u32)
     requires { BothLieInside (A.view arena.old).words from to count }
@@ -99,8 +102,8 @@ fn copy_many<A: BuilderArena>(arena: &mut A, from: Start, to: Start, count: u32)
     arena.move_words(old, new, count);
 }
 
-/// Makes the pointer at `at` of segment `id` lead to the object in `room`, and writes its landing
-/// pad, if there is one.
+/// Makes the pointer at `at` of segment `id` lead to the object `shape` in `room`. Also writes the
+/// landing pad, if `room` has one.
 #[inline(always)]
 pub(crate) fn settle<A: BuilderArena>(arena: &mut A, id: u32, at: u32, room: Room, shape: Shape)
     requires place { IsPlace (A.view arena.old).words id at }
@@ -124,13 +127,13 @@ pub(crate) fn settle<A: BuilderArena>(arena: &mut A, id: u32, at: u32, room: Roo
     arena.set_word(id, at, far.0);
 }
 
-/// Widens the struct `old`, to which the pointer at `at` of segment `id` leads. At least one of its
-/// sections is smaller than in `size`. Moves the struct to new words, in which each section has the
-/// larger one of its sizes in `old` and in `size`. Precondition: the caller has found `old` at that
-/// pointer.
+/// Widens the struct `old`, to which the pointer at `at` of segment `id` leads: moves it to new
+/// words, in which each section has the larger one of its sizes in `old` and in `size`.
+/// Preconditions: the caller has found `old` at that pointer; at least one section of `old` is
+/// smaller than in `size`.
 ///
-/// Refuses with `AllocationFailed` if there is no memory for the new words or for a landing pad, or
-/// with `MessageTooLarge`. After a refusal the old struct is unchanged.
+/// Refusals: the arena's `AllocationFailed` or `MessageTooLarge`, for the new words or for a
+/// landing pad. After a refusal the old struct is unchanged.
 pub(crate) fn widen_known<A: BuilderArena>(
     arena: &mut A,
     id: u32,
@@ -211,8 +214,8 @@ fn pointers_of(e: ExistingStruct) -> Start
     }
 }
 
-/// Moves the struct `old`, which the pointer at `at` of segment `id` leads to, to new words of the
-/// larger `size`.
+/// Moves the struct `old`, which the pointer at `at` of segment `id` leads to, to new words with
+/// the sections of `size`. Precondition: no section of `old` is larger than in `size`.
 fn widen_struct<A: BuilderArena>(
     arena: &mut A,
     id: u32,

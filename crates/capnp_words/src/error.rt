@@ -10,27 +10,30 @@ use thiserror::Error;
 /// it has one.
 #[derive(Clone, Copy, Debug, PartialEq, Eq, Error)]
 pub enum ErrorKind {
-    /// There is no memory, or none for another segment.
+    /// Memory ran out, or the allocator refused to grant another segment.
     AllocationFailed,
     /// The value to copy in canonical form holds a capability.
     CannotCreateACanonicalMessageWithACapability,
-    /// A size was requested, and the tag of a struct list isn't that of a struct.
+    /// The total size of a value was requested, and the tag of a struct list isn't that of a
+    /// struct.
     CantHandleNonStructInlineComposite,
-    /// A text or data was expected for writing in place, and the list's elements aren't bytes.
+    /// A text or data was expected for writing in place, and the pointer leads to a list of
+    /// elements that aren't bytes.
     ExistingListPointerIsNotByteSized,
-    /// A list was expected for writing in place, and its elements have less data, or fewer
-    /// pointers, than the expected ones.
+    /// A list was expected for writing in place, and the elements of the list that is there have
+    /// less data, or fewer pointers, than the expected ones.
     ExistingListValueIsIncompatibleWithExpectedType,
     /// A list, a text or data was expected for writing in place, and the pointer leads to something
     /// else.
     ExistingPointerIsNotAList,
-    /// A list of pointers was expected, and the list's structs have none.
+    /// A list of pointers was expected, and the pointer leads to a list of structs without
+    /// pointers.
     ExpectedAPointerListButGotAListOfDataOnlyStructs,
-    /// A list of numbers was expected, and the list's structs have no data.
+    /// A list of numbers was expected, and the pointer leads to a list of structs without data.
     ExpectedAPrimitiveListButGotAListOfPointerOnlyStructs,
-    /// A list of bits was found instead of elements of another size.
+    /// A list of bits was found instead of a list with elements of another size.
     FoundBitListWhereStructListWasExpected,
-    /// A struct list was found instead of bits.
+    /// A list of structs was found instead of a list of bits.
     FoundStructListWhereBitListWasExpected,
     /// The elements of a struct list take more words than its pointer claims.
     InlineCompositeListsElementsOverrunItsWordCount,
@@ -40,9 +43,9 @@ pub enum ErrorKind {
     InvalidSegmentId(u32),
     /// A one-word landing pad, or the tag of a two-word landing pad, is itself a far pointer.
     MalformedDoubleFarPointer,
-    /// Data was expected, and the list's elements aren't bytes.
+    /// Data was expected, and the pointer leads to a list of elements that aren't bytes.
     MessageContainsListPointerOfNonBytesWhereDataWasExpected,
-    /// A text was expected, and the list's elements aren't bytes.
+    /// A text was expected, and the pointer leads to a list of elements that aren't bytes.
     MessageContainsListPointerOfNonBytesWhereTextWasExpected,
     /// The elements of a list have less data, or fewer pointers, than the expected ones.
     MessageContainsListWithIncompatibleElementType,
@@ -62,7 +65,8 @@ pub enum ErrorKind {
     MessageContainsOutOfBoundsPointer,
     /// A text has no bytes, or its last byte isn't 0.
     MessageContainsTextThatIsNotNULTerminated,
-    /// A size was requested, and pointers are nested more deeply than the nesting limit.
+    /// The total size of a value was requested, and its pointers are nested more deeply than the
+    /// nesting limit.
     MessageIsTooDeeplyNested,
     /// Structs, or the values that a copy reads, are nested more deeply than the nesting limit.
     /// Pointers in a cycle always are.
@@ -72,7 +76,8 @@ pub enum ErrorKind {
     MessageTooLarge(usize),
     /// Lists are nested more deeply than the nesting limit.
     NestingLimitExceeded,
-    /// An edit names a place that doesn't exist, or doesn't fit the operation.
+    /// An edit names a place that doesn't exist or isn't of the kind that the operation is for, or
+    /// a number in the edit is out of range.
     NoSuchPlace,
     /// The traversal limit doesn't cover the words to be read.
     ReadLimitExceeded,
@@ -81,8 +86,8 @@ pub enum ErrorKind {
     /// There are no segments to read: the value isn't in a message, or is a default value with a
     /// far pointer.
     TriedToReadFromNullArena,
-    /// A type was requested, and a one-word landing pad, or the tag of a two-word landing pad, is
-    /// itself a far pointer.
+    /// The type of a pointer was requested, and a one-word landing pad, or the tag of a two-word
+    /// landing pad, is itself a far pointer.
     UnexpectedFarPointer,
     /// A pointer is of no known kind, or is a capability in a default value.
     UnknownPointerType,

@@ -1,5 +1,6 @@
-//! Tests bytes for zero, zeroes and copies them with vectors: 64 bytes at a time, and the rest by
-//! words and bytes. Each function does what a loop over single bytes does, for every length.
+//! Tests whether bytes are zero, zeroes bytes, and copies bytes, with vectors: 64 bytes at a time,
+//! and the rest by words and bytes. For every length, each function has the same result as a loop
+//! over single bytes.
 ghost use Rattle.std.specs.Prelude.{◌≡◌, ◌↔◌, ◌<◌, ◌≤◌, ◌+◌, ◌*◌, ◌/◌, ◌%◌, All, IsTrue, length, take, drop, replicate};
 ghost use Rattle.capnp_format.specs.Bytes.{words_of};
 ghost use Rattle.capnp_format.specs.Canonical.{used_words};
@@ -48,7 +49,7 @@ fn is_rest_zero(bytes: &[u8]) -> bool
     are_zero(&bytes[at..])
 }
 
-/// Whether all bytes are zero; `true` for none.
+/// Whether all bytes are zero; `true` if `bytes` is empty.
 pub fn is_zero(bytes: &[u8]) -> bool
     ensures { IsTrue result ↔ All (λ byte. byte ≡ 0) bytes.now }
 {
@@ -80,7 +81,8 @@ fn used_before(bytes: &[u8], end: usize) -> usize
     0
 }
 
-/// A number of words after which all others are zero, found 64 bytes at a time.
+/// Returns a number of words after which all words of `bytes` are zero, but not always the
+/// smallest. Tests 64 bytes at a time, from the end.
 #[inline(never)]
 fn end_of_blocks(bytes: &[u8]) -> usize
     ensures used { used_words (words_of bytes.now) ≡ used_words (take result (words_of bytes.now)) }
@@ -109,8 +111,8 @@ fn used_of_many(bytes: &[u8]) -> usize
     used_before(bytes, end_of_blocks(bytes))
 }
 
-/// The number of words up to and including the last one that isn't zero. Tests fewer than 32 words
-/// one by one, which is fastest for them.
+/// The number of words up to and including the last one that isn't zero. If there are fewer than 32
+/// words, tests them one by one, because that is fastest then.
 #[inline(always)]
 fn used(bytes: &[u8]) -> usize
     ensures { result ≡ used_words (words_of bytes.now) }
@@ -132,7 +134,8 @@ pub fn trailing_zero_words(bytes: &[u8]) -> usize
     bytes.len() / 8 - used(bytes)
 }
 
-/// Zeroes fewer than 64 bytes: from 8 bytes on with two vectors that may overlap, fewer one by one.
+/// Zeroes all bytes: 8 bytes or more with two vectors that may overlap, fewer than 8 one by one.
+/// Precondition: there are fewer than 64 bytes.
 #[inline(always)]
 fn zero_short(bytes: &mut [u8])
     requires { length bytes.old < 64 }
@@ -155,7 +158,8 @@ fn zero_short(bytes: &mut [u8])
     }
 }
 
-/// Zeroes all bytes. From 64 bytes on, the compiler's code for a plain loop is fastest.
+/// Zeroes all bytes. For 64 bytes or more, uses a plain loop, for which the compiler's code is
+/// fastest.
 #[inline(always)]
 pub fn zero(bytes: &mut [u8])
     ensures { bytes.new ≡ replicate (length bytes.old) 0 }
@@ -169,7 +173,8 @@ pub fn zero(bytes: &mut [u8])
     }
 }
 
-/// Copies fewer than 64 bytes: from 8 bytes on with two vectors that may overlap, fewer one by one.
+/// Copies `from` to `to`: 8 bytes or more with two vectors that may overlap, fewer than 8 one by
+/// one. Preconditions: `to` has the same length as `from`; there are fewer than 64 bytes.
 #[inline(always)]
 fn copy_short(from: &[u8], to: &mut [u8])
     requires same { length from.now ≡ length to.old }
@@ -193,8 +198,8 @@ fn copy_short(from: &[u8], to: &mut [u8])
     }
 }
 
-/// Copies `from` to `to`, which has the same length. From 64 bytes on, the standard library's code
-/// is fastest.
+/// Copies `from` to `to`. For 64 bytes or more, uses the standard library's `copy_from_slice`,
+/// which is fastest then. Precondition: `to` has the same length as `from`.
 #[inline(always)]
 pub fn copy(from: &[u8], to: &mut [u8])
     requires { length from.now ≡ length to.old }

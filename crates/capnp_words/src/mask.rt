@@ -1,5 +1,5 @@
-//! Masks: a field is stored as the exclusive or of its value and its default, so that the default
-//! is zero bits.
+//! Masks: a field is stored as the exclusive or of its value and its default, so that a field that
+//! holds its default is stored as zero bits.
 ghost use Rattle.std.specs.Prelude.{◌≡◌, bit_xor};
 ghost use Rattle.std.specs.Int.{w8, w16, w32, w64, int_bit_xor};
 

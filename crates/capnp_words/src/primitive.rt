@@ -6,7 +6,7 @@ ghost use Rattle.capnp_format.specs.Numbers.{from_digits};
 
 /// Numbers that a message can hold.
 pub trait Primitive {
-    /// The array of the number's bytes, the lowest first.
+    /// An array of the number's bytes, the lowest byte first.
     type Raw;
 
     /// The size of the number in bytes.
@@ -44,14 +44,14 @@ pub trait Primitive {
         ensures again { value_of (raw_bytes raw.new) ≡ value }
         ensures little_endian { from_digits 256 (raw_bytes raw.new) ≡ bits_of value };
 
-    /// The number that `bytes` holds, in `BYTES` bytes.
+    /// Returns the number that `bytes` holds. Precondition: `bytes` has `BYTES` bytes.
     fn load(bytes: &[u8]) -> Self
         requires { length bytes.now ≡ BYTES }
         ensures value { result ≡ value_of bytes.now }
         ensures again { bytes_of result ≡ bytes.now }
         ensures little_endian { bits_of result ≡ from_digits 256 bytes.now };
 
-    /// Stores the number in `bytes`, which has `BYTES` bytes.
+    /// Stores the number in `bytes`. Precondition: `bytes` has `BYTES` bytes.
     fn store(self, bytes: &mut [u8])
         requires { length bytes.old ≡ BYTES }
         ensures bytes { bytes.new ≡ bytes_of self }

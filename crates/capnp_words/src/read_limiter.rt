@@ -1,5 +1,5 @@
-//! The traversal limit: how many words reading may still charge. It bounds the cost of reading a
-//! small message whose pointers lead to the same words again and again.
+//! The traversal limit: how many words may still be charged for reading. It bounds the cost of
+//! reading a small message whose pointers lead to the same words again and again.
 ghost use Rattle.std.specs.Prelude.{◌≡◌, ◌^◌, ◌<◌, ◌↔◌, IsOk, OnOk, OnErr, IfErr};
 ghost use Rattle.capnp_words.specs.Meter.{Meter, Allows, spent, counted, unused};
 ghost use Rattle.capnp_words.specs.declared.error.ErrorKind.TheVariants.{ReadLimitExceeded};
@@ -23,7 +23,7 @@ impl Model for ReadLimiter {
 }
 
 impl ReadLimiter {
-    /// A limiter of `limit` words; `None` for no limit.
+    /// Makes a limiter with `limit` words left; `None` means no limit.
     pub fn new(limit: Option<usize>) -> Self
         ensures { result ≡ unused limit }
     {
@@ -33,8 +33,8 @@ impl ReadLimiter {
         }
     }
 
-    /// Charges `amount` words. Refuses with `ReadLimitExceeded` if fewer words are left; a refusal
-    /// charges nothing. Without a limit, never refuses.
+    /// Charges `amount` words. Refuses with `ReadLimitExceeded` if fewer than `amount` words are
+    /// left; a refusal charges nothing. Without a limit, never refuses.
     pub fn can_read(&mut self, amount: usize) -> Result<(), ErrorKind>
         ensures exactly { IsOk result ↔ Allows self.old amount }
         ensures granted { OnOk result (self.new ≡ spent self.old amount) }

@@ -1,4 +1,4 @@
-//! Units of size: bits, bytes, words, elements and pointers, each in several widths.
+//! Types for counts of bits, bytes, words, elements and pointers, each in several integer widths.
 ghost use Rattle.std.specs.Prelude.{◌≡◌, ◌*◌};
 
 use crate::primitive::Primitive;
@@ -75,14 +75,14 @@ pub const WORDS_PER_POINTER: WordCount = 1;
 /// Words of a pointer.
 pub const POINTER_SIZE_IN_WORDS: WordCount = 1;
 
-/// The bytes that a number of type `T` takes in a message.
+/// The number of bytes that a number of type `T` takes in a message.
 pub fn _bytes_per_element<T: Primitive>() -> ByteCount
     ensures { result ≡ T.BYTES }
 {
     T::BYTES
 }
 
-/// The bits that a number of type `T` takes in a message.
+/// The number of bits that a number of type `T` takes in a message.
 pub fn bits_per_element<T: Primitive>() -> BitCount0
     ensures { result ≡ 8 * T.BYTES }
 {

@@ -36,7 +36,7 @@ pub enum ElementSize {
     InlineComposite,
 }
 
-/// The number of bits of data of an element: 0 for a pointer and for a struct.
+/// The number of bits of data of an element of this size: 0 for a pointer and for a struct.
 pub fn data_bits_per_element(size: ElementSize) -> BitCount32
     ensures { result ≡ element_bits (size_number size) }
 {
@@ -60,8 +60,8 @@ pub fn flat_words(size: ElementSize, count: ElementCount32) -> WordCount32
     ((u64::from(count) * u64::from(data_bits_per_element(size)) + 63) / 64) as u32
 }
 
-/// Whether each element of the list that `word` describes is one bit, or one to eight bytes: not
-/// void, a pointer or a struct.
+/// Whether each element of the list that `word` describes is one bit, or 1, 2, 4 or 8 bytes of
+/// data: neither void, nor a pointer, nor a struct.
 #[inline]
 pub fn is_of_bits(word: WirePointer) -> bool
     ensures { IsTrue result ↔ (0 < element_size word.0) × (element_size word.0 ≤ 5) }
@@ -93,7 +93,7 @@ pub struct StructSize {
 }
 
 impl StructSize {
-    /// Both sections, in words.
+    /// The size of both sections together, in words.
     pub fn total(&self) -> WordCount32
         ensures { result ≡ self.now.data_words + self.now.pointers }
     {
@@ -148,8 +148,8 @@ impl WirePointer {
         WirePointer(0xffff_fffc)
     }
 
-    /// A pointer to a struct that starts `offset` words after the word that follows the pointer
-    /// ("Structs").
+    /// Makes a pointer to a struct that starts `offset` words after the pointer's end ("Structs").
+    /// Precondition: `offset` is from -2^29 to 2^29 - 1.
     pub fn new_struct(offset: i32, size: StructSize) -> Self
         requires { IsOffset offset }
         ensures word { DescribesStruct result.0 (offset_field offset) size }
@@ -159,8 +159,8 @@ impl WirePointer {
         WirePointer(low | upper_of_struct(size) << 32)
     }
 
-    /// The tag of a struct list: the number of elements, fewer than 2^30, and the size of each
-    /// ("Lists").
+    /// Makes the tag of a list of `count` structs, each of size `size` ("Lists"). Precondition:
+    /// `count` is below 2^30.
     pub fn new_tag(count: ElementCount32, size: StructSize) -> Self
         requires { count < 2 ^ 30 }
         ensures { DescribesStruct result.0 count size }
@@ -168,9 +168,10 @@ impl WirePointer {
         WirePointer(u64::from(count) << 2 | upper_of_struct(size) << 32)
     }
 
-    /// A pointer to a list that starts `offset` words after the word that follows the pointer
-    /// ("Lists"). `count`, below 2^29, is the number of elements; if `size` is `InlineComposite`,
-    /// it is the number of the elements' words, without the tag.
+    /// Makes a pointer to a list that starts `offset` words after the pointer's end ("Lists").
+    /// `count` is the number of elements; if `size` is `InlineComposite`, it is the number of words
+    /// of all elements, without the tag. Preconditions: `offset` is from -2^29 to 2^29 - 1; `count`
+    /// is below 2^29.
     pub fn new_list(offset: i32, size: ElementSize, count: ElementCount32) -> Self
         requires near { IsOffset offset }
         requires few { count < 2 ^ 29 }
@@ -181,8 +182,9 @@ impl WirePointer {
         WirePointer(low | upper << 32)
     }
 
-    /// A pointer to a struct list whose tag is `offset` words after the word that follows the
-    /// pointer, and whose elements take `words` words after the tag, fewer than 2^29 ("Lists").
+    /// Makes a pointer to a struct list whose tag is `offset` words after the pointer's end, and
+    /// whose elements together take `words` words, without the tag ("Lists"). Preconditions:
+    /// `offset` is from -2^29 to 2^29 - 1; `words` is below 2^29.
     pub fn new_struct_list(offset: i32, words: WordCount32) -> Self
         requires near { IsOffset offset }
         requires few { words < 2 ^ 29 }
@@ -191,9 +193,9 @@ impl WirePointer {
         Self::new_list(offset, ElementSize::InlineComposite, words)
     }
 
-    /// A far pointer to a landing pad of one word, which is itself the pointer to the object
-    /// ("Inter-Segment Pointers"). Precondition: `position`, that of the pad in words, is below
-    /// 2^29.
+    /// Makes a far pointer to a landing pad of one word ("Inter-Segment Pointers"): the pad is the
+    /// pointer to the object. The pad is at word `position` of segment `segment`. Precondition:
+    /// `position` is below 2^29.
     pub fn new_far(position: WordCount32, segment: u32) -> Self
         requires { position < 2 ^ 29 }
         ensures { LeadsToPad result.0 0 position segment }
@@ -201,9 +203,9 @@ impl WirePointer {
         WirePointer(u64::from(position) << 3 | 2 | u64::from(segment) << 32)
     }
 
-    /// A far pointer to a landing pad of two words: where the object starts, and its tag
-    /// ("Inter-Segment Pointers"). Precondition: `position`, that of the pad in words, is below
-    /// 2^29.
+    /// Makes a far pointer to a landing pad of two words ("Inter-Segment Pointers"): a far pointer
+    /// to the object's start, and the object's tag. The pad starts at word `position` of segment
+    /// `segment`. Precondition: `position` is below 2^29.
     pub fn new_double_far(position: WordCount32, segment: u32) -> Self
         requires { position < 2 ^ 29 }
         ensures { LeadsToPad result.0 1 position segment }
@@ -211,7 +213,8 @@ impl WirePointer {
         WirePointer(u64::from(position) << 3 | 6 | u64::from(segment) << 32)
     }
 
-    /// A capability, by its index in the message's capability table ("Capabilities (Interfaces)").
+    /// Makes a pointer to the capability with this index in the message's capability table
+    /// ("Capabilities (Interfaces)").
     pub fn new_capability(index: u32) -> Self
         ensures word { result.0 ≡ capability_word index }
         ensures lower { lower_half result.0 ≡ 3 }
@@ -253,7 +256,7 @@ impl WirePointer {
         self.0 & 0xffff_ffff == 3
     }
 
-    /// The offset, in words from the word that follows the pointer: from -2^29 to 2^29 - 1.
+    /// The offset, counted in words from the pointer's end: from -2^29 to 2^29 - 1.
     pub fn offset(self) -> i32
         ensures value { result ≡ signed (offset_bits self.0) }
         ensures near { IsOffset result }
@@ -287,7 +290,7 @@ impl WirePointer {
         }
     }
 
-    /// The number of elements of a struct list, by its tag.
+    /// The number of elements of the struct list whose tag this word is.
     pub fn inline_composite_list_element_count(self) -> ElementCount32
         ensures value { result ≡ offset_bits self.0 }
         ensures few { result < 2 ^ 30 }
@@ -309,7 +312,8 @@ impl WirePointer {
         (self.0 >> 48) as u16
     }
 
-    /// The sizes of both sections of a struct; in the tag of a struct list, those of each element.
+    /// The sizes of both sections of a struct; if the word is the tag of a struct list, those of
+    /// each element.
     pub fn struct_size(self) -> StructSize
         ensures data_of { result.data_words ≡ data_words self.0 }
         ensures pointers_of { result.pointers ≡ pointer_count self.0 }
@@ -343,7 +347,7 @@ impl WirePointer {
         }
     }
 
-    /// The number of elements of a list; for a struct list, the number of the elements' words,
+    /// The number of elements of a list; for a struct list, the number of words of all elements,
     /// without the tag.
     pub fn list_element_count(self) -> ElementCount32
         ensures value { result ≡ list_count self.0 }
@@ -397,8 +401,8 @@ impl WirePointer {
 }
 
 /// The offset of a pointer at `position` that leads to `target`, both in words from the start of
-/// the same segment. Precondition: the offset, counted from the word that follows the pointer, is
-/// from -2^29 to 2^29 - 1.
+/// the same segment. Precondition: the offset, counted in words from the pointer's end, is from
+/// -2^29 to 2^29 - 1.
 pub fn offset_between(position: WordCount32, target: WordCount32) -> i32
     requires { Reaches position target }
     ensures distance { pos target ≡ pos (position + 1) +ℤ result }

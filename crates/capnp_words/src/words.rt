@@ -38,8 +38,8 @@ pub fn put_word(bytes: &mut [u8], at: usize, word: u64)
         .copy_to_slice(&mut bytes[8 * at..]);
 }
 
-/// Copies the words of `from` over those from position `at` on. Precondition: the length of `from`
-/// is a multiple of 8.
+/// Copies the words of `from` over those of `bytes` from position `at` on. Precondition: the length
+/// of `from` is a multiple of 8.
 #[tactic(auto, using(capnp_format::proofs::WordsOf::put_words))]
 pub fn copy_words(bytes: &mut [u8], at: usize, from: &[u8])
     requires whole { length from.now ≡ 8 * length (words_of from.now) }

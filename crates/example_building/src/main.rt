@@ -1,4 +1,4 @@
-//! Builds a message over several segments, reads it back, and makes it canonical.
+//! Builds a message over several segments, reads it back, and makes a canonical copy of it.
 #![tactic(auto)]
 
 ghost use Rattle.std.specs.Prelude.{◌≤◌, IfOk};
@@ -38,7 +38,8 @@ enum Failure {
     Memory(#[from(alloc)] AllocError),
 }
 
-/// A message with a null root, in segments of `words` words, or more if an object needs more.
+/// Makes a message with a null root. Each segment gets room for `words` words, or for more if an
+/// object needs more.
 fn empty_message(alloc: Global, words: u32) -> Result<Built, ErrorKind>
     requires { words ≤ max_segment_words }
     ensures { IfOk result (λ b. IsPlace (⟦<Built as BuilderArena>⟧.view b).words 0 0) }
@@ -49,8 +50,8 @@ fn empty_message(alloc: Global, words: u32) -> Result<Built, ErrorKind>
     Ok(built)
 }
 
-/// Builds a struct with a number and a text. Its segments have two words, so each object is in a
-/// segment of its own, after a landing pad.
+/// Builds a message: a struct with a number and a text. A segment has room for two words unless an
+/// object needs more, so each object is in a segment of its own, after a landing pad.
 fn build(alloc: Global) -> Result<Built, ErrorKind> {
     let mut built = empty_message(alloc, 2)?;
     let mut root = PointerBuilder::get_root(&mut built).init_struct(SIZE)?;
@@ -59,7 +60,7 @@ fn build(alloc: Global) -> Result<Built, ErrorKind> {
     Ok(built)
 }
 
-/// Copies a built message in canonical form, in one segment.
+/// Makes a canonical copy, in one segment, of a message that was built.
 fn canonical(alloc: Global, from: &Built) -> Result<Built, ErrorKind> {
     let mut built = empty_message(alloc, 1024)?;
     // Reading a message being built is free, so the limiter is never charged.
@@ -83,7 +84,7 @@ fn print_segments(rt: &(impl Print + AllocGlobal), built: &Built) -> Result<(), 
     Ok(())
 }
 
-/// Reads the number and the text back, and prints them.
+/// Reads the number and the text back. Prints the number, and the text's length.
 fn print_value(rt: &impl Print, built: &Built) -> Result<(), Failure> {
     let mut limiter = ReadLimiter::new(None);
     let root = PointerReader::get_root_from_arena(built, &mut limiter)?;
@@ -94,7 +95,7 @@ fn print_value(rt: &impl Print, built: &Built) -> Result<(), Failure> {
     Ok(())
 }
 
-/// Shows the message, what it means, and its canonical form.
+/// Builds the message, and prints its segments, its value, and its canonical copy.
 fn show(rt: &(impl Print + AllocGlobal)) -> Result<(), Failure> {
     let built = build(rt.alloc())?;
     print_segments(rt, &built)?;

@@ -1,4 +1,4 @@
-//! Makes a message of two segments canonical, and prints the canonical words: the bytes that
+//! Makes a canonical copy of a message of two segments, and prints the copy's words: the bytes that
 //! programs have to agree on before they hash, sign or compare a value.
 #![tactic(auto)]
 
@@ -20,7 +20,7 @@ use std::alloc::Global;
 use std::io;
 use std::process::ExitCode;
 
-/// A struct of two words of data, 2026 and zero, and of one pointer.
+/// Segment 0: the root pointer, and a struct with two data words, 2026 and zero, and one pointer.
 const FIRST: [u8; 32] = [
     0, 0, 0, 0, 2, 0, 1, 0, // the root: the struct starts at the next word
     0xea, 7, 0, 0, 0, 0, 0, 0, // 2026, the lowest byte first
@@ -28,7 +28,7 @@ const FIRST: [u8; 32] = [
     2, 0, 0, 0, 1, 0, 0, 0, // a far pointer to word 0 of segment 1
 ];
 
-/// The text that the struct's pointer leads to.
+/// Segment 1: the landing pad of the struct's pointer, and the text that this pointer leads to.
 const SECOND: [u8; 24] = [
     1, 0, 0, 0, 0x52, 0, 0, 0, // a list of 10 bytes starts at the next word
     b'c', b'a', b'n', b'o', b'n', b'i', b'c', b'a', // its bytes, the last of them zero
@@ -38,11 +38,12 @@ const SECOND: [u8; 24] = [
 /// A message being built, in segments on the heap.
 type Built = BuilderArenaImpl<HeapAllocator>;
 
-/// Builds the canonical form of a message's value, at most 1024 words.
+/// Makes a canonical copy of a message, in one segment. Refuses with `MessageTooLarge` if the copy
+/// has more than 1024 words.
 ///
-/// The clause is proved for all bytes that the segments can hold: after `Ok`, the only segment is
-/// the canonical words of the root's value. The root is word 0 of segment 0, and is read with a
-/// nesting limit of 64.
+/// The `ensures` clause is proved for all bytes that the segments can hold: after `Ok`, the only
+/// segment of the result has exactly the canonical words of the root's value. The root is word 0 of
+/// segment 0, and is read with a nesting limit of 64.
 fn canonical(alloc: Global, segments: &[&[u8]]) -> Result<Built, ErrorKind>
     ensures { let from = message (map (λ s. s.now) segments.now) in
         IfOk result (λ b. (t : Tree) × (c : ℕ) × Means from 64 0 0 t c

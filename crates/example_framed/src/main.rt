@@ -1,6 +1,6 @@
-//! Reads the frame of a message from standard input, makes the message canonical, and writes its
-//! frame to standard output: what a program does with a message before it hashes or signs its
-//! bytes.
+//! Reads the frame of a message from standard input, makes a canonical copy of the message, and
+//! writes the copy's frame to standard output: what a program does with a message before it hashes
+//! or signs its bytes.
 #![tactic(auto)]
 
 ghost use Rattle.std.specs.Prelude.{◌≡◌, ◌∷◌, [], ℕ, false, OnOk};
@@ -24,8 +24,9 @@ use std::process::ExitCode;
 
 /// Writes a message's value as the frame of a canonical message.
 ///
-/// The clause is proved: what is written is the frame of one segment, the canonical words of the
-/// root's value. The root is word 0 of segment 0, and is read with a nesting limit of 64.
+/// The `ensures` clause is proved: after `Ok`, what was written is a frame of one segment, which
+/// has exactly the canonical words of the root's value. The root is word 0 of segment 0, and is
+/// read with a nesting limit of 64.
 fn write_message<W: Output>(
     alloc: Global,
     segments: OwnedSegments,
@@ -48,7 +49,7 @@ fn write_message<W: Output>(
 }
 
 /// Reads a message of at most 8,388,608 words, and writes it by `write_message`. Writes nothing if
-/// the input is at its end.
+/// the input is empty.
 fn copy_message(rt: &(impl Input + Print + AllocGlobal)) -> Result<(), CanonicalError> {
     let mut input = ReaderInput::new(rt.reader());
     let mut output = WriterOutput::new(io::writer(rt));

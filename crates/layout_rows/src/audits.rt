@@ -1,4 +1,4 @@
-//! Whether a message is one that a builder can have made.
+//! Answers whether a message is one that a builder can have made.
 
 use crate::output::Output;
 use crate::parse::{self, Fault};
@@ -6,14 +6,15 @@ use capnp_arena::arena::SegmentArray;
 use layout_vectors::vectors::audit;
 use std::alloc::Global;
 
-/// The answer to a line of segments.
+/// Answers a line of segments.
 pub fn answer(alloc: Global, line: &str) -> Result<String, Fault> {
     let segments = parse::segments(alloc, line, ',', "")?;
     let segments = parse::slices(alloc, segments.as_slice())?;
     audited(alloc, segments.as_slice())
 }
 
-/// The answer to these segments.
+/// Answers for a message of these segments: 1 if a builder can have made it, otherwise 0; or the
+/// name of the refusal. `Unfit` if segment 0 has no word, or there are too many segments or words.
 fn audited(alloc: Global, segments: &[&[u8]]) -> Result<String, Fault> {
     if SegmentArray::new(segments).is_none() {
         return Err(Fault::Unfit);

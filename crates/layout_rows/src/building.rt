@@ -7,17 +7,17 @@ use crate::{builds, edits};
 use capnp_arena::arena::Allocator;
 use std::alloc::Global;
 
-/// How a message is built.
+/// What a line has to build its message.
 #[derive(Clone, Copy)]
 pub enum Task {
-    /// By one word of edits.
+    /// One word with edits.
     Edits,
-    /// By calls of builders, a word each.
+    /// Calls of builders, one in each word.
     Calls,
 }
 
-/// The answer to a line that holds a number of words, a number of segments, and what builds the
-/// message.
+/// Answers a line: the least number of words of a segment, the number of segments that are granted,
+/// and the edits or calls that build the message.
 pub fn answer(alloc: Global, task: Task, line: &str) -> Result<String, Fault> {
     let words = parse::words(alloc, line)?;
     let [size, segments, calls @ ..] = words.as_slice() else {
@@ -33,8 +33,8 @@ pub fn answer(alloc: Global, task: Task, line: &str) -> Result<String, Fault> {
     }
 }
 
-/// The answer for a message in an allocator's memory: the outcome of each edit or call, and then
-/// the words.
+/// Builds a message in the memory of `allocator`. Returns the outcome of each edit or call, and
+/// then the message's words.
 fn built_with<A: Allocator>(
     alloc: Global,
     allocator: A,

@@ -25,7 +25,7 @@ const ROOT: PointerPlace = PointerPlace {
     word: 0,
 };
 
-/// Makes calls in order, and adds the answer of each, followed by `;`.
+/// Makes `calls` in order. Adds to `out` the answer of each call, followed by `;`.
 pub fn put_answers<A: Allocator>(
     alloc: Global,
     arena: &mut BuilderArenaImpl<A>,
@@ -50,7 +50,8 @@ pub fn put_answers<A: Allocator>(
     Ok(())
 }
 
-/// Makes a call and adds its answer. Returns the place to keep, if there is one.
+/// Makes a call and adds its answer to `out`. Returns the place that the call found or made, if
+/// there is one; later calls can be made on it.
 fn call_once<A: Allocator>(
     alloc: Global,
     arena: &mut BuilderArenaImpl<A>,
@@ -95,8 +96,9 @@ fn call_once<A: Allocator>(
     Ok(None)
 }
 
-/// The place that a call is made on, and the call. The place is that of the number before a point,
-/// or the one kept last if there is no number.
+/// Splits `text` into the place that a call is made on, and the call. A number before a point is
+/// the number of the place in `kept`; without a number, the place is the last of `kept`. Returns
+/// `None` for the place if `kept` doesn't have it.
 fn made_of<'a>(kept: &[Place], text: &'a str) -> (Option<Place>, &'a str) {
     match text.split_once('.') {
         Some((number, call)) if parse::is_number(number) => {
@@ -140,7 +142,7 @@ fn message_call<A: Allocator>(
     Ok(None)
 }
 
-/// Appends the bytes of a segment that the arena lends for writing, or a note that there are none.
+/// Adds the bytes of a segment that the arena lends for writing, or `absent` if it lends none.
 fn allocated<A: BuilderArena>(arena: &mut A, segment: u32, out: &mut Output) {
     match arena.allocated_mut(segment) {
         Some(bytes) => out.hex_or_dash(bytes),
@@ -148,7 +150,8 @@ fn allocated<A: BuilderArena>(arena: &mut A, segment: u32, out: &mut Output) {
     }
 }
 
-/// If the arena lends a segment's bytes for writing, writes one of them.
+/// If the arena lends a segment's bytes for writing, writes `byte` over byte `index` of them;
+/// `Unfit` if there is no such byte. Adds `absent` if the arena lends none.
 fn write_allocated<A: BuilderArena>(
     arena: &mut A,
     segment: u32,

@@ -6,11 +6,11 @@ use crate::types::{ElementType, element_type};
 use capnp_arena::arena::ReaderOptions;
 use capnp_words::wire_pointer::{ElementSize, StructSize};
 
-/// A call that lines may hold: its name, a letter for each of its arguments (see `Values::put`),
-/// the least number of arguments, and what the call is.
+/// A call that lines may have: its name, a letter for each of its arguments (see `Values::put`),
+/// the least number of arguments, and the value that stands for the call.
 pub type Form<T> = (&'static str, &'static str, usize, T);
 
-/// The arguments of a call, by kind. Those that the call doesn't have are zero or missing.
+/// The arguments of a call, by kind. Arguments that the call doesn't have are zero or missing.
 #[derive(Clone, Copy)]
 pub struct Values<'l> {
     pub sections: StructSize,
@@ -28,7 +28,8 @@ pub struct Values<'l> {
     pub mask: Option<&'l str>,
     /// Bytes in hex digits.
     pub hex: Option<&'l str>,
-    /// Another message, or only the nesting limit.
+    /// Another message to copy from. A call that has only a nesting limit has it in the options
+    /// here.
     pub source: SourceText<'l>,
     /// Whether an argument is out of its type's range.
     pub is_unfit: bool,
@@ -63,7 +64,7 @@ impl<'l> Values<'l> {
         }
     }
 
-    /// Reads an argument, by its letter.
+    /// Parses `word` as the argument with this letter.
     fn put(&mut self, letter: u8, word: &'l str) -> Result<(), Fault> {
         match letter {
             b'd' => parse::put_number(word, &mut self.sections.data_words),
@@ -78,7 +79,7 @@ impl<'l> Values<'l> {
         }
     }
 
-    /// Reads an argument that isn't just a number, by its letter.
+    /// Parses `word` as the argument with this letter, if the argument isn't just a number.
     fn put_named(&mut self, letter: u8, word: &'l str) -> Result<(), Fault> {
         match letter {
             b's' => self.size = parse::element_size(word)?,
@@ -90,7 +91,7 @@ impl<'l> Values<'l> {
         Ok(())
     }
 
-    /// Reads an argument that is kept as written, by its letter.
+    /// Keeps `word` as the argument with this letter, if the argument is kept as text.
     fn put_text(&mut self, letter: u8, word: &'l str) -> Result<(), Fault> {
         let has_form = match letter {
             b'h' => parse::is_hex(word),
@@ -129,7 +130,8 @@ pub fn read<'l, T: Copy>(forms: &[Form<T>], text: &'l str) -> Result<(T, Values<
     Ok((call, values_of(letters, arguments)?))
 }
 
-/// The call with this name and number of arguments, and the letters of its arguments.
+/// Finds the form with this name that allows `count` arguments. Returns the letters of its
+/// arguments, and the call.
 fn find<T: Copy>(forms: &[Form<T>], name: &str, count: usize) -> Option<(&'static str, T)> {
     for (known, letters, least, call) in forms {
         if *known == name && *least <= count && count <= letters.len() {
@@ -139,8 +141,8 @@ fn find<T: Copy>(forms: &[Form<T>], name: &str, count: usize) -> Option<(&'stati
     None
 }
 
-/// The arguments of these letters. An argument of the wrong form is reported before one that is out
-/// of its type's range.
+/// Parses arguments, each by its letter. If one argument has the wrong form, and another is out of
+/// its type's range, reports the wrong form.
 fn values_of<'l>(letters: &str, arguments: Option<&'l str>) -> Result<Values<'l>, Fault> {
     let mut values = Values::none();
     let Some(arguments) = arguments else {

@@ -62,7 +62,8 @@ static FORMS: [Form<Name>; 23] = [
     ("wd", "cb", 2, Name::WriteData),
 ];
 
-/// Applies the edits of a word, and adds their outcomes, separated by `;`.
+/// Applies the edits in the only word of `words`, and adds their outcomes to `out`, separated by
+/// `;`.
 pub fn put_outcomes<A: BuilderArena>(
     alloc: Global,
     arena: &mut A,
@@ -99,7 +100,8 @@ fn edit_once<A: BuilderArena>(alloc: Global, arena: &mut A, text: &str) -> Resul
     read_bytes(alloc, arena, path.as_slice(), (name, &values))
 }
 
-/// The steps of a path: `-`, or `c3` and `e12` separated by points.
+/// Parses a path: `-` for no steps; otherwise steps, such as `c3` for child 3 and `e12` for element
+/// 12, separated by points.
 fn path_of(alloc: Global, text: &str) -> Result<Vec<Step>, Fault> {
     let mut path = Vec::new(alloc);
     if text == "-" {
@@ -111,7 +113,7 @@ fn path_of(alloc: Global, text: &str) -> Result<Vec<Step>, Fault> {
     Ok(path)
 }
 
-/// A step of a path.
+/// Parses one step of a path.
 fn step_of(text: &str) -> Result<Step, Fault> {
     match text.strip_prefix('c') {
         Some(index) => Ok(Step::Child(parse::number(index)?)),
@@ -122,7 +124,7 @@ fn step_of(text: &str) -> Result<Step, Fault> {
     }
 }
 
-/// Parses the bytes of an operation, and applies it at the end of a path.
+/// Parses the bytes among an operation's arguments, and applies the operation at the end of `path`.
 fn read_bytes<A: BuilderArena>(
     alloc: Global,
     arena: &mut A,
@@ -138,7 +140,8 @@ fn read_bytes<A: BuilderArena>(
     read_source(alloc, arena, path, (name, values, given))
 }
 
-/// Parses the message to copy from, and applies an operation with given bytes at the end of a path.
+/// Parses the message that an operation copies from, and applies the operation at the end of
+/// `path`. `call` has the operation's bytes.
 fn read_source<A: BuilderArena>(
     alloc: Global,
     arena: &mut A,
@@ -154,7 +157,8 @@ fn read_source<A: BuilderArena>(
     Ok(apply_at(arena, path, call, &message)?)
 }
 
-/// Applies an operation at the end of a path, with given bytes and a message to copy from.
+/// Applies an operation at the end of `path`. `given` has the operation's bytes; `message` is the
+/// message that it copies from.
 fn apply_at<'a, A: BuilderArena>(
     arena: &mut A,
     path: &'a [Step],
@@ -169,7 +173,8 @@ fn apply_at<'a, A: BuilderArena>(
     apply(arena, &Edit { path, op })
 }
 
-/// The operation of a name, with these values, bytes and message.
+/// Makes the operation with this name from its arguments, its bytes, and the message that it copies
+/// from.
 fn operation<'a>(
     name: Name,
     values: &Values<'_>,

@@ -1,5 +1,5 @@
-//! Readers that calls return, and the elements of lists that they read. An element that doesn't
-//! exist is `Unfit`.
+//! Readers that calls return, and the elements of lists. For an element that doesn't exist, the
+//! functions return `Unfit`.
 
 use crate::parse::Fault;
 use capnp_arena::arena::ReaderArena;
@@ -14,7 +14,8 @@ pub enum Reader<'a, A: ReaderArena> {
     List(ListReader<'a, A>),
 }
 
-/// A number or a bit of a list whose elements are wide enough.
+/// Returns element `index` as a number or a bit; `Unfit` if there is no such element, or its data
+/// is too narrow.
 pub fn number_at<E: PrimitiveElement, A: ReaderArena>(
     list: &ListReader<'_, A>,
     index: u32,
@@ -27,7 +28,8 @@ pub fn number_at<E: PrimitiveElement, A: ReaderArena>(
     }
 }
 
-/// A struct of a list whose elements aren't bits.
+/// Returns element `index` as a struct; `Unfit` if there is no such element, or the elements are
+/// bits.
 pub fn struct_at<'a, A: ReaderArena>(
     list: &ListReader<'a, A>,
     index: u32,
@@ -39,7 +41,7 @@ pub fn struct_at<'a, A: ReaderArena>(
     }
 }
 
-/// A struct of a list whose elements aren't bits, under the list's own nesting limit.
+/// Like `struct_at`, but the struct has the list's own nesting limit.
 pub fn own_struct_at<'a, A: ReaderArena>(
     list: &ListReader<'a, A>,
     index: u32,
@@ -51,7 +53,8 @@ pub fn own_struct_at<'a, A: ReaderArena>(
     }
 }
 
-/// The first pointer of an element of a list of pointers, or of structs with pointers.
+/// Returns the pointer in element `index`: the element itself, or a struct's first pointer; `Unfit`
+/// if there is none.
 pub fn pointer_at<'a, A: ReaderArena>(
     list: &ListReader<'a, A>,
     index: u32,
@@ -68,7 +71,7 @@ pub fn pointer_at<'a, A: ReaderArena>(
     }
 }
 
-/// The lowest bits of an element's data.
+/// Returns the lowest bits of the data of element `index`; `Unfit` if there is no such element.
 pub fn low_data_at<A: ReaderArena>(list: &ListReader<'_, A>, index: u32) -> Result<u64, Fault> {
     if index < list.len() {
         Ok(list.element_data(index))

@@ -24,10 +24,10 @@ use std::env;
 use std::io::{self, BufWriter, Read, Write};
 use std::process::ExitCode;
 
-/// What the lines are.
+/// What each line of the input holds.
 #[derive(Clone, Copy)]
 enum Command {
-    /// A message that is read completely, in a fixed order.
+    /// A message, which is read by all calls, in a fixed order.
     Walk,
     /// A message, and calls that read it.
     Reads,
@@ -35,7 +35,7 @@ enum Command {
     Edits,
     /// A message being built, and calls that build it.
     Builds,
-    /// The segments of a message, made by a builder or not.
+    /// The segments of a message, whether or not a builder made it.
     Audits,
 }
 
@@ -60,7 +60,8 @@ fn run(rt: &HostRuntime) -> io::Result<ExitCode> {
     }
 }
 
-/// What the only argument asks for.
+/// Returns the command that the program's only argument names; `None` if there isn't exactly one
+/// argument, or it names no command.
 fn asked(rt: &HostRuntime) -> io::Result<Option<Command>> {
     let mut words = Vec::new(rt.alloc());
     for word in env::args(rt)?.skip(1) {
@@ -92,7 +93,7 @@ fn respond(rt: &HostRuntime, command: Command) -> io::Result<()> {
     writer.flush()
 }
 
-/// The answer to a line.
+/// Returns the answer to a line.
 fn answer(alloc: Global, command: Command, line: &str) -> Result<String, AllocError> {
     let answered = match command {
         Command::Walk => reading::answer(alloc, reading::Task::Walk, line),

@@ -23,9 +23,10 @@ pub struct Memory {
 }
 
 impl Memory {
-    /// Parses the memory: segments of at least `words` words, of which `segments` are granted, or
-    /// any number for `none`. After a `/`, `words` may also have the words of a scratch space, and
-    /// `segments` a limit on the rows of segments that are kept.
+    /// Parses how much memory there is. `words` is the least number of words of a segment, and
+    /// `segments` the number of segments that are granted, or `none` for any number. After a `/`,
+    /// `words` may have the number of words of a scratch space, and `segments` the number of rows
+    /// that are granted. A row is what an arena knows of a segment.
     pub fn new(words: &str, segments: &str) -> Result<Self, Fault> {
         let (words, scratch_words) = match words.split_once('/') {
             Some((words, scratch)) => (words, Some(parse::number(scratch)?)),
@@ -44,7 +45,7 @@ impl Memory {
         })
     }
 
-    /// The bytes of the scratch space, if there is one. None of these bytes is zero.
+    /// Makes the bytes of the scratch space, if there is one. None of them is zero.
     pub fn scratch(&self, alloc: Global) -> Result<Option<Vec<u8>>, Fault> {
         match self.scratch_words {
             Some(words) => Ok(Some(Vec::from_elem(alloc, 0xff, 8 * words as usize)?)),
@@ -52,13 +53,13 @@ impl Memory {
         }
     }
 
-    /// The allocator without a scratch space.
+    /// Makes the allocator of a message without a scratch space.
     pub fn limited(&self, alloc: Global) -> LimitedAllocator<HeapAllocator> {
         let heap = HeapAllocator::new(alloc, self.words);
         LimitedAllocator::new(heap, self.segments, self.rows)
     }
 
-    /// The allocator over a scratch space.
+    /// Makes the allocator of a message with the scratch space `scratch`.
     pub fn over<'a>(&self, alloc: Global, scratch: &'a mut [u8]) -> LimitedScratch<'a> {
         let scratch = ScratchSpaceHeapAllocator::new(alloc, scratch, self.words);
         LimitedScratch {
@@ -67,7 +68,7 @@ impl Memory {
     }
 }
 
-/// A limit in decimal digits, or `none` for no limit.
+/// Parses a limit: decimal digits, or `none` for no limit.
 fn count(text: &str) -> Result<u32, Fault> {
     if text == "none" {
         Ok(u32::MAX)
@@ -120,7 +121,7 @@ impl<'a> Allocator for LimitedScratch<'a> {
     }
 }
 
-/// A message of one segment, in which a word for the root is allocated.
+/// Makes a message with one segment, in which one word is allocated, for the root pointer.
 pub fn built<A: Allocator>(alloc: Global, allocator: A) -> Result<BuilderArenaImpl<A>, ErrorKind> {
     let mut arena = BuilderArenaImpl::new(alloc, allocator);
     arena.allocate_segment(1)?;
@@ -128,7 +129,7 @@ pub fn built<A: Allocator>(alloc: Global, allocator: A) -> Result<BuilderArenaIm
     Ok(arena)
 }
 
-/// Adds the allocated words of each segment in hex digits, separated by commas.
+/// Adds the allocated words of each segment in hex digits, with commas between segments.
 pub fn put_words(arena: &impl ReaderArena, out: &mut Output) {
     for id in 0..u32::MAX {
         match arena.get_segment(id) {

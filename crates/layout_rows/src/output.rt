@@ -1,11 +1,11 @@
-//! The output line, part by part.
+//! Writes the output line, part by part.
 
 use capnp_words::wire_pointer::{ElementSize, PointerType, StructSize};
 use std::alloc::{AllocError, Global};
 use std::fmt::Display;
 
-/// A line so far. If there is no memory for a part of it, the line is lost, which is reported at
-/// its end.
+/// A line so far. If there is no memory for a part of the line, the line is lost, and `into_text`
+/// fails.
 #[derive(Drop)]
 pub struct Output {
     alloc: Global,
@@ -23,7 +23,7 @@ impl Output {
         }
     }
 
-    /// The line, if there was memory for all of it.
+    /// Returns the line; fails if there was no memory for a part of it.
     pub fn into_text(self) -> Result<String, AllocError> {
         let Output {
             alloc: _,
@@ -59,7 +59,7 @@ impl Output {
         self.text(if yes { "1" } else { "0" });
     }
 
-    /// Adds what a limiter has left, or `none`.
+    /// Adds the number of words that a limiter has left, or `none` if it has no limit.
     pub fn left(&mut self, words: Option<usize>) {
         match words {
             Some(words) => self.put(words),
@@ -98,7 +98,8 @@ impl Output {
         });
     }
 
-    /// Adds what the elements of a list are, each number after a `/`.
+    /// Adds the element size of a list, and the words of data and the pointers of its structs, each
+    /// number after a `/`.
     pub fn elements(&mut self, size: ElementSize, structs: StructSize) {
         self.text("/");
         self.element_size(size);
@@ -106,7 +107,7 @@ impl Output {
         self.slash(structs.pointers);
     }
 
-    /// Adds the letter of what a pointer leads to.
+    /// Adds a letter for the kind of object that a pointer leads to, or `n` for a null pointer.
     pub fn pointer_type(&mut self, found: PointerType) {
         self.text(match found {
             PointerType::Null => "n",

@@ -5,15 +5,15 @@ use capnp_words::wire_pointer::ElementSize;
 use std::alloc::{AllocError, AllocFailed, Global};
 use std::str::FromStr;
 
-/// Why a line, or a call of it, has no answer of its own.
+/// Why a line, or one of its calls, has no result.
 #[derive(Clone, Copy)]
 pub enum Fault {
     /// The line isn't of its command's form.
     Malformed,
-    /// A number is out of the range of its type or its call, or a call doesn't fit what it is made
-    /// on.
+    /// A number is out of the range of its type or its call, or the call can't be made on what it
+    /// names.
     Unfit,
-    /// The call is made, and refused.
+    /// The call was made, and refused.
     Refused(ErrorKind),
     /// There was no memory.
     NoMemory,
@@ -37,7 +37,7 @@ impl<T: Drop> From<AllocFailed<T>> for Fault {
     }
 }
 
-/// The words of a line, separated by one space.
+/// Splits a line into its words, which are separated by one space.
 pub fn words(alloc: Global, line: &str) -> Result<Vec<&str>, AllocError> {
     let mut list = Vec::new(alloc);
     for word in line.split(' ') {
@@ -56,7 +56,7 @@ pub fn is_number(text: &str) -> bool {
     !digits.is_empty() && digits.iter().all(|digit| digit.is_ascii_digit())
 }
 
-/// A number in decimal digits; `Unfit` if it is out of its type's range.
+/// Parses a number in decimal digits; `Unfit` if it is out of its type's range.
 pub fn number<T: FromStr>(text: &str) -> Result<T, Fault>
 where
     T::Err: Drop,
@@ -70,7 +70,7 @@ where
     }
 }
 
-/// Replaces a number by one in decimal digits.
+/// Parses a number in decimal digits, and stores it in `to`.
 pub fn put_number<T: FromStr + Copy>(text: &str, to: &mut T) -> Result<(), Fault>
 where
     T::Err: Drop,
@@ -79,7 +79,7 @@ where
     Ok(())
 }
 
-/// 1 for yes and 0 for no.
+/// Parses 1 as `true` and 0 as `false`.
 pub fn flag(text: &str) -> Result<bool, Fault> {
     match number(text)? {
         0u8 => Ok(false),
@@ -88,7 +88,7 @@ pub fn flag(text: &str) -> Result<bool, Fault> {
     }
 }
 
-/// A number of words, or `none`.
+/// Parses a limit: a number of words, or `none` for no limit.
 pub fn limit(text: &str) -> Result<Option<usize>, Fault> {
     if text == "none" {
         return Ok(None);
@@ -96,7 +96,7 @@ pub fn limit(text: &str) -> Result<Option<usize>, Fault> {
     Ok(Some(number(text)?))
 }
 
-/// The element size, 0 to 7.
+/// Parses an element size, as a number from 0 to 7.
 pub fn element_size(text: &str) -> Result<ElementSize, Fault> {
     match number(text)? {
         0u8 => Ok(ElementSize::Void),
@@ -122,7 +122,7 @@ pub fn is_hex(text: &str) -> bool {
                 .all(|c| matches!(c, b'0'..=b'9' | b'a'..=b'f'))
 }
 
-/// The bytes of lower-case hex digits; `-` for no bytes.
+/// Parses bytes in lower-case hex digits; `-` for no bytes.
 pub fn bytes(alloc: Global, text: &str) -> Result<Vec<u8>, Fault> {
     if !is_hex(text) {
         return Err(Fault::Malformed);
@@ -135,8 +135,8 @@ pub fn bytes(alloc: Global, text: &str) -> Result<Vec<u8>, Fault> {
     }
 }
 
-/// Segments of hex digits, separated by `separator`. A single `-` means no segments, and `empty`
-/// means an empty segment.
+/// Parses segments in hex digits, separated by `separator`. A single `-` means no segments; the
+/// text `empty` in place of the digits means a segment without bytes.
 pub fn segments(
     alloc: Global,
     text: &str,
@@ -154,7 +154,7 @@ pub fn segments(
     Ok(list)
 }
 
-/// The bytes of each segment.
+/// Lends the bytes of each segment.
 pub fn slices(alloc: Global, segments: &[Vec<u8>]) -> Result<Vec<&[u8]>, AllocError> {
     let mut list = Vec::new(alloc);
     for segment in segments {

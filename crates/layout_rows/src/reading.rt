@@ -6,7 +6,7 @@ use capnp_arena::arena::{ReaderArenaImpl, ReaderOptions, SegmentArray};
 use capnp_words::read_limiter::ReadLimiter;
 use std::alloc::Global;
 
-/// What is read of a message.
+/// By what calls a message is read.
 #[derive(Clone, Copy)]
 pub enum Task {
     /// All calls, in a fixed order.
@@ -15,7 +15,7 @@ pub enum Task {
     Calls,
 }
 
-/// The answer to a line that holds a nesting limit, a traversal limit, segments, and calls.
+/// Answers a line: a nesting limit, a traversal limit, segments, and calls.
 pub fn answer(alloc: Global, task: Task, line: &str) -> Result<String, Fault> {
     let words = parse::words(alloc, line)?;
     let [nesting, budget, segments, calls @ ..] = words.as_slice() else {
@@ -30,7 +30,7 @@ pub fn answer(alloc: Global, task: Task, line: &str) -> Result<String, Fault> {
     answer_of(alloc, task, slices.as_slice(), options, calls)
 }
 
-/// The answer for a message of these segments.
+/// Returns the answer for a message of these segments.
 fn answer_of(
     alloc: Global,
     task: Task,

@@ -1,4 +1,4 @@
-//! Calls that read a message, each made on what an earlier one has returned.
+//! Calls that read a message, each made on a reader that an earlier call has returned.
 ghost use Rattle.std.specs.Prelude.{◌<◌, ◌/◌, ◌^◌, length, IfOk, IfSome};
 
 mod calls;
@@ -23,7 +23,7 @@ use std::alloc::Global;
 use std::fmt::Display;
 use std::str::FromStr;
 
-/// The answers to calls, one a word.
+/// Answers calls that read the message in `arena`; each of `words` is a call.
 pub fn answer<A: ReaderArena>(
     alloc: Global,
     arena: &A,
@@ -46,7 +46,7 @@ struct Reading {
 }
 
 impl Reading {
-    /// The answers to calls.
+    /// Makes `calls` in order, and returns their answers.
     fn answer<A: ReaderArena>(
         mut self,
         alloc: Global,
@@ -75,7 +75,8 @@ impl Reading {
         Ok(out.into_text()?)
     }
 
-    /// Adds what is left of the budget, and how many pointers were followed.
+    /// Adds the number of words that the limiter has left, and the number of pointers that were
+    /// followed.
     fn limits(&mut self) {
         self.out.text(" ");
         self.out.left(self.limiter.left());
@@ -84,8 +85,8 @@ impl Reading {
         self.out.text(";");
     }
 
-    /// Makes a call, on a kept reader if there is one. A reader that the call returns isn't shown
-    /// yet.
+    /// Makes a call, on the reader `of` if there is one. If the call returns a reader, returns it,
+    /// and adds nothing for it yet.
     fn call<'a, A: ReaderArena>(
         &mut self,
         arena: &'a A,
@@ -110,7 +111,7 @@ impl Reading {
         Ok(Some(reader))
     }
 
-    /// Makes a call on a kept reader, if there is one.
+    /// Makes a call on the reader `of`; `Unfit` if there is none.
     fn call_of<'a, A: ReaderArena>(
         &mut self,
         of: Option<Reader<'a, A>>,
@@ -150,7 +151,8 @@ impl Reading {
         }
     }
 
-    /// Adds the kind of what a pointer leads to, and returns a reader of it.
+    /// Adds the kind of object that a pointer leads to. Returns a reader of the object if it is a
+    /// struct or a list.
     fn target<'a, A: ReaderArena>(&mut self, target: Target<'a, A>) -> Option<Reader<'a, A>> {
         match target {
             Target::Struct(found) => {
@@ -170,7 +172,7 @@ impl Reading {
         None
     }
 
-    /// Calls on a pointer that return no reader.
+    /// Makes a call that returns no reader, on a pointer.
     fn ask_pointer<'a, A: ReaderArena>(
         &mut self,
         from: PointerReader<'a, A>,
@@ -223,7 +225,7 @@ impl Reading {
         }
     }
 
-    /// Calls on a struct that return no reader.
+    /// Makes a call that returns no reader, on a struct.
     fn ask_struct<A: ReaderArena>(
         &mut self,
         from: StructReader<'_, A>,
@@ -293,7 +295,8 @@ impl Reading {
         self.used(data, pointers);
     }
 
-    /// Adds the answer of a test for canonical form, and its head.
+    /// Adds the answer of a test for canonical form, and the head after the test, a position in
+    /// words.
     fn tested(&mut self, tested: Result<bool, ErrorKind>, head: u32) {
         match tested {
             Ok(yes) => self.out.flag(yes),
@@ -302,7 +305,7 @@ impl Reading {
         self.out.slash(head);
     }
 
-    /// Adds whether the last words of both sections are used.
+    /// Adds, for each of the two sections of a struct, whether its last word is used.
     fn used(&mut self, data: bool, pointers: bool) {
         self.out.text("/");
         self.out.flag(data);
@@ -327,7 +330,7 @@ impl Reading {
         }
     }
 
-    /// Calls on a list that return no reader.
+    /// Makes a call that returns no reader, on a list.
     fn ask_list<A: ReaderArena>(
         &mut self,
         from: ListReader<'_, A>,
@@ -344,7 +347,7 @@ impl Reading {
         Ok(())
     }
 
-    /// An element of a list that is a number, a bit or nothing.
+    /// Adds an element of a list: a number, a bit or nothing.
     fn element<A: ReaderArena>(
         &mut self,
         from: ListReader<'_, A>,
@@ -364,7 +367,7 @@ impl Reading {
         Ok(())
     }
 
-    /// A number of a type, in a struct or a list.
+    /// Adds a number in a struct or a list. `of` is the number's type.
     fn number<A: ReaderArena>(
         &mut self,
         of: NumberType,
@@ -383,7 +386,8 @@ impl Reading {
         }
     }
 
-    /// A field of a struct, with a mask if there is one, or an element of a list.
+    /// Adds a number of type `T`: a field of a struct, with a mask if the call has one, or an
+    /// element of a list.
     fn number_as<
         T: Primitive + Zero + Mask<T = T> + PrimitiveElement + FromStr + Display + Drop,
         A: ReaderArena,
@@ -403,7 +407,7 @@ impl Reading {
         Ok(())
     }
 
-    /// Shows a reader.
+    /// Adds what a reader reads from, its content and its nesting limit.
     fn show<A: ReaderArena>(&mut self, reader: Reader<'_, A>) {
         match reader {
             Reader::Pointer(pointer) => {
@@ -445,7 +449,8 @@ impl Reading {
     }
 }
 
-/// The pointer at a place, if there is a word there.
+/// Returns a reader of the pointer at the place that `values` names; `Unfit` if there is no such
+/// word.
 fn reader_at<'a, A: ReaderArena>(
     arena: &'a A,
     values: &Values<'_>,
@@ -463,7 +468,7 @@ fn reader_at<'a, A: ReaderArena>(
     }
 }
 
-/// The root of a call's default.
+/// Returns a reader of the root pointer of a call's default; `Unfit` if the call has none.
 fn from_default<'a, A: ReaderArena>(call: &'a Call) -> Result<PointerReader<'a, A>, Fault> {
     match default_of(call)? {
         Some(bytes) => Ok(PointerReader::from_default(bytes)?),
@@ -471,7 +476,7 @@ fn from_default<'a, A: ReaderArena>(call: &'a Call) -> Result<PointerReader<'a, 
     }
 }
 
-/// The bytes of a call's default, if it has one; `Unfit` if it has too many words.
+/// Returns the bytes of a call's default, if it has one; `Unfit` if the default has too many words.
 fn default_of<'a>(call: &'a Call) -> Result<Option<&'a [u8]>, Fault>
     ensures { IfOk result (λ default. IfSome default (λ bytes. length bytes.now / 8 < 2 ^ 32)) }
 {

@@ -9,18 +9,18 @@ use std::alloc::Global;
 pub struct SourceText<'a> {
     /// The segments of the message in hex digits, separated by slashes.
     pub segments: &'a str,
-    /// How much of the message may be read.
+    /// The traversal limit and the nesting limit for reading the message.
     pub options: ReaderOptions,
 }
 
 impl SourceText<'_> {
-    /// The bytes of each segment.
+    /// Parses the segments, and returns the bytes of each.
     pub fn segments(&self, alloc: Global) -> Result<Vec<Vec<u8>>, Fault> {
         parse::segments(alloc, self.segments, '/', ".")
     }
 }
 
-/// Whether a text is segments separated by slashes, each `.` or bytes.
+/// Whether a text is segments separated by slashes, each in hex digits, or `.` or `-`.
 pub fn are_segments(text: &str) -> bool {
     text.split('/')
         .all(|part| part == "." || parse::is_hex(part))

@@ -24,7 +24,7 @@ pub enum ElementType {
     Number(NumberType),
 }
 
-/// The element type of this name.
+/// Returns the element type with this name.
 pub fn element_type(name: &str) -> Result<ElementType, Fault> {
     match name {
         "void" => Ok(ElementType::Void),
@@ -41,7 +41,7 @@ pub fn element_type(name: &str) -> Result<ElementType, Fault> {
     }
 }
 
-/// The mask in decimal digits, if there are any.
+/// Parses a mask in decimal digits, if the call has one.
 pub fn mask_of<M: FromStr>(digits: Option<&str>) -> Result<Option<M>, Fault>
 where
     M::Err: Drop,
@@ -52,7 +52,7 @@ where
     }
 }
 
-/// Yes or no, if there is one.
+/// Parses a flag, 1 or 0, if the call has one.
 pub fn flag_of(digits: Option<&str>) -> Result<Option<bool>, Fault> {
     match digits {
         Some(digits) => Ok(Some(parse::flag(digits)?)),

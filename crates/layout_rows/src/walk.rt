@@ -1,4 +1,5 @@
-//! All calls of readers, in a fixed order, from the root of a message two levels down.
+//! Reads a message by all calls of readers, in a fixed order, from the root pointer to two levels
+//! below it.
 ghost use Rattle.std.specs.Prelude.{◌<◌, ◌/◌, ◌^◌, length};
 
 use crate::elements::{number_at, pointer_at, struct_at};
@@ -10,7 +11,7 @@ use capnp_words::read_limiter::ReadLimiter;
 use capnp_words::wire_pointer::{ElementSize, PointerType};
 use std::alloc::{AllocError, Global};
 
-/// How many levels below the root are read.
+/// How many levels below the root pointer are read.
 const LEVELS: u32 = 2;
 
 /// How many elements of a list, and how many pointers of a struct, are read.
@@ -27,7 +28,7 @@ const SIZES: [ElementSize; 8] = [
     ElementSize::InlineComposite,
 ];
 
-/// A default whose root is a struct with a pointer to the text `a`.
+/// A default whose root pointer leads to a struct with a pointer to the text `a`.
 #[rattlefmt::skip]
 const STRUCT: [u8; 32] = [
     0, 0, 0, 0, 1, 0, 1, 0, // the root: one word of data, one pointer
@@ -36,7 +37,7 @@ const STRUCT: [u8; 32] = [
     0x61, 0, 0, 0, 0, 0, 0, 0, // the bytes
 ];
 
-/// A default whose root is a list of two structs of a word each.
+/// A default whose root pointer leads to a list of two structs, each of one word.
 #[rattlefmt::skip]
 const STRUCTS: [u8; 32] = [
     1, 0, 0, 0, 0x17, 0, 0, 0, // the root: structs in two words after their tag
@@ -45,17 +46,17 @@ const STRUCTS: [u8; 32] = [
     0, 0xff, 0, 0, 0, 0, 0, 0, // the second
 ];
 
-/// A default whose root is a list of four bytes that ends in 0.
+/// A default whose root pointer leads to a list of four bytes, the last of them 0.
 #[rattlefmt::skip]
 const BYTES: [u8; 16] = [
     1, 0, 0, 0, 0x22, 0, 0, 0, // the root: four bytes at the next word
     0x61, 0x62, 0x63, 0, 0xff, 0, 0, 0, // the bytes, and one after them
 ];
 
-/// A default whose root is null.
+/// A default whose root pointer is null.
 const NULL: [u8; 8] = [0; 8];
 
-/// The answers to all calls.
+/// Makes all calls on the message in `arena`, and returns their answers.
 pub fn answer<A: ReaderArena>(
     alloc: Global,
     arena: &A,
@@ -78,7 +79,8 @@ struct Walk {
 }
 
 impl Walk {
-    /// The root and all that it leads to, and what is left of the budget.
+    /// Reads the root pointer and what it leads to. Adds the number of words that the limiter has
+    /// left.
     fn message<A: ReaderArena>(&mut self, arena: &A) {
         match PointerReader::get_root_from_arena(arena, &mut self.limiter) {
             Ok(root) => {
@@ -93,7 +95,7 @@ impl Walk {
         }
     }
 
-    /// All calls on a pointer, and `below` levels down from it.
+    /// Makes all calls on a pointer, and reads what it leads to, down to `below` levels below it.
     #[cycle(levels)]
     fn pointer<A: ReaderArena>(&mut self, from: PointerReader<'_, A>, below: u32) {
         self.out.text("[");
@@ -109,8 +111,8 @@ impl Walk {
         self.out.text("]");
     }
 
-    /// The list with elements of some size, and the pointers of its first elements, `below` levels
-    /// down.
+    /// Reads the list that a pointer leads to, expecting elements of `size`, and the pointers of
+    /// its first elements, down to `below` levels.
     #[cycle(levels)]
     fn list<A: ReaderArena>(&mut self, from: PointerReader<'_, A>, size: ElementSize, below: u32) {
         match from.get_list(&mut self.limiter, size, None) {
@@ -138,7 +140,7 @@ impl Walk {
         }
     }
 
-    /// The struct, and its first pointers, `below` levels down.
+    /// Reads the struct that a pointer leads to, and its first pointers, down to `below` levels.
     #[cycle(levels)]
     fn structure<A: ReaderArena>(&mut self, from: PointerReader<'_, A>, below: u32) {
         match from.get_struct(&mut self.limiter, None) {
@@ -159,13 +161,13 @@ impl Walk {
         }
     }
 
-    /// The name of a refused call.
+    /// Adds the name of a refusal.
     fn refusal(&mut self, kind: ErrorKind) {
         self.out.text(kind.name());
         self.out.text(";");
     }
 
-    /// The bytes of a text or of data.
+    /// Adds the bytes of a text or of data, or the name of the refusal.
     fn bytes(&mut self, read: Result<&[u8], ErrorKind>) {
         match read {
             Ok(bytes) => self.out.hex(bytes),
@@ -174,7 +176,7 @@ impl Walk {
         self.out.text(";");
     }
 
-    /// The number of words and capabilities.
+    /// Adds the number of words and the number of capabilities, or the name of the refusal.
     fn size(&mut self, size: Result<MessageSize, ErrorKind>) {
         match size {
             Ok(size) => {
@@ -203,7 +205,7 @@ impl Walk {
         self.out.text(";");
     }
 
-    /// The calls on a pointer that return no reader.
+    /// Makes the calls that return no reader, on a pointer, and adds their answers.
     fn plain<A: ReaderArena>(&mut self, from: PointerReader<'_, A>) {
         let found = from.get_pointer_type(&mut self.limiter);
         self.pointer_type(found);
@@ -216,7 +218,7 @@ impl Walk {
         self.size(size);
     }
 
-    /// The calls with defaults, on a null pointer.
+    /// Makes the calls with defaults on a null pointer.
     fn defaults<A: ReaderArena>(&mut self, from: PointerReader<'_, A>) {
         self.default(from, &STRUCT);
         self.default(from, &STRUCTS);
@@ -243,7 +245,7 @@ impl Walk {
         }
     }
 
-    /// The struct of a default.
+    /// Adds the struct that was read from a default.
     fn default_struct<A: ReaderArena>(&mut self, found: StructReader<'_, A>) {
         self.sections(found);
         let text = found.get_pointer_field(0).get_text(&mut self.limiter, None);
@@ -253,7 +255,7 @@ impl Walk {
         self.out.text(";");
     }
 
-    /// The list of a default.
+    /// Adds the list that was read from a default: its number of elements, and the last struct.
     fn default_list<A: ReaderArena>(&mut self, list: &ListReader<'_, A>, size: ElementSize) {
         self.length(list);
         if size == ElementSize::InlineComposite && !list.is_empty() {
@@ -264,14 +266,14 @@ impl Walk {
         self.out.text(";");
     }
 
-    /// The number of elements of a list, and their size.
+    /// Adds the number of elements of a list, and their size.
     fn length<A: ReaderArena>(&mut self, list: &ListReader<'_, A>) {
         self.out.put(list.len());
         self.out.text(" ");
         self.out.element_size(list.get_element_size());
     }
 
-    /// A list and its first elements.
+    /// Adds a list and its first elements.
     fn elements<A: ReaderArena>(&mut self, list: &ListReader<'_, A>, size: ElementSize) {
         self.length(list);
         for index in 0..list.len().min(FEW) {
@@ -331,13 +333,13 @@ impl Walk {
         }
     }
 
-    /// The data of a struct, and its number of pointers.
+    /// Adds the data of a struct, and its number of pointers.
     fn sections<A: ReaderArena>(&mut self, found: StructReader<'_, A>) {
         self.out.hex(found.data_bytes());
         self.out.slash(found.pointer_count());
     }
 
-    /// A struct and some of its fields.
+    /// Adds the sections of a struct, some of its fields, and its size.
     fn fields<A: ReaderArena>(&mut self, found: StructReader<'_, A>) {
         self.sections(found);
         self.fields_at(found, 0);
@@ -365,8 +367,9 @@ impl Walk {
     }
 }
 
-/// The pointer of an element from which the walk goes on, if the list is read as one of pointers or
-/// structs.
+/// Returns the pointer from which the walk goes on after element `index`: the element itself if
+/// `size` is `Pointer`, or the first pointer of the element as a struct if `size` is
+/// `InlineComposite`. Otherwise, or if there is no such element, returns `None`.
 fn child_of<'a, A: ReaderArena>(
     list: &ListReader<'a, A>,
     size: ElementSize,

@@ -1,5 +1,5 @@
-//! A message of many segments, written as a frame, read back from it and made canonical, while
-//! memory is scarce.
+//! Builds a message of many segments, writes it as a frame, reads that frame, and makes a canonical
+//! copy of what was read, while memory is scarce.
 ghost use Rattle.std.specs.Prelude.{◌≡◌, false};
 ghost use Rattle.capnp_arena_traits.specs.Limits.{IsSmall};
 
@@ -14,14 +14,15 @@ use capnp_layout::framing::{
 use capnp_layout::read_limiter::ReadLimiter;
 use std::alloc::{AllocError, Global};
 
-/// How many words may be read.
+/// The traversal limit in words, and the most words that a frame may have.
 const BUDGET: usize = 1 << 23;
 
-/// The answer to a line. It starts with how many pointers of a list were set, each to `size` bytes,
-/// and how many requests were refused. Then come the outcomes of writing the frame, of reading it
-/// in place, of reading it as an input, and of the canonical copy of what was read. At the end are
-/// the number of words that may still be read, and the frames of the message and of the copy.
-/// `held` bytes stay allocated until all steps are done.
+/// Returns the line of output for a line of input. It starts with the number of pointers of a list
+/// that were set, each to `size` bytes, and the number of requests for memory that were refused.
+/// Then come the outcomes of writing the frame, of reading the frame in place, of reading it from
+/// an input, and of making the canonical copy. At the end are the number of words left of the
+/// traversal limit, and the frames of the message and of the copy. `held` bytes stay allocated
+/// until all of this is done.
 pub fn answer(alloc: Global, count: u32, size: usize, held: usize) -> Result<String, AllocError> {
     let held = Vec::from_elem(alloc, 0u8, held)?;
     let mut data = Vec::from_elem(alloc, 0u8, size)?;
@@ -42,8 +43,9 @@ pub fn answer(alloc: Global, count: u32, size: usize, held: usize) -> Result<Str
     Ok(text)
 }
 
-/// Writes a message as a frame, reads it back in place and as an input, and makes a canonical copy
-/// of what was read. Returns the outcome of each step, `-` for one that wasn't tried.
+/// Writes the message in `arena` as a frame, reads that frame in place, reads it from an input, and
+/// makes a canonical copy of what the input held. Returns the outcome of each of these four steps;
+/// `-` for a step that wasn't tried.
 fn steps(
     alloc: Global,
     arena: &BuilderArenaImpl<HeapAllocator>,
@@ -63,7 +65,7 @@ fn steps(
     [written, flat, read, copied]
 }
 
-/// Writes a message as a frame: `ok`, or the name of the refusal.
+/// Writes the message in `arena` as a frame. Returns `ok`, or the name of the refusal.
 fn written(arena: &BuilderArenaImpl<HeapAllocator>, to: &mut MemoryOutput) -> &'static str
     requires { ⟦<MemoryOutput as Output>⟧.has_failed to.old ≡ false }
 {
@@ -76,8 +78,8 @@ fn written(arena: &BuilderArenaImpl<HeapAllocator>, to: &mut MemoryOutput) -> &'
     }
 }
 
-/// Reads a frame in place: `ok`, `other` if the frame isn't that of the message, or the name of the
-/// refusal.
+/// Reads `frame` in place. Returns `ok`; `other` if its segments aren't those of the message in
+/// `arena`; `none` if `frame` is empty; or the name of the refusal.
 fn read_in_place(arena: &BuilderArenaImpl<HeapAllocator>, frame: &[u8]) -> &'static str {
     match read_from_flat_slice(frame, BUDGET as u64) {
         Ok(Some(found)) => compared(&found, arena),
@@ -86,7 +88,8 @@ fn read_in_place(arena: &BuilderArenaImpl<HeapAllocator>, frame: &[u8]) -> &'sta
     }
 }
 
-/// Reads a frame as an input, and makes a canonical copy of what was read.
+/// Reads `frame` from an input, and makes a canonical copy of what was read. Returns the outcome of
+/// both: of reading like `read_in_place`, and of copying like `copied`, or `-` if nothing was read.
 fn read_and_copied(
     alloc: Global,
     arena: &BuilderArenaImpl<HeapAllocator>,
@@ -107,12 +110,13 @@ fn read_and_copied(
     }
 }
 
-/// `ok` if the segments are those of the message, otherwise `other`.
+/// Returns `ok` if `found` has the segments of the message in `arena`, otherwise `other`.
 fn compared<S: ReaderSegments>(found: &S, arena: &BuilderArenaImpl<HeapAllocator>) -> &'static str {
     if are_all(found, arena) { "ok" } else { "other" }
 }
 
-/// Writes the canonical copy of a message as a frame: `ok`, or the name of the refusal.
+/// Writes a canonical copy of the message in `segments` as a frame. Returns `ok`, or the name of
+/// the refusal.
 fn copied(
     alloc: Global,
     segments: OwnedSegments,

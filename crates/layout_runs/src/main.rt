@@ -1,6 +1,7 @@
-//! The program `layout_runs`: runs `layout_tool` with devices that fail and memory that is refused
-//! at given places, and makes messages of many segments. Answers each line of standard input with a
-//! line of standard output. tests/cases/README.md says what a line holds.
+//! The program `layout_runs`: runs the engine of `layout_tool` with an input, an output and an
+//! allocator that fail after a given number of calls, and builds messages of many segments while
+//! memory is scarce. Answers each line of standard input with a line of standard output.
+//! tests/cases/README.md says what a line holds.
 #![tactic(auto)]
 
 mod frames;

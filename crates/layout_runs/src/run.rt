@@ -1,4 +1,4 @@
-//! One run, as a line of text asks for it.
+//! Makes what a line of standard input asks for: a run of the tool, or a message of many segments.
 
 use crate::{frames, segments};
 use capnp_arena::arena::{Allocator, HeapAllocator};
@@ -9,16 +9,16 @@ use test_support::{
     Granted, Strain, StrainedInput, StrainedOutput, TestAllocator, arguments, limit,
 };
 
-/// What a line asks for.
+/// What a line of input asks for.
 #[derive(Drop)]
 enum Asked<'l> {
     /// A run of the tool.
     Run(Run<'l>),
-    /// A message of a list of pointers: their number, and the number of bytes that are held
-    /// meanwhile.
+    /// A message with a list of pointers: the number of pointers, and the number of bytes that stay
+    /// allocated meanwhile.
     Segments(u32, usize),
-    /// A message of a list of pointers to bytes, written as a frame: the number of pointers, of
-    /// bytes for each, and of bytes that are held meanwhile.
+    /// A message with a list of pointers to data, written as a frame: the number of pointers, the
+    /// number of bytes that each leads to, and the number of bytes that stay allocated meanwhile.
     Framed(u32, usize, usize),
 }
 
@@ -26,9 +26,9 @@ enum Asked<'l> {
 #[derive(Drop)]
 struct Run<'l> {
     args: Args,
-    /// How many reads succeed, of a byte each.
+    /// How many reads succeed; each reads one byte.
     reads: Strain,
-    /// How many writes succeed, of a byte each.
+    /// How many writes succeed; each writes one byte.
     writes: Strain,
     /// How many requests for memory are granted.
     requests: u64,
@@ -36,7 +36,7 @@ struct Run<'l> {
     input: &'l str,
 }
 
-/// The answer to a line.
+/// Returns the line of output for a line of input: `malformed` if that doesn't have the right form.
 pub fn answer(alloc: Global, line: &str) -> Result<String, AllocError> {
     match read_line(alloc, line)? {
         Some(Asked::Run(run)) => run_once(alloc, &run),
@@ -46,7 +46,7 @@ pub fn answer(alloc: Global, line: &str) -> Result<String, AllocError> {
     }
 }
 
-/// What a line asks for, if it has the right form.
+/// Parses a line of input; `None` if it doesn't have the right form.
 fn read_line(alloc: Global, line: &str) -> Result<Option<Asked<'_>>, AllocError> {
     let mut words = Vec::new(alloc);
     for word in line.split(' ') {
@@ -79,7 +79,8 @@ fn read_framed<'l>(count: &str, size: &str, held: &str) -> Option<Asked<'l>> {
     }
 }
 
-/// Parses a run.
+/// Parses the words of a line that asks for a run of the tool; `None` if they don't have the right
+/// form.
 fn read_run<'l>(
     alloc: Global,
     args: &str,
@@ -102,12 +103,13 @@ fn read_run<'l>(
     })
 }
 
-/// The first `calls` calls succeed, and each moves a byte.
+/// Returns the `Strain` of a device whose first `calls` calls succeed, and move one byte each.
 fn by_bytes(calls: u64) -> Strain {
     Strain { calls, most: 1 }
 }
 
-/// The bytes of an input: its lines, each with its line feed. `-` means no lines.
+/// Returns the bytes of the input that `text` describes: the lines between its commas, each
+/// followed by a line feed. If `text` is `-`, there are no lines.
 fn input_of(alloc: Global, text: &str) -> Result<String, AllocError> {
     let mut lines = String::new(alloc);
     if text != "-" {
@@ -119,7 +121,8 @@ fn input_of(alloc: Global, text: &str) -> Result<String, AllocError> {
     Ok(lines)
 }
 
-/// Makes a run, and returns how it ends, how many requests were refused, and what was written.
+/// Makes a run. Returns how it ended, how many requests for memory were refused, and what was
+/// written.
 fn run_once(alloc: Global, run: &Run<'_>) -> Result<String, AllocError> {
     let lines = input_of(alloc, run.input)?;
     let returned = Cell::new(0);

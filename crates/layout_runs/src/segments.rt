@@ -1,4 +1,4 @@
-//! A message of many segments, built and its output requested, while memory is scarce.
+//! Builds a message of many segments, and requests the segments for output, while memory is scarce.
 
 use capnp_layout::arena::{
     BuilderArena, BuilderArenaImpl, HeapAllocator, ReaderArena, ReaderSegments,
@@ -8,9 +8,9 @@ use capnp_layout::error::ErrorKind;
 use capnp_layout::wire_pointer::ElementSize;
 use std::alloc::{AllocError, Global};
 
-/// The output for a line of input: how many pointers of a list were set, how many allocations were
-/// refused, what `get_segments_for_output` returned, and the words of the message. `held` bytes
-/// stay allocated until `get_segments_for_output` has returned.
+/// Returns the line of output for a line of input: how many pointers of a list were set, how many
+/// requests for memory were refused, what `output_of` returned, and the words of the message.
+/// `held` bytes stay allocated until `get_segments_for_output` has returned.
 pub fn answer(alloc: Global, count: u32, held: usize) -> Result<String, AllocError> {
     let held = Vec::from_elem(alloc, 0u8, held)?;
     let mut arena = BuilderArenaImpl::new(alloc, HeapAllocator::new(alloc, 1));
@@ -23,9 +23,9 @@ pub fn answer(alloc: Global, count: u32, held: usize) -> Result<String, AllocErr
     Ok(text)
 }
 
-/// Makes a list of `count` pointers, and sets one after the other, until one is refused. Each leads
-/// to a copy of `data` with the pointer's number in the first eight bytes. Returns how many were
-/// set. Each object has a segment of its own.
+/// Makes a list of `count` pointers, and sets one after the other, until one is refused. Each
+/// pointer leads to a copy of `data` with the pointer's index in the first eight bytes. Returns how
+/// many pointers were set. Each object has a segment of its own.
 pub fn build(arena: &mut BuilderArenaImpl<HeapAllocator>, count: u32, data: &mut [u8]) -> u32 {
     if arena.allocate_segment(1).is_err() {
         return 0;
@@ -45,7 +45,8 @@ pub fn build(arena: &mut BuilderArenaImpl<HeapAllocator>, count: u32, data: &mut
     count
 }
 
-/// Sets an element of the list that the root leads to. Returns whether that succeeded.
+/// Makes element `index` of the list that the root leads to a pointer to data, a copy of `bytes`.
+/// Returns whether that succeeded.
 fn set_element(arena: &mut BuilderArenaImpl<HeapAllocator>, index: u32, bytes: &[u8]) -> bool {
     edit(arena, &[Step::Element(index)], Op::SetData(bytes))
 }
@@ -55,8 +56,8 @@ fn edit(arena: &mut BuilderArenaImpl<HeapAllocator>, path: &[Step], op: Op<'_>) 
     apply(arena, &Edit { path, op }).is_ok()
 }
 
-/// What `get_segments_for_output` answers: `ok` for the segments of the message, something else, or
-/// a refusal.
+/// Calls `get_segments_for_output`. Returns `ok` if the call returns the segments of the message,
+/// `AllocationFailed` if it refuses with that name, and otherwise `other`.
 fn output_of(arena: &BuilderArenaImpl<HeapAllocator>) -> &'static str {
     match arena.get_segments_for_output() {
         Ok(output) => {
@@ -71,7 +72,7 @@ fn output_of(arena: &BuilderArenaImpl<HeapAllocator>) -> &'static str {
     }
 }
 
-/// Whether these are the segments of the message.
+/// Whether `found` has exactly the segments of `arena`.
 pub fn are_all<S: ReaderSegments>(found: &S, arena: &BuilderArenaImpl<HeapAllocator>) -> bool {
     for id in 0..u32::MAX {
         match (found.get_segment(id), arena.get_segment(id)) {

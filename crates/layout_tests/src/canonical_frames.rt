@@ -1,4 +1,4 @@
-//! Values written as canonical frames.
+//! Tests that values are written as canonical frames.
 use capnp_layout::arena::ReaderOptions;
 use capnp_layout::devices::MemoryOutput;
 use capnp_layout::error::ErrorKind;
@@ -8,14 +8,15 @@ use capnp_layout::readers::PointerReader;
 use std::process::Abort;
 use test_support::arena_of;
 
-/// Eight words that become 23: three structs of two pointers. Each leads to the next struct twice,
-/// and the last one to the number 9.
+/// A message of eight words, whose canonical copy has 23: three structs of two pointers each. Both
+/// pointers of a struct lead to the next struct, and both of the last one to a struct with the
+/// number 9.
 const DOUBLED: &str =
     "0000000000000200 0400000000000200 0000000000000200 0400000000000200 0000000000000200 0400000001000000 0000000001000000 0900000000000000";
 
-/// A struct of two words of data, and a value whose copy takes several tries, are each written as
-/// one frame, and charged and counted once. If the limiter doesn't cover the copy, nothing is
-/// written, charged or counted.
+/// Writes a struct of two data words, and a value whose copy takes several tries. Each is written
+/// as one frame, and `lim` is charged for one copy and counts each pointer once. If `lim` doesn't
+/// cover the copy, nothing is written, charged or counted.
 #[test]
 fn frames(rt: HostRuntime) {
     let two = "0000000002000000 1111111111111111 0000000000000080";

@@ -1,6 +1,7 @@
-//! Tests of capnp_layout, by its public calls: its devices, its names for the crates below, whole
-//! messages, what a run requests, and what canonical frames are charged. Runs of programs show its
-//! engine's other answers, also if memory or a device fails.
+//! Tests of the public calls of capnp_layout: its devices, the modules of lower crates that it
+//! re-exports, whole messages, what a run of its engine requests from an allocator, and what
+//! writing a canonical frame charges. Tests that run the program `layout_tool` show the engine's
+//! other answers, also if memory runs out or a device fails.
 #![tactic(auto)]
 
 #[cfg(test)]

@@ -1,5 +1,5 @@
-//! The names that no other test here uses: devices over readers and writers, and the crates below
-//! under their names in this one.
+//! Tests of the public names of capnp_layout that no other test of this crate uses: devices over
+//! readers and writers, and the modules of lower crates that capnp_layout re-exports.
 use capnp_layout::devices::{
     DeviceFault, Input, MemoryInput, MemoryOutput, Output, ReaderInput, WriterOutput, write_all,
 };

@@ -1,24 +1,26 @@
-//! What a run requests from its allocator: rows for the input, and, at each try to make it
-//! canonical, a segment and its row.
+//! Tests what a run of the engine requests from its allocator: memory to keep the input, in rows
+//! (`Request::Row`), and for each try to make a canonical copy a segment, and a row in which the
+//! arena keeps this segment.
 use capnp_layout::arena::{HeapAllocator, ReaderOptions};
 use capnp_layout::devices::{MemoryInput, MemoryOutput};
 use capnp_layout::tool::{Args, Outcome, run_with};
 use std::alloc::{AllocError, Global};
 use test_support::{NotingAllocator, Request};
 
-/// One word: a null pointer. Its canonical words are as many.
+/// A message of one word, a null pointer, whose canonical copy has one word as well.
 const NULL: &[u8] = b"0000000000000000\n";
 
-/// Eight words that become 23: three structs of two pointers. Each leads to the next struct twice,
-/// and the last one to the number 9.
+/// A message of eight words, whose canonical copy has 23: three structs of two pointers each. Both
+/// pointers of a struct lead to the next struct, and both of the last one to a struct with the
+/// number 9.
 const DOUBLED: &[u8] =
     b"00000000000002000400000000000200000000000000020004000000000002000000000000000200040000000100000000000000010000000900000000000000\n";
 
-/// One word: a pointer to a struct of one word, after the end of the segment.
+/// A message of one word, a pointer to a struct that would be after the end of the segment.
 const BEYOND: &[u8] = b"0000000001000000\n";
 
-/// The requests to an allocator, after those for the input's rows, if the tries have segments of
-/// `rooms` words.
+/// Returns the requests that an allocator gets for the tries, after those for the rows of the
+/// input. `rooms` has the number of words that each try requests for its segment.
 fn asked(alloc: Global, rooms: &[u32]) -> Result<Vec<Request>, AllocError> {
     let mut requests = Vec::new(alloc);
     for room in rooms {
@@ -28,9 +30,9 @@ fn asked(alloc: Global, rooms: &[u32]) -> Result<Vec<Request>, AllocError> {
     Ok(requests)
 }
 
-/// The first try requests a segment with one word more than the input, and each further try one
-/// twice as large as the try before. No other segment is requested: none for a check, a size or a
-/// frame. For a message that can't be read there is only the first try.
+/// The first try requests a segment with one word more than the input has, and each further try a
+/// segment twice as large as that of the try before. No other segment is requested; so `Check`,
+/// `Size` and `Frame` request none. If the message can't be read, there is only the first try.
 #[test]
 fn rooms(rt: HostRuntime) -> Result<(), AllocError> {
     let options = ReaderOptions::default();

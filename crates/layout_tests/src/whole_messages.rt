@@ -1,5 +1,5 @@
-//! Whole messages by calls that no case makes: the root, canonical copies and the test for them,
-//! and words without a frame.
+//! Tests of calls on whole messages that no line of `tests/cases/` makes: they read the root, make
+//! canonical copies, test for canonical form, and read words without a frame.
 use capnp_layout::arena::{
     Allocator, BuilderArenaImpl, HeapAllocator, OutputSegments, ReaderOptions, ReaderSegments,
 };
@@ -13,13 +13,13 @@ use capnp_layout::read_limiter::ReadLimiter;
 use std::process::Abort;
 use test_support::{arena_of, bytes_of};
 
-/// A root that leads to a struct of three words, the last of them zero.
+/// A message whose root leads to a struct of three data words; the last of these words is zero.
 const LONG: &str = "0000000003000000 1111111111111111 0000000000000080 0000000000000000";
 
-/// The canonical words of the same value.
+/// The canonical words of the value of `LONG`.
 const CANONICAL: &str = "0000000002000000 1111111111111111 0000000000000080";
 
-/// Whether the words of the only segment of a message are these.
+/// Whether the message `made` has one segment, and the bytes of this segment are `words`.
 fn has_only<A: Allocator>(made: &BuilderArenaImpl<A>, words: &[u8]) -> bool {
     match made.get_segments_for_output() {
         Ok(OutputSegments::SingleSegment(segment)) => segment == words,
@@ -27,7 +27,7 @@ fn has_only<A: Allocator>(made: &BuilderArenaImpl<A>, words: &[u8]) -> bool {
     }
 }
 
-/// A copy is charged once, for the words of its source.
+/// Making a canonical copy charges the words of the source's struct once.
 #[test]
 fn copies(rt: HostRuntime) {
     let source = arena_of(rt.alloc(), LONG, ReaderOptions::default()).expect(&rt, "a message");
@@ -43,8 +43,8 @@ fn copies(rt: HostRuntime) {
     }
 }
 
-/// The test charges one word for the root, and the struct's words for the struct. For a message of
-/// several segments it charges nothing.
+/// The test for canonical form charges one word for the root, and the words of the struct. For a
+/// message of several segments it returns `false`, and charges nothing.
 #[test]
 fn canonical_messages(rt: HostRuntime) {
     let unread = "0000000000000000,0000000000000000";
@@ -60,8 +60,8 @@ fn canonical_messages(rt: HostRuntime) {
     }
 }
 
-/// Two words become the only segment. They are too many if only one may be read, and half a word is
-/// cut short.
+/// Two words are read as the only segment of a message. They are refused if the limit is one word.
+/// Two words and a half are refused as cut short, and leave no segment.
 #[test]
 fn words_without_a_frame(rt: HostRuntime) {
     let bytes = [7u8; 20];

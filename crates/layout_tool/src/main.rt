@@ -1,8 +1,12 @@
-//! The program `layout_tool`: writes the canonical form of a message, whether it is in that form,
-//! how large it is, or its frame; or the segments in a frame, or whether a framed message is
-//! canonical. The arguments are `frame` or `unframe` alone; or `canon`, `check`, `size`,
-//! `framed-canon` or `framed-check`, followed by `NESTING BUDGET`. The input is lines of hex
-//! digits, each a segment, or one line with a frame.
+//! The program `layout_tool`. By its first argument, it writes the canonical words of a message
+//! (`canon`), whether the message is in canonical form (`check`), the message's size (`size`), its
+//! frame (`frame`), or the frame of its canonical words (`framed-canon`). For these, the input has
+//! a line of hex digits for each segment of the message. For `unframe` and `framed-check`, the
+//! input is one line of hex digits that starts with a frame: the program writes the segments of the
+//! message in that frame, or whether that message is canonical.
+//!
+//! `NESTING WORDS` follow each of these arguments but `frame` and `unframe`: the nesting limit, and
+//! the traversal limit in words.
 #![tactic(auto)]
 
 use capnp_layout::devices::{ReaderInput, WriterOutput};
@@ -52,7 +56,7 @@ fn answer(rt: &HostRuntime) -> Result<ExitCode, AllocError> {
     })
 }
 
-/// The arguments without the program's name; `None` if one isn't text.
+/// The arguments without the program's name; `None` if an argument isn't text.
 fn arguments(rt: &HostRuntime) -> Result<Option<Vec<String>>, AllocError> {
     let given = match env::args(rt) {
         Ok(given) => given,
@@ -88,7 +92,7 @@ fn say(rt: &HostRuntime, text: &str) -> ExitCode {
     }
 }
 
-/// Prints the line of a refusal.
+/// Prints the line that names a refusal.
 fn refuse(rt: &HostRuntime, kind: ErrorKind) -> ExitCode {
     match println!(rt; "refused {}", kind.name()) {
         Ok(()) => ExitCode::from(1),

@@ -1,5 +1,5 @@
-//! What tests of built messages need in addition to the messages: an audit of their segments, and
-//! an allocator that refuses.
+//! Helps tests of built messages: an audit checks all segments of such a message, and an allocator
+//! refuses requests beyond a limit.
 #![tactic(auto)]
 
 pub mod vectors;

@@ -1,4 +1,5 @@
-//! An audit of the segments of a built message, and an allocator that refuses.
+//! An audit, which checks all segments of a built message, and an allocator that refuses requests
+//! beyond a limit.
 
 mod landing;
 mod limits;

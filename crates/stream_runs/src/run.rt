@@ -1,6 +1,7 @@
-//! One run, as a line of text asks for it. For each device, a word of that line, parsed as a
-//! `Strain`, says how many of its calls succeed, and how many bytes each call moves at most. A
-//! comma separates the two numbers; `none` is no limit.
+//! Makes one run of the engine of `capnp_canon`, as a line of input asks for it. One word of that
+//! line is for the run's input, and one is for its output. Such a word states how many calls of the
+//! device succeed, and how many bytes each call moves at most. A comma separates the two numbers;
+//! `none` means no limit.
 ghost use Rattle.std.specs.Prelude.{◌≡◌, false};
 
 use capnp_packing::buffered::BufferedOutput;
@@ -9,7 +10,7 @@ use capnp_streams::streams::{self, Request, Stop, Summary, Task};
 use std::alloc::{AllocError, Global};
 use test_support::{Strain, StrainedInput, StrainedOutput, arguments, limit};
 
-/// What a line asks for.
+/// What a line of input asks for.
 #[derive(Drop)]
 struct Run {
     task: Task,
@@ -18,7 +19,7 @@ struct Run {
     input: Vec<u8>,
 }
 
-/// The answer to a line.
+/// Returns the line of output for a line of input: `malformed` if that doesn't have the right form.
 pub fn answer(alloc: Global, line: &str) -> Result<String, AllocError> {
     match read_line(alloc, line)? {
         Some(run) => run_once(alloc, &run),
@@ -26,7 +27,7 @@ pub fn answer(alloc: Global, line: &str) -> Result<String, AllocError> {
     }
 }
 
-/// What a line asks for, if it has the right form.
+/// Parses a line of input; `None` if it doesn't have the right form.
 fn read_line(alloc: Global, line: &str) -> Result<Option<Run>, AllocError> {
     let mut words = Vec::new(alloc);
     for word in line.split(' ') {
@@ -52,7 +53,8 @@ fn read_line(alloc: Global, line: &str) -> Result<Option<Run>, AllocError> {
     })
 }
 
-/// What the arguments ask for.
+/// Parses the arguments of `capnp_canon`, separated by commas. Returns `None` unless they ask for a
+/// task, name no file, and don't ask to read raw words instead of frames.
 fn read_task(alloc: Global, text: &str) -> Result<Option<Task>, AllocError> {
     let args = arguments(alloc, text)?;
     let args = args.as_slice();
@@ -74,7 +76,7 @@ fn read_strain(text: &str) -> Option<Strain> {
     })
 }
 
-/// The bytes of hex digits; `-` for no bytes.
+/// Decodes hex digits to bytes; `-` means no bytes. Returns `None` if the text is neither.
 fn read_input(alloc: Global, text: &str) -> Result<Option<Vec<u8>>, AllocError> {
     if text == "-" {
         return Ok(Some(Vec::new(alloc)));
@@ -85,7 +87,7 @@ fn read_input(alloc: Global, text: &str) -> Result<Option<Vec<u8>>, AllocError> 
     }
 }
 
-/// Makes a run, and returns how it ends and what was written.
+/// Makes a run, and returns a line that states how it ended and what was written.
 fn run_once(alloc: Global, run: &Run) -> Result<String, AllocError> {
     let mut output = StrainedOutput::new(alloc, run.writes);
     if !run.task.pack {
@@ -104,7 +106,7 @@ fn run_once(alloc: Global, run: &Run) -> Result<String, AllocError> {
     }
 }
 
-/// Makes a run to an output. Precondition: the output hasn't failed.
+/// Makes a run that writes to `output`. Precondition: the output hasn't failed.
 fn run_to<W: BufferedOutput>(alloc: Global, run: &Run, output: &mut W) -> Result<Summary, Stop>
     requires { W.has_failed output.old ≡ false }
 {
@@ -116,8 +118,10 @@ fn run_to<W: BufferedOutput>(alloc: Global, run: &Run, output: &mut W) -> Result
     }
 }
 
-/// How a run ended: how many messages there were, and whether every answer was yes; or how many
-/// were answered, and why the next one wasn't. After a `-`, what was written.
+/// Returns a line that states how a run ended. `done` is followed by the number of messages, and by
+/// `false` if the task tests for canonical form and some message isn't canonical, otherwise by
+/// `true`. `stopped` is followed by the number of messages that were answered, and the reason why
+/// the next one wasn't. At the end, after a `-`, are the bytes that were written, in hex digits.
 fn told(alloc: Global, ended: Result<Summary, Stop>, written: &[u8]) -> Result<String, AllocError> {
     let digits = hex::encode(alloc, written)?;
     match ended {

@@ -8,13 +8,16 @@ use std::cell::Cell;
 /// Which requests for memory are granted, if the heap has it.
 #[derive(Clone, Copy)]
 pub enum Granted {
-    /// The first requests, up to this number, for segments or for rows.
+    /// This number of requests, from the first one on, whether for a segment or for a row of a
+    /// list.
     Requests(u64),
-    /// All segments, and the first rows, up to this number.
+    /// All requests for segments, and this number of requests for rows of lists, from the first one
+    /// on.
     Rows(u64),
 }
 
-/// Makes segments on the heap. Counts what it grants and refuses, and notes what is returned.
+/// An allocator that makes segments on the heap. Counts the requests that it grants and refuses,
+/// and notes the segments that are returned to it.
 #[derive(Drop)]
 pub struct TestAllocator<'a> {
     heap: HeapAllocator,
@@ -24,8 +27,9 @@ pub struct TestAllocator<'a> {
 }
 
 impl<'a> TestAllocator<'a> {
-    /// An allocator that has refused nothing yet. `returned` will hold, for each returned segment
-    /// in turn, the number of its words and that of its used words, as two decimal digits each.
+    /// Makes an allocator that has refused nothing yet. `returned` will hold, for each returned
+    /// segment in turn, the number of its words and the number of its used words, each as two
+    /// decimal digits.
     pub fn new(heap: HeapAllocator, granted: Granted, returned: &'a Cell<u64>) -> Self
         ensures { result.refused ≡ 0 }
     {

@@ -5,16 +5,16 @@ use capnp_framing::devices::{DeviceFault, Input, Output};
 use capnp_packing::buffered::{BufferedInput, BufferedOutput};
 use std::alloc::Global;
 
-/// How a device works.
+/// How many calls of a device succeed, and how many bytes a call moves.
 #[derive(Clone, Copy)]
 pub struct Strain {
-    /// How many calls succeed.
+    /// How many calls succeed; later ones fail.
     pub calls: u64,
     /// How many bytes a call moves at most; 0 counts as 1.
     pub most: usize,
 }
 
-/// Reads bytes in memory.
+/// An input that reads bytes in memory.
 #[derive(Drop)]
 pub struct StrainedInput<'a> {
     bytes: &'a [u8],
@@ -23,7 +23,7 @@ pub struct StrainedInput<'a> {
 }
 
 impl<'a> StrainedInput<'a> {
-    /// An input of these bytes, with no read failed yet.
+    /// Makes an input that reads `bytes`, and that hasn't failed yet.
     pub fn new(bytes: &'a [u8], strain: Strain) -> Self
         ensures bytes { result.bytes.now ≡ bytes.now }
         ensures works { result.failed ≡ false }
@@ -69,7 +69,7 @@ impl BufferedInput for StrainedInput<'_> {
     }
 }
 
-/// Writes bytes to memory.
+/// An output that writes bytes to memory.
 #[derive(Drop)]
 pub struct StrainedOutput {
     /// The bytes written.
@@ -79,7 +79,7 @@ pub struct StrainedOutput {
 }
 
 impl StrainedOutput {
-    /// An empty output, with no write failed yet.
+    /// Makes an output without bytes that hasn't failed yet.
     pub fn new(alloc: Global, strain: Strain) -> Self
         ensures none { result.bytes.items ≡ [] }
         ensures works { result.failed ≡ false }

@@ -1,11 +1,11 @@
-//! An allocator whose arenas keep the row of their first segment in themselves.
+//! An allocator whose arenas store what they know of their first segment (its row) in themselves.
 ghost use Rattle.std.specs.Prelude.{◌≡◌, true};
 
 use capnp_arena::arena::Allocator;
 use capnp_words::error::ErrorKind;
 
-/// Does what `A` does, except that an arena keeps the row of its first segment in itself, and so
-/// requests no memory for that row.
+/// Does what `A` does, except that an arena stores the row of its first segment (the segment, and
+/// what the arena knows of it) in the arena itself, and requests no memory for that row.
 #[derive(Drop)]
 pub struct FirstInArena<A: Allocator> {
     inner: A,
@@ -18,7 +18,7 @@ impl<A: Allocator> FirstInArena<A> {
         FirstInArena { inner }
     }
 
-    /// The allocator that does the work.
+    /// Returns the allocator that does the work.
     pub fn inner(&self) -> &A
         ensures { result.now ≡ self.now.inner }
     {

@@ -1,7 +1,8 @@
 //! What the crates of tests, and the programs that answer lines, share: messages written as hex
 //! digits, an allocator that refuses memory where a test wants it to and notes what is returned,
-//! one that notes the requests that it gets, one whose arenas keep their first row, devices that
-//! move few bytes at a time and fail, and lines with their answers.
+//! one that notes the requests that it gets, one whose arenas store what they know of their first
+//! segment in themselves, devices that move few bytes at a time and fail, and lines with their
+//! answers.
 #![tactic(auto)]
 
 mod allocator;

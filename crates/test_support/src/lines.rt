@@ -1,4 +1,5 @@
-//! Programs that answer lines of text with lines of text, and what words of these lines hold.
+//! Runs programs that answer each line of text with a line of text, and parses words of these
+//! lines.
 
 use std::alloc::{AllocError, Global};
 use std::io::{self, BufReader, BufWriter, Read, Write};
@@ -37,7 +38,7 @@ fn respond<F: Fn(Global, &str) -> Result<String, AllocError>>(
     writer.flush()
 }
 
-/// The arguments of a program, given as one word in which commas separate them.
+/// Splits `text`, one word, into the arguments of a program, which are separated by commas.
 pub fn arguments(alloc: Global, text: &str) -> Result<Vec<String>, AllocError> {
     let mut words = Vec::new(alloc);
     for word in text.split(',') {
@@ -46,7 +47,8 @@ pub fn arguments(alloc: Global, text: &str) -> Result<Vec<String>, AllocError> {
     Ok(words)
 }
 
-/// A limit in decimal digits, or `none` for no limit. Returns `None` if the word is neither.
+/// Parses a limit: decimal digits, or `none` for no limit, which is `u64::MAX`. Returns `None` if
+/// `text` is neither.
 pub fn limit(text: &str) -> Option<u64> {
     if text == "none" {
         Some(u64::MAX)

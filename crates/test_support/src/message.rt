@@ -8,8 +8,8 @@ use capnp_framing::devices::{MemoryInput, MemoryOutput};
 use capnp_framing::framing::{OwnedSegments, read, write};
 use std::alloc::Global;
 
-/// The bytes of hex digits. Spaces between the pairs are ignored. `None` if the text holds anything
-/// else, or memory runs out.
+/// Returns the bytes that `text` has as pairs of hex digits. Spaces between the pairs are ignored.
+/// Returns `None` if the text has anything else, or memory runs out.
 pub fn bytes_of(alloc: Global, text: &str) -> Option<Vec<u8>> {
     let mut bytes = Vec::new(alloc);
     for word in text.split(' ') {
@@ -19,9 +19,9 @@ pub fn bytes_of(alloc: Global, text: &str) -> Option<Vec<u8>> {
     Some(bytes)
 }
 
-/// The arena of a message of at most 512 segments, each of whole words. `text` has their hex
-/// digits, as in `bytes_of`, separated by commas. `None` if the text holds anything else, or memory
-/// runs out.
+/// Makes the arena of a message. `text` has the bytes of its segments in hex digits, as in
+/// `bytes_of`, with commas between segments; only whole words count. Returns `None` if the text has
+/// anything else, there are more than 512 segments, or memory runs out.
 pub fn arena_of(
     alloc: Global,
     text: &str,
@@ -50,7 +50,8 @@ fn frame_of(alloc: Global, segments: &[Vec<u8>]) -> Option<MemoryOutput> {
     Some(frame)
 }
 
-/// An arena with one segment, and in it a word for the root. `None` if memory runs out.
+/// Makes an arena with one segment, in which one word is allocated, for the root pointer. Returns
+/// `None` if memory runs out.
 pub fn arena_of_root<A: Allocator>(alloc: Global, allocator: A) -> Option<BuilderArenaImpl<A>> {
     let mut arena = BuilderArenaImpl::new(alloc, allocator);
     arena.allocate_segment(1).ok()?;
@@ -58,8 +59,8 @@ pub fn arena_of_root<A: Allocator>(alloc: Global, allocator: A) -> Option<Builde
     Some(arena)
 }
 
-/// Whether the segments are those of hex digits, separated by commas. Returns `false` for a text
-/// that holds anything else.
+/// Whether the segments of `arena` are exactly those in `want`: hex digits, as in `bytes_of`, with
+/// `, ` between segments. Returns `false` if `want` has anything else, or memory runs out.
 pub fn has_words(alloc: Global, arena: &impl ReaderArena, want: &str) -> bool {
     let mut id: u32 = 0;
     for text in want.split(", ") {

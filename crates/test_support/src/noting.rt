@@ -14,8 +14,8 @@ pub enum Request {
     Row,
 }
 
-/// Makes segments on the heap, and notes each request, in order. Refuses a request that it can't
-/// note.
+/// An allocator that makes segments on the heap, and notes each request, in order. Refuses a
+/// request if there is no memory to note it.
 #[derive(Drop)]
 pub struct NotingAllocator {
     heap: HeapAllocator,
@@ -24,7 +24,7 @@ pub struct NotingAllocator {
 }
 
 impl NotingAllocator {
-    /// An allocator without any request yet.
+    /// Makes an allocator that has had no request yet.
     pub fn new(alloc: Global, heap: HeapAllocator) -> Self
         ensures { result.refused ≡ 0 }
     {
@@ -35,7 +35,7 @@ impl NotingAllocator {
         }
     }
 
-    /// The requests, in order.
+    /// Returns the requests, in order.
     pub fn requests(&self) -> &[Request] {
         self.requests.as_slice()
     }

@@ -1,10 +1,11 @@
-//! Compares the lane functions with their plain forms, at every length from 0 to 200.
+//! Tests the functions of `capnp_words::lanes`, which work on many bytes at a time, with every
+//! length from 0 to 200 bytes.
 use capnp_words::lanes::{copy, is_zero, trailing_zero_words, zero};
 use std::process::Abort;
 
 const LENGTH: usize = 200;
 
-/// Bytes without a zero.
+/// Returns bytes that all differ from zero.
 fn numbers() -> [u8; LENGTH] {
     let mut bytes = [0; LENGTH];
     for i in 0..LENGTH {
@@ -13,7 +14,8 @@ fn numbers() -> [u8; LENGTH] {
     bytes
 }
 
-/// Checks the number of zero words at the end: first with no bit set, then with each bit set alone.
+/// Checks `is_zero`, and the number of zero words at the end: first with no bit of `bytes` set,
+/// then with each single bit set. Precondition: all of `bytes` is zero.
 fn check_one_bit(rt: &impl Abort, bytes: &mut [u8]) {
     let words = bytes.len() / 8;
     assert!(rt; is_zero(bytes) && trailing_zero_words(&bytes[..8 * words]) == words);

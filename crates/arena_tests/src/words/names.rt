@@ -1,5 +1,5 @@
-//! The names that no other test here uses: units, sizes of elements and of numbers, results, and
-//! the laws.
+//! Uses the names of capnp_words that no other test here uses: units, sizes of elements and of
+//! numbers, results, and the laws.
 use capnp_words::error::{self, ErrorKind};
 use capnp_words::laws::*;
 use capnp_words::primitive::Primitive;

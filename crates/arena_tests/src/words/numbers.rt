@@ -1,4 +1,4 @@
-//! Numbers in bytes, with masks.
+//! Tests numbers that are stored in bytes, also with masks.
 ghost use Rattle.std.specs.Prelude.{◌≡◌, length};
 
 use capnp_words::mask::Mask;

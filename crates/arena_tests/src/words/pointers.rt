@@ -1,4 +1,4 @@
-//! Pointer words, by their bytes in worked messages.
+//! Tests pointer words, which are written here as their eight bytes in a message.
 ghost use Rattle.std.specs.Prelude.{◌≡◌};
 
 use capnp_words::wire_pointer::{

@@ -1,4 +1,4 @@
-//! The texts of refusals.
+//! Tests the names and texts of refusals.
 use capnp_words::error::ErrorKind;
 use std::alloc::{AllocError, Global};
 

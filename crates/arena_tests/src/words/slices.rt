@@ -1,4 +1,4 @@
-//! Words in bytes.
+//! Tests reading and writing the words of a byte slice.
 ghost use Rattle.std.specs.Prelude.{◌≤◌, length};
 
 use capnp_words::words::{
@@ -20,7 +20,7 @@ fn four(bytes: &[u8]) -> [u64; 4]
     ]
 }
 
-/// Writes a word among zeros.
+/// Writes a word among zero words, and reads it back.
 fn check_put(rt: &impl Abort, bytes: &mut [u8; 36]) {
     assert!(rt; [count(bytes), used(bytes)] == [4, 0]);
     put_word(bytes, 1, WORD);
@@ -29,7 +29,8 @@ fn check_put(rt: &impl Abort, bytes: &mut [u8; 36]) {
     assert!(rt; word_at(part(bytes, 1, 2), 0) == WORD);
 }
 
-/// Copies two words to after that of `check_put`, moves all three, and zeroes one.
+/// Copies two words to the place after the word that `check_put` wrote, moves all three to the
+/// front, and zeroes the second.
 fn check_moved(rt: &impl Abort, bytes: &mut [u8; 36]) {
     copy_words(bytes, 2, b"\x09\0\0\0\0\0\0\0\x08\0\0\0\0\0\0\0");
     move_words(bytes, 1, 0, 3);

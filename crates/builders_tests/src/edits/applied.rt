@@ -1,4 +1,4 @@
-//! Edits in an arena without a root, and an edited message read in place.
+//! Tests of edits in an arena without a root, and of an edited message that is read in place.
 use super::messages::{check_outcomes, edit, size};
 use capnp_arena::arena::{BuilderArena, BuilderArenaImpl, HeapAllocator, ReaderArena};
 use capnp_edits::edit::Op::{Clear, InitStruct, InitStructList, SetElement, SetField, SetText};
@@ -10,7 +10,7 @@ use capnp_words::read_limiter::ReadLimiter;
 use capnp_words::wire_pointer::ElementSize::EightBytes;
 use test_support::arena_of_root;
 
-/// Without a word for the root there is no place.
+/// If the arena has no word for the root, an edit is refused with `NoSuchPlace`.
 #[test]
 fn no_root(rt: HostRuntime) {
     let alloc = rt.alloc();
@@ -24,7 +24,7 @@ fn no_root(rt: HostRuntime) {
     assert!(rt; arena.get_segment(0) == Ok(&[]));
 }
 
-/// An edited list of two structs is canonical, and has its size, when read in place.
+/// A list of two structs, made by edits and read in place, is canonical and has the expected size.
 #[test]
 fn read_in_place(rt: HostRuntime) {
     let alloc = rt.alloc();

@@ -1,11 +1,11 @@
-//! Edits applied to a message, and their outcomes.
+//! Makes edits, applies them to a message, and checks their outcomes.
 use capnp_arena::arena::{Allocator, BuilderArenaImpl};
 use capnp_edits::edit::{Edit, Op, Step, apply_all};
 use capnp_words::error::ErrorKind;
 use capnp_words::wire_pointer::StructSize;
 use std::process::Abort;
 
-/// An edit.
+/// Makes an edit: does `op` at the place that `path` leads to from the root.
 pub fn edit<'a>(path: &'a [Step], op: Op<'a>) -> Edit<'a> {
     Edit { path, op }
 }
@@ -18,7 +18,7 @@ pub fn size(data_words: u16, pointers: u16) -> StructSize {
     }
 }
 
-/// Applies edits in order, and checks the outcome of each.
+/// Applies `edits` in order, and checks that their outcomes are `want`.
 pub fn check_outcomes<A: Allocator>(
     rt: &impl Abort,
     arena: &mut BuilderArenaImpl<A>,

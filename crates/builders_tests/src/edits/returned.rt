@@ -1,5 +1,5 @@
-//! Segments of messages that are edited, with every request for memory refused in turn: each
-//! segment is returned once.
+//! Tests that each segment of an edited message is returned to the allocator once, with each
+//! request for memory refused in turn.
 use super::messages::{edit, size};
 use capnp_arena::arena::{
     BuilderArena, HeapAllocator, ReaderArena, ReaderArenaImpl, ReaderOptions, SegmentArray,
@@ -15,16 +15,22 @@ use std::cell::Cell;
 use std::process::Abort;
 use test_support::{Granted, TestAllocator, arena_of_root};
 
-/// A struct of a data word, 7, and of a pointer to the bytes of the text `a`.
+/// A message whose root is a struct with one data word, 7, and one pointer, which leads to the text
+/// `a`.
 const STRUCT: &[u8] = b"\0\0\0\0\x01\0\x01\0\x07\0\0\0\0\0\0\0\x01\0\0\0\x12\0\0\0a\0\0\0\0\0\0\0";
 
-/// A list of two structs of a pointer, the first to the bytes of the text `a`.
+/// A message whose root is a list of two structs with one pointer each. The first pointer leads to
+/// the text `a`; the second is null.
 const LIST: &[u8] =
     b"\x01\0\0\0\x17\0\0\0\x08\0\0\0\0\0\x01\0\x05\0\0\0\x12\0\0\0\0\0\0\0\0\0\0\0a\0\0\0\0\0\0\0";
 
-/// Applies edits in segments of a word or more, with `requests` requests for memory granted; each
-/// segment takes two requests. Clearing the root then takes no words and returns no segment. Checks
-/// the words of each segment as they are returned, and then those that were used.
+/// Applies `edits` to a message whose segments have one word or more, with an allocator that grants
+/// the first `requests` requests for memory. Each segment takes two requests: for its memory, and
+/// for its row, which is its entry in the arena's list. Checks that clearing the root afterwards
+/// allocates no words and returns no segment.
+///
+/// Then drops the arena, and checks that `segments` is what was returned, as a decimal number: for
+/// each segment in turn, two digits for its number of words, and two for its number of used words.
 fn check(rt: &impl Abort, alloc: Global, edits: &[Edit<'_>], requests: u64, segments: u64) {
     let returned = Cell::new(0);
     let heap = HeapAllocator::new(alloc, 1);
@@ -42,8 +48,10 @@ fn check(rt: &impl Abort, alloc: Global, edits: &[Edit<'_>], requests: u64, segm
     assert!(rt; returned.get() == segments, "{segments}");
 }
 
-/// Refuses in turn the memory for the first object, for its row, for the text and for its row, and
-/// then nothing. A segment without a row is returned at once.
+/// Does `check` five times, and refuses first the memory of the first object's segment, then the
+/// row of this segment, then the memory of the text's segment, then its row, and at last nothing. A
+/// segment whose row is refused is returned at once. `segments` states, for each of the five, what
+/// has to be returned.
 fn check_each(rt: &impl Abort, alloc: Global, edits: &[Edit<'_>], segments: [u64; 5]) {
     for (requests, want) in (2..7).zip(segments) {
         check(rt, alloc, edits, requests, want);
@@ -66,7 +74,7 @@ const OF_LIST: [u64; 5] = [
     1_01_04_04_02_02,
 ];
 
-/// Makes a struct and its text.
+/// Makes a struct with a number and a text.
 #[test]
 fn made(rt: HostRuntime) {
     let edits = &[
@@ -77,7 +85,7 @@ fn made(rt: HostRuntime) {
     check_each(&rt, rt.alloc(), edits, OF_STRUCT);
 }
 
-/// Copies a struct and its text, and a list of structs and its text, from another message.
+/// Copies a struct with its text, and a list of structs with its text, from another message.
 #[test]
 fn copied(rt: HostRuntime) {
     for (message, is_list, segments) in [(STRUCT, false, OF_STRUCT), (LIST, true, OF_LIST)] {
@@ -101,7 +109,7 @@ fn copied(rt: HostRuntime) {
     }
 }
 
-/// Copies the content of a struct over one that was made.
+/// Copies the content of a struct of another message over a struct that an edit has made.
 #[test]
 fn content(rt: HostRuntime) {
     let bytes: &[&[u8]] = &[STRUCT];

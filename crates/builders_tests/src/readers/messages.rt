@@ -1,4 +1,4 @@
-//! Worked messages in hex digits, and the first steps of reading them.
+//! Example messages in hex digits, and functions that read their roots.
 use capnp_arena::arena::{ReaderArena, ReaderArenaImpl, ReaderOptions};
 use capnp_readers::readers::{ListReader, PointerReader, StructReader, Target};
 use capnp_words::read_limiter::ReadLimiter;
@@ -18,7 +18,7 @@ pub const TWO_CHILDREN: &str =
 
 pub const FAR: &str = "0200000001000000, 0000000001000000 0001020304050607";
 
-/// A far pointer to a list.
+/// A message whose root is a far pointer to a list.
 pub const FAR_NUMBERS: &str = "0200000001000000, 010000000d000000 0102030405060708";
 
 pub const STRUCTS: &str = "0100000017000000 0400000001000100 0900000000000000 0300000007000000";
@@ -33,7 +33,8 @@ pub const TEXT: &str = "0100000042000000 6162636465666700";
 pub const POINTERS: &str =
     "010000001e000000 0000000000000000 0400000002000000 0000000000000000 0900000000000000 0000000000000000";
 
-/// The arena of a message, with the default options.
+/// Makes an arena of the message that the hex digits `text` state, with the default options for
+/// reading.
 pub fn arena(rt: &impl Abort, alloc: Global, text: &str) -> ReaderArenaImpl<OwnedSegments> {
     arena_of(alloc, text, ReaderOptions::default()).expect(rt, "a message")
 }
@@ -46,7 +47,7 @@ pub fn root<'a, A: ReaderArena>(
     PointerReader::get_root_from_arena(arena, lim).expect(rt, "a root")
 }
 
-/// The struct that the root leads to.
+/// Returns the struct that the root pointer leads to. Fails if it leads to anything else.
 pub fn root_struct<'a, A: ReaderArena>(
     rt: &impl Abort,
     arena: &'a A,
@@ -58,7 +59,7 @@ pub fn root_struct<'a, A: ReaderArena>(
     found
 }
 
-/// The list that the root leads to.
+/// Returns the list that the root pointer leads to. Fails if it leads to anything else.
 pub fn root_list<'a, A: ReaderArena>(
     rt: &impl Abort,
     arena: &'a A,

@@ -1,4 +1,5 @@
-//! The fields of readers, the calls and the laws that no case names, and readers of other arenas.
+//! Tests the fields of readers, the calls and laws that no test case uses, and readers of other
+//! arenas.
 use super::messages::*;
 use capnp_arena::arena::NullArena;
 use capnp_readers::laws::*;
@@ -56,7 +57,7 @@ fn fields_of_a_list(rt: HostRuntime) {
     assert!(rt; struct_size.total() == 2 && count == 1 && nesting_limit == 63);
 }
 
-/// Readers of every arena can be copied; a null arena can't.
+/// Readers of every arena can be copied, also those of `NullArena`.
 #[test]
 fn readers_are_copied(rt: HostRuntime) {
     let arena = arena(&rt, rt.alloc(), STRUCTS);
@@ -77,7 +78,7 @@ fn readers_are_copied(rt: HostRuntime) {
     assert!(rt; nothing.pointer_count() == same.pointer_count());
 }
 
-/// The name of a refusal.
+/// Returns the error of `read`; `None` if there is none.
 fn refusal<T: Copy, E>(read: Result<T, E>) -> Option<E> {
     match read {
         Ok(_) => None,

@@ -1,5 +1,5 @@
-//! The object that a pointer leads to, read by `Source::read_object` and its kin of
-//! `capnp_objects`, which `capnp_readers` re-exports.
+//! Tests calls that read the object that a pointer leads to: `Source::read_object`, `read_expected`
+//! and `read_type` of `capnp_objects`, which `capnp_readers` re-exports.
 use super::messages::*;
 use capnp_arena::arena::ReaderArena;
 use capnp_readers::object::{Expected, Object, Place};
@@ -20,8 +20,8 @@ fn object<'a, A: ReaderArena>(
     source.read_object(place, pointer.nesting_limit, lim)
 }
 
-/// A letter for the kind of an object, where it starts, and its number of words, pointers or
-/// elements.
+/// Returns a letter for the kind of an object, the word where it starts, and its number of words,
+/// pointers or elements. For a capability, the last is its index.
 fn shown(object: Object<'_>) -> (char, u32, u32) {
     match object {
         Object::Null => ('n', 0, 0),

@@ -1,4 +1,4 @@
-//! Structs and lists at places that the caller names.
+//! Tests readers of structs and lists at places that the caller names.
 use super::messages::*;
 use capnp_arena::arena::ReaderArena;
 use capnp_readers::readers::{ListPlace, ListReader, StructPlace, StructReader};

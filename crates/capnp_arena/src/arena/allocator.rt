@@ -7,8 +7,8 @@ ghost use Rattle.capnp_words.specs.declared.error.ErrorKind.TheVariants.{Allocat
 use capnp_words::error::ErrorKind;
 use std::alloc::Global;
 
-/// The bytes of a segment; their number never changes. The first ones are ready: they can be read
-/// and written. The others are zero, and become ready as words are allocated.
+/// The bytes of a segment; their number never changes. The first of them are ready: they can be
+/// read and written. The others are zero, and become ready as words are allocated.
 pub trait Segment {
     // All bytes, ready or not.
     ghost content: { Self → List ℕ };
@@ -43,7 +43,7 @@ pub trait Segment {
             (with_ready self.old)) }
         ensures now { result.now ≡ ready self.old };
 
-    /// Makes at least `bytes` bytes ready, and takes no memory.
+    /// Makes at least the first `bytes` bytes ready, and takes no memory.
     fn make_ready(&mut self, bytes: usize)
         requires { bytes ≤ length (content self.old) }
         ensures ready { bytes ≤ length (ready self.new) }
@@ -52,18 +52,19 @@ pub trait Segment {
 
 /// Where segments come from and are returned to.
 pub trait Allocator: Drop {
-    /// A segment. It is returned with `deallocate_segment`, or dropped if its allocator isn't
-    /// available.
+    /// The type of the segments. An arena returns each segment with `deallocate_segment`, or drops
+    /// it if the arena is dropped without its allocator (see
+    /// `BuilderArenaImpl::without_allocator`).
     type Segment: Segment + Drop;
 
     // Whether an arena keeps the row of its first segment inside itself; by default, it doesn't.
     ghost first_in_arena: { Bool } = { false };
 
     /// Whether an arena stores the row of its first segment (the segment, and what the arena knows
-    /// of it) in the arena itself. The first segment then takes memory only if the allocator does,
-    /// but each access has to test whether it is to the first segment. If this function returns
-    /// `false`, the arena stores all rows in a list. All calls for a type of allocator return the
-    /// same.
+    /// of it) in the arena itself. The first segment then takes memory only if the allocator takes
+    /// memory for it, but each access has to test whether it is to the first segment. If this
+    /// function returns `false`, the arena stores all rows in a list. For one type of allocator,
+    /// all calls return the same.
     fn keeps_first_in_arena() -> bool
         ensures { result ≡ first_in_arena };
 
@@ -93,8 +94,8 @@ pub trait Allocator: Drop {
             × (refusals self.new ≡ one_more (refusals self.old))) }
         ensures offers { offers self.new ≡ offers self.old };
 
-    /// Takes `segment` back, whose first `used_words` words were allocated. Precondition: all words
-    /// after these are zero.
+    /// Takes `segment` back. Its first `used_words` words were allocated. Precondition: all bytes
+    /// after these words are zero.
     fn deallocate_segment(&mut self, segment: Self::Segment, used_words: u32)
         requires within { 8 * used_words ≤ length (Self.Segment.content segment) }
         requires clear { IsClearFrom used_words (Self.Segment.content segment) }

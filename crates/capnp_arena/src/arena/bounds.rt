@@ -7,8 +7,8 @@
 //! room than this bound. So a range without room is skipped with one look at its bound.
 //!
 //! The room of a row only shrinks, so allocating words leaves the bounds correct. A new row starts
-//! with the greatest bound that there is. If a bound is greater than needed, the search may look at
-//! a row without room; it then lowers the bound.
+//! with the greatest bound possible, 536,870,911. If a bound is greater than needed, the search may
+//! look at a row without room; it then lowers the bound.
 ghost use Rattle.std.specs.Prelude.{◌≡◌, ◌<◌, ◌≤◌, ◌+◌, ◌-◌, ℕ, length, IfSome, IsNone};
 ghost use Rattle.capnp_arena_traits.specs.Allocations.{max_segments};
 ghost use Rattle.capnp_arena.specs.Bounds.{FindsFit, HasBounds, HaveNoRoom, IsBoundAt, rooms};
@@ -17,7 +17,9 @@ ghost use Rattle.capnp_arena.specs.Row.{shown, capacity_at};
 use crate::arena::Segment;
 use crate::arena::row::Row;
 
-/// The first row from `from` on whose bounds don't rule out room for `amount` words.
+/// Skips ranges of rows, from row `from` on, while their bounds say that none of their rows has
+/// room for `amount` words. Returns the first row that isn't skipped, which may have no room
+/// either; `None` if all are skipped.
 fn first_allowed<S: Segment>(rows: &[Row<S>], from: usize, amount: u32) -> Option<usize>
     requires few { length rows.now ≤ max_segments }
     requires bounded { HasBounds S.Segment rows.now }
@@ -44,8 +46,8 @@ fn first_allowed<S: Segment>(rows: &[Row<S>], from: usize, amount: u32) -> Optio
     if at < rows.len() { Some(at) } else { None }
 }
 
-/// The most room that the rows of the range that ends with row `at` can have: the maximum of the
-/// room of row `at`, and of the bounds of the ranges that make up the other rows.
+/// The most room that a row of the range that ends with row `at` can have: the maximum of the room
+/// of row `at` and of the bounds of the ranges that the range's other rows form.
 fn greatest_room<S: Segment>(rows: &[Row<S>], at: usize) -> u32
     requires there { at < length rows.now }
     requires bounded { HasBounds S.Segment rows.now }
@@ -75,7 +77,8 @@ fn lower<S: Segment>(rows: &mut [Row<S>], at: usize)
     row.bound = greatest;
 }
 
-/// The first row with room for `amount` more words, found by the bounds of the rows.
+/// Finds the first row with room for `amount` more words, by the bounds of the rows; `None` if no
+/// row has room for them.
 #[inline(never)]
 pub(crate) fn first_by_bounds<S: Segment>(rows: &mut [Row<S>], amount: u32) -> Option<u32>
     requires few { length rows.old ≤ max_segments }

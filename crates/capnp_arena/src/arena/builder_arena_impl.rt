@@ -30,8 +30,8 @@ use capnp_arena_traits::arena::sealed::Closed;
 use capnp_words::error::ErrorKind;
 use std::alloc::Global;
 
-/// A message of any number of segments, each from an allocator. Its nesting limit is `i32::MAX`,
-/// and reading it charges nothing.
+/// A message being built, with 0 to 4,294,967,295 segments, which the allocator grants. The arena's
+/// nesting limit is `i32::MAX`, and reading from it charges nothing.
 ///
 /// Dropping the arena returns each segment to the allocator exactly once, in order of number.
 pub struct BuilderArenaImpl<A: Allocator> {
@@ -109,8 +109,8 @@ fn give_back_apart<A: Allocator>(allocator: &mut A, rows: Rows<A::Segment>)
     }
 }
 
-/// Returns each segment to the allocator exactly once, in order of number. `listed` or `apart` is
-/// empty.
+/// Returns each segment to the allocator exactly once, in order of number. In every arena at least
+/// one of `listed` and `apart` is empty.
 #[inline(always)]
 fn give_back<A: Allocator>(allocator: &mut A, listed: Listed<A::Segment>, apart: Rows<A::Segment>)
     ensures { RefusesNothing A.Allocator allocator.old allocator.new }
@@ -261,7 +261,7 @@ fn output_of_list<S: Segment>(
     Ok(OutputSegments::MultiSegment(segments))
 }
 
-/// The number of allocated words in all of `rows`.
+/// The number of allocated words in all of `rows` together.
 fn used_in<S: Segment>(rows: &[Row<S>]) -> usize
     requires { length rows.now ≤ max_segments }
     ensures words { result ≡ total_words (shown S.Segment rows.now) }
@@ -298,7 +298,7 @@ impl<A: Allocator> Drop for BuilderArenaImpl<A> {
 }
 
 impl<A: Allocator> BuilderArenaImpl<A> {
-    /// An arena without segments.
+    /// Makes an arena without segments. `allocator` will grant its segments.
     #[tactic(auto, using(crate::proofs::KeptLemmas::keeping))]
     pub fn new(alloc: Global, allocator: A) -> Self
         ensures segments { ⟦<Self as ReaderArena>⟧.segments result ≡ [] }
@@ -352,9 +352,9 @@ impl<A: Allocator> BuilderArenaImpl<A> {
         allocator
     }
 
-    /// Separates the arena from its allocator, and returns both. The arena keeps its segments and
-    /// their words, can allocate words only in these segments, and counts refusals from 0.
-    /// `with_allocator` puts an allocator in again.
+    /// Separates the arena from its allocator, and returns both. The returned arena keeps its
+    /// segments and their words, can allocate words only in these segments, and starts with a
+    /// `refused` of 0. `with_allocator` gives it an allocator again.
     ///
     /// Dropping the arena without its allocator drops the segments: they aren't returned to the
     /// allocator.
@@ -412,10 +412,11 @@ impl<A: Allocator> BuilderArenaImpl<A> {
 
     /// Appends a segment of at least `min` words, with none of its words allocated.
     ///
-    /// Refusals, which change nothing but `refused`: `MessageTooLarge(usize::MAX)` if there are
-    /// 4,294,967,295 segments; `MessageTooLarge(min)` if `min` is above 536,870,911;
-    /// `AllocationFailed` if memory ran out. If `keeps_first_in_arena` of the allocator is `true`,
-    /// the first segment takes memory only if the allocator does.
+    /// Refusals: `MessageTooLarge(usize::MAX)` if there are 4,294,967,295 segments already;
+    /// `MessageTooLarge(min)` if `min` is above 536,870,911; `AllocationFailed` if memory ran out.
+    /// A refusal changes nothing, except that `AllocationFailed` adds 1 to `refused` of the arena.
+    /// If `keeps_first_in_arena` of the allocator is `true`, the first segment takes memory only if
+    /// the allocator takes memory for it.
     #[tactic(auto, using(crate::proofs::KeptLemmas::keeping))]
     pub fn allocate_segment(&mut self, min: u32) -> Result<(), ErrorKind>
         ensures made { OnOk result (⟦<Self as ReaderArena>⟧.segments self.new
@@ -457,9 +458,10 @@ impl<A: Allocator> BuilderArenaImpl<A> {
         self.put_last(segment)
     }
 
-    /// The allocated words of each segment, for writing the message out. They are within the limits
-    /// of `ReaderArenaImpl::new`. Takes memory unless there is exactly one segment, and fails with
-    /// `AllocationFailed` if memory runs out.
+    /// The allocated words of each segment, for writing the message out. They meet the precondition
+    /// of `ReaderArenaImpl::new`: fewer than 2^32 segments, each of fewer than 2^32 words. Takes
+    /// memory unless there is exactly one segment, and fails with `AllocationFailed` if memory runs
+    /// out.
     #[tactic(auto, using(crate::proofs::KeptLemmas::keeping))]
     pub fn get_segments_for_output(&self) -> Result<OutputSegments<'_>, ErrorKind>
         ensures bytes { IfOk result (λ o. output_bytes o
@@ -493,7 +495,8 @@ impl<A: Allocator> BuilderArenaImpl<A> {
         }
     }
 
-    /// The first segment with room for `amount` more words.
+    /// Returns the number of the first segment with room for `amount` more words; `None` if no
+    /// segment has room for them.
     #[tactic(auto, using(crate::proofs::KeptLemmas::keeping))]
     fn first_fit(&mut self, amount: u32) -> Option<u32>
         ensures fit { IfSome result
@@ -530,8 +533,8 @@ impl<A: Allocator> BuilderArenaImpl<A> {
         }
     }
 
-    /// Allocates `amount` words in a new last segment, and returns its number. Refuses what
-    /// `allocate_segment` refuses.
+    /// Appends a segment of at least `amount` words, allocates `amount` words in it, and returns
+    /// the segment's number. Refuses like `allocate_segment` for `amount` words.
     fn take_another(&mut self, amount: u32) -> Result<u32, ErrorKind>
         ensures { TakesAnother (⟦<Self as BuilderArena>⟧.view self.old)
             (⟦<Self as BuilderArena>⟧.view self.new) amount result }
@@ -545,9 +548,10 @@ impl<A: Allocator> BuilderArenaImpl<A> {
 }
 
 impl<A: Allocator> BuilderArenaImpl<NullAllocator<A>> {
-    /// Replaces the allocator, which refuses every request, by `allocator`. From then on,
-    /// `allocator` grants further segments, and the present segments are returned to it, too. The
-    /// segments, their words and their room are unchanged.
+    /// Returns the arena with `allocator` in place of the `NullAllocator`, which refuses every
+    /// request. From then on, `allocator` grants further segments, and all segments are returned to
+    /// `allocator`, including those that the arena has now. The segments, their words and their
+    /// room are unchanged.
     pub fn with_allocator(self, allocator: A) -> BuilderArenaImpl<A>
         ensures segments { ⟦<BuilderArenaImpl<A> as ReaderArena>⟧.segments result
             ≡ ⟦<Self as ReaderArena>⟧.segments self }

@@ -62,8 +62,8 @@ pub struct HeapAllocator {
 }
 
 impl HeapAllocator {
-    /// An allocator that has refused nothing yet. Precondition: `words`, the least number of words
-    /// of a segment, is at most 536,870,911.
+    /// Makes an allocator that has refused nothing yet. Each of its segments has at least `words`
+    /// words. Precondition: `words` is at most 536,870,911.
     pub fn new(alloc: Global, words: u32) -> Self
         requires { words ≤ max_segment_words }
         ensures words { result.words ≡ words }

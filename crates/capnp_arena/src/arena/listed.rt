@@ -25,7 +25,7 @@ impl<S: Segment> Listed<S> {
     ghost use Rattle.capnp_arena.specs.Listed.{with_bytes_listed};
     ghost use Rattle.capnp_arena.specs.contracts.arena.listed.Listed.{the_row};
 
-    /// No rows.
+    /// Makes the rows of an arena that has no segment yet. Takes no memory.
     #[inline(always)]
     pub(crate) fn new(alloc: Global) -> Self
         ensures { result.rows.items ≡ [] }
@@ -54,7 +54,8 @@ impl<S: Segment> Listed<S> {
         self.rows[id as usize].has_room(amount)
     }
 
-    /// Allocates `amount` words at the end of row `id`, which has room, and returns their position.
+    /// Allocates `amount` words after the allocated ones of row `id`, and returns their position.
+    /// Precondition: the row has room for them.
     #[inline(always)]
     #[tactic(auto, using(crate::proofs::RowsLemmas::rows_written))]
     pub(crate) fn take(&mut self, id: u32, amount: u32) -> u32
@@ -70,7 +71,8 @@ impl<S: Segment> Listed<S> {
         row.take(amount)
     }
 
-    /// Allocates `amount` words at the end of row `id`; returns `None` if it has no room for them.
+    /// Allocates `amount` words after the allocated ones of row `id`, and returns their position;
+    /// `None` if the row has no room for them.
     #[inline(always)]
     pub(crate) fn allocate(&mut self, id: u32, amount: u32) -> Option<u32>
         requires { id < length self.old.rows.items }
@@ -161,7 +163,8 @@ impl<S: Segment> Listed<S> {
         row.move_words(from, to, n);
     }
 
-    /// Copies `n` words from place `from` to place `to`, which is in another row.
+    /// Copies `n` words from place `from` to place `to`. Precondition: the two places are in
+    /// different rows.
     #[inline(always)]
     pub(crate) fn copy_across(&mut self, from: WordPlace, to: WordPlace, n: u32)
         requires rows { (from.segment < length self.old.rows.items)

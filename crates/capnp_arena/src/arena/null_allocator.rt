@@ -9,8 +9,8 @@ use std::marker::PhantomData;
 /// allocator `A`, and gets no further ones: it can allocate words only in these.
 ///
 /// Refuses a request of more than 536,870,911 words with `MessageTooLarge`, and any other with
-/// `AllocationFailed`. Its `refused` counts each `AllocationFailed`; `refused` of the allocator `A`
-/// doesn't. Drops each segment that is returned to it.
+/// `AllocationFailed`. Its own `refused` counts each `AllocationFailed`; `refused` of the allocator
+/// `A` doesn't count them. Drops each segment that is returned to it.
 ///
 /// `BuilderArenaImpl::without_allocator` makes an arena with this allocator, and `with_allocator`
 /// replaces this allocator by an allocator `A`.
@@ -21,7 +21,7 @@ pub struct NullAllocator<A: Allocator> {
 }
 
 impl<A: Allocator> NullAllocator<A> {
-    /// An allocator that has refused nothing yet.
+    /// Makes an allocator that has refused nothing yet.
     pub(crate) fn new() -> Self
         ensures { result.refused ≡ 0 }
     {

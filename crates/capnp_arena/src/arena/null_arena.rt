@@ -1,4 +1,4 @@
-//! The arena of no message.
+//! An arena that holds no message.
 ghost use Rattle.std.below.core.specs.declared.int.i32.TheConstants.{MAX};
 ghost use Rattle.std.specs.Prelude.{[], pos, false, refl};
 ghost use Rattle.capnp_words.specs.declared.error.ErrorKind.TheVariants.{TriedToReadFromNullArena};

@@ -11,8 +11,8 @@ use capnp_words::error::ErrorKind;
 /// The limits for reading a message. The default is 8,388,608 words and a nesting limit of 64.
 #[derive(Clone, Copy)]
 pub struct ReaderOptions {
-    /// The traversal limit: how many words may be read; `None` for no limit. A program makes its
-    /// `ReadLimiter` from this limit.
+    /// The traversal limit: how many words may be read; `None` for no limit. An arena doesn't use
+    /// this limit: the caller passes it to `ReadLimiter::new`.
     pub traversal_limit_in_words: Option<usize>,
     /// The nesting limit: how many structs and lists may be inside one another.
     pub nesting_limit: i32,
@@ -30,8 +30,8 @@ impl Default for ReaderOptions {
     }
 }
 
-/// The arena of a message, over the whole words of its segments; ignores up to 7 bytes after the
-/// last word of a segment.
+/// The arena of a message being read. Consists of the whole words of each segment; ignores the
+/// bytes, at most 7, after a segment's last whole word.
 #[derive(Drop)]
 pub struct ReaderArenaImpl<S: ReaderSegments> {
     segments: S,
@@ -42,8 +42,8 @@ pub struct ReaderArenaImpl<S: ReaderSegments> {
 }
 
 impl<S: ReaderSegments> ReaderArenaImpl<S> {
-    /// The arena of these segments. Precondition: there are fewer than 2^32 segments, each of fewer
-    /// than 2^32 words.
+    /// Makes the arena of `segments`, with the nesting limit of `options`. Precondition: there are
+    /// fewer than 2^32 segments, each of fewer than 2^32 words.
     #[tactic(auto, using(capnp_arena_traits::proofs::MessageLemmas::message_wholes))]
     pub fn new(segments: S, options: ReaderOptions) -> Self
         requires { IsSmall (S.segments segments) }
@@ -65,7 +65,7 @@ impl<S: ReaderSegments> ReaderArenaImpl<S> {
         }
     }
 
-    /// The segments that `new` took.
+    /// Returns the segments that `new` took.
     pub fn into_segments(self) -> S
         ensures { result ≡ self.segments }
     {

@@ -2,7 +2,8 @@
 ghost use Rattle.std.specs.Prelude.{◌≡◌, ◌<◌, ◌↔◌, ℕ, List, length, map, IsTrue, IsSome, IfSome, Some, slice_get};
 ghost use Rattle.capnp_arena_traits.specs.Limits.{AreSmall, IsSmall};
 
-/// The segments of a message in bytes. Section "Messages" of the encoding specification.
+/// The segments of a message, each as a slice of bytes. Section "Messages" of the encoding
+/// specification.
 pub trait ReaderSegments {
     // The bytes of each segment, including those after its last whole word.
     ghost segments: { Self → List (List ℕ) };
@@ -32,8 +33,8 @@ pub struct SegmentArray<'a> {
 }
 
 impl<'a> SegmentArray<'a> {
-    /// The segments in this order. `None` exactly if there are 2^32 segments or more, or a segment
-    /// has 2^32 words or more.
+    /// Takes `segments`, in this order. Returns `None` exactly if there are 2^32 segments or more,
+    /// or a segment has 2^32 words or more.
     pub fn new(segments: &'a [&'a [u8]]) -> Option<Self>
         ensures exactly { IsSome result ↔ AreSmall segments.now }
         ensures segments { IfSome result (λ r. r.segments.now ≡ segments.now) }

@@ -9,7 +9,7 @@ ghost use Rattle.capnp_arena.specs.Front.{RewritesFront};
 use crate::arena::{MAX_SEGMENT_WORDS, Segment};
 use capnp_words::words;
 
-/// Writes `word` at position `at`, within the first `end` words.
+/// Writes `word` at position `at` of `bytes`. Precondition: `at` is below `end`.
 #[tactic(auto, using(crate::proofs::RowLemmas::kept))]
 fn put_below(bytes: &mut [u8], end: usize, at: usize, word: u64)
     requires inside { at < end }
@@ -20,7 +20,8 @@ fn put_below(bytes: &mut [u8], end: usize, at: usize, word: u64)
     words::put_word(&mut bytes[..8 * end], at, word);
 }
 
-/// Writes the words of `from` from position `at` on, within the first `end` words.
+/// Writes the words of `from` to `bytes`, from position `at` on. Precondition: they end at position
+/// `end` or before it.
 #[tactic(auto, using(crate::proofs::RowLemmas::kept))]
 fn copy_below(bytes: &mut [u8], end: usize, at: usize, from: &[u8])
     requires whole { length from.now ≡ 8 * length (words_of from.now) }
@@ -32,7 +33,8 @@ fn copy_below(bytes: &mut [u8], end: usize, at: usize, from: &[u8])
     words::copy_words(&mut bytes[..8 * end], at, from);
 }
 
-/// Zeroes `n` words from position `at` on, within the first `end` words.
+/// Zeroes `n` words of `bytes`, from position `at` on. Precondition: they end at position `end` or
+/// before it.
 #[tactic(auto, using(crate::proofs::RowLemmas::kept_zeros))]
 fn zero_below(bytes: &mut [u8], end: usize, at: usize, n: usize)
     requires inside { at + n ≤ end }
@@ -43,8 +45,8 @@ fn zero_below(bytes: &mut [u8], end: usize, at: usize, n: usize)
     words::zero_words(&mut bytes[..8 * end], at, n);
 }
 
-/// Copies `n` words from position `from` to position `to`; the two ranges are within the first
-/// `end` words, and may overlap.
+/// Copies `n` words of `bytes` from position `from` to position `to`; the two ranges may overlap.
+/// Precondition: both ranges end at position `end` or before it.
 #[tactic(auto, using(crate::proofs::RowLemmas::kept))]
 fn move_below(bytes: &mut [u8], end: usize, from: usize, to: usize, n: usize)
     requires there { from + n ≤ end }
@@ -57,7 +59,7 @@ fn move_below(bytes: &mut [u8], end: usize, from: usize, to: usize, n: usize)
     words::move_words(&mut bytes[..8 * end], from, to, n);
 }
 
-/// Lends the first `n` bytes of a segment; the others are unchanged.
+/// Lends the first `n` bytes of `segment` for writing, and leaves the others unchanged.
 fn front_of<S: Segment>(segment: &mut S, n: usize) -> &mut [u8]
     requires { n ≤ length (S.ready segment.old) }
     ensures* lends { sem 𝓛 (Lends S.row (Array byte 0) segment.entry result
@@ -68,8 +70,8 @@ fn front_of<S: Segment>(segment: &mut S, n: usize) -> &mut [u8]
     &mut bytes[..n]
 }
 
-/// A segment, and the number of its allocated words. The allocated words are ready; all other words
-/// are zero.
+/// A segment, and the number of its allocated words. The allocated words are ready to be read and
+/// written; all other words are zero.
 pub(crate) struct Row<S: Segment> {
     pub(crate) segment: S,
     pub(crate) used: u32,
@@ -116,7 +118,7 @@ impl<S: Segment> Row<S> {
         }
     }
 
-    /// How many more words can be allocated.
+    /// The number of words that can still be allocated.
     pub(crate) fn room(&self) -> u32
         ensures { result ≡ room S.Segment self.now }
     {
@@ -130,8 +132,8 @@ impl<S: Segment> Row<S> {
         self.used as usize + amount as usize <= self.segment.len() / 8
     }
 
-    /// Allocates `amount` words after the allocated ones, and returns their position. They are
-    /// zero.
+    /// Allocates `amount` words after the allocated ones, and returns their position. The new words
+    /// are zero. Precondition: the segment has room for them.
     #[tactic(auto, using(crate::proofs::RowLemmas::taking))]
     pub(crate) fn take(&mut self, amount: u32) -> u32
         requires { self.old.used + amount ≤ capacity S.Segment self.old }
@@ -195,7 +197,7 @@ impl<S: Segment> Row<S> {
         );
     }
 
-    /// Copies `n` words of another row, from position `from` on, to position `at`.
+    /// Copies `n` words from position `from` of `row` to position `at` of this row.
     #[tactic(auto, using(crate::proofs::RowsLemmas::reading))]
     pub(crate) fn copy_from(&mut self, at: u32, row: &Row<S>, from: u32, n: u32)
         requires there { from + n ≤ row.now.used }

@@ -1,9 +1,10 @@
-//! The rows of a builder arena, one for each segment, for an allocator whose `keeps_first_in_arena`
-//! is `true`. The first row is in the struct itself, so this row takes no memory; the others are in
-//! a list. Any other builder arena uses module `listed`.
+//! The rows of a builder arena whose allocator returns `true` from `keeps_first_in_arena`. A row is
+//! a segment with the number of its allocated words. The first row is in the struct `Rows` itself,
+//! so it takes no memory from the heap; the others are in a list. Any other builder arena uses
+//! module `listed`.
 //!
 //! Most messages have one segment, and most words are written in it. So the code for row 0 is
-//! inlined, and that for other rows is in functions that aren't.
+//! inlined, and the code for other rows is in functions that aren't inlined.
 ghost use Rattle.std.specs.Prelude.{◌≡◌, ◌≢◌, ◌<◌, ◌≤◌, ◌+◌, ◌-◌, ◌*◌, ◌/◌, ◌↔◌, ◌∷◌, [], length, replicate, slice_get, Some, IsSome, IsNone, IfSome};
 ghost use Rattle.std.specs.Borrow.{sem, Lends, Array, u8 as byte};
 ghost use Rattle.capnp_format.specs.Bytes.{words_of, message};
@@ -19,7 +20,8 @@ use crate::arena::{Segment, WordPlace, bounds};
 use std::alloc::Global;
 use std::mem::replace;
 
-/// Allocates `amount` words at the end of row `id`, which has room, and returns their position.
+/// Allocates `amount` words after the allocated ones of row `id`, and returns their position.
+/// Precondition: the row has room for them.
 #[cold]
 #[inline(never)]
 #[tactic(auto, using(crate::proofs::RowsLemmas::rows_written))]
@@ -35,7 +37,8 @@ fn take_in<S: Segment>(rows: &mut [Row<S>], id: usize, amount: u32) -> u32
     row.take(amount)
 }
 
-/// Allocates `amount` words at the end of row `id`; returns `None` if it has no room for them.
+/// Allocates `amount` words after the allocated ones of row `id`, and returns their position;
+/// `None` if the row has no room for them.
 #[cold]
 #[inline(never)]
 fn allocate_in<S: Segment>(rows: &mut [Row<S>], id: usize, amount: u32) -> Option<u32>
@@ -127,14 +130,15 @@ fn move_words_in<S: Segment>(rows: &mut [Row<S>], id: usize, from: u32, to: u32,
     row.move_words(from, to, n);
 }
 
-/// A row after the first, and a position in it.
+/// A place in a list of rows: a row, by its index in the list, and a position in that row, in
+/// words.
 #[derive(Clone, Copy)]
 pub(crate) struct At {
     pub(crate) row: usize,
     pub(crate) at: u32,
 }
 
-/// Copies `n` words of `row`, from position `from` on, over those from place `to` of `rows` on.
+/// Copies `n` words from position `from` of `row` to place `to` of `rows`.
 #[inline(never)]
 #[tactic(auto, using(crate::proofs::RowsLemmas::rows_written))]
 fn copy_in<S: Segment>(rows: &mut [Row<S>], to: At, row: &Row<S>, from: u32, n: u32)
@@ -150,7 +154,8 @@ fn copy_in<S: Segment>(rows: &mut [Row<S>], to: At, row: &Row<S>, from: u32, n: 
     written.copy_from(to.at, row, from, n);
 }
 
-/// Copies `n` words from place `from` to place `to`, which is in another row.
+/// Copies `n` words from place `from` to place `to`. Precondition: the two places are in different
+/// rows.
 pub(crate) fn copy_across_in<S: Segment>(rows: &mut [Row<S>], from: At, to: At, n: u32)
     requires rows { (from.row < length rows.old) × (to.row < length rows.old) }
     requires apart { from.row ≢ to.row }
@@ -185,7 +190,7 @@ pub(crate) fn allocated_in<S: Segment>(rows: &[Row<S>], id: usize) -> Option<&[u
     }
 }
 
-/// The first row, stored outside of the list, and the list of the others.
+/// The rows of an arena: the first one, outside of the list, and a list of the others.
 pub(crate) struct Rows<S: Segment> {
     pub(crate) first: Row<S>,
     /// Whether there is a first row; if not, `first` has no words, and there are no others.
@@ -200,7 +205,7 @@ impl<S: Segment> Rows<S> {
     ghost use Rattle.capnp_arena.specs.Rows.{all, with_bytes_apart};
     ghost use Rattle.capnp_arena.specs.contracts.arena.rows.Rows.{the_row};
 
-    /// No rows.
+    /// Makes the rows of an arena that has no segment yet. Takes no memory.
     #[tactic(auto, using(crate::proofs::RowLemmas::fresh_rows))]
     pub(crate) fn new(alloc: Global) -> Self
         ensures { all S.Segment result ≡ [] }
@@ -223,7 +228,8 @@ impl<S: Segment> Rows<S> {
         if self.there { self.others.len() + 1 } else { 0 }
     }
 
-    /// Allocates `amount` words at the end of row `id`, which has room, and returns their position.
+    /// Allocates `amount` words after the allocated ones of row `id`, and returns their position.
+    /// Precondition: the row has room for them.
     #[inline(always)]
     #[tactic(auto, using(crate::proofs::ListedLemmas::listing))]
     pub(crate) fn take(&mut self, id: u32, amount: u32) -> u32
@@ -243,7 +249,8 @@ impl<S: Segment> Rows<S> {
         }
     }
 
-    /// Allocates `amount` words at the end of row `id`; returns `None` if it has no room for them.
+    /// Allocates `amount` words after the allocated ones of row `id`, and returns their position;
+    /// `None` if the row has no room for them.
     #[inline(always)]
     #[tactic(auto, using(crate::proofs::ListedLemmas::listing))]
     pub(crate) fn allocate(&mut self, id: u32, amount: u32) -> Option<u32>
@@ -357,7 +364,8 @@ impl<S: Segment> Rows<S> {
         }
     }
 
-    /// Copies `n` words from place `from` to place `to`, which is in another row.
+    /// Copies `n` words from place `from` to place `to`. Precondition: the two places are in
+    /// different rows.
     #[tactic(auto, using(crate::proofs::ListedLemmas::listing))]
     pub(crate) fn copy_across(&mut self, from: WordPlace, to: WordPlace, n: u32)
         requires rows { (from.segment < length (all S.Segment self.old))
@@ -421,7 +429,7 @@ impl<S: Segment> Rows<S> {
         self.first.allocated_mut()
     }
 
-    /// Lends the allocated words of row `id`, which isn't the first, for writing.
+    /// Lends the allocated words of row `id`, for writing. Precondition: it isn't the first row.
     #[cold]
     #[inline(never)]
     fn other_mut(&mut self, id: u32) -> &mut [u8]
@@ -474,7 +482,8 @@ impl<S: Segment> Rows<S> {
 impl<S: Segment + Drop> Rows<S> {
     ghost use Rattle.capnp_arena.specs.Rows.{all};
 
-    /// Adds the first row, of a segment with none of its words allocated.
+    /// Adds the first row, for `segment`, with none of its words allocated. Precondition: there are
+    /// no rows yet.
     pub(crate) fn put_first(&mut self, segment: S)
         requires none { length (all S.Segment self.old) ≡ 0 }
         requires fresh { IsFresh 0 (S.Segment.content segment) }

@@ -1,4 +1,4 @@
-//! An allocator with one segment in memory lent by the caller.
+//! An allocator that makes one segment of memory lent by the caller, and all others on the heap.
 ghost use Rattle.std.specs.Prelude.{◌++◌, ◌∷◌, [], ◌≡◌, ◌≤◌, ◌<◌, ◌+◌, ◌*◌, ◌/◌, ◌==◌, ℕ, List, length, replicate, min, max, refl, true, false, IsTrue, IsFalse, IsSome, IsNone, IfSome, ◌↔◌, IsOk, IfOk, IsOkAnd, OnOk, IfErr, Err};
 ghost use Rattle.capnp_arena_traits.specs.Allocations.{IsClearFrom, IsFresh, max_segment_words, one_more};
 ghost use Rattle.capnp_words.specs.declared.error.ErrorKind.TheVariants.{AllocationFailed, MessageTooLarge};
@@ -8,7 +8,7 @@ use capnp_words::error::ErrorKind;
 use std::alloc::Global;
 use std::marker::Model;
 
-/// Borrowed bytes are a segment.
+/// Makes borrowed bytes usable as a segment.
 impl Segment for &mut [u8] {
     ghost use Rattle.capnp_arena.specs.HeapLemmas.{all_ready};
 
@@ -41,7 +41,7 @@ impl Segment for &mut [u8] {
         &mut **self
     }
 
-    /// All bytes are ready.
+    /// Does nothing: all bytes are ready from the start.
     #[inline(always)]
     fn make_ready(&mut self, _bytes: usize) {}
 }
@@ -106,7 +106,7 @@ impl<B: Segment + Drop> Segment for ScratchSegment<B> {
     }
 }
 
-/// Borrowed bytes, all zero. Proofs can refer to their number.
+/// Borrowed bytes, all zero. To contracts, a value of this type is the number of its bytes.
 #[derive(Drop)]
 struct ZeroBytes<'a> {
     bytes: &'a mut [u8],
@@ -121,7 +121,7 @@ impl<'a> Model for ZeroBytes<'a> {
 }
 
 impl<'a> ZeroBytes<'a> {
-    /// Zeroes all bytes.
+    /// Zeroes all of `bytes`, and wraps them.
     fn new(bytes: &'a mut [u8]) -> Self
         ensures { result ≡ length bytes.old }
     {
@@ -129,7 +129,8 @@ impl<'a> ZeroBytes<'a> {
         ZeroBytes { bytes }
     }
 
-    /// Zeroes the first `used` words. Precondition: all words after them are zero.
+    /// Zeroes the first `used` words of `bytes`, and wraps `bytes`. Precondition: all bytes after
+    /// these words are zero.
     fn again(bytes: &'a mut [u8], used: u32) -> Self
         requires within { 8 * used ≤ length bytes.old }
         requires clear { IsClearFrom used bytes.old }
@@ -139,7 +140,8 @@ impl<'a> ZeroBytes<'a> {
         ZeroBytes { bytes }
     }
 
-    /// The number of words of the segment: the whole words of `bytes`, at most 536,870,911.
+    /// The number of words of the segment that these bytes make: the number of whole words in
+    /// `bytes`, or 536,870,911 if that is less.
     fn words(&self) -> u32
         ensures { result ≡ min (self.now / 8) max_segment_words }
     {
@@ -160,10 +162,10 @@ impl<'a> ZeroBytes<'a> {
 /// Makes segments like `HeapAllocator`, except for one: the scratch space, which is memory lent by
 /// the caller.
 ///
-/// The whole words of the scratch space, at most 536,870,911, are one segment. While no arena uses
-/// that segment, it is granted to every request that it is large enough for; this takes no memory
-/// and is never refused. After it is returned, it can be granted again. A scratch space without a
-/// whole word is never used.
+/// One segment is made of the scratch space's whole words, or of the first 536,870,911 of them if
+/// there are more. While no arena uses that segment, it is granted to every request that it is
+/// large enough for; this takes no memory and is never refused. After it is returned, it can be
+/// granted again. A scratch space without a whole word is never used.
 ///
 /// An arena with this allocator stores the row of its first segment itself
 /// (`keeps_first_in_arena`), so a message that fits in the scratch space takes no memory at all.
@@ -192,9 +194,9 @@ impl<'a> Model for ScratchSpaceHeapAllocator<'a> {
 impl<'a> ScratchSpaceHeapAllocator<'a> {
     ghost use Rattle.capnp_arena.specs.Scratch.{lends, offered, whole_words};
 
-    /// An allocator with `scratch` as its scratch space. Zeroes all bytes of `scratch`, and takes
-    /// no memory. Precondition: `words`, the least number of words of every other segment, is at
-    /// most 536,870,911.
+    /// Makes an allocator with `scratch` as its scratch space. Every other segment has at least
+    /// `words` words. Zeroes all bytes of `scratch`, and takes no memory. Precondition: `words` is
+    /// at most 536,870,911.
     pub fn new(alloc: Global, scratch: &'a mut [u8], words: u32) -> Self
         requires { words ≤ max_segment_words }
         ensures grants { (asked : ℕ) → IsTrue (⟦<Self as Allocator>⟧.grants result asked)
@@ -214,7 +216,8 @@ impl<'a> ScratchSpaceHeapAllocator<'a> {
         }
     }
 
-    /// The scratch space, if it isn't in use and has at least `min_words` words.
+    /// Lends the scratch space, which is then in use. Returns `None`, and changes nothing, if it is
+    /// already in use, has fewer than `min_words` words, or has no whole word.
     fn lend(&mut self, min_words: u32) -> Option<&'a mut [u8]>
         ensures exactly { IsSome result ↔ IsTrue (lends self.old min_words) }
         ensures fresh { IfSome result (λ s. IsFresh min_words s.now
@@ -231,8 +234,9 @@ impl<'a> ScratchSpaceHeapAllocator<'a> {
         Some(scratch.into_words())
     }
 
-    /// If `bytes` has the length of the scratch space, takes it back and zeroes its used words;
-    /// otherwise does nothing.
+    /// If `bytes` has as many bytes as the scratch space's segment, takes `bytes` back as the
+    /// scratch space, and zeroes its first `used_words` words; otherwise does nothing.
+    /// Precondition: all bytes after these words are zero.
     fn take_back(&mut self, bytes: &'a mut [u8], used_words: u32)
         requires within { 8 * used_words ≤ length bytes.old }
         requires clear { IsClearFrom used_words bytes.old }

@@ -17,8 +17,8 @@ pub mod sealed {
 }
 
 /// An arena that can be written. In this repository only `BuilderArenaImpl` of `capnp_arena`
-/// implements this trait. `sealed::Closed` is public, so another crate can implement it too, if
-/// that crate proves the contracts of all calls and the laws below.
+/// implements this trait. `sealed::Closed` is public, so another crate can implement both traits,
+/// if it proves the contracts of all calls and the laws below.
 pub trait BuilderArena: ReaderArena + sealed::Closed {
     // The words of each segment, how many it has room for, how often memory was refused, and how a
     // request may be met.
@@ -38,9 +38,9 @@ pub trait BuilderArena: ReaderArena + sealed::Closed {
     /// Lends the bytes of the allocated words of segment `id` for writing. Returns `None`, and
     /// leaves the arena unchanged, exactly if no segment has this number.
     ///
-    /// No clause states what the arena is afterwards; only test cases show it. `segment_mut` lends
-    /// the same bytes of a segment that exists, and its contract states exactly what the arena is
-    /// afterwards.
+    /// This contract doesn't state how the arena changes when the bytes are written; only test
+    /// cases show that. If the segment exists, `segment_mut` lends the same bytes, and its contract
+    /// states exactly what the arena is afterwards.
     fn allocated_mut(&mut self, id: u32) -> Option<&mut [u8]>
         ensures there { IsSome result ↔ (id < length (Self.segments self.old)) }
         ensures bytes { IfSome result (λ s. slice_get (Self.segments self.old) id ≡ Some s.now) };
@@ -85,8 +85,8 @@ pub trait BuilderArena: ReaderArena + sealed::Closed {
             { words = with_words (view self.old).words id at (replicate n 0) } };
 
     /// Allocates `amount` words after the allocated ones of segment `id`, and returns their
-    /// position; they are zero. Returns `None`, and changes nothing, if the segment has no room for
-    /// them.
+    /// position. The new words are zero. Returns `None`, and changes nothing, if the segment has no
+    /// room for them.
     fn allocate(&mut self, id: u32, amount: u32) -> Option<u32>
         requires { id < length (view self.old).words }
         ensures exactly { IsSome result
@@ -96,11 +96,12 @@ pub trait BuilderArena: ReaderArena + sealed::Closed {
 
     /// Allocates `amount` words in the first segment with room, in order of number. If no segment
     /// has room, allocates them in a new one, for which it requests `amount` words. Returns the
-    /// segment and the position; the words are zero.
+    /// segment and the position of the new words, which are zero.
     ///
     /// Refusals, if no segment has room: `MessageTooLarge(usize::MAX)` if there are 4,294,967,295
     /// segments; `MessageTooLarge(amount)` if `amount` is above 536,870,911; `AllocationFailed` if
-    /// memory ran out. A refusal changes nothing but `refused`.
+    /// memory ran out. A refusal changes nothing, except that `AllocationFailed` adds 1 to
+    /// `refused`.
     fn allocate_anywhere(&mut self, amount: u32) -> Result<(SegmentId, u32), ErrorKind>
         ensures taken { IfOk result (λ r. IsTaken (view self.old).words
             (view self.new).words amount r.0 r.1) }
@@ -123,7 +124,7 @@ pub trait BuilderArena: ReaderArena + sealed::Closed {
         ensures refused { OnErr result
             (view self.new ≡ record (view self.old) { refusals = (view self.new).refusals }) };
 
-    /// The arena itself, for reading.
+    /// Returns the arena itself, for reading.
     fn as_reader(&self) -> &Self
         ensures { result.now ≡ self.now };
 

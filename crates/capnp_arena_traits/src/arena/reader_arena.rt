@@ -28,7 +28,8 @@ pub trait ReaderArena {
     // The refusal names the number, or says that there is no segment at all.
     ghost absent_named: { (a : Self) (id : ℕ) → IsUnknown (segments a) id (absent a id) };
 
-    /// The bytes of the whole words of segment `id`, fewer than 2^35. Segments are numbered from 0.
+    /// Returns the bytes of the whole words of segment `id`: fewer than 2^35 bytes. Segments are
+    /// numbered from 0.
     ///
     /// Refuses with `InvalidSegmentId(id)` if no segment has this number. Only an arena without any
     /// segment may refuse with `TriedToReadFromNullArena` instead, as `NullArena` does.
@@ -42,8 +43,8 @@ pub trait ReaderArena {
         ensures small { IfOk result (λ s. length s.now < 8 * 2 ^ 32) }
         ensures named { IfErr result (λ e. e ≡ absent self.now id) };
 
-    /// The nesting limit: how many structs and lists may be inside one another, from the root on.
-    /// Zero or less allows none.
+    /// The nesting limit: how many structs and lists may be inside one another, from the root on. A
+    /// limit of 0 or less allows none.
     fn nesting_limit(&self) -> i32
         ensures { result ≡ nesting self.now };
 
@@ -57,11 +58,11 @@ pub trait ReaderArena {
     fn size_in_words(&self) -> usize
         ensures { result ≡ total_words (segments self.now) };
 
-    /// The word position `start + offset` of segment `id`. `start` and the sum are positions in
-    /// words, from 0 to the segment's length, inclusive.
+    /// Returns the position `start + offset`, in words, of segment `id`.
     ///
-    /// Refuses with `MessageContainsOutOfBoundsPointer` if a position is outside of these bounds,
-    /// and with the refusal of `get_segment` if the segment doesn't exist.
+    /// Refuses with `MessageContainsOutOfBoundsPointer` if `start` or the sum isn't from 0 to the
+    /// segment's length in words, inclusive; with the refusal of `get_segment` if the segment
+    /// doesn't exist.
     #[tactic(auto, using(crate::proofs::MessageLemmas::placing))]
     fn check_offset(&self, id: u32, start: u32, offset: i32) -> Result<u32, ErrorKind>
         ensures exactly { IsOk result ↔ LeadsInside (message (segments self.now)) id start offset }
@@ -76,11 +77,13 @@ pub trait ReaderArena {
         }
     }
 
-    /// Charges `lim` for `amount` words that a message claims but doesn't hold, for instance those
-    /// of a list of empty structs.
+    /// Charges `lim` for `amount` words, without testing that a segment has them. Readers call this
+    /// after they have made that test themselves, or for elements without words, such as those of a
+    /// list of empty structs.
     ///
-    /// Refuses with `ReadLimitExceeded` if fewer words are left; a refusal leaves `lim` unchanged.
-    /// If `charges` returns `false`, grants every amount and leaves `lim` unchanged.
+    /// Refuses with `ReadLimitExceeded` if fewer than `amount` words are left in `lim`; a refusal
+    /// leaves `lim` unchanged. If `charges` returns `false`, grants every amount and leaves `lim`
+    /// unchanged.
     fn amplified_read(&self, amount: u64, lim: &mut ReadLimiter) -> Result<(), ErrorKind>
         ensures exactly { IsOk result ↔ Affords (charging self.now) lim.old amount }
         ensures granted { OnOk result (lim.new ≡ charged (charging self.now) lim.old amount) }
@@ -99,7 +102,8 @@ pub trait ReaderArena {
     ///
     /// Refusals, which leave `lim` unchanged: `MessageContainsOutOfBoundsPointer` if the interval
     /// isn't inside the segment; the refusal of `get_segment` if the segment doesn't exist;
-    /// `ReadLimitExceeded` if fewer words are left in `lim`.
+    /// `ReadLimitExceeded` if fewer than `size` words are left in `lim`, and `charges` returns
+    /// `true`.
     #[tactic(auto, using(crate::proofs::MessageLemmas::placing))]
     fn contains_interval(
         &self,

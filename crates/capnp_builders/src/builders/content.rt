@@ -52,7 +52,7 @@ pub(crate) fn clear_pointers<A: BuilderArena>(arena: &mut A, id: u32, at: u32, c
     }
 }
 
-/// Does what `write_content` does, for the whole bytes of the data section.
+/// Like `write_content`, but writes only the whole bytes of the data section.
 fn write_bytes<A: BuilderArena>(arena: &mut A, place: StructPlace, bytes: &[u8], bits: u32)
     requires inside { IsStructPlace (A.view arena.old).words place }
     requires long { length bytes.now ≡ bytes_for bits }
@@ -124,7 +124,7 @@ fn write_bits<A: BuilderArena>(arena: &mut A, id: u32, start: u64, count: u32, b
     }
 }
 
-/// Byte `index` of the `bits` bits of data in `bytes`; bits after their end are 0.
+/// Returns byte `index` of the `bits` bits of data in `bytes`. Bits beyond these `bits` bits are 0.
 fn byte_of(bytes: &[u8], bits: u32, index: u32) -> u8
     requires long { length bytes.now ≡ bytes_for bits }
     ensures { result ≡ content_byte bits bytes.now index }

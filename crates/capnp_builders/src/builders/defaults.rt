@@ -20,14 +20,18 @@ use capnp_words::read_limiter::ReadLimiter;
 use capnp_words::words;
 
 /// Copies the value of `default`, plain, to the null pointer at `at` of segment `id` ("Default
-/// Values"). The first word of `default` is its pointer. Preconditions: `default` has at least one
-/// word and fewer than 2^32 words.
+/// Values"). `default` is one segment, and its first word is the pointer to the value.
+/// Preconditions: the pointer at `at` is null; `default` has at least one word and fewer than 2^32
+/// words.
 ///
-/// Charges nothing, and may enter `i32::MAX` levels. Refusals: `UnknownPointerType` for a
-/// capability in `default`; `TriedToReadFromNullArena` for a far pointer in `default`; those of
-/// reading for any other fault. Only if the copy doesn't fit after the words of the pointer's
-/// segment: the arena's `AllocationFailed` or `MessageTooLarge`. After a refusal the pointer is
-/// null, and the words that were allocated are zero.
+/// Reading `default` charges nothing, and may enter `i32::MAX` levels of structs and lists.
+/// Refusals: `UnknownPointerType` for a capability in `default`; `TriedToReadFromNullArena` for a
+/// far pointer in `default`; for any other fault of `default`, the refusal of reading it. If the
+/// copy doesn't fit after the words of the pointer's segment, and no other segment has room for one
+/// of its objects: `AllocationFailed` if memory runs out; `MessageTooLarge(n)` if n is above
+/// 536,870,911, where n is the number of that object's words, plus one for a landing pad;
+/// `MessageTooLarge(usize::MAX)` if the message already has 4,294,967,295 segments. After a refusal
+/// the pointer is null, and the words that were allocated are zero.
 #[inline(never)]
 pub fn copy_default<A: BuilderArena>(
     arena: &mut A,
@@ -58,8 +62,8 @@ pub fn copy_default<A: BuilderArena>(
 /// `copy_default`. A pointer that isn't null stays as it is. A null pointer stays null if `default`
 /// is `None` or starts with a null word.
 ///
-/// Refuses a default under 8 bytes with `MessageContainsOutOfBoundsPointer`, and then changes
-/// nothing. Other refusals are those of `copy_default`.
+/// Refuses only if the pointer is null: with `MessageContainsOutOfBoundsPointer` if `default` has
+/// fewer than 8 bytes, and then nothing changes; otherwise like `copy_default`.
 pub(crate) fn put_default<A: BuilderArena>(
     arena: &mut A,
     id: u32,
@@ -88,8 +92,8 @@ pub(crate) fn put_default<A: BuilderArena>(
     copy_default(arena, id, at, bytes)
 }
 
-/// Like `put_default`, for a text or data. Refuses with `ExistingPointerIsNotAList` if both the
-/// pointer and the first word of `default` are null.
+/// Like `put_default`, for a pointer that should lead to a text or data. Refuses with
+/// `ExistingPointerIsNotAList` if both the pointer and the first word of `default` are null.
 pub(crate) fn put_blob_default<A: BuilderArena>(
     arena: &mut A,
     id: u32,

@@ -17,8 +17,8 @@ use capnp_readers::readers::ListPlace;
 use capnp_words::error::ErrorKind;
 use capnp_words::wire_pointer::ElementSize;
 
-/// The place of the list `found`. For `None`, which stands for a null pointer, the place of a list
-/// of void without elements in segment `segment`.
+/// Returns the place of the list `found`. If `found` is `None`, the pointer was null; then returns
+/// the place of a list of void without elements in segment `segment`.
 pub(crate) fn found_list(segment: u32, found: Option<ExistingList>) -> ListPlace
     ensures { list_given segment (Ok found) ≡ Ok result }
 {
@@ -34,8 +34,9 @@ pub(crate) fn found_list(segment: u32, found: Option<ExistingList>) -> ListPlace
     }
 }
 
-/// Returns the place of the list that the pointer at `at` of segment `id` leads to. The elements
-/// have to be of `size` or wider. Changes nothing.
+/// Returns the place of the list that the pointer at `at` of segment `id` leads to; for a null
+/// pointer, that of a list of void without elements. Refuses anything but a list, and a list whose
+/// elements are narrower than `size`. Changes nothing.
 pub(crate) fn look_for_list<A: BuilderArena>(
     arena: &A,
     id: u32,
@@ -54,11 +55,11 @@ pub(crate) fn look_for_list<A: BuilderArena>(
     Ok(found_list(id, found))
 }
 
-/// The bytes `found`. For `None`, which stands for a null pointer, no bytes, at the start of
-/// segment `segment`.
+/// Returns where the bytes `found` are. If `found` is `Ok(None)`, the pointer was null; then
+/// returns an empty range at the start of segment `segment`. An error in `found` is returned.
 ///
-/// Refuses bytes outside of the message with `MessageContainsOutOfBoundsPointer`. No pointer of a
-/// built message leads to such bytes.
+/// Refuses with `MessageContainsOutOfBoundsPointer` if the bytes are outside of the message. No
+/// pointer of a built message leads to such bytes.
 #[inline(always)]
 pub(crate) fn found_bytes<A: BuilderArena>(
     arena: &A,

@@ -1,14 +1,14 @@
-//! The places at which builders are, for structs and lists that were found in a message.
+//! The places that builders have, made from structs and lists that were found in a message.
 ghost use Rattle.std.specs.Prelude.{◌≡◌, ◌+◌, ◌*◌, ◌^◌, ◌<◌};
 ghost use Rattle.capnp_builders.specs.Places.{IsAligned, list_place, struct_place};
 
 use capnp_contents::existing::{ExistingList, ExistingStruct};
 use capnp_readers::readers::{ListPlace, StructPlace};
 
-/// The place that a `StructBuilder` of the struct `found` has.
+/// Returns the place for a `StructBuilder` of the struct `found`.
 ///
-/// If the pointers of `found` start at word 2^32 or later, the place has word 2^32 - 1 instead. No
-/// struct of a message has its pointers there.
+/// If the pointer section of `found` starts at word 2^32 or later, the place has word 2^32 - 1
+/// instead. This doesn't happen for a struct of a message.
 #[inline(always)]
 pub fn struct_place(found: ExistingStruct) -> StructPlace
     ensures place { found.start + found.size.data_words < 2 ^ 32 → result ≡ struct_place found }
@@ -26,7 +26,7 @@ pub fn struct_place(found: ExistingStruct) -> StructPlace
     }
 }
 
-/// The place that a `ListBuilder` of the list `found` has.
+/// Returns the place for a `ListBuilder` of the list `found`.
 #[inline(always)]
 pub fn list_place(found: ExistingList) -> ListPlace
     ensures { result ≡ list_place found }

@@ -66,8 +66,9 @@ fn copy_row<A: BuilderArena, B: ReaderArena>(
     copy_in_line(arena, to, from, count, lim)
 }
 
-/// Like `copy_children`, but inlined into the loops over lists: a pointer that is null or leads to
-/// bits or numbers takes no call, and a list in a list takes the stack of only one.
+/// Like `copy_children`, but inlined into the loops over lists. So a pointer that is null, or leads
+/// to a list of bits or numbers, is copied without a call, and each list inside a list takes the
+/// stack of only one more call.
 #[cycle(copies)]
 #[inline(always)]
 pub(crate) fn copy_in_line<A: BuilderArena, B: ReaderArena>(
@@ -120,7 +121,8 @@ fn copy_child<A: BuilderArena, B: ReaderArena>(
     }
 }
 
-/// Copies the struct that `from` leads to. `word` is the word of `from`, and not a far pointer.
+/// Copies the struct that `from` leads to. Precondition: `word` is the word of `from`, and a struct
+/// pointer.
 #[cycle(copies)]
 #[inline(always)]
 fn copy_near_struct<A: BuilderArena, B: ReaderArena>(
@@ -148,7 +150,7 @@ fn copy_near_struct<A: BuilderArena, B: ReaderArena>(
 }
 
 /// Copies the list of bits or numbers that `from` leads to. The copy is the same in every form.
-/// `word` is the word of `from`, and not a far pointer.
+/// Precondition: `word` is the word of `from`, and a pointer to a list of bits or numbers.
 #[inline(always)]
 fn copy_near_flat<A: BuilderArena, B: ReaderArena>(
     arena: &mut A,

@@ -19,8 +19,9 @@ use capnp_words::error::ErrorKind;
 use capnp_words::wire_pointer::{ElementSize, data_bits_per_element};
 use capnp_words::words;
 
-/// Copies a list of the `count` numbers in the words `elements`, and makes the pointer at `to` lead
-/// to the copy. If the arena refuses memory, no word changes.
+/// Copies a list of `count` numbers of the element size `size`, which are in the words `elements`,
+/// and makes the pointer at `to` lead to the copy. Refuses only if the arena refuses the words;
+/// then no word changes.
 #[inline(always)]
 pub fn copy_flat<A: BuilderArena>(
     arena: &mut A,

@@ -20,7 +20,8 @@ use capnp_words::error::ErrorKind;
 use capnp_words::read_limiter::ReadLimiter;
 use capnp_words::wire_pointer::{ElementSize, StructSize};
 
-/// Copies the list of the `count` pointers from `from` on to the null pointer at `to.place`.
+/// Copies the list of pointers whose elements are the `count` pointers from `from` on. Makes the
+/// null pointer at `to.place` lead to the copy.
 #[cycle(copies)]
 #[inline(always)]
 pub fn copy_pointers<A: BuilderArena, B: ReaderArena>(
@@ -46,8 +47,8 @@ pub fn copy_pointers<A: BuilderArena, B: ReaderArena>(
 }
 
 /// Copies the list of structs `list`, whose first element starts at `from`, to the null pointer at
-/// `to.place`. In canonical form the elements of the copy have the smallest sections that lose only
-/// zeros and null pointers.
+/// `to.place`. In canonical form, the elements of the copy have the smallest sections with which
+/// each element loses only zero words and null pointers.
 #[cycle(copies)]
 #[inline(always)]
 pub fn copy_structs<A: BuilderArena, B: ReaderArena>(
@@ -84,7 +85,8 @@ pub fn copy_structs<A: BuilderArena, B: ReaderArena>(
 }
 
 /// The sections that a copy keeps of each of the `count` structs from `from` on: in plain form all
-/// of `size`, in canonical form the smallest that lose only zeros and null pointers.
+/// of `size`, in canonical form the smallest with which each struct loses only zero words and null
+/// pointers.
 fn kept_widths<B: ReaderArena>(
     from: Pointer<'_, B>,
     size: StructSize,

@@ -21,8 +21,9 @@ use capnp_words::read_limiter::ReadLimiter;
 use capnp_words::wire_pointer::StructSize;
 use capnp_words::words::{part, used_part};
 
-/// Copies the struct whose first word is at `from` to the null pointer at `to.place`. In canonical
-/// form, drops the zeros and null pointers at the ends of the struct's sections.
+/// Copies the struct whose first word is at `from`, with the sections `size`, to the null pointer
+/// at `to.place`. In canonical form, drops the zeros and null pointers at the ends of the struct's
+/// sections.
 #[cycle(copies)]
 #[inline(always)]
 pub(crate) fn copy_struct<A: BuilderArena, B: ReaderArena>(

@@ -27,7 +27,7 @@ pub(crate) enum Wanted {
     List,
 }
 
-/// A copy of the value of another message's root.
+/// A copy to make of the value of another message's root.
 #[derive(Clone, Copy)]
 pub(crate) struct Copying<'a> {
     /// The other message.
@@ -38,7 +38,7 @@ pub(crate) struct Copying<'a> {
     pub(crate) canonicalize: bool,
 }
 
-/// A pointer of another message.
+/// A reader of a pointer in another message.
 pub(crate) type SourceReader<'a> = PointerReader<'a, ReaderArenaImpl<SegmentArray<'a>>>;
 
 /// Returns the root of another message, and the limiter for reading that message, which is already
@@ -56,7 +56,7 @@ pub(crate) fn open_source<'a>(
     Ok((root, lim))
 }
 
-/// Does the copy `copying` to `pointer`.
+/// Makes the copy that `copying` describes, at `pointer`.
 pub(crate) fn copy_root<A: BuilderArena>(
     pointer: &mut PointerBuilder<'_, A>,
     copying: Copying<'_>,

@@ -51,7 +51,8 @@ fn bits_of(list: ExistingList) -> u32
     }
 }
 
-/// Whether the list is inside the message, and has an element `index` of at least the width `size`.
+/// Whether the list is inside the message and has an element `index`, with at least as many bits of
+/// data as `size` has.
 fn has_element<A: BuilderArena>(
     arena: &A,
     list: ExistingList,
@@ -72,7 +73,8 @@ fn has_element<A: BuilderArena>(
         && has_words(arena, list.segment, u64::from(list.start) + words_of(list))
 }
 
-/// Writes `value` into the lowest bits of element `index` of `list`; `size` tells how many bits.
+/// Writes `value` into the lowest bits of element `index` of `list`: into as many bits as an
+/// element of size `size` has.
 fn put_element<A: BuilderArena>(
     list: &mut ListBuilder<'_, A>,
     size: ElementSize,
@@ -95,8 +97,8 @@ fn put_element<A: BuilderArena>(
     }
 }
 
-/// Writes `number` into the lowest bits of an element of the list `found`; refuses if the list has
-/// no such element.
+/// Writes `number` into the lowest bits of an element of the list in `found`. If `found` is a
+/// refusal, returns it; refuses with `NoSuchPlace` if there is no list, or it has no such element.
 fn set_element<A: BuilderArena>(
     arena: &mut A,
     found: Result<Option<ExistingList>, ErrorKind>,
@@ -124,7 +126,8 @@ fn set_element<A: BuilderArena>(
     }
 }
 
-/// Writes byte `index` of the text or data `found`; refuses if there is no such byte.
+/// Writes `value` to byte `index` of the text or data in `found`. If `found` is a refusal, returns
+/// it; refuses with `NoSuchPlace` if there is no such byte.
 fn write_byte<A: BuilderArena>(
     arena: &mut A,
     found: Result<Option<ExistingBytes>, ErrorKind>,
@@ -148,7 +151,8 @@ fn write_byte<A: BuilderArena>(
     }
 }
 
-/// Writes `part` of the list, text or data that the pointer at `place` leads to.
+/// Writes the number or byte of `part` into the list, text or data that the pointer at `place`
+/// leads to.
 pub(crate) fn edit_part<A: BuilderArena>(
     arena: &mut A,
     place: PointerPlace,

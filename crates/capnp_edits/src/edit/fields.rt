@@ -15,8 +15,8 @@ use capnp_words::primitive::Primitive;
 use capnp_words::wire_pointer::ElementSize;
 
 #[tactic(auto, using(crate::proofs::Fields::number_aligned, crate::proofs::Fields::number_written, crate::proofs::Fields::number_outside))]
-/// Writes number `index` of the data section of `parent`, counted in numbers of its width. Refuses
-/// if the number isn't inside the section.
+/// Writes `value` into the data section of `parent`, at index `index`, counted in numbers of the
+/// same width. Refuses with `NoSuchPlace` if that place isn't inside the section.
 fn put_number<A: BuilderArena, T: Primitive + Drop>(
     arena: &mut A,
     parent: ExistingStruct,
@@ -44,7 +44,8 @@ fn put_number<A: BuilderArena, T: Primitive + Drop>(
 }
 
 #[tactic(auto, using(crate::proofs::Fields::bit_written, crate::proofs::Fields::bit_outside))]
-/// Writes bit `index` of the data section of `parent`. Refuses if the bit isn't inside the section.
+/// Writes `value` to bit `index` of the data section of `parent`. Refuses with `NoSuchPlace` if
+/// that bit isn't inside the section.
 fn put_bit<A: BuilderArena>(
     arena: &mut A,
     parent: ExistingStruct,
@@ -65,8 +66,8 @@ fn put_bit<A: BuilderArena>(
     Ok(())
 }
 
-/// Writes `number`, which may be a bit, into the data section of `parent`. Refuses if `number`
-/// isn't inside the section.
+/// Writes `number`, which may be a bit, into the data section of `parent`. Refuses with
+/// `NoSuchPlace` if the place of `number` isn't inside the section.
 pub(crate) fn put_field<A: BuilderArena>(
     arena: &mut A,
     parent: ExistingStruct,

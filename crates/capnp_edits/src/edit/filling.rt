@@ -1,5 +1,5 @@
-//! Edits of a struct: those of its data section, and those that copy the content of another
-//! message's struct.
+//! Edits of a struct: writes to its data section, and copies of the content of another message's
+//! struct.
 ghost use Rattle.std.specs.Prelude.{◌≡◌, ◌+◌, None, true, IsOk, IfErr, IfSome};
 ghost use Rattle.capnp_contents.specs.Existing.{StructLiesIn};
 ghost use Rattle.capnp_readers.specs.Readers.{IsStructPlace};
@@ -23,7 +23,7 @@ use capnp_contents::existing::ExistingStruct;
 use capnp_readers::readers::StructPlace;
 use capnp_words::error::ErrorKind;
 
-/// The place of the struct `parent` of the message; `None` if the struct has no words.
+/// Returns where the struct `parent` is; `None` if the struct has no words.
 fn place_in<A: BuilderArena>(arena: &A, parent: ExistingStruct) -> Option<StructPlace>
     requires { StructLiesIn (A.view arena.now).words parent }
     ensures empty { result ≡ None → parent.size.data_words + parent.size.pointers ≡ 0 }
@@ -40,11 +40,11 @@ fn place_in<A: BuilderArena>(arena: &A, parent: ExistingStruct) -> Option<Struct
 /// Replaces the data and the pointers of the struct `parent` by those of the struct that the root
 /// of `source`, another message, leads to.
 ///
-/// A null root counts as a struct without words: `parent` then has zeros and null pointers. If the
-/// root doesn't lead to a struct, or can't be read, nothing changes. If the copy of a pointer is
-/// refused, the data and the pointers before that one are copied, and that one and those after it
-/// are null. In the clauses, `AtElement parent` is the struct `parent`, whether it is an element of
-/// a list or a pointer leads to it.
+/// A null root counts as a struct without words: afterwards `parent` has only zeros and null
+/// pointers. If the root leads to something else than a struct, or can't be read, refuses and
+/// changes nothing. If the copy of a pointer is refused, the data and the pointers before that one
+/// are copied, and that one and those after it are null. In the contract, `AtElement parent` is the
+/// struct `parent`, whether it is an element of a list or a pointer leads to it.
 pub(crate) fn fill<A: BuilderArena>(
     arena: &mut A,
     parent: ExistingStruct,

@@ -12,7 +12,7 @@ use capnp_arena::arena::BuilderArena;
 use capnp_builders::builders::PointerBuilder;
 use capnp_words::error::ErrorKind;
 
-/// Looks for `sought` at `pointer`, with the call of `PointerBuilder` for it.
+/// Looks for `sought` at `pointer`, by the call of `PointerBuilder` that finds such a value.
 pub(crate) fn look<A: BuilderArena>(
     pointer: &mut PointerBuilder<'_, A>,
     sought: Sought,

@@ -32,7 +32,7 @@ pub(crate) fn has_words<A: BuilderArena>(arena: &A, id: u32, words: u64) -> bool
     }
 }
 
-/// Where pointer `i` of `parent` is; `None` if the struct has no such pointer.
+/// Where pointer `i` of the struct `parent` is; `None` if the struct has no such pointer.
 fn child_of<A: BuilderArena>(arena: &A, parent: ExistingStruct, i: u16) -> Option<PathEnd>
     ensures { IsEndFound (A.view arena.now).words (child_in parent i) result }
 {
@@ -81,7 +81,7 @@ fn element_of<A: BuilderArena>(arena: &A, list: ExistingList, i: u32) -> Option<
     }
 }
 
-/// Where `step` leads from `here`; `None` if nowhere.
+/// Where `step` leads from `here`; `None` if it leads nowhere.
 fn step_from<A: BuilderArena>(arena: &A, here: PathEnd, step: Step) -> Option<PathEnd>
     ensures steps { Steps (A.view arena.now).words here (step_of step) result }
     ensures inside { IfSome result (EndLiesIn (A.view arena.now).words) }
@@ -104,7 +104,8 @@ fn step_from<A: BuilderArena>(arena: &A, here: PathEnd, step: Step) -> Option<Pa
     }
 }
 
-/// Where `path` leads from the root; `None` if nowhere.
+/// Where `path` leads from the root pointer; `None` if it leads nowhere. Precondition: the first
+/// segment has at least one word: its first word is the root pointer.
 pub(crate) fn find<A: BuilderArena>(arena: &A, path: &[Step]) -> Option<PathEnd>
     requires { IsPlace (A.view arena.now).words 0 0 }
     ensures found { (t : Tree) → IsStored (A.view arena.now).words 0 0 t

@@ -20,7 +20,7 @@ use capnp_readers::readers::PointerPlace;
 use capnp_words::error::ErrorKind;
 use capnp_words::wire_pointer::ElementSize;
 
-/// The outcome without its value.
+/// Returns `outcome` without its value.
 pub(crate) fn done<T: Drop>(outcome: Result<T, ErrorKind>) -> Result<(), ErrorKind>
     ensures { refusal_of result ≡ refusal_of outcome }
 {
@@ -47,7 +47,8 @@ fn make<A: BuilderArena>(
     }
 }
 
-/// Makes `pointer` the capability with the index `capability`, or null if `capability` is `None`.
+/// Makes `pointer` lead to the capability with the index `capability`; if `capability` is `None`,
+/// makes `pointer` null.
 fn point<A: BuilderArena>(pointer: &mut PointerBuilder<'_, A>, capability: Option<u32>)
     requires { IsThere (built A.view pointer.old) }
     ensures { IsDoneBy A.view pointer.old pointer.new (Point capability) None }

@@ -39,21 +39,21 @@ pub(crate) struct Number {
 /// A change of a struct, at a pointer that leads to one or at an element of a list.
 #[derive(Clone, Copy)]
 pub(crate) enum StructChange<'a> {
-    /// Write a number of the struct's data section.
+    /// Write a number into the struct's data section.
     Bits(Number),
     /// Replace the struct's content by that of another struct, to which another message's root
     /// leads.
     Content(Source<'a>),
 }
 
-/// A part of a list, a text or data.
+/// A number or a byte to write, and where in a list, a text or data.
 #[derive(Clone, Copy)]
 pub(crate) enum Part {
-    /// The lowest bits of an element of a list.
+    /// Into the lowest bits of an element of a list: this number.
     ListElement(Number),
-    /// A byte of a text, by its index.
+    /// At this index of a text: this byte.
     TextByte(u32, u8),
-    /// A byte of data, by its index.
+    /// At this index of data: this byte.
     DataByte(u32, u8),
 }
 
@@ -72,16 +72,16 @@ pub(crate) enum Sought {
     Data,
 }
 
-/// An operation, by what it does. Its numbers are in range.
+/// An operation, by what it does. Its numbers are in range if `task_of` returned it.
 #[derive(Clone, Copy)]
 pub(crate) enum Task<'a> {
     /// Make the pointer lead to a new object.
     Make(NewObject<'a>),
-    /// Make the pointer the capability with this index, or null.
+    /// Make the pointer lead to the capability with this index; for `None`, make it null.
     Point(Option<u32>),
     /// Change a struct.
     InStruct(StructChange<'a>),
-    /// Write a part of a list, a text or data.
+    /// Write a number into a list, or a byte into a text or data.
     Write(Part),
     /// Look for something, with a default.
     Search(Sought, Option<&'a [u8]>),
@@ -119,7 +119,8 @@ fn is_small_default(default: Option<&[u8]>) -> bool
     }
 }
 
-/// Whether a pointer can lead to an object as large as `object`.
+/// Whether a pointer can lead to an object as large as `object`, and a `ZeroList` isn't one of
+/// structs.
 fn is_object(object: NewObject<'_>) -> bool
     ensures { result ≡ is_in_range (Make object.entry) }
 {
@@ -138,7 +139,8 @@ fn is_object(object: NewObject<'_>) -> bool
     }
 }
 
-/// Whether `sought` can be looked for with `default`.
+/// Whether there is no default, or it has fewer words than `DEFAULT_LIMIT`; and `sought` isn't a
+/// `List` of structs.
 fn is_search(sought: Sought, default: Option<&[u8]>) -> bool
     ensures { result ≡ is_in_range (Search sought default.entry) }
 {
@@ -151,7 +153,8 @@ fn is_search(sought: Sought, default: Option<&[u8]>) -> bool
 }
 
 /// Whether the numbers of `task` are in range: a pointer can lead to an object as large as the one
-/// to make, a number to write fits its width, and a default has fewer words than `DEFAULT_LIMIT`.
+/// to make, a number to write fits its width, a default has fewer words than `DEFAULT_LIMIT`, and a
+/// `ZeroList` or a `List` isn't one of structs.
 fn is_in_range(task: Task<'_>) -> bool
     ensures { result ≡ is_in_range task.entry }
 {
@@ -221,8 +224,8 @@ fn as_task(op: Op<'_>) -> Task<'_>
     }
 }
 
-/// The task of the operation `op`; `None` if its numbers aren't in range. `Op::SetField` doesn't
-/// write bits, for which there is `Op::SetBool`.
+/// The task of the operation `op`; `None` if its numbers aren't in range, or if it is an
+/// `Op::SetField` of a bit, for which there is `Op::SetBool`.
 pub(crate) fn task_of(op: Op<'_>) -> Option<Task<'_>>
     ensures { result ≡ task_of op.entry }
 {

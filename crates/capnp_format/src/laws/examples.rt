@@ -1,4 +1,4 @@
-//! Worked examples of the definitions, which the checker computes. A word is written in
+//! Worked examples of the definitions; the checker computes each example. A word is written in
 //! hexadecimal: its upper half, then its lower half. In a message's bytes the lower half comes
 //! first, and the lowest byte of each half comes first. Messages and values used in several
 //! examples have names in `specs/Examples.antt`.
@@ -15,7 +15,8 @@ ghost use Rattle.capnp_format.specs.Forest.{times, cover, root, IsTidy, IsForest
 ghost use Rattle.capnp_format.specs.Bytes.{words_of, message};
 ghost use Rattle.capnp_format.specs.Examples.{HasCanonicalWords, MeansNothing, trimmed_struct, far_pointer, double_far, shared_child, mixed, pair};
 
-/// What the definitions result in for worked messages, values and words. The checker computes each.
+/// What the definitions result in for example messages, values and words. The checker computes each
+/// result.
 #[tactic(none)]
 pub fn worked_examples()
     // What messages mean, at which cost, and their canonical words.

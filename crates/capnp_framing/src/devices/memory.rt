@@ -14,7 +14,7 @@ pub struct MemoryInput<'a> {
 }
 
 impl<'a> MemoryInput<'a> {
-    /// The input of these bytes.
+    /// Makes an input that reads `bytes`.
     pub fn new(bytes: &'a [u8]) -> Self
         ensures { result.bytes.now ≡ bytes.now }
     {
@@ -44,7 +44,7 @@ impl Input for MemoryInput<'_> {
     }
 }
 
-/// Appends the bytes that are written to it, in memory. A write takes all of its bytes, and fails
+/// Collects in memory the bytes that are written to it. A write takes all of its bytes, and fails
 /// only if there is no memory for them.
 #[derive(Drop)]
 pub struct MemoryOutput {
@@ -53,7 +53,7 @@ pub struct MemoryOutput {
 }
 
 impl MemoryOutput {
-    /// An empty output.
+    /// Makes an output without bytes.
     pub fn new(alloc: Global) -> Self
         ensures empty { result.bytes.items ≡ [] }
         ensures works { result.failed ≡ false }

@@ -1,4 +1,4 @@
-//! The standard library's readers and writers.
+//! Inputs and outputs over the standard library's readers and writers.
 ghost use Rattle.std.specs.Prelude.{◌≡◌, true, false, Some, IsErr, OnOk, OnErr};
 ghost use Rattle.std.specs.Io.KnownBytes.{Keeps};
 ghost use Rattle.capnp_framing.specs.Devices.{ReadGives};
@@ -6,8 +6,8 @@ ghost use Rattle.capnp_framing.specs.Devices.{ReadGives};
 use super::{DeviceFault, Input, Output};
 use std::io::{Read, Write};
 
-/// The bytes of a reader. An error of the reader becomes a `DeviceFault`, without its reason; after
-/// an error, the reader isn't read any more.
+/// Reads the bytes of a reader. An error of the reader becomes a `DeviceFault`, without its reason;
+/// after an error, the reader isn't read any more.
 #[derive(Drop)]
 pub struct ReaderInput<R> {
     reader: R,
@@ -15,7 +15,7 @@ pub struct ReaderInput<R> {
 }
 
 impl<R: Read> ReaderInput<R> {
-    /// The input of a reader that hasn't failed.
+    /// Makes an input that reads from `reader`, and that hasn't failed yet.
     pub fn new(reader: R) -> Self
         ensures reader { result.reader ≡ reader }
         ensures works { result.failed ≡ false }
@@ -64,7 +64,7 @@ pub struct WriterOutput<W> {
 }
 
 impl<W: Write> WriterOutput<W> {
-    /// The output to a writer that hasn't failed.
+    /// Makes an output that writes to `writer`, and that hasn't failed yet.
     pub fn new(writer: W) -> Self
         ensures writer { result.writer ≡ writer }
         ensures works { result.failed ≡ false }

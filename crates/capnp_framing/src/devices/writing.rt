@@ -1,4 +1,4 @@
-//! Writes all of some bytes to an output.
+//! Writes bytes to an output, until all of them are written.
 ghost use Rattle.std.specs.Prelude.{◌≡◌, false};
 ghost use Rattle.capnp_framing.specs.Writing.{Writes};
 

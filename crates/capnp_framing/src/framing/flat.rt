@@ -12,10 +12,10 @@ use super::frame_error::FrameError;
 use super::reading::{number_at, words_between};
 use capnp_arena::arena::ReaderSegments;
 
-/// The position of every `STEP`th segment is stored; the others are counted from these.
+/// The position of every `STEP`th segment is stored; those of the others are computed from these.
 const STEP: usize = 32;
 
-/// The number of positions stored.
+/// The number of positions that are stored.
 const STARTS: usize = MAX_SEGMENTS / STEP;
 
 /// The segments of a message, in the memory of its frame.
@@ -37,8 +37,8 @@ pub struct FrameSegments<'a> {
     ghost sized: { size ≡ table_size count + 8 * words_told count table.now },
 }
 
-/// From the `count` sizes in `table`: the number of words before every 32nd segment, and the number
-/// of all words.
+/// Computes, from the `count` sizes in `table`, the number of words before every 32nd segment, and
+/// the number of all words.
 fn starts_of(table: &[u8], count: usize) -> ([u64; STARTS], u64)
     requires inside { 4 * count ≤ length table.now }
     requires few { count ≤ 512 }
@@ -63,7 +63,8 @@ impl FrameSegments<'_> {
         self.size
     }
 
-    /// The number of words before segment `id`, counted from the nearest position in `starts`.
+    /// Returns the number of words before segment `id`, computed from the nearest position in
+    /// `starts`.
     fn words_before(&self, id: usize) -> u64
         requires { id < self.now.count }
         ensures { result ≡ words_told id self.now.table.now }
@@ -99,7 +100,8 @@ impl ReaderSegments for FrameSegments<'_> {
 /// Reads a message in place from the front of `bytes`: copies nothing, and takes no memory. Ignores
 /// the bytes after the message. Returns `None` if `bytes` is empty.
 ///
-/// Refuses what `read` refuses, in the same order. `ReadFailed` and `AllocationFailed` can't occur.
+/// Refuses what `read` refuses, with the same errors in the same order, except that `ReadFailed`
+/// and `AllocationFailed` can't occur.
 pub fn read_from_flat_slice(
     bytes: &[u8],
     max_words: u64,

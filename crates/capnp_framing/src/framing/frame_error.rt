@@ -5,11 +5,11 @@ ghost use Rattle.capnp_framing.specs.Names.{frame_error_name, frame_error_text};
 use std::fmt;
 use thiserror::Error;
 
-/// The refusal of a call. `{}` writes the variant's name, followed by its number in parentheses, if
-/// it has one.
+/// Why a frame wasn't read or written. `{}` writes the variant's name, followed by its number in
+/// parentheses, if it has one.
 #[derive(Clone, Copy, Debug, PartialEq, Eq, Error)]
 pub enum FrameError {
-    /// A message without segments has no frame.
+    /// The message has no segments. Such a message has no frame.
     NoSegments,
     /// The message has more than 512 segments. Carries their number.
     TooManySegments(u64),

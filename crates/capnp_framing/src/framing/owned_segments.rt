@@ -26,7 +26,7 @@ pub struct OwnedSegments {
 }
 
 impl OwnedSegments {
-    /// No segments. Takes no memory.
+    /// Makes a value without segments. Takes no memory.
     pub fn new(alloc: Global) -> Self
         ensures none { ⟦<Self as ReaderSegments>⟧.segments result ≡ [] }
     {
@@ -46,7 +46,8 @@ impl OwnedSegments {
         self.ends.as_slice()[id]
     }
 
-    /// The number of words before segment `id`; in all segments, if `id` is their number.
+    /// The number of words before segment `id`; if `id` is the number of segments, the number of
+    /// words in all segments.
     fn words_before(&self, id: usize) -> usize
         requires { id ≤ self.now.count }
         ensures { result ≡ words_told id self.now.table.items }

@@ -16,8 +16,8 @@ use crate::devices::{DeviceFault, Input};
 use capnp_arena::arena::{Allocator, HeapAllocator, ReaderSegments};
 use std::alloc::{AllocError, Global};
 
-/// The most bytes that memory grows by before bytes arrive to fill it. A table may announce more
-/// words than follow it, so the table isn't trusted further.
+/// The most bytes by which memory grows before more bytes arrive. A table may announce more words
+/// than follow it, so it isn't trusted for more memory than this.
 const PIECE: usize = 1 << 18;
 
 /// Reads until `to` is full or the input ends, and returns the number of bytes read.
@@ -42,8 +42,9 @@ pub(super) fn read_up_to<R: Input>(input: &mut R, to: &mut [u8]) -> Result<usize
     Ok(n)
 }
 
-/// If `to` has no bytes after the first `n`, grows `to` by some bytes, at most `more`. Takes memory
-/// from the heap; asks the allocator only if the heap refuses.
+/// If `to` has no bytes after the first `n`, grows `to` by `more` bytes, or by `PIECE` bytes if
+/// that is fewer. Takes their memory from the heap. If the heap has none, grows `to` like
+/// `make_some_room`.
 pub(super) fn make_room<A: Allocator>(
     allocator: &mut A,
     to: &mut Vec<u8>,
@@ -67,7 +68,7 @@ pub(super) fn make_room<A: Allocator>(
 }
 
 /// Grows `to` by one byte or more, and leaves its first `n` bytes unchanged. If there is no memory
-/// for one byte, refuses with `AllocationFailed`, which the allocator counts.
+/// for one byte, refuses with `AllocationFailed`, and the allocator adds 1 to its count `refused`.
 #[cold]
 #[inline(never)]
 fn make_some_room<A: Allocator>(
@@ -165,7 +166,7 @@ fn read_front<A: Allocator, R: Input>(
     Ok(())
 }
 
-/// The number in the four bytes at `at`.
+/// Returns the number in the four bytes of `table` from position `at` on, the lowest byte first.
 pub(super) fn number_at(table: &[u8], at: usize) -> u32
     requires { at + 4 ≤ length table.now }
     ensures { result ≡ from_le_bytes w32 (take 4 (drop at table.now)) }
@@ -173,7 +174,8 @@ pub(super) fn number_at(table: &[u8], at: usize) -> u32
     u32::from_le_bytes([table[at], table[at + 1], table[at + 2], table[at + 3]])
 }
 
-/// The total number of words of the segments from `first` up to `end`, by their sizes in `table`.
+/// Returns the total number of words of the segments from `first` up to, but not including, `end`,
+/// by their sizes in `table`.
 pub(super) fn words_between(table: &[u8], first: usize, end: usize) -> u64
     requires inside { 4 * end ≤ length table.now }
     requires few { end ≤ 512 }
@@ -188,7 +190,7 @@ pub(super) fn words_between(table: &[u8], first: usize, end: usize) -> u64
     words
 }
 
-/// For each of the `count` segments with sizes in `table`, stores in `ends` the number of words up
+/// Stores in `ends`, for each of the `count` segments with sizes in `table`, the number of words up
 /// to the segment's end. Returns the number of all words.
 fn ends_of<A: Allocator>(
     allocator: &mut A,
@@ -214,7 +216,7 @@ fn ends_of<A: Allocator>(
     Ok(sum)
 }
 
-/// States in its contract that each byte is below 256. Does nothing.
+/// Does nothing; its contract states that each byte is below 256.
 fn are_bytes(bytes: &[u8])
     ensures { (i : ℕ) → slice_index bytes.now i < 256 }
 {}
@@ -250,23 +252,26 @@ fn read_count<R: Input>(input: &mut R, first: &mut [u8; 4]) -> Result<Option<usi
 }
 
 /// Reads a message from the front of `input` into `into`, whose memory is reused, and leaves what
-/// follows the message unread. Returns `false` if the input is at its end; `into` has no segments
-/// then.
+/// follows the message unread. Returns `true` if a message was read. Returns `false` if the input
+/// is at its end; `into` has no segments then.
 ///
-/// Refusals, in this order: `Truncated` if there are fewer than four bytes; `TooManySegments`, with
-/// their number, if there are more than 512; `Truncated` if the table is cut short, padding
-/// included; `MessageTooLong`, with the number of words, if there are more than `max_words`;
+/// Refusals, in this order: `Truncated` if there are fewer than four bytes; `TooManySegments(n)` if
+/// there are n segments, and n is above 512; `Truncated` if the table is cut short, padding
+/// included; `MessageTooLong(n)` if the segments have n words, and n is above `max_words`;
 /// `Truncated` if the words are cut short. Also `ReadFailed` exactly if the input failed; and
 /// `AllocationFailed` if memory ran out.
 ///
-/// What has been read after a refusal: for `TooManySegments`, the four bytes of the number; for
-/// `MessageTooLong`, the table; for `Truncated`, all of the input; for all other refusals, this is
-/// unspecified. Which segments `into` has after a refusal is unspecified, too.
+/// What has been read after a refusal: for `TooManySegments`, the four bytes of the number of
+/// segments; for `MessageTooLong`, the table; for `Truncated`, all of the input; for all other
+/// refusals, this is unspecified. Which segments `into` has after a refusal is unspecified, too.
 ///
 /// The memory taken grows with the bytes that arrive, not with those that the table announces.
-/// Takes memory only for a message with more segments or more words than each read into `into`
-/// before. The memory comes from the heap; the allocator is asked only if the heap refuses. The
-/// allocator's `refused` grows by 1 for an `AllocationFailed`, and otherwise not.
+/// Takes memory only if the message has more segments, or more words, than each message that was
+/// read into `into` before. Memory for the bytes read comes from the heap; only if the heap has
+/// none, it is requested from `allocator`. So a limit of the allocator doesn't limit this memory.
+/// Memory for the list of the segments' ends is always requested from `allocator`. If the refusal
+/// is `AllocationFailed`, adds 1 to the allocator's count `refused`; otherwise leaves this count
+/// unchanged.
 pub fn read_into_with<A: Allocator, R: Input>(
     allocator: &mut A,
     input: &mut R,

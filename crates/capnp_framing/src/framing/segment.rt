@@ -15,11 +15,11 @@ use super::reading::{make_room, read_between};
 use crate::devices::{DeviceFault, Input};
 use capnp_arena::arena::{Allocator, HeapAllocator, ReaderSegments};
 
-/// The most words that a segment can have.
+/// The most words that a segment table can state for a segment.
 const MAX_WORDS: u64 = (1 << 32) - 1;
 
-/// How many bytes of memory to take before any byte arrives. After that, memory grows by as many
-/// bytes as have arrived.
+/// The most bytes by which memory grows before any byte arrives. After that, memory grows each time
+/// by at most as many bytes as have arrived, or by this number if that is more.
 const FIRST_PIECE: usize = 1 << 12;
 
 /// Reads to the front of `to`, which grows as bytes arrive, until `most` bytes are read or the
@@ -60,7 +60,7 @@ fn read_to_end<A: Allocator, R: Input>(
 }
 
 /// Appends `bytes` to `list`. If there is no memory for a byte, refuses with `AllocationFailed`,
-/// which the allocator counts.
+/// and the allocator adds 1 to its count `refused`.
 fn keep_bytes<A: Allocator>(
     allocator: &mut A,
     list: &mut Vec<u8>,
@@ -77,8 +77,8 @@ fn keep_bytes<A: Allocator>(
     Ok(())
 }
 
-/// For a message whose only segment has `words` words, stores the table in `table`, and the
-/// segment's end in `ends`.
+/// Replaces the contents of `table` and `ends` by those for a message whose only segment has
+/// `words` words: the segment's size, and the number of words up to its end.
 fn tell_only<A: Allocator>(
     allocator: &mut A,
     words: u32,
@@ -102,16 +102,18 @@ fn tell_only<A: Allocator>(
 /// Reads all of `input` as the words of a message's only segment into `into`, whose memory is
 /// reused. From an input without bytes, reads a segment of no words.
 ///
-/// Refusals: `MessageTooLong` if there are more than `max_words` words, or more than 2^32 - 1, the
-/// most that a segment can have. It carries the number of the first word too many, counted from 1;
-/// no word after that one is read. `Truncated` if the bytes end inside a word. `ReadFailed` exactly
-/// if the input failed. `AllocationFailed` if memory ran out. After a refusal `into` has no
-/// segments.
+/// Refusals: `MessageTooLong(n)` if there are more than `max_words` words, or more than 2^32 - 1,
+/// the most that a segment can have. Here n is the number of the first word that is too many,
+/// counted from 1; no word after that one is read. `Truncated` if the bytes end inside a word.
+/// `ReadFailed` exactly if the input failed. `AllocationFailed` if memory ran out. After a refusal
+/// `into` has no segments.
 ///
 /// The memory taken grows with the bytes that arrive, to at most twice as many bytes, or 4 KiB if
-/// that is more. Takes memory only for a message with more words than each that this call read into
-/// `into` before. The allocator's `refused` grows by 1 for an `AllocationFailed`, and otherwise
-/// not.
+/// that is more. Takes memory only if the message has more words than each message that this call
+/// read into `into` before. Memory for the bytes read comes from the heap; only if the heap has
+/// none, it is requested from `allocator`. Memory for the segment's size and end is always
+/// requested from `allocator`. If the refusal is `AllocationFailed`, adds 1 to the allocator's
+/// count `refused`; otherwise leaves this count unchanged.
 pub fn read_segment_into_with<A: Allocator, R: Input>(
     allocator: &mut A,
     input: &mut R,

@@ -16,7 +16,7 @@ use crate::devices::{DeviceFault, Output, write_all};
 use capnp_arena::arena::ReaderSegments;
 use capnp_words::words::{count, part};
 
-/// The whole words of segment `id`; none if there is no such segment.
+/// Returns the whole words of segment `id`; no bytes if there is no such segment.
 fn words_in<S: ReaderSegments>(segments: &S, id: u32) -> &[u8]
     requires small { IsSmall (S.segments segments.now) }
     ensures words { words_of result.now ≡ segment (message (S.segments segments.now)) id }
@@ -29,7 +29,7 @@ fn words_in<S: ReaderSegments>(segments: &S, id: u32) -> &[u8]
     }
 }
 
-/// Writes `number` in four bytes at `at`, the lowest first.
+/// Writes `number` to the four bytes of `to` from position `at` on, the lowest byte first.
 fn put_number(to: &mut [u8], at: usize, number: u32)
     requires { at + 4 ≤ length to.old }
     ensures { to.new ≡ put_mid at 4 to.old (to_le_bytes w32 number) }
@@ -37,7 +37,8 @@ fn put_number(to: &mut [u8], at: usize, number: u32)
     to[at..at + 4].copy_from_slice(number.to_le_bytes().as_slice());
 }
 
-/// The bytes of `first`, then those of `second`; the lowest byte of each number comes first.
+/// Returns the bytes of `first`, then those of `second`; the lowest byte of each number comes
+/// first.
 fn two_numbers(first: u32, second: u32) -> [u8; 8]
     ensures { result ≡ to_le_bytes w32 first ++ to_le_bytes w32 second }
 {
@@ -82,7 +83,7 @@ fn write_table<W: Output, S: ReaderSegments>(
     Ok(())
 }
 
-/// Writes whole words.
+/// Writes `words`. Precondition: these are whole words.
 fn write_words<W: Output>(output: &mut W, words: &[u8]) -> Result<(), DeviceFault>
     requires works { W.has_failed output.old ≡ false }
     requires whole { length words.now ≡ 8 * length (words_of words.now) }
@@ -113,8 +114,8 @@ fn write_contents<W: Output, S: ReaderSegments>(
 /// Writes a message as a frame: a table of its segments' sizes, with zero padding, and then the
 /// words of each segment. Bytes after a segment's last whole word aren't written. Takes no memory.
 ///
-/// Refusals: `NoSegments` if there are no segments; `TooManySegments`, with their number, if there
-/// are more than 512. After these two refusals, nothing is written. `WriteFailed` if the output
+/// Refusals: `NoSegments` if there are no segments; `TooManySegments(n)` if there are n segments,
+/// and n is above 512. After these two refusals, nothing is written. `WriteFailed` if the output
 /// failed; after it, how much is written is unspecified.
 pub fn write<W: Output, S: ReaderSegments>(output: &mut W, segments: &S) -> Result<(), FrameError>
     requires works { W.has_failed output.old ≡ false }

@@ -1,5 +1,5 @@
-//! The root of a message, and canonical copies of a pointer's value: the calls of `capnp_messages`,
-//! for readers of pointers.
+//! Reads the root of a message, and makes canonical copies of a pointer's value: calls of
+//! `capnp_messages` on a `Pointer`, here on a `PointerReader`.
 ghost use Rattle.std.specs.Prelude.{◌≡◌, ◌⊎◌, ◌∷◌, [], ◌↔◌, false, true, IsOk, OnOk, IfOk, OnErr, IfErr};
 ghost use Rattle.capnp_words.specs.Meter.{spent};
 ghost use Rattle.capnp_words.specs.declared.error.ErrorKind.{ErrorKind};
@@ -33,7 +33,7 @@ use capnp_words::read_limiter::ReadLimiter;
 use std::alloc::Global;
 
 /// Returns a reader of a message's root pointer, and charges `lim` the pointer's word. Like
-/// `PointerReader::get_root_from_arena`, but any type may hold the segments.
+/// `PointerReader::get_root_from_arena`, for an arena over segments of any type `S`.
 ///
 /// Refusals, which charge nothing: `InvalidSegmentId(0)` if there are no segments;
 /// `MessageContainsOutOfBoundsPointer` if the first segment has no word; `ReadLimitExceeded` if
@@ -55,16 +55,18 @@ pub fn read_root<'a, S: ReaderSegments>(
     Ok(PointerReader::of_pointer(messages::read_root(arena, lim)?))
 }
 
-/// Copies the value of `from` in canonical form (encoding specification, "Canonicalization") into a
-/// message of one segment, which `allocator` grants. If refused, returns the allocator, and leaves
+/// Makes a canonical copy (encoding specification, "Canonicalization") of the value of `from`: a
+/// message of one segment, which `allocator` grants. A refusal returns the allocator, and leaves
 /// `lim` unchanged.
 ///
 /// Finds the size of the segment by tries. The first try requests one word more than the source
-/// message has, and each further try twice as many words as the try before. However many tries
-/// there are, `lim` is charged for one copy, and counts each non-null pointer once.
+/// message has, and each further try twice as many words as the try before, but none more than
+/// 536,870,911 words. However many tries there are, `lim` is charged for one copy, and counts each
+/// non-null pointer once.
 ///
-/// Refusals: the first one met while reading `from`; `MessageTooLarge(536870911)` if the copy has
-/// more than 536,870,911 words; `AllocationFailed`, which the allocator counts, if memory ran out.
+/// Refusals: the first refusal of reading the value of `from`; `MessageTooLarge(536870911)` if the
+/// copy has more than 536,870,911 words; `AllocationFailed`, which the allocator counts, if memory
+/// ran out.
 pub fn copy_canonical_with<A: Allocator, B: ReaderArena>(
     alloc: Global,
     allocator: A,
@@ -85,8 +87,8 @@ pub fn copy_canonical_with<A: Allocator, B: ReaderArena>(
     messages::copy_canonical_with(alloc, allocator, from.pointer(), lim)
 }
 
-/// Like `copy_canonical_with`, with memory from the heap: exactly as many words as each try
-/// requests.
+/// Like `copy_canonical_with`, but with memory from the heap. The segment of each try has exactly
+/// as many words as the try requests.
 pub fn copy_canonical<B: ReaderArena>(
     alloc: Global,
     from: PointerReader<'_, B>,
@@ -110,10 +112,9 @@ pub fn copy_canonical<B: ReaderArena>(
 /// Copies the value first, like `copy_canonical`. `lim` is charged for one copy, and counts each
 /// non-null pointer once, even if a segment was too small and the copy was made again.
 ///
-/// Refusals: `Layout` if the value can't be copied, with `MessageTooLarge(536870911)` inside if the
-/// copy has more than 536,870,911 words. After `Layout`, nothing is written, and `lim` is
-/// unchanged. `Frame` if the output fails. After `Frame`, `lim` is charged for the copy, and how
-/// much the output took is unspecified.
+/// Refusals: `Layout`, with the refusal of `copy_canonical`, if the value can't be copied; `Frame`
+/// if the output fails. After `Layout`, nothing has been written, and `lim` is unchanged. After
+/// `Frame`, `lim` has been charged for the copy, and how many bytes were written is unspecified.
 pub fn write_canonical<W: Output, B: ReaderArena>(
     alloc: Global,
     output: &mut W,

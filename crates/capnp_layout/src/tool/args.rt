@@ -8,7 +8,7 @@ ghost use Rattle.capnp_arena.specs.declared.arena.reader_arena_impl.ReaderOption
 use capnp_arena::arena::ReaderOptions;
 use capnp_messages::text::{parse_budget, parse_nesting};
 
-/// What the program is asked to do.
+/// What the program has to do.
 #[derive(Clone, Copy)]
 pub enum Args {
     /// Write the canonical words of a message ("Canonicalization"), read within these limits.
@@ -55,7 +55,7 @@ pub fn parse_args(args: &[String]) -> Option<Args>
     }
 }
 
-/// What a command without limits asks for; `None` if there is no such command.
+/// Returns what a command without limits asks for; `None` if there is no such command.
 fn without_limits(command: &str) -> Option<Args>
     ensures read { IfSome result (IsNamedAlone command.now) }
     ensures none { IsNone result → (a : Args) → IsNamedAlone command.now a → ⊥ }
@@ -69,7 +69,7 @@ fn without_limits(command: &str) -> Option<Args>
     }
 }
 
-/// What a command with limits asks for; `None` if there is no such command.
+/// Returns what a command with limits asks for; `None` if there is no such command.
 fn within_limits(command: &str, options: ReaderOptions) -> Option<Args>
     ensures read { IfSome result (IsNamed command.now options) }
     ensures none { IsNone result → (a : Args) (limits : ReaderOptions)

@@ -1,4 +1,4 @@
-//! The canonical words of a message (encoding specification, "Canonicalization").
+//! Finds the canonical words of a message (encoding specification, "Canonicalization").
 ghost use Rattle.std.specs.Prelude.{◌≡◌, OnOk, IfOk, IfErr};
 ghost use Rattle.capnp_format.specs.Bytes.{message};
 ghost use Rattle.capnp_format.specs.Tree.{Tree};
@@ -17,8 +17,8 @@ use capnp_messages::messages::canonical_with;
 use capnp_words::error::ErrorKind;
 use std::alloc::Global;
 
-/// Copies the value of a message's root in canonical form into a message of one segment. If
-/// refused, returns the allocator.
+/// Makes a canonical copy of the value of the root of `source`: a message of one segment. A refusal
+/// returns the allocator.
 pub(crate) fn canonical<A: Allocator>(
     alloc: Global,
     allocator: A,

@@ -1,4 +1,4 @@
-//! Whether a message is in canonical form.
+//! Tests whether a message is in canonical form.
 ghost use Rattle.std.specs.Prelude.{true, IsOk, IfOk, OnOk, IfErr};
 ghost use Rattle.capnp_format.specs.Bytes.{message};
 ghost use Rattle.capnp_arena_traits.specs.Limits.{IsSmall};

@@ -1,4 +1,4 @@
-//! One run of the program: reads an input, and writes the answer to a command. Titles in quotes are
+//! Runs the program once: reads an input, and writes the answer to a command. Titles in quotes are
 //! sections of the encoding specification.
 ghost use Rattle.std.specs.Prelude.{◌≡◌, ◌≢◌, ◌⊎◌, ◌++◌, ℕ, List, true, false, None, IfSome, OnOk, OnErr, IfOk, IfErr};
 ghost use Rattle.capnp_arena_traits.specs.Allocations.{one_more};
@@ -39,11 +39,11 @@ pub enum Outcome {
     /// A line isn't pairs of hex digits, there are more lines than the command takes, or the input
     /// failed. Nothing is written.
     BadInput,
-    /// The output failed. How much of a line was written is unspecified.
+    /// The output failed. How many bytes of the answer were written is unspecified.
     WriteFailed,
 }
 
-/// Reads a message, one line of hex digits for each segment.
+/// Reads a message from `input`, which has one line of hex digits for each segment.
 fn read_message<A: Allocator, R: Input>(
     alloc: Global,
     allocator: &mut A,
@@ -72,7 +72,8 @@ pub(super) fn ended(written: Result<(), DeviceFault>, outcome: Outcome) -> Outco
     }
 }
 
-/// Writes the line of a refusal.
+/// Writes the line `refused NAME`. Returns `Refused` if it is written, and `WriteFailed` if the
+/// output fails.
 pub(super) fn refuse<W: Output>(output: &mut W, refusal: Refusal) -> Outcome
     requires { W.has_failed output.old ≡ false }
     ensures either { (result ≡ Outcome.Refused) ⊎ (result ≡ Outcome.WriteFailed) }
@@ -84,8 +85,8 @@ pub(super) fn refuse<W: Output>(output: &mut W, refusal: Refusal) -> Outcome
     ended(write_refusal(output, refusal), Outcome::Refused)
 }
 
-/// Writes the line of a message's canonical words, in a frame or without one, by `form`; or the
-/// line of the refusal.
+/// Writes the line of the canonical words of `source`, in a frame or without one, depending on
+/// `form`; or the line of the refusal.
 fn canon<A: Allocator, W: Output>(
     alloc: Global,
     allocator: A,
@@ -136,7 +137,8 @@ fn size<W: Output>(source: Message, options: ReaderOptions, output: &mut W) -> O
     }
 }
 
-/// Writes what the command prints for the lines of an input, or the line of its refusal.
+/// Writes what the command in `args` prints for `lines`, the lines of an input, or the line of the
+/// command's refusal.
 fn respond<A: Allocator, W: Output>(
     alloc: Global,
     allocator: A,
@@ -166,9 +168,9 @@ fn respond<A: Allocator, W: Output>(
     }
 }
 
-/// Reads lines from an input, and writes the answer to a command, or a line with `refused` and the
-/// name of the refusal. `allocator` grants the segments of copies. Its `keep` appends what is read
-/// to lists.
+/// Reads lines from `input`, and writes to `output` the answer to the command in `args`, or a line
+/// with `refused` and the name of the refusal. `allocator` grants the segments of copies. Its
+/// `keep` appends the bytes that were read to lists, and may refuse memory for them.
 ///
 /// The answers are, by command:
 ///
@@ -183,9 +185,9 @@ fn respond<A: Allocator, W: Output>(
 /// - `Unframe`: a line for each segment of the message in the frame at the start of the only line.
 /// - `FramedCheck`: `canonical message` or `not a canonical message`.
 ///
-/// Only `Canon` and `FramedCanon` take memory other than for the input. If a read fails, the
-/// outcome is always `BadInput`. The refusal `AllocationFailed` means that memory ran out, which
-/// the allocator has counted.
+/// The run takes memory for the input, and with `Canon` or `FramedCanon` also for the copy. If a
+/// read fails, the outcome is always `BadInput`. The refusal `AllocationFailed` means that memory
+/// ran out, and the allocator has counted this refusal.
 pub fn run_with<A: Allocator, R: Input, W: Output>(
     alloc: Global,
     allocator: A,
@@ -230,8 +232,8 @@ pub fn run_with<A: Allocator, R: Input, W: Output>(
     }
 }
 
-/// Reads lines from an input, and writes the answer to a command, or a line with `refused` and the
-/// name of the refusal.
+/// Reads lines from `input`, and writes to `output` the answer to the command in `args`, or a line
+/// with `refused` and the name of the refusal.
 ///
 /// A line of the input is a segment, in pairs of hex digits in either case. An input without bytes
 /// has no segments. The root pointer costs one word of the traversal limit. The answers are, by
@@ -251,15 +253,16 @@ pub fn run_with<A: Allocator, R: Input, W: Output>(
 /// - `FramedCheck`: `canonical message` if the message in the frame at the start of the only line
 ///   is the canonical words of a value and nothing else, otherwise `not a canonical message`.
 ///
-/// `Unframe` and `FramedCheck` take one line, and a message of at most 8,388,608 words. More than
-/// one line is `BadInput`. No line, or an empty line, is refused with `NoMessage`. A line that
-/// doesn't begin with a frame is refused like an input of `framing::read`.
+/// `Unframe` and `FramedCheck` take one line, with a message of at most 8,388,608 words. If there
+/// is more than one line, the outcome is `BadInput`. No line, or an empty line, is refused with
+/// `NoMessage`. A line that doesn't begin with a frame is refused with the name with which
+/// `framing::read` refuses such an input.
 ///
 /// If a read fails, the outcome is always `BadInput`. The refusal `AllocationFailed` means that
-/// memory ran out. `MessageTooLarge` means one of these: more segments or words than a reader
-/// takes; more than 536,870,911 canonical words, the most in a segment; a number of words that
-/// doesn't fit 64 bits, or a number of capabilities that doesn't fit 32 bits, as the answer to
-/// `Size`.
+/// memory ran out. `MessageTooLarge` means one of these: the input has 2^32 segments or more, or
+/// one of 2^32 words or more; there are more canonical words than a segment can have, 536,870,911;
+/// the answer to `Size` would be a number of words that doesn't fit 64 bits, or a number of
+/// capabilities that doesn't fit 32 bits.
 pub fn run<R: Input, W: Output>(
     alloc: Global,
     args: &Args,

@@ -1,4 +1,5 @@
-//! The commands that read or write frames (encoding specification, "Serialization Over a Stream").
+//! Runs the commands that read or write frames (encoding specification, "Serialization Over a
+//! Stream").
 ghost use Rattle.std.specs.Prelude.{◌≡◌, ◌≢◌, ◌⊎◌, ◌≤◌, ℕ, length, true, false, IsOk, IfOk, IfErr, OnErr, OnOk};
 ghost use Rattle.capnp_format.specs.Bytes.{message};
 ghost use Rattle.capnp_arena_traits.specs.Limits.{IsSmall};
@@ -18,10 +19,12 @@ use capnp_framing::framing::{FrameError, FrameSegments, MAX_SEGMENTS, read_from_
 use capnp_messages::messages::is_canonical;
 use capnp_words::error::ErrorKind;
 
-/// The most words that a message read from a frame may have.
+/// The largest number of words that a message read from a frame may have.
 const MAX_FRAME_WORDS: u64 = 8_388_608;
 
-/// The message in the frame at the start of the only line.
+/// Returns the message in the frame at the start of the only line. Refusals: `NoMessage` if there
+/// is no line or the line is empty; `Frame` if the line doesn't begin with a frame, or this frame
+/// has more words than `MAX_FRAME_WORDS`.
 fn frame_in(lines: &Message) -> Result<FrameSegments<'_>, Refusal>
     requires { length (segments_in lines.now) ≤ 1 }
     ensures holds { IfOk result (λ f. HoldsFrame (segments_in lines.now)
@@ -54,7 +57,7 @@ fn is_canonical_frame(lines: &Message, options: ReaderOptions) -> Result<bool, R
     }
 }
 
-/// The number of segments of `source`; a refusal if `source` can't be framed.
+/// Returns the number of segments of `source`, or a refusal if `source` can't be framed.
 fn count_of(source: &Message) -> Result<usize, Refusal>
     ensures small { OnOk result (IsSmall (segments_in source.now)) }
     ensures answered { OnOk result (HasAnswer (segments_in source.now) Args.Frame) }
@@ -73,7 +76,7 @@ fn count_of(source: &Message) -> Result<usize, Refusal>
     Ok(count)
 }
 
-/// Writes the line of the frame of `source`, or the line of the refusal.
+/// Writes the frame of `source` as a line of hex digits, or the line of the refusal.
 pub(crate) fn frame<W: Output>(source: Message, output: &mut W) -> Outcome
     requires { W.has_failed output.old ≡ false }
     ensures { Responds W.Output output.old output.new
@@ -86,7 +89,8 @@ pub(crate) fn frame<W: Output>(source: Message, output: &mut W) -> Outcome
 }
 
 /// Reads the frame at the start of the only line, and writes a line for each segment of its
-/// message, or the line of the refusal. More than one line is `BadInput`.
+/// message, or the line of the refusal. If there is more than one line, writes nothing and returns
+/// `BadInput`.
 pub(crate) fn unframe<W: Output>(lines: Message, output: &mut W) -> Outcome
     requires { W.has_failed output.old ≡ false }
     ensures { Responds W.Output output.old output.new
@@ -102,7 +106,8 @@ pub(crate) fn unframe<W: Output>(lines: Message, output: &mut W) -> Outcome
 }
 
 /// Reads the frame at the start of the only line, and writes the line that says whether its message
-/// is canonical as a whole, or the line of the refusal. More than one line is `BadInput`.
+/// is canonical as a whole, or the line of the refusal. If there is more than one line, writes
+/// nothing and returns `BadInput`.
 pub(crate) fn framed_check<W: Output>(
     lines: Message,
     options: ReaderOptions,

@@ -1,4 +1,4 @@
-//! Frames and segments as lines of hex digits (encoding specification, "Serialization Over a
+//! Writes frames and segments as lines of hex digits (encoding specification, "Serialization Over a
 //! Stream").
 ghost use Rattle.std.specs.Prelude.{◌≡◌, ◌<◌, ◌≤◌, ◌-◌, ◌/◌, ◌^◌, ◌++◌, false, true, length, replicate, OnOk, OnErr};
 ghost use Rattle.std.specs.Int.{to_le_bytes, w32};
@@ -15,7 +15,7 @@ use crate::devices::{DeviceFault, Output, write_all};
 use capnp_arena::arena::{OutputSegments, ReaderSegments};
 use capnp_messages::messages::Form;
 
-/// The bytes of segment `id`; none if there is no such segment.
+/// Returns the bytes of segment `id`, or no bytes if there is no such segment.
 fn segment_at<S: ReaderSegments>(segments: &S, id: u32) -> &[u8]
     requires { IsSmall (S.segments segments.now) }
     ensures words { id < length (S.segments segments.now)
@@ -39,7 +39,7 @@ fn write_number<W: Output>(output: &mut W, number: u32) -> Result<(), DeviceFaul
     write_all(output, &digits)
 }
 
-/// Writes the size of each segment in words.
+/// Writes the number of words of each segment as hex digits.
 fn write_lengths<W: Output, S: ReaderSegments>(
     output: &mut W,
     segments: &S,
@@ -55,7 +55,8 @@ fn write_lengths<W: Output, S: ReaderSegments>(
     Ok(())
 }
 
-/// Writes the padding after `count` sizes, all zero bytes.
+/// Writes the padding of a frame's table that has `count` sizes: four zero bytes if `count` is
+/// even, otherwise nothing.
 fn write_padding<W: Output>(output: &mut W, count: u32) -> Result<(), DeviceFault>
     requires works { W.has_failed output.old ≡ false }
     requires few { count ≤ max_frame_segments }
@@ -69,7 +70,7 @@ fn write_padding<W: Output>(output: &mut W, count: u32) -> Result<(), DeviceFaul
     }
 }
 
-/// Writes the words of all segments, in order.
+/// Writes the words of all segments as hex digits, in order.
 fn write_contents<W: Output, S: ReaderSegments>(
     output: &mut W,
     segments: &S,
@@ -103,7 +104,8 @@ pub(crate) fn write_frame<W: Output, S: ReaderSegments>(
     write_all(output, b"\n")
 }
 
-/// Writes canonical words as one line of hex digits, in a frame or without one, by `form`.
+/// Writes the canonical words in `words` as one line of hex digits: in a frame or without one,
+/// depending on `form`.
 pub(crate) fn write_form<W: Output>(
     output: &mut W,
     words: &[u8],

@@ -1,4 +1,4 @@
-//! The limits of a reader, for a message read from the input.
+//! Tests whether a message from the input is small enough for readers.
 ghost use Rattle.std.specs.Prelude.{◌≡◌, ◌↔◌, ◌-◌, ◌^◌, IsOk, IfErr};
 ghost use Rattle.capnp_words.specs.declared.error.ErrorKind.TheVariants.{MessageTooLarge};
 ghost use Rattle.capnp_arena_traits.specs.Limits.{IsSmall};
@@ -7,8 +7,8 @@ ghost use Rattle.capnp_layout.specs.Messages.{segments_in};
 use super::lines::Message;
 use capnp_words::error::ErrorKind;
 
-/// Tests whether a message is within the limits of a reader. Refuses with `MessageTooLarge` if it
-/// isn't.
+/// Tests whether a message is small enough for readers: it has fewer than 2^32 segments, each of
+/// fewer than 2^32 words. Refuses a larger one with `MessageTooLarge`.
 pub(crate) fn within_limits(source: &Message) -> Result<(), ErrorKind>
     ensures small { IsOk result ↔ IsSmall (segments_in source.now) }
     ensures named { IfErr result (λ k. k ≡ MessageTooLarge (2 ^ 64 - 1)) }

@@ -1,4 +1,4 @@
-//! The lines of the program's input: each is a segment, in pairs of hex digits.
+//! Reads the lines of the program's input. Each line is a segment, in pairs of hex digits.
 ghost use Rattle.std.specs.Prelude.{◌≡◌, ◌↔◌, ◌<◌, ◌≤◌, ◌+◌, ◌/◌, ◌^◌, ◌++◌, ◌∷◌, ◌==◌, [], ℕ, List, length, map, Some, None, Ok, IsTrue, IsSome, IfSome, IsErr, IfOk, OnOk, OnErr, IfErr, slice_get, vec_items};
 ghost use Rattle.std.specs.List.{All, position, position_or_len};
 ghost use Rattle.hex.specs.Hex.{decode_of};
@@ -16,7 +16,7 @@ use std::alloc::Global;
 pub enum InputFault {
     /// A line isn't pairs of hex digits, or the input failed.
     BadInput,
-    /// There was no memory for what was read.
+    /// Memory ran out for the bytes that were read.
     NoMemory,
 }
 
@@ -27,8 +27,8 @@ pub struct Message {
 }
 
 impl Message {
-    /// Whether the segments are within the limits of a reader: fewer than 2^32, each of fewer than
-    /// 2^32 words.
+    /// Whether the message is small enough for readers: it has fewer than 2^32 segments, each of
+    /// fewer than 2^32 words.
     pub fn is_small(&self) -> bool
         ensures { IsTrue result ↔ IsSmall (⟦<Self as ReaderSegments>⟧.segments self.now) }
     {
@@ -64,7 +64,8 @@ impl ReaderSegments for Message {
     }
 }
 
-/// Appends `bytes` to `list`. Stops with `NoMemory` if the allocator refuses memory for a byte.
+/// Appends `bytes` to `list`. Stops with `NoMemory` if `allocator` refuses memory for a byte; the
+/// bytes before that one are then in `list`.
 pub(crate) fn keep_bytes<A: Allocator>(
     allocator: &mut A,
     list: &mut Vec<u8>,
@@ -83,14 +84,15 @@ pub(crate) fn keep_bytes<A: Allocator>(
     Ok(())
 }
 
-/// The position of the first line feed.
+/// Returns the position of the first line feed of `text`; `None` if there is none.
 fn line_feed(text: &[u8]) -> Option<usize>
     ensures { result ≡ position (λ byte. byte == 10) text.now }
 {
     text.iter().position(|byte| *byte == b'\n')
 }
 
-/// The end of the first line: the position of a line feed, or the text's end.
+/// Returns the end of the first line: the position of the first line feed, or the end of `text` if
+/// there is none.
 #[tactic(auto, using(crate::proofs::LineLemmas::feed_found, crate::proofs::LineLemmas::no_feed))]
 fn line_end(text: &[u8]) -> usize
     ensures { result ≡ position_or_len (λ byte. byte == 10) text.now }
@@ -101,7 +103,8 @@ fn line_end(text: &[u8]) -> usize
     }
 }
 
-/// The first line of `text`, which isn't empty, and what follows that line.
+/// Returns the first line of `text`, without its line feed, and what follows the line feed.
+/// Precondition: `text` isn't empty.
 #[tactic(auto, using(crate::proofs::LineLemmas::cut_line, crate::proofs::LineLemmas::last_line))]
 fn first_line(text: &[u8]) -> (&[u8], &[u8])
     requires { 0 < length text.now }
@@ -116,7 +119,8 @@ fn first_line(text: &[u8]) -> (&[u8], &[u8])
     }
 }
 
-/// The bytes of a line of hex digits.
+/// Returns the bytes that a line of hex digits encodes. Refusals: `BadInput` if the line isn't
+/// pairs of hex digits; `NoMemory` if `allocator` refuses memory for a byte.
 fn read_line<A: Allocator>(
     alloc: Global,
     allocator: &mut A,
@@ -138,7 +142,8 @@ fn read_line<A: Allocator>(
     }
 }
 
-/// The segments of a text: one for each line.
+/// Returns the segments that `text` encodes, one for each line. Refuses with `BadInput` if a line
+/// isn't pairs of hex digits, or with `NoMemory` if `allocator` refuses memory.
 pub fn read_lines<A: Allocator>(
     alloc: Global,
     allocator: &mut A,

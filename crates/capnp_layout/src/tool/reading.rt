@@ -9,7 +9,8 @@ use std::alloc::Global;
 
 /// Reads all bytes that an input still has. Refusals, which lose the bytes read so far: `BadInput`
 /// if a read failed; `NoMemory` if `allocator` refused a byte, and counted the refusal. The list of
-/// bytes is made over `alloc`, and grows by `Allocator::keep`, so `allocator` may refuse any byte.
+/// bytes has its memory from `alloc`. Each byte is appended by `Allocator::keep`, so `allocator`
+/// may refuse any of them.
 pub(crate) fn read_text<A: Allocator, R: Input>(
     alloc: Global,
     allocator: &mut A,

@@ -8,7 +8,7 @@ use capnp_words::error::ErrorKind;
 /// Why a command refuses its input.
 #[derive(Clone, Copy, Debug, PartialEq, Eq)]
 pub enum Refusal {
-    /// The segments can't be read, or their value can't.
+    /// The segments can't be read, or the value of the message can't.
     Layout(ErrorKind),
     /// The frame can't be read, or the segments can't be framed.
     Frame(FrameError),

@@ -1,4 +1,4 @@
-//! The number of words and capabilities of a message.
+//! Counts the words and capabilities of a message.
 ghost use Rattle.std.specs.Prelude.{◌↔◌, IsOk, IfOk, IfErr};
 ghost use Rattle.capnp_format.specs.Bytes.{message};
 ghost use Rattle.capnp_arena_traits.specs.Limits.{IsSmall};

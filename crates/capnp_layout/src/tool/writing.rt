@@ -1,4 +1,4 @@
-//! The lines that the program prints.
+//! Writes the lines that the program prints.
 ghost use Rattle.std.specs.Prelude.{◌≡◌, ◌+◌, ◌++◌, ◌∷◌, [], false, true, OnOk, OnErr};
 ghost use Rattle.capnp_format.specs.Bytes.{words_of};
 ghost use Rattle.capnp_messages.specs.Text.{check_line};

@@ -1,5 +1,5 @@
-//! A message that is canonical already (encoding specification, "Canonicalization"), and so needs
-//! no copy.
+//! Finds messages that are canonical already (encoding specification, "Canonicalization"), and so
+//! needn't be copied.
 ghost use Rattle.std.specs.Prelude.{◌≡◌, ◌<◌, ◌≤◌, ◌*◌, ◌∷◌, [], length, IsNone, IfSome};
 ghost use Rattle.capnp_format.specs.Bytes.{message, words_of};
 ghost use Rattle.capnp_format.specs.Canonical.{encoding, trim};
@@ -17,9 +17,10 @@ use capnp_arena::arena::{
 };
 use capnp_words::read_limiter::ReadLimiter;
 
-/// If a message is canonical as a whole, returns the bytes of its only segment: the canonical words
-/// of its value. `None` if the message isn't canonical, if `limits` don't allow the test, or if the
-/// message has more than 536,870,911 words, the most that a copy can have. Takes no memory.
+/// If the message is canonical as a whole, returns the bytes of its only segment: the canonical
+/// words of its value. Returns `None` if the message isn't canonical, if testing it exceeds
+/// `limits`, or if it has more than 536,870,911 words, the most that a copy can have. Precondition:
+/// the nesting limit of `source` is that of `limits`. Takes no memory.
 pub fn canonical_segment<S: ReaderSegments>(
     source: &ReaderArenaImpl<S>,
     limits: ReaderOptions,

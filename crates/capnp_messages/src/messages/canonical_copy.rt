@@ -1,8 +1,8 @@
-//! A copy in canonical form (encoding specification, "Canonicalization"), in one segment, whose
-//! size is found by tries. The first try requests one word more than the source message has; each
-//! further try requests twice as many words as the try before. So all tries together take no longer
-//! than twice the last try. During a try the message has no allocator, so the copy can't get a
-//! second segment.
+//! Makes a copy in canonical form (encoding specification, "Canonicalization"), in one segment, and
+//! finds the segment's size by tries. The first try requests one word more than the source message
+//! has; each further try requests twice as many words as the try before; no try requests more than
+//! 536,870,911 words. Below this limit, all tries together take no longer than twice the last try.
+//! During a try the message has no allocator, so the copy can't get a second segment.
 ghost use Rattle.std.specs.Prelude.{◌≡◌, ◌⊎◌, ◌<◌, ◌≤◌, ◌+◌, ◌*◌, ◌++◌, ◌∷◌, [], false, length, min, ℕ, IsTrue, OnOk, IfOk, OnErr, IfErr};
 ghost use Rattle.std.specs.Bool.{OnFalse, OnTrue};
 ghost use Rattle.capnp_format.specs.Canonical.{trim, encoding};
@@ -64,8 +64,8 @@ fn copy_root<A: BuilderArena, B: ReaderArena>(
     Ok(lim)
 }
 
-/// Like `copy_root`, into the first `room` words of the message's only segment. Refuses with
-/// `MessageTooLarge(room)` if the copy doesn't fit there.
+/// Like `copy_root`, but the copy has to fit in the message's only segment, which has room for at
+/// least `room` words. Refuses with `MessageTooLarge(room)` if the copy doesn't fit.
 fn copy_to_segment<A: Allocator, B: ReaderArena>(
     arena: &mut BuilderArenaImpl<A>,
     from: Pointer<'_, B>,
@@ -100,8 +100,8 @@ fn copy_to_segment<A: Allocator, B: ReaderArena>(
     }
 }
 
-/// Allocates a segment with room for at least `room` words in `made`, which has no segment yet.
-/// Allocates the segment's first word: the root, a null pointer.
+/// Makes the first segment of `made`, with room for at least `room` words. Allocates the segment's
+/// first word: the root, a null pointer. Precondition: `made` has no segment yet.
 fn make_root<A: Allocator>(made: &mut BuilderArenaImpl<A>, room: u32) -> Result<(), ErrorKind>
     requires none { ⟦<BuilderArenaImpl<A> as ReaderArena>⟧.segments made.old ≡ [] }
     requires room { IsSegmentRoom room }
@@ -125,7 +125,7 @@ fn make_root<A: Allocator>(made: &mut BuilderArenaImpl<A>, room: u32) -> Result<
     Ok(())
 }
 
-/// Counts `pointers` more pointers as followed.
+/// Makes `lim` count `pointers` more pointers as followed.
 fn count_pointers(lim: &mut ReadLimiter, pointers: u64)
     ensures left { lim.new.left ≡ lim.old.left }
     ensures counted { lim.new.followed ≡ raised lim.old.followed pointers }
@@ -135,9 +135,10 @@ fn count_pointers(lim: &mut ReadLimiter, pointers: u64)
     }
 }
 
-/// Charges `lim` what a copy has charged to `own`, and counts the pointers that the copy followed.
-/// Before the copy, `own` had as many words left as `lim`, and had counted no pointers. If `lim`
-/// has counted no pointers either, replaces `lim` by `own`, which has the same result.
+/// Charges `lim` what a copy has charged to `own`, and makes `lim` count the pointers that the copy
+/// followed. Precondition: before the copy, `own` had as many words left as `lim`, and had counted
+/// no pointers. If `lim` has counted no pointers either, replaces `lim` by `own`, which has the
+/// same result.
 fn settle(lim: &mut ReadLimiter, own: ReadLimiter)
     requires { IsLeftOf own.left lim.old.left }
     ensures left { lim.new.left ≡ own.left }
@@ -154,9 +155,9 @@ fn settle(lim: &mut ReadLimiter, own: ReadLimiter)
     count_pointers(lim, pointers);
 }
 
-/// Copies the value of `from` in canonical form into a new message with one segment of `room`
-/// words. During the copy, the message has no allocator that could grant another segment. If
-/// refused, returns the allocator, and leaves `lim` unchanged.
+/// Copies the value of `from` in canonical form into a new message with one segment, for which it
+/// requests `room` words. During the copy, the message has no allocator that could grant another
+/// segment. If refused, returns the allocator, and leaves `lim` unchanged.
 fn copy_to_message<A: Allocator, B: ReaderArena>(
     alloc: Global,
     allocator: A,
@@ -201,7 +202,8 @@ fn is_too_large(kind: ErrorKind) -> bool
     matches!(kind, ErrorKind::MessageTooLarge(_))
 }
 
-/// The room of the first try: one word more than the source has, but at most 536,870,911 words.
+/// The number of words that the first try requests for a source of `words` words: one more than
+/// these, but at most 536,870,911.
 fn first_room(words: usize) -> u32
     ensures first { result ≡ room_of_try words 0 }
     ensures can_be_asked { IsSegmentRoom result }
@@ -213,7 +215,8 @@ fn first_room(words: usize) -> u32
     }
 }
 
-/// The room of the try after a try with `room` words: twice as many, but at most 536,870,911.
+/// The number of words that the next try requests after a try that requested `room` words: twice as
+/// many, but at most 536,870,911.
 fn next_room(room: u32) -> u32
     requires { room ≤ max_segment_words }
     ensures { result ≡ min (2 * room) max_segment_words }
@@ -231,9 +234,10 @@ fn words_of_source<B: ReaderArena>(from: &Pointer<'_, B>) -> usize
     }
 }
 
-/// Copies the value of `from` in canonical form into `made`, which has no segment yet, in one
-/// segment of `room` words. Returns `false` if the segment is too small for the copy, or there is
-/// no memory for the segment.
+/// Copies the value of `from` in canonical form into `made`, in one segment, for which it requests
+/// `room` words, and returns `true`. Returns `false` if the copy doesn't fit the segment, or there
+/// is no memory for the segment. `left` is the number of words that reading may cost. Precondition:
+/// `made` has no segment yet.
 pub(super) fn copy_in_room<A: Allocator, B: ReaderArena>(
     made: &mut BuilderArenaImpl<A>,
     from: Pointer<'_, B>,
@@ -275,8 +279,9 @@ pub(super) fn copy_in_room<A: Allocator, B: ReaderArena>(
 /// `lim` unchanged.
 ///
 /// Finds the size of the segment by tries. The first try requests one word more than the source
-/// message has, and each further try twice as many words as the try before. However many tries
-/// there are, `lim` is charged for one copy, and counts each non-null pointer once.
+/// message has, and each further try twice as many words as the try before, but none more than
+/// 536,870,911 words. However many tries there are, `lim` is charged for one copy, and counts each
+/// non-null pointer once.
 ///
 /// Refusals: the first one met while reading `from`; `MessageTooLarge(536870911)` if the copy has
 /// more than 536,870,911 words; `AllocationFailed`, which the allocator counts, if memory ran out.
@@ -316,8 +321,8 @@ pub fn copy_canonical_with<A: Allocator, B: ReaderArena>(
 /// A message in canonical form, in a segment on the heap.
 pub type CanonicalCopy = BuilderArenaImpl<HeapAllocator>;
 
-/// Like `copy_canonical_with`, with memory from the heap: exactly as many words as each try
-/// requests.
+/// Like `copy_canonical_with`, with memory from the heap. Each try allocates exactly the words that
+/// it requests.
 pub fn copy_canonical<B: ReaderArena>(
     alloc: Global,
     from: Pointer<'_, B>,

@@ -1,4 +1,4 @@
-//! Why no canonical frame is written.
+//! Why a message can't be written as a canonical frame.
 ghost use Rattle.std.specs.Prelude.{◌≡◌};
 ghost use Rattle.capnp_words.specs.Names.{name_of};
 ghost use Rattle.capnp_words.specs.declared.error.ErrorKind.{ErrorKind};

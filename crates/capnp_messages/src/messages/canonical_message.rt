@@ -1,4 +1,4 @@
-//! Whether a whole message is in canonical form.
+//! Tests whether a whole message is in canonical form.
 ghost use Rattle.std.specs.Prelude.{◌≡◌, ◌↔◌, false, true, length, Ok, IsTrue, IsOk, IfOk, OnOk, IfErr};
 ghost use Rattle.capnp_words.specs.Meter.{spent};
 ghost use Rattle.capnp_format.specs.Bytes.{message};
@@ -13,15 +13,15 @@ use capnp_arena::arena::{ReaderArena, ReaderArenaImpl, ReaderSegments};
 use capnp_words::error::ErrorKind;
 use capnp_words::read_limiter::ReadLimiter;
 
-/// Tests whether a message is canonical as a whole: it has one segment, which holds the canonical
-/// words of a value and nothing else (encoding specification, "Canonicalization"). So two canonical
-/// messages are equal exactly if their values are.
+/// Tests whether a message is canonical as a whole: whether it has one segment, which holds the
+/// canonical words of a value and nothing else (encoding specification, "Canonicalization"). So two
+/// canonical messages are equal exactly if their values are.
 ///
 /// If there isn't exactly one segment, returns `false` and reads nothing. Otherwise reads the root
 /// pointer, which costs one word, and tests its value like `PointerReader::is_canonical`, with the
-/// charges, nesting limit and refusals of that call. A canonical message is never refused if its
-/// value isn't deeper than the arena's nesting limit, and `lim` covers the value's cost and the
-/// root's word.
+/// charges, nesting limit and refusals of that call. If the message is canonical, its value is at
+/// most as deep as the arena's nesting limit, and `lim` has words left for the value's cost and the
+/// root pointer, then it isn't refused.
 pub fn is_canonical_message<S: ReaderSegments>(
     arena: &ReaderArenaImpl<S>,
     lim: &mut ReadLimiter,

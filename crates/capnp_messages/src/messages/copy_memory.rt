@@ -1,4 +1,4 @@
-//! Memory for one copy after another.
+//! An allocator for making one copy after another: it reuses the memory of the last copy.
 ghost use Rattle.std.specs.Prelude.{◌≡◌, ◌==◌, ◌≤◌, ◌+◌, length, true, vec_len};
 ghost use Rattle.std.specs.Vec.{vec_capacity};
 
@@ -7,8 +7,8 @@ use capnp_words::error::ErrorKind;
 use std::alloc::{AllocError, Global};
 use std::mem;
 
-/// The fewest bytes that are zeroed at a time, unless fewer are left. This many bytes stay in a
-/// processor's cache until they are written.
+/// At least this many bytes are zeroed at a time, unless fewer are left. They fit in a processor's
+/// cache, so they are still there when a copy overwrites them.
 const PIECE: usize = 64 * 1024;
 
 /// A segment on the heap, whose memory can be reused. Reserves all its memory at once, and zeroes
@@ -16,9 +16,9 @@ const PIECE: usize = 64 * 1024;
 /// zeroed bytes.
 #[derive(Drop)]
 pub struct CopySegment {
-    /// The bytes that are ready, with capacity for the `unready` ones.
+    /// The bytes that are zeroed and ready for use. Has capacity for `unready` more.
     bytes: Vec<u8>,
-    /// The number of further bytes, not ready yet.
+    /// The number of further bytes of the segment, which aren't zeroed yet.
     unready: usize,
     ghost room: { vec_len bytes + unready ≤ vec_capacity bytes },
 }
@@ -26,7 +26,8 @@ pub struct CopySegment {
 impl CopySegment {
     ghost use Rattle.capnp_messages.specs.CopyMemory.{copy_content};
 
-    /// Makes at least `bytes` bytes ready.
+    /// Zeroes further bytes until at least the first `bytes` bytes are ready for use. Precondition:
+    /// the segment has `bytes` bytes or more.
     #[cold]
     #[inline(never)]
     fn zero_up_to(&mut self, bytes: usize)
@@ -90,8 +91,8 @@ impl Segment for CopySegment {
 }
 
 /// Allocates segments on the heap, each of the requested size. Keeps the memory of the segment that
-/// was deallocated last, and uses it for the next segment. So a message of one segment that fits
-/// the kept memory allocates nothing.
+/// was deallocated last, and uses it for the next segment. So a message of one segment takes
+/// nothing from the heap if it fits in that memory.
 #[derive(Drop)]
 pub struct CopyMemory {
     alloc: Global,
@@ -100,7 +101,7 @@ pub struct CopyMemory {
 }
 
 impl CopyMemory {
-    /// An allocator that keeps no memory yet, and has refused nothing.
+    /// Makes an allocator that keeps no memory yet, and has refused nothing.
     pub fn new(alloc: Global) -> Self
         ensures refused { result.refused ≡ 0 }
     {

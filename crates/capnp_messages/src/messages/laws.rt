@@ -9,9 +9,9 @@ ghost use Rattle.capnp_format.specs.Canonical.{charge};
 ghost use Rattle.capnp_framing.specs.Frames.{CanBeFramed, frame};
 ghost use Rattle.capnp_messages.specs.CanonicalMessages.{IsCanonicalOf};
 
-/// A message is the canonical form of at most one value. The root of a canonical message means this
-/// value under any nesting limit that is at least the value's depth. Reading the root has the
-/// value's least cost.
+/// A message is the canonical form of at most one value. Under any nesting limit that is at least
+/// the value's depth, reading the message from its root results in this value, and costs as few
+/// words as reading the value in its canonical form.
 pub fn canonical_message()
     ensures value { (S : Segments) (t u : Tree) → IsCanonicalOf S t → IsCanonicalOf S u → t ≡ u }
     ensures means { (S : Segments) (t : Tree) (n : ℕ) → IsCanonicalOf S t → depth t ≤ n

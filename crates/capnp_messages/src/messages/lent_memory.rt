@@ -1,4 +1,4 @@
-//! Memory lent for one segment.
+//! An allocator that grants one segment, in memory that the caller lends.
 ghost use Rattle.std.specs.Prelude.{◌++◌, ◌∷◌, [], ◌≡◌, ◌<◌, ◌≤◌, ◌*◌, ◌/◌, ◌==◌, ℕ, length, replicate, false, true, nat_le, ◌&&◌, IsTrue, IsNone, IsSome, IfSome, IsOk, IfOk, OnOk, OnErr, IfErr, Err};
 ghost use Rattle.std.specs.Option.{option_map_or};
 ghost use Rattle.capnp_words.specs.declared.error.ErrorKind.TheVariants.{AllocationFailed, MessageTooLarge};
@@ -8,7 +8,7 @@ use capnp_arena::arena::{Allocator, MAX_SEGMENT_WORDS};
 use capnp_words::error::ErrorKind;
 use std::marker::Model;
 
-/// Lent bytes, all zero. Proofs can refer to their number.
+/// Lent bytes, all zero. In contracts, a value of this type stands for the number of the bytes.
 #[derive(Drop)]
 struct LentZeros<'a> {
     bytes: &'a mut [u8],
@@ -23,7 +23,7 @@ impl<'a> Model for LentZeros<'a> {
 }
 
 impl<'a> LentZeros<'a> {
-    /// The lent bytes `bytes`. Precondition: all are zero.
+    /// Wraps the lent `bytes`. Precondition: all of them are zero.
     fn new(bytes: &'a mut [u8]) -> Self
         requires { bytes.old ≡ replicate (length bytes.old) 0 }
         ensures { result ≡ length bytes.old }
@@ -38,7 +38,7 @@ impl<'a> LentZeros<'a> {
         self.bytes.len()
     }
 
-    /// The bytes of the first `words` words.
+    /// Returns the bytes of the first `words` words. Precondition: there are that many words.
     fn into_words(self, words: u32) -> &'a mut [u8]
         requires { 8 * words ≤ self }
         ensures { result.now ≡ zeros words }
@@ -50,8 +50,8 @@ impl<'a> LentZeros<'a> {
 
 /// An allocator that grants one segment of exactly the requested size, in lent memory. Refuses a
 /// request that the memory is too small for, and may still grant a smaller request afterwards.
-/// Refuses every request after it has granted a segment. Only `keep` takes other memory: for its
-/// list, from the heap.
+/// Refuses every request after it has granted a segment. Only `keep` takes other memory: the list
+/// to which it appends grows on the heap.
 #[derive(Drop)]
 pub struct LentMemory<'a> {
     memory: Option<LentZeros<'a>>,
@@ -59,7 +59,7 @@ pub struct LentMemory<'a> {
 }
 
 impl<'a> LentMemory<'a> {
-    /// An allocator over `memory`. Precondition: all of it is zero.
+    /// Makes an allocator over `memory`. Precondition: all bytes of `memory` are zero.
     pub fn new(memory: &'a mut [u8]) -> Self
         requires { memory.old ≡ replicate (length memory.old) 0 }
         ensures refused { result.refused ≡ 0 }

@@ -1,4 +1,4 @@
-//! Where and why a whole message isn't in canonical form (encoding specification,
+//! Finds out where and why a whole message isn't in canonical form (encoding specification,
 //! "Canonicalization").
 ghost use Rattle.std.specs.Prelude.{◌≡◌, ◌≢◌, ◌↔◌, None, Some, Ok, length, min, IsNone, IsOk, IfNone, IfSome, IfOk, OnOk, IfErr};
 ghost use Rattle.capnp_words.specs.Meter.{spent};
@@ -15,7 +15,8 @@ use capnp_pointers::pointers::{CanonicalFault, CanonicalFaultReason};
 use capnp_words::error::ErrorKind;
 use capnp_words::read_limiter::ReadLimiter;
 
-/// The fault of a message that doesn't have exactly one segment.
+/// Returns the fault `SegmentCount` if the message doesn't have exactly one segment: at segment 0
+/// if it has none, at segment 1 if it has more. Returns `None` if it has exactly one.
 fn segment_count_fault<A: ReaderArena>(arena: &A) -> Option<CanonicalFault>
     ensures one { IsNone result ↔ (length (A.segments arena.now) ≡ 1) }
     ensures other { IfSome result (λ f. (length (A.segments arena.now) ≢ 1)
@@ -36,8 +37,8 @@ fn segment_count_fault<A: ReaderArena>(arena: &A) -> Option<CanonicalFault>
 /// and refuses like `is_canonical_message`.
 ///
 /// Returns the first fault of these: a number of segments other than 1; the fault that
-/// `PointerReader::canonical_fault` finds at the root; words after the value. The fault's reason is
-/// true of the word that the fault names.
+/// `PointerReader::canonical_fault` finds at the root; words after those of the value. The fault's
+/// reason is true of the word that the fault names.
 pub fn canonical_fault<S: ReaderSegments>(
     arena: &ReaderArenaImpl<S>,
     lim: &mut ReadLimiter,

@@ -1,4 +1,4 @@
-//! The root of a message.
+//! Reads the root pointer of a message.
 ghost use Rattle.std.specs.Prelude.{◌≡◌, ◌↔◌, IsOk, OnOk, IfOk, OnErr, IfErr};
 ghost use Rattle.capnp_words.specs.Meter.{spent};
 ghost use Rattle.capnp_format.specs.Bytes.{message};
@@ -11,8 +11,9 @@ use capnp_pointers::pointers::Pointer;
 use capnp_words::error::ErrorKind;
 use capnp_words::read_limiter::ReadLimiter;
 
-/// Returns the root pointer of a message, and charges `lim` the pointer's word. Like
-/// `Pointer::get_root_from_arena`, but any type may hold the segments.
+/// Returns the root pointer of a message, and charges `lim` the pointer's word. Does what
+/// `Pointer::get_root_from_arena` does, for a reader's arena whose segments may be held by any
+/// type.
 ///
 /// Refusals, which charge nothing: `InvalidSegmentId(0)` if there are no segments;
 /// `MessageContainsOutOfBoundsPointer` if the first segment has no word; `ReadLimitExceeded` if

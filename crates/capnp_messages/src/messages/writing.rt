@@ -37,7 +37,7 @@ pub(super) fn whole_words(segment: &[u8]) -> &[u8]
     &segment[..8 * (segment.len() / 8)]
 }
 
-/// The bytes of the words of `made`, which has one segment.
+/// The bytes of the words of `made`. Precondition: `made` has exactly one segment.
 pub fn canonical_bytes<A: Allocator>(made: &BuilderArenaImpl<A>) -> &[u8]
     requires { length (⟦<BuilderArenaImpl<A> as ReaderArena>⟧.segments made.now) ≡ 1 }
     ensures bytes { (words : List ℕ) →
@@ -65,7 +65,8 @@ pub(super) fn write_framed<W: Output>(output: &mut W, segment: &[u8]) -> Result<
     }
 }
 
-/// Writes canonical words, in a frame or without one, by `form`.
+/// Writes `bytes`, in a frame of one segment or without a frame, as `form` says. Precondition:
+/// `bytes` is whole words.
 pub fn write_words<W: Output>(output: &mut W, bytes: &[u8], form: Form) -> Result<(), DeviceFault>
     requires works { W.has_failed output.old ≡ false }
     requires short { length bytes.now < 2 ^ 35 }
@@ -78,7 +79,8 @@ pub fn write_words<W: Output>(output: &mut W, bytes: &[u8], form: Form) -> Resul
     }
 }
 
-/// Writes a message of one segment as a frame. Fails only if the output does.
+/// Writes the message `made` as a frame. Precondition: `made` has exactly one segment. Refuses only
+/// with `Frame(WriteFailed)`, if the output fails.
 pub fn write_copy<W: Output, A: Allocator>(
     output: &mut W,
     made: &BuilderArenaImpl<A>,
@@ -105,8 +107,8 @@ pub fn write_copy<W: Output, A: Allocator>(
 ///
 /// Refusals: `Layout` if the value can't be copied, with `MessageTooLarge(536870911)` inside if the
 /// copy has more than 536,870,911 words. After `Layout`, nothing is written, and `lim` is
-/// unchanged. `Frame` if the output fails. After `Frame`, `lim` is charged for the copy, and how
-/// much the output took is unspecified.
+/// unchanged. `Frame(WriteFailed)` if the output fails. After it, `lim` is charged for the copy,
+/// and how many bytes of the frame were written is unspecified.
 pub fn write_canonical<W: Output, B: ReaderArena>(
     alloc: Global,
     output: &mut W,

@@ -1,4 +1,5 @@
-//! Enters the object that a followed pointer leads to: checks and charges the words that it claims.
+//! Enters the object that a followed pointer leads to: checks and charges the words that the object
+//! claims.
 ghost use Rattle.std.specs.Prelude.{◌≡◌, ⊤};
 ghost use Rattle.capnp_words.specs.declared.error.ErrorKind.TheVariants.{CantHandleNonStructInlineComposite, InlineCompositeListsOfNonStructTypeAreNotSupported};
 ghost use Rattle.capnp_objects.specs.declared.object.Purpose.TheVariants.{Value, Size};

@@ -12,7 +12,7 @@ use super::words::pack_front;
 use capnp_framing::devices::{Input, MemoryInput};
 use std::alloc::Global;
 
-/// The most bytes that are packed or unpacked at a time.
+/// The most packed bytes that are made at a time, and the most bytes that are unpacked at a time.
 const STEP: usize = 8192;
 
 /// Packs `words` (encoding specification, "Packing"). Refusals: `CutWord` exactly if the length of
@@ -34,8 +34,8 @@ pub fn pack(alloc: Global, words: &[u8]) -> Result<Vec<u8>, PackingError>
     Ok(packed)
 }
 
-/// Packs words from the front of `words` and appends them to `packed`. Returns the number of bytes
-/// of `words` that it packed.
+/// Packs some words from the front of `words`, at least one, and appends the packed bytes to
+/// `packed`. Returns how many bytes of `words` were packed.
 fn pack_more(packed: &mut Vec<u8>, words: &[u8]) -> Result<usize, PackingError>
     requires { 8 ≤ length words.now }
     ensures some { IfOk result (λ n. 0 < n) }
@@ -81,7 +81,8 @@ pub fn unpack(alloc: Global, packed: &[u8], max_bytes: usize) -> Result<Vec<u8>,
     Err(PackingError::TooLong)
 }
 
-/// Unpacks at most `most` bytes from `input`, appends them to `bytes`, and returns their number.
+/// Reads at most `most` unpacked bytes from `input`, appends them to `bytes`, and returns their
+/// number: 0 only if the input has ended.
 fn unpack_more<R: Input>(
     input: &mut UnpackingInput<R>,
     bytes: &mut Vec<u8>,

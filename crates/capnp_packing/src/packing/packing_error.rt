@@ -12,7 +12,7 @@ pub enum PackingError {
     CutWord,
     /// The packed bytes end inside a word or before a count.
     Truncated,
-    /// There are more unpacked bytes than `max_bytes`.
+    /// There are more unpacked bytes than the caller's `max_bytes`.
     TooLong,
     /// There is no memory for the result.
     AllocationFailed,

@@ -1,4 +1,4 @@
-//! An output of words that packs them to another output.
+//! An output that packs the words written to it, and writes the packed bytes to another output.
 ghost use Rattle.std.specs.Prelude.{◌≡◌, ◌<◌, ◌≤◌, ◌+◌, ◌-◌, false, true, IfOk, OnOk, OnErr, length, slice_range};
 ghost use Rattle.std.specs.Io.KnownBytes.{Keeps, WriteAppends, append_known};
 ghost use Rattle.capnp_framing.specs.Devices.{WriteTakes};
@@ -11,9 +11,10 @@ use capnp_framing::devices::{DeviceFault, Output};
 /// The most packed bytes that are held back.
 const CAPACITY: usize = 8192;
 
-/// An output of whole words, which packs them. Holds packed bytes back until there are many of
-/// them, or until it is flushed. A write of 1 to 7 bytes fails, since it has no whole word; any
-/// other write fails only if the output of packed bytes has failed.
+/// An output that packs whole words, and writes the packed bytes to another output. Holds packed
+/// bytes back until there are many of them, or until `flush` is called. A write of 1 to 7 bytes
+/// fails, since it has no whole word; any other write fails only if the output of packed bytes has
+/// failed.
 #[derive(Drop)]
 pub struct PackingOutput<W> {
     packed: W,
@@ -29,7 +30,7 @@ pub struct PackingOutput<W> {
 impl<W: Output> PackingOutput<W> {
     ghost use Rattle.capnp_packing.specs.Sending.{Sends};
 
-    /// The output that packs to `packed`.
+    /// Makes an output that writes packed bytes to `packed`.
     pub fn new(packed: W) -> Self
         ensures packed { result.packed ≡ packed }
         ensures none { (result.sent ≡ 0) × (result.end ≡ 0) }
@@ -66,15 +67,15 @@ impl<W: Output> PackingOutput<W> {
         Ok(())
     }
 
-    /// Returns the output of packed bytes. Loses packed bytes that aren't written yet, so flush
-    /// first.
+    /// Returns the output of packed bytes. Packed bytes that are held back are lost, so call
+    /// `flush` first.
     pub fn into_packed(self) -> W
         ensures { result ≡ self.packed }
     {
         self.packed
     }
 
-    /// Makes room for the packed bytes of one step.
+    /// Makes room for `MOST_BYTES` packed bytes, if needed by writing all bytes that are held back.
     fn make_room(&mut self) -> Result<(), DeviceFault>
         ensures sends { Sends W.Output result self.old self.new }
         ensures room { OnOk result (self.new.end + 2050 ≤ 8192) }

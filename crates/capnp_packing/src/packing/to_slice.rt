@@ -15,7 +15,7 @@ struct Given {
     next: Place,
 }
 
-/// Counts what `byte` unpacks to at `place`.
+/// Counts the bytes that `byte` unpacks to at `place`.
 fn count_given(place: Place, byte: u8) -> Given
     ensures count { result.count ≡ length (all_given place byte) }
     ensures next { result.next ≡ place_after place byte }
@@ -32,9 +32,9 @@ fn count_given(place: Place, byte: u8) -> Given
     }
 }
 
-/// Returns `count`, or `room` if that is less. By the contract `room` never is; but a C program may
-/// break the contract, with packed bytes that overlap `to`, or that another thread changes after
-/// they were counted. Even then, each write is inside `to`.
+/// Returns `count`, or `room` if that is less. By the contract, `room` is never less; but a C
+/// program may break the contract, with packed bytes that overlap `to`, or that another thread
+/// changes after they were counted. Even then, each write is inside `to`.
 #[inline(always)]
 fn within(count: usize, room: usize) -> usize
     requires { count ≤ room }
@@ -80,8 +80,9 @@ fn put_given(place: Place, byte: u8, to: &mut [u8]) -> Given
     }
 }
 
-/// The number of unpacked bytes, and the place after the packed bytes. That place is `Tag` exactly
-/// if the packed bytes aren't cut short. `None` if there are 2^64 unpacked bytes or more.
+/// The number of bytes that `packed` unpacks to, and the place after the last packed byte. That
+/// place is `Tag` exactly if the packed bytes aren't cut short. `None` if there are 2^64 unpacked
+/// bytes or more.
 pub fn unpacked_size(packed: &[u8]) -> Option<(usize, Place)>
     ensures size { IfSome result (λ s. s.0 ≡ length (unpacked_bytes Place.Tag packed.now)) }
     ensures place { IfSome result (λ s. s.1 ≡ place_at_end Place.Tag packed.now) }
@@ -100,7 +101,8 @@ pub fn unpacked_size(packed: &[u8]) -> Option<(usize, Place)>
     Some((size, place))
 }
 
-/// Unpacks packed bytes one by one, from the place `start`.
+/// Unpacks packed bytes to `to`, one by one; `start` is the place of the first. Precondition: `to`
+/// has exactly as many bytes as `packed` unpacks to.
 fn unpack_bytes(start: Place, packed: &[u8], to: &mut [u8])
     requires { length (unpacked_bytes start packed.now) ≡ length to.old }
     ensures { to.new ≡ unpacked_bytes start packed.now }
@@ -114,8 +116,8 @@ fn unpack_bytes(start: Place, packed: &[u8], to: &mut [u8])
     }
 }
 
-/// Unpacks `packed` to `to`, which has exactly the unpacked size. Does so by words while enough
-/// packed bytes are left for any word, and then byte by byte.
+/// Unpacks `packed` to `to`: word by word while at least `UNIT` packed bytes are left, and then
+/// byte by byte. Precondition: `to` has exactly as many bytes as `packed` unpacks to.
 pub fn unpack_to_slice(packed: &[u8], to: &mut [u8])
     requires { length (unpacked_bytes Place.Tag packed.now) ≡ length to.old }
     ensures { to.new ≡ unpacked_bytes Place.Tag packed.now }

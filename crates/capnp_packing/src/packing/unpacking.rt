@@ -6,19 +6,20 @@ ghost use Rattle.capnp_packing.specs.Words.{CanUnpack, UnpacksFront};
 
 use super::place::Place;
 
-/// The most packed bytes that a tag needs: itself, a word, and a count.
+/// The most packed bytes that `unpack_unit` needs at once: 1 for a tag, 8 for its word, and 1 for a
+/// count.
 pub(super) const UNIT: usize = 10;
 
 /// How far unpacking got.
 #[derive(Clone, Copy)]
 pub(super) struct Progress {
-    /// The number of packed bytes taken.
+    /// The number of packed bytes that were unpacked.
     pub(super) taken: usize,
     /// The number of unpacked bytes written.
     pub(super) given: usize,
-    /// The number of zero bytes still to be written after the `given` ones.
+    /// The number of unpacked zero bytes that come after the `given` ones, and that didn't fit.
     pub(super) zeros: u16,
-    /// The place after the packed bytes.
+    /// The place after the `taken` packed bytes.
     pub(super) place: Place,
 }
 
@@ -32,8 +33,9 @@ pub(super) fn put_zeros(to: &mut [u8])
     }
 }
 
-/// For each four bits of a tag, the factors that move the next four packed bytes to their positions
-/// in a number of four bytes; 0 for a packed byte that has no position in that number.
+/// For each value of four bits of a tag: the factors that move the next four packed bytes to their
+/// positions in a number of four bytes. The factor is 0 for a packed byte that isn't part of that
+/// number.
 static MULTIPLIERS: [[u32; 4]; 16] = [
     [0, 0, 0, 0],
     [1, 0, 0, 0],
@@ -72,8 +74,9 @@ fn half_word(bits: u8, packed: &[u8]) -> u32
         .wrapping_add(last)
 }
 
-/// The last four bytes of a word as a number, like `half_word`. In most words, all of these but the
-/// first are zero, as in a small number or the pointer to a short text.
+/// The last four bytes of a word as a number, like `half_word`. In most words the last three of
+/// these are zero, as in a small number or the pointer to a short text, so this case has code of
+/// its own.
 #[inline(always)]
 fn last_half(bits: u8, packed: &[u8]) -> u32
     requires bits { bits < 16 }
@@ -87,7 +90,7 @@ fn last_half(bits: u8, packed: &[u8]) -> u32
 }
 
 /// Writes the bytes of a word: for each bit of `tag`, the next packed byte if the bit is set, and
-/// zero if not. Returns the number of packed bytes taken.
+/// zero if not. Returns the number of packed bytes that were unpacked.
 #[inline(always)]
 fn put_word(tag: u8, packed: &[u8], to: &mut [u8]) -> usize
     requires packed { length packed.now ≡ 8 }
@@ -102,7 +105,9 @@ fn put_word(tag: u8, packed: &[u8], to: &mut [u8]) -> usize
     tag.count_ones() as usize
 }
 
-/// Unpacks a zero word and `more` further ones, or as many of these as `to` has room for.
+/// Unpacks a zero word and `more` further zero words. If `to` is too short for all of them, fills
+/// `to`, and returns in `zeros` how many zero bytes didn't fit. Precondition: `to` has room for one
+/// word.
 #[inline(always)]
 fn unpack_zeros(more: u8, to: &mut [u8]) -> Progress
     requires { 8 ≤ length to.old }
@@ -132,8 +137,9 @@ fn unpack_zeros(more: u8, to: &mut [u8]) -> Progress
     }
 }
 
-/// After a tag of 255, copies its word, which isn't packed. Also copies the further words that the
-/// count states, if all of them are in `packed` and fit in `to`; otherwise copies none of them.
+/// Unpacks a tag of 255: copies its word, which isn't packed. Also copies the further words that
+/// the count states, if all of them are in `packed` and fit in `to`; otherwise copies none of the
+/// further words.
 #[inline(always)]
 fn unpack_whole(packed: &[u8], to: &mut [u8]) -> Progress
     requires ready { CanUnpack packed.now to.old }
@@ -189,7 +195,8 @@ fn unpack_unit(packed: &[u8], to: &mut [u8]) -> Progress
     }
 }
 
-/// Unpacks words while `to` has room for one more, and at least `UNIT` packed bytes are left.
+/// Unpacks words while `to` has room for one more, and at least `UNIT` packed bytes are left. Stops
+/// earlier if words that a count states aren't all in `packed`, or don't all fit in `to`.
 pub(super) fn unpack_words(packed: &[u8], to: &mut [u8]) -> Progress
     requires { CanUnpack packed.now to.old }
     ensures { UnpacksFront packed.now to.new result }

@@ -1,4 +1,4 @@
-//! An input that unpacks another one.
+//! An input that unpacks the bytes of another input.
 ghost use Rattle.std.specs.Prelude.{Some, ℕ, List, if◌then◌else◌, nat_lt, ◌&&◌, ◌≡◌, ◌≤◌, ◌<◌, ◌+◌, ◌-◌, ◌∷◌, ◌↔◌, [], IsTrue, IsErr, false, true, IfOk, OnOk, OnErr, length, take, slice_range};
 ghost use Rattle.std.specs.Io.KnownBytes.{Consumes, IsAtEnd, ReadConsumes};
 ghost use Rattle.std.specs.Option.{option_map};
@@ -14,7 +14,8 @@ use crate::buffered::BufferedInput;
 use capnp_framing::devices::{DeviceFault, Input};
 
 /// Unpacks the bytes of a packed input. If the packed bytes end inside a word, the unpacked bytes
-/// end there, too, without an error. Doesn't read on after the packed input has failed.
+/// end there, too, without an error. Doesn't read from the packed input again after that has
+/// failed.
 #[derive(Drop)]
 pub struct UnpackingInput<R> {
     packed: ReadAhead<R>,
@@ -27,7 +28,7 @@ pub struct UnpackingInput<R> {
 }
 
 impl<R: Input> UnpackingInput<R> {
-    /// Unpacks the bytes of `packed`.
+    /// Makes an input that unpacks the bytes of `packed`.
     pub fn new(packed: R) -> Self
         ensures place { result.place ≡ Place.Tag }
         ensures zeros { result.zeros ≡ 0 }
@@ -46,8 +47,9 @@ impl<R: Input> UnpackingInput<R> {
         }
     }
 
-    /// Reads on to test whether the input is at its end: no unpacked byte is left, and the packed
-    /// bytes aren't cut short. If unpacked bytes are left, takes at most one of them.
+    /// Tests whether the input has ended: returns `true` only if no unpacked byte is left, and the
+    /// packed bytes aren't cut short. To find out, tries to read one unpacked byte. If there is
+    /// one, no later read returns that byte.
     pub fn finish(&mut self) -> Result<bool, DeviceFault>
         ensures whole { IsAtEnd (⟦<Self as Input>⟧.remaining self.old) → IfOk result
             (λ whole. KeepsWhole (⟦<Self as Input>⟧.ends_whole self.old) (Some whole)) }
@@ -67,15 +69,15 @@ impl<R: Input> UnpackingInput<R> {
     }
 
     /// Whether the packed bytes read so far end before a tag (not inside a word or before a count),
-    /// and no byte unpacked from them is left.
+    /// and all bytes unpacked from them have been returned.
     pub fn is_whole(&self) -> bool
         ensures { IsTrue result ↔ (self.now.zeros ≡ 0) × (self.now.place ≡ Place.Tag) }
     {
         self.zeros == 0 && matches!(self.place, Place::Tag)
     }
 
-    /// Reads at most `to.len()` bytes to the front of `to`, and returns their number: 0 only if
-    /// `to` is empty, or the packed bytes have ended.
+    /// Reads at most `to.len()` unpacked bytes to the front of `to`, and returns their number: 0
+    /// only if `to` is empty, or the packed bytes have ended.
     pub(super) fn unpack(&mut self, to: &mut [u8]) -> Result<usize, DeviceFault>
         ensures bound { IfOk result (λ n. n ≤ length to.new) }
         ensures bytes { ReadConsumes (⟦<Self as Input>⟧.remaining self.old)
@@ -113,7 +115,8 @@ impl<R: Input> UnpackingInput<R> {
         Ok(given)
     }
 
-    /// Reads at least one byte, unless the packed bytes have ended.
+    /// Reads some unpacked bytes to the front of `to`, and returns their number: at least 1 unless
+    /// the packed bytes have ended. Precondition: `to` isn't empty.
     fn unpack_some(&mut self, to: &mut [u8]) -> Result<usize, DeviceFault>
         requires { 0 < length to.old }
         ensures { UnpacksSome R.Input result self.old self.new to.new }
@@ -139,7 +142,8 @@ impl<R: Input> UnpackingInput<R> {
         Ok(self.give_zeros(to))
     }
 
-    /// Unpacks words from the bytes read ahead, and returns the number of unpacked bytes.
+    /// Unpacks words from the bytes read ahead to the front of `to`, and returns the number of
+    /// unpacked bytes.
     fn unpack_ahead(&mut self, to: &mut [u8]) -> usize
         requires zeros { self.old.zeros ≡ 0 }
         requires place { self.old.place ≡ Place.Tag }
@@ -154,7 +158,8 @@ impl<R: Input> UnpackingInput<R> {
         progress.given
     }
 
-    /// Writes due zero bytes to the front of `to`, and returns their number.
+    /// Writes zero bytes that are already unpacked, but not returned yet, to the front of `to`.
+    /// Returns the number of bytes written.
     fn give_zeros(&mut self, to: &mut [u8]) -> usize
         requires due { 0 < self.old.zeros }
         requires room { 0 < length to.old }
@@ -166,8 +171,9 @@ impl<R: Input> UnpackingInput<R> {
         n
     }
 
-    /// Reads bytes of words that aren't packed, directly into `to`. `left` + 1 of these bytes
-    /// remain.
+    /// Reads bytes of words that aren't packed, directly into `to`, and returns their number.
+    /// Before the call, `left` + 1 bytes of these words are still to be read: the next one, and
+    /// `left` after it.
     fn read_raw(&mut self, left: u16, to: &mut [u8]) -> Result<usize, DeviceFault>
         requires place { self.old.place ≡ Place.Raw left }
         requires zeros { self.old.zeros ≡ 0 }
@@ -183,8 +189,8 @@ impl<R: Input> UnpackingInput<R> {
     }
 }
 
-/// The place after the next `taken` bytes of words that aren't packed, if `left` + 1 of these bytes
-/// remain.
+/// The place after the next `taken` bytes of words that aren't packed. `left` + 1 bytes of these
+/// words are still to be read: the next one, and `left` after it.
 fn raw_behind(left: u16, taken: usize) -> Place
     requires some { 0 < taken }
     requires inside { taken ≤ left + 1 }

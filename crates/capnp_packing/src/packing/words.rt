@@ -5,14 +5,14 @@ ghost use Rattle.capnp_packing.specs.Words.{CanPack, PacksFront};
 
 use std::simd::prelude::*;
 
-/// The most packed bytes made in one step: a tag, a word, a count, and as many words as the count
-/// can state.
+/// The most packed bytes that one call of `pack_unit` makes: 1 for a tag, 8 for its word, 1 for a
+/// count, and 255 * 8 for the words that the count states.
 pub(super) const MOST_BYTES: usize = 2050;
 
 /// How far packing got.
 #[derive(Clone, Copy)]
 pub(super) struct Packed {
-    /// The number of bytes of words taken.
+    /// The number of bytes of the words that were packed.
     pub(super) taken: usize,
     /// The number of packed bytes written.
     pub(super) given: usize,
@@ -43,8 +43,8 @@ fn zero_words(bytes: &[u8]) -> u8
     n
 }
 
-/// Whether at most one byte of the word is zero. In the body, `zeros` has the highest bit of each
-/// zero byte.
+/// Whether at most one byte of the word is zero. In the code, `zeros` has the highest bit set in
+/// each byte that is zero in `word`.
 #[inline(always)]
 fn is_full(word: u64) -> bool {
     const LOW: u64 = 0x7f7f_7f7f_7f7f_7f7f;
@@ -141,7 +141,8 @@ fn pack_full(to: &mut [u8], from: &[u8]) -> Packed
     }
 }
 
-/// Packs one word by its tag, or a run of words.
+/// Packs the first word of `from`. If that has only zero bytes or no zero byte, also packs words
+/// after it, like `pack_zeros` or `pack_full`.
 #[inline(always)]
 fn pack_unit(to: &mut [u8], from: &[u8]) -> Packed
     requires { CanPack to.old from.now }
@@ -162,7 +163,8 @@ fn pack_unit(to: &mut [u8], from: &[u8]) -> Packed
     }
 }
 
-/// Packs words while there is one left, and `to` has room for `MOST_BYTES` more bytes.
+/// Packs words of `from`, in order, while there is a word left and `to` has room for `MOST_BYTES`
+/// more bytes.
 pub(super) fn pack_front(to: &mut [u8], from: &[u8]) -> Packed
     requires { CanPack to.old from.now }
     ensures { PacksFront to.new from.now result }

@@ -39,13 +39,13 @@ impl<'a, A: ReaderArena> Pointer<'a, A> {
     /// After `None`, `head` is past the canonical words; otherwise it is unchanged.
     ///
     /// Tests the pointers in order. Counts in `lim` each pointer that isn't null. Charges the words
-    /// that the pointer's object claims, and one word for each list element without width. A struct
-    /// and a list take a level.
+    /// that the pointer's object claims, and one word for each list element without width. Each
+    /// struct and each list takes a level.
     ///
-    /// Never refuses if all of this holds: the pointer and words at some position of its segment,
-    /// `head` or another one, are canonical; `lim` covers these charges; and the nesting limit is
-    /// at least the value's depth. Otherwise it may refuse, with the first error found. After a
-    /// fault or a refusal, what was charged before stays charged.
+    /// Never refuses if all of this holds: for some `head`, this one or another, the test would
+    /// return `None` without limits; `lim` covers these charges; and the nesting limit is at least
+    /// the value's depth. Otherwise it may refuse, with the first error found. After a fault or a
+    /// refusal, what was charged before stays charged.
     ///
     /// Returns the first fault found; the fault's reason holds for the word that the fault names.
     /// If both sections of a struct, or of the elements of a list, are wider than needed, the fault
@@ -128,9 +128,9 @@ impl<'a, A: ReaderArena> Pointer<'a, A> {
     }
 }
 
-/// Tests the pointer at position `at` of the segment of `from`; its first object has to start at
-/// `head`. Returns the position after the canonical words. All objects have to be in this segment,
-/// so every level is tested with the same `from`.
+/// Tests the pointer at position `at` of the segment of `from`. The pointer's first object has to
+/// start at `head`. Returns the position after the canonical words. All objects have to be in this
+/// segment, so every level is tested with the same `from`.
 #[cycle(tests)]
 #[inline(always)]
 fn test_place<A: ReaderArena>(
@@ -165,8 +165,8 @@ fn test_place<A: ReaderArena>(
     }
 }
 
-/// Tests `count` consecutive pointers from position `at` on; their first object has to start at
-/// `first`.
+/// Tests `count` consecutive pointers from position `at` on. Their first object has to start at
+/// `first`. Returns the position after the canonical words.
 #[cycle(tests)]
 fn test_children<A: ReaderArena>(
     from: &Pointer<'_, A>,
@@ -187,7 +187,8 @@ fn test_children<A: ReaderArena>(
     Ok(head)
 }
 
-/// Tests the struct that the word at `at` describes.
+/// Tests the struct that the word at `at` describes. The struct has to start at `head`; a struct
+/// without words, at `at`. Returns the position after the canonical words.
 #[cycle(tests)]
 #[inline(always)]
 fn test_struct<A: ReaderArena>(
@@ -236,8 +237,8 @@ fn test_struct<A: ReaderArena>(
     test_sections(from, start, size, less(nesting_limit), test)
 }
 
-/// Tests the sections of a struct that starts at `start`. The first object that its pointers lead
-/// to has to start right after the struct.
+/// Tests the sections of a struct that starts at `start`. The first object that the struct's
+/// pointers lead to has to start right after the struct.
 #[cycle(tests)]
 #[inline(always)]
 fn test_sections<A: ReaderArena>(
@@ -378,7 +379,8 @@ fn test_list<A: ReaderArena>(
     }
 }
 
-/// Tests the elements of a list of structs that start at `start`; the list claims `claimed` words.
+/// Tests the elements, from position `start` on, of a list of structs whose pointer claims
+/// `claimed` words for them.
 #[cycle(tests)]
 fn test_structs<A: ReaderArena>(
     from: &Pointer<'_, A>,
@@ -485,8 +487,8 @@ fn test_rows<A: ReaderArena>(
     Ok(head)
 }
 
-/// Tests `count` consecutive pointers of a struct from position `at` on. Makes no call if `count`
-/// is 0.
+/// Tests `count` consecutive pointers of a struct from position `at` on, like `test_children`, but
+/// calls nothing if `count` is 0.
 #[cycle(tests)]
 #[inline(always)]
 fn test_row<A: ReaderArena>(
@@ -507,8 +509,8 @@ fn test_row<A: ReaderArena>(
     test_children(from, at, count, nesting_limit, first, test)
 }
 
-/// Tests a list of `count` numbers that starts at `start`: the bits after the last one have to be
-/// zero. Returns the position after the list.
+/// Tests a list of `count` numbers that starts at `start`: the bits after the last number, up to
+/// the end of its word, have to be zero. Returns the position after the list.
 #[inline(always)]
 fn test_flat(
     start: Place,
@@ -538,7 +540,7 @@ fn test_flat(
 }
 
 /// Returns the position after a list of `count` numbers that starts at `start`. If the bits after
-/// the last number aren't all zero, returns the position of the word with these bits as an error.
+/// the last number aren't all zero, returns, as an error, the position of the word with these bits.
 #[inline(always)]
 fn padded_end(bytes: &[u8], start: u32, size: ElementSize, count: u32) -> Result<u32, u32>
     requires inside { start + words_for (size_number size) count ≤ length (words_of bytes.now) }

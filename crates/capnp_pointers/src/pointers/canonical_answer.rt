@@ -15,9 +15,9 @@ use std::mem;
 /// be read.
 pub(crate) type Answer = Result<CanonicalFault, ErrorKind>;
 
-/// States that a test has stopped; the answer is in its `Test`. `Stopped` has no content, so a
-/// `Result` with it is returned in a register; a `Result` with the answer would be written to
-/// memory at each level.
+/// States that a test has stopped. The test's answer is in the field `answer` of its `Test`.
+/// `Stopped` has no content, so a `Result` with it is returned in a register; a `Result` with the
+/// answer would be written to memory at each level.
 #[derive(Clone, Copy)]
 pub(crate) struct Stopped;
 
@@ -43,7 +43,7 @@ impl Test {
     }
 }
 
-/// Stops a test with a fault at position `word` of the segment of `place`.
+/// Stores in `answer` a fault at position `word` of the segment of `place`, so that the test stops.
 #[cold]
 pub(crate) fn fault_at(
     answer: &mut Answer,
@@ -65,7 +65,9 @@ pub(crate) fn fault_at(
     Stopped
 }
 
-/// Stops a test because the object that `word` points to was refused with `kind`.
+/// Stores in `answer` the refusal of the object that `word` points to, so that the test stops.
+/// Reading the object was refused with `kind`; for a list, `answer` has `NestingLimitExceeded` in
+/// place of `MessageIsTooDeeplyNestedOrContainsCycles`.
 #[cold]
 pub(crate) fn refused(answer: &mut Answer, word: WirePointer, kind: ErrorKind) -> Stopped
     ensures { answer.new ≡ Err (level_refusal_name word.0 kind) }

@@ -18,7 +18,7 @@ pub struct CanonicalFault {
     pub reason: CanonicalFaultReason,
 }
 
-/// Why a message isn't in canonical form at a word. `{}` writes the text.
+/// Why a message isn't in canonical form at a word. `{}` writes the reason's `text`.
 #[derive(Clone, Copy, Debug, PartialEq, Eq, Error)]
 pub enum CanonicalFaultReason {
     /// There isn't exactly one segment. The word is the first of segment 1, or of segment 0 if
@@ -43,8 +43,8 @@ pub enum CanonicalFaultReason {
     DataSection,
     /// The last pointer of a pointer section is null. The word is this one.
     PointerSection,
-    /// The elements of a list of structs don't take the words that its pointer claims. The word is
-    /// the tag.
+    /// The elements of a list of structs take more or fewer words than the list's pointer claims.
+    /// The word is the tag.
     ElementWords,
     /// The elements of a list of structs have more data words than any of them uses. The word is
     /// the tag.

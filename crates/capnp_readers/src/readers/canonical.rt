@@ -1,4 +1,5 @@
-//! Tests whether what a reader is at is in canonical form.
+//! Tests whether the value that a pointer leads to, or a struct that is being read, is in canonical
+//! form.
 ghost use Rattle.std.specs.Prelude.{◌≡◌, ◌≢◌, ◌↔◌, None, IsOk, IsTrue, IsNone, Ok, true, false, IfOk, IfErr, IfNone, IfSome};
 ghost use Rattle.capnp_readers.specs.Readers.{read_by};
 ghost use Rattle.capnp_readers.specs.Sizes.{pointers_read};
@@ -18,20 +19,23 @@ impl<'a, A: ReaderArena> PointerReader<'a, A> {
     /// "Canonicalization").
     ///
     /// Returns `true` exactly if the words from `head` on are the canonical words of a value, and
-    /// the pointer is the canonical pointer to that value. Then there are no far pointers and no
-    /// capabilities, and objects are in the order of their pointers. Sections and elements are no
-    /// larger than needed, and zeros follow the last element of a list. Words after the value, and
-    /// other segments, don't matter. A null pointer is canonical; a place without a word isn't.
-    /// After `true`, `head` is past the canonical words; otherwise it is unchanged.
+    /// the pointer is the canonical pointer to that value. Such words have no far pointers and no
+    /// capabilities; their objects are in the order of their pointers; sections and elements are no
+    /// larger than needed; and the bits between the last element of a list and the end of its last
+    /// word are zero. Words after the value, and other segments, don't matter. A null pointer is
+    /// canonical; a pointer whose place isn't inside its segment isn't. After `true`, `head` is
+    /// past the canonical words; otherwise it is unchanged.
     ///
-    /// Tests the pointers in order. Counts in `lim` each pointer that isn't null. Charges the words
-    /// that the pointer's object claims, and one word for each list element without width. A struct
-    /// and a list take a level.
+    /// Tests this pointer and those below it in order. For each one that isn't null, counts it in
+    /// `lim`, and charges `lim` the words that its object has according to the pointer, and one
+    /// word for each list element without width. A struct and a list each take a level of the
+    /// nesting limit.
     ///
     /// Never refuses if all of this holds: the pointer and words at some position of its segment,
-    /// `head` or another one, are canonical; `lim` covers these charges; and the nesting limit is
-    /// at least the value's depth. Otherwise it may refuse, with the first fault found:
-    /// `MessageContainsOutOfBoundsPointer`, `InlineCompositeListsOfNonStructTypeAreNotSupported`,
+    /// which may be another position than `head`, are canonical; `lim` covers these charges; and
+    /// the nesting limit is at least the value's depth. Otherwise it may refuse, with the first
+    /// fault found: `MessageContainsOutOfBoundsPointer`,
+    /// `InlineCompositeListsOfNonStructTypeAreNotSupported`,
     /// `InlineCompositeListsElementsOverrunItsWordCount` or `ReadLimitExceeded`; or, if no level is
     /// left, `MessageIsTooDeeplyNestedOrContainsCycles` for a struct and `NestingLimitExceeded` for
     /// a list. Returns `false` at the first word that isn't canonical. After a refusal or `false`,
@@ -156,8 +160,8 @@ impl<'a, A: ReaderArena> StructReader<'a, A> {
     }
 
     /// Like `StructReader::is_canonical` with `head` for both positions: the struct has to start at
-    /// `head`, and the first object that its pointers lead to right after the struct. If the call
-    /// returns `true`, it moves `head` past the struct and all objects below it.
+    /// `head`, and the first object that its pointers lead to has to start right after the struct.
+    /// If the call returns `true`, it moves `head` past the struct and all objects below it.
     pub fn is_canonical_shared(
         &self,
         lim: &mut ReadLimiter,

@@ -16,22 +16,24 @@ use capnp_messages::messages::{
 use capnp_messages::text::write_size;
 use std::alloc::Global;
 
-/// The fault of an output.
+/// The fault if writing to the output fails.
 const WRITE_FAILED: Fault = Fault::Frame(FrameError::WriteFailed);
 
-/// What is kept from one message to the next.
+/// What a run keeps from one message to the next.
 #[derive(Drop)]
 pub(super) struct Memory<A: Allocator> {
     alloc: Global,
-    /// The allocator of messages and copies; `None` only while a copy is made.
+    /// The allocator for frames and copies; `None` only while a copy is being made.
     pub(super) allocator: Option<A>,
-    /// Whether the previous message was canonical already. Testing a message before copying it pays
-    /// off only if it is canonical, so a message is tested only if the previous one was canonical.
+    /// Whether the previous message was canonical already. To test a message before copying it
+    /// saves time only if the message is canonical, so `canon` tests a message only if the previous
+    /// one was canonical.
     was_canonical: bool,
 }
 
 impl<A: Allocator> Memory<A> {
-    /// The memory before the first message, which will be tested.
+    /// Makes the memory of a run before its first message. `was_canonical` starts as `true`, so
+    /// `canon` tests the first message.
     pub(super) fn new(alloc: Global, allocator: A) -> Self
         ensures { result.allocator ≡ Some allocator }
     {
@@ -64,7 +66,7 @@ fn is_first_segment<S: ReaderSegments>(source: &ReaderArenaImpl<S>, bytes: &[u8]
     }
 }
 
-/// Returns `holds` if the answer was written, otherwise the fault of the output.
+/// Returns `holds` if the answer was written, and the error `WRITE_FAILED` if it wasn't.
 fn if_written(written: Result<(), DeviceFault>, holds: bool) -> Result<bool, Fault>
     ensures written { OnOk written (result ≡ Ok holds) }
     ensures failed { OnErr written (result ≡ Err (Fault.Frame WriteFailed)) }
@@ -75,8 +77,8 @@ fn if_written(written: Result<(), DeviceFault>, holds: bool) -> Result<bool, Fau
     }
 }
 
-/// Copies the message in canonical form, writes the copy, and notes whether the message was
-/// canonical already.
+/// Makes a canonical copy of the message in `source`, writes the copy, and notes in `memory`
+/// whether the message was canonical already. Returns `true` if the copy is written.
 fn canon_copy<A: Allocator, S: ReaderSegments, W: Output>(
     memory: &mut Memory<A>,
     form: Form,
@@ -110,8 +112,9 @@ fn canon_copy<A: Allocator, S: ReaderSegments, W: Output>(
     }
 }
 
-/// Writes the message in canonical form: from its own segment, if it is canonical already and the
-/// previous message was, too; otherwise by a copy.
+/// Writes the canonical words of the message. These are the words of its own segment if the message
+/// is canonical already and the previous one was, too; otherwise makes a canonical copy. Returns
+/// `true` if the words are written.
 fn canon<A: Allocator, S: ReaderSegments + Drop, W: Output>(
     memory: &mut Memory<A>,
     form: Form,
@@ -136,7 +139,8 @@ fn canon<A: Allocator, S: ReaderSegments + Drop, W: Output>(
     canon_copy(memory, form, task, &source, output)
 }
 
-/// Answers one message: writes what the task asks for, and returns whether the answer is yes.
+/// Answers one message: writes what `task` asks for. Returns `false` if the command is `Check` and
+/// the message isn't canonical; returns `true` after any other answer.
 pub(super) fn answer<A: Allocator, S: ReaderSegments + Drop, W: Output>(
     memory: &mut Memory<A>,
     task: Task,

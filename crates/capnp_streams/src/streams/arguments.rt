@@ -1,4 +1,4 @@
-//! The arguments, one by one.
+//! Parses the arguments, one by one.
 ghost use Rattle.std.specs.Prelude.{◌≡◌, ◌<◌, MatchOption, length};
 ghost use Rattle.std.specs.List.{after_first, before_first, position_or_len};
 ghost use Rattle.capnp_streams.specs.Arguments.{assigned_step, budget_of, command_step, end_of, exclusion_of, form_exclusion, has_option_form, is_equals, line_reads_flat, line_with_value, named_step, nesting_of, operand_step, option_named, option_step, option_text, parted_step, plain_line, setting_text, step_if_allowed, argument_step, step_or, line_task, verb_exclusion, verb_named, verb_text};
@@ -8,7 +8,7 @@ use capnp_arena::arena::ReaderOptions;
 use capnp_messages::messages::{Command, Form};
 use capnp_messages::text::{parse_budget, parse_nesting};
 
-/// A command, without its options.
+/// A command of `capnp_canon`, without its options.
 #[derive(Clone, Copy, Debug, PartialEq, Eq)]
 pub enum Verb {
     Canon,
@@ -17,7 +17,7 @@ pub enum Verb {
 }
 
 impl Verb {
-    /// Its text.
+    /// Returns the argument that is this command.
     pub fn text(self) -> &'static str
         ensures { result.now ≡ verb_text self }
     {
@@ -65,7 +65,7 @@ const OPTIONS: [OptionName; 13] = [
 ];
 
 impl OptionName {
-    /// Its text.
+    /// Returns the argument that is this option, without a value.
     pub fn text(self) -> &'static str
         ensures { result.now ≡ option_text self }
     {
@@ -95,7 +95,7 @@ pub enum Setting {
 }
 
 impl Setting {
-    /// Its text.
+    /// Returns the argument that is this option, without its value.
     pub fn text(self) -> &'static str
         ensures { result.now ≡ setting_text self }
     {
@@ -106,26 +106,26 @@ impl Setting {
     }
 }
 
-/// What is wrong with an argument, or missing.
+/// Why arguments are refused: what is wrong with an argument, or which argument is missing.
 #[derive(Clone, Copy, Debug, PartialEq, Eq)]
 pub enum ArgumentFault {
     /// There is no command.
     MissingCommand,
-    /// The argument is in the place of the command and isn't one.
+    /// The argument is expected to be the command, but isn't one.
     UnknownCommand,
-    /// The argument looks like an option and isn't one.
+    /// The argument looks like an option, but isn't one.
     UnknownOption,
     /// The value of the option is missing.
     MissingValue(Setting),
-    /// The argument comes after the option and isn't a value of it.
+    /// The argument follows the option, but isn't a valid value of the option.
     InvalidValue(Setting),
-    /// The argument is the option, a `=`, and a text that isn't a value of the option.
+    /// The argument is the option, a `=`, and a text that isn't a valid value of the option.
     InvalidSetting(Setting),
     /// The argument is an option that takes no value, with a `=` and a value.
     UnwantedValue(OptionName),
     /// The command doesn't have the option.
     NotOfCommand(Verb, OptionName),
-    /// The two options exclude each other.
+    /// The two options can't be used together.
     Excluded(OptionName, OptionName),
 }
 
@@ -149,16 +149,16 @@ pub(super) struct Line {
 /// What an argument does to the `Line` of the arguments before it.
 #[derive(Clone, Copy)]
 pub(super) enum ArgumentStep {
-    /// Changes the line to this one.
+    /// Replaces the line by this one.
     Goes(Line),
     /// Leaves the line unchanged: the argument is a file.
     File,
-    /// The arguments ask for this, and the rest is ignored.
+    /// The arguments so far ask for this, and all later arguments are ignored.
     Stops(Request),
 }
 
 impl Line {
-    /// The line before any argument.
+    /// Returns the line before any argument.
     pub(super) fn plain() -> Self
         ensures { result ≡ plain_line }
     {
@@ -176,7 +176,7 @@ impl Line {
         }
     }
 
-    /// Whether the input is the raw words of one message.
+    /// Whether the line asks to read the input as the raw words of one message.
     fn reads_flat(&self) -> bool
         ensures { result ≡ line_reads_flat self.now }
     {
@@ -186,8 +186,8 @@ impl Line {
         }
     }
 
-    /// The fault if the command doesn't have one of the line's options; `None` if it has all of
-    /// them.
+    /// Returns the fault if the line's command doesn't have one of the line's options. Returns
+    /// `None` if the command has all of them, or if there is no command yet.
     fn verb_exclusion(&self) -> Option<ArgumentFault>
         ensures { result ≡ verb_exclusion self.now.verb self.now }
     {
@@ -206,8 +206,8 @@ impl Line {
         Some(ArgumentFault::NotOfCommand(verb, option))
     }
 
-    /// The fault if two of the line's options exclude each other; otherwise `None`. Hex digits are
-    /// neither raw words nor packed, and raw words are never read packed.
+    /// Returns the fault if two of the line's options can't be used together; otherwise `None`. Hex
+    /// digits are written neither as raw words nor packed, and raw words are never read packed.
     fn form_exclusion(&self) -> Option<ArgumentFault>
         ensures { result ≡ form_exclusion self.now }
     {
@@ -224,7 +224,7 @@ impl Line {
         }
     }
 
-    /// Why the arguments of the line don't go together; `None` if they do.
+    /// Returns why the command and options of the line can't be used together; `None` if they can.
     fn exclusion(&self) -> Option<ArgumentFault>
         ensures { result ≡ exclusion_of self.now }
     {
@@ -234,7 +234,8 @@ impl Line {
         }
     }
 
-    /// The step that changes to this line; an error if its arguments don't go together.
+    /// Returns the step that replaces the line before by this one; an error if the command and
+    /// options of this line can't be used together.
     fn if_allowed(self) -> Result<ArgumentStep, ArgumentFault>
         ensures { result ≡ step_if_allowed self }
     {
@@ -244,7 +245,7 @@ impl Line {
         }
     }
 
-    /// The step of the argument that is `option`, without a `=`.
+    /// Returns what the argument `option`, without a `=`, does to the line.
     fn with_option(self, option: OptionName) -> Result<ArgumentStep, ArgumentFault>
         ensures { result ≡ option_step option self }
     {
@@ -286,7 +287,8 @@ impl Line {
         }
     }
 
-    /// The line with `text` as the value of `setting`; `None` if `text` isn't a value of it.
+    /// Returns the line with `text` as the value of `setting`; `None` if `text` isn't a valid value
+    /// of `setting`.
     fn with_value(self, setting: Setting, text: &str) -> Option<Self>
         ensures { result ≡ line_with_value setting text.now self }
     {
@@ -316,8 +318,8 @@ impl Line {
         }
     }
 
-    /// The step of `text` as the value of `setting`; the error `fault` if `text` isn't a value of
-    /// it.
+    /// Returns what `text`, as the value of `setting`, does to the line; the error `fault` if
+    /// `text` isn't a valid value of `setting`.
     fn with_value_or(
         self,
         setting: Setting,
@@ -332,8 +334,8 @@ impl Line {
         }
     }
 
-    /// The step of an argument that is `option`, a `=` and `value`. `option` is `None` if there is
-    /// no such option.
+    /// Returns what an argument does to the line that is an option's name, a `=` and `value`. The
+    /// caller passes the option as `option`, or `None` if no option has this name.
     fn with_assigned(
         self,
         option: Option<OptionName>,
@@ -355,7 +357,8 @@ impl Line {
         }
     }
 
-    /// The step of the argument `text`, which looks like an option but isn't just an option's name.
+    /// Returns what the argument `text` does to the line. The caller passes a text that looks like
+    /// an option, but isn't just an option's name.
     fn with_parted(self, text: &str) -> Result<ArgumentStep, ArgumentFault>
         ensures { result ≡ parted_step text.now self }
     {
@@ -365,7 +368,8 @@ impl Line {
         }
     }
 
-    /// The step of the argument `text`, which looks like an option.
+    /// Returns what the argument `text` does to the line. The caller passes a text that looks like
+    /// an option.
     fn with_option_text(self, text: &str) -> Result<ArgumentStep, ArgumentFault>
         ensures { result ≡ named_step (option_named text.now) text.now self }
     {
@@ -375,8 +379,9 @@ impl Line {
         }
     }
 
-    /// The step of the argument `text`, which is neither an option nor the value of one: it is the
-    /// command if there is none yet, and otherwise a file.
+    /// Returns what the argument `text` does to the line. The caller passes a text that is neither
+    /// an option nor the value of one: it is the command if the line has none yet, and otherwise a
+    /// file.
     fn with_operand(self, text: &str) -> Result<ArgumentStep, ArgumentFault>
         ensures { result ≡ operand_step self.verb text.now self }
     {
@@ -386,7 +391,8 @@ impl Line {
         }
     }
 
-    /// The step of the command `verb`; an error if it is `None`.
+    /// Returns what the command `verb` does to the line; the error `UnknownCommand` if `verb` is
+    /// `None`.
     fn with_command(self, verb: Option<Verb>) -> Result<ArgumentStep, ArgumentFault>
         ensures { result ≡ command_step verb self }
     {
@@ -400,7 +406,8 @@ impl Line {
         }
     }
 
-    /// What the argument `text` does to the line.
+    /// Returns what the next argument, `text`, does to the line; an error if `text` can't follow
+    /// the arguments before it.
     pub(super) fn with_argument(self, text: &str) -> Result<ArgumentStep, ArgumentFault>
         ensures { result ≡ argument_step text.now self }
     {
@@ -413,7 +420,8 @@ impl Line {
         }
     }
 
-    /// What the line asks for if no argument follows.
+    /// Returns what the line asks for if no argument follows; an error if a command or the value of
+    /// an option is missing.
     pub(super) fn request(self) -> Result<Request, ArgumentFault>
         ensures { result ≡ end_of self }
     {
@@ -426,7 +434,7 @@ impl Line {
         }
     }
 
-    /// The task that the line asks for, with the command `verb`.
+    /// Returns the task that the line asks for, with the command `verb`.
     fn task(self, verb: Verb) -> Task
         ensures { result ≡ line_task verb self }
     {
@@ -484,7 +492,7 @@ fn verb_of(text: &str) -> Option<Verb>
     }
 }
 
-/// What comes before and after the first `=` of `text`; `None` if there is no `=`.
+/// Returns the parts of `text` before and after its first `=`; `None` if there is no `=`.
 fn parted(text: &str) -> Option<(&str, &str)>
     ensures { MatchOption result (position_or_len is_equals text.now ≡ length text.now) (λ x.
         (position_or_len is_equals text.now < length text.now)
@@ -494,14 +502,15 @@ fn parted(text: &str) -> Option<(&str, &str)>
     text.split_once('=')
 }
 
-/// The nesting limit that `text` states; `None` if it doesn't state one.
+/// Returns the nesting limit that `text` states; `None` if `text` doesn't state one.
 fn nesting(text: &str) -> Option<i32>
     ensures { result ≡ nesting_of text.now }
 {
     parse_nesting(text)
 }
 
-/// The traversal limit in words that `text` states; `None` if it doesn't state one.
+/// Returns the traversal limit in words that `text` states, which is `Some(None)` if `text` is
+/// `none`. Returns `None` if `text` doesn't state a traversal limit.
 fn budget(text: &str) -> Option<Option<usize>>
     ensures { result ≡ budget_of text.now }
 {

@@ -17,7 +17,7 @@ pub enum Fault {
 }
 
 impl Fault {
-    /// The name of the refusal.
+    /// The name of the fault, which is printed after `refused`.
     pub fn name(&self) -> &'static str
         ensures { result.now ≡ fault_name self.now }
     {

@@ -15,25 +15,27 @@ use capnp_framing::framing::{OwnedSegments, read_segment_into_with};
 use capnp_messages::messages::CopyMemory;
 use std::alloc::Global;
 
-/// Does a task with the one message that the input holds, writes the answer, and returns whether it
-/// is yes.
+/// Does `task` with the one message that the input holds as raw words, and writes the answer.
+/// Returns `false` if the command is `Check` and the message isn't canonical; returns `true` after
+/// any other answer.
 ///
-/// All bytes of the input are the words of the message's only segment, without a frame, as `Canon`
-/// writes them in the form `Flat` (encoding specification, "Canonicalization"). There may be at
-/// most as many words as the traversal limit. The answer is the one that `run_with` writes for the
-/// message. An empty input is a segment of no words, which has no root:
-/// `MessageContainsOutOfBoundsPointer`.
+/// All bytes of the input are read as the words of the message's only segment, without a frame, as
+/// `Canon` writes them in the form `Flat` (encoding specification, "Canonicalization"). The number
+/// of these words may be at most the traversal limit. The answer is the one that `run_with` writes
+/// for the message. An empty input is a segment without words, so without a root pointer; it is
+/// refused with `MessageContainsOutOfBoundsPointer`.
 ///
 /// Refusals: `Truncated` if the bytes end inside a word; `MessageTooLong` if there are more words
 /// than the limit; the fault of the message, if it can't be copied, tested or measured;
-/// `WriteFailed` if the output failed. After all refusals but `WriteFailed`, nothing is written. If
-/// the raw words are a message that has an answer within the limits, the only refusals are that
-/// memory runs out or a device fails.
+/// `WriteFailed` if the output failed. After any refusal except `WriteFailed`, nothing has been
+/// written. If the raw words are a message that has an answer within the limits, the call is
+/// refused only if memory runs out, or if the input or the output fails.
 ///
-/// Copies take memory from the allocator. The bytes read take memory from the heap, and the
-/// allocator is asked only if the heap refuses; so the allocator doesn't bound the memory for these
-/// bytes. The allocator's `refused` grows by 1 for an `AllocationFailed`, and otherwise not.
-/// `Check` and `Size` take memory only for the bytes read.
+/// Memory for copies comes from `allocator`. Memory for the bytes read comes from the heap; only if
+/// the heap has none, it is requested from `allocator`. So a limit of `allocator` doesn't limit
+/// this memory. If the call is refused with `AllocationFailed`, the allocator has counted one more
+/// refusal (`A.refusals`); after any other result it has counted none. `Check` and `Size` take
+/// memory only for the bytes read.
 pub fn run_flat_with<A: Allocator, R: Input, W: Output>(
     alloc: Global,
     allocator: A,
@@ -69,7 +71,7 @@ pub fn run_flat_with<A: Allocator, R: Input, W: Output>(
     }
 }
 
-/// Like `run_flat_with`, without an allocator: all memory comes from the heap.
+/// Like `run_flat_with`, but without an allocator: all memory comes from the heap.
 pub fn run_flat<R: Input, W: Output>(
     alloc: Global,
     task: Task,

@@ -17,12 +17,13 @@ use capnp_packing::buffered::BufferedOutput;
 use capnp_packing::packing::UnpackingInput;
 use std::alloc::Global;
 
-/// Unpacks a packed input (encoding specification, "Packing"), and does with the unpacked bytes
-/// what `run_with` does.
+/// Unpacks the input `packed` (encoding specification, "Packing"), and does with the unpacked bytes
+/// what `run_with` does with its input.
 ///
-/// If the packed bytes are cut short, inside a word or before a count, the run stops with
-/// `Truncated`. It has then answered all messages whose frames are complete, and written nothing
-/// for the one that is cut. `ReadFailed` means that the packed input has failed.
+/// If the packed bytes end inside a packed word, or where the count after a tag is missing, the run
+/// stops with `Truncated`. It has then answered all messages whose frames are complete, and has
+/// written nothing for the message that is cut short. The fault `ReadFailed` means that reading
+/// from `packed` failed.
 pub fn run_packed_with<A: Allocator, R: Input + Drop, W: BufferedOutput>(
     alloc: Global,
     allocator: A,
@@ -92,7 +93,7 @@ pub fn run_packed<R: Input + Drop, W: BufferedOutput>(
     answered
 }
 
-/// The stop with `error` after the messages that `summary` counts.
+/// Returns the `Stop` whose fault is `error`, after the messages that `summary` counts.
 fn behind(summary: Summary, error: FrameError) -> Stop
     ensures answered { result.answered ≡ summary.messages }
     ensures byte { result.byte ≡ summary.bytes }

@@ -15,15 +15,14 @@ use capnp_messages::messages::CopyMemory;
 use capnp_packing::buffered::{BufferedInput, BufferedOutput, pass_on_before_waiting};
 use std::alloc::Global;
 
-/// What was done with a stream that was answered to its end.
+/// The result of a run that has answered all messages of a stream.
 #[derive(Clone, Copy, Debug, PartialEq, Eq)]
 pub struct Summary {
     /// The number of messages.
     pub messages: u64,
     /// The total size of their frames in bytes, at most `u64::MAX`.
     pub bytes: u64,
-    /// Whether every answer was yes: for `Check`, whether each message is canonical; otherwise
-    /// always true.
+    /// For `Check`, whether every message is canonical; for any other command, always `true`.
     pub holds: bool,
 }
 
@@ -32,23 +31,24 @@ pub struct Summary {
 pub struct Stop {
     /// The number of messages answered.
     pub answered: u64,
-    /// The byte of the input at which the next frame begins, counted from 0: the total size of the
-    /// answered frames, at most `u64::MAX`. For a packed input, it counts unpacked bytes.
+    /// The byte of the input at which the frame of the next message begins, counted from 0: the
+    /// total size of the answered frames, at most `u64::MAX`. For a packed input, this is a
+    /// position in the unpacked bytes.
     pub byte: u64,
     /// Why the next message isn't answered.
     pub fault: Fault,
 }
 
-/// What was done with one message.
+/// The result for one message that was answered.
 #[derive(Clone, Copy)]
 struct Answered {
-    /// Whether the answer was yes.
+    /// For `Check`, whether the message is canonical; for any other command, `true`.
     holds: bool,
-    /// The size of its frame in bytes.
+    /// The size of the message's frame in bytes.
     bytes: u64,
 }
 
-/// The most words that a message may have for its frame to be read.
+/// Returns the largest number of words that a message may have; a frame with more words isn't read.
 pub(super) fn words_of(limits: ReaderOptions) -> u64
     ensures { result ≡ most_words limits }
 {
@@ -60,8 +60,8 @@ pub(super) fn words_of(limits: ReaderOptions) -> u64
 
 /// Reads the next message and answers it. Returns `None` at the end of the input.
 ///
-/// Precondition: the message is read ahead, or the output holds nothing back. So no read waits for
-/// a sender while the output holds an answer back.
+/// Precondition: the whole frame of the message is in the input's buffer, or the output has flushed
+/// all its bytes. So no read waits for a sender while the output still holds an answer.
 fn answer_next<A: Allocator, R: BufferedInput, W: BufferedOutput>(
     task: Task,
     input: &mut R,
@@ -105,8 +105,8 @@ fn answer_next<A: Allocator, R: BufferedInput, W: BufferedOutput>(
     }
 }
 
-/// Reads the next message and answers it; flushes the answers so far first, unless the message is
-/// read ahead. Returns `None` at the end of the input.
+/// Flushes the answers so far, unless the next message is already in the input's buffer; then reads
+/// this message and answers it. Returns `None` at the end of the input.
 fn next<A: Allocator, R: BufferedInput, W: BufferedOutput>(
     task: Task,
     input: &mut R,
@@ -139,11 +139,11 @@ fn next<A: Allocator, R: BufferedInput, W: BufferedOutput>(
     answer_next(task, input, segments, memory, output)
 }
 
-/// Does a task with each message of the input, and writes the answers in the order of the messages.
+/// Does `task` with each message of the input, and writes the answers in the order of the messages.
 ///
-/// The input is a stream of frames. Each holds a message of at most as many words as the traversal
-/// limit. The nesting limit and the traversal limit apply to each message separately. The answers
-/// are, by command:
+/// The input is a stream of frames. The number of words of each message may be at most the
+/// traversal limit. The nesting limit and the traversal limit apply to each message separately. The
+/// answers are, by command:
 ///
 /// - `Canon`: the message's canonical words (encoding specification, "Canonicalization"), as a
 ///   frame of one segment or without a frame; with `hex`, as a line of lower case hex digits, two a
@@ -154,17 +154,19 @@ fn next<A: Allocator, R: BufferedInput, W: BufferedOutput>(
 ///
 /// The run ends at the first message that isn't answered: its frame can't be read, the message is
 /// refused, or the output fails. Unless the output failed, the output then has the answers to all
-/// messages before that one, and nothing for that one. If every message of a stream of frames has
-/// an answer within the limits, the only refusals are that memory runs out or a device fails. Holds
-/// one message in memory at a time, and takes memory for a message only if it is larger than all
-/// before it. After a message that is refused, takes nothing more from the input. Before it reads a
-/// message that isn't read ahead, flushes the answers so far: no clause of this contract states
-/// this, but a precondition of `answer_next` does.
+/// messages before this one, and no byte for this one. If the input is a stream of frames whose
+/// messages all have an answer within the limits, the run is refused only if memory runs out, if
+/// the input or the output fails, or if there are more messages than a `u64` can count. Holds one
+/// message in memory at a time, and takes memory for a message only if it is larger than all before
+/// it. After a message that is refused, takes nothing more from the input. Flushes the answers so
+/// far before it reads a message that isn't already in the input's buffer: no clause of this
+/// contract states this, but a precondition of `answer_next` does.
 ///
-/// Copies take memory from the allocator. Frames take memory from the heap, and the allocator is
-/// asked only if the heap refuses; so the allocator doesn't bound the memory for frames. The
-/// allocator's `refused` grows by 1 for an `AllocationFailed`, and otherwise not. `Check` and
-/// `Size` take memory only for frames.
+/// Memory for copies comes from `allocator`. Memory for the frames read comes from the heap; only
+/// if the heap has none, it is requested from `allocator`. So a limit of `allocator` doesn't limit
+/// this memory. If the run stops with `AllocationFailed`, the allocator has counted one more
+/// refusal (`A.refusals`); after any other result it has counted none. `Check` and `Size` take
+/// memory only for the frames read.
 pub fn run_with<A: Allocator, R: BufferedInput, W: BufferedOutput>(
     alloc: Global,
     allocator: A,
@@ -225,8 +227,8 @@ pub fn run_with<A: Allocator, R: BufferedInput, W: BufferedOutput>(
     (Err(stop), memory.into_allocator())
 }
 
-/// Like `run_with`, without an allocator: all memory comes from the heap, and is reused from one
-/// message to the next.
+/// Like `run_with`, but without an allocator: all memory comes from the heap, and is reused from
+/// one message to the next.
 pub fn run<R: BufferedInput, W: BufferedOutput>(
     alloc: Global,
     task: Task,

@@ -18,9 +18,11 @@ pub struct Task {
     pub from_flat: bool,
     /// Whether canonical messages are written packed.
     pub pack: bool,
-    /// Whether canonical words, framed or raw, are written as hex digits, a line for each message.
+    /// Whether the canonical words of each message are written as a line of hex digits, without a
+    /// frame.
     pub hex: bool,
-    /// Whether nothing is written, so that only the status says whether each message is canonical.
+    /// Whether nothing is written to the output, so that only the program's exit status says
+    /// whether each message is canonical.
     pub quiet: bool,
 }
 
@@ -50,9 +52,9 @@ pub struct WrongArgument {
 /// The options are `--flat`, `--pack` and `--hex` (of `canon`), `--flat` and `--quiet` (of
 /// `check`), `--flat` (of `size`), and `--packed`, `--from-flat`, `--nesting N` and `--words N` (of
 /// all three). They may come anywhere. If one is repeated, the last counts. `--nesting=N` and
-/// `--words=N` are the same as with a space. `--hex` excludes `--flat` and `--pack`: digits are
-/// written neither raw nor packed. `--from-flat`, and `--flat` of `check` and `size`, exclude
-/// `--packed`: raw words are never read packed.
+/// `--words=N` are the same as with a space. `--hex` can't be used with `--flat` or `--pack`: hex
+/// digits are written neither raw nor packed. `--packed` can't be used with `--from-flat`, or with
+/// the `--flat` of `check` and `size`: raw words are never read packed.
 ///
 /// An argument looks like an option if it is `-` followed by more; `-` alone is standard input. Of
 /// the arguments that neither look like an option nor are the value of one, the first is the
@@ -88,7 +90,7 @@ pub fn parse_args(args: &[String]) -> Result<Request, WrongArgument>
     }
 }
 
-/// The files among the arguments, in order. Fails only if memory runs out.
+/// Returns the files among the arguments, in order. Fails only if memory runs out.
 pub fn named_files(alloc: Global, args: &[String]) -> Result<Vec<String>, AllocError>
     ensures { IfOk result (λ files.
         map string_bytes files.items ≡ files_of (map string_bytes args.now)) }

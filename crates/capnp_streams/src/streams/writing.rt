@@ -12,7 +12,7 @@ use capnp_messages::messages::{Form, write_words};
 use capnp_messages::text::write_number;
 use capnp_pointers::pointers::CanonicalFault;
 
-/// The number of bytes written as hex digits at a time.
+/// The largest number of bytes that are written as hex digits at a time.
 const PIECE: usize = 512;
 
 /// The number of hex digits of `PIECE` bytes.
@@ -97,8 +97,8 @@ fn write_hex_line<W: Output>(output: &mut W, bytes: &[u8]) -> Result<(), DeviceF
     write_all(output, b"\n")
 }
 
-/// Writes canonical words: if `hex`, as a line of lower case hex digits; otherwise in a frame or
-/// without one, by `form`.
+/// Writes the canonical words in `bytes`. If `hex` is `true`, writes them as a line of lower case
+/// hex digits; otherwise in a frame or as raw words, depending on `form`.
 pub(super) fn write_canonical_words<W: Output>(
     output: &mut W,
     bytes: &[u8],

@@ -1,4 +1,4 @@
-//! Copies a list that a `ListReader` is at (encoding specification, "Lists" and
+//! Copies a list that a `ListReader` reads (encoding specification, "Lists" and
 //! "Canonicalization").
 ghost use Rattle.std.specs.Prelude.{◌+◌, ◌↔◌, IsTrue};
 ghost use Rattle.capnp_copies.specs.Changes.{change, IsNullPlace};
@@ -29,10 +29,10 @@ use capnp_words::wire_pointer::{ElementSize, StructSize};
 /// the old words only the pointer changes.
 ///
 /// Refusals: those of reading the values; `CannotCreateACanonicalMessageWithACapability` for a
-/// capability if `canonicalize`. Only if the copy doesn't fit after the words of the pointer's
-/// segment: the arena's `AllocationFailed` or `MessageTooLarge`. Refuses a list of more elements or
-/// words than a list pointer can state with `MessageTooLarge(usize::MAX)`; no message holds such a
-/// list. After a refusal the pointer is null, the words that were allocated are zero, and what was
+/// capability if `canonicalize`; the arena's `AllocationFailed` or `MessageTooLarge`, only if the
+/// copy doesn't fit after the words of the pointer's segment; `MessageTooLarge(usize::MAX)` if the
+/// list has more elements or words than a list pointer can state, which no list in a message has.
+/// After a refusal the pointer is null, the words that were allocated are zero, and what was
 /// charged to `lim` stays charged.
 pub fn copy_list<A: BuilderArena, B: ReaderArena>(
     arena: &mut A,

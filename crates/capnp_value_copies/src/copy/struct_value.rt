@@ -1,4 +1,4 @@
-//! Copies a struct that a `StructReader` is at (encoding specification, "Structs" and
+//! Copies a struct that a `StructReader` reads (encoding specification, "Structs" and
 //! "Canonicalization").
 ghost use Rattle.std.specs.Prelude.{◌≡◌, ◌<◌, ◌^◌, IfOk, IfErr};
 ghost use Rattle.capnp_objects.specs.Reading.{words_from};
@@ -32,9 +32,9 @@ use capnp_words::words::used_part;
 ///
 /// Refusals: those of reading the values; `CannotCreateACanonicalMessageWithACapability` for a
 /// capability if `canonicalize`; the arena's `AllocationFailed` and `MessageTooLarge`, which occur
-/// only if the copy doesn't fit after the segment's words. If there are more than 65535 data words
-/// to copy: `MessageTooLarge` with their number, and nothing is charged. After a refusal the
-/// pointer is null, the words that were allocated are zero, and what was charged to `lim` stays
+/// only if the copy doesn't fit after the segment's words; `MessageTooLarge(n)`, where n is the
+/// number of data words to copy, if n is above 65535, and then nothing is charged. After a refusal
+/// the pointer is null, the words that were allocated are zero, and what was charged to `lim` stays
 /// charged.
 pub fn copy_struct_value<A: BuilderArena, B: ReaderArena>(
     arena: &mut A,
@@ -70,7 +70,8 @@ pub fn copy_struct_value<A: BuilderArena, B: ReaderArena>(
 /// The sections of `value` that a copy keeps: in plain form all words, in canonical form the words
 /// of each section up to the last one that isn't zero.
 ///
-/// Refuses with `MessageTooLarge` if these are more data words than a struct can have.
+/// Refuses with `MessageTooLarge(n)`, where n is the number of these data words, if a struct can't
+/// have that many.
 fn kept_sections<B: ReaderArena>(
     value: StructReader<'_, B>,
     canonicalize: bool,

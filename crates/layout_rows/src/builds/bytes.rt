@@ -11,7 +11,8 @@ use capnp_arena::arena::BuilderArena;
 use capnp_readers::readers::PointerPlace;
 use std::alloc::Global;
 
-/// Makes a call on a text or on data, and adds its answer. The call's bytes may be its default.
+/// Makes a call on a text or on data, and adds its answer. The bytes among the call's arguments may
+/// be a default.
 pub fn call<A: BuilderArena>(
     alloc: Global,
     arena: &mut A,

@@ -39,11 +39,11 @@ pub enum MessageCall {
     Allocated,
     /// Write a byte of the allocated words of a segment.
     WriteAllocated,
-    /// The pointer of a word.
+    /// The pointer at a word.
     PointerAt,
 }
 
-/// A call on a pointer.
+/// A call on a pointer, except for those on its bytes and those that copy.
 #[derive(Clone, Copy)]
 pub enum PointerCall {
     Word(WordCall),
@@ -53,7 +53,7 @@ pub enum PointerCall {
     StructList(Verb),
 }
 
-/// A call on a pointer's word only.
+/// A call that reads or writes only the pointer's word.
 #[derive(Clone, Copy)]
 pub enum WordCall {
     IsNull,
@@ -62,7 +62,7 @@ pub enum WordCall {
     GetCapability,
 }
 
-/// How to make an object or look for it.
+/// Whether to make an object or to find it, and what to return.
 #[derive(Clone, Copy)]
 pub enum Verb {
     /// Make the object, and return its place.
@@ -75,7 +75,7 @@ pub enum Verb {
     Get,
 }
 
-/// What the bytes of a list are.
+/// What kind of bytes a pointer leads to.
 #[derive(Clone, Copy)]
 pub enum Blob {
     Text,

@@ -12,7 +12,7 @@ use capnp_words::read_limiter::ReadLimiter;
 use capnp_words::wire_pointer::ElementSize;
 use std::alloc::Global;
 
-/// Copies from another message, to a pointer or to the content of a struct, and adds the outcome.
+/// Copies from another message to a pointer, or over the content of a struct, and adds the outcome.
 pub fn copy<A: BuilderArena>(
     alloc: Global,
     arena: &mut A,

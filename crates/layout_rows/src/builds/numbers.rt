@@ -20,7 +20,8 @@ use capnp_words::zero::Zero;
 use std::fmt::Display;
 use std::str::FromStr;
 
-/// Adds a number in a struct or a list to the answer, or writes the number. `of` is its type.
+/// Reads a number in a struct or a list, and adds it to the answer; or writes the number. `of` is
+/// the number's type.
 pub fn number<A: BuilderArena>(
     arena: &mut A,
     place: Place,
@@ -135,7 +136,8 @@ fn is_field(bits: u32, width: usize, index: usize) -> bool
     }
 }
 
-/// Writes an element of a list.
+/// Writes element `index` of a list; `Unfit` if the list isn't in the message, or has no such
+/// element, or the element is too narrow. For `()`, no element is needed.
 pub fn set_element<A: BuilderArena, T: PrimitiveElement + Drop>(
     arena: &mut A,
     place: ListPlace,
@@ -150,7 +152,8 @@ pub fn set_element<A: BuilderArena, T: PrimitiveElement + Drop>(
     Ok(())
 }
 
-/// An element of a list.
+/// Returns element `index` of a list; `Unfit` if the list isn't in the message, or has no such
+/// element, or the element is too narrow. For `()`, no element is needed.
 pub fn element<A: BuilderArena, T: PrimitiveElement>(
     arena: &mut A,
     place: ListPlace,

@@ -1,4 +1,5 @@
-//! Places of a message being built: pointers, structs and lists, and whether they are in it.
+//! Places of a message being built: pointers, structs and lists, and whether they are in the
+//! message.
 ghost use Rattle.std.specs.Prelude.{◌≡◌, ◌<◌, ◌^◌, ◌*◌, length, IsTrue, IfSome, IfOk};
 ghost use Rattle.capnp_format.specs.Segments.{segment, IsPlace};
 ghost use Rattle.capnp_readers.specs.Readers.{IsListPlace, IsStructPlace};
@@ -26,7 +27,7 @@ pub enum Place {
 }
 
 impl Place {
-    /// Shows the place.
+    /// Adds the place to the answer.
     pub fn put(self, out: &mut Output) {
         match self {
             Place::Pointer(place) => {
@@ -49,7 +50,7 @@ impl Place {
         }
     }
 
-    /// Shows what a reader of the place reads.
+    /// Adds what a reader of the place reads.
     pub fn read<A: BuilderArena>(self, arena: &mut A, out: &mut Output) -> Result<(), Fault> {
         match self {
             Place::Pointer(place) => read_pointer(arena, place, out),
@@ -114,7 +115,7 @@ fn words_in<A: BuilderArena>(arena: &A, id: u32) -> Option<u64>
     }
 }
 
-/// Whether the word of a pointer exists.
+/// Whether the message has the pointer's word.
 pub fn is_pointer<A: BuilderArena>(arena: &A, place: PointerPlace) -> bool
     ensures { IsTrue result → IsPlace (A.view arena.now).words place.segment place.word }
 {
@@ -179,7 +180,7 @@ fn words_of(size: ElementSize, width: u32, count: u32) -> u64
     }
 }
 
-/// The pointer at a place; `Unfit` if it doesn't exist.
+/// Returns a builder of the pointer at `place`; `Unfit` if it isn't in the message.
 pub fn pointer<A: BuilderArena>(
     arena: &mut A,
     place: PointerPlace,
@@ -196,7 +197,8 @@ pub fn pointer<A: BuilderArena>(
     })
 }
 
-/// The struct at a place; `Unfit` if it doesn't exist.
+/// Returns a builder of the struct at `place`; `Unfit` if it isn't in the message, or isn't
+/// aligned.
 pub fn structure<A: BuilderArena>(
     arena: &mut A,
     place: StructPlace,
@@ -210,7 +212,7 @@ pub fn structure<A: BuilderArena>(
     Ok(StructBuilder { arena, place })
 }
 
-/// The list at a place; `Unfit` if it doesn't exist.
+/// Returns a builder of the list at `place`; `Unfit` if it isn't in the message.
 pub fn list<A: BuilderArena>(arena: &mut A, place: ListPlace) -> Result<ListBuilder<'_, A>, Fault>
     ensures inside { IfOk result (λ b. IsListPlace (A.view b.arena.now).words b.place) }
     ensures place { IfOk result (λ b. b.place ≡ place) }

@@ -47,7 +47,8 @@ pub fn call<A: BuilderArena>(
     Ok(None)
 }
 
-/// A call's bytes as a default, if it has any; `Unfit` if they are too many.
+/// Returns the bytes among a call's arguments as a default, or `None` if the call has none; `Unfit`
+/// if there are too many.
 pub fn default_of<'a>(values: &Values<'_>, bytes: &'a [u8]) -> Result<Option<&'a [u8]>, Fault>
     ensures { IfOk result IsShortDefault }
 {
@@ -61,7 +62,7 @@ pub fn default_of<'a>(values: &Values<'_>, bytes: &'a [u8]) -> Result<Option<&'a
     }
 }
 
-/// Makes a call on the pointer's word only.
+/// Makes a call that reads or writes only the pointer's word, and adds its answer.
 fn word<A: BuilderArena>(
     mut pointer: PointerBuilder<'_, A>,
     call: WordCall,
@@ -85,7 +86,7 @@ fn word<A: BuilderArena>(
     Ok(())
 }
 
-/// Makes a pointer lead to a new struct, or looks for one.
+/// Makes a pointer lead to a new struct, or finds the struct that it leads to.
 fn structure<A: BuilderArena>(
     mut pointer: PointerBuilder<'_, A>,
     verb: Verb,
@@ -104,7 +105,8 @@ fn structure<A: BuilderArena>(
     Ok(Some(Place::Struct(place)))
 }
 
-/// Makes a pointer lead to a new list whose elements aren't structs, or looks for one.
+/// Makes a pointer lead to a new list whose elements aren't structs, or finds the list that it
+/// leads to.
 fn list<A: BuilderArena>(
     mut pointer: PointerBuilder<'_, A>,
     verb: Verb,
@@ -127,7 +129,7 @@ fn list<A: BuilderArena>(
     Ok(Some(Place::List(place)))
 }
 
-/// Makes a pointer lead to a new list of structs, or looks for one.
+/// Makes a pointer lead to a new list of structs, or finds the list that it leads to.
 fn struct_list<A: BuilderArena>(
     mut pointer: PointerBuilder<'_, A>,
     verb: Verb,

@@ -23,10 +23,11 @@ pub enum Op {
     List,
     Next,
     Size,
-    /// The test for canonical form, from a head on.
+    /// Tests a pointer for canonical form; the argument is the head, where its first object has to
+    /// start.
     Canonical,
-    /// The test of a struct for canonical form, with one head for the struct and one for what its
-    /// pointers lead to.
+    /// Tests a struct for canonical form, with one head for the struct and one for the objects that
+    /// its pointers lead to.
     CanonicalStruct,
     CanonicalShared,
     Number(NumberType),
@@ -35,7 +36,7 @@ pub enum Op {
     IsPointerNull,
     Section,
     Element,
-    /// An element under its list's own nesting limit.
+    /// An element with the list's own nesting limit.
     OwnElement,
     PointerElement,
     Get,
@@ -95,7 +96,7 @@ pub struct Call<'l> {
     pub default: Option<Vec<u8>>,
 }
 
-/// Parses calls, one a word.
+/// Parses calls; each of `words` is one.
 pub fn read_calls<'l>(alloc: Global, words: &[&'l str]) -> Result<Vec<Call<'l>>, Fault> {
     let mut list = Vec::new(alloc);
     for word in words {
@@ -123,7 +124,8 @@ fn read_call<'l>(alloc: Global, word: &'l str) -> Result<Call<'l>, Fault> {
     })
 }
 
-/// The number of a reader. A number that is too large is that of no reader.
+/// Parses the number of a reader. Returns `usize::MAX`, which no reader has, for a number that is
+/// too large.
 fn number_of(digits: &str) -> Result<usize, Fault> {
     match parse::number(digits) {
         Err(Fault::Unfit) => Ok(usize::MAX),

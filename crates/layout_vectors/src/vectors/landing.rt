@@ -1,6 +1,6 @@
-//! Where the pointers of a message lead (encoding specification, "Inter-Segment Pointers"). For
-//! this, the audit doesn't use the code that builds messages, and trusts no landing pad, because
-//! the audit has to find what a builder has done wrong.
+//! Finds where the pointers of a message lead (encoding specification, "Inter-Segment Pointers").
+//! The audit has to find what a builder has done wrong, so this code is separate from the code that
+//! builds messages, and trusts no landing pad.
 ghost use Rattle.std.specs.Prelude.{◌≡◌, ◌<◌, ◌/◌, ◌^◌, IsTrue, ◌↔◌, length, option_map};
 ghost use Rattle.capnp_format.specs.Bytes.{message, words_of};
 ghost use Rattle.capnp_format.specs.Segments.{segment, word_at, leads, near, far};
@@ -60,7 +60,8 @@ fn exists<A: ReaderArena>(arena: &A, id: u32) -> bool
     arena.get_segment(id).is_ok()
 }
 
-/// Where the pointer at `at` of segment `id`, which isn't null, leads; `None` if nowhere.
+/// Where the pointer at `at` of segment `id` leads; `None` if it leads nowhere. The caller passes a
+/// pointer that isn't null.
 pub(crate) fn follow<A: ReaderArena>(arena: &A, id: u32, at: u32) -> Option<PointerTarget>
     ensures { option_map target_at result ≡ leads (message (A.segments arena.now)) id at }
 {
@@ -72,8 +73,9 @@ pub(crate) fn follow<A: ReaderArena>(arena: &A, id: u32, at: u32) -> Option<Poin
     }
 }
 
-/// Where `word`, at `at` of segment `id`, leads as a near pointer; `None` if out of the segment.
-/// `pads` is the number of landing pad words read before.
+/// Where `word`, at `at` of segment `id`, leads as a near pointer; `None` if it leads out of the
+/// segment. `pads` is the number of words of the landing pad: 1 if `word` is itself a landing pad,
+/// otherwise 0.
 fn follow_near<A: ReaderArena>(
     arena: &A,
     id: u32,

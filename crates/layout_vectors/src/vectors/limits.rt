@@ -4,14 +4,15 @@ ghost use Rattle.std.specs.Prelude.{◌≡◌};
 use capnp_arena::arena::{Allocator, MAX_SEGMENT_WORDS};
 use capnp_words::error::ErrorKind;
 
-/// Passes requests to another allocator until that has made `segments` segments, and keeps at most
-/// `rows` rows. An arena has a row for each segment.
+/// Passes requests for segments to another allocator until it has made `segments` segments, and
+/// requests to keep rows until it has kept `rows` rows. A row is an arena's entry for one of its
+/// segments, in a list of the arena.
 ///
 /// A request of more than 536,870,911 words is refused with `MessageTooLarge`, and doesn't count in
-/// `refused`. Any other request beyond the limit, or refused by the other allocator, is refused
-/// with `AllocationFailed`, and counts in `refused`. A row that isn't kept is returned, and counts
-/// in `refused`, too. A segment that was returned and is used again counts once more as a segment
-/// made.
+/// `refused`. Any other request for a segment, if it is beyond the limit or the other allocator
+/// refuses it, is refused with `AllocationFailed`, and counts in `refused`. A row that isn't kept
+/// is returned, and counts in `refused`, too. A segment that the other allocator makes from
+/// returned memory counts like any other segment.
 #[derive(Drop)]
 pub struct LimitedAllocator<A: Allocator> {
     inner: A,
@@ -21,7 +22,7 @@ pub struct LimitedAllocator<A: Allocator> {
 }
 
 impl<A: Allocator> LimitedAllocator<A> {
-    /// An allocator over `inner` with these limits, which has refused nothing yet.
+    /// Makes an allocator over `inner` with these limits, which has refused nothing yet.
     pub fn new(inner: A, segments: u32, rows: u32) -> Self
         ensures inner { result.inner ≡ inner }
         ensures segments { result.segments ≡ segments }

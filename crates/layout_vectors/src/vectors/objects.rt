@@ -21,7 +21,8 @@ use std::alloc::AllocError;
 
 /// Marks the words of the object at `landing`, and appends the places of its pointers to `pending`.
 /// Returns `false` if there is no such object, one of its words is marked already, the bits after
-/// its last element aren't zero, or it claims more words than its elements have.
+/// the last element of a list of numbers aren't zero, or the tag of a list of structs isn't a
+/// struct pointer or states another number of words than the pointer to the list.
 pub(crate) fn take_object<A: ReaderArena>(
     arena: &A,
     marks: &mut Marks,
@@ -105,8 +106,8 @@ fn take_flat<A: ReaderArena>(
     marks.take(landing.segment, landing.start, words) && has_padding(arena, landing, size, count)
 }
 
-/// Whether the bits after the elements of the list of numbers at `landing` are zero. Precondition:
-/// the list's words are inside their segment.
+/// Whether the bits after the elements of the list of numbers at `landing`, up to the end of the
+/// list's last word, are zero. Precondition: the list's words are inside their segment.
 fn has_padding<A: ReaderArena>(
     arena: &A,
     landing: PointerTarget,
@@ -129,7 +130,8 @@ fn has_padding<A: ReaderArena>(
 }
 
 /// Whether the bits after the elements of the list of numbers that starts at word `start` of
-/// `bytes` are zero. Precondition: the list is inside `bytes`.
+/// `bytes`, up to the end of the list's last word, are zero. Precondition: the list is inside
+/// `bytes`.
 fn is_padded(bytes: &[u8], start: u32, size: ElementSize, count: u32) -> bool
     requires inside { start + words_for (size_number size) count ≤ length (words_of bytes.now) }
     requires small { length (words_of bytes.now) < 2 ^ 32 }

@@ -12,7 +12,7 @@ pub(crate) struct Spot {
     pub(crate) at: u32,
 }
 
-/// Appends the place `at` of segment `segment`.
+/// Appends the place at word `at` of segment `segment` to `pending`.
 pub(crate) fn put(pending: &mut Vec<Spot>, segment: u32, at: u32) -> Result<(), AllocError>
     ensures { OnOk result (pending.new.items ≡ pending.old.items ++ spots segment at 1) }
 {
@@ -20,7 +20,7 @@ pub(crate) fn put(pending: &mut Vec<Spot>, segment: u32, at: u32) -> Result<(), 
     Ok(())
 }
 
-/// Appends the places of the `count` consecutive pointers from `start` on.
+/// Appends the places of the `count` consecutive pointers from word `start` on to `pending`.
 #[tactic(auto, using(crate::proofs::SpotsMore::spots_more))]
 pub(crate) fn put_pointers(
     pending: &mut Vec<Spot>,
@@ -38,7 +38,8 @@ pub(crate) fn put_pointers(
     Ok(())
 }
 
-/// Appends the places of the pointers of `count` consecutive elements of `size`, from `start` on.
+/// Appends the places of the pointers in the `count` consecutive structs of `size` from word
+/// `start` on to `pending`.
 #[tactic(auto, using(crate::proofs::SpotsMore::element_spots_more, crate::proofs::SpotsMore::element_spots_none))]
 pub(crate) fn put_elements(
     pending: &mut Vec<Spot>,

@@ -19,10 +19,11 @@ use capnp_words::wire_pointer::{WirePointer, WirePointerKind};
 use capnp_words::words;
 use std::alloc::{AllocError, Global};
 
-/// Tests whether `segments` are as a builder leaves them: the root pointer means a value; each word
-/// of an object or a landing pad is inside its segment, and belongs to no other object or landing
-/// pad; the bits after the elements of lists are zero; lists of structs claim exactly the words of
-/// their elements; and every other word is zero.
+/// Tests whether `segments` are as a builder leaves them: the root pointer has a value, which means
+/// that it and all pointers that it leads to are valid; each word of an object or a landing pad is
+/// inside its segment, and belongs to no other object or landing pad; the bits after the elements
+/// of lists are zero; lists of structs claim exactly the words of their elements; and every other
+/// word is zero.
 ///
 /// Preconditions: there are fewer than 2^32 segments, each of fewer than 2^32 words, and segment 0
 /// has a word. Fails with `AllocationFailed` if memory runs out. Uses a byte of memory for each
@@ -51,8 +52,8 @@ pub fn audit(alloc: Global, segments: &[&[u8]]) -> Result<bool, ErrorKind>
     }
 }
 
-/// Tests whether the segments of `arena` are as a builder leaves them, like `audit`. `marks` has a
-/// mark for each word, and none is set.
+/// Tests whether the segments of `arena` are as a builder leaves them, like `audit`. Precondition:
+/// `marks` has one mark for each word, and no mark is set.
 fn walk_from_root<A: ReaderArena>(
     alloc: Global,
     arena: &A,
@@ -105,8 +106,8 @@ fn walk_pointer<A: ReaderArena>(
     }
 }
 
-/// Marks the words of the landing pad of `word`, if it is a far pointer. Returns `false` if one of
-/// them doesn't exist or is marked already.
+/// If `word` is a far pointer, marks the words of its landing pad; otherwise marks nothing. Returns
+/// `false` if one of these words doesn't exist or is marked already.
 fn take_pads(marks: &mut Marks, word: WirePointer) -> bool
     ensures { TakesPads (rows_of marks.old) (rows_of marks.new) word.0 result }
 {
