@@ -222,7 +222,8 @@ if is_wanted machines; then
     if has aarch64 aarch64-linux-gnu-gcc qemu-aarch64; then
         part 'make check, aarch64' checked aarch64 aarch64-linux-gnu-gcc -O2 RUNNER='qemu-aarch64 -L /usr/aarch64-linux-gnu'
     fi
-    set -- gcc -m32 -idirafter /usr/include/x86_64-linux-gnu
+    set -- i686-linux-gnu-gcc
+    command -v "$1" >/dev/null || set -- gcc -m32 -idirafter /usr/include/x86_64-linux-gnu
     if printf '#include <errno.h>\n' | "$@" -fsyntax-only -x c - 2>/dev/null; then
         part 'refused, i386' refused 'this needs a machine of 64 bits' "$@"
     else

@@ -3,7 +3,7 @@ import re
 import sys
 from collections import Counter
 
-from reading import PROMISES, Line, Names, Unknown, declared, size_of
+from reading import PROMISES, Line, Names, Unknown, declared, size_of, tag_of
 from writing import Writer
 
 # Attributes of functions: those that are passed to the C compiler, under these names, and those that C can do without.
@@ -74,7 +74,7 @@ class Function:
 
     def __init__(self, module, line, body):
         self.module, self.signature = module, Signature(module, line)
-        self.blocks, self.names = {}, Names()
+        self.blocks = {}
         lines = []
         for text in body:
             label = re.match(r'("[^"]*"|[-\w.$]+):', text)
@@ -87,8 +87,29 @@ class Function:
                 lines.append(text.strip())
         self.choices = {label: [self.choice(line) for line in lines if ' = phi ' in line] for label, lines in self.blocks.items()}
         self.leave_unused_casts()
+        self.names = Names(self.tags())
         self.locals = dict(self.local(Line(line)) for lines in self.blocks.values() for line in lines if ' = alloca ' in line)
         self.slots = self.shared()
+
+    @staticmethod
+    def front_of_block(lines):
+        """The first instructions of a block. Its `phi`s don't count, which change with each jump to the block."""
+        return '\n'.join([line for line in lines if ' = phi ' not in line][:4])
+
+    def tags(self):
+        """A tag for each value: of its instruction; of a `phi`, of its place in its block and the front of that."""
+        found = {}
+        for lines in self.blocks.values():
+            front = self.front_of_block(lines)
+            for number, line in enumerate(lines):
+                name, is_value, text = line.partition(' = ')
+                if is_value and name[0] == '%':
+                    found[name] = tag_of(f'phi {number}\n{front}' if text.startswith('phi ') else text)
+        return found
+
+    def label_tags(self):
+        """A tag for each block, of its front."""
+        return {f'%{label}': tag_of(self.front_of_block(lines)) for label, lines in self.blocks.items()}
 
     @staticmethod
     def choice(line):

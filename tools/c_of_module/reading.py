@@ -217,7 +217,10 @@ SIGNIFICANT = 63
 # The most of a value's name that is kept: C names for it add a number, and a word before it.
 FRONT = 32
 # What C names of values look like. Constants and internal functions get no such name.
-OF_A_VALUE = re.compile('[A-Za-z]+[0-9]*(_[0-9]+)?')
+OF_A_VALUE = re.compile('[A-Za-z]+[0-9]*(_[0-9a-z]{2})?(_[0-9]+)?')
+# A local of a function or one of its labels, and a note of the module.
+LOCAL = re.compile(r'%("[^"]*"|[-\w.$]+)')
+NOTE = re.compile(r'[!#]\d+')
 
 
 def within(name):
@@ -227,16 +230,29 @@ def within(name):
     return f'{name[:SIGNIFICANT - 9]}_{hashlib.sha256(name.encode()).hexdigest()[:8]}'
 
 
+def front_of(name):
+    """The letters at the front of a value's name. The numbers after them shift if anything changes in the function."""
+    return re.match('[A-Za-z]+', plain(name))[0][:FRONT]
+
+
+def tag_of(text):
+    """Two characters for a text of instructions. They don't depend on the numbers in the names of values, nor on notes."""
+    digits = '0123456789abcdefghijklmnopqrstuvwxyz'
+    text = NOTE.sub('', LOCAL.sub(lambda it: f'%{front_of(it[0])}', text))
+    number = int.from_bytes(hashlib.sha256(text.encode()).digest()[:4], 'big')
+    return digits[number % 36] + digits[number // 36 % 36]
+
+
 class Names:
     """C names for those of the module, a different one for each; the same module always has the same ones.
 
-    LLVM names an inlined value after the functions that it comes from, and ends it in a number that shifts if anything
-    changes in the function. So the C name of a value is the front of its name, and a number that counts the values with
-    this front. Such names are short, and a change alters few of them. Functions and constants keep their whole names
-    if these fit."""
+    LLVM ends the name of a value in numbers that shift if anything changes in the function. So the C name of a value is
+    the front of its name, and a tag of two characters that depends on the value's instruction. Values with the same
+    front and tag are counted. Such names are short, and a change alters few of them. Functions and constants keep their
+    whole names if these fit."""
 
-    def __init__(self):
-        self.of, self.taken, self.counts = {}, set(), Counter()
+    def __init__(self, tags=None):
+        self.of, self.taken, self.counts, self.tags = {}, set(), Counter(), tags or {}
 
     def __call__(self, name):
         if name not in self.of:
@@ -247,7 +263,9 @@ class Names:
         """A C name that isn't taken."""
         whole = plain(name)
         if name[0] == '%':
-            front = re.match('[A-Za-z]+[0-9]*', whole)[0][:FRONT]
+            front = front_of(name)
+            if tag := self.tags.get(f'%{name.lstrip("%").partition("!")[0]}'):
+                whole = front = f'{front}_{tag}'
         else:
             whole = front = within(f'g_{whole}' if OF_A_VALUE.fullmatch(whole) else whole)
         if front == whole and front not in self.taken:

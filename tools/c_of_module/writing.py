@@ -33,7 +33,7 @@ class Writer:
     def __init__(self, function):
         self.function, self.module, self.names = function, function.module, function.names
         self.out, self.top, self.targets, self.waiting = [], [], set(), {}
-        self.slot, self.labels = {}, Names()
+        self.slot, self.labels = {}, Names(function.label_tags())
         self.label = self.following = None
 
     def text(self):
