@@ -1,9 +1,11 @@
 #!/usr/bin/env python3
-"""Updates what pages quote from the sources: `docs/THEOREM.md`, `docs/REFUSALS.md`, `docs/PROVED.md`, the README, and `crates/*/CALLING.md`.
+"""Updates what pages quote from the sources: `docs/THEOREM.md`, `docs/REFUSALS.md`, `docs/PROVED.md`, `docs/FORMAT.md`, the README, and `crates/*/CALLING.md`.
 
     theorem.py             rewrites each page that differs
     theorem.py --check     says which pages differ. The last line is `N passed, M failed`, which counts pages
     theorem.py --words     counts the words of README.md and docs/*.md, without what is quoted
+    theorem.py --call PATH prints the contract of a function, such as `readers::PointerReader::get_struct`, with all definitions
+                           that it rests on, each before those that it cites
 
 A line of a page says what is quoted. The quotation comes after it, and ends with `<!-- end -->`:
 
@@ -265,8 +267,8 @@ def count(number):
 def both_counts():
     first, second, _ = (found for found, _, _ in parts().values())
     return [
-        f'To judge the claims about copying and testing a message at its root, you read {len(first)} definitions with {length(first):,} lines.',
-        f'To judge the same for any other pointer, and the claim about builders, you read another {len(second)} definitions with {length(second):,} lines.',
+        f'To judge the claims about copying and testing a whole message, you read {len(first)} definitions with {length(first):,} lines.',
+        f'For copies and tests from a pointer inside a message, and for builders, you read another {len(second)} with {length(second):,} lines.',
     ]
 
 
@@ -331,8 +333,40 @@ def written(text):
     return '\n'.join(lines)
 
 
+def found_call(path):
+    """The public function with a path such as `readers::PointerReader::get_struct`, wherever its file is below the first module."""
+    module, *rest = path.split('::')
+    for file in sorted([*TOP.glob(f'crates/*/src/{module}.rt'), *TOP.glob(f'crates/*/src/{module}/**/*.rt')]):
+        for kept in range(len(rest)):
+            try:
+                return quoted.function(file.relative_to(TOP), '::'.join(rest[kept:]))
+            except SystemExit:
+                pass
+            if len(rest) - kept == 2 and rest[kept][0].isupper():
+                break
+    raise SystemExit(f'tools/theorem.py: no function {path}')
+
+
+def contract(path):
+    """The contract of a function, and all definitions that it rests on, each before those that it cites."""
+    function = found_call(path)
+    yield from (function.head, *function.chosen(())[0])
+    waiting, _, _ = quoted.cited('\n'.join([*function.signature, *function.chosen(())[0]]), function.imports)
+    waiting = sorted(waiting, key=lambda it: (it.crate, it.module, it.line))
+    found = dict.fromkeys(waiting)
+    while waiting:
+        definition = waiting.pop(0)
+        yield from ('', f'-- {definition.crate}/specs/{definition.module}.antt', *definition.text.split('\n'))
+        own = quoted.specs(definition.crate, definition.module)
+        more = [it for it in quoted.cited(definition.code, own.imports, own)[0] if it not in found]
+        more.sort(key=lambda it: (it.crate, it.module, it.line))
+        found.update(dict.fromkeys(more))
+        waiting += more
+    yield from ('', f'-- {len(found)} definitions, {length(found):,} lines without comments')
+
+
 def pages():
-    return [page for page in (PAGE, REFUSALS, TOP / 'README.md', TOP / 'docs/PROVED.md', *sorted(TOP.glob('crates/*/CALLING.md'))) if page.is_file()]
+    return [page for page in (PAGE, REFUSALS, TOP / 'README.md', TOP / 'docs/PROVED.md', TOP / 'docs/FORMAT.md', *sorted(TOP.glob('crates/*/CALLING.md'))) if page.is_file()]
 
 
 def prose(text):
@@ -341,6 +375,9 @@ def prose(text):
 
 
 def main():
+    if sys.argv[1:2] == ['--call'] and len(sys.argv) == 3:
+        print(*contract(sys.argv[2]), sep='\n')
+        return 0
     if sys.argv[1:] not in ([], ['--check'], ['--words']):
         sys.exit(__doc__)
     if sys.argv[1:] == ['--words']:
