@@ -1,5 +1,6 @@
 -- A message that has an answer is refused only for lack of memory.
-use Rattle.std.proofs.Common.{◌≡◌, inl, inr, ℕ, ◌+◌, ◌≤◌, Option, Some, subst, arith}
+use Rattle.std.proofs.Common.{◌≡◌, inl, inr, ℕ, ◌+◌, ◌≤◌, Option, Some, Result, IsOk, subst, arith}
+use Rattle.std.proofs.lemmas.Bool.{false≢true}
 use Rattle.capnp_words.specs.Meter.{FitsIn}
 use Rattle.capnp_words.specs.declared.error.ErrorKind.{ErrorKind}
 use Rattle.capnp_words.specs.declared.error.ErrorKind.TheVariants.{AllocationFailed}
@@ -9,7 +10,7 @@ use Rattle.capnp_format.specs.Tree.{Tree}
 use Rattle.capnp_arena_traits.specs.Allocations.{max_segment_words, one_more}
 use Rattle.capnp_arena.specs.declared.arena.reader_arena_impl.ReaderOptions.{ReaderOptions}
 use Rattle.capnp_objects.proofs.Refusals.{unreadable}
-use Rattle.capnp_pointers.proofs.Walking.{no_size}
+use Rattle.capnp_pointers.specs.declared.pointers.sizes.MessageSize.{MessageSize}
 use Rattle.capnp_messages.specs.Roots.{CoversRoot, RefusesRoot}
 use Rattle.capnp_messages.specs.Roots.RefusesRoot.{no_root, no_budget}
 use Rattle.capnp_messages.specs.Commands.{HasAnswerWithin, RefusesAnswer}
@@ -53,8 +54,7 @@ check_refused S limits read (one, (m, inr (covers, stops))) =
 
 pub size_refused : (S : Segments) (limits : ReaderOptions) {k : ErrorKind} →
     HasSizeWithin S limits → RefusesSize S limits k → ⊥
-size_refused S limits (covers, has) (inl root) = root_refused covers root
-size_refused S limits (covers, has) (inr (same, (m, refused))) = no_size refused has
+size_refused S limits has refused = false≢true (subst (λ (r : Result MessageSize ErrorKind). IsOk r) refused has)
 
 -- if there is an answer, the only refusal is AllocationFailed
 pub answer_refused : (command : Command) (limits : ReaderOptions) (S : Segments) {k : ErrorKind} →

@@ -1,5 +1,5 @@
 -- What reading the root of a message states about the message.
-use Rattle.std.proofs.Common.{◌≡◌, ◌↔◌, ◌⊎◌, inl, inr, ℕ, zero, suc, ℤ, List, [], ◌∷◌, length, Option, Some, None, Result, Ok, Err}
+use Rattle.std.proofs.Common.{◌≡◌, ◌⊎◌, inl, inr, ℕ, zero, suc, ℤ, List, [], ◌∷◌, length, Option, Some, None, Result, Ok, Err}
 use Rattle.std.proofs.Common.{IsOk, IfOk, IfSome, IfErr, true, false, refl, sym, ap, ◌∙◌, subst, arith}
 use Rattle.capnp_words.specs.declared.error.ErrorKind.{ErrorKind}
 use Rattle.capnp_words.specs.Meter.{Meter, spent, unused}
@@ -11,7 +11,6 @@ use Rattle.capnp_arena.specs.declared.arena.reader_arena_impl.ReaderOptions.{Rea
 use Rattle.capnp_objects.specs.Outcomes.{Reads}
 use Rattle.capnp_objects.specs.Reading.{Reading}
 use Rattle.capnp_objects.specs.Refusals.{Refused}
-use Rattle.capnp_objects.specs.Sizing.{FitSize, SizeStops, Tally, WalksPlace, tally}
 use Rattle.capnp_objects.specs.Source.{levels}
 use Rattle.capnp_objects.specs.Wanted.{canonical}
 use Rattle.capnp_messages.specs.Roots.{CoversRoot, message_root}
@@ -22,7 +21,7 @@ use Rattle.capnp_messages.specs.CanonicalMessages.{IsMessageFault, RefusesTest}
 use Rattle.capnp_format.specs.Bytes.{message}
 use Rattle.capnp_arena_traits.proofs.MessageLemmas.{length-message}
 use Rattle.capnp_pointers.specs.declared.pointers.canonical_fault.CanonicalFault.{CanonicalFault}
-use Rattle.capnp_messages.specs.Messages.{HasSizeWithin, IsFaultOf, IsValueOf, RefusesCanon, RefusesCheck, RefusesSize, left_of, root_within}
+use Rattle.capnp_messages.specs.Messages.{IsFaultOf, IsValueOf, RefusesCanon, RefusesCheck, left_of, root_within}
 
 -- The root of a message is read, and m is what the limit has left.
 pub record AtRoot (S : Segments) (limits : ReaderOptions) (r : Reading) (m : Meter) : Type 0 where
@@ -128,18 +127,3 @@ check_of_message {S} {limits} {z} {old} (Err k) segments new same nesting begun 
     let within = subst (λ (x : ℤ). RefusesTest T (levels x) m new k) nesting there in
     let here = subst (λ (X : Segments). RefusesTest X (levels limits.nesting_limit) m new k) same within in
     (ap length (sym same) ∙ length-message segments ∙ alone, (new, here))
-
--- what the root leads to has a size exactly if the message has one, and its size is refused if the
--- message's is
-pub size_at_root : {P : Type 0} {S : Segments} {limits : ReaderOptions} {r : Reading} {m : Meter} → AtRoot S limits r m →
-    P ↔ ((to : Tally) × WalksPlace r (tally 0 0 m) to × FitSize to.words to.caps) → P ↔ HasSizeWithin S limits
-size_at_root {P} {S} {limits} {r} {m} root exactly =
-    let placed = subst (λ (x : Reading). P ↔ ((to : Tally) × WalksPlace x (tally 0 0 m) to × FitSize to.words to.caps)) root.place exactly in
-    let there = subst (λ (x : Meter). P ↔ ((to : Tally) × WalksPlace (root_within S limits) (tally 0 0 x) to × FitSize to.words to.caps)) root.left placed in
-    (λ is. (root.covers, there.0 is), λ has. there.1 has.1)
-
-pub size_stopped : {S : Segments} {limits : ReaderOptions} {r : Reading} {m after : Meter} {k : ErrorKind} →
-    AtRoot S limits r m → SizeStops k r (tally 0 0 m) after → RefusesSize S limits k
-size_stopped {S} {limits} {r} {m} {after} {k} root stops =
-    let placed = subst (λ (x : Reading). SizeStops k x (tally 0 0 m) after) root.place stops in
-    inr (root.covers, (after, subst (λ (x : Meter). SizeStops k (root_within S limits) (tally 0 0 x) after) root.left placed))

@@ -1,31 +1,66 @@
--- What the walk from the root states about the message that was read.
-use Rattle.std.proofs.Common.{◌≡◌, ℕ, ◌+◌, ap, arith, subst}
-use Rattle.capnp_words.specs.Meter.{Meter, unused}
-use Rattle.capnp_format.specs.Segments.{Segments}
-use Rattle.capnp_format.specs.Means.{Means}
-use Rattle.capnp_format.specs.Tree.{Tree, capabilities}
-use Rattle.capnp_format.specs.Canonical.{word_count}
+-- The size of a message is that of what its root leads to.
+use Rattle.std.proofs.Common.{◌≡◌, ℕ, true, false, nat_lt, refl, Option, None, Some, Result, Ok, Err, IfOk, length, subst, sym, ap, ◌∙◌, arith, le-leb, lt-ltb, ◌↔◌, ◌≤◌, IsOk, IfErr}
+use Rattle.capnp_words.specs.declared.error.ErrorKind.{ErrorKind}
+use Rattle.capnp_words.specs.Meter.{FitsIn, Meter, less, unused}
+use Rattle.capnp_format.specs.Segments.{Segments, segment}
 use Rattle.capnp_arena.specs.declared.arena.reader_arena_impl.ReaderOptions.{ReaderOptions}
+use Rattle.capnp_objects.specs.Metered.{fits, onward}
 use Rattle.capnp_objects.specs.Reading.{Reading}
-use Rattle.capnp_objects.specs.Sizing.{tally, WalksPlace}
 use Rattle.capnp_objects.specs.Source.{levels}
-use Rattle.capnp_objects.proofs.Sized.{sized_is_meant}
-use Rattle.capnp_messages.specs.Roots.{CoversRoot, message_root}
-use Rattle.capnp_messages.specs.Messages.{HasSizeOf, left_of, root_within}
+use Rattle.capnp_pointers.specs.declared.pointers.sizes.MessageSize.{MessageSize}
+use Rattle.capnp_pointers.specs.Measure.{measure, only_words}
+use Rattle.capnp_pointers.proofs.Counted.{size_is}
+use Rattle.capnp_messages.specs.Roots.{CoversRoot, RefusesRoot, message_root, read_message_root}
+use Rattle.capnp_messages.specs.Roots.RefusesRoot.{no_root, no_budget}
+use Rattle.capnp_messages.specs.Messages.{HasSizeOf, HasSizeWithin, RefusesSize, message_size, root_within}
+use Rattle.capnp_messages.proofs.MessageLemmas.{AtRoot}
 
--- the walk from the root of a message finds the size of the value that the root means
-size_of_value : (S : Segments) (n : ℕ) {m after : Meter} {words caps : ℕ} → WalksPlace (message_root S n) (tally 0 0 m) (tally words caps after)
-    → (t : Tree) (l cost : ℕ) → Means S l 0 0 t cost → (words ≡ word_count t) × (caps ≡ capabilities t)
-size_of_value S n {words = words} {caps = caps} walk t l cost means =
-    let same : walk.tree ≡ t = (sized_is_meant (message_root S n) l walk.tree t (walk.cost, walk.is_sized) (cost, means)).0 in
-    let of_words : words ≡ 0 + word_count walk.tree = walk.words_are in
-    let of_caps : caps ≡ 0 + capabilities walk.tree = walk.caps_are in
-    (omega (arith, of_words, ap word_count same), omega (arith, of_caps, ap capabilities same))
+fits_one : (left : Option ℕ) → FitsIn left 1 → fits left 1 ≡ true
+fits_one None h = refl
+fits_one (Some x) h = le-leb 1 x h
 
--- the walk from the place of a reading is the walk from the root
-pub totals_read : {r : Reading} {S : Segments} {limits : ReaderOptions} {m after : Meter} {words caps : ℕ} → r ≡ root_within S limits → m ≡ unused (left_of limits)
-    → CoversRoot S limits.traversal_limit_in_words → WalksPlace r (tally 0 0 m) (tally words caps after) → HasSizeOf S limits words caps
-totals_read {S = S} {limits = limits} {m = m} {after = after} {words = words} {caps = caps} same rest covers totals =
-    let at_root : WalksPlace (root_within S limits) (tally 0 0 (unused (left_of limits))) (tally words caps after) =
-    subst (λ (x : Meter). WalksPlace (root_within S limits) (tally 0 0 x) (tally words caps after)) rest (subst (λ (x : Reading). WalksPlace x (tally 0 0 m) (tally words caps after)) same totals) in
-    record { at_root = covers; after = after; totals = at_root; of_value = size_of_value S (levels limits.nesting_limit) at_root }
+-- The root is read, or isn't.
+root_is : (S : Segments) (n : ℕ) (left : Option ℕ) → CoversRoot S left → read_message_root S n (unused left) ≡ (Ok (message_root S n), unused (less left 1))
+root_is S n left covers =
+    let there : nat_lt 0 (length (segment S 0)) ≡ true = lt-ltb _ _ covers.root in
+    let covered : fits left 1 ≡ true = fits_one left covers.covered in
+    rw (there, covered) refl
+
+root_stops : (S : Segments) (n : ℕ) (left : Option ℕ) (k : ErrorKind) → RefusesRoot S left k → read_message_root S n (unused left) ≡ (Err k, unused left)
+root_stops S n left k (no_root named none) =
+    let empty : length (segment S 0) ≤ 0 = omega (arith, none) in
+    let absent : nat_lt 0 (length (segment S 0)) ≡ false = grind (arith, empty) in
+    rw absent (ap (λ e. (Err e, unused left)) (sym named))
+root_stops S n left k (no_budget named root none) =
+    let there : nat_lt 0 (length (segment S 0)) ≡ true = lt-ltb _ _ root in
+    rw (there, none) (ap (λ e. (Err e, unused (Some 0))) (sym named))
+
+-- What it leads to is measured.
+pub size_at_root : {S : Segments} {limits : ReaderOptions} {r : Reading} {m m' : Meter} {result : Result MessageSize ErrorKind} →
+    AtRoot S limits r m → measure r (only_words 0) m ≡ (result, m') → message_size S limits ≡ result
+size_at_root {S} {limits} {r} {m} {m'} {result} root e =
+    let placed = subst (λ (x : Reading). measure x (only_words 0) m ≡ (result, m')) root.place e in
+    let read = subst (λ (x : Meter). measure (root_within S limits) (only_words 0) x ≡ (result, m')) root.left placed in
+    ap (λ o. (onward (λ (x : Reading). measure x (only_words 0)) o).0) (root_is S (levels limits.nesting_limit) limits.traversal_limit_in_words root.covers) ∙ ap (λ o. o.0) read
+
+pub size_found : {S : Segments} {limits : ReaderOptions} {r : Reading} {m m' : Meter} (result : Result MessageSize ErrorKind) →
+    AtRoot S limits r m → measure r (only_words 0) m ≡ (result, m') → IfOk result (λ z. HasSizeOf S limits z.word_count z.cap_count)
+size_found {S} {limits} {r} {m} {m'} (Ok z) root e =
+    let placed = subst (λ (x : Reading). measure x (only_words 0) m ≡ (Ok z, m')) root.place e in
+    record { counted = size_at_root root e; of_value = λ t n cost means. (let same = size_is (root_within S limits) n m m' z t cost placed means in (ap (λ y. y.word_count) same, ap (λ y. y.cap_count) same)) }
+size_found (Err k) root e = tt
+
+pub size_without_root : (limits : ReaderOptions) {S T : Segments} {before : Meter} {k : ErrorKind} →
+    T ≡ S → before ≡ unused limits.traversal_limit_in_words → RefusesRoot T before.left k → message_size S limits ≡ Err k
+size_without_root limits {S} {T} {before} {k} same begun refused =
+    let there = subst (λ (X : Segments). RefusesRoot X before.left k) same refused in
+    let here : RefusesRoot S limits.traversal_limit_in_words k = subst (λ (x : Meter). RefusesRoot S x.left k) begun there in
+    ap (λ o. (onward (λ (x : Reading). measure x (only_words 0)) o).0) (root_stops S (levels limits.nesting_limit) limits.traversal_limit_in_words k here)
+
+-- What this says of a result.
+pub has_size_if : (S : Segments) (limits : ReaderOptions) (result : Result MessageSize ErrorKind) → message_size S limits ≡ result → IsOk result ↔ HasSizeWithin S limits
+has_size_if S limits result e = ((λ is. subst (λ (x : Result MessageSize ErrorKind). IsOk x) (sym e) is), (λ has. subst (λ (x : Result MessageSize ErrorKind). IsOk x) e has))
+
+pub size_refused_if : (S : Segments) (limits : ReaderOptions) (result : Result MessageSize ErrorKind) → message_size S limits ≡ result → IfErr result (RefusesSize S limits)
+size_refused_if S limits (Ok z) e = tt
+size_refused_if S limits (Err k) e = e

@@ -1,5 +1,5 @@
 -- What a whole message has within the limits of a reader's options, and why it is refused.
-use Rattle.std.specs.Prelude.{◌≡◌, ◌⊎◌, ℕ, ◌+◌, ◌≤◌, Option, length}
+use Rattle.std.specs.Prelude.{◌≡◌, ◌⊎◌, ℕ, ◌+◌, ◌≤◌, Option, Result, Ok, Err, IsOk, length}
 use Rattle.capnp_words.specs.declared.error.ErrorKind.{ErrorKind}
 use Rattle.capnp_words.specs.Meter.{Meter, FitsIn, less, unused}
 use Rattle.capnp_format.specs.Canonical.{IsFree, trim, word_count}
@@ -8,11 +8,13 @@ use Rattle.capnp_format.specs.Tree.{Tree, capabilities}
 use Rattle.capnp_format.specs.Means.{Means}
 use Rattle.capnp_arena_traits.specs.Allocations.{max_segment_words}
 use Rattle.capnp_arena.specs.declared.arena.reader_arena_impl.ReaderOptions.{ReaderOptions}
+use Rattle.capnp_objects.specs.Metered.{◌>>>◌}
 use Rattle.capnp_objects.specs.Reading.{Reading}
-use Rattle.capnp_objects.specs.Sizing.{FitSize, SizeStops, Tally, tally, WalksPlace}
 use Rattle.capnp_objects.specs.Source.{levels}
 use Rattle.capnp_pointers.specs.declared.pointers.canonical_fault.CanonicalFault.{CanonicalFault}
-use Rattle.capnp_messages.specs.Roots.{CoversRoot, RefusesRoot, message_root}
+use Rattle.capnp_pointers.specs.declared.pointers.sizes.MessageSize.{MessageSize}
+use Rattle.capnp_pointers.specs.Measure.{measure, only_words}
+use Rattle.capnp_messages.specs.Roots.{CoversRoot, RefusesRoot, message_root, read_message_root}
 use Rattle.capnp_messages.specs.Copies.{RefusesCopy}
 use Rattle.capnp_messages.specs.CanonicalMessages.{CanBeTested, IsMessageFault, RefusesTest}
 
@@ -61,22 +63,27 @@ root_within S limits = message_root S (levels limits.nesting_limit)
 abbrev pub left_of : ReaderOptions → Option ℕ
 left_of limits = less limits.traversal_limit_in_words 1
 
--- The walk that sizes S counts this many words and capabilities from the root, within the limits.
--- If the root means a value, they are the value's.
+-- The size of S within the limits, or its refusal: the root pointer is read, and then the size of
+-- what it leads to.
+abbrev pub message_size : Segments → ReaderOptions → Result MessageSize ErrorKind
+message_size S limits =
+    ((read_message_root S (levels limits.nesting_limit) >>> λ r. measure r (only_words 0))
+    (unused limits.traversal_limit_in_words)).0
+
+-- S has this many words and capabilities within the limits. If the root means a value, they are the
+-- value's.
 pub record HasSizeOf (S : Segments) (limits : ReaderOptions) (words caps : ℕ) : Type 0 where
-  pub at_root : CoversRoot S limits.traversal_limit_in_words
-  pub after : Meter
-  pub totals : WalksPlace (root_within S limits) (tally 0 0 (unused (left_of limits)))
-      (tally words caps after)
+  pub counted : message_size S limits ≡ Ok (record { word_count = words; cap_count = caps })
   pub of_value : (t : Tree) (m cost : ℕ) → Means S m 0 0 t cost → (words ≡ word_count t) ×
       (caps ≡ capabilities t)
 
--- The walk that sizes S reaches its end within the limits, and its counts fit.
+-- S has a size within the limits.
 abbrev pub HasSizeWithin : Segments → ReaderOptions → Type 0
-HasSizeWithin S limits =
-    CoversRoot S limits.traversal_limit_in_words × ((to : Tally) ×
-    WalksPlace (root_within S limits) (tally 0 0 (unused (left_of limits))) to ×
-    FitSize to.words to.caps)
+HasSizeWithin S limits = IsOk (message_size S limits)
+
+-- The size of S is refused with k.
+abbrev pub RefusesSize : Segments → ReaderOptions → ErrorKind → Type 0
+RefusesSize S limits k = message_size S limits ≡ Err k
 
 -- The root pointer of S is refused with k, or the limit covers it and P holds.
 abbrev pub RefusesAt : Segments → ReaderOptions → ErrorKind → Type 0 → Type 0
@@ -87,12 +94,6 @@ RefusesAt S limits k P =
 abbrev pub RefusesCanon : Segments → ReaderOptions → ErrorKind → Type 0
 RefusesCanon S limits k =
     RefusesAt S limits k (RefusesCopy (root_within S limits) (left_of limits) max_segment_words k)
-
--- The size of S is refused with k.
-abbrev pub RefusesSize : Segments → ReaderOptions → ErrorKind → Type 0
-RefusesSize S limits k =
-    RefusesAt S limits k ((m : Meter) ×
-    SizeStops k (root_within S limits) (tally 0 0 (unused (left_of limits))) m)
 
 -- S has one segment, and the test of S is refused with k.
 abbrev pub RefusesCheck : Segments → ReaderOptions → ErrorKind → Type 0

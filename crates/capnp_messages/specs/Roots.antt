@@ -1,17 +1,24 @@
 -- The root of a message, and why it isn't read.
-use Rattle.std.specs.Prelude.{◌≡◌, ℕ, true, false, Option, Some}
+use Rattle.std.specs.Prelude.{◌≡◌, ℕ, true, false, Option, Some, nat_lt, length}
 use Rattle.capnp_words.specs.declared.error.ErrorKind.{ErrorKind}
 use Rattle.capnp_words.specs.declared.error.ErrorKind.TheVariants.{InvalidSegmentId}
 use Rattle.capnp_words.specs.declared.error.ErrorKind.TheVariants.{ReadLimitExceeded}
 use Rattle.capnp_words.specs.Meter.{FitsIn}
-use Rattle.capnp_format.specs.Segments.{Segments, IsPlace}
+use Rattle.capnp_format.specs.Segments.{Segments, segment, IsPlace}
 use Rattle.capnp_arena_traits.specs.Checks.{misplaced}
+use Rattle.capnp_objects.specs.Metered.{Metered, answer, ◌>>>◌, charge_words, demand}
 use Rattle.capnp_objects.specs.Reading.{Reading}
 
 -- The root of S, for a reading that is charged and may enter n levels.
 abbrev pub message_root : Segments → ℕ → Reading
 message_root S n =
     record { segments = S; charging = true; of_default = false; levels = n; segment = 0; at = 0 }
+
+-- Reads the root pointer of S: its word has to be there, and is charged ("Messages").
+abbrev pub read_message_root : Segments → ℕ → Metered Reading
+read_message_root S n =
+    demand (nat_lt 0 (length (segment S 0))) (misplaced S 0 (InvalidSegmentId 0)) >>> λ _.
+    charge_words true 1 >>> λ _. answer (message_root S n)
 
 -- S has a root pointer, and the budget covers its word ("Messages").
 pub record CoversRoot (S : Segments) (budget : Option ℕ) : Type 0 where

@@ -1,5 +1,5 @@
 -- From the steps of a reading that expects an object of some kind to its outcome.
-use Rattle.std.proofs.Common.{◌≡◌, ◌↔◌, inl, inr, ℕ, zero, suc, ◌+◌, ◌-◌, ◌*◌, ◌/◌, ◌%◌, ◌^◌, ◌<◌, ◌≤◌, Bool, true, false, ◌||◌, cond, nat_eq, Some, None, Result, Ok, Err, IsOk, IfOk, IfErr, refl, sym, ap, ap₂, ◌⊎◌, ◌∙◌, subst, arith, eqb-true}
+use Rattle.std.proofs.Common.{◌≡◌, inl, inr, ℕ, zero, suc, ◌+◌, ◌-◌, ◌*◌, ◌/◌, ◌%◌, ◌^◌, ◌<◌, ◌≤◌, Bool, true, false, ◌||◌, cond, nat_eq, Some, None, Result, Ok, Err, IsOk, IfOk, refl, sym, ap, ap₂, ◌⊎◌, ◌∙◌, subst, arith, eqb-true}
 use Rattle.capnp_words.specs.declared.error.ErrorKind.{ErrorKind}
 use Rattle.capnp_words.specs.Meter.{Meter}
 use Rattle.capnp_format.specs.Word.{kind, data_words, pointer_count, element_size, list_count}
@@ -16,20 +16,19 @@ use Rattle.capnp_objects.specs.declared.object.Place.{Place}
 use Rattle.capnp_objects.specs.declared.source.Found.{Found}
 use Rattle.capnp_objects.specs.Demands.{tag}
 use Rattle.capnp_objects.specs.Entering.{IsUnsuited, another, not_entered, misfits as unsuited_misfits, object_misfit, place_byte}
-use Rattle.capnp_objects.specs.Expected.{Expectation, struct_expected, list_expected, text_expected, data_expected, expectation, narrow_elements, narrow_structs, CanBeGiven, null_pointer, fitting, Withheld, no_level, unfollowed, of_another_kind, stopped, misfits, IsGiven}
+use Rattle.capnp_objects.specs.Expected.{Expectation, struct_expected, list_expected, text_expected, data_expected, expectation, narrow_elements, narrow_structs, CanBeGiven, null_pointer, fitting, Withheld, of_another_kind, stopped, misfits, IsGiven}
 use Rattle.capnp_objects.specs.Faults.{LeadsTo}
 use Rattle.capnp_objects.specs.Landings.{found_target, following, IsFollowed, Arrival, IsEntered, IsOpened}
 use Rattle.capnp_objects.specs.Objects.{IsObject}
 use Rattle.capnp_objects.specs.Outcomes.{Entered}
 use Rattle.capnp_objects.specs.Reading.{Reading, word_of, tag_size}
-use Rattle.capnp_objects.specs.Refusals.{Unfollowed, exceeding, leading_nowhere, no_target, CanBeRead}
+use Rattle.capnp_objects.specs.Refusals.{Unfollowed, exceeding, leading_nowhere}
 use Rattle.capnp_objects.specs.Spending.{Paid}
 use Rattle.capnp_objects.specs.Wanted.{follow_at}
 use Rattle.capnp_objects.specs.declared.object.Purpose.TheVariants.{Value}
 use Rattle.capnp_objects.proofs.Faultless.{same_target}
 use Rattle.capnp_objects.proofs.Followed.{entered_leads}
 use Rattle.capnp_objects.proofs.Landings.{IsCounted, reached, entered, object_refused, arrived}
-use Rattle.capnp_objects.proofs.Refusals.{not_stopped}
 
 -- the place with one level, because the level is checked separately
 abbrev pub one_level : Reading → Reading
@@ -57,7 +56,7 @@ kind_of_text w e = let both = both_kinds _ _ (nat_eq (kind w) 1) (nat_eq (elemen
 kind_of_data : (w : ℕ) → data_expected.another_kind w ≡ None → (kind w ≡ 1) × (element_size w ≡ 2)
 kind_of_data w e = let both = both_kinds _ _ (nat_eq (kind w) 1) (nat_eq (element_size w) 2) e in (eqb-true (kind w) 1 both.0, eqb-true (element_size w) 2 both.1)
 
-kind_below_two : (expected : Expected) (w : ℕ) → (expectation expected).another_kind w ≡ None → kind w < 2
+pub kind_below_two : (expected : Expected) (w : ℕ) → (expectation expected).another_kind w ≡ None → kind w < 2
 kind_below_two Struct w e = let k = kind_of_struct w e in omega arith
 kind_below_two (List size) w e = let k = kind_of_list size w e in omega arith
 kind_below_two Text w e = let k = (kind_of_text w e).0 in omega arith
@@ -194,7 +193,7 @@ given {expected = Data} {o = o} x n level fits h = given_data n x (given_bytes x
 pub level_counted : {r : Reading} {m m' : Meter} → IsCounted r m m' → IsCounted (one_level r) m m'
 level_counted o = record { some = o.some; by_one = o.by_one }
 
-level_unfollowed : {r : Reading} {m m' : Meter} {k : ErrorKind} → Unfollowed r m m' k → Unfollowed (one_level r) m m' k
+pub level_unfollowed : {r : Reading} {m m' : Meter} {k : ErrorKind} → Unfollowed r m m' k → Unfollowed (one_level r) m m' k
 level_unfollowed (exceeding some short paid named) = exceeding some short paid named
 level_unfollowed (leading_nowhere some h paid) = leading_nowhere some h paid
 
@@ -214,48 +213,6 @@ pub suited : (expected : Expected) {r : Reading} {m m₁ m₂ m₃ : Meter} {l :
 suited expected {r} {m} {m₁} {m₂} {m₃} {l} x o f level fits h =
     let all : Entered Value (one_level r) m m₃ (found_target l) = entered (reached {r = one_level r} (level_counted o) f) (entered_object x h) in
     fitting (found_target l) level h.of_kind all (sym (misfit_of x h) ∙ fits)
-
-can_be_read : (expected : Expectation) (r : Reading) (m : Meter) → CanBeGiven expected r m → CanBeRead Value (one_level r) m
-unfolding CanBeRead
-can_be_read expected r m (null_pointer null) = inl null
-can_be_read expected r m (fitting a level of_kind o fits) = inr (inr (a, o.follows, o.meets, o.covers))
-
-null_can_be_read : (r : Reading) (m : Meter) → word_of r ≡ 0 → CanBeRead Value r m
-unfolding CanBeRead
-null_can_be_read r m null = inl null
-
-not_withheld_null : {expected : Expectation} {r : Reading} {m m' : Meter} {k : ErrorKind} → word_of r ≡ 0 → Withheld expected r m m' k → ⊥
-not_withheld_null null (no_level some e same) = some null
-not_withheld_null null (unfollowed level (exceeding some short paid named)) = some null
-not_withheld_null null (unfollowed level (leading_nowhere some h paid)) = some null
-not_withheld_null null (of_another_kind b level f e paid) = f.0 null
-not_withheld_null {r = r} {m} null (stopped level of_kind h) = not_stopped (null_can_be_read (one_level r) m null) h
-not_withheld_null null (misfits b level e o fits) = o.follows.0 null
-
--- The object a has the expected kind, was entered, and is as expected.
-record IsAsExpected (expected : Expectation) (r : Reading) (m m' : Meter) (a : Target) : Type 0 where
-  level : expected.too_deep r.levels ≡ None
-  of_kind : expected.another_kind a.word ≡ None
-  entered : Entered Value (one_level r) m m' a
-  fits : expected.misfit r.segments a ≡ None
-
-not_withheld_there : {expected : Expectation} {r : Reading} {m m' n : Meter} {k : ErrorKind} (a : Target) → IsAsExpected expected r m n a → CanBeRead Value (one_level r) m → Withheld expected r m m' k → ⊥
-not_withheld_there a s can (no_level some e same) = absurd (let f = s.level in cc (e, f))
-not_withheld_there a s can (unfollowed level h) = not_stopped can (no_target (level_unfollowed h))
-not_withheld_there {r = r} a s can (of_another_kind b level f e paid) = absurd (let g = s.entered.follows.1 in let h = f.1 in let i = s.of_kind in let same : a ≡ b = cc (g, h) in let j = rw (← same) at e in cc (i, j))
-not_withheld_there a s can (stopped level of_kind h) = not_stopped can h
-not_withheld_there {r = r} a s can (misfits b level e o fits) =
-    absurd (let same : a ≡ b = same_target r.segments r.segment r.at (entered_leads s.entered).1 (entered_leads o).1 in let f = s.fits in let j = rw (← same) at fits in cc (f, j))
-
-pub not_withheld : (expected : Expectation) (r : Reading) (m m' : Meter) (k : ErrorKind) → CanBeGiven expected r m → Withheld expected r m m' k → ⊥
-not_withheld expected r m m' k (null_pointer null) h = not_withheld_null null h
-not_withheld expected r m m' k (fitting a level of_kind o fits) h =
-    not_withheld_there a (record { level = level; of_kind = of_kind; entered = o; fits = fits }) (can_be_read expected r m (fitting a level of_kind o fits)) h
-
--- a call is answered exactly if it can be
-pub given_exactly : (expected : Expectation) (r : Reading) (m m' : Meter) (result : Result Object ErrorKind) → IfOk result (λ x. CanBeGiven expected r m) → IfErr result (Withheld expected r m m') → IsOk result ↔ CanBeGiven expected r m
-given_exactly expected r m m' (Ok x) good bad = ((λ e. good), (λ can. refl))
-given_exactly expected r m m' (Err k) good bad = ((λ e. absurd (cc e)), (λ can. absurd (not_withheld expected r m m' k can bad)))
 
 pub null_given : (expected : Expectation) (r : Reading) (m : Meter) → word_of r ≡ 0 → CanBeGiven expected r m
 null_given expected r m null = null_pointer null

@@ -2,7 +2,7 @@
 -- some place that is reached does.
 use Rattle.std.proofs.Common.{◌≡◌, ◌≢◌, inl, inr, ℕ, pred, ◌%◌, ◌^◌, Some, sym, ap, ◌∙◌, arith}
 use Rattle.capnp_words.specs.declared.error.ErrorKind.{ErrorKind}
-use Rattle.capnp_words.specs.declared.error.ErrorKind.TheVariants.{CannotCreateACanonicalMessageWithACapability, CantHandleNonStructInlineComposite, InlineCompositeListsElementsOverrunItsWordCount, InlineCompositeListsOfNonStructTypeAreNotSupported, MalformedDoubleFarPointer, MessageContainsOutOfBoundsPointer, MessageIsTooDeeplyNestedOrContainsCycles, UnknownPointerType}
+use Rattle.capnp_words.specs.declared.error.ErrorKind.TheVariants.{CannotCreateACanonicalMessageWithACapability, InlineCompositeListsElementsOverrunItsWordCount, InlineCompositeListsOfNonStructTypeAreNotSupported, MalformedDoubleFarPointer, MessageContainsOutOfBoundsPointer, MessageIsTooDeeplyNestedOrContainsCycles, UnknownPointerType}
 use Rattle.capnp_format.specs.Segments.{Segments, Target, leads}
 use Rattle.capnp_format.specs.Tree.{capabilities}
 use Rattle.capnp_objects.specs.Demands.{Meets}
@@ -10,8 +10,7 @@ use Rattle.capnp_objects.specs.Faults.{IsPointer, Somewhere, here, below, LeadsT
 use Rattle.capnp_objects.specs.Wanted.{BreaksObject, BreaksAt, AllowsCapabilities}
 use Rattle.capnp_objects.specs.Wanted.{Form, plain, canonical, of_default}
 use Rattle.capnp_objects.specs.Reading.{Reading}
-use Rattle.capnp_objects.specs.declared.object.Purpose.{Purpose}
-use Rattle.capnp_objects.specs.declared.object.Purpose.TheVariants.{Value, Size}
+use Rattle.capnp_objects.specs.declared.object.Purpose.TheVariants.{Value}
 use Rattle.capnp_objects.proofs.Followed.{leads_to}
 use Rattle.capnp_objects.proofs.Parts.{Meant, Parts, is_null, is_capability, is_inner, means_parts}
 
@@ -24,38 +23,39 @@ default_refuses : (form : Form) → form ≡ of_default → form ≢ plain
 default_refuses form e other = cc (e, other)
 
 -- a capability that the form takes, or an object that meets its demands
-pub data Sound (purpose : Purpose) (form : Form) (r : Reading) (a : Target) : Type 0 where
-  sound_capability : a.word % 2 ^ 32 ≡ 3 → (form ≢ plain → ⊥) → Sound purpose form r a
-  sound_object : Meets purpose r.segments r.levels a → Sound purpose form r a
+data Sound (form : Form) (r : Reading) (a : Target) : Type 0 where
+  sound_capability : a.word % 2 ^ 32 ≡ 3 → (form ≢ plain → ⊥) → Sound form r a
+  sound_object : Meets Value r.segments r.levels a → Sound form r a
 
-pub not_refused : (purpose : Purpose) {form : Form} {r : Reading} {a : Target} (k : ErrorKind) → Sound purpose form r a → BreaksObject purpose form r.segments r.levels a k → ⊥
-not_refused purpose MalformedDoubleFarPointer (sound_capability low other) h = omega arith
-not_refused purpose MalformedDoubleFarPointer (sound_object o) h = omega (arith, h, o.is_object)
-not_refused purpose {form} UnknownPointerType (sound_capability low other) h = elim h.1 [ inl unlike ↦ unlike low | inr default ↦ other (default_refuses form default) ]
-not_refused purpose UnknownPointerType (sound_object o) h = omega (arith, h.0, o.is_object)
-not_refused purpose {form} CannotCreateACanonicalMessageWithACapability (sound_capability low other) h = other (canonical_refuses form h.0)
-not_refused purpose CannotCreateACanonicalMessageWithACapability (sound_object o) h = omega (arith, h.1, o.is_object)
-not_refused purpose MessageIsTooDeeplyNestedOrContainsCycles (sound_capability low other) h = omega (arith, h.0, low)
-not_refused purpose MessageIsTooDeeplyNestedOrContainsCycles (sound_object o) h = omega (arith, h.1, o.levels)
-not_refused purpose MessageContainsOutOfBoundsPointer (sound_capability low other) h = omega (arith, h.0, low)
-not_refused purpose MessageContainsOutOfBoundsPointer (sound_object o) h = h.2 o.claims
-not_refused Value InlineCompositeListsOfNonStructTypeAreNotSupported (sound_capability low other) h = omega (arith, h.1.0, low)
-not_refused Value InlineCompositeListsOfNonStructTypeAreNotSupported (sound_object o) h = h.3 (o.tagged h.1).0
-not_refused Size CantHandleNonStructInlineComposite (sound_capability low other) h = omega (arith, h.1.0, low)
-not_refused Size CantHandleNonStructInlineComposite (sound_object o) h = h.3 (o.tagged h.1).0
-not_refused purpose InlineCompositeListsElementsOverrunItsWordCount (sound_capability low other) h = omega (arith, h.1.0, low)
-not_refused purpose InlineCompositeListsElementsOverrunItsWordCount (sound_object o) h = omega (arith, h.4, (o.tagged h.1).1)
-not_refused purpose _ sound h = absurd h
+not_refused : {form : Form} {r : Reading} {a : Target} (k : ErrorKind) → Sound form r a → BreaksObject Value form r.segments r.levels a k → ⊥
+not_refused MalformedDoubleFarPointer (sound_capability low other) h = omega arith
+not_refused MalformedDoubleFarPointer (sound_object o) h = omega (arith, h, o.is_object)
+not_refused {form} UnknownPointerType (sound_capability low other) h = elim h.1 [ inl unlike ↦ unlike low | inr default ↦ other (default_refuses form default) ]
+not_refused UnknownPointerType (sound_object o) h = omega (arith, h.0, o.is_object)
+not_refused {form} CannotCreateACanonicalMessageWithACapability (sound_capability low other) h = other (canonical_refuses form h.0)
+not_refused CannotCreateACanonicalMessageWithACapability (sound_object o) h = omega (arith, h.1, o.is_object)
+not_refused MessageIsTooDeeplyNestedOrContainsCycles (sound_capability low other) h = omega (arith, h.0, low)
+not_refused MessageIsTooDeeplyNestedOrContainsCycles (sound_object o) h = omega (arith, h.1, o.levels)
+not_refused MessageContainsOutOfBoundsPointer (sound_capability low other) h = omega (arith, h.0, low)
+not_refused MessageContainsOutOfBoundsPointer (sound_object o) h = h.2 o.claims
+not_refused InlineCompositeListsOfNonStructTypeAreNotSupported (sound_capability low other) h = omega (arith, h.1.0, low)
+not_refused InlineCompositeListsOfNonStructTypeAreNotSupported (sound_object o) h = h.3 (o.tagged h.1).0
+not_refused InlineCompositeListsElementsOverrunItsWordCount (sound_capability low other) h = omega (arith, h.1.0, low)
+not_refused InlineCompositeListsElementsOverrunItsWordCount (sound_object o) h = omega (arith, h.4, (o.tagged h.1).1)
+not_refused _ sound h = absurd h
 
 pub same_target : (S : Segments) (s p : ℕ) {a b : Target} → leads S s p ≡ Some a → leads S s p ≡ Some b → a ≡ b
 same_target S s p l m = let e = sym l ∙ m in cc e
 
-pub target_sound : {r : Reading} {a : Target} (form : Form) (k : ErrorKind) → LeadsTo r a → Sound Value form r a → BreaksAt form k r → ⊥
+pub one_target : (r : Reading) (a b : Target) → LeadsTo r a → LeadsTo r b → a ≡ b
+one_target r a b l m = same_target r.segments r.segment r.at l.1 m.1
+
+target_sound : {r : Reading} {a : Target} (form : Form) (k : ErrorKind) → LeadsTo r a → Sound form r a → BreaksAt form k r → ⊥
 target_sound {r} {a} form k l s (some, inl refused) = let f = (leads_to r a l).1 in absurd (cc (f, refused))
 target_sound {r} {a} form k l s (some, inr (b, f, h)) =
     let e = sym (leads_to r a l).1 ∙ f in
     let q : a ≡ b = cc e in
-    not_refused Value k s (rw q h)
+    not_refused k s (rw q h)
 
 not_broken : {r : Reading} {m c : ℕ} (form : Form) (k : ErrorKind) → AllowsCapabilities form m → Parts r m c → BreaksAt form k r → ⊥
 not_broken form k takes (is_null z) b = b.0 z

@@ -156,7 +156,7 @@ named_ok false (Ok x) e = e
 named_ok true (Err k) e = absurd (cc e)
 named_ok false (Err k) e = e
 
-unnamed_ok : {a : Target} (b : Bool) (result : Result Target ErrorKind) → far_named b result ≡ Ok a → result ≡ Ok a
+pub unnamed_ok : {a : Target} (b : Bool) (result : Result Target ErrorKind) → far_named b result ≡ Ok a → result ≡ Ok a
 unnamed_ok true (Ok x) e = e
 unnamed_ok false (Ok x) e = e
 unnamed_ok true (Err k) e = absurd (cc e)

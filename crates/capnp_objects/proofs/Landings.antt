@@ -49,15 +49,15 @@ abbrev pub arrived : Reading → Target → Arrival
 arrived r a = record { segments = r.segments; charging = r.charging; levels = r.levels; target = a }
 
 -- what charging and counting pay
-charged_none : (charging : Bool) (m : Meter) → charged charging m 0 ≡ m
+pub charged_none : (charging : Bool) (m : Meter) → charged charging m 0 ≡ m
 charged_none true m = ap (λ o. record { left = o; followed = m.followed }) (less_none m.left)
 charged_none false m = refl
 
-charged_after : (charging : Bool) (m : Meter) (g : ℕ) → charged charging m g ≡ after charging m g 0
+pub charged_after : (charging : Bool) (m : Meter) (g : ℕ) → charged charging m g ≡ after charging m g 0
 charged_after true m g = ap (λ f. record { left = less m.left g; followed = f }) (omega arith)
 charged_after false m g = refl
 
-counted_after : (charging : Bool) (m : Meter) → counted_once charging m ≡ after charging m 0 1
+pub counted_after : (charging : Bool) (m : Meter) → counted_once charging m ≡ after charging m 0 1
 counted_after true m = ap (λ o. record { left = o; followed = raised m.followed 1 }) (sym (less_none m.left))
 counted_after false m = refl
 
@@ -87,7 +87,7 @@ pub beyond : (B : List (List ℕ)) (id : ℕ) → (id < length B → false ≡ t
 beyond B id h = elim (within_or_not (length B) id) [ inl le ↦ omega (arith, length-message B, le) | inr lt ↦ absurd (false≢true (h lt)) ]
 
 -- the words of the landing pads
-no_pads_near : (S : Segments) (x : ℕ) → kind x ≢ 2 → landing_words S x ≡ 0
+pub no_pads_near : (S : Segments) (x : ℕ) → kind x ≢ 2 → landing_words S x ≡ 0
 no_pads_near S x other = ap (λ b. cond (b && is_some (pad S x (is_double x))) (1 + is_double x) 0) (ne_eqb (kind x) 2 other)
 
 no_pads : (S : Segments) (x : ℕ) → pad S x (is_double x) ≡ None → landing_words S x ≡ 0
@@ -97,7 +97,7 @@ no_pads S x none = ap (λ o. cond (nat_eq (kind x) 2 && is_some o) (1 + is_doubl
     go true = refl
     go false = refl
 
-pads_there : {w : ℕ} (S : Segments) (x : ℕ) → kind x ≡ 2 → pad S x (is_double x) ≡ Some w → landing_words S x ≡ 1 + is_double x
+pub pads_there : {w : ℕ} (S : Segments) (x : ℕ) → kind x ≡ 2 → pad S x (is_double x) ≡ Some w → landing_words S x ≡ 1 + is_double x
 pads_there {w} S x is_far there =
     ap₂ (λ b o. cond (b && is_some o) (1 + is_double x) 0) (eq-eqb (kind x) 2 is_far) there
 

@@ -1,5 +1,9 @@
 pub mod Budgets
+pub mod Computed
 pub mod Copies
+pub mod Inverted
+pub mod Valued
+pub mod OneName
 pub mod Decided
 pub mod Defaults
 pub mod Faultless
@@ -13,9 +17,9 @@ pub mod Truths
 pub mod Refusals
 pub mod Unreadable
 pub mod Expecting
+pub mod ExpectedComputed
 pub mod Typing
+pub mod TypesComputed
 pub mod Measures
 pub mod Shorthands
-pub mod Sized
 pub mod Walked
-pub mod WalkStops

@@ -1,31 +1,20 @@
 -- One object that is read for its size: the words that it pays, and what a near pointer leads to.
--- An object is read for its size exactly if it can be.
-use Rattle.std.proofs.Common.{◌≡◌, ◌↔◌, inl, inr, ◌+◌, ◌<◌, Result, Ok, Err, IsOk, IfOk, IfErr, refl, ap, ◌∙◌, subst, arith}
-use Rattle.capnp_words.specs.declared.error.ErrorKind.{ErrorKind}
+use Rattle.std.proofs.Common.{◌≡◌, ◌+◌, ◌<◌, ap, ◌∙◌, subst, arith}
 use Rattle.capnp_words.specs.Meter.{Meter, Affords}
 use Rattle.capnp_format.specs.Word.{kind}
-use Rattle.capnp_format.specs.Segments.{Segments, Target}
-use Rattle.capnp_objects.specs.declared.object.Object.{Object}
+use Rattle.capnp_format.specs.Segments.{Target}
 use Rattle.capnp_objects.specs.declared.object.Purpose.{Purpose}
 use Rattle.capnp_objects.specs.declared.object.Purpose.TheVariants.{Size}
 use Rattle.capnp_objects.specs.declared.source.Found.{Found}
 use Rattle.capnp_objects.specs.Demands.{claim, amplified, own, Meets, IsStructList}
 use Rattle.capnp_objects.specs.Landings.{found_target, following, IsFollowed, IsClaimed}
-use Rattle.capnp_objects.specs.Measures.{counted_words, NotMeasured, no_level, stopped}
-use Rattle.capnp_objects.specs.Objects.{IsObject, near_at}
+use Rattle.capnp_objects.specs.Objects.{near_at}
 use Rattle.capnp_objects.specs.Outcomes.{Entered}
 use Rattle.capnp_objects.specs.Reading.{Reading, word_of}
-use Rattle.capnp_objects.specs.Refusals.{CanBeRead}
-use Rattle.capnp_objects.specs.Sizing.{Tally, tally}
 use Rattle.capnp_objects.specs.Spending.{after, Paid}
 use Rattle.capnp_objects.proofs.Followed.{near_landed}
 use Rattle.capnp_objects.proofs.Landings.{IsCounted, reached, entered, entered_free, lies, arrived}
 use Rattle.capnp_objects.proofs.Parts.{charge_of_size}
-use Rattle.capnp_objects.proofs.Refusals.{could_be_read, not_stopped}
-
--- the tally after the object a is measured, with the words that it counts
-abbrev pub with_object_counted : Tally → Target → Segments → Meter → Tally
-with_object_counted from a S m = tally (from.words + counted_words S a) from.caps m
 
 -- the words of an object that is read for its size: its landing pads and what it claims
 pub paid_words : {r : Reading} {m m' : Meter} {a : Target} → Entered Size r m m' a → Paid r.charging m m' (a.pads + claim a.word) 1
@@ -44,15 +33,3 @@ near_entered purpose {r} {m} {m₁} {m₂} {m₃} {l} o f near untagged free cla
     let word : (found_target l).word ≡ word_of r = ap (λ a. a.word) there in
     let meets : Meets purpose r.segments r.levels (found_target l) = record { levels = claimed.levels; is_object = rw word near; claims = lies purpose r.segments (found_target l) claimed.claims; tagged = λ v. absurd (untagged (rw word at v)) } in
     subst (Entered purpose r m m₃) there (entered (reached o f) (entered_free claimed meets (ap (amplified purpose r.segments) there ∙ free)))
-
--- what can be read isn't refused
-pub can_not : {r : Reading} {m m' : Meter} {k : ErrorKind} → CanBeRead Size r m → NotMeasured r m m' k → ⊥
-unfolding CanBeRead
-can_not can (stopped level h) = not_stopped can h
-can_not (inl z) (no_level some none same named) = some z
-can_not (inr (inl (a, l, low, covers))) (no_level some none same named) = omega (arith, l.1, none)
-can_not (inr (inr (a, l, meets, covers))) (no_level some none same named) = omega (arith, meets.levels, none)
-
-pub measured_exactly : (r : Reading) (m m' : Meter) (result : Result Object ErrorKind) → IfOk result (IsObject Size r m m') → IfErr result (NotMeasured r m m') → IsOk result ↔ CanBeRead Size r m
-measured_exactly r m m' (Ok x) good bad = ((λ _. could_be_read Size r m m' x good), (λ _. refl))
-measured_exactly r m m' (Err k) good bad = ((λ e. absurd (cc e)), (λ can. absurd (can_not can bad)))

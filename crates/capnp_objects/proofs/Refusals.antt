@@ -1,5 +1,5 @@
 -- What follows from a refusal: the place can't be read.
-use Rattle.std.proofs.Common.{◌≡◌, ◌⊎◌, ◌↔◌, inl, inr, ℕ, pred, ◌+◌, ◌*◌, ◌<◌, ◌≤◌, Bool, true, false, ◌&&◌, cond, nat_eq, is_some, Option, Some, None, Result, Ok, Err, IsOk, IfOk, IfErr, refl, sym, ◌∙◌, subst, arith, eqb-true}
+use Rattle.std.proofs.Common.{◌≡◌, ◌⊎◌, inl, inr, ℕ, pred, ◌+◌, ◌*◌, ◌≤◌, Bool, true, false, ◌&&◌, cond, nat_eq, is_some, Option, Some, None, refl, sym, subst, arith, eqb-true}
 use Rattle.capnp_words.specs.declared.error.ErrorKind.{ErrorKind}
 use Rattle.capnp_words.specs.Meter.{Meter, FitsIn, Affords}
 use Rattle.capnp_format.specs.Word.{kind, offset_bits, data_words, pointer_count, element_size, list_count, is_double}
@@ -7,21 +7,16 @@ use Rattle.capnp_format.specs.Segments.{Segments, Target, pad}
 use Rattle.capnp_format.specs.Tree.{count, element_count}
 use Rattle.capnp_objects.specs.Demands.{claim, tag, amplified, own}
 use Rattle.capnp_objects.specs.Faults.{LeadsTo, child_at}
-use Rattle.capnp_objects.specs.Objects.{IsObject}
-use Rattle.capnp_objects.specs.declared.object.Object.{Object}
-use Rattle.capnp_objects.specs.declared.object.Object.TheVariants.{Null as ObjectNull, Capability as ObjectCapability, Struct as ObjectStruct, Flat as ObjectFlat, Pointers as ObjectPointers, Structs as ObjectStructs}
 use Rattle.capnp_objects.specs.Outcomes.{Entered}
 use Rattle.capnp_objects.specs.Reading.{Reading, word_of, pointers_of, tag_size}
-use Rattle.capnp_objects.specs.Refusals.{landing_words, Unfollowed, exceeding, leading_nowhere, Stopped, no_target, broken, claim_exceeds, count_exceeds, CanBeRead, in_struct, in_pointers, in_element, StopsWithin, here, below, StopsAmong, StopsAmongElements, Refused, IsTried}
+use Rattle.capnp_objects.specs.Refusals.{landing_words, exceeding, leading_nowhere, Stopped, no_target, broken, claim_exceeds, count_exceeds, in_struct, in_pointers, in_element, StopsWithin, here, below, StopsAmong, StopsAmongElements, Refused, IsTried}
 use Rattle.capnp_objects.specs.Spending.{Paid}
-use Rattle.capnp_objects.specs.Wanted.{Form, plain, FollowsFor, FollowsTo}
-use Rattle.capnp_objects.specs.declared.object.Purpose.{Purpose}
-use Rattle.capnp_objects.specs.declared.object.Purpose.TheVariants.{Value, Size}
+use Rattle.capnp_objects.specs.Wanted.{Form}
+use Rattle.capnp_objects.specs.declared.object.Purpose.TheVariants.{Value}
 use Rattle.capnp_objects.proofs.Budgets.{fewer_than_words, one_element_more, affords_none, affords_both, paid_own, paid_all, paid_elements, pointers_within_all, pointers_within_elements}
 use Rattle.capnp_objects.proofs.Copies.{read_stop, read_element_stop, spends_on}
-use Rattle.capnp_objects.proofs.Faultless.{Sound, sound_capability, sound_object, not_refused, same_target}
-use Rattle.capnp_objects.proofs.Followed.{leads_to, leads_there}
-use Rattle.capnp_objects.proofs.Stops.{object_spends, Reached, stopped_struct, stopped_pointers, stopped_structs, refused_here, refused_pads, refused_claim, refused_elements, leads_pads}
+use Rattle.capnp_objects.proofs.Followed.{leads_there}
+use Rattle.capnp_objects.proofs.Stops.{object_spends, Reached, stopped_struct, stopped_pointers, stopped_structs, refused_here, refused_pads, refused_claim, refused_elements}
 use Rattle.capnp_objects.proofs.Objects.{own_struct, own_pointers, own_structs}
 use Rattle.capnp_objects.proofs.Unreadable.{Unreadable, Spends}
 use Rattle.capnp_objects.proofs.Shorthands.{ReadsBefore}
@@ -121,65 +116,3 @@ affords_less true m h c le covers = go m.left covers
     go : (o : Option ℕ) → FitsIn o c → FitsIn o h
     go None f = tt
     go (Some x) f = omega (arith, le, f)
-
--- if landing pads are granted, the limiter affords their words
-landing_covered : (r : Reading) (m : Meter) (b : Target) → LeadsTo r b → Affords r.charging m b.pads → Affords r.charging m (landing_words r.segments (word_of r))
-landing_covered r m b l pads = elim (landing_cases r.segments (word_of r)) [
-  | inl none ↦ subst (Affords r.charging m) (sym none) (affords_none r.charging m)
-  | inr (two, f, there, words) ↦ subst (Affords r.charging m) (leads_pads r.segments r.segment r.at b l.1 two ∙ sym words) pads
-]
-
--- if a pointer can be followed, it isn't refused
-pub not_unfollowed : {r : Reading} {m m' : Meter} {k : ErrorKind} (b : Target) → LeadsTo r b → Affords r.charging m b.pads → Unfollowed r m m' k → ⊥
-not_unfollowed {r} {m} b l pads (exceeding some short paid named) = short (landing_covered r m b l pads)
-not_unfollowed {r} b l pads (leading_nowhere some h paid) = absurd (let f = (leads_to r b l).1 in cc (f, h))
-
--- if an object can be read, its reading isn't stopped
-abbrev IsSound : Purpose → Reading → Meter → Target → Type 0
-IsSound purpose r m a = LeadsTo r a × Sound purpose plain r a × Affords r.charging m a.pads × (kind a.word < 2 → Affords r.charging m (own purpose r.segments a))
-
-sound_not_stopped : {purpose : Purpose} {r : Reading} {m m' : Meter} {b : Target} {k : ErrorKind} → IsSound purpose r m b → Stopped purpose plain r m m' k → ⊥
-sound_not_stopped {b = b} (l, sound, pads, whole) (no_target h) = not_unfollowed b l pads h
-sound_not_stopped {purpose} {r} {b = b} {k = k} (l, sound, pads, whole) (broken a f h paid) =
-    let e = sym (leads_to r b l).1 ∙ f.1 in
-    let q : b ≡ a = cc e in
-    not_refused purpose k sound (rw q h)
-sound_not_stopped {purpose} {r} {m} {b = b} (l, sound, pads, whole) (claim_exceeds a f level object claims short paid named) =
-    let e : b ≡ a = same_target r.segments r.segment r.at l.1 (leads_there r a f (λ t. omega (arith, t, object))).1 in
-    short (affords_less r.charging m (a.pads + claim a.word) (own purpose r.segments a) (omega arith) (rw e at (whole (rw e object))))
-sound_not_stopped {purpose} {r} {m} {b = b} (l, sound, pads, whole) (count_exceeds a f meets short paid named) =
-    let object = meets.is_object in
-    let e : b ≡ a = same_target r.segments r.segment r.at l.1 (leads_there r a f (λ t. omega (arith, t, object))).1 in
-    short (rw e at (whole (rw e object)))
-
-not_stopped_null : {purpose : Purpose} {r : Reading} {m m' : Meter} {k : ErrorKind} → word_of r ≡ 0 → Stopped purpose plain r m m' k → ⊥
-not_stopped_null z (no_target (exceeding some short paid named)) = some z
-not_stopped_null z (no_target (leading_nowhere some h paid)) = some z
-not_stopped_null z (broken a f h paid) = f.0 z
-not_stopped_null z (claim_exceeds a f level object claims short paid named) = f.0 z
-not_stopped_null z (count_exceeds a f meets short paid named) = f.0 z
-
--- a reading for the size leads to the same target as one for the value
-pub led_there : (purpose : Purpose) (r : Reading) (a : Target) → FollowsFor purpose r a → FollowsTo r a
-led_there Value r a l = l
-led_there Size r a l = l.0
-
-pub not_stopped : {purpose : Purpose} {r : Reading} {m m' : Meter} {k : ErrorKind} → CanBeRead purpose r m → Stopped purpose plain r m m' k → ⊥
-unfolding CanBeRead
-not_stopped (inl z) h = not_stopped_null z h
-not_stopped {purpose} {r} (inr (inl (a, l, low, covers))) h = sound_not_stopped (leads_there r a (led_there purpose r a l) (λ f. omega (arith, f, low)), sound_capability low (λ e. e refl), covers, λ o. absurd (omega (arith, o, low))) h
-not_stopped {purpose} {r} {m} (inr (inr (a, l, meets, covers))) h = sound_not_stopped (leads_there r a l (λ f. let i = meets.is_object in omega (arith, f, i)), sound_object meets, affords_less r.charging m a.pads (own purpose r.segments a) (omega arith) covers, λ _. covers) h
-
--- what was read could be read
-pub could_be_read : (purpose : Purpose) (r : Reading) (m m' : Meter) (x : Object) → IsObject purpose r m m' x → CanBeRead purpose r m
-unfolding CanBeRead
-could_be_read purpose r m m' ObjectNull h = inl h.0
-could_be_read purpose r m m' (ObjectCapability i) (a, l, low, e, covers, spent) = inr (inl (a, l, low, covers))
-could_be_read purpose r m m' (ObjectStruct start size) (a, o, z, held, ed, eq) = inr (inr (a, o.follows, o.meets, o.covers))
-could_be_read purpose r m m' (ObjectFlat start size i) (a, o, z, small, held, ez, ei) = inr (inr (a, o.follows, o.meets, o.covers))
-could_be_read purpose r m m' (ObjectPointers start i) (a, o, z, six, held, ei) = inr (inr (a, o.follows, o.meets, o.covers))
-could_be_read purpose r m m' (ObjectStructs start size i) (a, o, z, seven, held, ei, ed, eq) = inr (inr (a, o.follows, o.meets, o.covers))
-
-pub read_exactly : (purpose : Purpose) (r : Reading) (m m' : Meter) (result : Result Object ErrorKind) → IfOk result (IsObject purpose r m m') → IfErr result (Stopped purpose plain r m m') → IsOk result ↔ CanBeRead purpose r m
-read_exactly purpose r m m' (Ok x) good bad = ((λ _. could_be_read purpose r m m' x good), (λ _. refl))
-read_exactly purpose r m m' (Err k) good bad = ((λ e. absurd (cc e)), (λ can. absurd (not_stopped can bad)))

@@ -1,16 +1,15 @@
 -- Short names for what definitions write out and proofs often use.
-use Rattle.std.proofs.Common.{◌≡◌, ℕ}
+use Rattle.std.proofs.Common.{ℕ}
 use Rattle.capnp_words.specs.declared.error.ErrorKind.{ErrorKind}
 use Rattle.capnp_words.specs.declared.wire_pointer.StructSize.{StructSize}
 use Rattle.capnp_words.specs.Meter.{Meter}
 use Rattle.capnp_format.specs.Segments.{Target}
-use Rattle.capnp_format.specs.Tree.{Trees, Elements, element_count}
+use Rattle.capnp_format.specs.Tree.{Trees, Elements}
 use Rattle.capnp_format.specs.Means.{MeansAll, MeansElements}
 use Rattle.capnp_objects.specs.declared.object.Purpose.TheVariants.{Value}
 use Rattle.capnp_objects.specs.Outcomes.{ReadsAll, ReadsElements}
 use Rattle.capnp_objects.specs.Reading.{Reading}
 use Rattle.capnp_objects.specs.Refusals.{Stopped, GoesBefore, StopsAmong, StopsAmongElements}
-use Rattle.capnp_objects.specs.Sizing.{SizedAll, Tally, WalksElements}
 use Rattle.capnp_objects.specs.Wanted.{Form}
 
 -- Consecutive pointers, from the place on, mean ts within the levels, at the cost c.
@@ -20,14 +19,6 @@ MeanThere r ts c = MeansAll r.segments r.levels r.segment r.at ts c
 -- Elements of this size, from the place on, mean es within the levels, at the cost c.
 abbrev pub ElementsMean : Reading → StructSize → Elements → ℕ → Type 0
 ElementsMean r size es c = MeansElements r.segments r.levels r.segment r.at size.data_words size.pointers es c
-
--- The walk goes over consecutive pointers, from the place on, finds ts, and charges c words.
-abbrev pub SizedAllThere : Reading → Trees → ℕ → Type 0
-SizedAllThere r ts c = SizedAll r.segments r.levels r.segment r.at ts c
-
--- The walk over the pointers of i elements takes one tally to the other.
-abbrev pub WalksRows : Reading → StructSize → ℕ → Tally → Tally → Type 0
-WalksRows r size i from to = (es : Elements) × (element_count es ≡ i) × WalksElements r size from to es
 
 -- The pointers of the object a before the one at q are read, from m to m'.
 abbrev pub ReadsBefore : Form → Reading → Target → ℕ → Meter → Meter → Type 0

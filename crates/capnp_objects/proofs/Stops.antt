@@ -21,10 +21,9 @@ use Rattle.capnp_objects.specs.declared.object.Purpose.TheVariants.{Value}
 use Rattle.capnp_format.proofs.Sound.{if_bind, at_some}
 use Rattle.capnp_objects.proofs.Parts.{is_null, is_capability, is_inner, means_parts}
 use Rattle.capnp_objects.proofs.Followed.{leads_there, entered_leads}
-use Rattle.capnp_objects.proofs.Faultless.{no_fault}
+use Rattle.capnp_objects.proofs.Faultless.{no_fault, one_target}
 use Rattle.capnp_objects.proofs.Objects.{own_struct, own_pointers, own_structs}
 use Rattle.capnp_objects.proofs.Budgets.{fewer_than_words, paid_both, paid_own, affords_rest}
-use Rattle.capnp_objects.proofs.Sized.{one_target}
 use Rattle.capnp_objects.proofs.Shorthands.{MeanThere, ElementsMean}
 
 -- The word at a place is followed to a, the pointer is counted, and its pads are paid, from m to

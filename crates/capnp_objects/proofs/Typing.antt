@@ -1,21 +1,16 @@
 -- From the steps of reading the type of a pointer to the outcome.
-use Rattle.std.proofs.Common.{◌≡◌, ◌≢◌, ◌↔◌, ℕ, inl, inr, Result, Ok, Err, IsOk, IfOk, IfErr, refl}
+use Rattle.std.proofs.Common.{◌≡◌, ◌↔◌, inl, inr, Result, Ok, Err, IsOk, IfOk, IfErr, refl}
 use Rattle.capnp_words.specs.declared.error.ErrorKind.{ErrorKind}
-use Rattle.capnp_words.specs.declared.error.ErrorKind.TheVariants.{UnexpectedFarPointer}
-use Rattle.capnp_words.specs.Meter.{Meter, Affords}
-use Rattle.capnp_format.specs.Word.{kind}
-use Rattle.capnp_format.specs.Segments.{Target}
+use Rattle.capnp_words.specs.Meter.{Meter}
 use Rattle.capnp_words.specs.declared.wire_pointer.PointerType.{PointerType}
 use Rattle.capnp_words.specs.declared.wire_pointer.PointerType.TheVariants.{Null}
 use Rattle.capnp_objects.specs.declared.source.Found.{Found}
 use Rattle.capnp_objects.specs.Landings.{found_target, following, IsFollowed}
 use Rattle.capnp_objects.specs.Reading.{Reading, word_of}
-use Rattle.capnp_objects.specs.Refusals.{exceeding, leading_nowhere}
-use Rattle.capnp_objects.specs.Types.{type_of, IsOfType, HasNoType, not_followed, of_no_type}
-use Rattle.capnp_objects.proofs.Followed.{leads_there}
+use Rattle.capnp_objects.specs.Types.{type_of, IsOfType, HasNoType, of_no_type}
+use Rattle.capnp_objects.proofs.Inverted.{not_both}
 use Rattle.capnp_objects.proofs.Landings.{IsCounted, reached}
-use Rattle.capnp_objects.proofs.Refusals.{not_unfollowed}
-use Rattle.capnp_objects.specs.Wanted.{FollowsTo}
+use Rattle.capnp_objects.proofs.TypesComputed.{typed_is, untyped_is}
 
 -- The pointer is null, or leads to a word that describes something, and m covers its landing pads.
 abbrev pub HasType : Reading → Meter → Type 0
@@ -24,10 +19,6 @@ HasType r m = (t : PointerType) × (m' : Meter) × IsOfType r m m' t
 pub null_has_type : (r : Reading) (m : Meter) → word_of r ≡ 0 → HasType r m
 null_has_type r m null = (Null, m, inl (null, refl, refl))
 
--- a word that describes something isn't far
-not_far : (w : ℕ) (t : PointerType) → type_of w ≡ Ok t → kind w ≢ 2
-not_far w t e two = absurd (let f : type_of w ≡ Err UnexpectedFarPointer = (rw two refl) in cc (e, f))
-
 -- the outcome after the pointer is followed
 pub has_type : {r : Reading} {m m₁ m₂ : Meter} {l : Found} (t : PointerType) → IsCounted r m m₁ → IsFollowed (following r) m₁ m₂ l → type_of (found_target l).word ≡ Ok t → HasType r m
 has_type {m₂ = m₂} {l = l} t o f e = let there = reached o f in (t, m₂, inr (found_target l, there.follows, e, there.paid))
@@ -35,18 +26,8 @@ has_type {m₂ = m₂} {l = l} t o f e = let there = reached o f in (t, m₂, in
 pub has_no_type : {r : Reading} {m m₁ m₂ : Meter} {l : Found} {k : ErrorKind} → IsCounted r m m₁ → IsFollowed (following r) m₁ m₂ l → type_of (found_target l).word ≡ Err k → HasNoType r m m₂ k
 has_no_type {l = l} o f e = let there = reached o f in of_no_type (found_target l) there.follows e there.paid
 
-not_untyped_null : {r : Reading} {m m' : Meter} {k : ErrorKind} → word_of r ≡ 0 → HasNoType r m m' k → ⊥
-not_untyped_null null (not_followed (exceeding some short paid named)) = some null
-not_untyped_null null (not_followed (leading_nowhere some h paid)) = some null
-not_untyped_null null (of_no_type a f e paid) = f.0 null
-
-not_untyped_there : {r : Reading} {m m' : Meter} {k : ErrorKind} (a : Target) (t : PointerType) → FollowsTo r a → type_of a.word ≡ Ok t → Affords r.charging m a.pads → HasNoType r m m' k → ⊥
-not_untyped_there {r} a t f e covers (not_followed h) = not_unfollowed a (leads_there r a f (not_far a.word t e)) covers h
-not_untyped_there a t f e covers (of_no_type b g none paid) = absurd (let h = f.1 in let i = g.1 in let same : a ≡ b = cc (h, i) in cc (e, none, same))
-
 pub not_untyped : (r : Reading) (m m' : Meter) (k : ErrorKind) → HasType r m → HasNoType r m m' k → ⊥
-not_untyped r m m' k (t, n, inl is_null) h = not_untyped_null is_null.0 h
-not_untyped r m m' k (t, n, inr (a, f, e, paid)) h = not_untyped_there a t f e paid.covers h
+not_untyped r m m' k (t, n, h) none = not_both (typed_is r m n t h) (untyped_is r m m' k none)
 
 pub typed_exactly : (r : Reading) (m m' : Meter) (result : Result PointerType ErrorKind) → IfOk result (λ t. HasType r m) → IfErr result (HasNoType r m m') → IsOk result ↔ HasType r m
 typed_exactly r m m' (Ok t) good bad = ((λ e. good), (λ has. refl))

@@ -14,4 +14,7 @@ pub mod Objects
 pub mod Landings
 pub mod Entering
 pub mod Measures
-pub mod Sizing
+pub mod Metered
+pub mod Enter
+pub mod Values
+pub mod Examples

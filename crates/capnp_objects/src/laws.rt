@@ -1,27 +1,41 @@
-//! Laws of refusals and sizes. Each function does nothing: its contract is the law, proved for all
-//! messages and limits. `specs/Refusals.antt` has the definitions with which contracts state a
-//! refusal, and docs/FORMAT.md explains these in plain words.
+//! Laws of reading and refusals. Each function does nothing: its contract is the law, proved for all
+//! messages and limits. `specs/Enter.antt` and `specs/Values.antt` have the functions that
+//! reading computes, and `specs/Refusals.antt` the definitions with which contracts state a refusal.
+//! docs/FORMAT.md explains both in plain words.
 
-ghost use Rattle.std.specs.Prelude.{◌≡◌, ◌≢◌, ◌⊎◌, ◌+◌, ◌<◌, ◌≤◌, ℕ, true, Some};
+mod examples;
+
+ghost use Rattle.std.specs.Prelude.{◌≡◌, ◌≢◌, ◌⊎◌, ◌↔◌, ◌+◌, ◌≤◌, ℕ, true, Some, Ok, Err, IsOk};
 ghost use Rattle.capnp_words.specs.declared.error.ErrorKind.{ErrorKind};
 ghost use Rattle.capnp_words.specs.declared.error.ErrorKind.TheVariants.{ReadLimitExceeded};
+ghost use Rattle.capnp_words.specs.declared.wire_pointer.PointerType.{PointerType};
 ghost use Rattle.capnp_words.specs.Meter.{Meter, Affords};
-ghost use Rattle.capnp_format.specs.Segments.{AreWords, Target};
+ghost use Rattle.capnp_format.specs.Segments.{Target};
 ghost use Rattle.capnp_format.specs.Word.{kind};
-ghost use Rattle.capnp_format.specs.Tree.{Tree, depth, capabilities};
-ghost use Rattle.capnp_format.specs.Canonical.{word_count, trim};
+ghost use Rattle.capnp_format.specs.Tree.{Tree, capabilities};
+ghost use Rattle.capnp_objects.specs.declared.object.Expected.{Expected};
+ghost use Rattle.capnp_objects.specs.declared.object.Object.{Object};
+ghost use Rattle.capnp_objects.specs.declared.object.Purpose.{Purpose};
+ghost use Rattle.capnp_objects.specs.declared.object.Purpose.TheVariants.{Value, Size};
+ghost use Rattle.capnp_objects.specs.Enter.{shape, read, object_shape};
+ghost use Rattle.capnp_objects.specs.Expected.{Expectation, expectation, CanBeGiven, Withheld};
 ghost use Rattle.capnp_objects.specs.Faults.{LeadsTo, Somewhere, Exceeds, HasFault};
-ghost use Rattle.capnp_objects.specs.Outcomes.{MeansThere, Reads};
+ghost use Rattle.capnp_objects.specs.Measures.{NotMeasured};
+ghost use Rattle.capnp_objects.specs.Objects.{IsObject};
+ghost use Rattle.capnp_objects.specs.Outcomes.{MeansThere, Reads, Entered};
 ghost use Rattle.capnp_objects.specs.Reading.{Reading};
-ghost use Rattle.capnp_objects.specs.Refusals.{Refused, StopsWithin, IsTried};
-ghost use Rattle.capnp_objects.specs.Sizing.{SizedThere, tally, WalksPlace};
+ghost use Rattle.capnp_objects.specs.Refusals.{CanBeRead, NotRead, Refused, StopsWithin, IsTried};
+ghost use Rattle.capnp_objects.specs.Types.{IsOfType, HasNoType};
+ghost use Rattle.capnp_objects.specs.Values.{value, expect, pointer_type};
 ghost use Rattle.capnp_objects.specs.Wanted.{Form, FollowsTo, AllowsCapabilities};
 
-/// A demand is a condition for reading an object, and has a name, that of its refusal. A reading is
-/// refused for one of two reasons: a place that the reading reaches breaks a demand, and the
-/// refusal has that demand's name; or a place that the reading reaches charges more words than the
-/// limiter has left, and the refusal is `ReadLimitExceeded` (`named`). `ReadLimitExceeded` has no
-/// other cause (`limit`).
+pub use examples::worked_readings;
+
+/// A demand is a condition for reading an object, and has the name of the refusal that follows if
+/// the condition is broken. A reading is refused for one of two reasons: a place that the reading
+/// reaches breaks a demand, and the refusal has that demand's name; or a place that the reading
+/// reaches charges more words than the limiter has left, and the refusal is `ReadLimitExceeded`
+/// (clause `named`). `ReadLimitExceeded` has no other cause (clause `limit`).
 pub fn refused_truly()
     ensures named { (form : Form) (r : Reading) (m m' : Meter) (k : ErrorKind)
         → Refused form r m m' k
@@ -30,12 +44,77 @@ pub fn refused_truly()
         → Refused form r m m' ReadLimitExceeded → Somewhere (Exceeds m') r }
 {}
 
-/// If a reading is refused, the place means no value that `form` accepts and that both the nesting
-/// limit and the traversal limit allow.
+/// If the reading of a place is refused, the message has no value at that place that `form` accepts
+/// and that both the nesting limit and the traversal limit allow.
 pub fn refused_rightly()
     ensures { (form : Form) (r : Reading) (m m' : Meter) (k : ErrorKind)
         → Refused form r m m' k → (t : Tree) (c : ℕ) → MeansThere r t c
         → AllowsCapabilities form (capabilities t) → Affords r.charging m c → ⊥ }
+{}
+
+/// A refusal has one name and leaves one limiter: those of the first check that fails, in the order
+/// of checks. This is so for reading a whole value (`value`), one object (`object`), one object only
+/// for its size (`measured`), one object that a call expects to be of some kind (`expected`), and
+/// the type of a pointer (`of_type`).
+pub fn one_name()
+    ensures value { (form : Form) (r : Reading) (m m' m'' : Meter) (k l : ErrorKind)
+        → Refused form r m m' k → Refused form r m m'' l → (k ≡ l) × (m' ≡ m'') }
+    ensures object { (r : Reading) (m m' m'' : Meter) (k l : ErrorKind)
+        → NotRead Value r m m' k → NotRead Value r m m'' l → (k ≡ l) × (m' ≡ m'') }
+    ensures measured { (r : Reading) (m m' m'' : Meter) (k l : ErrorKind)
+        → NotMeasured r m m' k → NotMeasured r m m'' l → (k ≡ l) × (m' ≡ m'') }
+    ensures expected { (e : Expectation) (r : Reading) (m m' m'' : Meter) (k l : ErrorKind)
+        → Withheld e r m m' k → Withheld e r m m'' l → (k ≡ l) × (m' ≡ m'') }
+    ensures of_type { (r : Reading) (m m' m'' : Meter) (k l : ErrorKind)
+        → HasNoType r m m' k → HasNoType r m m'' l → (k ≡ l) × (m' ≡ m'') }
+{}
+
+/// Reading a whole value is a function: `value` returns the value with the limiter afterwards
+/// (`read`), or the error of the refusal with the limiter afterwards (`refused`).
+pub fn values_computed()
+    ensures read { (form : Form) (r : Reading) (m m' : Meter) (t : Tree)
+        → Reads form r m m' t ↔ (value form r m ≡ (Ok t, m')) }
+    ensures refused { (form : Form) (r : Reading) (m m' : Meter) (k : ErrorKind)
+        → Refused form r m m' k ↔ (value form r m ≡ (Err k, m')) }
+{}
+
+/// Reading one object is a function: `read` returns the object with the limiter afterwards
+/// (`object`, or `entered` for a struct or a list at its target), or the error of the refusal with
+/// the limiter afterwards (`refused`, or `measured` if only the size is wanted). It returns an
+/// object exactly if one can be read (`exactly`).
+pub fn objects_computed()
+    ensures object { (purpose : Purpose) (r : Reading) (m m' : Meter) (x : Object)
+        → IsObject purpose r m m' x → read purpose r m ≡ (Ok (object_shape x), m') }
+    ensures entered { (purpose : Purpose) (r : Reading) (m m' : Meter) (a : Target)
+        → Entered purpose r m m' a → read purpose r m ≡ (Ok (shape r.segments a), m') }
+    ensures exactly { (purpose : Purpose) (r : Reading) (m : Meter)
+        → CanBeRead purpose r m ↔ IsOk (read purpose r m).0 }
+    ensures refused { (r : Reading) (m m' : Meter) (k : ErrorKind)
+        → NotRead Value r m m' k ↔ (read Value r m ≡ (Err k, m')) }
+    ensures measured { (r : Reading) (m m' : Meter) (k : ErrorKind)
+        → NotMeasured r m m' k ↔ (read Size r m ≡ (Err k, m')) }
+{}
+
+/// Reading an object that a call expects to be of some kind is a function: `expect` returns the
+/// object with the limiter afterwards (`object`), or the error of the refusal with the limiter
+/// afterwards (`refused`). It returns an object exactly if the call has an answer (`exactly`).
+pub fn expected_computed()
+    ensures object { (e : Expected) (r : Reading) (m m' : Meter) (x : Object)
+        → CanBeGiven (expectation e) r m → IsObject Value (record r { levels = 1 }) m m' x
+        → expect (expectation e) r m ≡ (Ok (object_shape x), m') }
+    ensures exactly { (e : Expected) (r : Reading) (m : Meter)
+        → CanBeGiven (expectation e) r m ↔ IsOk (expect (expectation e) r m).0 }
+    ensures refused { (e : Expected) (r : Reading) (m m' : Meter) (k : ErrorKind)
+        → Withheld (expectation e) r m m' k ↔ (expect (expectation e) r m ≡ (Err k, m')) }
+{}
+
+/// Reading the type of a pointer is a function: `pointer_type` returns the type with the limiter
+/// afterwards (`of_type`), or the error of the refusal with the limiter afterwards (`refused`).
+pub fn types_computed()
+    ensures of_type { (r : Reading) (m m' : Meter) (t : PointerType)
+        → IsOfType r m m' t ↔ (pointer_type r m ≡ (Ok t, m')) }
+    ensures refused { (r : Reading) (m m' : Meter) (k : ErrorKind)
+        → HasNoType r m m' k ↔ (pointer_type r m ≡ (Err k, m')) }
 {}
 
 /// If there is no traversal limit, or nothing is charged, each refusal names a demand, and the
@@ -45,8 +124,9 @@ pub fn refused_unlimited()
         → ((x : ℕ) → Affords r.charging m x) → Refused form r m m' k → HasFault form r k }
 {}
 
-/// Either a place means, within its nesting limit, a value that `form` accepts; or a reading of the
-/// place reaches a place that breaks a demand.
+/// For each place, one of these holds: the message has, within the nesting limit, a value at the
+/// place, and `form` accepts the value; or a reading of the place reaches a place that breaks a
+/// demand.
 pub fn value_or_fault()
     ensures { (form : Form) (r : Reading)
         → ((t : Tree) × (c : ℕ) × MeansThere r t c × AllowsCapabilities form (capabilities t))
@@ -63,30 +143,9 @@ pub fn few_followed()
         → m'.followed ≤ m.followed + (x + 1) }
 {}
 
-/// If a place means a value, a walk over the place counts the words and capabilities of that value;
-/// the walk and the value may have different nesting limits (`size`). The value's canonical words,
-/// without the root pointer, are at most as many as the words counted (`canonical`).
-pub fn size_of_value()
-    ensures size { (r : Reading) (n : ℕ) (m m' : Meter) (words caps : ℕ) (t : Tree) (c : ℕ)
-        → WalksPlace r (tally 0 0 m) (tally words caps m')
-        → MeansThere (record r { levels = n }) t c
-        → (words ≡ word_count t) × (caps ≡ capabilities t) }
-    ensures canonical { (r : Reading) (n : ℕ) (m m' : Meter) (words caps : ℕ) (t : Tree) (c : ℕ)
-        → AreWords r.segments → WalksPlace r (tally 0 0 m) (tally words caps m')
-        → MeansThere (record r { levels = n }) t c
-        → word_count (trim t) ≤ words }
-{}
-
-/// If a place means a value, and the nesting limit is above the value's depth, a walk counts the
-/// value's size at no greater cost than that of reading the value.
-pub fn values_have_sizes()
-    ensures { (r : Reading) (n : ℕ) (t : Tree) (c : ℕ) → MeansThere (record r { levels = n }) t c
-        → depth t < r.levels → (k : ℕ) × (k ≤ c) × SizedThere r t k }
-{}
-
-/// If following a pointer ends at a word that isn't a far pointer, then that word describes the
-/// object that the pointer leads to in the meaning of the message. This is so for every pointer
-/// whose object is read.
+/// If following a pointer ends at a word that isn't a far pointer, then, by the encoding
+/// specification, that word describes the object that the pointer leads to. This is so for every
+/// pointer whose object is read.
 pub fn followed_leads()
     ensures { (r : Reading) (a : Target) → FollowsTo r a → kind a.word ≢ 2 → LeadsTo r a }
 {}

@@ -1,4 +1,4 @@
--- The measures of the calls that test and that add sizes: six for each level that is left, and less
+-- The measures of the calls that test: six for each level that is left, and less
 -- the nearer a call is to the next level.
 use Rattle.std.proofs.Common.{◌≡◌, ℕ, suc, pred, ◌+◌, ◌*◌, ◌<◌, ◌≤◌, arith}
 
@@ -12,6 +12,3 @@ falls_last k same is = omega (arith, same, is)
 -- At the next level.
 pub falls_in : {a b t : ℕ} (i : ℕ) → i ≤ 5 → a ≡ pred b → 0 < b → 6 * b ≡ t → 6 * a + i < t
 falls_in i small less some is = omega (arith, small, less, some, is)
-
-pub falls_in_one : {a b t : ℕ} (i : ℕ) → i ≤ 5 → a ≡ pred b → 0 < b → 6 * b + 1 ≡ t → 6 * a + i < t
-falls_in_one i small less some is = omega (arith, small, less, some, is)

@@ -10,7 +10,9 @@ pub mod NearRead
 pub mod Checks
 pub mod Falls
 pub mod Fails
+pub mod Measured
+mod Worked
+pub mod Counted
 pub mod Rooms
 pub mod Returned
-pub mod Stopped
 pub mod NeverStops

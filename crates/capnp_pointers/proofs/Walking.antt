@@ -1,12 +1,10 @@
 -- One level less, as a nesting limit counts it; and results that are passed on.
-use Rattle.std.proofs.Common.{◌≡◌, ◌↔◌, ℕ, zero, suc, pred, ◌+◌, ◌*◌, ◌-◌, ◌^◌, ◌<◌, ◌≤◌, length, Result, Ok, Err, IsOk, IfOk, IfErr, OnOk, OnErr, ap, sym, refl, subst, ◌∙◌, arith, add-zero}
+use Rattle.std.proofs.Common.{◌≡◌, ℕ, zero, suc, pred, ◌+◌, ◌*◌, ◌<◌, ◌≤◌, length, Result, Ok, Err, IsOk, IfOk, IfErr, OnOk, OnErr, ap, ◌∙◌, arith}
 use Rattle.std.proofs.lemmas.Bool.{false≢true}
 use Rattle.std.proofs.lemmas.Int.{ints, to_z-of_z}
 use mir.Syntax.{w32}
 use mir.Val.{SFits, to_z, of_z}
 use lib.IntN.{ℤ, pos, negsuc, ◌-ℤ◌}
-use Rattle.capnp_words.specs.declared.error.ErrorKind.{ErrorKind}
-use Rattle.capnp_words.specs.declared.error.ErrorKind.TheVariants.{MessageTooLarge}
 use Rattle.capnp_format.specs.Segments.{segment}
 use Rattle.capnp_words.specs.declared.wire_pointer.StructSize.{StructSize}
 use Rattle.capnp_objects.specs.declared.object.Place.{Place}
@@ -15,16 +13,12 @@ use Rattle.capnp_objects.specs.declared.object.Object.TheVariants.{Null as Objec
 use Rattle.capnp_objects.specs.declared.object.Purpose.TheVariants.{Size}
 use Rattle.capnp_objects.specs.Objects.{IsObject}
 use Rattle.capnp_objects.proofs.Parts.{claim_struct, claim_list}
-use Rattle.capnp_objects.specs.Reading.{Reading, segment_read, sized}
-use Rattle.capnp_objects.specs.Rows.{rows_sized}
-use Rattle.capnp_objects.specs.Sizing.{FitSize, SizesStop, SizeStops, RowsStop, Tally, tally, WalksPlace, WalksPointers}
+use Rattle.capnp_objects.specs.Reading.{Reading, segment_read}
 use Rattle.capnp_objects.specs.Source.{levels}
-use Rattle.capnp_objects.proofs.Walked.{beginning, null_walked, flat_walked, struct_row_walked, pointers_row_walked, structs_rows_walked}
-use Rattle.capnp_objects.proofs.WalkStops.{stops_never, stop_never, struct_row_stops, pointers_row_stops, structs_rows_stop, flat_beyond, struct_beyond, pointers_beyond, structs_beyond}
+use Rattle.capnp_objects.proofs.Walked.{beginning}
 use Rattle.capnp_words.specs.Meter.{Meter}
 use Rattle.capnp_pointers.specs.declared.pointers.sizes.MeasuredRows.{MeasuredRows}
-use Rattle.capnp_pointers.specs.Sizes.{object_words, HasRows}
-use Rattle.capnp_objects.proofs.Shorthands.{WalksRows}
+use Rattle.capnp_pointers.specs.Sizes.{HasRows}
 
 one_level : (z : ℤ) → SFits w32 z → 0 < levels z → levels (to_z w32 (of_z w32 (z -ℤ pos 1))) ≡ pred (levels z)
 one_level (pos zero) fits some = absurd (omega arith)
@@ -69,18 +63,6 @@ pub on_ok_so : {A E : Type 0} (r : Result A E) {X Y : Type 0} → OnOk r X → (
 on_ok_so (Ok x) h f = f h
 on_ok_so (Err k) h f = tt
 
--- A sum that doesn't fit.
-pub beyond_with : {A E : Type 0} (r : Result A E) (k : ErrorKind) {F : Type 0} (Q : ErrorKind → Type 0) → IsOk r ↔ F → OnErr r (k ≡ MessageTooLarge (2 ^ 64 - 1)) → ((F → ⊥) → Q (MessageTooLarge (2 ^ 64 - 1))) → OnErr r (Q k)
-beyond_with (Ok x) k Q exactly named f = tt
-beyond_with (Err e) k Q exactly named f = subst Q (sym named) (f (λ h. false≢true (exactly.1 h)))
-
--- If the walk is refused, there is no walk whose sums fit: from a place, and over pointers.
-pub no_size : {r : Reading} {m m' : Meter} {k : ErrorKind} → SizeStops k r (tally 0 0 m) m' → (to : Tally) × WalksPlace r (tally 0 0 m) to × FitSize to.words to.caps → ⊥
-no_size refused (to, walk, fits) = stops_never refused walk.tree walk.cost walk.is_sized (omega (arith, fits.0, walk.words_are), omega (arith, fits.1, walk.caps_are)) walk.paid.covers
-
-pub no_sizes : {r : Reading} {i : ℕ} {from : Tally} {m' : Meter} {k : ErrorKind} → SizesStop r i from m' k → (to : Tally) × WalksPointers r i from to × FitSize to.words to.caps → ⊥
-no_sizes refused (to, (ts, len, all), fits) = stop_never refused ts all.cost len all.is_sized (omega (arith, fits.0, all.words_are), omega (arith, fits.1, all.caps_are)) all.paid.covers
-
 -- An object is measured that has pointers, those of these rows.
 pub record Opened (r : Reading) (m m' : Meter) (x : Object) (rows : MeasuredRows) : Type 0 where
   pub is_measured : IsObject Size r m m' x
@@ -117,39 +99,3 @@ object_inside {r} {m} {m'} (ObjectStructs start size i) o = rw (o.has.0, o.has.1
 object_inside ObjectNull o = absurd o.has
 object_inside (ObjectCapability i) o = absurd o.has
 object_inside (ObjectFlat start size i) o = absurd o.has
-
--- What a walk finds at an object: its own words and no pointers; the pointers that it goes over, or
--- stops at; or too many words.
-pub leaf_walked : {r : Reading} {from : Tally} {m' : Meter} (x : Object) → IsObject Size r from.meter m' x → ((rows : MeasuredRows) → HasRows x rows → ⊥) → ((i : ℕ) → x ≡ ObjectCapability i → ⊥) → WalksPlace r from (tally (from.words + object_words x) from.caps m')
-leaf_walked {r} {from} {m'} ObjectNull object none other = rw add-zero (null_walked {r = r} {from = from} object)
-leaf_walked {r} {from} {m'} (ObjectCapability i) object none other = absurd (other i refl)
-leaf_walked {r} {from} {m'} (ObjectFlat start size i) object none other = flat_walked {r = r} {from = from} start size i object
-leaf_walked {r} {from} {m'} (ObjectStruct start size) object none other = absurd (none (record { start = start; data_words = size.data_words; pointers = size.pointers; count = 1 }) (refl, refl, refl, refl))
-leaf_walked {r} {from} {m'} (ObjectPointers start i) object none other = absurd (none (record { start = start; data_words = 0; pointers = i; count = 1 }) (refl, refl, refl, refl))
-leaf_walked {r} {from} {m'} (ObjectStructs start size i) object none other = absurd (none (record { start = start; data_words = size.data_words; pointers = size.pointers; count = i }) (refl, refl, refl, refl))
-
-pub object_walked : {r : Reading} {from to : Tally} {m' : Meter} {rows : MeasuredRows} (x : Object) → Opened r from.meter m' x rows →
-    WalksRows (beginning r rows.start) (sized rows.data_words rows.pointers) rows.count (tally (from.words + object_words x) from.caps m') to → WalksPlace r from to
-object_walked {r} {from} (ObjectStruct start size) o h = struct_row_walked {r = r} {from = from} start size o.is_measured (rw (o.has.0, o.has.1, o.has.2, o.has.3) at h)
-object_walked {r} {from} (ObjectPointers start i) o h = pointers_row_walked {r = r} {from = from} start i o.is_measured (rw (o.has.0, o.has.1, o.has.2, o.has.3) at h)
-object_walked {r} {from} (ObjectStructs start size i) o h = structs_rows_walked {r = r} {from = from} start size i o.is_measured (rw (o.has.0, o.has.1, o.has.2, o.has.3) at h)
-object_walked ObjectNull o h = absurd o.has
-object_walked (ObjectCapability i) o h = absurd o.has
-object_walked (ObjectFlat start size i) o h = absurd o.has
-
-pub object_stops : {r : Reading} {from : Tally} {m' m'' : Meter} {k : ErrorKind} {rows : MeasuredRows} (x : Object) → Opened r from.meter m' x rows →
-    RowsStop (beginning r rows.start) (rows_sized (sized rows.data_words rows.pointers) rows.count) (tally (from.words + object_words x) from.caps m') m'' k → SizeStops k r from m''
-object_stops {r} {from} (ObjectStruct start size) o h = struct_row_stops {r = r} {from = from} start size o.is_measured (rw (o.has.0, o.has.1, o.has.2, o.has.3) at h)
-object_stops {r} {from} (ObjectPointers start i) o h = pointers_row_stops {r = r} {from = from} start i o.is_measured (rw (o.has.0, o.has.1, o.has.2, o.has.3) at h)
-object_stops {r} {from} (ObjectStructs start size i) o h = structs_rows_stop {r = r} {from = from} start size i o.is_measured (rw (o.has.0, o.has.1, o.has.2, o.has.3) at h)
-object_stops ObjectNull o h = absurd o.has
-object_stops (ObjectCapability i) o h = absurd o.has
-object_stops (ObjectFlat start size i) o h = absurd o.has
-
-pub object_beyond : {r : Reading} {from : Tally} {m' : Meter} (x : Object) → FitSize from.words from.caps → IsObject Size r from.meter m' x → (from.words + object_words x < 2 ^ 64 → ⊥) → SizeStops (MessageTooLarge (2 ^ 64 - 1)) r from m'
-object_beyond ObjectNull fits object over = absurd (over (omega (arith, fits.0)))
-object_beyond (ObjectCapability i) fits object over = absurd (over (omega (arith, fits.0)))
-object_beyond {r} {from} (ObjectFlat start size i) fits object over = flat_beyond {r = r} {from = from} start size i fits object over
-object_beyond {r} {from} (ObjectStruct start size) fits object over = struct_beyond {r = r} {from = from} start size fits object over
-object_beyond {r} {from} (ObjectPointers start i) fits object over = pointers_beyond {r = r} {from = from} start i fits object over
-object_beyond {r} {from} (ObjectStructs start size i) fits object over = structs_beyond {r = r} {from = from} start size i fits object over

@@ -2,4 +2,5 @@
 //! through the whole value that a pointer leads to.
 #![tactic(auto)]
 
+pub mod laws;
 pub mod pointers;

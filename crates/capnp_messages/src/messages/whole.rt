@@ -1,15 +1,15 @@
-//! The canonical copy, the test for canonical form, and the size of a whole message, whatever holds
-//! its segments.
-ghost use Rattle.std.specs.Prelude.{◌≡◌, ◌⊎◌, ◌↔◌, ◌≤◌, [], IsOk, IfOk, IfSome, IfNone, IfErr, IsNone, IsTrue};
+//! Makes a canonical copy of a whole message, tests it for canonical form, and measures it, for any
+//! type that holds the message's segments.
+ghost use Rattle.std.specs.Prelude.{◌≡◌, ◌⊎◌, ◌↔◌, [], IsOk, IfOk, IfSome, IfNone, IfErr, IsNone, IsTrue};
 ghost use Rattle.std.specs.Bool.{OnFalse, OnTrue};
 ghost use Rattle.capnp_format.specs.Bytes.{message};
 ghost use Rattle.capnp_format.specs.Tree.{Tree};
-ghost use Rattle.capnp_arena_traits.specs.Allocations.{max_segment_words, one_more};
+ghost use Rattle.capnp_arena_traits.specs.Allocations.{one_more};
 ghost use Rattle.capnp_arena_traits.specs.Limits.{IsSmall};
 ghost use Rattle.capnp_messages.specs.Copies.{HoldsCanonicalWords, LacksMemoryOr};
 ghost use Rattle.capnp_messages.specs.CanonicalMessages.{IsCanonicalMessage};
 ghost use Rattle.capnp_messages.specs.Tries.{IsMadeByFirstTry, IsSegmentRoom, NeedsMoreRoom};
-ghost use Rattle.capnp_messages.specs.Messages.{HasSizeOf, HasSizeWithin, IsCanonicalWithin, IsFaultOf, IsValueOf, RefusesCanon, RefusesCheck, RefusesSize, root_within};
+ghost use Rattle.capnp_messages.specs.Messages.{HasSizeOf, HasSizeWithin, IsCanonicalWithin, IsFaultOf, IsValueOf, RefusesCanon, RefusesCheck, RefusesSize, message_size, root_within};
 
 use super::canonical_copy::{copy_canonical_with, copy_in_room};
 use super::message_fault::canonical_fault;
@@ -23,7 +23,8 @@ use capnp_words::error::ErrorKind;
 use capnp_words::read_limiter::ReadLimiter;
 use std::alloc::Global;
 
-/// Like `canonical_with`, for a message in a reader's arena.
+/// Like `canonical_with`, for the message in the reader's arena `source`. Precondition: the nesting
+/// limit of `source` is that of `limits`.
 pub fn canonical_from<A: Allocator, S: ReaderSegments>(
     alloc: Global,
     allocator: A,
@@ -49,9 +50,13 @@ pub fn canonical_from<A: Allocator, S: ReaderSegments>(
     }
 }
 
-/// Copies a message in canonical form into `made`, which has no segment yet, in one segment of
-/// `room` words. Returns `false` if the segment is too small for the copy, or there is no memory
-/// for the segment; `canonical_from` finds a size that is large enough.
+/// Makes a canonical copy of the message in `source`. The copy becomes the one segment of `made`,
+/// for which this call requests `room` words. Returns `true`; or `false` if the copy doesn't fit
+/// the segment, or there is no memory for the segment. (`canonical_from` finds out by itself how
+/// large the segment has to be.)
+///
+/// Preconditions: `made` has no segment yet; `room` is from 1 to 536,870,911; the nesting limit of
+/// `source` is that of `limits`.
 pub fn canonical_in_room<A: Allocator, S: ReaderSegments>(
     made: &mut BuilderArenaImpl<A>,
     room: u32,
@@ -83,8 +88,8 @@ pub fn canonical_in_room<A: Allocator, S: ReaderSegments>(
 /// one segment, whose memory `allocator` grants. If refused, returns the allocator.
 ///
 /// Reads the value from the root on, within `limits`; the root pointer costs one word. Refusals:
-/// the first one met while reading; `AllocationFailed`, which the allocator counts, if memory ran
-/// out; `MessageTooLarge(536870911)` if there are more than 536,870,911 canonical words.
+/// the first one met while reading the message; `AllocationFailed`, which the allocator counts, if
+/// memory ran out; `MessageTooLarge(536870911)` if there are more than 536,870,911 canonical words.
 pub fn canonical_with<A: Allocator, S: ReaderSegments + Drop>(
     alloc: Global,
     allocator: A,
@@ -112,8 +117,9 @@ pub fn canonical_with<A: Allocator, S: ReaderSegments + Drop>(
 /// specification, "Canonicalization"). Takes no memory.
 ///
 /// Returns the first fault found, like `canonical_fault`. Reads a message of one segment within
-/// `limits`, and may refuse it. Never refuses a message with any other number of segments, whose
-/// fault is `SegmentCount`. If there is no fault, the value is within `limits`.
+/// `limits`, and refuses it with the first refusal met while reading. Doesn't read a message with
+/// any other number of segments, but returns the fault `SegmentCount`. If the result is `Ok(None)`,
+/// the value is within `limits`.
 pub fn canonical_fault_of<S: ReaderSegments + Drop>(
     segments: S,
     limits: ReaderOptions,
@@ -147,13 +153,15 @@ pub fn is_canonical<S: ReaderSegments + Drop>(
     Ok(fault.is_none())
 }
 
-/// Counts the words and capabilities that a message's root leads to, without landing pads (encoding
-/// specification, "Structs" and "Lists"). Takes no memory.
+/// Counts the words and capabilities of the value that a message's root pointer leads to, without
+/// the root pointer and landing pads (encoding specification, "Structs" and "Lists"). Takes no
+/// memory.
 pub fn size_of<S: ReaderSegments + Drop>(
     segments: S,
     limits: ReaderOptions,
 ) -> Result<MessageSize, ErrorKind>
     requires { IsSmall (S.segments segments) }
+    ensures counted { message_size (message (S.segments segments)) limits ≡ result }
     ensures exactly { IsOk result ↔ HasSizeWithin (message (S.segments segments)) limits }
     ensures size { IfOk result (λ z.
         HasSizeOf (message (S.segments segments)) limits z.word_count z.cap_count) }

@@ -1,12 +1,11 @@
 //! Reads one object of a message only for its size.
-ghost use Rattle.std.specs.Prelude.{◌≡◌, ◌<◌, ◌↔◌, IfOk, IsOk, IfErr};
+ghost use Rattle.std.specs.Prelude.{◌≡◌, ◌<◌, IfOk};
 ghost use Rattle.capnp_format.specs.Word.{kind};
 ghost use Rattle.capnp_objects.specs.declared.object.Purpose.TheVariants.{Size};
 ghost use Rattle.capnp_objects.specs.Demands.{claim, IsStructList, IsVoidList};
 ghost use Rattle.capnp_objects.specs.Reading.{source_start, reading_at, pointer_at};
 ghost use Rattle.capnp_objects.specs.Objects.{IsObject, IsHeld, IsWordRead, IsFew, EntersNear};
-ghost use Rattle.capnp_objects.specs.Refusals.{CanBeRead};
-ghost use Rattle.capnp_objects.specs.Measures.{NotMeasured};
+ghost use Rattle.capnp_objects.specs.Enter.{read, result_shape, near_shape};
 
 use super::{Source, depth_of};
 use crate::object::{Object, Place, PointerWord, Purpose};
@@ -24,8 +23,8 @@ impl<'a, A: ReaderArena> Source<'a, A> {
     /// even one to a capability, and is refused if `nesting_limit` is below 1. Counts the pointer
     /// in `lim` as followed, and charges the words of its landing pads and those that the object
     /// claims, each before it is read. A list of void may be outside of its segment and costs
-    /// nothing; the number of elements without width isn't charged. If the source isn't an arena
-    /// that charges, `lim` is unchanged.
+    /// nothing; the number of elements without width isn't charged. If the source is a default
+    /// value, or an arena that doesn't charge, such as one being built, `lim` is unchanged.
     ///
     /// Refuses with the first fault found: `MessageIsTooDeeplyNested`, before the pointer is
     /// counted; `InvalidSegmentId`, `MessageContainsOutOfBoundsPointer`,
@@ -43,11 +42,8 @@ impl<'a, A: ReaderArena> Source<'a, A> {
         ensures object { IfOk result (IsObject Size
             (reading_at A.ReaderArena self.entry place.entry nesting_limit) lim.old lim.new) }
         ensures few { IfOk result IsFew }
-        ensures exactly { IsOk result ↔ CanBeRead Size
-            (reading_at A.ReaderArena self.entry place.entry nesting_limit) lim.old }
-        ensures refused { IfErr result
-            (NotMeasured (reading_at A.ReaderArena self.entry place.entry nesting_limit)
-            lim.old lim.new) }
+        ensures computed { read Size (reading_at A.ReaderArena self.entry place.entry nesting_limit)
+            lim.old ≡ (result_shape result, lim.new) }
     {
         let word = place.word();
         if word.is_null() {
@@ -82,8 +78,8 @@ impl<'a, A: ReaderArena> Source<'a, A> {
         requires claimed { words ≡ claim pointer.word.0 }
         ensures object { IfOk result (EntersNear Size
             (pointer_at A.ReaderArena self.entry pointer.entry) lim.old lim.new) }
-        ensures refused { IfErr result (NotMeasured
-            (pointer_at A.ReaderArena self.entry pointer.entry) lim.old lim.new) }
+        ensures computed { let r = pointer_at A.ReaderArena self.entry pointer.entry in
+            read Size r lim.old ≡ (near_shape r result, lim.new) }
     {
         if depth_of(pointer.nesting_limit) == 0 {
             return Err(ErrorKind::MessageIsTooDeeplyNested);

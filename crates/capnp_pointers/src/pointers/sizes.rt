@@ -1,17 +1,13 @@
 //! Counts the words and capabilities of a value, without reading its data.
-ghost use Rattle.std.specs.Prelude.{◌≡◌, ◌≢◌, ◌<◌, ◌≤◌, ◌+◌, ◌*◌, ◌-◌, ◌^◌, ◌↔◌, length, IsTrue, MatchOption, IsOk, IfOk, OnOk, IfErr, OnErr};
-ghost use Rattle.capnp_format.specs.Word.{kind, element_size, list_count};
-ghost use Rattle.capnp_format.specs.Numbers.{words_for};
-ghost use Rattle.capnp_words.specs.Sizes.{size_number};
-ghost use Rattle.capnp_words.specs.declared.error.ErrorKind.TheVariants.{MessageTooLarge};
+ghost use Rattle.std.specs.Prelude.{◌≡◌, ◌<◌, ◌≤◌, ◌+◌, ◌*◌, length, MatchOption};
+ghost use Rattle.capnp_format.specs.Word.{kind, element_size};
+ghost use Rattle.capnp_objects.specs.Enter.{object_shape};
 ghost use Rattle.capnp_objects.specs.Objects.{IsFew};
-ghost use Rattle.capnp_objects.specs.Reading.{segment_read, sized, word_of};
-ghost use Rattle.capnp_format.specs.Tree.{Elements, element_count};
-ghost use Rattle.capnp_objects.specs.Rows.{rows_sized};
-ghost use Rattle.capnp_objects.specs.Sizing.{FitSize, Tally, tally, WalksPlace, WalksPointers, WalksElements, SizeStops, SizesStop, RowsStop};
+ghost use Rattle.capnp_objects.specs.Reading.{segment_read};
+ghost use Rattle.capnp_pointers.specs.Measure.{measure, measure_elements, measure_pointers, only_words, shape_size};
 ghost use Rattle.capnp_pointers.specs.Pointers.{reading, reading_on};
 ghost use Rattle.capnp_pointers.specs.declared.pointers.sizes.MeasuredRows.{MeasuredRows};
-ghost use Rattle.capnp_pointers.specs.Sizes.{so_far, object_words, AddsPlace, AddsPointers, HasRows, IsWordAt};
+ghost use Rattle.capnp_pointers.specs.Sizes.{HasRows, IsWordAt, Walks};
 
 use crate::pointers::Pointer;
 use crate::pointers::walk::{Stopped, Walk};
@@ -38,9 +34,10 @@ impl<'a, A: ReaderArena> Pointer<'a, A> {
     /// elements, even if its pointer claims more words. Each pointer that isn't null takes a level,
     /// even one to a capability. Counts each such pointer in `lim` as followed, and charges the
     /// words of its landing pads and the words that its object claims, each before it is read. A
-    /// list of void may be outside of its segment, and elements without width aren't charged; so a
-    /// pointer that leads to no value may have a size. For a default value and an arena being
-    /// built, `lim` is unchanged.
+    /// list of void may be outside of its segment, and elements without width aren't charged; so
+    /// the call can return a size even if reading the value would be refused. If the pointer is in
+    /// a default value, or in an arena that doesn't charge, such as one being built, `lim` is
+    /// unchanged.
     ///
     /// Refuses with the first fault found: `MessageIsTooDeeplyNested`, `InvalidSegmentId`,
     /// `MessageContainsOutOfBoundsPointer`, `MalformedDoubleFarPointer`, `UnknownPointerType`,
@@ -49,13 +46,8 @@ impl<'a, A: ReaderArena> Pointer<'a, A> {
     /// `MessageTooLarge(usize::MAX)` if the number of words doesn't fit 64 bits, or that of
     /// capabilities doesn't fit 32 bits. What was charged before stays charged.
     pub fn total_size(&self, lim: &mut ReadLimiter) -> Result<MessageSize, ErrorKind>
-        ensures sized { IfOk result (λ z. WalksPlace (reading A.ReaderArena self.now)
-            (tally 0 0 lim.old) (so_far z lim.new)) }
-        ensures exactly { IsOk result ↔ (to : Tally)
-            × WalksPlace (reading A.ReaderArena self.now) (tally 0 0 lim.old) to
-            × FitSize to.words to.caps }
-        ensures refused { IfErr result (λ k. SizeStops k (reading A.ReaderArena self.now)
-            (tally 0 0 lim.old) lim.new) }
+        ensures { measure (reading A.ReaderArena self.now) (only_words 0) lim.old
+            ≡ (result, lim.new) }
     {
         let mut walk = Walk::begin(0, lim);
         match add_object(self, self.place.at, self.nesting_limit, &mut walk) {
@@ -83,13 +75,8 @@ impl<'a, A: ReaderArena> Pointer<'a, A> {
     ) -> Result<MessageSize, ErrorKind>
         requires inside { self.now.place.at + count
             ≤ length (segment_read (reading A.ReaderArena self.now)) }
-        ensures sized { IfOk result (λ z. WalksPointers (reading A.ReaderArena self.now) count
-            (tally own_words 0 lim.old) (so_far z lim.new)) }
-        ensures exactly { IsOk result ↔ (to : Tally)
-            × WalksPointers (reading A.ReaderArena self.now) count (tally own_words 0 lim.old) to
-            × FitSize to.words to.caps }
-        ensures refused { IfErr result (SizesStop (reading A.ReaderArena self.now) count
-            (tally own_words 0 lim.old) lim.new) }
+        ensures { measure_pointers count (reading A.ReaderArena self.now)
+            (only_words own_words) lim.old ≡ (result, lim.new) }
     {
         let mut walk = Walk::begin(own_words, lim);
         match add_pointers(self, self.place.at, count, self.nesting_limit, &mut walk) {
@@ -131,7 +118,7 @@ fn add_pointers<A: ReaderArena>(
     walk: &mut Walk,
 ) -> Result<(), Stopped>
     requires inside { at + count ≤ length (segment_read (reading A.ReaderArena from.now)) }
-    ensures { AddsPointers (reading_on A.ReaderArena from.now at nesting_limit) count
+    ensures { Walks (measure_pointers count (reading_on A.ReaderArena from.now at nesting_limit))
         walk.old walk.new result }
 {
     add_row(from, at, count, nesting_limit, walk)
@@ -149,7 +136,7 @@ fn add_row<A: ReaderArena>(
     walk: &mut Walk,
 ) -> Result<(), Stopped>
     requires inside { at + count ≤ length (segment_read (reading A.ReaderArena from.now)) }
-    ensures { AddsPointers (reading_on A.ReaderArena from.now at nesting_limit) count
+    ensures { Walks (measure_pointers count (reading_on A.ReaderArena from.now at nesting_limit))
         walk.old walk.new result }
 {
     for i in 0..count {
@@ -167,7 +154,7 @@ fn add_pointer<A: ReaderArena>(
     nesting_limit: i32,
     walk: &mut Walk,
 ) -> Result<(), Stopped>
-    ensures { AddsPlace (reading_on A.ReaderArena from.now at nesting_limit)
+    ensures { Walks (measure (reading_on A.ReaderArena from.now at nesting_limit))
         walk.old walk.new result }
 {
     let word = Place { at, ..from.place }.word();
@@ -195,7 +182,7 @@ fn add_struct<A: ReaderArena>(
 ) -> Result<(), Stopped>
     requires word { IsWordAt word.0 (reading_on A.ReaderArena from.now at nesting_limit) }
     requires is_struct { kind word.0 ≡ 0 }
-    ensures { AddsPlace (reading_on A.ReaderArena from.now at nesting_limit)
+    ensures { Walks (measure (reading_on A.ReaderArena from.now at nesting_limit))
         walk.old walk.new result }
 {
     let pointer = PointerWord {
@@ -233,7 +220,7 @@ fn add_flat<A: ReaderArena>(
     requires word { IsWordAt word.0 (reading_on A.ReaderArena from.now at nesting_limit) }
     requires is_list { kind word.0 ≡ 1 }
     requires of_bits { (0 < element_size word.0) × (element_size word.0 ≤ 5) }
-    ensures { AddsPlace (reading_on A.ReaderArena from.now at nesting_limit)
+    ensures { Walks (measure (reading_on A.ReaderArena from.now at nesting_limit))
         walk.old walk.new result }
 {
     let pointer = PointerWord {
@@ -261,7 +248,7 @@ fn add_object<A: ReaderArena>(
     nesting_limit: i32,
     walk: &mut Walk,
 ) -> Result<(), Stopped>
-    ensures { AddsPlace (reading_on A.ReaderArena from.now at nesting_limit)
+    ensures { Walks (measure (reading_on A.ReaderArena from.now at nesting_limit))
         walk.old walk.new result }
 {
     let place = Place { at, ..from.place };
@@ -302,13 +289,8 @@ fn add_rows<A: ReaderArena>(
 ) -> Result<(), Stopped>
     requires inside { from.now.place.at + count * (data_words + pointers)
         ≤ length (segment_read (reading A.ReaderArena from.now)) }
-    ensures sized { OnOk result ((es : Elements) × (element_count es ≡ count)
-        × WalksElements (reading A.ReaderArena from.now) (sized data_words pointers)
-        (so_far walk.old.sums.size walk.old.lim) (so_far walk.new.sums.size walk.new.lim) es) }
-    ensures refused { OnErr result
-        (RowsStop (reading A.ReaderArena from.now)
-        (rows_sized (sized data_words pointers) count)
-        (so_far walk.old.sums.size walk.old.lim) walk.new.lim walk.new.sums.refusal) }
+    ensures { Walks (measure_elements data_words pointers count (reading A.ReaderArena from.now))
+        walk.old walk.new result }
 {
     if pointers == 0 {
         return Ok(());
@@ -325,7 +307,7 @@ fn add_rows<A: ReaderArena>(
 // elements.
 fn words_of_object(object: Object) -> u64
     requires { IsFew object }
-    ensures { result ≡ object_words object.entry }
+    ensures { result ≡ (shape_size (object_shape object.entry)).word_count }
 {
     match object {
         Object::Null | Object::Capability(_) => 0,

@@ -1,7 +1,7 @@
 //! A walk over objects that counts their words and capabilities.
 ghost use Rattle.std.specs.Prelude.{◌≡◌, ◌<◌, ◌+◌, ◌-◌, ◌^◌, ◌↔◌, IsOk, OnOk, OnErr};
 ghost use Rattle.capnp_words.specs.declared.error.ErrorKind.TheVariants.{MessageTooLarge};
-ghost use Rattle.capnp_objects.specs.Sizing.{FitSize};
+ghost use Rattle.capnp_pointers.specs.Measure.{FitSize};
 
 use crate::pointers::MessageSize;
 use capnp_words::error::ErrorKind;

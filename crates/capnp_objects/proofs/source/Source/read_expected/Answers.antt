@@ -11,7 +11,8 @@ use Rattle.capnp_objects.specs.Entering.{object_misfit, IsUnsuited}
 use Rattle.capnp_objects.specs.Reading.{Reading, reading_at, word_of}
 use Rattle.capnp_objects.specs.declared.object.Purpose.TheVariants.{Value}
 use Rattle.capnp_objects.proofs.Landings.{IsCounted, if_err, object_opened, unfollowed as not_followed, arrived}
-use Rattle.capnp_objects.proofs.Expecting.{one_level, is_entered, given, given_exactly, suited, withheld, level_counted, null_given, not_withheld, fits_kind, if_both}
+use Rattle.capnp_objects.proofs.ExpectedComputed.{given_exactly, not_withheld}
+use Rattle.capnp_objects.proofs.Expecting.{one_level, is_entered, given, suited, withheld, level_counted, null_given, fits_kind, if_both}
 use Rattle.capnp_objects.proofs.source.Source.read_expected.Goals as goal
 
 pub returns-then-is_null-clause-exactly : goal.returns-then-is_null-clause-exactly

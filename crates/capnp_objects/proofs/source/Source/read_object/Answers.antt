@@ -4,7 +4,7 @@ use Rattle.std.proofs.lemmas.Bool.{false≢true}
 use Rattle.capnp_objects.specs.declared.object.Object.TheVariants.{Null as ObjectNull}
 use Rattle.capnp_objects.specs.declared.object.Purpose.TheVariants.{Value}
 use Rattle.capnp_objects.specs.Reading.{Reading, reading_at, word_of}
-use Rattle.capnp_objects.proofs.Refusals.{read_exactly, could_be_read}
+use Rattle.capnp_objects.proofs.Inverted.{could_be_read, read_exactly}
 use Rattle.capnp_objects.proofs.source.Source.read_object.Goals as goal
 
 pub read_pointer-requires-clause-word : goal.read_pointer-requires-clause-word
@@ -16,7 +16,7 @@ read_pointer-requires-clause-word g c = record {
 }
 
 pub returns-clause-exactly : goal.returns-clause-exactly
-returns-clause-exactly g c = read_exactly Value (reading_at g.A.ReaderArena c.args.self c.args.place c.args.nesting_limit) c.args.lim.now c.read_pointer.new.lim c.read_pointer.result (rw (to_z-of_z w32 c.args.nesting_limit c.ranges.nesting_limit) at c.read_pointer.ensures.object) (rw (to_z-of_z w32 c.args.nesting_limit c.ranges.nesting_limit) at c.read_pointer.ensures.refused)
+returns-clause-exactly g c = read_exactly (reading_at g.A.ReaderArena c.args.self c.args.place c.args.nesting_limit) c.args.lim.now c.read_pointer.new.lim c.read_pointer.result (rw (to_z-of_z w32 c.args.nesting_limit c.ranges.nesting_limit) at c.read_pointer.ensures.object) (rw (to_z-of_z w32 c.args.nesting_limit c.ranges.nesting_limit) at c.read_pointer.ensures.refused)
 
 pub returns-then-is_null-clause-exactly : goal.returns-then-is_null-clause-exactly
 returns-then-is_null-clause-exactly g c =

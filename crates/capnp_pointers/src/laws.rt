@@ -1,0 +1,47 @@
+//! Laws of sizes. Each function does nothing: its contract is the law, proved for all messages and
+//! limits.
+
+ghost use Rattle.std.specs.Prelude.{◌≡◌, ◌<◌, ◌≤◌, ℕ, Ok, Err};
+ghost use Rattle.capnp_words.specs.declared.error.ErrorKind.{ErrorKind};
+ghost use Rattle.capnp_words.specs.Meter.{Affords, Meter};
+ghost use Rattle.capnp_format.specs.Canonical.{trim, word_count};
+ghost use Rattle.capnp_format.specs.Segments.{AreWords};
+ghost use Rattle.capnp_format.specs.Tree.{Tree, capabilities, depth};
+ghost use Rattle.capnp_objects.specs.Outcomes.{MeansThere};
+ghost use Rattle.capnp_objects.specs.Reading.{Reading};
+ghost use Rattle.capnp_objects.specs.Spending.{after, pointers_in};
+ghost use Rattle.capnp_pointers.specs.Measure.{FitSize, measure, only_words};
+ghost use Rattle.capnp_pointers.specs.ValueSize.{value_size};
+ghost use Rattle.capnp_pointers.specs.declared.pointers.sizes.MessageSize.{MessageSize};
+
+/// If a place means a value, and the place has a size, it is that value's: its words and its
+/// capabilities. The size and the value may have different nesting limits (`size`). The value's
+/// canonical words, without the root pointer, are at most as many as the words of the size
+/// (`canonical`).
+pub fn size_of_value()
+    ensures size { (r : Reading) (n : ℕ) (m m' : Meter) (z : MessageSize) (t : Tree) (c : ℕ)
+        → measure r (only_words 0) m ≡ (Ok z, m') → MeansThere (record r { levels = n }) t c
+        → z ≡ value_size t }
+    ensures canonical { (r : Reading) (n : ℕ) (m m' : Meter) (z : MessageSize) (t : Tree) (c : ℕ)
+        → AreWords r.segments
+        → measure r (only_words 0) m ≡ (Ok z, m') → MeansThere (record r { levels = n }) t c
+        → word_count (trim t) ≤ z.word_count }
+{}
+
+/// If a place means a value that the traversal limit covers, whose depth is below the nesting
+/// limit, and whose numbers of words and capabilities fit a size, then the place has this size, at
+/// no greater cost than that of reading the value.
+pub fn values_have_sizes()
+    ensures { (r : Reading) (n : ℕ) (m : Meter) (t : Tree) (c : ℕ)
+        → MeansThere (record r { levels = n }) t c → depth t < r.levels → Affords r.charging m c
+        → FitSize (word_count t) (capabilities t)
+        → (k : ℕ) × (k ≤ c) × (measure r (only_words 0) m
+        ≡ (Ok (value_size t), after r.charging m k (pointers_in t))) }
+{}
+
+/// Only one name is possible if a size is refused, and the limiter has only one state after it.
+pub fn one_size_refusal()
+    ensures { (r : Reading) (z : MessageSize) (m m' m'' : Meter) (k l : ErrorKind)
+        → measure r z m ≡ (Err k, m') → measure r z m ≡ (Err l, m'')
+        → (k ≡ l) × (m' ≡ m'') }
+{}
