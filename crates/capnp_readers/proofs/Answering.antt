@@ -1,6 +1,7 @@
 -- The place that a call reads is one place: the pointer's own, or a default's.
-use Rattle.std.proofs.Common.{◌≡◌, ◌↔◌, inl, inr, ℕ, zero, suc, ◌<◌, ◌≤◌, Bool, true, false, not, ◌&&◌, ◌||◌, cond, nat_eq, nat_lt, eqb-true, eq-eqb, lt-ltb, List, Option, Some, None, Result, Ok, Err, ℤ, refl, sym, ap, ap₂, ◌∙◌, subst, arith}
+use Rattle.std.proofs.Common.{◌≡◌, ◌≢◌, ◌⊎◌, IfSome, length, ◌↔◌, inl, inr, ℕ, zero, suc, ◌<◌, ◌≤◌, Bool, true, false, not, ◌&&◌, ◌||◌, cond, nat_eq, nat_lt, eqb-true, eq-eqb, lt-ltb, List, Option, Some, None, Result, Ok, Err, ℤ, refl, sym, ap, ap₂, ◌∙◌, subst, arith}
 use Rattle.std.specs.Borrow.{Bor}
+use Rattle.std.proofs.lemmas.Bool.{ne_eqb}
 use Rattle.capnp_words.specs.declared.error.ErrorKind.{ErrorKind}
 use Rattle.capnp_words.specs.Meter.{Meter}
 use Rattle.capnp_arena_traits.specs.declared.arena.reader_arena.ReaderArena.{Ghosts}
@@ -14,16 +15,18 @@ use Rattle.capnp_words.specs.declared.wire_pointer.ElementSize.{ElementSize}
 use Rattle.capnp_words.specs.declared.wire_pointer.ElementSize.TheVariants.{Void, Bit, Byte, TwoBytes, FourBytes, EightBytes, Pointer, InlineComposite}
 use Rattle.capnp_objects.specs.Expected.{Expectation, list_expected, CanBeGiven, IsGiven, narrow_elements, narrow_structs}
 use Rattle.capnp_format.specs.Numbers.{element_bits}
-use Rattle.capnp_objects.specs.Reading.{Reading, source_start, word_of, tag_size}
+use Rattle.capnp_objects.specs.Reading.{source_start, word_of, tag_size}
 use Rattle.capnp_objects.specs.Source.{default_segment, levels}
 use Rattle.capnp_readers.specs.Readers.{read_by, IsTargetList, IsTarget}
-use Rattle.capnp_readers.specs.Calls.{Call, IsRead, of_pointer, of_default, short_default, of_null_default, WhereRead}
+use Rattle.capnp_readers.specs.Calls.{Call, IsRead, of_pointer, of_default, short_default, of_null_default, WhereRead, IsRefused}
 use Rattle.capnp_readers.specs.Sections.{HoldsPointer, data_bits}
+use Rattle.capnp_readers.specs.Values.{place_read}
 use Rattle.capnp_readers.specs.declared.readers.PointerReader.{PointerReader}
 use Rattle.capnp_readers.specs.declared.readers.list_reader.ListReader.{ListReader}
 use Rattle.capnp_readers.specs.declared.readers.struct_reader.StructReader.{StructReader}
 use Rattle.capnp_readers.specs.declared.readers.target.Target.{Target as ReadTarget}
 use Rattle.capnp_readers.specs.declared.readers.target.Target.TheVariants.{Null as NullTarget, Cap as CapTarget, Struct as StructTarget, List as ListTarget}
+use Rattle.capnp_objects.proofs.ExpectedComputed.{not_withheld}
 use Rattle.capnp_objects.proofs.Expecting.{IsReadAt, struct_or_null, list_or_null, given_fits}
 use Rattle.capnp_objects.proofs.Faultless.{same_target}
 use Rattle.capnp_objects.proofs.Followed.{entered_leads, leads_there}
@@ -32,6 +35,10 @@ use Rattle.capnp_objects.proofs.Followed.{entered_leads, leads_there}
 -- those of the expected size.
 abbrev IsWide : ElementSize → ElementSize → StructSize → Type 0
 IsWide expected found sections = (element_bits (size_number expected) ≤ data_bits found sections) × (size_number expected ≡ 6 → HoldsPointer found sections) × (size_number found ≡ 1 → size_number expected ≡ 1)
+
+-- what holds of a default, if there is one
+pub of_some : (P : Bor (List ℕ) → Type 0) (default : Option (Bor (List ℕ))) → IfSome default P → (bytes : Bor (List ℕ)) → default ≡ Some bytes → P bytes
+of_some P default h bytes e = subst (λ (d : Option (Bor (List ℕ))). IfSome d P) e h
 
 -- elements and structs that aren't too narrow
 both_none : (k j : ErrorKind) (b c : Bool) → cond b (Some k) (cond c (Some j) None) ≡ None → (b ≡ false) × (c ≡ false)
@@ -87,26 +94,28 @@ module _ {A : Type 0} (g : Ghosts A) where
       read_by g p ≡ record (source_start g (Default bytes)) { levels = levels n }
   default_read p bytes n source segment first nesting = rw (source, segment, first, nesting) refl
 
+  -- a pointer that isn't null is read at its own place
+  own_place : (from : PointerReader A g) (default : Option (Bor (List ℕ))) → word_of (read_by g from) ≢ 0 → read_by g from ≡ place_read g from default
+  own_place from None some = refl
+  own_place from (Some bytes) some = ap (λ b. cond b (record (source_start g (Default bytes)) { levels = levels from.nesting_limit }) (read_by g from)) (sym (ne_eqb (word_of (read_by g from)) 0 some))
+
+  -- in place of a null pointer, the default's is read
+  default_place : (from : PointerReader A g) (bytes : Bor (List ℕ)) → word_of (read_by g from) ≡ 0 → place_read g from (Some bytes) ≡ record (source_start g (Default bytes)) { levels = levels from.nesting_limit }
+  default_place from bytes null = ap (λ b. cond b (record (source_start g (Default bytes)) { levels = levels from.nesting_limit }) (read_by g from)) (eq-eqb (word_of (read_by g from)) 0 null)
+
+  -- the place that a call reads
+  pub read_at : {c : Call g} {p : PointerReader A g} → IsRead g c (Ok p) → read_by g p ≡ place_read g c.from c.default
+  read_at {c} {p} (of_pointer (inl none) e) = let same : p ≡ c.from = cc in ap (read_by g) same ∙ ap (place_read g c.from) (sym none)
+  read_at {c} {p} (of_pointer (inr some) e) = let same : p ≡ c.from = cc in ap (read_by g) same ∙ own_place c.from c.default some
+  read_at {c} {p} (of_default {bytes = bytes} {p = x} null has whole source segment first nesting may e) =
+      let same : p ≡ x = cc (e) in
+      ap (read_by g) same ∙ default_read x bytes c.from.nesting_limit source segment first nesting ∙ sym (default_place c.from bytes null) ∙ ap (place_read g c.from) (sym has)
+  read_at (short_default null has less e) = absurd (cc (e))
+  read_at (of_null_default null has whole none named e) = absurd (cc (e))
+
   -- a call reads at one place
   pub one_read : {c : Call g} {p q : PointerReader A g} → IsRead g c (Ok p) → IsRead g c (Ok q) → read_by g p ≡ read_by g q
-  one_read {c} {p} {q} (of_pointer w e) (of_pointer v f) = let same : p ≡ c.from = cc in let too : q ≡ c.from = cc in ap (read_by g) (same ∙ sym too)
-  one_read (of_pointer (inl none) e) (of_default null has whole source segment first nesting may f) = absurd (cc (none, has))
-  one_read (of_pointer (inr some) e) (of_default null has whole source segment first nesting may f) = absurd (some null)
-  one_read (of_default null has whole source segment first nesting may f) (of_pointer (inl none) e) = absurd (cc (none, has))
-  one_read (of_default null has whole source segment first nesting may f) (of_pointer (inr some) e) = absurd (some null)
-  one_read {c} {p} {q} (of_default {bytes = bytes} {p = x} null has whole source segment first nesting may e) (of_default {bytes = again} {p = y} unset given long origin part start depth might f) =
-      let same : p ≡ x = cc (e) in
-      let too : q ≡ y = cc (f) in
-      let bytes_are : bytes ≡ again = cc (has, given) in
-      ap (read_by g) same ∙ default_read x bytes c.from.nesting_limit source segment first nesting
-      ∙ ap (λ (b : Bor (List ℕ)). let start : Reading = source_start g (Default b) in record start { levels = levels c.from.nesting_limit }) bytes_are
-      ∙ sym (default_read y again c.from.nesting_limit origin part start depth) ∙ ap (read_by g) (sym too)
-  one_read (of_pointer w e) (short_default null has less f) = absurd (cc (f))
-  one_read (of_pointer w e) (of_null_default null has whole none named f) = absurd (cc (f))
-  one_read (of_default null has whole source segment first nesting may e) (short_default unset given less f) = absurd (cc (f))
-  one_read (of_default null has whole source segment first nesting may e) (of_null_default unset given long none named f) = absurd (cc (f))
-  one_read (short_default null has less e) h = absurd (cc (e))
-  one_read (of_null_default null has whole none named e) h = absurd (cc (e))
+  one_read here there = read_at here ∙ sym (read_at there)
 
   pub not_unread : {c : Call g} {p : PointerReader A g} {k : ErrorKind} → IsRead g c (Ok p) → IsRead g c (Err k) → ⊥
   not_unread h (of_pointer w f) = absurd (cc (f))
@@ -123,6 +132,22 @@ module _ {A : Type 0} (g : Ghosts A) where
       some (ap word_of (default_read x bytes c.from.nesting_limit source segment first nesting) ∙ rw same none)
   not_unread (short_default null has less e) h = absurd (cc (e))
   not_unread (of_null_default null has whole none named e) h = absurd (cc (e))
+
+  -- A default has a whole word, which isn't zero if the call refuses a null default.
+  abbrev pub HasDefault : Call g → Type 0
+  HasDefault c = (bytes : Bor (List ℕ)) → c.default ≡ Some bytes → (8 ≤ length bytes.now) × ((c.expected.null_default ≡ None) ⊎ (word_of (place_read g c.from c.default) ≢ 0))
+
+  -- a call isn't refused if there is what it expects
+  pub never_refused : (c : Call g) {m m' : Meter} {k : ErrorKind} → IsRefused g c m m' k → HasDefault c → CanBeGiven c.expected (place_read g c.from c.default) m → ⊥
+  never_refused c (inl (of_pointer w e, same)) whole can = absurd (cc (e))
+  never_refused c (inl (of_default null has long source segment first nesting might e, same)) whole can = absurd (cc (e))
+  never_refused c (inl (short_default {bytes = bytes} null has less e, same)) whole can = (let there = (whole bytes has).0 in omega (arith, less, there))
+  never_refused c (inl (of_null_default {bytes = bytes} null has long empty named e, same)) whole can = elim ((whole bytes has).1) [
+    | inl none ↦ absurd (cc (none, named))
+    | inr some ↦ some (ap (λ d. word_of (place_read g c.from d)) has ∙ ap word_of (default_place c.from bytes null) ∙ empty)
+  ]
+  never_refused c {m} {m'} {k} (inr (p, there, withheld)) whole can =
+      not_withheld c.expected (read_by g p) m m' k (subst (λ r. CanBeGiven c.expected r m) (sym (read_at there)) can) withheld
 
   -- a call is answered exactly if it can be answered at the place that it reads
   pub answered : {c : Call g} {p : PointerReader A g} (m : Meter) {B : Type 0} → IsRead g c (Ok p) → (B ↔ CanBeGiven c.expected (read_by g p) m) → B ↔ WhereRead g c (λ q. CanBeGiven c.expected (read_by g q) m)

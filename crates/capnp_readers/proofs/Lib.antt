@@ -5,3 +5,10 @@ pub mod Answering
 pub mod Bytes
 pub mod Charged
 pub mod Same
+pub mod Values
+pub mod ListValues
+pub mod Given
+pub mod Fields
+pub mod Texts
+pub mod Spent
+pub mod NumberValues

@@ -1,5 +1,6 @@
 -- Slices that a reader holds: a default's whole words, fields, elements.
-use Rattle.std.proofs.Common.{◌≡◌, ◌≢◌, ℕ, ◌+◌, ◌-◌, ◌*◌, ◌/◌, ◌^◌, ◌<◌, ◌≤◌, List, length, take, drop, refl, sym, ap, ◌∙◌, arith, length-take, length-drop, mul_comm}
+use Rattle.std.proofs.Common.{◌≡◌, ◌≢◌, ℕ, ◌+◌, ◌-◌, ◌*◌, ◌/◌, ◌^◌, ◌<◌, ◌≤◌, List, length, take, drop, refl, sym, ap, ◌∙◌, arith, length-take, length-drop, mul_comm, mul-le-mul_left}
+use Rattle.std.proofs.Math.Nat.{mod-add-div}
 use Rattle.std.proofs.lemmas.List.{drop-take, take-take, drop-drop}
 use Rattle.std.proofs.lemmas.Grind.{common_steps}
 use Rattle.std.proofs.lemmas.Nat.{le-div, mul-add-lt, rows}
@@ -35,6 +36,11 @@ pub inside_bytes : (bits n offset : ℕ) → 0 < n → IsInside bits (8 * n) off
 inside_bytes bits n offset some h =
     let bytes : (offset + 1) * n * 8 ≤ bits = omega (arith, h) in
     omega (arith, le-div (offset + 1) (bits / 8) n some (le-div ((offset + 1) * n) bits 8 (omega arith) bytes))
+
+-- a field whose bytes are there is inside its section
+pub bytes_inside : (bits n offset : ℕ) → offset < bits / 8 / n → IsInside bits (8 * n) offset
+bytes_inside bits n offset l =
+    let few : offset + 1 ≤ bits / 8 / n = omega arith in omega (arith, mul-le-mul_left n few, mod-add-div (bits / 8) n)
 
 -- the pointers of an element are among the elements' words
 pub pointers_within : (size : ElementSize) (sections : StructSize) (count i : ℕ) → HoldsPointer size sections → i < count → pointers_behind size sections i < elements_words size count (sections.data_words + sections.pointers)

@@ -6,18 +6,17 @@ use Rattle.std.specs.Borrow.{Bor}
 use Rattle.capnp_words.specs.declared.error.ErrorKind.{ErrorKind}
 use Rattle.capnp_words.specs.declared.error.ErrorKind.TheVariants.{MessageContainsOutOfBoundsPointer}
 use Rattle.capnp_words.specs.Meter.{Meter}
-use Rattle.capnp_format.specs.Bytes.{words_of}
-use Rattle.capnp_format.specs.Numbers.{words_for, element_bits}
+use Rattle.capnp_format.specs.Numbers.{words_for, element_bits, unpacked}
 use Rattle.capnp_words.specs.Sizes.{size_number}
 use Rattle.capnp_format.specs.Segments.{Target, word_at, words_at}
-use Rattle.capnp_format.specs.Word.{list_count}
+use Rattle.capnp_format.specs.Word.{kind, element_size, list_count}
 use Rattle.capnp_words.specs.declared.wire_pointer.ElementSize.{ElementSize}
 use Rattle.capnp_words.specs.declared.wire_pointer.ElementSize.TheVariants.{Void}
 use Rattle.capnp_arena_traits.specs.declared.arena.reader_arena.ReaderArena.{Ghosts}
 use Rattle.capnp_objects.specs.declared.source.Source.TheVariants.{Default, Nothing}
 use Rattle.capnp_objects.specs.Expected.{Expectation, Withheld}
 use Rattle.capnp_objects.specs.Outcomes.{Entered}
-use Rattle.capnp_objects.specs.Reading.{Reading, word_of}
+use Rattle.capnp_objects.specs.Reading.{word_of}
 use Rattle.capnp_objects.specs.Source.{default_segment, default_segments}
 use Rattle.capnp_objects.specs.declared.object.Purpose.TheVariants.{Value}
 use Rattle.capnp_readers.specs.Readers.{read_by, IsStructThere, IsListThere}
@@ -94,12 +93,12 @@ module _ {A : Type 0} (g : Ghosts A) where
       (size_number expected ≡ 6 → HoldsPointer r.element_size r.struct_size) ×
       (size_number r.element_size ≡ 1 → size_number expected ≡ 1)))
 
-  -- The bytes that p leads to, in place, without the last `but` of them; none if p is null. They
-  -- are charged from m to m'.
+  -- The bytes that p leads to, in place, without the last `but` of them: the elements of a list of
+  -- bytes. There are none if p is null. They are charged from m to m'.
   abbrev pub AreBytesRead : ℕ → PointerReader A g → Meter → Meter → List ℕ → Type 0
   AreBytesRead but p m m' bytes =
       ((word_of (read_by g p) ≡ 0) × (m' ≡ m) × (bytes ≡ []))
-      ⊎ ((a : Target) × Entered Value (record (read_by g p) { levels = 1 }) m m' a ×
-      ((all : List ℕ) × (words_of all ≡ words_at (read_by g p).segments a.segment a.start
-      (words_for 2 (list_count a.word)))
-      × (bytes ≡ take (list_count a.word - but) all) × (length bytes ≡ list_count a.word - but)))
+      ⊎ ((a : Target) × Entered Value (record (read_by g p) { levels = 1 }) m m' a
+      × (kind a.word ≡ 1) × (element_size a.word ≡ 2)
+      × (bytes ≡ take (list_count a.word - but) (unpacked 2 (list_count a.word)
+      (words_at (read_by g p).segments a.segment a.start (words_for 2 (list_count a.word))))))

@@ -3,3 +3,4 @@ pub mod Readers
 pub mod Sizes
 pub mod Calls
 pub mod Checking
+pub mod Values

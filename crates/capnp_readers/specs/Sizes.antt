@@ -1,19 +1,13 @@
 -- What the size of a struct that is read counts.
 use Rattle.std.specs.Prelude.{ℕ, ◌+◌, ◌/◌}
 use Rattle.capnp_arena_traits.specs.declared.arena.reader_arena.ReaderArena.{Ghosts}
-use Rattle.capnp_words.specs.Meter.{Meter}
 use Rattle.capnp_objects.specs.Reading.{Reading, reading_at}
-use Rattle.capnp_objects.specs.Sizing.{Tally, tally}
 use Rattle.capnp_readers.specs.declared.readers.struct_reader.StructReader.{StructReader}
 
 module _ {A : Type 0} (g : Ghosts A) where
   -- The number of a struct's own words: its data section, rounded up, and its pointers.
   abbrev pub own_words : StructReader A g → ℕ
   own_words r = (r.bits + 63) / 64 + r.pointer_count
-
-  -- The count with which the walk over a struct's pointers begins: the struct's own words.
-  abbrev pub begun : StructReader A g → Meter → Tally
-  begun r m = tally (own_words r) 0 m
 
   -- The reading of the first pointer of a struct.
   abbrev pub pointers_read : StructReader A g → Reading

@@ -1,8 +1,12 @@
 //! Readers: pointers, structs and lists of a message, read in place.
-ghost use Rattle.std.specs.Prelude.{◌≡◌, ◌≢◌, Some, Ok, ◌<◌, ◌≤◌, ◌+◌, ◌*◌, ◌/◌, ◌^◌, ◌↔◌, ℕ, pos, false, ⊤, IsTrue, IfOk, IsOk, OnOk, OnErr, IfErr, IfSome, length, take, drop};
+ghost use Rattle.std.specs.Prelude.{◌≡◌, ◌≢◌, Some, Ok, ◌<◌, ◌≤◌, ◌+◌, ◌-◌, ◌*◌, ◌/◌, ◌^◌, ◌↔◌, ℕ, pos, false, ⊤, IsTrue, IfOk, IsOk, OnOk, OnErr, IfErr, IfSome, length, take, drop, slice_index};
 ghost use Rattle.capnp_format.specs.Bytes.{message};
+ghost use Rattle.capnp_format.specs.Means.{Means};
+ghost use Rattle.capnp_format.specs.Tree.{Tree, Null};
+ghost use Rattle.capnp_objects.specs.Outcomes.{MeansThere};
+ghost use Rattle.capnp_objects.specs.Spending.{Paid};
 ghost use Rattle.capnp_words.specs.Meter.{Meter, Affords, charged};
-ghost use Rattle.capnp_format.specs.Segments.{word_at, segment, IsPlace};
+ghost use Rattle.capnp_format.specs.Segments.{word_at, segment, IsPlace, AreWords};
 ghost use Rattle.capnp_words.specs.declared.error.ErrorKind.TheVariants.{MessageContainsNonCapabilityPointerWhereCapabilityPointerWasExpected, MessageContainsNullCapabilityPointer, MessageContainsOutOfBoundsPointer, ReadLimitExceeded};
 ghost use Rattle.capnp_arena_traits.specs.Checks.{Holds, misplaced};
 ghost use Rattle.capnp_objects.specs.Source.{default_segment, levels};
@@ -39,7 +43,8 @@ use std::alloc::AllocError;
 pub use struct_reader::{StructPlace, StructReader};
 pub use target::Target;
 
-/// The segment number of a field's default value, which no far pointer can name.
+/// The segment number that the places of pointers in a field's default value have. It is above all
+/// segment numbers that a far pointer can hold.
 pub const DEFAULT_SEGMENT: u64 = 0x1_0000_0000;
 
 // The sections of elements that aren't structs.
@@ -75,10 +80,11 @@ impl<'a, A: ReaderArena> Copy for PointerReader<'a, A> {}
 impl<'a, A: ReaderArena> PointerReader<'a, A> {
     ghost use Rattle.capnp_readers.specs.Readers.{IsTarget, read_by};
     ghost use Rattle.capnp_readers.specs.Calls.{IsRead, IsRefused, WhereRead, IsListRead, IsStructRead, AreBytesRead};
+    ghost use Rattle.capnp_readers.specs.Values.{HasValue, ShowsStructOf, ShowsListOf, place_read, list_numbers, text_bytes, IsStructOrNull, FitsSize, IsBytes, IsText};
 
-    /// A null pointer that isn't in any message: its source is `Source::Nothing`, its place word 0
-    /// of segment 0, and its nesting limit `i32::MAX`. A pointer field that its struct doesn't have
-    /// is read as this pointer, "from nothing".
+    /// Returns a null pointer that isn't in any message: its source is `Source::Nothing`, its place
+    /// word 0 of segment 0, and its nesting limit `i32::MAX`. A pointer field that its struct
+    /// doesn't have is read as this pointer, "from nothing".
     pub fn new_default() -> Self
         ensures source { result.source ≡ Source.Nothing }
         ensures place { (result.place.segment ≡ 0) × (result.place.at ≡ 0) }
@@ -88,7 +94,8 @@ impl<'a, A: ReaderArena> PointerReader<'a, A> {
     }
 
     /// Returns the root pointer of a message, word 0 of segment 0 (encoding specification,
-    /// "Messages"). Charges `lim` this one word. The reader's nesting limit is the arena's.
+    /// "Messages"). Charges `lim` this one word, unless `arena` is a message being built. The
+    /// reader's nesting limit is the arena's.
     ///
     /// Refusals: `MessageContainsOutOfBoundsPointer` if segment 0 has no word;
     /// `InvalidSegmentId(0)` if there is no segment; `TriedToReadFromNullArena` in a `NullArena`;
@@ -105,11 +112,15 @@ impl<'a, A: ReaderArena> PointerReader<'a, A> {
         ensures source { IfOk result (λ r. r.source ≡ Source.Arena arena.entry) }
         ensures place { IfOk result (λ r. (r.place.segment ≡ 0) × (r.place.at ≡ 0)) }
         ensures nesting { IfOk result (λ r. r.nesting_limit ≡ A.nesting arena.now) }
+        ensures value { (t : Tree) (c : ℕ)
+            → Means (message (A.segments arena.now)) (levels (A.nesting arena.now)) 0 0 t c
+            → IfOk result (λ r. HasValue (read_by A.ReaderArena r) t) }
     {
         Ok(Self::of_pointer(Pointer::get_root_from_arena(arena, lim)?))
     }
 
-    /// The pointer at `place` of `arena`. Precondition: `place` is inside a segment of `arena`.
+    /// Returns a reader of the pointer at `place` of `arena`. Precondition: `place` is inside a
+    /// segment of `arena`.
     pub fn at(arena: &'a A, place: PointerPlace, nesting_limit: i32) -> Self
         requires { IsPlace (message (A.segments arena.now)) place.segment place.word }
         ensures source { result.source ≡ Source.Arena arena.entry }
@@ -119,10 +130,10 @@ impl<'a, A: ReaderArena> PointerReader<'a, A> {
         Self::of_pointer(Pointer::at(arena, place, nesting_limit))
     }
 
-    /// The pointer in the first word of a field's default value. `bytes` are one segment that no
-    /// far pointer leads to; up to 7 bytes after the last whole word are ignored. Reading the
-    /// pointer charges nothing, and its nesting limit is `i32::MAX`. Precondition: `bytes` has
-    /// fewer than 2^32 words.
+    /// Returns a reader of the pointer in the first word of `bytes`, a field's default value.
+    /// `bytes` is one segment, to which no far pointer leads; up to 7 bytes after its last whole
+    /// word are ignored. Reading the pointer charges nothing, and its nesting limit is `i32::MAX`.
+    /// Precondition: `bytes` has fewer than 2^32 words.
     ///
     /// Refuses with `MessageContainsOutOfBoundsPointer` if `bytes` has fewer than 8 bytes.
     pub fn from_default(bytes: &'a [u8]) -> Result<Self, ErrorKind>
@@ -148,7 +159,7 @@ impl<'a, A: ReaderArena> PointerReader<'a, A> {
         })
     }
 
-    /// Another reader of this pointer.
+    /// Returns another reader of this pointer.
     pub fn reborrow(&self) -> Self
         ensures source { result.source ≡ self.now.source }
         ensures place { result.place ≡ self.now.place }
@@ -157,7 +168,8 @@ impl<'a, A: ReaderArena> PointerReader<'a, A> {
         *self
     }
 
-    /// This pointer as a `Pointer`: for copying, for its size, and for the test for canonical form.
+    /// Returns this pointer as a `Pointer`, the type whose calls copy the pointer's value, count
+    /// its words, and test whether it is in canonical form.
     #[inline(always)]
     pub fn pointer(self) -> Pointer<'a, A>
         ensures source { result.source ≡ self.entry.source }
@@ -171,7 +183,7 @@ impl<'a, A: ReaderArena> PointerReader<'a, A> {
         }
     }
 
-    /// A reader of `pointer`.
+    /// Returns a reader of `pointer`.
     #[inline(always)]
     pub fn of_pointer(pointer: Pointer<'a, A>) -> Self
         ensures source { result.source ≡ pointer.entry.source }
@@ -267,24 +279,26 @@ impl<'a, A: ReaderArena> PointerReader<'a, A> {
         Ok((from, object))
     }
 
-    /// The struct that the pointer leads to ("Structs"). If the pointer is null, returns the struct
-    /// of `default`; if there is no default, or the default's pointer is null too, a struct without
-    /// sections.
+    /// Returns the struct that the pointer leads to ("Structs"). If the pointer is null, returns
+    /// the struct of `default`. If there is no default either, or the default's pointer is null
+    /// too, returns a struct without sections.
     ///
-    /// Takes a level: the struct's nesting limit is one less than that of `self`. Counts the
-    /// pointer in `lim` as followed, and charges `lim` the words of its landing pads and of the
-    /// struct, each before it is read.
+    /// Takes a level: the struct's nesting limit is one less than that of `self`. If the pointer
+    /// isn't null, counts it in `lim` as followed, and charges `lim` the words of its landing pads
+    /// and of the struct, before it reads them.
     ///
     /// Refusals: `MessageIsTooDeeplyNestedOrContainsCycles` if the nesting limit of `self` is below
-    /// 1; `MessageContainsNonStructPointerWhereStructPointerWasExpected` if the object is of
-    /// another kind; `MessageContainsOutOfBoundsPointer` if a landing pad or the struct is outside
-    /// of its segment; `InvalidSegmentId` if a segment doesn't exist; `ReadLimitExceeded` if the
-    /// limiter doesn't cover the words. What was charged before a refusal stays charged.
+    /// 1; `MessageContainsNonStructPointerWhereStructPointerWasExpected` if the pointer leads to
+    /// something other than a struct; `MessageContainsOutOfBoundsPointer` if a landing pad or the
+    /// struct is outside of its segment; `InvalidSegmentId` if a far pointer names a segment that
+    /// doesn't exist; `ReadLimitExceeded` if `lim` has fewer words left than the call has to
+    /// charge; for a malformed landing pad, those of `PointerReader::next`. What was charged before
+    /// a refusal stays charged.
     ///
     /// `default` is one segment with its pointer in word 0. It is read only if `self` is null, with
-    /// the nesting limit of `self`; this counts and charges nothing. Refuses a default under 8
-    /// bytes with `MessageContainsOutOfBoundsPointer`, and one whose pointer is a far pointer with
-    /// `TriedToReadFromNullArena`. Precondition: `default` has fewer than 2^32 words.
+    /// the nesting limit of `self`; reading it counts and charges nothing. Refuses a default under
+    /// 8 bytes with `MessageContainsOutOfBoundsPointer`, and one whose pointer is a far pointer
+    /// with `TriedToReadFromNullArena`. Precondition: `default` has fewer than 2^32 words.
     pub fn get_struct(
         self,
         lim: &mut ReadLimiter,
@@ -300,6 +314,16 @@ impl<'a, A: ReaderArena> PointerReader<'a, A> {
         ensures refused { IfErr result (IsRefused A.ReaderArena
             (record { from = self.entry; expected = struct_expected; default = default.entry })
             lim.old lim.new) }
+        ensures value { (t : Tree) → HasValue (place_read A.ReaderArena self.entry default.entry) t
+            → IfOk result (λ r. ShowsStructOf A.ReaderArena r t) }
+        ensures spent { let place = place_read A.ReaderArena self.entry default.entry in
+            (t : Tree) (c : ℕ) → t ≢ Null → MeansThere place t c
+            → IfOk result (λ r. (shows : ShowsStructOf A.ReaderArena r t)
+            → Paid place.charging lim.old lim.new (c - shows.cost) 1) }
+        ensures answered { let place = place_read A.ReaderArena self.entry default.entry in
+            (t : Tree) (c : ℕ) → IfSome default.entry (λ bytes. 8 ≤ length bytes.now)
+            → IsStructOrNull t → MeansThere place t c → Affords place.charging lim.old c
+            → IsOk result }
     {
         let found = self.expect(Expected::Struct, lim, default)?;
         let (from, object) = found;
@@ -309,15 +333,15 @@ impl<'a, A: ReaderArena> PointerReader<'a, A> {
         }
     }
 
-    /// The list that the pointer leads to ("Lists"). Its elements have to be as wide as
+    /// Returns the list that the pointer leads to ("Lists"). Its elements have to be as wide as
     /// `expected_element_size` or wider, and keep their own width in the list returned. `Void` and
     /// `InlineComposite` accept elements of any width except bits. If the pointer is null, returns
-    /// the list of `default`; if there is no default, or the default's pointer is null too, a list
-    /// of void without elements.
+    /// the list of `default`. If there is no default either, or the default's pointer is null too,
+    /// returns a list of void without elements.
     ///
     /// Takes a level: the list's nesting limit is one less than that of `self`. Refuses with
     /// `NestingLimitExceeded` if the nesting limit of `self` is below 1. Otherwise counts, charges
-    /// and refuses like `PointerReader::next`, except that an object of another kind is refused
+    /// and refuses like `PointerReader::next`, except for an object that isn't a list: refuses it
     /// with `MessageContainsNonListPointerWhereListPointerWasExpected`, before its words are
     /// charged.
     ///
@@ -346,6 +370,16 @@ impl<'a, A: ReaderArena> PointerReader<'a, A> {
         ensures refused { let size = expected_element_size in IfErr result (IsRefused A.ReaderArena
             (record { from = self.entry; expected = list_expected size; default = default.entry })
             lim.old lim.new) }
+        ensures value { (t : Tree) → HasValue (place_read A.ReaderArena self.entry default.entry) t
+            → IfOk result (λ r. ShowsListOf A.ReaderArena r t) }
+        ensures spent { let place = place_read A.ReaderArena self.entry default.entry in
+            (t : Tree) (c : ℕ) → t ≢ Null → MeansThere place t c
+            → IfOk result (λ r. (shows : ShowsListOf A.ReaderArena r t)
+            → Paid place.charging lim.old lim.new (c - shows.cost) 1) }
+        ensures answered { let place = place_read A.ReaderArena self.entry default.entry in
+            (t : Tree) (c : ℕ) → IfSome default.entry (λ bytes. 8 ≤ length bytes.now)
+            → FitsSize expected_element_size t → MeansThere place t c
+            → Affords place.charging lim.old c → IsOk result }
     {
         let expected = Expected::List(expected_element_size);
         let found = self.expect(expected, lim, default)?;
@@ -356,18 +390,20 @@ impl<'a, A: ReaderArena> PointerReader<'a, A> {
         }
     }
 
-    /// The bytes of the text that the pointer leads to, in place, without the zero byte at its end
-    /// ("Lists"). If the pointer is null, returns the text of `default`; without a default, no
-    /// bytes.
+    /// Returns the bytes of the text that the pointer leads to, as a slice of the message, without
+    /// the zero byte at the text's end ("Lists"). If the pointer is null, returns the text of
+    /// `default`, or no bytes if there is no default.
     ///
-    /// Takes no level. Counts the pointer in `lim` as followed, and charges `lim` the words of its
-    /// landing pads and of the bytes, each before it is read.
+    /// Takes no level of the nesting limit. If the pointer isn't null, counts it in `lim` as
+    /// followed, and charges `lim` the words of its landing pads and of the bytes, before it reads
+    /// them.
     ///
     /// Refusals before the words of the bytes are charged:
     /// `MessageContainsNonListPointerWhereTextWasExpected` if the object isn't a list;
-    /// `MessageContainsListPointerOfNonBytesWhereTextWasExpected` if its elements aren't bytes.
-    /// Refusal after these words are charged: `MessageContainsTextThatIsNotNULTerminated` if there
-    /// are no bytes or the last byte isn't 0. Other refusals are those of `PointerReader::next`.
+    /// `MessageContainsListPointerOfNonBytesWhereTextWasExpected` if the list's elements aren't
+    /// bytes. Refusal after these words are charged: `MessageContainsTextThatIsNotNULTerminated` if
+    /// there are no bytes or the last byte isn't 0. Other refusals are those of
+    /// `PointerReader::next`.
     ///
     /// `default` is read as in `PointerReader::get_struct`. A default whose pointer is null is
     /// refused like an object that isn't a list.
@@ -386,21 +422,37 @@ impl<'a, A: ReaderArena> PointerReader<'a, A> {
         ensures refused { IfErr result (IsRefused A.ReaderArena
             (record { from = self.entry; expected = text_expected; default = default.entry })
             lim.old lim.new) }
+        ensures value { (t : Tree) → HasValue (place_read A.ReaderArena self.entry default.entry) t
+            → IfOk result (λ bytes. bytes.now ≡ text_bytes t) }
+        ensures spent { let place = place_read A.ReaderArena self.entry default.entry in
+            (t : Tree) (c : ℕ) → t ≢ Null → MeansThere place t c
+            → OnOk result (Paid place.charging lim.old lim.new c 1) }
+        ensures answered { let place = place_read A.ReaderArena self.entry default.entry in
+            (t : Tree) (c : ℕ)
+            → IfSome default.entry (λ bytes. (8 ≤ length bytes.now) × (t ≢ Null))
+            → AreWords place.segments → IsText t → MeansThere place t c
+            → Affords place.charging lim.old c → IsOk result }
     {
         let found = self.expect(Expected::Text, lim, default)?;
         match found.1 {
-            Object::Flat { start, count, .. } => Ok(bytes_at(start, count - 1)),
+            Object::Flat { start, count, .. } => {
+                let bytes = bytes_at(start, count - 1);
+                are_bytes(bytes);
+                Ok(bytes)
+            }
             _ => Ok(&[]),
         }
     }
 
-    /// The bytes of the data that the pointer leads to, in place ("Lists"). If the pointer is null,
-    /// returns the data of `default`; without a default, no bytes.
+    /// Returns the bytes of the data that the pointer leads to, as a slice of the message
+    /// ("Lists"). If the pointer is null, returns the data of `default`, or no bytes if there is no
+    /// default.
     ///
-    /// Like `PointerReader::get_text`, but there may be no bytes, and the last byte can be anything
-    /// and is returned as well. Refusals: `MessageContainsNonListPointerWhereDataWasExpected` if
-    /// the object isn't a list; `MessageContainsListPointerOfNonBytesWhereDataWasExpected` if its
-    /// elements aren't bytes.
+    /// Counts, charges and refuses like `PointerReader::get_text`, with three differences. The data
+    /// may be empty, and its last byte, which can have any value, is returned as well. An object
+    /// that isn't a list is refused with `MessageContainsNonListPointerWhereDataWasExpected`. A
+    /// list whose elements aren't bytes is refused with
+    /// `MessageContainsListPointerOfNonBytesWhereDataWasExpected`.
     pub fn get_data(
         &self,
         lim: &mut ReadLimiter,
@@ -416,20 +468,34 @@ impl<'a, A: ReaderArena> PointerReader<'a, A> {
         ensures refused { IfErr result (IsRefused A.ReaderArena
             (record { from = self.now; expected = data_expected; default = default.entry })
             lim.old lim.new) }
+        ensures value { (t : Tree) → HasValue (place_read A.ReaderArena self.now default.entry) t
+            → IfOk result (λ bytes. bytes.now ≡ list_numbers t) }
+        ensures spent { let place = place_read A.ReaderArena self.now default.entry in
+            (t : Tree) (c : ℕ) → t ≢ Null → MeansThere place t c
+            → OnOk result (Paid place.charging lim.old lim.new c 1) }
+        ensures answered { let place = place_read A.ReaderArena self.now default.entry in
+            (t : Tree) (c : ℕ)
+            → IfSome default.entry (λ bytes. (8 ≤ length bytes.now) × (t ≢ Null))
+            → IsBytes t → MeansThere place t c → Affords place.charging lim.old c
+            → IsOk result }
     {
         let found = self.expect(Expected::Data, lim, default)?;
         match found.1 {
-            Object::Flat { start, count, .. } => Ok(bytes_at(start, count)),
+            Object::Flat { start, count, .. } => {
+                let bytes = bytes_at(start, count);
+                are_bytes(bytes);
+                Ok(bytes)
+            }
             _ => Ok(&[]),
         }
     }
 
-    /// The index of the pointer's capability in the message's capability table ("Capabilities
-    /// (Interfaces)"). Doesn't follow the pointer, and counts and charges nothing.
+    /// Returns the index of the pointer's capability in the message's capability table
+    /// ("Capabilities (Interfaces)"). Doesn't follow the pointer, and counts and charges nothing.
     ///
     /// Refusals: `MessageContainsNullCapabilityPointer` if the pointer is null;
-    /// `MessageContainsNonCapabilityPointerWhereCapabilityPointerWasExpected` for any other
-    /// pointer, even a far pointer to a capability.
+    /// `MessageContainsNonCapabilityPointerWhereCapabilityPointerWasExpected` if the pointer is
+    /// neither null nor a capability pointer itself, even if it is a far pointer to one.
     pub fn get_capability(&self) -> Result<u32, ErrorKind>
         ensures exactly { IsOk result ↔ (lower_half (word_of (read_by A.ReaderArena self.now))
             ≡ 3) }
@@ -452,15 +518,16 @@ impl<'a, A: ReaderArena> PointerReader<'a, A> {
         Ok(word.cap_index())
     }
 
-    /// What the pointer leads to: nothing, a struct, a list or a capability. This is the kind of
-    /// the word that describes the object: the pointer itself, its landing pad, or, for a
-    /// double-far pointer, the second word of the landing pad. The object itself is neither checked
-    /// nor charged.
+    /// Returns what the pointer leads to: nothing, a struct, a list or a capability. The answer is
+    /// the kind of the word that describes the object: of the pointer itself, of its landing pad,
+    /// or, for a double-far pointer, of the landing pad's second word. The object itself is neither
+    /// checked nor charged.
     ///
-    /// A null pointer counts and charges nothing in `lim`. Any other pointer is counted in `lim` as
-    /// followed, and the words of its landing pads are charged. Refusals: `UnexpectedFarPointer` if
-    /// the word that describes the object is a far pointer; `UnknownPointerType` if that word is of
-    /// no known kind; those of `PointerReader::next` if the pointer can't be followed.
+    /// If the pointer isn't null, counts it in `lim` as followed, and charges `lim` the words of
+    /// its landing pads. If it is null, or in a default value, or in an arena that is being built,
+    /// counts and charges nothing. Refusals: `UnexpectedFarPointer` if the word that describes the
+    /// object is a far pointer; `UnknownPointerType` if that word is of no known kind; those of
+    /// `PointerReader::next` if the pointer can't be followed to that word.
     pub fn get_pointer_type(&self, lim: &mut ReadLimiter) -> Result<PointerType, ErrorKind>
         ensures of_type { IfOk result (IsOfType (read_by A.ReaderArena self.now) lim.old lim.new) }
         ensures exactly { IsOk result ↔ (t : PointerType) × (left : Meter)
@@ -471,13 +538,13 @@ impl<'a, A: ReaderArena> PointerReader<'a, A> {
         self.source.read_type(self.place, self.nesting_limit, lim)
     }
 
-    /// What the pointer leads to: one object, without its children ("Structs", "Lists",
+    /// Returns what the pointer leads to: one object, without its children ("Structs", "Lists",
     /// "Inter-Segment Pointers", "Capabilities (Interfaces)").
     ///
-    /// A null pointer counts and charges nothing in `lim`. Any other pointer is counted in `lim` as
-    /// followed. `lim` is charged the words of its landing pads, the object's own words, and one
-    /// word for each list element without width, each before it is read. A default value and an
-    /// arena being built count and charge nothing. Refuses with the first fault found, like
+    /// If the pointer isn't null, counts it in `lim` as followed, and charges `lim` the words of
+    /// its landing pads, the object's own words, and one word for each list element without width,
+    /// before it reads them. If the pointer is null, or in a default value, or in an arena that is
+    /// being built, nothing is counted or charged. Refuses with the first fault found, like
     /// `Source::read_object`; what was charged before stays charged.
     pub fn next(&self, lim: &mut ReadLimiter) -> Result<Target<'a, A>, ErrorKind>
         ensures target { IfOk result (IsTarget A.ReaderArena self.now lim.old lim.new) }
@@ -544,6 +611,12 @@ fn bytes_at<'a>(start: Place<'a>, count: u32) -> &'a [u8]
     let first = 8 * start.at as usize;
     &start.bytes[first..first + count as usize]
 }
+
+// Each byte is below 256. Does nothing; its contract is that fact.
+#[inline(always)]
+fn are_bytes(bytes: &[u8])
+    ensures { (i : ℕ) → slice_index bytes.now i < 256 }
+{}
 
 // The refusal of a default whose pointer is null; for a struct and a list, it is like no default.
 fn name_of_null_default(expected: Expected) -> Option<ErrorKind>

@@ -1,7 +1,9 @@
 //! Lists of a message, read in place.
-ghost use Rattle.std.specs.Prelude.{◌≡◌, ◌≢◌, ◌<◌, ◌≤◌, ◌+◌, ◌*◌, ◌/◌, ◌^◌, ◌↔◌, ℕ, pos, [], ⊤, IsTrue, length, take, drop, slice_range, nat_eq};
+ghost use Rattle.std.specs.Prelude.{◌≡◌, ◌≢◌, ◌<◌, ◌≤◌, ◌+◌, ◌*◌, ◌/◌, ◌^◌, ◌↔◌, ℕ, pos, [], ⊤, IsTrue, length, take, drop, slice_index, slice_range, nat_eq};
 ghost use Rattle.capnp_format.specs.Bytes.{message};
 ghost use Rattle.capnp_format.specs.Segments.{word_at, segment};
+ghost use Rattle.capnp_format.specs.Tree.{Tree};
+ghost use Rattle.capnp_making.specs.Path.{Child, next};
 ghost use Rattle.capnp_words.specs.declared.wire_pointer.ElementSize.TheVariants.{Void, InlineComposite};
 ghost use Rattle.capnp_format.specs.Numbers.{element_bits, from_digits};
 ghost use Rattle.capnp_words.specs.Sizes.{size_number};
@@ -10,7 +12,7 @@ ghost use Rattle.capnp_objects.specs.Rows.{rows_sized};
 ghost use Rattle.capnp_objects.specs.Objects.{IsHeld};
 ghost use Rattle.capnp_readers.specs.Sections.{IsPart, HasWordsFrom, HoldsPointer, elements_words, pointers_behind, bit_at, step_bits, data_bits, low_data};
 
-use crate::readers::{NO_SECTIONS, PointerReader, StructReader};
+use crate::readers::{NO_SECTIONS, PointerReader, StructReader, are_bytes};
 use capnp_arena_traits::arena::ReaderArena;
 use capnp_objects::object::Place;
 use capnp_objects::source::Source;
@@ -25,12 +27,12 @@ use std::alloc::AllocError;
 pub struct ListPlace {
     /// The number of the segment.
     pub segment: u32,
-    /// Where the elements start, in bytes, a multiple of 8. In a list of structs, this is after the
-    /// tag.
+    /// Where the elements start, in bytes from the start of the segment, a multiple of 8. In a list
+    /// of structs, the elements start after the tag.
     pub byte: u64,
     /// The element size.
     pub size: ElementSize,
-    /// The two sections of each element; only used for a struct list.
+    /// The numbers of data words and pointers of each element; only used for a list of structs.
     pub struct_size: StructSize,
     /// The number of elements.
     pub count: u32,
@@ -40,18 +42,19 @@ pub struct ListPlace {
 pub struct ListReader<'a, A: ReaderArena> {
     /// What the list is read from.
     pub source: Source<'a, A>,
-    /// The words of the elements.
+    /// The whole words that hold the elements, without the tag of a list of structs.
     pub content: &'a [u8],
     /// Where the elements start.
     pub start: Place<'a>,
     /// The element size.
     pub element_size: ElementSize,
-    /// The two sections of each element of a struct list, otherwise 0 and 0.
+    /// The numbers of data words and pointers of each element of a list of structs; 0 and 0 for any
+    /// other list.
     pub struct_size: StructSize,
     /// The number of elements.
     pub count: u32,
-    /// The nesting limit for its pointers: how many levels of structs and lists may be entered from
-    /// them; none if it is below 1.
+    /// The nesting limit for the list's pointers: how many levels of structs and lists may be
+    /// entered from them; none if it is below 1.
     pub nesting_limit: i32,
     ghost held: { IsHeld (source_start A.ReaderArena source).segments start },
     ghost content_is: { IsPart start (8 * start.at) (64 * elements_words element_size count (struct_size.data_words + struct_size.pointers)) content.now },
@@ -91,9 +94,10 @@ fn words_of_elements(size: ElementSize, struct_size: StructSize, count: u32) -> 
 }
 
 impl<'a, A: ReaderArena> ListReader<'a, A> {
-    ghost use Rattle.capnp_readers.specs.Readers.{ShowsList, ShowsElement, IsListPlace, element_start};
+    ghost use Rattle.capnp_readers.specs.Readers.{ShowsList, ShowsElement, IsListPlace, element_start, read_by};
+    ghost use Rattle.capnp_readers.specs.Values.{HasNumbers, HasStructs, HasValue, ShowsListOf, ShowsStructOf, list_length, list_numbers, struct_element};
 
-    /// A list that isn't in any message: of void, without elements. Its nesting limit is
+    /// Returns a list of void without elements, which isn't in any message. Its nesting limit is
     /// `i32::MAX`.
     pub fn new_default() -> Self
         ensures source { result.source ≡ Source.Nothing }
@@ -118,7 +122,8 @@ impl<'a, A: ReaderArena> ListReader<'a, A> {
         }
     }
 
-    /// The list at `place` of `arena`. Precondition: its elements are inside a segment of `arena`.
+    /// Returns a reader of the list at `place` of `arena`. Precondition: the list's elements are
+    /// inside a segment of `arena`.
     pub fn at(arena: &'a A, place: ListPlace, nesting_limit: i32) -> Self
         requires { IsListPlace (message (A.segments arena.now)) place }
         ensures source { result.source ≡ Source.Arena arena.entry }
@@ -186,7 +191,8 @@ impl<'a, A: ReaderArena> ListReader<'a, A> {
 
     /// The number of elements.
     pub fn len(&self) -> u32
-        ensures { result ≡ self.now.count }
+        ensures count { result ≡ self.now.count }
+        ensures value { (t : Tree) → ShowsListOf A.ReaderArena self.now t → result ≡ list_length t }
     {
         self.count
     }
@@ -205,7 +211,8 @@ impl<'a, A: ReaderArena> ListReader<'a, A> {
         self.element_size
     }
 
-    /// The two sections of each element of a struct list, otherwise 0 and 0.
+    /// The numbers of data words and pointers of each element of a list of structs; 0 and 0 for any
+    /// other list.
     pub fn struct_size(&self) -> StructSize
         ensures value { result ≡ self.now.struct_size }
         ensures none { size_number self.now.element_size < 7
@@ -214,25 +221,38 @@ impl<'a, A: ReaderArena> ListReader<'a, A> {
         self.struct_size
     }
 
-    /// The words of the elements.
+    /// The whole words that hold the elements, without the tag of a list of structs.
     pub fn data_bytes(&self) -> &'a [u8]
         ensures { result.now ≡ self.now.content.now }
     {
         self.content
     }
 
-    /// The number of data bits in an element: for a struct those of its data section, for a pointer
-    /// 0.
+    /// The number of data bits of each element: the size of the data section for structs, and 0 for
+    /// pointers.
     pub fn element_data_bits(&self) -> u32
         ensures { result ≡ data_bits self.now.element_size self.now.struct_size }
     {
         data_bits_per_element(self.element_size) + 64 * u32::from(self.struct_size.data_words)
     }
 
-    /// The lowest 64 bits of the data of element `index`, as a number: the value of a number or a
-    /// bit, or the first data word of a struct; 0 if the element has no data. Precondition: `index`
-    /// is below the number of elements.
+    /// Returns the lowest 64 bits of the data of element `index`, as a number: the value of a
+    /// number or a bit, or the first data word of a struct; 0 if the element has no data.
+    /// Precondition: `index` is below the number of elements.
     pub fn element_data(&self, index: u32) -> u64
+        requires { index < self.now.count }
+        ensures data { result ≡ low_data self.now.element_size self.now.struct_size
+            self.now.content.now index }
+        ensures value { (t : Tree) → ShowsListOf A.ReaderArena self.now t → HasNumbers t
+            → result ≡ slice_index (list_numbers t) index }
+    {
+        are_bytes(self.content);
+        self.lowest_data(index)
+    }
+
+    // The lowest 64 bits of the data of element `index`, as a number.
+    #[inline(always)]
+    fn lowest_data(&self, index: u32) -> u64
         requires { index < self.now.count }
         ensures { result ≡ low_data self.now.element_size self.now.struct_size
             self.now.content.now index }
@@ -292,8 +312,9 @@ impl<'a, A: ReaderArena> ListReader<'a, A> {
         self.content[at / 8] >> (at % 8) & 1 == 1
     }
 
-    /// Pointer `index`: the element itself, or a struct element's first pointer. Preconditions: the
-    /// elements hold a pointer; `index` is below the number of elements.
+    /// Returns a reader of the pointer of element `index`: of the element itself if the elements
+    /// are pointers, or of its first pointer if they are structs. Preconditions: the elements are
+    /// pointers, or structs with at least one pointer; `index` is below the number of elements.
     #[tactic(auto, using(crate::proofs::Sections::elements))]
     pub fn get_pointer_element(self, index: u32) -> PointerReader<'a, A>
         requires range { index < self.count }
@@ -303,6 +324,8 @@ impl<'a, A: ReaderArena> ListReader<'a, A> {
             × (result.place.at ≡ self.entry.start.at
             + pointers_behind self.entry.element_size self.entry.struct_size index) }
         ensures nesting { result.nesting_limit ≡ self.entry.nesting_limit }
+        ensures value { (t : Tree) → ShowsListOf A.ReaderArena self.entry t → HasStructs t
+            → HasValue (read_by A.ReaderArena result) (next (struct_element t index) (Child 0)) }
     {
         let behind = match self.element_size {
             ElementSize::InlineComposite => {
@@ -320,8 +343,8 @@ impl<'a, A: ReaderArena> ListReader<'a, A> {
         }
     }
 
-    /// Element `index` as a struct, with the list's own nesting limit. A number becomes a struct
-    /// whose data section is that number; a pointer becomes a struct with one pointer.
+    /// Returns element `index` as a struct, whose nesting limit is the list's own. A number becomes
+    /// a struct whose data section is that number; a pointer becomes a struct with one pointer.
     /// Preconditions: the elements aren't bits; `index` is below the number of elements.
     pub fn get_struct_element(&self, index: u32) -> StructReader<'a, A>
         requires range { index < self.now.count }
@@ -329,17 +352,21 @@ impl<'a, A: ReaderArena> ListReader<'a, A> {
         ensures source { result.source ≡ self.now.source }
         ensures element { ShowsElement A.ReaderArena self.now.element_size self.now index result }
         ensures nesting { result.nesting_limit ≡ self.now.nesting_limit }
+        ensures value { (t : Tree) → ShowsListOf A.ReaderArena self.now t → HasStructs t
+            → ShowsStructOf A.ReaderArena result (struct_element t index) }
     {
         self.element_within(index, self.nesting_limit)
     }
 
-    /// Element `index` as a struct, like `ListReader::get_struct_element`.
+    /// The same call as `ListReader::get_struct_element`.
     pub fn element(&self, index: u32) -> StructReader<'a, A>
         requires range { index < self.now.count }
         requires size { size_number self.now.element_size ≢ 1 }
         ensures source { result.source ≡ self.now.source }
         ensures element { ShowsElement A.ReaderArena self.now.element_size self.now index result }
         ensures nesting { result.nesting_limit ≡ self.now.nesting_limit }
+        ensures value { (t : Tree) → ShowsListOf A.ReaderArena self.now t → HasStructs t
+            → ShowsStructOf A.ReaderArena result (struct_element t index) }
     {
         self.get_struct_element(index)
     }

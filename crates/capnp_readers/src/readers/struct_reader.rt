@@ -2,12 +2,15 @@
 ghost use Rattle.std.specs.Prelude.{◌≡◌, ◌<◌, ◌≤◌, ◌+◌, ◌*◌, ◌/◌, ◌^◌, ◌↔◌, ℕ, pos, [], true, false, ⊤, IsTrue, length, take, drop, slice_range};
 ghost use Rattle.capnp_format.specs.Bytes.{message};
 ghost use Rattle.capnp_format.specs.Segments.{word_at, segment};
+ghost use Rattle.capnp_format.specs.Tree.{Tree};
+ghost use Rattle.capnp_making.specs.Fields.{field_in};
+ghost use Rattle.capnp_making.specs.Path.{Child, next};
 ghost use Rattle.capnp_objects.specs.Reading.{source_start, sized};
 ghost use Rattle.capnp_objects.specs.Rows.{rows_sized};
 ghost use Rattle.capnp_objects.specs.Objects.{IsHeld};
 ghost use Rattle.capnp_readers.specs.Sections.{IsPart, IsInside, HasWordsFrom, bit_at, bytes_for};
 
-use crate::readers::{ListReader, NO_SECTIONS, PointerReader};
+use crate::readers::{ListReader, NO_SECTIONS, PointerReader, are_bytes};
 use capnp_arena_traits::arena::ReaderArena;
 use capnp_objects::object::Place;
 use capnp_objects::source::Source;
@@ -48,8 +51,8 @@ pub struct StructReader<'a, A: ReaderArena> {
     pub pointers: Place<'a>,
     /// The number of pointers in the pointer section.
     pub pointer_count: u16,
-    /// The nesting limit for its pointers: how many levels of structs and lists may be entered from
-    /// them; none if it is below 1.
+    /// The nesting limit for the struct's pointers: how many levels of structs and lists may be
+    /// entered from them; none if it is below 1.
     pub nesting_limit: i32,
     ghost held: { IsHeld (source_start A.ReaderArena source).segments pointers },
     ghost content_is: { IsPart pointers byte bits content.now },
@@ -70,9 +73,11 @@ impl<'a, A: ReaderArena> Clone for StructReader<'a, A> {
 impl<'a, A: ReaderArena> Copy for StructReader<'a, A> {}
 
 impl<'a, A: ReaderArena> StructReader<'a, A> {
-    ghost use Rattle.capnp_readers.specs.Readers.{ShowsStruct, ShowsList, IsStructPlace};
+    ghost use Rattle.capnp_readers.specs.Readers.{ShowsStruct, ShowsList, IsStructPlace, read_by};
+    ghost use Rattle.capnp_readers.specs.Values.{HasValue, ShowsStructOf, struct_data};
 
-    /// A struct that isn't in any message, without sections. Its nesting limit is `i32::MAX`.
+    /// Returns a struct without sections, which isn't in any message. Its nesting limit is
+    /// `i32::MAX`.
     pub fn new_default() -> Self
         ensures source { result.source ≡ Source.Nothing }
         ensures sections { (result.bits ≡ 0) × (result.pointer_count ≡ 0) }
@@ -93,8 +98,8 @@ impl<'a, A: ReaderArena> StructReader<'a, A> {
         }
     }
 
-    /// The struct at `place` of `arena`. Precondition: both sections are inside a segment of
-    /// `arena`.
+    /// Returns a reader of the struct at `place` of `arena`. Precondition: both sections are inside
+    /// segment `place.segment` of `arena`.
     pub fn at(arena: &'a A, place: StructPlace, nesting_limit: i32) -> Self
         requires { IsStructPlace (message (A.segments arena.now)) place }
         ensures source { result.source ≡ Source.Arena arena.entry }
@@ -155,7 +160,8 @@ impl<'a, A: ReaderArena> StructReader<'a, A> {
         }
     }
 
-    /// The bytes of the data section, which may end inside the last byte.
+    /// The bytes that hold the data section. A data section whose size isn't a multiple of 8 bits
+    /// ends inside the last of these bytes.
     pub fn data_bytes(&self) -> &'a [u8]
         ensures { result.now ≡ self.now.content.now }
     {
@@ -183,8 +189,8 @@ impl<'a, A: ReaderArena> StructReader<'a, A> {
         }
     }
 
-    /// Pointer `index` of the pointer section. If the section has no such pointer, returns a null
-    /// pointer that isn't in any message.
+    /// Returns a reader of pointer `index` of the pointer section. If the section has no such
+    /// pointer, returns a null pointer that isn't in any message.
     pub fn get_pointer_field(&self, index: usize) -> PointerReader<'a, A>
         ensures source { index < self.now.pointer_count → result.source ≡ self.now.source }
         ensures place { index < self.now.pointer_count
@@ -196,6 +202,8 @@ impl<'a, A: ReaderArena> StructReader<'a, A> {
             → (result.source ≡ Source.Nothing) × (result.nesting_limit ≡ i32.MAX) }
         ensures nowhere { self.now.pointer_count ≤ index
             → (result.place.segment ≡ 0) × (result.place.at ≡ 0) }
+        ensures value { (t : Tree) → ShowsStructOf A.ReaderArena self.now t
+            → HasValue (read_by A.ReaderArena result) (next t (Child index)) }
     {
         if index >= usize::from(self.pointer_count) {
             return PointerReader::new_default();
@@ -210,9 +218,9 @@ impl<'a, A: ReaderArena> StructReader<'a, A> {
         }
     }
 
-    /// The pointer section as a list of pointers, with the struct's own nesting limit (encoding
-    /// specification, "Structs" and "Lists"). Its element `i` is the struct's pointer `i`; the list
-    /// is empty if the struct has no pointers.
+    /// Returns the pointer section as a list of pointers, whose nesting limit is the struct's own
+    /// (encoding specification, "Structs" and "Lists"). Its element `i` is the struct's pointer
+    /// `i`; the list is empty if the struct has no pointers.
     pub fn get_pointer_section_as_list(&self) -> ListReader<'a, A>
         ensures source { result.source ≡ self.now.source }
         ensures size { result.element_size ≡ ElementSize.Pointer }
@@ -242,14 +250,17 @@ impl<'a, A: ReaderArena> StructReader<'a, A> {
         self.get_pointer_field(index).is_null()
     }
 
-    /// The field of the data section at `offset`, counted in values of `T`; zero if the field isn't
-    /// wholly inside the section.
+    /// Returns the field of the data section at `offset`, which is counted in values of type `T`.
+    /// Returns zero if the field isn't wholly inside the section.
     pub fn get_data_field<T: Primitive + Zero>(&self, offset: usize) -> T
         ensures inside { IsInside self.now.bits (8 * T.BYTES) offset
             → result ≡ T.value_of
             (slice_range self.now.content.now (offset * T.BYTES) (offset * T.BYTES + T.BYTES)) }
         ensures outside { (IsInside self.now.bits (8 * T.BYTES) offset → ⊥) → result ≡ T.nought }
+        ensures value { T.bits_of T.nought ≡ 0 → (t : Tree) → ShowsStructOf A.ReaderArena self.now t
+            → T.bits_of result ≡ field_in (struct_data t) (8 * T.BYTES * offset) (8 * T.BYTES) }
     {
+        are_bytes(self.content);
         let n = T::BYTES;
         if offset < self.bits as usize / 8 / n {
             let start = offset * n;
@@ -259,8 +270,9 @@ impl<'a, A: ReaderArena> StructReader<'a, A> {
         }
     }
 
-    /// The value that `StructReader::get_data_field` returns, with the field's default `mask`
-    /// applied. The mask also applies to the zero returned for a field outside of the section.
+    /// Returns the exclusive or of the value that `StructReader::get_data_field` returns, and of
+    /// `mask`. The caller passes the field's default value as `mask`, so a field outside of the
+    /// section has this value.
     pub fn get_data_field_mask<T: Primitive + Zero + Mask>(
         &self,
         offset: usize,
@@ -276,16 +288,21 @@ impl<'a, A: ReaderArena> StructReader<'a, A> {
         T::mask(self.get_data_field(offset), mask)
     }
 
-    /// The bit of the data section at `offset`; `false` if the section ends before that bit.
+    /// Returns the bit of the data section at `offset`, which is counted in bits; `false` if the
+    /// section ends before that bit.
     pub fn get_bool_field(&self, offset: usize) -> bool
-        ensures { IsTrue result ↔ (offset < self.now.bits)
+        ensures bit { IsTrue result ↔ (offset < self.now.bits)
             × (bit_at self.now.content.now offset ≡ 1) }
+        ensures value { (t : Tree) → ShowsStructOf A.ReaderArena self.now t
+            → (IsTrue result ↔ (field_in (struct_data t) offset 1 ≡ 1)) }
     {
+        are_bytes(self.content);
         offset < self.bits as usize && self.content[offset / 8] >> (offset % 8) & 1 == 1
     }
 
-    /// The bit that `StructReader::get_bool_field` returns, with the field's default `mask`
-    /// applied. The mask also applies to the `false` returned for a bit after the section.
+    /// Returns the exclusive or of the bit that `StructReader::get_bool_field` returns, and of
+    /// `mask`. The caller passes the field's default value as `mask`, so a bit after the section
+    /// has this value.
     pub fn get_bool_field_mask(&self, offset: usize, mask: bool) -> bool
         ensures plain { mask ≡ false
             → (IsTrue result ↔ (offset < self.now.bits)

@@ -2,7 +2,12 @@ use Rattle.std.proofs.Common.{inl, inr, refl}
 use Rattle.capnp_objects.proofs.Expecting.{IsReadAt, list_given}
 use Rattle.capnp_readers.specs.Readers.{read_by}
 use Rattle.capnp_readers.specs.declared.readers.target.Target.TheVariants.{List}
-use Rattle.capnp_readers.proofs.Answering.{IsShown, no_list, wide_target, given_there}
+use Rattle.capnp_objects.specs.Expected.{list_expected}
+use Rattle.capnp_readers.specs.Values.{place_read}
+use Rattle.capnp_readers.proofs.Answering.{IsShown, no_list, wide_target, given_there, never_refused, of_some}
+use Rattle.capnp_readers.proofs.Given.{list_suits}
+use Rattle.capnp_readers.proofs.ListValues.{list_value}
+use Rattle.capnp_readers.proofs.Spent.{list_spent}
 use Rattle.capnp_readers.proofs.readers.PointerReader.get_list.Goals as goal
 
 pub target_of-requires : goal.target_of-requires
@@ -38,3 +43,21 @@ returns-in-List-clause-exactly g c = c.in_ok-found.ensures.exactly
 
 pub returns-in_default-clause-exactly : goal.returns-in_default-clause-exactly
 returns-in_default-clause-exactly g c = c.in_ok-found.ensures.exactly
+
+pub returns-in-List-clause-value : goal.returns-in-List-clause-value
+returns-in-List-clause-value g c = list_value g.A.ReaderArena c.args.expected_element_size c.in-List.found (returns-in-List-clause-read g c)
+
+pub returns-in_default-clause-value : goal.returns-in_default-clause-value
+returns-in_default-clause-value g c = list_value g.A.ReaderArena c.args.expected_element_size c.new_default.result (returns-in_default-clause-read g c)
+
+pub returns-in_err-found-clause-answered : goal.returns-in_err-found-clause-answered
+returns-in_err-found-clause-answered g c = λ t k whole fits means covers.
+    let size = c.args.expected_element_size in
+    let place = place_read g.A.ReaderArena c.args.self c.args.default in
+    absurd (never_refused g.A.ReaderArena (record { from = c.args.self; expected = list_expected size; default = c.args.default }) c.in_err-found.ensures.refused (λ bytes e. (of_some _ c.args.default whole bytes e, inl refl)) (list_suits size place t k c.args.lim.now fits means covers))
+
+pub returns-in-List-clause-spent : goal.returns-in-List-clause-spent
+returns-in-List-clause-spent g c = list_spent g.A.ReaderArena c.args.expected_element_size c.in-List.found (returns-in-List-clause-read g c)
+
+pub returns-in_default-clause-spent : goal.returns-in_default-clause-spent
+returns-in_default-clause-spent g c = list_spent g.A.ReaderArena c.args.expected_element_size c.new_default.result (returns-in_default-clause-read g c)

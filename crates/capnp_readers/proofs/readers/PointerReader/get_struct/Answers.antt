@@ -1,7 +1,12 @@
-use Rattle.std.proofs.Common.{inl, inr}
+use Rattle.std.proofs.Common.{inl, inr, refl}
 use Rattle.capnp_objects.proofs.Expecting.{IsReadAt, struct_given}
 use Rattle.capnp_readers.specs.Readers.{read_by}
-use Rattle.capnp_readers.proofs.Answering.{IsShown, no_struct}
+use Rattle.capnp_objects.specs.Expected.{struct_expected}
+use Rattle.capnp_readers.specs.Values.{place_read}
+use Rattle.capnp_readers.proofs.Answering.{IsShown, no_struct, never_refused, of_some}
+use Rattle.capnp_readers.proofs.Given.{struct_suits}
+use Rattle.capnp_readers.proofs.Values.{struct_value}
+use Rattle.capnp_readers.proofs.Spent.{struct_spent}
 use Rattle.capnp_readers.proofs.readers.PointerReader.get_struct.Goals as goal
 
 pub target_of-requires : goal.target_of-requires
@@ -34,3 +39,20 @@ returns-in-Struct-clause-exactly g c = c.in_ok-found.ensures.exactly
 
 pub returns-in_default-clause-exactly : goal.returns-in_default-clause-exactly
 returns-in_default-clause-exactly g c = c.in_ok-found.ensures.exactly
+
+pub returns-in-Struct-clause-value : goal.returns-in-Struct-clause-value
+returns-in-Struct-clause-value g c = struct_value g.A.ReaderArena c.in-Struct.found (returns-in-Struct-clause-read g c)
+
+pub returns-in_default-clause-value : goal.returns-in_default-clause-value
+returns-in_default-clause-value g c = struct_value g.A.ReaderArena c.new_default.result (returns-in_default-clause-read g c)
+
+pub returns-in_err-found-clause-answered : goal.returns-in_err-found-clause-answered
+returns-in_err-found-clause-answered g c = λ t k whole is means covers.
+    let place = place_read g.A.ReaderArena c.args.self c.args.default in
+    absurd (never_refused g.A.ReaderArena (record { from = c.args.self; expected = struct_expected; default = c.args.default }) c.in_err-found.ensures.refused (λ bytes e. (of_some _ c.args.default whole bytes e, inl refl)) (struct_suits place t k c.args.lim.now is means covers))
+
+pub returns-in-Struct-clause-spent : goal.returns-in-Struct-clause-spent
+returns-in-Struct-clause-spent g c = struct_spent g.A.ReaderArena c.in-Struct.found (returns-in-Struct-clause-read g c)
+
+pub returns-in_default-clause-spent : goal.returns-in_default-clause-spent
+returns-in_default-clause-spent g c = struct_spent g.A.ReaderArena c.new_default.result (returns-in_default-clause-read g c)

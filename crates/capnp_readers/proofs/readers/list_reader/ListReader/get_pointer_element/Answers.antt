@@ -1,6 +1,11 @@
+use Rattle.std.proofs.Common.{◌≡◌, refl, w32, rules}
+use Rattle.std.proofs.lemmas.Grind.{common_steps}
+use Rattle.std.proofs.lemmas.Int.{to_z-of_z}
+use Rattle.capnp_readers.proofs.ListValues.{pointer_element_value}
 use Rattle.std.proofs.Common.{arith}
 use Rattle.capnp_objects.specs.Reading.{source_start}
-use Rattle.capnp_readers.proofs.Sections.{held_words, pointers_within}
+use Rattle.capnp_readers.specs.Sections.{pointers_behind}
+use Rattle.capnp_readers.proofs.Sections.{held_words, pointers_within, elements}
 use Rattle.capnp_readers.proofs.readers.list_reader.ListReader.get_pointer_element.Goals as goal
 
 pub overflow_add-behind : goal.overflow_add-behind
@@ -11,3 +16,9 @@ overflow_add-behind g c =
     let room = rw is at self.inside in
     let small = held_words (source_start g.A.ReaderArena self.source).segments self.start self.held in
     rw (c.total.ensures, c.from.ensures) (omega (arith, small, room, within))
+
+pub returns-clause-value : goal.returns-clause-value
+returns-clause-value g c = λ t is has.
+    let level = to_z-of_z w32 c.args.self.nesting_limit (search rules) in
+    let at : c.match-self.behind ≡ pointers_behind c.args.self.element_size c.args.self.struct_size c.args.index = first_of (search rules, grind (arith, common_steps, elements)) in
+    pointer_element_value g.A.ReaderArena c.args.self c.args.index _ c.requires.range c.requires.pointers (rw (level, at) refl) t is has
