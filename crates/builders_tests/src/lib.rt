@@ -1,6 +1,6 @@
-//! Tests capnp_builders by its public calls, in what the cases of building calls don't show: calls
-//! that no case makes, the words that a call requests from its allocator, and sources that no case
-//! names. Also tests of capnp_readers and capnp_edits.
+//! Tests capnp_builders by its public calls. Shows what the test cases (`tests/cases`) don't show:
+//! calls that no case makes, the words that a call requests from its allocator, and sources that no
+//! case names. Also tests of capnp_readers and capnp_edits.
 #![tactic(auto)]
 
 #[cfg(test)]
@@ -9,6 +9,8 @@ mod asking;
 mod copies;
 #[cfg(test)]
 mod edits;
+#[cfg(test)]
+mod fields;
 #[cfg(test)]
 mod messages;
 #[cfg(test)]

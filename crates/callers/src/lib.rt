@@ -1,4 +1,5 @@
-//! Functions that call the other crates, and are proved from the contracts of these only.
+//! Functions that call the other crates, and are proved only from the contracts of the functions
+//! that they call.
 #![tactic(auto)]
 
 pub mod agreed;
@@ -7,4 +8,5 @@ pub mod builders;
 pub mod copies;
 pub mod edits;
 pub mod frames;
+pub mod places;
 pub mod theorem;

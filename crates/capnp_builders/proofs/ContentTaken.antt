@@ -39,7 +39,7 @@ turns_again : {S R Q : Segments} {s p : ℕ} {a : Target} {t u w : Tree} → Tur
 turns_again {S} {R} {Q} {s} {p} {a} {t} {u} {w} x y = (replaced_again S R Q s p t u w x.0 y.0, y.1)
 
 -- where the pointer to a stored struct leads
-leads_of : (S : Segments) (s p : ℕ) (ws : List ℕ) (ts : Trees) → IsStored S s p (Struct ws ts) → Leads S s p (target S s p) × ((target S s p).start + (length ws + count ts) ≤ length (segment S (target S s p).segment))
+pub leads_of : (S : Segments) (s p : ℕ) (ws : List ℕ) (ts : Trees) → IsStored S s p (Struct ws ts) → Leads S s p (target S s p) × ((target S s p).start + (length ws + count ts) ≤ length (segment S (target S s p).segment))
 leads_of S s p ws ts y = let m = y.means in leads_there m.0 m.1 m.2
   where
     leads_there : (n c : ℕ) → Means S n s p (Struct ws ts) c → Leads S s p (target S s p) × ((target S s p).start + (length ws + count ts) ≤ length (segment S (target S s p).segment))
@@ -209,7 +209,7 @@ stopped F path S M K R s p d q a c n ws ts us place bits bytes h y wide len (of_
     (vs, hold, turns_again turns (subst (λ X. Turns K R s p a (F vs (up_to q us)) (F vs X)) (up_to-put q us) last))
 
 -- a struct that a pointer leads to
-struct_content : (s p d q : ℕ) (a : Target) → IsContent Struct (λ i. Child i ∷ []) s p d q a a.start (d + q)
+pub struct_content : (s p d q : ℕ) (a : Target) → IsContent Struct (λ i. Child i ∷ []) s p d q a a.start (d + q)
 struct_content s p d q a = record {
   holder = λ ws long. subst (λ k. IsHolder (Struct ws) (λ i. Child i ∷ []) s p q a (a.start + k) (k + q)) long (struct_holder s p q a ws);
   field = λ S ws ts b w v y long len l. field_put S s p a ws ts b w v y (omega (arith, l, long));

@@ -11,7 +11,6 @@ use Rattle.capnp_making.specs.Zeroed.{IsPruned}
 use Rattle.capnp_making.proofs.FillingChains.{filled_grows}
 use Rattle.capnp_making.proofs.Zeros.{lengths_kept}
 use Rattle.capnp_objects.specs.Reading.{Reading}
-use Rattle.capnp_readers.specs.Readers.{IsStructPlace}
 use Rattle.capnp_copies.specs.Changes.{Change, CopiesChildren, CopiesFirst}
 use Rattle.capnp_copies.specs.Forms.{kept_each}
 use Rattle.capnp_readers.specs.declared.readers.struct_reader.StructPlace.{StructPlace}
@@ -64,14 +63,10 @@ each_grows r n c (Err k) copied refused =
     let first = filled_grows c.old.words refused.filled c.segment c.at refused.first refused.made in
     record { segments = le_trans first.segments refused.cleared.segments; words = λ v. le_trans (first.words v) (refused.cleared.words v) }
 
--- a struct is still inside its segment after its content was written, its pointers became null, and
--- the segments grew
-pub content_inside : (S M R : Segments) (place : StructPlace) (bits : ℕ) (bytes : List ℕ) → IsPruned (with_content S place bits bytes) M → Grows M R → IsStructPlace S place → IsStructPlace R place
-content_inside S M R place bits bytes pruned grows (there, at_data, at_pointers) =
-    let long = content_long S place bits bytes place.segment in
-    let same = pruned.words place.segment in
-    let more = grows.words place.segment in (
-      omega (arith, there, content_many S place bits bytes, pruned.segments, grows.segments),
-      omega (arith, at_data, long, same, more),
-      omega (arith, at_pointers, long, same, more),
-    )
+-- no segment becomes shorter while a struct's content is written, its pointers become null, and the
+-- segments grow
+pub content_grows : (S M R : Segments) (place : StructPlace) (bits : ℕ) (bytes : List ℕ) → IsPruned (with_content S place bits bytes) M → Grows M R → Grows S R
+content_grows S M R place bits bytes pruned grows = record {
+  segments = omega (arith, content_many S place bits bytes, pruned.segments, grows.segments);
+  words = λ v. omega (arith, content_long S place bits bytes v, pruned.words v, grows.words v);
+}

@@ -1,15 +1,16 @@
 -- What a place holds after a value was copied to it, if it was null or was cleared first.
-use Rattle.std.proofs.Common.{◌≡◌, inl, inr, ℕ, ◌+◌, ◌<◌, ◌≤◌, zero, suc, List, length, refl, ◌∙◌, Result, Ok, Err, IfOk, IfErr, OnOk, OnErr, [], ◌∷◌, ap, sym, subst, arith}
+use Rattle.std.proofs.Common.{◌≡◌, inl, inr, ℕ, ◌+◌, ◌<◌, zero, suc, List, length, refl, ◌∙◌, Result, Ok, Err, IfOk, IfErr, OnOk, OnErr, [], ◌∷◌, ap, sym, subst, arith}
 use Rattle.capnp_words.specs.declared.error.ErrorKind.{ErrorKind}
 use Rattle.capnp_words.specs.Meter.{Meter}
 use Rattle.capnp_format.specs.Canonical.{encoding}
-use Rattle.capnp_format.specs.Segments.{Segments, segment, word_at, IsPlace}
+use Rattle.capnp_format.specs.Segments.{Segments, segment, word_at, Grows, IsPlace}
 use Rattle.capnp_format.specs.Tree.{Tree, Null}
 use Rattle.capnp_format.proofs.Levels.{one_value}
 use Rattle.capnp_arena_traits.specs.View.{View, KeepsLimits}
 use Rattle.capnp_making.specs.Memory.{RefusesWords}
 use Rattle.capnp_making.specs.Stored.{IsReplaced, Puts}
 use Rattle.capnp_making.specs.Zeroed.{IsPruned}
+use Rattle.capnp_contents.proofs.Growing.{replaced_grows}
 use Rattle.capnp_making.proofs.FillingMade.{null_stored}
 use Rattle.capnp_making.proofs.Memory.{keeps_both, keeps_written, keeps_then_spends}
 use Rattle.capnp_making.proofs.Replaced.{replaced_again}
@@ -67,10 +68,10 @@ on_err (Err k) P Q h f = f k h
 pub nothing_zeroed : (S : Segments) → IsPruned S S
 nothing_zeroed S = record { segments = refl; words = λ v. refl; only = λ v r. inl refl }
 
--- the segment of the place becomes no shorter, whether the copy is made or refused
-pub grows_there : {X : Type 0} (result : Result X ErrorKind) (o : Original Tree) (c : Change) → IfOk result (λ _. MakesCopy o c) → IfErr result (StopsCopy o c Null) → length (segment c.old.words c.segment) ≤ length (segment c.new.words c.segment)
-grows_there (Ok x) o c copied refused = copied.made.words c.segment
-grows_there (Err k) o c copied refused = refused.left.words c.segment
+-- no segment becomes shorter, whether the copy is made or refused
+pub copy_grows : {X : Type 0} (result : Result X ErrorKind) (o : Original Tree) (c : Change) → IfOk result (λ _. MakesCopy o c) → IfErr result (StopsCopy o c Null) → Grows c.old.words c.new.words
+copy_grows (Ok x) o c copied refused = replaced_grows copied.made
+copy_grows (Err k) o c copied refused = replaced_grows refused.left
 
 -- what is refused after the place is cleared was refused before
 

@@ -1,15 +1,9 @@
 -- Fields of data sections and elements of lists: which bits of their segment they are.
-use Rattle.std.proofs.Common.{◌≡◌, inl, inr, ◌⊎◌, ℕ, zero, suc, ◌+◌, ◌*◌, ◌/◌, ◌%◌, ◌<◌, ◌≤◌, min, refl, ap, ◌∙◌, arith, MutBor, List, length, get_or}
+use Rattle.std.proofs.Common.{◌≡◌, inl, inr, ◌⊎◌, ℕ, zero, suc, ◌+◌, ◌*◌, ◌/◌, ◌%◌, ◌<◌, ◌≤◌, min, refl, ap, arith, MutBor}
 use Rattle.std.proofs.Props.{props}
-use Rattle.std.proofs.lemmas.List.{length-set}
-use Rattle.capnp_format.specs.Segments.{segment}
-use Rattle.capnp_arena_traits.specs.View.{View}
-use Rattle.capnp_making.specs.Fields.{with_bits, put_field, with_field}
-use Rattle.capnp_making.proofs.Zeros.{lengths_kept}
-use Rattle.capnp_readers.specs.Readers.{IsStructPlace}
 use Rattle.capnp_readers.specs.declared.readers.struct_reader.StructPlace.{StructPlace}
 use Rattle.capnp_builders.specs.declared.builders.struct_builder.StructBuilder.{StructBuilder}
-use Rattle.capnp_builders.specs.Places.{IsAligned, Field, WritesField}
+use Rattle.capnp_builders.specs.Places.{IsAligned}
 
 -- eight times a field's offset in bytes
 pub in_bits : (offset n : ℕ) → (offset + 1) * (8 * n) ≡ 8 * (offset * n + n)
@@ -69,20 +63,13 @@ place_aligned place k n aligned some l e inside =
     at_most : (m : ℕ) → min 8 m ≤ 8
     at_most m = omega arith
 
+-- a data section of whole words is aligned
+pub whole_aligned : (n start : ℕ) → 0 < min 8 (64 * n / 8) → (8 % min 8 (64 * n / 8) ≡ 0) × (8 * start % min 8 (64 * n / 8) ≡ 0)
+whole_aligned n start some = (let word : min 8 (64 * n / 8) ≡ 8 = omega (arith, some) in (rw word refl, rw word (omega arith)))
+
 -- there is at most one proof that a section is aligned
 pub aligned_once : (place : StructPlace) (p q : IsAligned place) → p ≡ q
 aligned_once place p q = (let one : IsProp (IsAligned place) = hlevel props in one p q)
 
 pub same_builder : {A : Type 0} (arena : MutBor A) (place : StructPlace) (p q : IsAligned place) → ◌≡◌ {A = StructBuilder A} (record { arena = arena; place = place; aligned = p }) (record { arena = arena; place = place; aligned = q })
 same_builder arena place p q = ap (λ r. record { arena = arena; place = place; aligned = r }) (aligned_once place p q)
-
--- a struct is still inside its segment after a field was written
-pub still_inside : (old new : View) (place : StructPlace) (id byte : ℕ) (f : Field) → WritesField old new id byte f → IsStructPlace old.words place → IsStructPlace new.words place
-still_inside old new place id byte f written (there, at_data, at_pointers) =
-    let words : new.words ≡ with_field old.words id (8 * byte + f.start) f.bits f.value = ap (λ (v : View). v.words) written in
-    let made : List ℕ = put_field (segment old.words id) (8 * byte + f.start) f.bits f.value in
-    let b = 8 * byte + f.start in
-    let long : length made ≡ length (segment old.words id) = length-set (segment old.words id) (b / 64) (with_bits (get_or (segment old.words id) (b / 64) 0) (b % 64) f.bits f.value) in
-    let same : length (segment new.words place.segment) ≡ length (segment old.words place.segment) = ap (λ S. length (segment S place.segment)) words ∙ lengths_kept old.words id made long place.segment in
-    let many : length new.words ≡ length old.words = ap length words ∙ length-set old.words id made in
-    (omega (arith, there, many), omega (arith, at_data, same), omega (arith, at_pointers, same))

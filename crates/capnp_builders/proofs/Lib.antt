@@ -12,4 +12,7 @@ pub mod DefaultCopies
 pub mod ElementContent
 pub mod DefaultUses
 pub mod DefaultRooms
+pub mod HeldLists
+pub mod HeldMade
+pub mod HeldStructs
 pub mod Openings

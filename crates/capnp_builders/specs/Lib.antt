@@ -5,5 +5,6 @@ pub mod Places
 pub mod Reads
 pub mod Content
 pub mod Defaults
+pub mod Held
 pub mod Kept
 pub mod Opening

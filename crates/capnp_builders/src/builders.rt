@@ -2,7 +2,7 @@
 //! mutably.
 ghost use Rattle.std.specs.Prelude.{◌≡◌, ℕ, List, ◌↔◌, ◌∷◌, ◌++◌, [], ◌+◌, ◌-◌, ◌*◌, ◌^◌, ◌<◌, ◌≤◌, IsTrue, length, Ok, Err, IsOk, IfOk, IfErr, OnOk};
 ghost use Rattle.capnp_format.specs.Bytes.{message, words_of};
-ghost use Rattle.capnp_format.specs.Segments.{segment, word_at, IsPlace};
+ghost use Rattle.capnp_format.specs.Segments.{segment, word_at, Grows, IsPlace};
 ghost use Rattle.capnp_format.specs.Tree.{Null, Capability, Flat, count};
 ghost use Rattle.capnp_format.specs.Word.{capability_word, struct_word};
 ghost use Rattle.capnp_format.specs.Numbers.{words_for};
@@ -32,11 +32,12 @@ mod content;
 pub mod defaults;
 mod finding;
 mod found;
-mod list_builder;
+pub(crate) mod list_builder;
 pub mod places;
 mod primitive_element;
 mod struct_builder;
 
+use crate::fields;
 use capnp_arena_traits::arena::{BuilderArena, ReaderArena};
 use capnp_contents::existing::ExistingBytes;
 use capnp_contents::{bytes, existing, initializing, lent};
@@ -49,12 +50,12 @@ use capnp_words::error::ErrorKind;
 use capnp_words::read_limiter::ReadLimiter;
 use capnp_words::wire_pointer::{ElementSize, StructSize};
 use capnp_words::words;
-pub use list_builder::ListBuilder;
+pub use list_builder::{ListBuilder, element_place};
 pub use primitive_element::PrimitiveElement;
 pub use struct_builder::StructBuilder;
 
 // Elements that aren't structs have no sections.
-const NO_SECTIONS: StructSize = StructSize {
+pub(crate) const NO_SECTIONS: StructSize = StructSize {
     data_words: 0,
     pointers: 0,
 };
@@ -78,8 +79,8 @@ impl<'a, A: BuilderArena> PointerBuilder<'a, A> {
     ghost use Rattle.capnp_builders.specs.contracts.builders.PointerBuilder.{the_row};
     ghost use mir.Syntax.{named};
 
-    /// The root pointer of the message in `arena`: word 0 of segment 0. Precondition: that word is
-    /// allocated.
+    /// Returns a builder of the root pointer of the message in `arena`: word 0 of segment 0.
+    /// Precondition: that word is allocated.
     pub fn get_root(arena: &'a mut A) -> Self
         requires { IsPlace (A.view arena.old).words 0 0 }
         ensures same { result.arena.ghost_name ≡ arena.entry.ghost_name }
@@ -93,7 +94,7 @@ impl<'a, A: BuilderArena> PointerBuilder<'a, A> {
         }
     }
 
-    /// Another builder of this pointer, which borrows this one.
+    /// Returns another builder of the same pointer. The new builder borrows `self`.
     pub fn reborrow(&mut self) -> PointerBuilder<'_, A>
         ensures* lends { sem 𝓛 (follows (the_row (record { mir = named 1; lft = [] }) A.row) A.row
             self.entry.ghost_name result.arena.ghost_name
@@ -116,15 +117,16 @@ impl<'a, A: BuilderArena> PointerBuilder<'a, A> {
         words::word_at(segment_bytes(&*self.arena, self.segment), self.at as usize) == 0
     }
 
-    /// The pointer, for reading. Reading it charges nothing, and may enter `i32::MAX` levels.
+    /// Returns a reader of the pointer. Reading charges nothing, and may enter `i32::MAX` levels of
+    /// structs and lists.
     pub fn as_reader(&self) -> PointerReader<'_, A>
         ensures { IsPointerReader A.ReaderArena self.now result }
     {
         reader_at(&*self.arena, self.segment, self.at)
     }
 
-    /// The pointer, for reading when building is over. Reading it charges nothing, and may enter
-    /// `i32::MAX` levels.
+    /// Turns the builder into a reader of the pointer, for when building is over. Reading charges
+    /// nothing, and may enter `i32::MAX` levels of structs and lists.
     pub fn into_reader(self) -> PointerReader<'a, A>
         ensures { IsPointerReader A.ReaderArena self.entry result }
     {
@@ -132,6 +134,7 @@ impl<'a, A: BuilderArena> PointerBuilder<'a, A> {
         reader_at(arena, segment, at)
     }
 
+    #[tactic(auto, using(capnp_contents::proofs::Growing::pruned_grows))]
     /// Makes the pointer null, and zeroes what it held: its object, all objects below it, and their
     /// landing pads. These words stay allocated.
     pub fn clear(&mut self)
@@ -142,6 +145,7 @@ impl<'a, A: BuilderArena> PointerBuilder<'a, A> {
         ensures only { IsPruned (A.view self.old.arena.now).words
             (A.view self.new.arena.now).words }
         ensures limits { KeepsLimits (A.view self.old.arena.now) (A.view self.new.arena.now) }
+        ensures grows { Grows (A.view self.old.arena.now).words (A.view self.new.arena.now).words }
         ensures stays { StaysThere A.view self.old self.new }
     {
         making::clear(&mut *self.arena, self.segment, self.at);
@@ -156,17 +160,19 @@ impl<'a, A: BuilderArena> PointerBuilder<'a, A> {
         ensures only { IsPrunedBut (A.view self.old.arena.now).words
             (A.view self.new.arena.now).words self.old.segment self.old.at (capability_word index) }
         ensures limits { KeepsLimits (A.view self.old.arena.now) (A.view self.new.arena.now) }
+        ensures grows { Grows (A.view self.old.arena.now).words (A.view self.new.arena.now).words }
         ensures stays { StaysThere A.view self.old self.new }
     {
         initializing::set_capability(&mut *self.arena, self.segment, self.at, index);
     }
 
-    /// Makes the pointer lead to a new struct, all zero, and returns the struct's place.
-    /// `into_struct` makes a builder from the place; `init_struct` does both steps. `self` can be
-    /// used afterwards, and the contract says what its pointer is after success and after a
-    /// refusal.
+    /// Zeroes what the pointer held, makes the pointer lead to a new struct, all zero, and returns
+    /// the struct's place. `into_struct` makes a builder from the place; `init_struct` does both
+    /// steps. `self` can still be used after the call, and the contract states what the message is
+    /// then, also after a refusal.
     ///
-    /// Refusals: `AllocationFailed`, or `MessageTooLarge` with the struct's words plus one. After a
+    /// Refusals, if no segment has room: `AllocationFailed` if memory runs out;
+    /// `MessageTooLarge(usize::MAX)` if the message already has 4,294,967,295 segments. After a
     /// refusal the pointer is null.
     #[inline(always)]
     pub fn put_struct(&mut self, size: StructSize) -> Result<StructPlace, ErrorKind>
@@ -178,22 +184,15 @@ impl<'a, A: BuilderArena> PointerBuilder<'a, A> {
             → OnOk result
             (word_at (A.view self.new.arena.now).words self.new.segment self.new.at
             ≡ struct_word (2 ^ 30 - 1) 0 0) }
+        ensures grows { Grows (A.view self.old.arena.now).words (A.view self.new.arena.now).words }
         ensures builder { KeepsBuilder self.old self.new }
     {
-        // No `?`: it would make callers that pass the place on slower (docs/SPEED.md).
-        match initializing::init_struct(&mut *self.arena, self.segment, self.at, size) {
-            Ok(start) => Ok(StructPlace {
-                segment: start.segment,
-                byte: 8 * u64::from(start.at),
-                bits: 64 * u32::from(size.data_words),
-                pointers_at: start.at + u32::from(size.data_words),
-                pointers: size.pointers,
-            }),
-            Err(k) => Err(k),
-        }
+        fields::new_struct(&mut *self.arena, self.segment, self.at, size)
     }
 
-    /// The builder of the struct at `place` of the message.
+    /// Returns a builder of the struct at `place`, in the message of `self`. Precondition: `place`
+    /// is aligned: its data section starts at a multiple of the size of the widest number that it
+    /// holds.
     pub fn into_struct(self, place: StructPlace) -> StructBuilder<'a, A>
         requires { IsAligned place }
         ensures arena { IsSameArena self.entry.arena result.arena }
@@ -207,14 +206,17 @@ impl<'a, A: BuilderArena> PointerBuilder<'a, A> {
         StructBuilder { arena, place }
     }
 
-    /// Makes the pointer lead to a new struct, all zero.
+    /// Zeroes what the pointer held, and makes the pointer lead to a new struct, all zero.
     ///
-    /// Refusals: `AllocationFailed`, or `MessageTooLarge` with the struct's words plus one. After a
+    /// Refusals, if no segment has room: `AllocationFailed` if memory runs out;
+    /// `MessageTooLarge(usize::MAX)` if the message already has 4,294,967,295 segments. After a
     /// refusal the pointer is null; the contract of `put_struct` states what else holds.
     #[inline(always)]
     pub fn init_struct(mut self, size: StructSize) -> Result<StructBuilder<'a, A>, ErrorKind>
         requires { IsThere (built A.view self) }
         ensures arena { IfOk result (λ b. HandsOn A.view self.entry.arena b.arena) }
+        ensures grows { IfOk result (λ b.
+            Grows (A.view self.entry.arena.now).words (A.view b.arena.now).words) }
         ensures object { ReachesArena GivesStruct
             (λ now r. MakesObject r (calling_last A.view self.entry now)
             (zero_struct size) (size.data_words + size.pointers)) result }
@@ -229,12 +231,16 @@ impl<'a, A: BuilderArena> PointerBuilder<'a, A> {
         Ok(self.into_struct(place))
     }
 
-    /// Makes the pointer lead to a new list of `count` elements that aren't structs, all zero or
-    /// null, and returns the list's place. `into_list` makes a builder from the place; `init_list`
-    /// does both steps. The contract states what success and a refusal leave.
+    /// Zeroes what the pointer held, makes the pointer lead to a new list of `count` elements that
+    /// aren't structs, all zero or null, and returns the list's place. Preconditions: `size` isn't
+    /// `InlineComposite`; `count` is below 2^29. `into_list` makes a builder from the place;
+    /// `init_list` does both steps. The contract states what the message is afterwards, also after
+    /// a refusal.
     ///
-    /// Refusals: `AllocationFailed`, or `MessageTooLarge` with the list's words plus one. After a
-    /// refusal the pointer is null.
+    /// Refusals, if no segment has room: `AllocationFailed` if memory runs out;
+    /// `MessageTooLarge(n)` if n is above 536,870,911, where n is the number of the list's words,
+    /// plus one for a landing pad; `MessageTooLarge(usize::MAX)` if the message already has
+    /// 4,294,967,295 segments. After a refusal the pointer is null.
     #[inline(always)]
     pub fn put_list(&mut self, size: ElementSize, count: u32) -> Result<ListPlace, ErrorKind>
         requires there { IsThere (built A.view self.old) }
@@ -246,19 +252,13 @@ impl<'a, A: BuilderArena> PointerBuilder<'a, A> {
             (λ a. plain_list a size count)) }
         ensures at_end { OnOk result (LeadsToEnd (calling A.view self.old self.new)
             (list_words (size_number size) count)) }
+        ensures grows { Grows (A.view self.old.arena.now).words (A.view self.new.arena.now).words }
         ensures builder { KeepsBuilder self.old self.new }
     {
-        let start = initializing::init_list(&mut *self.arena, self.segment, self.at, size, count)?;
-        Ok(ListPlace {
-            segment: start.segment,
-            byte: 8 * u64::from(start.at),
-            size,
-            struct_size: NO_SECTIONS,
-            count,
-        })
+        fields::new_list(&mut *self.arena, self.segment, self.at, size, count)
     }
 
-    /// The builder of the list at `place` of the message.
+    /// Returns a builder of the list at `place`, in the message of `self`.
     pub fn into_list(self, place: ListPlace) -> ListBuilder<'a, A>
         ensures arena { IsSameArena self.entry.arena result.arena }
         ensures place { result.place ≡ place }
@@ -271,11 +271,15 @@ impl<'a, A: BuilderArena> PointerBuilder<'a, A> {
         ListBuilder { arena, place }
     }
 
-    /// Makes the pointer lead to a new list of `count` elements that aren't structs, all zero or
-    /// null.
+    /// Zeroes what the pointer held, and makes the pointer lead to a new list of `count` elements
+    /// that aren't structs, all zero or null. Preconditions: `size` isn't `InlineComposite`;
+    /// `count` is below 2^29.
     ///
-    /// Refusals: `AllocationFailed`, or `MessageTooLarge` with the list's words plus one. After a
-    /// refusal the pointer is null; the contract of `put_list` states what else holds.
+    /// Refusals, if no segment has room: `AllocationFailed` if memory runs out;
+    /// `MessageTooLarge(n)` if n is above 536,870,911, where n is the number of the list's words,
+    /// plus one for a landing pad; `MessageTooLarge(usize::MAX)` if the message already has
+    /// 4,294,967,295 segments. After a refusal the pointer is null; the contract of `put_list`
+    /// states what else holds.
     #[inline(always)]
     pub fn init_list(
         mut self,
@@ -286,6 +290,8 @@ impl<'a, A: BuilderArena> PointerBuilder<'a, A> {
         requires few { count < 2 ^ 29 }
         requires plain { size_number size ≤ 6 }
         ensures arena { IfOk result (λ b. HandsOn A.view self.entry.arena b.arena) }
+        ensures grows { IfOk result (λ b.
+            Grows (A.view self.entry.arena.now).words (A.view b.arena.now).words) }
         ensures object { ReachesArena GivesList
             (λ now r. MakesObject r (calling_last A.view self.entry now)
             (zero_list (size_number size) count) (list_words (size_number size) count)) result }
@@ -300,12 +306,16 @@ impl<'a, A: BuilderArena> PointerBuilder<'a, A> {
         Ok(self.into_list(place))
     }
 
-    /// Makes the pointer lead to a new list of `count` structs, all zero, and returns the list's
-    /// place. `into_list` makes a builder from the place; `init_struct_list` does both steps. The
-    /// contract states what success and a refusal leave.
+    /// Zeroes what the pointer held, makes the pointer lead to a new list of `count` structs, all
+    /// zero, and returns the list's place. Preconditions: `count` is below 2^30, and the structs
+    /// together have fewer than 2^29 words. `into_list` makes a builder from the place;
+    /// `init_struct_list` does both steps. The contract states what the message is afterwards, also
+    /// after a refusal.
     ///
-    /// Refusals: `AllocationFailed`, or `MessageTooLarge` with the structs' words plus two (the tag
-    /// and a landing pad). After a refusal the pointer is null.
+    /// Refusals, if no segment has room: `AllocationFailed` if memory runs out;
+    /// `MessageTooLarge(n)` if n is above 536,870,911, where n is the number of the structs' words,
+    /// plus two for the tag and a landing pad; `MessageTooLarge(usize::MAX)` if the message already
+    /// has 4,294,967,295 segments. After a refusal the pointer is null.
     pub fn put_struct_list(&mut self, count: u32, size: StructSize) -> Result<ListPlace, ErrorKind>
         requires there { IsThere (built A.view self.old) }
         requires few { count < 2 ^ 30 }
@@ -314,29 +324,21 @@ impl<'a, A: BuilderArena> PointerBuilder<'a, A> {
             (zero_structs count size) (1 + count * (size.data_words + size.pointers)) }
         ensures leads { IfOk result (IsListOf (calling A.view self.old self.new)
             (λ a. struct_list a size.data_words size.pointers count)) }
+        ensures grows { Grows (A.view self.old.arena.now).words (A.view self.new.arena.now).words }
         ensures builder { KeepsBuilder self.old self.new }
     {
-        let start = initializing::init_struct_list(
-            &mut *self.arena,
-            self.segment,
-            self.at,
-            count,
-            size,
-        )?;
-        Ok(ListPlace {
-            segment: start.segment,
-            byte: 8 * (u64::from(start.at) + 1),
-            size: ElementSize::InlineComposite,
-            struct_size: size,
-            count,
-        })
+        fields::new_struct_list(&mut *self.arena, self.segment, self.at, count, size)
     }
 
-    /// Makes the pointer lead to a new list of `count` structs, all zero.
+    /// Zeroes what the pointer held, and makes the pointer lead to a new list of `count` structs,
+    /// all zero. Preconditions: `count` is below 2^30, and the structs together have fewer than
+    /// 2^29 words.
     ///
-    /// Refusals: `AllocationFailed`, or `MessageTooLarge` with the structs' words plus two (the tag
-    /// and a landing pad). After a refusal the pointer is null; the contract of `put_struct_list`
-    /// states what else holds.
+    /// Refusals, if no segment has room: `AllocationFailed` if memory runs out;
+    /// `MessageTooLarge(n)` if n is above 536,870,911, where n is the number of the structs' words,
+    /// plus two for the tag and a landing pad; `MessageTooLarge(usize::MAX)` if the message already
+    /// has 4,294,967,295 segments. After a refusal the pointer is null; the contract of
+    /// `put_struct_list` states what else holds.
     pub fn init_struct_list(
         mut self,
         count: u32,
@@ -346,6 +348,8 @@ impl<'a, A: BuilderArena> PointerBuilder<'a, A> {
         requires few { count < 2 ^ 30 }
         requires words { count * (size.data_words + size.pointers) < 2 ^ 29 }
         ensures arena { IfOk result (λ b. HandsOn A.view self.entry.arena b.arena) }
+        ensures grows { IfOk result (λ b.
+            Grows (A.view self.entry.arena.now).words (A.view b.arena.now).words) }
         ensures object { ReachesArena GivesList
             (λ now r. MakesObject r (calling_last A.view self.entry now)
             (zero_structs count size) (1 + count * (size.data_words + size.pointers))) result }
@@ -357,7 +361,8 @@ impl<'a, A: BuilderArena> PointerBuilder<'a, A> {
         Ok(self.into_list(place))
     }
 
-    /// Lends `bytes` of the message, for writing in place; nothing else changes.
+    /// Lends the bytes of the message that `bytes` names, for writing in place. Precondition: they
+    /// are inside the message. No other bytes change.
     pub fn bytes_mut(&mut self, bytes: ExistingBytes) -> &mut [u8]
         requires there { bytes.segment < length (A.view self.old.arena.now).words }
         requires inside { AreInside (A.view self.old.arena.now).words bytes }
@@ -378,12 +383,13 @@ impl<'a, A: BuilderArena> PointerBuilder<'a, A> {
         lent::bytes_mut(arena, bytes)
     }
 
-    /// Makes the pointer lead to new data of `size` bytes, all zero, and lends these bytes for
-    /// writing in place ("Lists").
+    /// Zeroes what the pointer held, makes the pointer lead to new data of `size` bytes, all zero,
+    /// and lends these bytes for writing in place ("Lists"). Precondition: `size` is below 2^29.
     ///
-    /// Refusals: `AllocationFailed`, or `MessageTooLarge` with the list's words plus one. After a
-    /// refusal the pointer is null. `put_list` followed by `bytes_mut` does the same; their
-    /// contracts also state what the message is once the bytes are written.
+    /// Refusals, if no segment has room: `AllocationFailed` if memory runs out;
+    /// `MessageTooLarge(usize::MAX)` if the message already has 4,294,967,295 segments. After a
+    /// refusal the pointer is null. `put_list` followed by `bytes_mut` does the same. The contracts
+    /// of these two calls also state what the message is once the bytes are written.
     pub fn init_data(self, size: u32) -> Result<&'a mut [u8], ErrorKind>
         requires there { IsThere (built A.view self) }
         requires few { size < 2 ^ 29 }
@@ -397,12 +403,14 @@ impl<'a, A: BuilderArena> PointerBuilder<'a, A> {
         lent::init_data(arena, segment, at, size)
     }
 
-    /// Makes the pointer lead to a new text of `size` bytes, all zero, and lends these bytes, but
-    /// not the zero byte after them, for writing in place ("Lists").
+    /// Zeroes what the pointer held, makes the pointer lead to a new text of `size` bytes, all
+    /// zero, and lends these bytes, but not the zero byte after them, for writing in place
+    /// ("Lists"). Precondition: `size + 1` is below 2^29.
     ///
-    /// Refusals: `AllocationFailed`, or `MessageTooLarge` with the list's words plus one. After a
-    /// refusal the pointer is null. `put_list` followed by `bytes_mut` does the same; their
-    /// contracts also state what the message is once the bytes are written.
+    /// Refusals, if no segment has room: `AllocationFailed` if memory runs out;
+    /// `MessageTooLarge(usize::MAX)` if the message already has 4,294,967,295 segments. After a
+    /// refusal the pointer is null. `put_list` followed by `bytes_mut` does the same. The contracts
+    /// of these two calls also state what the message is once the bytes are written.
     pub fn init_text(self, size: u32) -> Result<&'a mut [u8], ErrorKind>
         requires there { IsThere (built A.view self) }
         requires few { size + 1 < 2 ^ 29 }
@@ -416,10 +424,12 @@ impl<'a, A: BuilderArena> PointerBuilder<'a, A> {
         lent::init_text(arena, segment, at, size)
     }
 
-    /// Makes the pointer lead to new data with the bytes `bytes` ("Lists").
+    /// Zeroes what the pointer held, and makes the pointer lead to new data: a copy of `bytes`
+    /// ("Lists"). Precondition: there are fewer than 2^29 bytes.
     ///
-    /// Refusals: `AllocationFailed`, or `MessageTooLarge` with one more than the number of words
-    /// for `bytes`. After a refusal the pointer is null.
+    /// Refusals, if no segment has room: `AllocationFailed` if memory runs out;
+    /// `MessageTooLarge(usize::MAX)` if the message already has 4,294,967,295 segments. After a
+    /// refusal the pointer is null.
     #[inline(always)]
     pub fn set_data(&mut self, bytes: &[u8]) -> Result<(), ErrorKind>
         requires there { IsThere (built A.view self.old) }
@@ -428,32 +438,37 @@ impl<'a, A: BuilderArena> PointerBuilder<'a, A> {
             (Flat 2 bytes.now) (words_for 2 (length bytes.now)) }
         ensures at_end { OnOk result (LeadsToEnd (calling A.view self.old self.new)
             (words_for 2 (length bytes.now))) }
+        ensures grows { Grows (A.view self.old.arena.now).words (A.view self.new.arena.now).words }
         ensures builder { KeepsBuilder self.old self.new }
     {
         bytes::set_data(&mut *self.arena, self.segment, self.at, bytes)
     }
 
-    /// Makes the pointer lead to a new text: the bytes `bytes`, followed by a zero byte ("Lists").
+    /// Zeroes what the pointer held, and makes the pointer lead to a new text: a copy of `bytes`,
+    /// followed by a zero byte ("Lists"). Precondition: with the zero byte, there are fewer than
+    /// 2^29 bytes.
     ///
-    /// Refusals: `AllocationFailed`, or `MessageTooLarge` with one more than the number of words
-    /// for `bytes` and the zero byte. After a refusal the pointer is null.
+    /// Refusals, if no segment has room: `AllocationFailed` if memory runs out;
+    /// `MessageTooLarge(usize::MAX)` if the message already has 4,294,967,295 segments. After a
+    /// refusal the pointer is null.
     #[inline(always)]
     pub fn set_text(&mut self, bytes: &[u8]) -> Result<(), ErrorKind>
         requires there { IsThere (built A.view self.old) }
         requires few { length bytes.now + 1 < 2 ^ 29 }
         ensures object { MakesObject result (calling A.view self.old self.new)
             (Flat 2 (bytes.now ++ 0 ∷ [])) (words_for 2 (length bytes.now + 1)) }
+        ensures grows { Grows (A.view self.old.arena.now).words (A.view self.new.arena.now).words }
         ensures builder { KeepsBuilder self.old self.new }
     {
         bytes::set_text(&mut *self.arena, self.segment, self.at, bytes)
     }
 
-    /// The index of the capability that the pointer is ("Capabilities (Interfaces)"). Doesn't
-    /// follow far pointers.
+    /// Returns the index in the capability pointer ("Capabilities (Interfaces)"). Doesn't follow
+    /// far pointers.
     ///
     /// Refusals: `MessageContainsNullCapabilityPointer` if the pointer is null;
-    /// `MessageContainsNonCapabilityPointerWhereCapabilityPointerWasExpected` for any other
-    /// pointer.
+    /// `MessageContainsNonCapabilityPointerWhereCapabilityPointerWasExpected` if it is neither null
+    /// nor a capability pointer; a far pointer is refused like this, too.
     pub fn get_capability(&self) -> Result<u32, ErrorKind>
         requires { IsThere (built A.view self.now) }
         ensures { result ≡ capability_of
@@ -469,19 +484,21 @@ impl<'a, A: BuilderArena> PointerBuilder<'a, A> {
     /// pointer's segment, or the message has one segment afterwards, the copy's words follow the
     /// old words of the pointer's segment, in the canonical order of objects. Otherwise the copy is
     /// in as many segments as it needs. A plain copy has all words of the sections and elements; a
-    /// canonical copy has those of the trimmed value.
+    /// canonical copy has only those that canonical form keeps.
     ///
-    /// Refusals: the first one of reading `from`; `CannotCreateACanonicalMessageWithACapability`
-    /// for a capability if `canonicalize`. If the copy doesn't fit the pointer's segment, and an
-    /// object finds no room elsewhere: `AllocationFailed`, or `MessageTooLarge` with that object's
-    /// words plus one.
+    /// Refusals: the first refusal of reading the value of `from`;
+    /// `CannotCreateACanonicalMessageWithACapability` if `canonicalize` and the value has a
+    /// capability. If the copy doesn't fit the pointer's segment, and no other segment has room for
+    /// one of its objects: `AllocationFailed` if memory runs out; `MessageTooLarge(n)` if n is
+    /// above 536,870,911, where n is the number of that object's words, plus one for a landing pad;
+    /// `MessageTooLarge(usize::MAX)` if the message already has 4,294,967,295 segments.
     ///
     /// After a refusal the pointer is null, the words that were allocated are zero and stay
     /// allocated, and what was charged stays charged.
     ///
     /// Allocates at most as many words as reading the value costs, plus one landing pad for each
-    /// object that has no room in its pointer's segment. If the copy is refused, that cost is the
-    /// cost of reading up to the refused object.
+    /// object that has no room in its pointer's segment. If the copy is refused, only the cost of
+    /// reading up to the refused object counts here.
     pub fn copy_from<B: ReaderArena>(
         &mut self,
         from: PointerReader<'_, B>,
@@ -512,6 +529,7 @@ impl<'a, A: BuilderArena> PointerBuilder<'a, A> {
             (change (form_of canonicalize) (calling A.view self.old self.new) lim.old lim.new)) }
         ensures taken { TakesAtMost result (value_original (read_by B.ReaderArena from.entry))
             (change (form_of canonicalize) (calling A.view self.old self.new) lim.old lim.new) }
+        ensures grows { Grows (A.view self.old.arena.now).words (A.view self.new.arena.now).words }
         ensures stays { StaysThere A.view self.old self.new }
     {
         let to = Start {
@@ -529,17 +547,20 @@ impl<'a, A: BuilderArena> PointerBuilder<'a, A> {
     /// Copies the struct `value` to this pointer, in canonical form if `canonicalize`, otherwise
     /// plain ("Structs", "Canonicalization"). Pads the struct's data section with zeros to whole
     /// words. Charges `lim` what reading the values of the struct's pointers costs, and nothing for
-    /// the struct's own words; the nesting limit is that of `value`.
+    /// the struct's own words. These values are read under the nesting limit of `value`.
     ///
     /// First zeroes what the pointer held. If the copy fits the pointer's segment, or the message
     /// has one segment afterwards, the copy's words follow the old words of the pointer's segment,
     /// in the canonical order of objects.
     ///
-    /// Refusals: the first one of reading the values of the struct's pointers;
-    /// `CannotCreateACanonicalMessageWithACapability` for a capability if `canonicalize`. If the
-    /// copy doesn't fit the pointer's segment: `AllocationFailed`, or `MessageTooLarge` with an
-    /// object's words plus one. If there are more than 65535 data words to copy: `MessageTooLarge`
-    /// with their number, and nothing is charged.
+    /// Refusals: the first refusal of reading the values of the struct's pointers;
+    /// `CannotCreateACanonicalMessageWithACapability` if `canonicalize` and the value has a
+    /// capability. If the copy doesn't fit the pointer's segment, and no other segment has room for
+    /// one of its objects: `AllocationFailed` if memory runs out; `MessageTooLarge(n)` if n is
+    /// above 536,870,911, where n is the number of that object's words, plus one for a landing pad;
+    /// `MessageTooLarge(usize::MAX)` if the message already has 4,294,967,295 segments. Also
+    /// `MessageTooLarge(n)` if n data words have to be copied, and n is above 65535; then nothing
+    /// is charged.
     ///
     /// After a refusal the pointer is null, the words that were allocated are zero and stay
     /// allocated, and what was charged stays charged.
@@ -561,6 +582,7 @@ impl<'a, A: BuilderArena> PointerBuilder<'a, A> {
             (change (form_of canonicalize) (calling A.view self.old self.new) lim.old lim.new) }
         ensures wide { (k : ErrorKind) → (struct_read B.ReaderArena value.now).exceeds
             (form_of canonicalize) k → (result ≡ Err k) × (lim.new ≡ lim.old) }
+        ensures grows { Grows (A.view self.old.arena.now).words (A.view self.new.arena.now).words }
         ensures stays { StaysThere A.view self.old self.new }
     {
         let to = Start {
@@ -572,19 +594,23 @@ impl<'a, A: BuilderArena> PointerBuilder<'a, A> {
     }
 
     /// Copies the list `value` to this pointer, in canonical form if `canonicalize`, otherwise
-    /// plain ("Lists", "Canonicalization"). In both forms, zeros follow the last number of a list
-    /// of numbers. Charges `lim` what reading the values of the list's pointers costs, and nothing
-    /// for the list's own words or its number of elements; the nesting limit is that of `value`.
+    /// plain ("Lists", "Canonicalization"). In both forms, the bits after the last number of a list
+    /// of numbers are zero, up to the end of its word. Charges `lim` what reading the values of the
+    /// list's pointers costs, and nothing for the list's own words or its number of elements. These
+    /// values are read under the nesting limit of `value`.
     ///
     /// First zeroes what the pointer held. If the copy fits the pointer's segment, or the message
     /// has one segment afterwards, the copy's words follow the old words of the pointer's segment,
     /// in the canonical order of objects.
     ///
-    /// Refusals: the first one of reading the values of the list's pointers;
-    /// `CannotCreateACanonicalMessageWithACapability` for a capability if `canonicalize`. If the
-    /// copy doesn't fit the pointer's segment: `AllocationFailed`, or `MessageTooLarge` with an
-    /// object's words plus one. Refuses a list of more elements or words than a list pointer can
-    /// state with `MessageTooLarge(usize::MAX)`; no message holds such a list.
+    /// Refusals: the first refusal of reading the values of the list's pointers;
+    /// `CannotCreateACanonicalMessageWithACapability` if `canonicalize` and the value has a
+    /// capability. If the copy doesn't fit the pointer's segment, and no other segment has room for
+    /// one of its objects: `AllocationFailed` if memory runs out; `MessageTooLarge(n)` if n is
+    /// above 536,870,911, where n is the number of that object's words, plus one for a landing pad;
+    /// `MessageTooLarge(usize::MAX)` if the message already has 4,294,967,295 segments. Also
+    /// `MessageTooLarge(usize::MAX)` if `value` has more elements or words than a list pointer can
+    /// state; a list that was read from a message never has.
     ///
     /// After a refusal the pointer is null, the words that were allocated are zero and stay
     /// allocated, and what was charged stays charged.
@@ -606,6 +632,7 @@ impl<'a, A: BuilderArena> PointerBuilder<'a, A> {
             (change (form_of canonicalize) (calling A.view self.old self.new) lim.old lim.new) }
         ensures long { (k : ErrorKind) → (list_read B.ReaderArena value.now).exceeds
             (form_of canonicalize) k → (result ≡ Err k) × (lim.new ≡ lim.old) }
+        ensures grows { Grows (A.view self.old.arena.now).words (A.view self.new.arena.now).words }
         ensures stays { StaysThere A.view self.old self.new }
     {
         let to = Start {
@@ -617,7 +644,7 @@ impl<'a, A: BuilderArena> PointerBuilder<'a, A> {
     }
 }
 
-/// The bytes of segment `id`; none if there is no such segment.
+/// Returns the bytes of segment `id`; no bytes if there is no such segment.
 fn segment_bytes<A: ReaderArena>(arena: &A, id: u32) -> &[u8]
     ensures words { words_of result.now ≡ segment (message (A.segments arena.now)) id }
     ensures whole { length result.now ≡ 8 * length (segment (message (A.segments arena.now)) id) }
@@ -629,7 +656,7 @@ fn segment_bytes<A: ReaderArena>(arena: &A, id: u32) -> &[u8]
     }
 }
 
-/// The pointer at `at` of segment `segment`, for reading.
+/// Returns a reader of the pointer at word `at` of segment `segment`.
 fn reader_at<A: ReaderArena>(arena: &A, segment: u32, at: u32) -> PointerReader<'_, A>
     ensures reads { IsArenaOf result.source arena.now }
     ensures place { (result.place.segment ≡ segment) × (result.place.at ≡ at) }

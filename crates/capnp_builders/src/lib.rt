@@ -1,5 +1,6 @@
-//! Builders: pointers, structs and lists of a message being built.
+//! Builders: pointers, structs and lists of a message being built; and calls at their places.
 #![tactic(auto)]
 
 pub mod builders;
+pub mod fields;
 pub mod laws;

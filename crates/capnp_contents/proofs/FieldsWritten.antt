@@ -19,7 +19,7 @@ use Rattle.capnp_making.specs.Stored.{IsStored, IsReplaced}
 use Rattle.capnp_contents.proofs.FieldDigits.{field_in_words, from_digits-set, from_digits-part}
 use Rattle.capnp_contents.proofs.WithBits.{with_bits-below}
 use Rattle.capnp_making.proofs.MadeWords.{IsPut, word_put}
-use Rattle.capnp_making.proofs.Written.{SameLengths, SameBut, with_data, data_written, flat_written, element_words, element_data_written}
+use Rattle.capnp_making.proofs.Written.{SameLengths, SameBut, with_data, data_written, flat_target, flat_written, element_words, element_data_written}
 use Rattle.capnp_making.proofs.Zeros.{there, segment_here}
 
 -- Writing one word leaves the lengths of all segments.
@@ -171,12 +171,12 @@ flat_below S s p size ns x =
 
 -- Bits are written in the words of a list of numbers or bits, which has the elements ms afterwards.
 flat_bits_written : (S R : Segments) (s p size : ℕ) (ns ms : List ℕ) (b u v : ℕ) → IsStored S s p (Flat size ns) → b < 64 * words_for size (length ns) → length ms ≡ length ns → AreBelow (2 ^ element_bits size) ms →
-    packed size ms ≡ put_field (packed size ns) b u v → R ≡ with_field S (target S s p).segment (64 * (target S s p).start + b) u v → IsReplaced S R s p (Flat size ns) (Flat size ms)
+    packed size ms ≡ put_field (packed size ns) b u v → R ≡ with_field S (target S s p).segment (64 * (target S s p).start + b) u v → IsReplaced S R s p (Flat size ns) (Flat size ms) × (target R s p ≡ target S s p)
 flat_bits_written S R s p size ns ms b u v x inside long below same e =
     let m = x.means in
     flat_bits_written_at m.0 m.1 m.2
   where
-    flat_bits_written_at : (n c : ℕ) → Means S n s p (Flat size ns) c → IsReplaced S R s p (Flat size ns) (Flat size ms)
+    flat_bits_written_at : (n c : ℕ) → Means S n s p (Flat size ns) c → IsReplaced S R s p (Flat size ns) (Flat size ms) × (target R s p ≡ target S s p)
     flat_bits_written_at n c (a, some, few, o, claim, is, g) =
         let k : ℕ = words_for size (length ns) in
         let j : ℕ = b / 64 in
@@ -190,17 +190,26 @@ flat_bits_written S R s p size ns ms b u v x inside long below same e =
         let put = word_put S R a.segment (a.start + j) y place made in
         let there_now : words_at R a.segment a.start k ≡ packed size ms =
         put_words S R a.segment a.start j k y made (there S a.segment (a.start + j) place) within ∙ ap (λ xs. set xs j y) here ∙ sym same in
-        flat_written S R s p size ns ms (put_lengths put) x long below
-        (subst (λ (t : Target). SameBut S R (object_of t k)) (sym to_a) (put_same_but S R (object_of a k) (a.start + j) y (omega arith) (omega (arith, within)) put))
-        (subst (λ (t : Target). words_at R t.segment t.start k ≡ packed size ms) (sym to_a) there_now)
+        let but = subst (λ (t : Target). SameBut S R (object_of t k)) (sym to_a) (put_same_but S R (object_of a k) (a.start + j) y (omega arith) (omega (arith, within)) put) in (
+          flat_written S R s p size ns ms (put_lengths put) x long below but (subst (λ (t : Target). words_at R t.segment t.start k ≡ packed size ms) (sym to_a) there_now),
+          flat_target S R s p size ns (put_lengths put) x but,
+        )
 
--- Element i of a list of numbers or bits is written.
-pub flat_element_written : (S R : Segments) (s p size : ℕ) (ns : List ℕ) (i v : ℕ) → IsStored S s p (Flat size ns) → 0 < size → i < length ns → v < 2 ^ element_bits size →
-    R ≡ with_field S (target S s p).segment (64 * (target S s p).start + i * element_bits size) (element_bits size) v → IsReplaced S R s p (Flat size ns) (Flat size (set ns i v))
-flat_element_written S R s p size ns i v x wide l small e =
+-- Element i of a list of numbers or bits is written. The list stays where it is.
+flat_element_put : (S R : Segments) (s p size : ℕ) (ns : List ℕ) (i v : ℕ) → IsStored S s p (Flat size ns) → 0 < size → i < length ns → v < 2 ^ element_bits size →
+    R ≡ with_field S (target S s p).segment (64 * (target S s p).start + i * element_bits size) (element_bits size) v → IsReplaced S R s p (Flat size ns) (Flat size (set ns i v)) × (target R s p ≡ target S s p)
+flat_element_put S R s p size ns i v x wide l small e =
     let (few, below) = flat_below S s p size ns x in
     let at = stands_in_word size i (length ns) wide few l in
     flat_bits_written S R s p size ns (set ns i v) (i * element_bits size) (element_bits size) v x at.inside (length-set ns i v) (below_set (2 ^ element_bits size) ns i v below small) (packed-set size ns i v below l small at) e
+
+pub flat_element_written : (S R : Segments) (s p size : ℕ) (ns : List ℕ) (i v : ℕ) → IsStored S s p (Flat size ns) → 0 < size → i < length ns → v < 2 ^ element_bits size →
+    R ≡ with_field S (target S s p).segment (64 * (target S s p).start + i * element_bits size) (element_bits size) v → IsReplaced S R s p (Flat size ns) (Flat size (set ns i v))
+flat_element_written S R s p size ns i v x wide l small e = (flat_element_put S R s p size ns i v x wide l small e).0
+
+pub flat_element_stays : (S R : Segments) (s p size : ℕ) (ns : List ℕ) (i v : ℕ) → IsStored S s p (Flat size ns) → 0 < size → i < length ns → v < 2 ^ element_bits size →
+    R ≡ with_field S (target S s p).segment (64 * (target S s p).start + i * element_bits size) (element_bits size) v → target R s p ≡ target S s p
+flat_element_stays S R s p size ns i v x wide l small e = (flat_element_put S R s p size ns i v x wide l small e).1
 
 -- The lowest u bits of element i of a list of numbers or bits are written.
 pub flat_part_written : (S R : Segments) (s p size : ℕ) (ns : List ℕ) (i u v : ℕ) → IsStored S s p (Flat size ns) → 0 < size → i < length ns → u ≤ element_bits size → v < 2 ^ u →
@@ -210,7 +219,7 @@ flat_part_written S R s p size ns i u v x wide l part small e =
     let at = stands_in_word size i (length ns) wide few l in
     let y : ℕ = with_bits (get_or ns i 0) 0 u v in
     let fits : y < 2 ^ element_bits size = with_bits-below (get_or ns i 0) 0 u v (element_bits size) small (omega (arith, part)) (each_below (2 ^ element_bits size) ns i below l) in
-    flat_bits_written S R s p size ns (set ns i y) (i * element_bits size) u v x at.inside (length-set ns i y) (below_set (2 ^ element_bits size) ns i y below fits) (packed-part size ns i u v below l part small at) e
+    (flat_bits_written S R s p size ns (set ns i y) (i * element_bits size) u v x at.inside (length-set ns i y) (below_set (2 ^ element_bits size) ns i y below fits) (packed-part size ns i u v below l part small at) e).0
   where
     each_below : (limit : ℕ) (ns : List ℕ) (i : ℕ) → AreBelow limit ns → i < length ns → get_or ns i 0 < limit
     each_below limit [] i h l = absurd (omega arith)

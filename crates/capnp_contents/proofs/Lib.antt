@@ -4,6 +4,7 @@ pub mod FieldBit
 pub mod FieldDigits
 pub mod FieldRead
 pub mod FieldsWritten
+pub mod Growing
 pub mod InPlaceBytes
 pub mod LastByte
 pub mod LentBytes

@@ -3,7 +3,7 @@
 //! Data is a list of bytes; a text is a list of bytes whose last byte is zero.
 ghost use Rattle.std.specs.Prelude.{◌≡◌, ℕ, ◌<◌, ◌≤◌, ◌+◌, ◌-◌, ◌*◌, ◌^◌, ◌++◌, ◌∷◌, [], length, OnOk};
 ghost use Rattle.capnp_format.specs.Numbers.{words_for};
-ghost use Rattle.capnp_format.specs.Segments.{segment, IsPlace};
+ghost use Rattle.capnp_format.specs.Segments.{segment, Grows, IsPlace};
 ghost use Rattle.capnp_format.specs.Tree.{Flat};
 ghost use Rattle.capnp_arena_traits.specs.View.{KeepsLimits};
 ghost use Rattle.capnp_contents.specs.InPlace.{segments_with};
@@ -19,10 +19,13 @@ use capnp_words::error::ErrorKind;
 use capnp_words::lanes;
 use capnp_words::wire_pointer::ElementSize;
 
-/// Makes the pointer at `at` of segment `id` lead to new data, the bytes of `from` ("Lists").
+/// Makes the pointer at `at` of segment `id` lead to new data, which are the bytes of `from`
+/// ("Lists").
 ///
-/// First zeroes what the pointer held. Refuses with `AllocationFailed` if memory runs out, or with
-/// `MessageTooLarge`. After a refusal the pointer is null.
+/// First zeroes the object that the pointer led to. Refusals: `AllocationFailed` if memory runs
+/// out; `MessageTooLarge` if the object needs a new segment, and the object and a landing pad have
+/// more than 536,870,911 words, or the message can't have more segments. After a refusal the
+/// pointer is null.
 #[inline(always)]
 pub fn set_data<A: BuilderArena>(
     arena: &mut A,
@@ -38,6 +41,7 @@ pub fn set_data<A: BuilderArena>(
         (A.view arena.new).words id at (Flat 2 from.now)) }
     ensures at_end { OnOk result (LeadsToEnd (call_at id at (A.view arena.old) (A.view arena.new))
         (words_for 2 (length from.now))) }
+    ensures grows { Grows (A.view arena.old).words (A.view arena.new).words }
 {
     set_bytes(arena, id, at, from, from.len() as u32)
 }
@@ -45,8 +49,10 @@ pub fn set_data<A: BuilderArena>(
 /// Makes the pointer at `at` of segment `id` lead to a new text: the bytes of `from`, followed by a
 /// zero byte ("Lists").
 ///
-/// First zeroes what the pointer held. Refuses with `AllocationFailed` if memory runs out, or with
-/// `MessageTooLarge`. After a refusal the pointer is null.
+/// First zeroes the object that the pointer led to. Refusals: `AllocationFailed` if memory runs
+/// out; `MessageTooLarge` if the object needs a new segment, and the object and a landing pad have
+/// more than 536,870,911 words, or the message can't have more segments. After a refusal the
+/// pointer is null.
 #[inline(always)]
 pub fn set_text<A: BuilderArena>(
     arena: &mut A,
@@ -60,6 +66,7 @@ pub fn set_text<A: BuilderArena>(
         (Flat 2 (from.now ++ 0 ∷ [])) (words_for 2 (length from.now + 1)) }
     ensures once_zeroed { OnOk result (PutsOnceZeroed (A.view arena.old).words
         (A.view arena.new).words id at (Flat 2 (from.now ++ 0 ∷ []))) }
+    ensures grows { Grows (A.view arena.old).words (A.view arena.new).words }
 {
     set_bytes(arena, id, at, from, from.len() as u32 + 1)
 }
@@ -90,7 +97,7 @@ fn set_bytes<A: BuilderArena>(
 }
 
 /// Writes the bytes of `from` into the message, from the word `start` on. Precondition: the bytes
-/// written over are inside the segment.
+/// that are overwritten are inside the segment.
 fn write_bytes<A: BuilderArena>(arena: &mut A, start: Start, from: &[u8])
     requires there { start.segment < length (A.view arena.old).words }
     requires inside { 8 * start.at + length from.now

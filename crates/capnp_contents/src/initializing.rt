@@ -1,8 +1,8 @@
 //! Makes a pointer lead to a new object (encoding specification, "Structs", "Lists" and
-//! "Capabilities (Interfaces)"). What the pointer held before is zeroed first, with all objects
+//! "Capabilities (Interfaces)"). First zeroes the object that the pointer led to, with all objects
 //! below it and their landing pads; these words stay allocated.
-ghost use Rattle.std.specs.Prelude.{◌≡◌, ℕ, length, ◌<◌, ◌≤◌, ◌+◌, ◌-◌, ◌*◌, ◌^◌, IfOk, OnOk};
-ghost use Rattle.capnp_format.specs.Segments.{segment, word_at, IsPlace};
+ghost use Rattle.std.specs.Prelude.{◌≡◌, ◌<◌, ◌≤◌, ◌+◌, ◌-◌, ◌*◌, ◌^◌, IfOk, OnOk};
+ghost use Rattle.capnp_format.specs.Segments.{word_at, Grows, IsPlace};
 ghost use Rattle.capnp_format.specs.Tree.{Capability};
 ghost use Rattle.capnp_format.specs.Word.{struct_word, capability_word};
 ghost use Rattle.capnp_words.specs.Sizes.{size_number};
@@ -20,12 +20,11 @@ use capnp_making::zeroing::zero_object;
 use capnp_words::error::ErrorKind;
 use capnp_words::wire_pointer::{ElementSize, StructSize, WirePointer};
 
-/// Makes the pointer at `at` of segment `id` the capability with index `index`.
+/// Turns the pointer at `at` of segment `id` into the capability with index `index`.
 pub fn set_capability<A: BuilderArena>(arena: &mut A, id: u32, at: u32, index: u32)
     requires place { IsPlace (A.view arena.old).words id at }
     ensures made { Puts (A.view arena.old).words (A.view arena.new).words id at (Capability index) }
-    ensures lengths { (v : ℕ) → length (segment (A.view arena.new).words v)
-        ≡ length (segment (A.view arena.old).words v) }
+    ensures grows { Grows (A.view arena.old).words (A.view arena.new).words }
     ensures only { IsPrunedBut (A.view arena.old).words (A.view arena.new).words id at
         (capability_word index) }
     ensures limits { KeepsLimits (A.view arena.old) (A.view arena.new) }
@@ -37,8 +36,9 @@ pub fn set_capability<A: BuilderArena>(arena: &mut A, id: u32, at: u32, index: u
 /// Makes the pointer at `at` of segment `id` lead to a new struct, all zero. A struct without
 /// sections takes no words.
 ///
-/// Refuses with `AllocationFailed` if memory runs out, or with `MessageTooLarge`. After a refusal
-/// the pointer is null.
+/// Refusals: `AllocationFailed` if memory runs out; `MessageTooLarge` if the object needs a new
+/// segment, and the object and a landing pad have more than 536,870,911 words, or the message can't
+/// have more segments. After a refusal the pointer is null.
 #[inline(always)]
 pub fn init_struct<A: BuilderArena>(
     arena: &mut A,
@@ -51,6 +51,7 @@ pub fn init_struct<A: BuilderArena>(
         (zero_struct size) (size.data_words + size.pointers) }
     ensures empty { size.data_words + size.pointers ≡ 0
         → OnOk result (word_at (A.view arena.new).words id at ≡ struct_word (2 ^ 30 - 1) 0 0) }
+    ensures grows { Grows (A.view arena.old).words (A.view arena.new).words }
 {
     zero_object(arena, id, at);
     make_struct(arena, id, at, size)
@@ -59,8 +60,9 @@ pub fn init_struct<A: BuilderArena>(
 /// Makes the pointer at `at` of segment `id` lead to a new list of `count` elements that aren't
 /// structs, all zero or null.
 ///
-/// Refuses with `AllocationFailed` if memory runs out, or with `MessageTooLarge`. After a refusal
-/// the pointer is null.
+/// Refusals: `AllocationFailed` if memory runs out; `MessageTooLarge` if the object needs a new
+/// segment, and the object and a landing pad have more than 536,870,911 words, or the message can't
+/// have more segments. After a refusal the pointer is null.
 #[inline(always)]
 pub fn init_list<A: BuilderArena>(
     arena: &mut A,
@@ -76,6 +78,7 @@ pub fn init_list<A: BuilderArena>(
         (zero_list (size_number size) count) (list_words (size_number size) count) }
     ensures at_end { HasOwnRoom (A.view arena.old) id (list_words (size_number size) count)
         → IfOk result (StartsBehind (A.view arena.old).words id) }
+    ensures grows { Grows (A.view arena.old).words (A.view arena.new).words }
 {
     zero_object(arena, id, at);
     make_list(arena, id, at, size, count)
@@ -84,8 +87,9 @@ pub fn init_list<A: BuilderArena>(
 /// Makes the pointer at `at` of segment `id` lead to a new list of `count` structs, all zero. The
 /// first word of the list is the tag.
 ///
-/// Refuses with `AllocationFailed` if memory runs out, or with `MessageTooLarge`. After a refusal
-/// the pointer is null.
+/// Refusals: `AllocationFailed` if memory runs out; `MessageTooLarge` if the object needs a new
+/// segment, and the object and a landing pad have more than 536,870,911 words, or the message can't
+/// have more segments. After a refusal the pointer is null.
 pub fn init_struct_list<A: BuilderArena>(
     arena: &mut A,
     id: u32,
@@ -96,8 +100,9 @@ pub fn init_struct_list<A: BuilderArena>(
     requires place { IsPlace (A.view arena.old).words id at }
     requires few { count < 2 ^ 30 }
     requires words { count * (size.data_words + size.pointers) < 2 ^ 29 }
-    ensures { GivesObject result (call_at id at (A.view arena.old) (A.view arena.new))
+    ensures gives { GivesObject result (call_at id at (A.view arena.old) (A.view arena.new))
         (zero_structs count size) (1 + count * (size.data_words + size.pointers)) }
+    ensures grows { Grows (A.view arena.old).words (A.view arena.new).words }
 {
     zero_object(arena, id, at);
     make_struct_list(arena, id, at, count, size)

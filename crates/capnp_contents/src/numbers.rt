@@ -2,13 +2,14 @@
 //! numbers (encoding specification, "Structs" and "Lists").
 ghost use Rattle.std.specs.Prelude.{◌≡◌, ◌<◌, ◌≤◌, ◌+◌, ◌*◌, ◌%◌, ◌^◌, ◌↔◌, IsTrue, cond, length};
 ghost use Rattle.capnp_format.specs.Bytes.{words_of};
-ghost use Rattle.capnp_format.specs.Segments.{segment};
+ghost use Rattle.capnp_format.specs.Segments.{Grows, segment};
 ghost use Rattle.capnp_making.specs.Fields.{with_field, field_in};
 
 use capnp_arena_traits::arena::BuilderArena;
 use capnp_words::primitive::Primitive;
 
-/// Writes `value` into segment `id` at byte `byte`, a multiple of the number's width.
+/// Writes `value` into segment `id` at byte `byte`. Preconditions: `byte` is a multiple of the
+/// number's width, and the number is inside the segment.
 pub fn set_number<A: BuilderArena, T: Primitive>(arena: &mut A, id: u32, byte: u64, value: T)
     requires inside { byte + T.BYTES ≤ 8 * length (segment (A.view arena.old).words id) }
     requires aligned { byte % T.BYTES ≡ 0 }
@@ -18,18 +19,21 @@ pub fn set_number<A: BuilderArena, T: Primitive>(arena: &mut A, id: u32, byte: u
               (T.bits_of value);
         } }
     ensures fits { T.bits_of value < 2 ^ (8 * T.BYTES) }
+    ensures grows { Grows (A.view arena.old).words (A.view arena.new).words }
 {
     let start = byte as usize;
     let bytes = arena.segment_mut(id);
     value.store(&mut bytes[start..start + T::BYTES]);
 }
 
-/// Writes bit `bit` of segment `id`, counted from the lowest bit of its first byte on.
+/// Writes bit `bit` of segment `id`, which is counted from the lowest bit of the segment's first
+/// byte on. Precondition: the bit is inside the segment.
 pub fn set_bit<A: BuilderArena>(arena: &mut A, id: u32, bit: u64, value: bool)
     requires inside { bit < 64 * length (segment (A.view arena.old).words id) }
-    ensures { A.view arena.new
+    ensures written { A.view arena.new
         ≡ record (A.view arena.old)
         { words = with_field (A.view arena.old).words id bit 1 (cond value 1 0) } }
+    ensures grows { Grows (A.view arena.old).words (A.view arena.new).words }
 {
     let bytes = arena.segment_mut(id);
     let byte = &mut bytes[(bit / 8) as usize];
@@ -41,7 +45,8 @@ pub fn set_bit<A: BuilderArena>(arena: &mut A, id: u32, bit: u64, value: bool)
     }
 }
 
-/// The number in segment `id` at byte `byte`, a multiple of the number's width.
+/// Returns the number in segment `id` at byte `byte`. Preconditions: `byte` is a multiple of the
+/// number's width, and the number is inside the segment.
 pub fn get_number<A: BuilderArena, T: Primitive>(arena: &A, id: u32, byte: u64) -> T
     requires inside { byte + T.BYTES ≤ 8 * length (segment (A.view arena.now).words id) }
     requires aligned { byte % T.BYTES ≡ 0 }
@@ -54,7 +59,8 @@ pub fn get_number<A: BuilderArena, T: Primitive>(arena: &A, id: u32, byte: u64) 
     number_in(bytes, byte)
 }
 
-/// The number in `bytes` at byte `byte`, a multiple of the number's width.
+/// Returns the number in `bytes` at byte `byte`. Preconditions: `byte` is a multiple of the
+/// number's width, and the number is inside the whole words of `bytes`.
 fn number_in<T: Primitive>(bytes: &[u8], byte: u64) -> T
     requires small { length bytes.now < 8 * 2 ^ 32 }
     requires inside { byte + T.BYTES ≤ 8 * length (words_of bytes.now) }
@@ -65,7 +71,8 @@ fn number_in<T: Primitive>(bytes: &[u8], byte: u64) -> T
     T::load(&bytes[start..start + T::BYTES])
 }
 
-/// Bit `bit` of segment `id`, counted from the lowest bit of its first byte on.
+/// Returns bit `bit` of segment `id`, which is counted from the lowest bit of the segment's first
+/// byte on. Precondition: the bit is inside the segment.
 pub fn get_bit<A: BuilderArena>(arena: &A, id: u32, bit: u64) -> bool
     requires inside { bit < 64 * length (segment (A.view arena.now).words id) }
     ensures { IsTrue result ↔ (field_in (segment (A.view arena.now).words id) bit 1 ≡ 1) }
@@ -76,7 +83,8 @@ pub fn get_bit<A: BuilderArena>(arena: &A, id: u32, bit: u64) -> bool
     bit_in(bytes, bit)
 }
 
-/// Bit `bit` of `bytes`, counted from the lowest bit of the first byte on.
+/// Returns bit `bit` of `bytes`, which is counted from the lowest bit of the first byte on.
+/// Precondition: the bit is inside the whole words of `bytes`.
 fn bit_in(bytes: &[u8], bit: u64) -> bool
     requires inside { bit < 64 * length (words_of bytes.now) }
     ensures { IsTrue result ↔ (field_in (words_of bytes.now) bit 1 ≡ 1) }

@@ -29,7 +29,7 @@ use Rattle.capnp_objects.specs.Spending.{after}
 use Rattle.capnp_objects.specs.Wanted.{plain}
 use Rattle.capnp_objects.specs.declared.object.Purpose.TheVariants.{Value}
 use Rattle.capnp_objects.proofs.Copies.{read_none, read_stop}
-use Rattle.capnp_objects.proofs.Expecting.{not_withheld}
+use Rattle.capnp_objects.proofs.ExpectedComputed.{not_withheld}
 use Rattle.capnp_objects.proofs.Faultless.{same_target}
 use Rattle.capnp_objects.proofs.Refusals.{unreadable}
 use Rattle.capnp_readers.specs.Calls.{WhereRead, IsStructRead}

@@ -7,7 +7,7 @@ pub mod laws;
 pub mod tool;
 
 pub use capnp_arena::arena;
-pub use capnp_builders::builders;
+pub use capnp_builders::{builders, fields};
 pub use capnp_edits::edit;
 pub use capnp_framing::devices;
 pub use capnp_readers::{object, readers, source};

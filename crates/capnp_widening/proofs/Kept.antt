@@ -1,24 +1,16 @@
 -- What a call keeps, and what one call after another keeps.
-use Rattle.std.proofs.Common.{◌≡◌, inl, ℕ, ◌+◌, ◌*◌, ◌<◌, ◌≤◌, refl, sym, ap, subst, ◌∙◌, le_trans, arith}
+use Rattle.std.proofs.Common.{◌≡◌, inl, ℕ, ◌+◌, ◌*◌, ◌<◌, ◌≤◌, refl, sym, ap, subst, ◌∙◌, arith}
 use Rattle.capnp_arena_traits.specs.View.{View, KeepsLimits}
-use Rattle.capnp_format.specs.Segments.{Segments, Grows}
+use Rattle.capnp_format.specs.Segments.{Segments}
 use Rattle.capnp_making.specs.Zeroed.{IsPruned}
 use Rattle.capnp_making.proofs.BelowElements.{element_within}
+pub use Rattle.capnp_contents.proofs.Growing.{grows_itself, grows_again}
 
 pub limits_again : (a b c : View) → KeepsLimits a b → KeepsLimits b c → KeepsLimits a c
 limits_again a b c first second = second ∙ ap (λ (v : View). record v { words = c.words }) first
 
 pub nothing_pruned : (S : Segments) → IsPruned S S
 nothing_pruned S = record { segments = refl; words = λ v. refl; only = λ v r. inl refl }
-
-pub grows_itself : (S : Segments) → Grows S S
-grows_itself S = record { segments = omega arith; words = λ x. omega arith }
-
-pub grows_again : (S M R : Segments) → Grows S M → Grows M R → Grows S R
-grows_again S M R first second = record {
-  segments = le_trans first.segments second.segments;
-  words = λ x. le_trans (first.words x) (second.words x);
-}
 
 -- Words allocated in two steps are at most as many as both steps allow.
 pub few_again : (s m r n k : ℕ) → m ≤ s + n → r ≤ m + k → r ≤ s + (n + k)

@@ -4,7 +4,7 @@
 ghost use Rattle.std.specs.Prelude.{◌-◌, ◌≡◌, ◌+◌, ◌*◌, ◌^◌, ◌<◌, ◌≤◌, true, IsNone, IsOk, IfOk, IfErr, OnOk, OnErr};
 ghost use Rattle.capnp_contents.specs.Existing.{BytesLieIn, data_in, is_unfound, text_in};
 ghost use Rattle.capnp_format.specs.Forest.{target};
-ghost use Rattle.capnp_format.specs.Segments.{word_at};
+ghost use Rattle.capnp_format.specs.Segments.{word_at, Grows};
 ghost use Rattle.capnp_format.specs.Word.{struct_word};
 ghost use Rattle.capnp_contents.specs.InPlace.{LendsBytes};
 ghost use Rattle.capnp_making.specs.Makes.{ReachesArena};
@@ -37,16 +37,20 @@ impl<'a, A: BuilderArena> PointerBuilder<'a, A> {
     ghost use Rattle.capnp_builders.specs.Building.{FindsStored, GivesList, GivesStruct, HandsOn, IsNull, IsThere, KeepsBuilder, LooksUp, OfStored, StaysThere, built, calling};
 
     /// If the pointer is null, makes it lead to a plain copy of the value of `default` ("Default
-    /// Values"). The first word of `default` is its pointer. A pointer that isn't null stays as it
-    /// is. A null pointer stays null if `default` is `None` or starts with a null word.
+    /// Values"). `default` is one segment, and its first word is the pointer to the value. A
+    /// pointer that isn't null stays as it is. A null pointer stays null if `default` is `None` or
+    /// starts with a null word.
     ///
-    /// Charges nothing, and may enter `i32::MAX` levels. Refusals:
-    /// `MessageContainsOutOfBoundsPointer` if `default` is under 8 bytes, or one of its pointers
-    /// leads out of it; `UnknownPointerType` for a capability in `default`;
-    /// `TriedToReadFromNullArena` for a far pointer in `default`; those of reading for any other
-    /// fault. If the message has no room: `AllocationFailed`, or `MessageTooLarge` with an object's
-    /// words plus one. After a refusal the pointer is null, and the words that were allocated are
-    /// zero.
+    /// Reading `default` charges nothing, and may enter `i32::MAX` levels of structs and lists.
+    /// Refuses only if the pointer is null. Refusals: `MessageContainsOutOfBoundsPointer` if
+    /// `default` has fewer than 8 bytes, or one of its pointers leads out of it;
+    /// `UnknownPointerType` for a capability in `default`; `TriedToReadFromNullArena` for a far
+    /// pointer in `default`; for any other fault of `default`, the refusal of reading it. If no
+    /// segment has room for an object of the copy: `AllocationFailed` if memory runs out;
+    /// `MessageTooLarge(n)` if n is above 536,870,911, where n is the number of that object's
+    /// words, plus one for a landing pad; `MessageTooLarge(usize::MAX)` if the message already has
+    /// 4,294,967,295 segments. After a refusal the pointer is null, and the words that were
+    /// allocated are zero.
     pub fn put_default(&mut self, default: Option<&[u8]>) -> Result<(), ErrorKind>
         requires { TakesDefault (built A.view self.old) default }
         ensures put { PutsDefaultBy (object_default default.entry)
@@ -55,13 +59,14 @@ impl<'a, A: BuilderArena> PointerBuilder<'a, A> {
             × (A.view self.new.arena.now ≡ A.view self.old.arena.now) }
         ensures fits { DefaultFits default.entry (A.view self.old.arena.now) self.old.segment
             → IsOk result }
+        ensures grows { Grows (A.view self.old.arena.now).words (A.view self.new.arena.now).words }
         ensures stays { StaysThere A.view self.old self.new }
     {
         put_default(&mut *self.arena, self.segment, self.at, default)
     }
 
     /// Does what `get_struct` does, but returns the struct's place. `into_struct` makes the builder
-    /// from the place. The contract also states what a refusal leaves.
+    /// from the place. The contract also states what the message is after a refusal.
     #[inline(always)]
     pub fn find_struct(
         &mut self,
@@ -92,6 +97,8 @@ impl<'a, A: BuilderArena> PointerBuilder<'a, A> {
         ensures set { (IsNull (built A.view self.old) → ⊥)
             → IfErr result (IsNoWider size (calling A.view self.old self.new)) }
         ensures there { OfStored (built A.view self.old) (λ t. IsThere (built A.view self.new)) }
+        ensures grows { OfStored (built A.view self.old) (λ t.
+            Grows (A.view self.old.arena.now).words (A.view self.new.arena.now).words) }
         ensures builder { KeepsBuilder self.old self.new }
     {
         put_default(&mut *self.arena, self.segment, self.at, default)?;
@@ -102,16 +109,17 @@ impl<'a, A: BuilderArena> PointerBuilder<'a, A> {
     /// Returns the struct that the pointer leads to, for writing, with sections at least as large
     /// as in `size` ("Structs"). A struct that is large enough is unchanged. If a section is too
     /// small, moves the struct to new words, in which each section has the larger of its old size
-    /// and its size in `size`. The data stays the same, followed by zeros; so do the children,
-    /// followed by null pointers. If the pointer is null, first copies the value of `default` to
-    /// it, like `PointerBuilder::put_default`; if the pointer stays null, makes a struct of exactly
-    /// `size`, all zero.
+    /// and its size in `size`. The new struct has the old data, followed by zeros, and the old
+    /// children, followed by null pointers. If the pointer is null, first copies the value of
+    /// `default` to it, like `PointerBuilder::put_default`; if the pointer is still null then,
+    /// makes a struct of exactly `size`, all zero.
     ///
     /// Refusals: `MessageContainsNonStructPointerWhereStructPointerWasExpected` if the pointer
-    /// leads to something other than a struct; those of `put_default`. If the message has no room:
-    /// `AllocationFailed`, or `MessageTooLarge` with the words of a struct or of landing pads; the
-    /// old struct then stays. A default value that replaced null stays even if the call is refused
-    /// afterwards.
+    /// leads to something other than a struct; those of `put_default`. If no segment has room for
+    /// the new struct, or for a landing pad: `AllocationFailed` if memory runs out;
+    /// `MessageTooLarge(usize::MAX)` if the message already has 4,294,967,295 segments; the old
+    /// struct, or null, then stays. A default value that replaced null stays even if the call is
+    /// refused afterwards.
     #[inline(always)]
     pub fn get_struct(
         mut self,
@@ -120,6 +128,8 @@ impl<'a, A: BuilderArena> PointerBuilder<'a, A> {
     ) -> Result<StructBuilder<'a, A>, ErrorKind>
         requires { TakesDefault (built A.view self) default }
         ensures arena { IfOk result (λ b. HandsOn A.view self.entry.arena b.arena) }
+        ensures grows { OfStored (built A.view self.entry) (λ t. IfOk result (λ b.
+            Grows (A.view self.entry.arena.now).words (A.view b.arena.now).words)) }
         ensures found { ReachesArena GivesStruct
             (FindsStored A.view (FindsStruct size default.entry) self.entry) result }
         ensures fits { StructFindFits size default.entry
@@ -145,7 +155,7 @@ impl<'a, A: BuilderArena> PointerBuilder<'a, A> {
     }
 
     /// Does what `get_struct_list` does, but returns the list's place. `into_list` makes the
-    /// builder from the place. The contract also states what a refusal leaves.
+    /// builder from the place. The contract also states what the message is after a refusal.
     pub fn find_struct_list(
         &mut self,
         size: StructSize,
@@ -162,6 +172,8 @@ impl<'a, A: BuilderArena> PointerBuilder<'a, A> {
             (IsStored (A.view self.old.arena.now).words self.old.segment self.old.at)
             size (A.view self.old.arena.now) (A.view self.new.arena.now)) }
         ensures there { OfStored (built A.view self.old) (λ t. IsThere (built A.view self.new)) }
+        ensures grows { OfStored (built A.view self.old) (λ t.
+            Grows (A.view self.old.arena.now).words (A.view self.new.arena.now).words) }
         ensures builder { KeepsBuilder self.old self.new }
     {
         put_default(&mut *self.arena, self.segment, self.at, default)?;
@@ -172,19 +184,21 @@ impl<'a, A: BuilderArena> PointerBuilder<'a, A> {
     /// Returns the list that the pointer leads to, for writing, as a list of structs with sections
     /// at least as large as in `size` ("Lists").
     ///
-    /// A list of structs that are large enough is unchanged. Any other list is moved to new words
-    /// as a list of structs. Each section has the larger of its old size and its size in `size`; a
-    /// number becomes the lowest bits of a struct's first data word, and a pointer becomes a
-    /// struct's first pointer. If the pointer is null, first copies the value of `default` to it,
-    /// like `PointerBuilder::put_default`; if the pointer stays null, returns a list of void
-    /// without elements, and changes nothing.
+    /// If the elements are structs that are large enough, the list is unchanged. Any other list,
+    /// except a list of bits, is moved to new words as a list of structs. Each section has the
+    /// larger of its old size and its size in `size`; a number becomes the lowest bits of a
+    /// struct's first data word, and a pointer becomes a struct's first pointer. If the pointer is
+    /// null, first copies the value of `default` to it, like `PointerBuilder::put_default`; if the
+    /// pointer is still null then, returns a list of void without elements, and changes nothing.
     ///
     /// Refusals: `ExistingPointerIsNotAList` if the pointer leads to something other than a list;
-    /// `FoundBitListWhereStructListWasExpected` for a list of bits; `MessageTooLarge` with the
-    /// number of words of the new elements if that is 2^29 or more; those of `put_default`. If the
-    /// message has no room: `AllocationFailed`, or `MessageTooLarge` with the words of a list or of
-    /// landing pads; the old list then stays. A default value that replaced null stays even if the
-    /// call is refused afterwards.
+    /// `FoundBitListWhereStructListWasExpected` for a list of bits; `MessageTooLarge(n)` if the new
+    /// elements would have n words, and n is 2^29 or more; those of `put_default`. If no segment
+    /// has room for the new list, or for a landing pad: `AllocationFailed` if memory runs out;
+    /// `MessageTooLarge(n)` if n is above 536,870,911, where n is the number of the new elements'
+    /// words, plus two for the tag and a landing pad; `MessageTooLarge(usize::MAX)` if the message
+    /// already has 4,294,967,295 segments; the old list then stays. A default value that replaced
+    /// null stays even if the call is refused afterwards.
     pub fn get_struct_list(
         mut self,
         size: StructSize,
@@ -192,6 +206,8 @@ impl<'a, A: BuilderArena> PointerBuilder<'a, A> {
     ) -> Result<ListBuilder<'a, A>, ErrorKind>
         requires { TakesDefault (built A.view self) default }
         ensures arena { IfOk result (λ b. HandsOn A.view self.entry.arena b.arena) }
+        ensures grows { OfStored (built A.view self.entry) (λ t. IfOk result (λ b.
+            Grows (A.view self.entry.arena.now).words (A.view b.arena.now).words)) }
         ensures found { ReachesArena GivesList
             (FindsStored A.view (FindsStructs size default.entry) self.entry) result }
         ensures fits { StructsFindFits size default.entry
@@ -202,7 +218,7 @@ impl<'a, A: BuilderArena> PointerBuilder<'a, A> {
     }
 
     /// Does what `get_list` does, but returns the list's place. `into_list` makes the builder from
-    /// the place. The contract also states what a refusal leaves.
+    /// the place. The contract also states what the message is after a refusal.
     pub fn find_list(
         &mut self,
         size: ElementSize,
@@ -214,23 +230,24 @@ impl<'a, A: BuilderArena> PointerBuilder<'a, A> {
             self.old self.new.arena.now result }
         ensures inside { OfStored (built A.view self.old)
             (λ t. IfOk result (IsListPlace (A.view self.new.arena.now).words)) }
+        ensures grows { Grows (A.view self.old.arena.now).words (A.view self.new.arena.now).words }
         ensures stays { StaysThere A.view self.old self.new }
     {
         put_default(&mut *self.arena, self.segment, self.at, default)?;
         look_for_list(&*self.arena, self.segment, self.at, size)
     }
 
-    /// Returns the list that the pointer leads to, for writing. Its elements have to be of `size`
-    /// or wider; the list is never changed. If the pointer is null, first copies the value of
-    /// `default` to it, like `PointerBuilder::put_default`; if the pointer stays null, returns a
-    /// list of void without elements.
+    /// Returns the list that the pointer leads to, for writing. Never changes the list, and refuses
+    /// one whose elements are narrower than `size`. If the pointer is null, first copies the value
+    /// of `default` to it, like `PointerBuilder::put_default`; if the pointer is still null then,
+    /// returns a list of void without elements. Precondition: `size` isn't `InlineComposite`.
     ///
     /// Refusals: `ExistingPointerIsNotAList` if the pointer leads to something other than a list;
     /// `FoundStructListWhereBitListWasExpected` for a list of structs if `size` is `Bit`; those of
-    /// `put_default`. Refuses elements with fewer bits of data or fewer pointers than `size` has
-    /// with `ExistingListValueIsIncompatibleWithExpectedType`. This includes structs without data
-    /// words if `size` is that of numbers, and structs without pointers if `size` is that of
-    /// pointers. A default value that replaced null stays even if the call is refused afterwards.
+    /// `put_default`; otherwise `ExistingListValueIsIncompatibleWithExpectedType` if the elements
+    /// have fewer bits of data or fewer pointers than `size`. This includes structs without data
+    /// words if `size` is that of numbers, and structs without pointers if `size` is `Pointer`. A
+    /// default value that replaced null stays even if the call is refused afterwards.
     pub fn get_list(
         mut self,
         size: ElementSize,
@@ -239,6 +256,8 @@ impl<'a, A: BuilderArena> PointerBuilder<'a, A> {
         requires takes { TakesDefault (built A.view self) default }
         requires plain { size_number size ≤ 6 }
         ensures arena { IfOk result (λ b. HandsOn A.view self.entry.arena b.arena) }
+        ensures grows { IfOk result (λ b.
+            Grows (A.view self.entry.arena.now).words (A.view b.arena.now).words) }
         ensures found { ReachesArena GivesList
             (LooksUp A.view (FindsList size default.entry) self.entry) result }
         ensures inside { OfStored (built A.view self.entry)
@@ -249,12 +268,13 @@ impl<'a, A: BuilderArena> PointerBuilder<'a, A> {
     }
 
     /// Does what `get_data` does, but returns where the data is instead of lending its bytes.
-    /// `bytes_mut` then lends them. The contract also states what a refusal leaves.
+    /// `bytes_mut` then lends them. The contract also states what the message is after a refusal.
     pub fn find_data(&mut self, default: Option<&[u8]>) -> Result<ExistingBytes, ErrorKind>
         requires { TakesDefault (built A.view self.old) default }
         ensures found { LooksUp A.view (FindsBytes data_in default.entry)
             self.old self.new.arena.now result }
         ensures inside { IfOk result (BytesLieIn (A.view self.new.arena.now).words) }
+        ensures grows { Grows (A.view self.old.arena.now).words (A.view self.new.arena.now).words }
         ensures stays { StaysThere A.view self.old self.new }
     {
         put_blob_default(&mut *self.arena, self.segment, self.at, default)?;
@@ -270,8 +290,8 @@ impl<'a, A: BuilderArena> PointerBuilder<'a, A> {
     /// or if both the pointer and the first word of `default` are null;
     /// `ExistingListPointerIsNotByteSized` if the elements aren't bytes; those of `put_default`. A
     /// default value that replaced null stays even if the call is refused afterwards. `find_data`
-    /// followed by `bytes_mut` does the same; their contracts also state what the message is once
-    /// the bytes are written.
+    /// followed by `bytes_mut` does the same. The contracts of these two calls also state what the
+    /// message is once the bytes are written.
     pub fn get_data(mut self, default: Option<&[u8]>) -> Result<&'a mut [u8], ErrorKind>
         requires { TakesDefault (built A.view self) default }
         ensures found { ReachesArena (LendsBytes A.segments)
@@ -282,12 +302,13 @@ impl<'a, A: BuilderArena> PointerBuilder<'a, A> {
     }
 
     /// Does what `get_text` does, but returns where the text is instead of lending its bytes.
-    /// `bytes_mut` then lends them. The contract also states what a refusal leaves.
+    /// `bytes_mut` then lends them. The contract also states what the message is after a refusal.
     pub fn find_text(&mut self, default: Option<&[u8]>) -> Result<ExistingBytes, ErrorKind>
         requires { TakesDefault (built A.view self.old) default }
         ensures found { LooksUp A.view (FindsBytes text_in default.entry)
             self.old self.new.arena.now result }
         ensures inside { IfOk result (BytesLieIn (A.view self.new.arena.now).words) }
+        ensures grows { Grows (A.view self.old.arena.now).words (A.view self.new.arena.now).words }
         ensures stays { StaysThere A.view self.old self.new }
     {
         put_blob_default(&mut *self.arena, self.segment, self.at, default)?;
@@ -300,8 +321,8 @@ impl<'a, A: BuilderArena> PointerBuilder<'a, A> {
     /// `PointerBuilder::put_default`, or lends no bytes if there is no default.
     ///
     /// Refusals: those of `get_data`; `TextBlobMissingNULTerminator` if the bytes don't end in a
-    /// zero byte. `find_text` followed by `bytes_mut` does the same; their contracts also state
-    /// what the message is once the bytes are written.
+    /// zero byte. `find_text` followed by `bytes_mut` does the same. The contracts of these two
+    /// calls also state what the message is once the bytes are written.
     pub fn get_text(mut self, default: Option<&[u8]>) -> Result<&'a mut [u8], ErrorKind>
         requires { TakesDefault (built A.view self) default }
         ensures found { ReachesArena (LendsBytes A.segments)
@@ -311,7 +332,8 @@ impl<'a, A: BuilderArena> PointerBuilder<'a, A> {
         Ok(self.into_bytes(bytes))
     }
 
-    /// Lends `bytes` of the message for writing in place, for as long as the arena is borrowed.
+    /// Lends the bytes of the message that `bytes` names, for writing in place, for as long as the
+    /// arena is borrowed.
     #[inline(always)]
     fn into_bytes(self, bytes: ExistingBytes) -> &'a mut [u8]
         requires { BytesLieIn (A.view self.arena.now).words bytes }

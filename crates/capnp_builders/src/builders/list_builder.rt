@@ -3,8 +3,8 @@ ghost use Rattle.std.specs.Prelude.{◌≡◌, ◌≢◌, ◌↔◌, ◌+◌, �
 ghost use Rattle.capnp_format.specs.Numbers.{element_bits};
 ghost use Rattle.capnp_words.specs.Sizes.{size_number};
 ghost use Rattle.capnp_readers.specs.Readers.{IsStructPlace, IsListPlace};
-ghost use Rattle.capnp_format.specs.Segments.{IsPlace};
-ghost use Rattle.capnp_readers.specs.Sections.{HoldsPointer, pointers_behind, elements_words, step_bits};
+ghost use Rattle.capnp_format.specs.Segments.{Grows, IsPlace, Segments};
+ghost use Rattle.capnp_readers.specs.Sections.{HoldsPointer, data_bits, pointers_behind, elements_words, step_bits};
 ghost use Rattle.capnp_builders.specs.Places.{HasField, IsAligned, WritesField, element_place};
 ghost use Rattle.capnp_builders.specs.Elements.{lowest_bits};
 ghost use Rattle.capnp_builders.specs.Reads.{IsListReader};
@@ -19,16 +19,18 @@ use capnp_words::wire_pointer::{ElementSize, data_bits_per_element, pointers_per
 /// A list of a message being built.
 #[derive(Drop)]
 pub struct ListBuilder<'a, A> {
-    /// Where the list is. Its elements are inside the message.
+    /// Where the list is. Calls require that its elements are inside the message.
     pub place: ListPlace,
     /// The message.
     pub arena: &'a mut A,
 }
 
-#[tactic(auto, using(capnp_readers::proofs::Sections::elements))]
-/// The place of element `index` of `list`, as a struct: a struct has its own sections, a pointer is
-/// a struct's only pointer, and a number is a struct's data section.
-fn element_place(list: ListPlace, index: u32) -> StructPlace
+#[tactic(auto, using(capnp_readers::proofs::Sections::elements, crate::proofs::ElementPlaces::element_inside))]
+/// Returns the place of element `index` of `list` as a struct: a struct has its own sections, a
+/// pointer becomes a struct's only pointer, and a number a struct's data section. Preconditions: the
+/// elements aren't bits; `index` is below the number of elements; the list is inside a segment, and
+/// starts at a word.
+pub fn element_place(list: ListPlace, index: u32) -> StructPlace
     requires range { index < list.count }
     requires whole { size_number list.size ≢ 1 }
     requires inside { list.byte / 8 + elements_words list.size list.count
@@ -36,6 +38,7 @@ fn element_place(list: ListPlace, index: u32) -> StructPlace
     requires aligned { list.byte % 8 ≡ 0 }
     ensures place { result ≡ element_place list.size list index }
     ensures aligned { IsAligned result }
+    ensures inside { (S : Segments) → IsListPlace S list → IsStructPlace S result }
 {
     let start = (list.byte / 8) as u32;
     match list.size {
@@ -69,8 +72,8 @@ fn element_place(list: ListPlace, index: u32) -> StructPlace
     }
 }
 
-/// The position, in words, of element `index` if it is a pointer, or of its first pointer if it is
-/// a struct.
+/// Returns the position, in words, of element `index` of `list` if it is a pointer, or of its first
+/// pointer if it is a struct.
 #[tactic(auto, using(capnp_readers::proofs::Sections::elements))]
 fn element_pointer(list: ListPlace, index: u32) -> u32
     requires range { index < list.count }
@@ -98,13 +101,47 @@ fn step_bits(list: ListPlace) -> u32
     data_bits_per_element(list.size) + 64 * words
 }
 
+// Writes a number over the lowest bytes of an element's data.
+pub(crate) fn write_number<A: BuilderArena, T: Primitive>(
+    arena: &mut A,
+    list: ListPlace,
+    index: u32,
+    value: T,
+)
+    requires inside { IsListPlace (A.view arena.old).words list }
+    requires range { index < list.count }
+    requires wide { 8 * T.BYTES ≤ data_bits list.size list.struct_size }
+    ensures written { WritesField (A.view arena.old) (A.view arena.new) list.segment list.byte
+        (lowest_bits list index (8 * T.BYTES) (T.bits_of value)) }
+    ensures fits { T.bits_of value < 2 ^ (8 * T.BYTES) }
+    ensures grows { Grows (A.view arena.old).words (A.view arena.new).words }
+{
+    let step = u64::from(step_bits(list) / 8);
+    let byte = list.byte + u64::from(index) * step;
+    numbers::set_number(arena, list.segment, byte, value);
+}
+
+// Writes the lowest bit of an element's data.
+pub(crate) fn write_bit<A: BuilderArena>(arena: &mut A, list: ListPlace, index: u32, value: bool)
+    requires inside { IsListPlace (A.view arena.old).words list }
+    requires range { index < list.count }
+    requires wide { 1 ≤ data_bits list.size list.struct_size }
+    ensures written { WritesField (A.view arena.old) (A.view arena.new) list.segment list.byte
+        (lowest_bits list index 1 (cond value 1 0)) }
+    ensures grows { Grows (A.view arena.old).words (A.view arena.new).words }
+{
+    let step = u64::from(step_bits(list));
+    let bit = 8 * list.byte + u64::from(index) * step;
+    numbers::set_bit(arena, list.segment, bit, value);
+}
+
 impl<'a, A: BuilderArena> ListBuilder<'a, A> {
     ghost use Rattle.std.specs.Borrow.{sem, follows};
     ghost use Rattle.capnp_builders.specs.Building.{HoldsElement, IsSameArena, KeepsListBuilder};
     ghost use Rattle.capnp_builders.specs.contracts.builders.list_builder.ListBuilder.{the_row};
     ghost use mir.Syntax.{named};
 
-    /// Another builder of this list, which borrows this one.
+    /// Returns another builder of the same list. The new builder borrows `self`.
     pub fn reborrow(&mut self) -> ListBuilder<'_, A>
         ensures* lends { sem 𝓛 (follows (the_row (record { mir = named 1; lft = [] }) A.row) A.row
             self.entry.ghost_name result.arena.ghost_name
@@ -138,7 +175,8 @@ impl<'a, A: BuilderArena> ListBuilder<'a, A> {
         self.place.size
     }
 
-    /// The list, for reading. Reading it charges nothing, and may enter `i32::MAX` levels.
+    /// Returns a reader of the list. Reading charges nothing, and may enter `i32::MAX` levels of
+    /// structs and lists.
     pub fn as_reader(&self) -> ListReader<'_, A>
         requires { IsListPlace (A.view self.now.arena.now).words self.now.place }
         ensures { IsListReader A.ReaderArena self.now result }
@@ -146,8 +184,8 @@ impl<'a, A: BuilderArena> ListBuilder<'a, A> {
         ListReader::at(&*self.arena, self.place, i32::MAX)
     }
 
-    /// The list, for reading once building is over. Reading it charges nothing, and may enter
-    /// `i32::MAX` levels.
+    /// Turns the builder into a reader of the list, for when building is over. Reading charges
+    /// nothing, and may enter `i32::MAX` levels of structs and lists.
     pub fn into_reader(self) -> ListReader<'a, A>
         requires { IsListPlace (A.view self.arena.now).words self.place }
         ensures { IsListReader A.ReaderArena self.entry result }
@@ -156,10 +194,9 @@ impl<'a, A: BuilderArena> ListBuilder<'a, A> {
         ListReader::at(arena, place, i32::MAX)
     }
 
-    #[tactic(auto, using(crate::proofs::ElementPlaces::element_inside))]
-    /// Element `index` as a struct: a number becomes a struct whose data section is that number, a
-    /// pointer a struct with one pointer. Preconditions: the elements aren't bits; `index` is below
-    /// the number of elements.
+    /// Returns a builder of element `index` as a struct: a number becomes a struct whose data
+    /// section is that number, a pointer a struct with one pointer. Preconditions: the elements
+    /// aren't bits; `index` is below the number of elements.
     pub fn get_struct_element(self, index: u32) -> StructBuilder<'a, A>
         requires inside { IsListPlace (A.view self.arena.now).words self.place }
         requires range { index < self.place.count }
@@ -176,8 +213,9 @@ impl<'a, A: BuilderArena> ListBuilder<'a, A> {
     }
 
     #[tactic(auto, using(crate::proofs::ElementPlaces::pointer_inside))]
-    /// Pointer `index`: the element itself, or a struct element's first pointer. Preconditions: the
-    /// elements hold a pointer; `index` is below the number of elements.
+    /// Returns a builder of the pointer in element `index`: the element itself, or a struct
+    /// element's first pointer. Preconditions: the elements are pointers, or structs with pointers;
+    /// `index` is below the number of elements.
     pub fn get_pointer_element(self, index: u32) -> PointerBuilder<'a, A>
         requires inside { IsListPlace (A.view self.arena.now).words self.place }
         requires range { index < self.place.count }
@@ -224,11 +262,10 @@ impl<'a, A: BuilderArena> ListBuilder<'a, A> {
         ensures written { WritesField (A.view self.old.arena.now)
             (A.view self.new.arena.now) self.old.place.segment self.old.place.byte
             (lowest_bits self.old.place index (8 * T.BYTES) (T.bits_of value)) }
+        ensures grows { Grows (A.view self.old.arena.now).words (A.view self.new.arena.now).words }
         ensures builder { KeepsListBuilder A.view self.old self.new }
     {
-        let step = u64::from(step_bits(self.place) / 8);
-        let byte = self.place.byte + u64::from(index) * step;
-        numbers::set_number(&mut *self.arena, self.place.segment, byte, value);
+        write_number(&mut *self.arena, self.place, index, value);
     }
 
     // Writes the lowest bit of an element's data.
@@ -237,10 +274,9 @@ impl<'a, A: BuilderArena> ListBuilder<'a, A> {
         ensures written { WritesField (A.view self.old.arena.now)
             (A.view self.new.arena.now) self.old.place.segment self.old.place.byte
             (lowest_bits self.old.place index 1 (cond value 1 0)) }
+        ensures grows { Grows (A.view self.old.arena.now).words (A.view self.new.arena.now).words }
         ensures builder { KeepsListBuilder A.view self.old self.new }
     {
-        let step = u64::from(step_bits(self.place));
-        let bit = 8 * self.place.byte + u64::from(index) * step;
-        numbers::set_bit(&mut *self.arena, self.place.segment, bit, value);
+        write_bit(&mut *self.arena, self.place, index, value);
     }
 }

@@ -2,6 +2,7 @@
 //! written in a list being built (encoding specification, "Lists").
 ghost use Rattle.std.specs.Prelude.{◌≡◌, ◌<◌, ◌≤◌, ℕ, List, cond};
 ghost use Rattle.capnp_format.specs.Numbers.{element_bits};
+ghost use Rattle.capnp_format.specs.Segments.{Grows};
 ghost use Rattle.capnp_words.specs.Sizes.{size_number};
 ghost use Rattle.capnp_words.specs.declared.wire_pointer.ElementSize.{ElementSize};
 ghost use Rattle.capnp_words.specs.declared.wire_pointer.ElementSize.TheVariants.{Void, Bit, Byte, TwoBytes, FourBytes, EightBytes};
@@ -18,7 +19,7 @@ use capnp_readers::readers::ListReader;
 use capnp_words::primitive::Primitive;
 use capnp_words::wire_pointer::ElementSize;
 
-/// A type as which elements of a list can be read and written: a number, a bit, or nothing.
+/// A type for reading and writing the elements of a list: a number, a bit, or nothing.
 pub trait PrimitiveElement {
     // The element size of a list of such elements.
     ghost size: { ElementSize };
@@ -51,10 +52,10 @@ pub trait PrimitiveElement {
         ensures { HasField (A.view list.now.arena.now) list.now.place.segment list.now.place.byte
             (lowest_bits list.now.place index (element_bits (size_number size)) (bits_of result)) };
 
-    /// Writes element `index` of `list`: replaces the lowest bits of its data by those of `value`.
-    /// The data of a struct is its data section. Preconditions, except for `()`, which writes
-    /// nothing: `index` is below the number of elements, and each element has at least as many bits
-    /// of data as the value.
+    /// Writes element `index` of `list`: replaces the lowest bits of the element's data by the bits
+    /// of `value`. The data of a struct is its data section. Preconditions, except for `()`, which
+    /// writes nothing: `index` is below the number of elements, and each element has at least as
+    /// many bits of data as the value.
     fn set<A: BuilderArena>(list: &mut ListBuilder<'_, A>, index: u32, value: Self)
         requires inside { IsListPlace (A.view list.old.arena.now).words list.old.place }
         requires range { 0 < element_bits (size_number size) → index < list.old.place.count }
@@ -66,6 +67,7 @@ pub trait PrimitiveElement {
             (lowest_bits list.old.place index (element_bits (size_number size)) (bits_of value)) }
         ensures nothing { element_bits (size_number size) ≡ 0
             → list.new.arena.now ≡ list.old.arena.now }
+        ensures grows { Grows (A.view list.old.arena.now).words (A.view list.new.arena.now).words }
         ensures builder { KeepsListBuilder A.view list.old list.new };
 
     /// The element size of a list of this type: the one with the type's number of bytes, `Bit` for

@@ -1,6 +1,6 @@
 //! Structs of a message being built (encoding specification, "Structs").
 ghost use Rattle.std.specs.Prelude.{◌≡◌, ◌≢◌, ◌↔◌, ◌+◌, ◌*◌, ◌<◌, [], IsTrue, IsOk, IfOk, IfErr, cond, true, false, min};
-ghost use Rattle.capnp_format.specs.Segments.{segment, word_at, IsPlace};
+ghost use Rattle.capnp_format.specs.Segments.{segment, word_at, Grows, IsPlace};
 ghost use Rattle.capnp_making.specs.Fields.{field_in};
 ghost use Rattle.capnp_readers.specs.Readers.{IsStructPlace};
 ghost use Rattle.capnp_builders.specs.Places.{HasField, IsAligned, WritesField, number_field, field};
@@ -12,6 +12,7 @@ ghost use Rattle.capnp_readers.specs.Sizes.{pointers_read};
 
 use super::content::{clear_pointers, write_content};
 use crate::builders::PointerBuilder;
+use crate::fields;
 use capnp_arena_traits::arena::{BuilderArena, ReaderArena};
 use capnp_contents::numbers;
 use capnp_making::making::Start;
@@ -27,7 +28,7 @@ use capnp_words::zero::Zero;
 /// A struct of a message being built.
 #[derive(Drop)]
 pub struct StructBuilder<'a, A> {
-    /// Where the struct is. Both sections are inside the message.
+    /// Where the struct is. Calls require that both sections are inside the message.
     pub place: StructPlace,
     /// The message.
     pub arena: &'a mut A,
@@ -41,7 +42,7 @@ impl<'a, A: BuilderArena> StructBuilder<'a, A> {
     ghost use Rattle.capnp_builders.specs.contracts.builders.struct_builder.StructBuilder.{the_row};
     ghost use mir.Syntax.{named};
 
-    /// Another builder of this struct, which borrows this one.
+    /// Returns another builder of the same struct. The new builder borrows `self`.
     pub fn reborrow(&mut self) -> StructBuilder<'_, A>
         ensures* lends { sem 𝓛 (follows (the_row (record { mir = named 1; lft = [] }) A.row) A.row
             self.entry.ghost_name result.arena.ghost_name
@@ -54,7 +55,8 @@ impl<'a, A: BuilderArena> StructBuilder<'a, A> {
         StructBuilder { arena, place }
     }
 
-    /// The struct, for reading. Reading it charges nothing, and may enter `i32::MAX` levels.
+    /// Returns a reader of the struct. Reading charges nothing, and may enter `i32::MAX` levels of
+    /// structs and lists.
     pub fn as_reader(&self) -> StructReader<'_, A>
         requires { IsStructPlace (A.view self.now.arena.now).words self.now.place }
         ensures { IsStructReader A.ReaderArena self.now result }
@@ -62,8 +64,8 @@ impl<'a, A: BuilderArena> StructBuilder<'a, A> {
         StructReader::at(&*self.arena, self.place, i32::MAX)
     }
 
-    /// The struct, for reading once building is over. Reading it charges nothing, and may enter
-    /// `i32::MAX` levels.
+    /// Turns the builder into a reader of the struct, for when building is over. Reading charges
+    /// nothing, and may enter `i32::MAX` levels of structs and lists.
     pub fn into_reader(self) -> StructReader<'a, A>
         requires { IsStructPlace (A.view self.arena.now).words self.place }
         ensures { IsStructReader A.ReaderArena self.entry result }
@@ -72,8 +74,8 @@ impl<'a, A: BuilderArena> StructBuilder<'a, A> {
         StructReader::at(arena, place, i32::MAX)
     }
 
-    /// Pointer `index` of the pointer section. Precondition: `index` is below the number of
-    /// pointers.
+    /// Returns a builder of pointer `index` of the pointer section. Precondition: `index` is below
+    /// the number of pointers.
     pub fn get_pointer_field(self, index: usize) -> PointerBuilder<'a, A>
         requires inside { IsStructPlace (A.view self.arena.now).words self.place }
         requires field { index < self.place.pointers }
@@ -90,18 +92,20 @@ impl<'a, A: BuilderArena> StructBuilder<'a, A> {
         }
     }
 
-    /// Replaces the struct's content by a plain copy of the content of `value`. Copies as much data
-    /// as both structs have, and zeroes the rest of the data section of `self`. Then makes all
-    /// pointers of `self` null, zeroes what they held, and copies as many pointers as both structs
-    /// have, in order. Charges `lim` what reading the values of the copied pointers costs, and
-    /// nothing else; the nesting limit is that of `value`.
+    /// Replaces the struct's content by a plain copy of the content of `value`. Copies the data
+    /// that fits both data sections, and zeroes the rest of the data section of `self`. Then makes
+    /// all pointers of `self` null, zeroes what they held, and copies, in order, the pointers that
+    /// both structs have. Charges `lim` what reading the values of the copied pointers costs, and
+    /// nothing else. These values are read under the nesting limit of `value`.
     ///
-    /// Refusals: the first one of reading the values of the copied pointers. If the copies don't
-    /// fit after the words of the struct's segment: `AllocationFailed`, or `MessageTooLarge` with
-    /// an object's words plus one. After a refusal, the data and the pointers before the refused
-    /// pointer are copied; the refused pointer and those after it are null. The words that were
-    /// allocated for the refused pointer are zero and stay allocated, and what was charged stays
-    /// charged.
+    /// Refusals: the first refusal of reading the values of the copied pointers. If the copies
+    /// don't fit after the words of the struct's segment, and no other segment has room for one of
+    /// their objects: `AllocationFailed` if memory runs out; `MessageTooLarge(n)` if n is above
+    /// 536,870,911, where n is the number of that object's words, plus one for a landing pad;
+    /// `MessageTooLarge(usize::MAX)` if the message already has 4,294,967,295 segments. After a
+    /// refusal, the data and the pointers before the refused pointer are copied; the refused
+    /// pointer and those after it are null. The words that were allocated for the refused pointer
+    /// are zero and stay allocated, and what was charged stays charged.
     pub fn copy_content_from<B: ReaderArena>(
         &mut self,
         value: &StructReader<'_, B>,
@@ -123,6 +127,7 @@ impl<'a, A: BuilderArena> StructBuilder<'a, A> {
             (min self.old.place.pointers value.now.pointer_count))
             (pointers_copied self.old.place (A.view self.old.arena.now)
             (A.view self.new.arena.now) lim.old lim.new) }
+        ensures grows { Grows (A.view self.old.arena.now).words (A.view self.new.arena.now).words }
         ensures builder { KeepsStructBuilder A.view self.old self.new }
     {
         let place = self.place;
@@ -153,7 +158,6 @@ impl<'a, A: BuilderArena> StructBuilder<'a, A> {
         self.as_reader().is_pointer_field_null(index)
     }
 
-    #[tactic(auto, using(crate::proofs::FieldPlaces::still_inside))]
     /// Writes the field of the data section at `offset`, counted in values of `T`. Precondition:
     /// the field is inside the section.
     pub fn set_data_field<T: Primitive + Zero>(&mut self, offset: usize, value: T)
@@ -161,10 +165,10 @@ impl<'a, A: BuilderArena> StructBuilder<'a, A> {
         ensures written { WritesField (A.view self.old.arena.now)
             (A.view self.new.arena.now) self.old.place.segment self.old.place.byte
             (number_field T.BYTES offset (T.bits_of value)) }
+        ensures grows { Grows (A.view self.old.arena.now).words (A.view self.new.arena.now).words }
         ensures builder { KeepsStructBuilder A.view self.old self.new }
     {
-        let byte = self.place.byte + (offset * T::BYTES) as u64;
-        numbers::set_number(&mut *self.arena, self.place.segment, byte, value);
+        fields::write_number(&mut *self.arena, self.place, offset, value);
     }
 
     /// Like `set_data_field`, for a field with the default `mask`: `get_data_field_mask` with the
@@ -179,22 +183,22 @@ impl<'a, A: BuilderArena> StructBuilder<'a, A> {
         ensures written { WritesField (A.view self.old.arena.now)
             (A.view self.new.arena.now) self.old.place.segment self.old.place.byte
             (number_field T.BYTES offset (T.bits_of (T.masked value mask))) }
+        ensures grows { Grows (A.view self.old.arena.now).words (A.view self.new.arena.now).words }
         ensures builder { KeepsStructBuilder A.view self.old self.new }
     {
         self.set_data_field(offset, T::mask(value, mask));
     }
 
-    #[tactic(auto, using(crate::proofs::FieldPlaces::still_inside))]
     /// Writes bit `offset` of the data section. Precondition: the bit is inside the section.
     pub fn set_bool_field(&mut self, offset: usize, value: bool)
         requires { HoldsBit A.view self.old offset }
         ensures written { WritesField (A.view self.old.arena.now)
             (A.view self.new.arena.now) self.old.place.segment self.old.place.byte
             (field offset 1 (cond value 1 0)) }
+        ensures grows { Grows (A.view self.old.arena.now).words (A.view self.new.arena.now).words }
         ensures builder { KeepsStructBuilder A.view self.old self.new }
     {
-        let bit = 8 * self.place.byte + offset as u64;
-        numbers::set_bit(&mut *self.arena, self.place.segment, bit, value);
+        fields::write_bit(&mut *self.arena, self.place, offset, value);
     }
 
     /// Like `set_bool_field`, for a bit with the default `mask`: `get_bool_field_mask` with the
@@ -204,13 +208,14 @@ impl<'a, A: BuilderArena> StructBuilder<'a, A> {
         ensures written { WritesField (A.view self.old.arena.now)
             (A.view self.new.arena.now) self.old.place.segment self.old.place.byte
             (field offset 1 (cond mask (cond value 0 1) (cond value 1 0))) }
+        ensures grows { Grows (A.view self.old.arena.now).words (A.view self.new.arena.now).words }
         ensures builder { KeepsStructBuilder A.view self.old self.new }
     {
         self.set_bool_field(offset, value != mask);
     }
 
-    /// The field of the data section at `offset`, counted in values of `T`. Precondition: the field
-    /// is inside the section.
+    /// Returns the field of the data section at `offset`, counted in values of `T`. Precondition:
+    /// the field is inside the section.
     pub fn get_data_field<T: Primitive + Zero>(&self, offset: usize) -> T
         requires { HoldsField A.view self.now (8 * T.BYTES) offset }
         ensures { HasField (A.view self.now.arena.now) self.now.place.segment self.now.place.byte
@@ -220,8 +225,8 @@ impl<'a, A: BuilderArena> StructBuilder<'a, A> {
         numbers::get_number(&*self.arena, self.place.segment, byte)
     }
 
-    /// The field that `get_data_field` returns, with its default `mask` applied. Precondition: the
-    /// field is inside the section.
+    /// Returns what `get_data_field` returns, with the field's default `mask` applied.
+    /// Precondition: the field is inside the section.
     pub fn get_data_field_mask<T: Primitive + Zero + Mask>(
         &self,
         offset: usize,
@@ -236,7 +241,7 @@ impl<'a, A: BuilderArena> StructBuilder<'a, A> {
         T::mask(self.get_data_field(offset), mask)
     }
 
-    /// Bit `offset` of the data section. Precondition: the bit is inside the section.
+    /// Returns bit `offset` of the data section. Precondition: the bit is inside the section.
     pub fn get_bool_field(&self, offset: usize) -> bool
         requires { HoldsBit A.view self.now offset }
         ensures { IsTrue result
@@ -247,8 +252,8 @@ impl<'a, A: BuilderArena> StructBuilder<'a, A> {
         numbers::get_bit(&*self.arena, self.place.segment, bit)
     }
 
-    /// The bit that `get_bool_field` returns, with its default `mask` applied. Precondition: the
-    /// bit is inside the section.
+    /// Returns what `get_bool_field` returns, with the bit's default `mask` applied. Precondition:
+    /// the bit is inside the section.
     pub fn get_bool_field_mask(&self, offset: usize, mask: bool) -> bool
         requires { HoldsBit A.view self.now offset }
         ensures plain { mask ≡ false

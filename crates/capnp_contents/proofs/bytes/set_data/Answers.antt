@@ -7,6 +7,7 @@ use Rattle.capnp_format.specs.Tree.{Flat}
 use Rattle.capnp_making.specs.Made.{words_of_zero}
 use Rattle.capnp_making.specs.Makes.{MakesObject, call_at}
 use Rattle.capnp_making.specs.Stored.{PutsOnceZeroed}
+use Rattle.capnp_contents.proofs.Growing.{object_grows}
 use Rattle.capnp_contents.proofs.bytes.set_data.Goals as goal
 
 -- No zero bytes follow.
@@ -26,3 +27,6 @@ returns-clause-once_zeroed g c =
     let S : Segments = (g.A.BuilderArena.view c.args.arena.now).words in
     let R : Segments = (g.A.BuilderArena.view c.set_bytes.new.arena).words in
     subst (λ ys. OnOk c.set_bytes.result (PutsOnceZeroed S R c.args.id c.args.at (Flat 2 ys))) (all_bytes c.args.from.now) c.set_bytes.ensures.once_zeroed
+
+pub returns-clause-grows : goal.returns-clause-grows
+returns-clause-grows g c = object_grows c.set_bytes.result c.set_bytes.ensures.object

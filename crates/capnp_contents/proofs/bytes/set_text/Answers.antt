@@ -6,6 +6,7 @@ use Rattle.capnp_format.specs.Tree.{Flat}
 use Rattle.capnp_making.specs.Made.{words_of_zero}
 use Rattle.capnp_making.specs.Makes.{MakesObject, call_at}
 use Rattle.capnp_making.specs.Stored.{PutsOnceZeroed}
+use Rattle.capnp_contents.proofs.Growing.{object_grows}
 use Rattle.capnp_contents.proofs.bytes.set_text.Goals as goal
 
 -- One byte more: a zero byte after the others.
@@ -24,3 +25,6 @@ returns-clause-once_zeroed g c =
     let n : ℕ = length c.args.from.now in
     let one : n + 1 - n ≡ 1 = omega arith in
     subst (λ k. OnOk c.set_bytes.result (PutsOnceZeroed S R c.args.id c.args.at (Flat 2 (c.args.from.now ++ words_of_zero k)))) one c.set_bytes.ensures.once_zeroed
+
+pub returns-clause-grows : goal.returns-clause-grows
+returns-clause-grows g c = object_grows c.set_bytes.result c.set_bytes.ensures.object

@@ -1,9 +1,9 @@
-use Rattle.capnp_format.specs.Segments.{Segments}
 use Rattle.capnp_words.specs.Sizes.{size_number}
 use Rattle.capnp_arena_traits.specs.View.{View}
 use Rattle.capnp_making.specs.Made.{zero_list, list_words}
+use Rattle.capnp_contents.proofs.Growing.{object_grows}
 use Rattle.capnp_contents.proofs.ObjectsMade.{gives_after_zeros}
-use Rattle.capnp_making.proofs.Outcomes.{if_ok_so, on_made_so}
+use Rattle.capnp_making.proofs.Outcomes.{if_ok_so}
 use Rattle.capnp_making.proofs.Taken.{ends_after, starts_after}
 use Rattle.capnp_contents.proofs.initializing.init_list.Goals as goal
 
@@ -22,3 +22,6 @@ returns-clause-at_end g c = λ fits.
     let mid : View = g.A.BuilderArena.view c.zero_object.new.arena in
     let pruned = c.zero_object.ensures.zeroes.pruned in
     if_ok_so c.make_list.result _ _ (c.make_list.ensures.at_end (ends_after old mid c.args.id _ c.zero_object.ensures.zeroes.limits pruned fits)) (λ h. starts_after old.words mid.words c.args.id h pruned))
+
+pub returns-clause-grows : goal.returns-clause-grows
+returns-clause-grows g c = object_grows c.make_list.result (returns-clause-gives g c).object

@@ -3,6 +3,7 @@ use Rattle.capnp_format.specs.Segments.{Segments}
 use Rattle.capnp_arena_traits.specs.View.{View}
 use Rattle.capnp_making.specs.Made.{zero_struct}
 use Rattle.capnp_making.proofs.MadeWords.{word_put}
+use Rattle.capnp_contents.proofs.Growing.{object_grows}
 use Rattle.capnp_contents.proofs.ObjectsMade.{gives_after_zeros}
 use Rattle.capnp_making.proofs.Outcomes.{on_made_so}
 use Rattle.capnp_contents.proofs.initializing.init_struct.Goals as goal
@@ -22,3 +23,6 @@ returns-clause-empty g c = λ none.
     let R : Segments = (g.A.BuilderArena.view c.make_struct.new.arena).words in
     let place = rw (sym (c.zero_object.ensures.zeroes.pruned.words c.args.id)) at c.requires.place in
     on_made_so c.make_struct.result _ _ (c.make_struct.ensures.empty none) (λ set. (word_put M R c.args.id c.args.at _ place set).here))
+
+pub returns-clause-grows : goal.returns-clause-grows
+returns-clause-grows g c = object_grows c.make_struct.result (returns-clause-gives g c).object

@@ -7,6 +7,7 @@ use Rattle.capnp_making.proofs.Memory.{words_in}
 use Rattle.capnp_making.proofs.Replaced.{replaced_again}
 use Rattle.capnp_making.proofs.Placed.{zeroed_replaced}
 use Rattle.capnp_making.proofs.PlacedStructs.{capability_made}
+use Rattle.capnp_contents.proofs.Growing.{pruned_but_grows}
 use Rattle.capnp_contents.proofs.initializing.set_capability.Goals as goal
 
 -- The old object is zeroed, and then the pointer is set.
@@ -28,3 +29,6 @@ returns-clause-only g c =
     let place = rw (sym (c.zero_object.ensures.zeroes.pruned.words c.args.id)) at c.requires.place in
     let set = ap words_in c.set_word.ensures ∙ ap (with_word M c.args.id c.args.at) c.new_capability.ensures.word in
     pruned_but S M R c.args.id c.args.at _ c.zero_object.ensures.zeroes.pruned (word_put M R c.args.id c.args.at _ place set)
+
+pub returns-clause-grows : goal.returns-clause-grows
+returns-clause-grows g c = pruned_but_grows (returns-clause-only g c)

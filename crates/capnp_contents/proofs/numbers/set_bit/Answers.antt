@@ -6,13 +6,14 @@ use Rattle.capnp_making.specs.Fields.{with_field}
 use Rattle.capnp_contents.proofs.FieldBit.{bit_written}
 use Rattle.capnp_making.proofs.FieldBytes.{words_lent}
 use Rattle.capnp_contents.proofs.WithBits.{bit_set, bit_cleared}
+use Rattle.capnp_contents.proofs.Growing.{field_grows}
 use Rattle.capnp_contents.proofs.numbers.set_bit.Goals as goal
 
 pub bounds-bytes-bit : goal.bounds-bytes-bit
 bounds-bytes-bit g c = omega (arith, words_lent (g.A.BuilderArena.view c.args.arena.now).words (g.A.ReaderArena.segments c.args.arena.now) c.args.id c.segment_mut-bytes.result.now (g.met.A.BuilderArena.read c.args.arena.now) c.segment_mut-bytes.ensures.bytes, c.requires.inside)
 
-pub returns-then-value : goal.returns-then-value
-returns-then-value g c =
+pub returns-then-value-clause-written : goal.returns-then-value-clause-written
+returns-then-value-clause-written g c =
     let a = c.args.arena.now in
     let id = c.args.id in
     let bit = c.args.bit in
@@ -30,8 +31,8 @@ returns-then-value g c =
     ∙ ap (λ (b : Bool). with_field (g.A.BuilderArena.view a).words id bit 1 (cond b 1 0)) (sym c.if-value.true)
     )
 
-pub returns-else-value : goal.returns-else-value
-returns-else-value g c =
+pub returns-else-value-clause-written : goal.returns-else-value-clause-written
+returns-else-value-clause-written g c =
     let a = c.args.arena.now in
     let id = c.args.id in
     let bit = c.args.bit in
@@ -48,3 +49,9 @@ returns-else-value g c =
     ∙ ap (λ (M : Segments). with_field M id bit 1 0) (sym (g.met.A.BuilderArena.read a))
     ∙ ap (λ (b : Bool). with_field (g.A.BuilderArena.view a).words id bit 1 (cond b 1 0)) (sym c.if-value.false)
     )
+
+pub returns-then-value-clause-grows : goal.returns-then-value-clause-grows
+returns-then-value-clause-grows g c = field_grows (g.A.BuilderArena.view c.args.arena.now) _ c.args.id c.args.bit 1 (cond c.args.value 1 0) (returns-then-value-clause-written g c)
+
+pub returns-else-value-clause-grows : goal.returns-else-value-clause-grows
+returns-else-value-clause-grows g c = field_grows (g.A.BuilderArena.view c.args.arena.now) _ c.args.id c.args.bit 1 (cond c.args.value 1 0) (returns-else-value-clause-written g c)

@@ -5,6 +5,7 @@ use Rattle.capnp_format.proofs.WordsOf.{words}
 use Rattle.capnp_format.specs.Segments.{Segments}
 use Rattle.capnp_making.specs.Fields.{put_field, with_field}
 use Rattle.capnp_making.proofs.FieldBytes.{in_one_word, length-put, words_of-put_field, message_written, words_lent}
+use Rattle.capnp_contents.proofs.Growing.{field_grows}
 use Rattle.capnp_contents.proofs.numbers.set_number.Goals as goal
 
 pub slice_bounds-store-end : goal.slice_bounds-store-end
@@ -36,3 +37,7 @@ returns-clause-written g c =
     ∙ message_written (g.A.ReaderArena.segments a) id bs ws (8 * b) (8 * n) v there words_now
     ∙ ap (λ (M : Segments). with_field M id (8 * b) (8 * n) v) (sym (g.met.A.BuilderArena.read a))
     )
+
+pub returns-clause-grows : goal.returns-clause-grows
+returns-clause-grows g c =
+    field_grows (g.A.BuilderArena.view c.args.arena.now) (g.A.BuilderArena.view (g.A.BuilderArena.with_bytes c.args.arena.now c.args.id (put_mid c.args.byte (c.args.byte + c.BYTES.result - c.args.byte) c.segment_mut-bytes.result.now c.store.new.bytes))) c.args.id (8 * c.args.byte) (8 * g.T.Primitive.BYTES) (g.T.Primitive.bits_of c.args.value) (returns-clause-written g c)

@@ -10,7 +10,8 @@ use Rattle.capnp_copies.specs.Forms.{form_of}
 use Rattle.capnp_copies.specs.Originals.{value_original}
 use Rattle.capnp_copies.proofs.FlatRead.{ok_so, err_so}
 use Rattle.capnp_copies.proofs.Growth.{none_itself, none_pruned, taken_so, value_within, until_within}
-use Rattle.capnp_builders.proofs.CopiesHeld.{null_replaced, fresh_copied, alone_copied, nothing_zeroed, put_copied, put_stopped, can_later, grows_there}
+use Rattle.capnp_contents.proofs.Growing.{grows_again, pruned_grows}
+use Rattle.capnp_builders.proofs.CopiesHeld.{null_replaced, fresh_copied, alone_copied, nothing_zeroed, put_copied, put_stopped, can_later, copy_grows}
 use Rattle.capnp_builders.proofs.builders.PointerBuilder.copy_from.Goals as goal
 use Rattle.capnp_making.specs.Makes.{call_at}
 
@@ -40,10 +41,12 @@ returns-then-is_null-clause-fresh g c = λ only. fresh_copied c.copy_value.resul
 pub returns-then-is_null-clause-alone : goal.returns-then-is_null-clause-alone
 returns-then-is_null-clause-alone g c = λ fresh. alone_copied c.copy_value.result (read_by g.B.ReaderArena c.args.from) (change (form_of c.args.canonicalize) (call_at c.args.self.now.segment c.args.self.now.at (g.A.BuilderArena.view c.args.self.now.arena.now) (g.A.BuilderArena.view c.copy_value.new.arena)) c.args.lim.now c.copy_value.new.lim) c.requires.place fresh (rw (c.pointer-value.ensures.source, c.pointer-value.ensures.place, c.pointer-value.ensures.nesting) at c.copy_value.ensures.copied)
 
+pub returns-then-is_null-clause-grows : goal.returns-then-is_null-clause-grows
+returns-then-is_null-clause-grows g c =
+    copy_grows c.copy_value.result (value_original (read_by g.B.ReaderArena c.args.from)) (change (form_of c.args.canonicalize) (call_at c.args.self.now.segment c.args.self.now.at (g.A.BuilderArena.view c.args.self.now.arena.now) (g.A.BuilderArena.view c.copy_value.new.arena)) c.args.lim.now c.copy_value.new.lim) (rw (c.pointer-value.ensures.source, c.pointer-value.ensures.place, c.pointer-value.ensures.nesting) at c.copy_value.ensures.copied) (rw (c.pointer-value.ensures.source, c.pointer-value.ensures.place, c.pointer-value.ensures.nesting) at c.copy_value.ensures.refused)
+
 pub returns-then-is_null-clause-stays : goal.returns-then-is_null-clause-stays
-returns-then-is_null-clause-stays g c =
-    let grows = grows_there c.copy_value.result (value_original (read_by g.B.ReaderArena c.args.from)) (change (form_of c.args.canonicalize) (call_at c.args.self.now.segment c.args.self.now.at (g.A.BuilderArena.view c.args.self.now.arena.now) (g.A.BuilderArena.view c.copy_value.new.arena)) c.args.lim.now c.copy_value.new.lim) (rw (c.pointer-value.ensures.source, c.pointer-value.ensures.place, c.pointer-value.ensures.nesting) at c.copy_value.ensures.copied) (rw (c.pointer-value.ensures.source, c.pointer-value.ensures.place, c.pointer-value.ensures.nesting) at c.copy_value.ensures.refused) in
-    record { builder = search rules; there = omega (arith, grows, c.requires.place) }
+returns-then-is_null-clause-stays g c = record { builder = search rules; there = omega (arith, (returns-then-is_null-clause-grows g c).words c.args.self.now.segment, c.requires.place) }
 
 -- What another pointer held is zeroed, and then the value is copied to the null pointer.
 
@@ -63,11 +66,12 @@ pub returns-clause-fits : goal.returns-clause-fits
 returns-clause-fits g c = λ can.
     (rw (c.pointer-value.ensures.source, c.pointer-value.ensures.place, c.pointer-value.ensures.nesting) at c.copy_value-2.ensures.fits) (can_later (value_original (read_by g.B.ReaderArena c.args.from)) (form_of c.args.canonicalize) c.args.lim.now (g.A.BuilderArena.view c.args.self.now.arena.now) (g.A.BuilderArena.view c.clear.new.arena) c.args.self.now.segment c.clear.ensures.limits c.clear.ensures.only can)
 
+pub returns-clause-grows : goal.returns-clause-grows
+returns-clause-grows g c =
+    grows_again _ _ _ (pruned_grows c.clear.ensures.only) (copy_grows c.copy_value-2.result (value_original (read_by g.B.ReaderArena c.args.from)) (change (form_of c.args.canonicalize) (call_at c.args.self.now.segment c.args.self.now.at (g.A.BuilderArena.view c.clear.new.arena) (g.A.BuilderArena.view c.copy_value-2.new.arena)) c.args.lim.now c.copy_value-2.new.lim) (rw (c.pointer-value.ensures.source, c.pointer-value.ensures.place, c.pointer-value.ensures.nesting) at c.copy_value-2.ensures.copied) (rw (c.pointer-value.ensures.source, c.pointer-value.ensures.place, c.pointer-value.ensures.nesting) at c.copy_value-2.ensures.refused))
+
 pub returns-clause-stays : goal.returns-clause-stays
-returns-clause-stays g c =
-    let long = c.clear.ensures.only.words c.args.self.now.segment in
-    let grows = grows_there c.copy_value-2.result (value_original (read_by g.B.ReaderArena c.args.from)) (change (form_of c.args.canonicalize) (call_at c.args.self.now.segment c.args.self.now.at (g.A.BuilderArena.view c.clear.new.arena) (g.A.BuilderArena.view c.copy_value-2.new.arena)) c.args.lim.now c.copy_value-2.new.lim) (rw (c.pointer-value.ensures.source, c.pointer-value.ensures.place, c.pointer-value.ensures.nesting) at c.copy_value-2.ensures.copied) (rw (c.pointer-value.ensures.source, c.pointer-value.ensures.place, c.pointer-value.ensures.nesting) at c.copy_value-2.ensures.refused) in
-    record { builder = search rules; there = omega (arith, grows, long, c.requires.place) }
+returns-clause-stays g c = record { builder = search rules; there = omega (arith, (returns-clause-grows g c).words c.args.self.now.segment, c.requires.place) }
 
 pub returns-clause-taken : goal.returns-clause-taken
 returns-clause-taken g c =

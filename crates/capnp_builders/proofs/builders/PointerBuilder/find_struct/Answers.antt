@@ -14,8 +14,8 @@ use Rattle.capnp_widening.specs.Rooms.{OpeningFits}
 use Rattle.capnp_builders.specs.Defaults.{object_default}
 use Rattle.capnp_builders.specs.Opening.{IsStructGiven}
 use Rattle.capnp_builders.proofs.DefaultRooms.{null_left, then_fits, refused_default}
-use Rattle.capnp_builders.proofs.DefaultUses.{then_does, stands_then}
-use Rattle.capnp_builders.proofs.Openings.{struct_opens, struct_refused, opens_longer, still_there}
+use Rattle.capnp_builders.proofs.DefaultUses.{then_does, grows_then}
+use Rattle.capnp_builders.proofs.Openings.{struct_opens, struct_refused, opens_grows, still_there}
 use Rattle.capnp_builders.proofs.builders.PointerBuilder.find_struct.Goals as goal
 use Rattle.capnp_making.specs.Makes.{call_at}
 
@@ -33,7 +33,7 @@ returns-clause-found g c = record {
       then_does (object_default c.args.default t) s p a m b t c.in_ok-put_default.field-0 (Ok c.struct_place.result) (OpensStruct IsStructGiven c.args.size (Ok c.struct_place.result)) stored (c.in_ok-put_default.ensures.put.put t stored)
       (λ u stands. (let o = c.in_ok-opened.ensures.opened u stands in
       struct_opens m b s p u c.args.size e c.struct_place.result
-      (record { there = there b.words s p (still_there a m b s p c.requires.there c.in_ok-put_default.ensures.put.longer (opens_longer c.args.size LeadsToOne m b s p u (struct_opened c.args.size u) (Ok e) o)); small = small; placed = c.struct_place.ensures.place }) o)));
+      (record { there = there b.words s p (still_there a m b s p c.requires.there c.in_ok-put_default.ensures.put.longer (opens_grows c.args.size LeadsToOne m b s p u (struct_opened c.args.size u) (Ok e) o)); small = small; placed = c.struct_place.ensures.place }) o)));
   memory = search rules;
 }
 
@@ -52,15 +52,22 @@ returns-in_err-opened-clause-found g c = record {
   memory = search rules;
 }
 
-pub returns-in_err-opened-clause-there : goal.returns-in_err-opened-clause-there
-returns-in_err-opened-clause-there g c = λ t stored.
-    (let a : View = g.A.BuilderArena.view c.args.self.now.arena.now in
-    let m : View = g.A.BuilderArena.view c.put_default.new.arena in
+pub returns-in_err-opened-clause-grows : goal.returns-in_err-opened-clause-grows
+returns-in_err-opened-clause-grows g c = λ t stored.
+    (let m : View = g.A.BuilderArena.view c.put_default.new.arena in
     let b : View = g.A.BuilderArena.view c.open_struct.new.arena in
-    let s = c.args.self.now.segment in
-    let p = c.args.self.now.at in
-    let (u, stands) = stands_then (object_default c.args.default t) s p a m t c.in_ok-put_default.field-0 stored (c.in_ok-put_default.ensures.put.put t stored) in
-    still_there a m b s p c.requires.there c.in_ok-put_default.ensures.put.longer (opens_longer c.args.size LeadsToOne m b s p u (struct_opened c.args.size u) (Err c.in_err-opened.field-0.0) (c.in_err-opened.ensures.opened u stands)))
+    grows_then (object_default c.args.default t) c.args.self.now.segment c.args.self.now.at (g.A.BuilderArena.view c.args.self.now.arena.now) m b t c.in_ok-put_default.field-0 c.in_ok-put_default.ensures.put.longer stored (c.in_ok-put_default.ensures.put.put t stored)
+    (λ u stands. opens_grows c.args.size LeadsToOne m b c.args.self.now.segment c.args.self.now.at u (struct_opened c.args.size u) (Err c.in_err-opened.field-0.0) (c.in_err-opened.ensures.opened u stands)))
+
+pub returns-in_err-opened-clause-there : goal.returns-in_err-opened-clause-there
+returns-in_err-opened-clause-there g c = λ t stored. (let grows = returns-in_err-opened-clause-grows g c t stored in omega (arith, c.requires.there, grows.words c.args.self.now.segment))
+
+pub returns-clause-grows : goal.returns-clause-grows
+returns-clause-grows g c = λ t stored.
+    (let m : View = g.A.BuilderArena.view c.put_default.new.arena in
+    let b : View = g.A.BuilderArena.view c.open_struct.new.arena in
+    grows_then (object_default c.args.default t) c.args.self.now.segment c.args.self.now.at (g.A.BuilderArena.view c.args.self.now.arena.now) m b t c.in_ok-put_default.field-0 c.in_ok-put_default.ensures.put.longer stored (c.in_ok-put_default.ensures.put.put t stored)
+    (λ u stands. opens_grows c.args.size LeadsToOne m b c.args.self.now.segment c.args.self.now.at u (struct_opened c.args.size u) (Ok c.in_ok-opened.opened) (c.in_ok-opened.ensures.opened u stands)))
 
 -- The call isn't refused if there is room: not for the default, and not after that is put.
 pub returns-in_err-put_default-clause-fits : goal.returns-in_err-put_default-clause-fits

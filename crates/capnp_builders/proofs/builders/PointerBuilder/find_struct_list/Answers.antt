@@ -1,4 +1,4 @@
-use Rattle.std.proofs.Common.{rules, Ok, Err, subst}
+use Rattle.std.proofs.Common.{rules, Ok, Err, subst, arith}
 use Rattle.std.proofs.lemmas.Bool.{false≢true}
 use Rattle.std.proofs.lemmas.Result.{err_from_is_err_and}
 use Rattle.capnp_arena_traits.specs.View.{View}
@@ -8,8 +8,8 @@ use Rattle.capnp_widening.specs.RowsRemade.{RefusesWider}
 use Rattle.capnp_builders.specs.Defaults.{object_default}
 use Rattle.capnp_builders.specs.Opening.{OpensList}
 use Rattle.capnp_builders.proofs.DefaultRooms.{then_fits, refused_default}
-use Rattle.capnp_builders.proofs.DefaultUses.{then_does, stands_then}
-use Rattle.capnp_builders.proofs.Openings.{list_opens, list_refused, list_longer, still_there}
+use Rattle.capnp_builders.proofs.DefaultUses.{then_does, grows_then}
+use Rattle.capnp_builders.proofs.Openings.{list_opens, list_refused, list_grows, still_there}
 use Rattle.capnp_builders.proofs.builders.PointerBuilder.find_struct_list.Goals as goal
 
 -- The value that is there after the default is put is opened.
@@ -24,19 +24,19 @@ returns-clause-found g c = record {
       let l = c.in_ok-opened.opened in
       then_does (object_default c.args.default t) s p a m b t c.in_ok-put_default.field-0 (Ok c.found_list.result) (OpensList c.args.size (Ok c.found_list.result)) stored (c.in_ok-put_default.ensures.put.put t stored)
       (λ u stands. (let o = c.in_ok-opened.ensures.opened u stands in
-      list_opens m b s p u c.args.size l c.found_list.result (still_there a m b s p c.requires.there c.in_ok-put_default.ensures.put.longer (list_longer c.args.size m b s p u (Ok l) o)) c.found_list.ensures o)));
+      list_opens m b s p u c.args.size l c.found_list.result (still_there a m b s p c.requires.there c.in_ok-put_default.ensures.put.longer (list_grows c.args.size m b s p u (Ok l) o)) c.found_list.ensures o)));
   memory = search rules;
 }
 
-pub returns-clause-there : goal.returns-clause-there
-returns-clause-there g c = λ t stored.
-    (let a : View = g.A.BuilderArena.view c.args.self.now.arena.now in
-    let m : View = g.A.BuilderArena.view c.put_default.new.arena in
+pub returns-clause-grows : goal.returns-clause-grows
+returns-clause-grows g c = λ t stored.
+    (let m : View = g.A.BuilderArena.view c.put_default.new.arena in
     let b : View = g.A.BuilderArena.view c.open_struct_list.new.arena in
-    let s = c.args.self.now.segment in
-    let p = c.args.self.now.at in
-    let (u, stands) = stands_then (object_default c.args.default t) s p a m t c.in_ok-put_default.field-0 stored (c.in_ok-put_default.ensures.put.put t stored) in
-    still_there a m b s p c.requires.there c.in_ok-put_default.ensures.put.longer (list_longer c.args.size m b s p u (Ok c.in_ok-opened.opened) (c.in_ok-opened.ensures.opened u stands)))
+    grows_then (object_default c.args.default t) c.args.self.now.segment c.args.self.now.at (g.A.BuilderArena.view c.args.self.now.arena.now) m b t c.in_ok-put_default.field-0 c.in_ok-put_default.ensures.put.longer stored (c.in_ok-put_default.ensures.put.put t stored)
+    (λ u stands. list_grows c.args.size m b c.args.self.now.segment c.args.self.now.at u (Ok c.in_ok-opened.opened) (c.in_ok-opened.ensures.opened u stands)))
+
+pub returns-clause-there : goal.returns-clause-there
+returns-clause-there g c = λ t stored. (let grows = returns-clause-grows g c t stored in omega (arith, c.requires.there, grows.words c.args.self.now.segment))
 
 pub returns-in_err-opened-clause-found : goal.returns-in_err-opened-clause-found
 returns-in_err-opened-clause-found g c = record {
@@ -53,15 +53,15 @@ returns-in_err-opened-clause-found g c = record {
   memory = search rules;
 }
 
-pub returns-in_err-opened-clause-there : goal.returns-in_err-opened-clause-there
-returns-in_err-opened-clause-there g c = λ t stored.
-    (let a : View = g.A.BuilderArena.view c.args.self.now.arena.now in
-    let m : View = g.A.BuilderArena.view c.put_default.new.arena in
+pub returns-in_err-opened-clause-grows : goal.returns-in_err-opened-clause-grows
+returns-in_err-opened-clause-grows g c = λ t stored.
+    (let m : View = g.A.BuilderArena.view c.put_default.new.arena in
     let b : View = g.A.BuilderArena.view c.open_struct_list.new.arena in
-    let s = c.args.self.now.segment in
-    let p = c.args.self.now.at in
-    let (u, stands) = stands_then (object_default c.args.default t) s p a m t c.in_ok-put_default.field-0 stored (c.in_ok-put_default.ensures.put.put t stored) in
-    still_there a m b s p c.requires.there c.in_ok-put_default.ensures.put.longer (list_longer c.args.size m b s p u (Err c.in_err-opened.field-0.0) (c.in_err-opened.ensures.opened u stands)))
+    grows_then (object_default c.args.default t) c.args.self.now.segment c.args.self.now.at (g.A.BuilderArena.view c.args.self.now.arena.now) m b t c.in_ok-put_default.field-0 c.in_ok-put_default.ensures.put.longer stored (c.in_ok-put_default.ensures.put.put t stored)
+    (λ u stands. list_grows c.args.size m b c.args.self.now.segment c.args.self.now.at u (Err c.in_err-opened.field-0.0) (c.in_err-opened.ensures.opened u stands)))
+
+pub returns-in_err-opened-clause-there : goal.returns-in_err-opened-clause-there
+returns-in_err-opened-clause-there g c = λ t stored. (let grows = returns-in_err-opened-clause-grows g c t stored in omega (arith, c.requires.there, grows.words c.args.self.now.segment))
 
 -- The call isn't refused if there is room: not for the default, and not after that is put.
 pub returns-in_err-put_default-clause-fits : goal.returns-in_err-put_default-clause-fits

@@ -5,7 +5,8 @@ use Rattle.capnp_value_copies.specs.ListValues.{list_read}
 use Rattle.capnp_value_copies.proofs.ListValues.{first_read}
 use Rattle.capnp_copies.proofs.FlatRead.{ok_so, err_so}
 use Rattle.capnp_copies.proofs.Growth.{none_itself, none_pruned, taken_so, list_within, list_until_within}
-use Rattle.capnp_builders.proofs.CopiesHeld.{put_copied, put_stopped, can_later, grows_there}
+use Rattle.capnp_contents.proofs.Growing.{grows_again, pruned_grows}
+use Rattle.capnp_builders.proofs.CopiesHeld.{put_copied, put_stopped, can_later, copy_grows}
 use Rattle.capnp_builders.proofs.builders.PointerBuilder.set_list.Goals as goal
 use Rattle.capnp_making.specs.Makes.{call_at}
 
@@ -27,11 +28,12 @@ pub returns-clause-fits : goal.returns-clause-fits
 returns-clause-fits g c = λ can.
     c.copy_list.ensures.fits (can_later (list_read g.B.ReaderArena c.args.value.now) (form_of c.args.canonicalize) c.args.lim.now (g.A.BuilderArena.view c.args.self.now.arena.now) (g.A.BuilderArena.view c.clear.new.arena) c.args.self.now.segment c.clear.ensures.limits c.clear.ensures.only can)
 
+pub returns-clause-grows : goal.returns-clause-grows
+returns-clause-grows g c =
+    grows_again _ _ _ (pruned_grows c.clear.ensures.only) (copy_grows c.copy_list.result (list_read g.B.ReaderArena c.args.value.now) (change (form_of c.args.canonicalize) (call_at c.args.self.now.segment c.args.self.now.at (g.A.BuilderArena.view c.clear.new.arena) (g.A.BuilderArena.view c.copy_list.new.arena)) c.args.lim.now c.copy_list.new.lim) c.copy_list.ensures.copied c.copy_list.ensures.refused)
+
 pub returns-clause-stays : goal.returns-clause-stays
-returns-clause-stays g c =
-    let long = c.clear.ensures.only.words c.args.self.now.segment in
-    let grows = grows_there c.copy_list.result (list_read g.B.ReaderArena c.args.value.now) (change (form_of c.args.canonicalize) (call_at c.args.self.now.segment c.args.self.now.at (g.A.BuilderArena.view c.clear.new.arena) (g.A.BuilderArena.view c.copy_list.new.arena)) c.args.lim.now c.copy_list.new.lim) c.copy_list.ensures.copied c.copy_list.ensures.refused in
-    record { builder = search rules; there = omega (arith, grows, long, c.requires.place) }
+returns-clause-stays g c = record { builder = search rules; there = omega (arith, (returns-clause-grows g c).words c.args.self.now.segment, c.requires.place) }
 
 pub returns-clause-taken : goal.returns-clause-taken
 returns-clause-taken g c =

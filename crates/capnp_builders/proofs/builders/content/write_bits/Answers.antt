@@ -22,7 +22,7 @@ loop-j-preserved g c =
     let j : ℕ = c.loop-j.j in
     let T : Segments = with_fields old.words id (fields_from start 1 (λ i. c.args.byte / 2 ^ i % 2)) j in
     let x : ℕ = c.args.byte / 2 ^ j % 2 in
-    c.set_bit.ensures
+    c.set_bit.ensures.written
     ∙ ap (λ (y : ℕ). record V { words = with_field V.words id (start + c.from.result) 1 y }) (bit_is (c.args.byte / 2 ^ j))
     ∙ ap (λ (v : View). record v { words = with_field v.words id (start + c.from.result) 1 x }) c.loop-j.invariant
     ∙ ap (λ (k : ℕ). record old { words = with_field T id k 1 x }) (let e : start + c.from.result ≡ start + j * 1 = omega (arith, c.from.ensures) in e)

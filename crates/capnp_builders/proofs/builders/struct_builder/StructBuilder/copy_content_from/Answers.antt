@@ -12,7 +12,7 @@ use Rattle.capnp_copies.specs.Growth.{TakesNone}
 use Rattle.capnp_copies.proofs.FlatRead.{err_so}
 use Rattle.capnp_copies.proofs.Growth.{none_itself, none_both, none_pruned, taken_so, all_within, among_within}
 use Rattle.capnp_making.proofs.Taken.{ends_after}
-use Rattle.capnp_builders.proofs.ContentWritten.{content_long, content_many, each_grows, content_inside}
+use Rattle.capnp_builders.proofs.ContentWritten.{content_long, content_many, each_grows, content_grows}
 use Rattle.capnp_builders.proofs.builders.struct_builder.StructBuilder.copy_content_from.Goals as goal
 
 pub clear_pointers-requires : goal.clear_pointers-requires
@@ -37,14 +37,21 @@ copy_each-requires g c =
       inside = search rules;
     }
 
-pub returns-clause-builder : goal.returns-clause-builder
-returns-clause-builder g c =
+pub returns-clause-grows : goal.returns-clause-grows
+returns-clause-grows g c =
     let M : Segments = (g.A.BuilderArena.view c.args.self.now.arena.now).words in
     let place : StructPlace = c.args.self.now.place in
     let written : (g.A.BuilderArena.view c.write_content.new.arena).words ≡ with_content M place c.args.value.now.bits c.args.value.now.content.now = ap (λ (v : View). v.words) c.write_content.ensures in
     let pruned : IsPruned (with_content M place c.args.value.now.bits c.args.value.now.content.now) (g.A.BuilderArena.view c.clear_pointers.new.arena).words = subst (λ (T : Segments). IsPruned T (g.A.BuilderArena.view c.clear_pointers.new.arena).words) written c.clear_pointers.ensures.only in
     let grows = each_grows _ _ _ c.copy_each.result c.copy_each.ensures.copied c.copy_each.ensures.refused in
-    record { same = search rules; place = search rules; inside = content_inside M (g.A.BuilderArena.view c.clear_pointers.new.arena).words (g.A.BuilderArena.view c.copy_each.new.arena).words place c.args.value.now.bits c.args.value.now.content.now pruned grows c.requires.inside }
+    content_grows M (g.A.BuilderArena.view c.clear_pointers.new.arena).words (g.A.BuilderArena.view c.copy_each.new.arena).words place c.args.value.now.bits c.args.value.now.content.now pruned grows
+
+pub returns-clause-builder : goal.returns-clause-builder
+returns-clause-builder g c =
+    let grows = returns-clause-grows g c in
+    let long = grows.words c.args.self.now.place.segment in
+    let (there, at_data, at_pointers) = c.requires.inside in
+    record { same = search rules; place = search rules; inside = (omega (arith, there, grows.segments), omega (arith, at_data, long), omega (arith, at_pointers, long)) }
 
 pub returns-clause-taken : goal.returns-clause-taken
 returns-clause-taken g c =
