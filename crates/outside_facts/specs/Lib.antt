@@ -1,0 +1,4 @@
+pub mod Facts
+pub mod Values
+pub mod Capabilities
+pub mod Refusals
