@@ -1,15 +1,17 @@
 #!/usr/bin/env python3
-"""Checks three things about names:
+"""Checks four things about names:
 
 - Each name of a definition in `crates/*/specs/` is defined once in all crates.
 - What a definition or a proof imports from this repository is in the file that it names. The checker reports this too,
   but only when it reaches that file, which in the gate takes many minutes.
 - Each type in the `src/` of a library crate has a name that no other library crate uses.
+- Each lemma that a table of docs/ARCHITECTURE.md names is in the file that is named next to it.
 
     names.py
 
-Prints each name that occurs twice, with its files, and each import of something that isn't there. The last line is
-`N passed, M failed`, which counts files: a file fails if one of its names occurs twice or one of its imports fails."""
+Prints each name that occurs twice, with its files, and each import or lemma that isn't there. The last line is
+`N passed, M failed`, which counts files: a file fails if one of its names occurs twice or one of its imports fails, the page
+if it names a lemma that isn't there."""
 import collections
 import pathlib
 import re
@@ -89,7 +91,16 @@ def types_twice(files):
             yield from found
 
 
+def lemmas_nowhere(page):
+    """The lemmas that a page names in a table, with the file in the next column, and that aren't in that file."""
+    for name, file in re.findall(r'\| `([\w-]+)` \| `(crates/[\w/]+\.antt)` \|', page.read_text(encoding='utf-8')):
+        path = TOP / file
+        if not path.is_file() or not re.search(rf'^pub {re.escape(name)} :', path.read_text(encoding='utf-8'), re.MULTILINE):
+            yield f'{name} of {file}'
+
+
 def main():
+    page = TOP / 'docs/ARCHITECTURE.md'
     specs = [path for path in sorted(TOP.glob('crates/*/specs/*.antt')) if path.name != 'Lib.antt']
     proofs = sorted(TOP.glob('crates/*/proofs/**/*.antt'))
     sources = sorted(TOP.glob('crates/capnp_*/src/**/*.rt'))
@@ -98,7 +109,10 @@ def main():
         for name in nowhere(path):
             print(f'{path.relative_to(TOP)} imports {name}, which is not there')
             failed.add(path)
-    files = {*specs, *proofs, *sources}
+    for name in lemmas_nowhere(page):
+        print(f'{page.relative_to(TOP)} names {name}, which is not there')
+        failed.add(page)
+    files = {*specs, *proofs, *sources, page}
     print(f'{len(files) - len(failed)} passed, {len(failed)} failed')
     return 1 if failed or not files else 0
 
