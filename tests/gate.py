@@ -1,8 +1,8 @@
 #!/usr/bin/env python3
 """The gate. Checks the names of definitions, the prose, the quotations in pages, the header for C, and whether a crate has
-changed since the C in generated/ was written. Then runs `rt ci`, which proves and builds everything; tries the mutants with
-the libraries that it built; and runs the outside vectors, the cases, the hostile runs and the streams with the programs that
-it built.
+changed since the C in generated/ was written, and the version of the toolchain. Then runs `rt ci`, which proves and builds
+everything; compares what the proofs rest on, as it prints it, with `tests/axioms.txt`; tries the mutants with the libraries
+that it built; and runs the outside vectors, the cases, the hostile runs and the streams with the programs that it built.
 
     gate.py [--anew]
 
@@ -24,6 +24,7 @@ import shutil
 import subprocess
 import sys
 
+import axioms
 from mutants.run import side_by_side
 
 TOP = pathlib.Path(__file__).resolve().parents[1]
@@ -51,14 +52,15 @@ def remove(path):
         path.unlink(missing_ok=True)
 
 
-def counted(name, command, **settings):
+def counted(name, command, printed=None, **settings):
     """Runs a command, shows what it prints, and returns how many passed and failed according to its last line. If the exit
-    status contradicts that, or nothing was counted, that is one more failure."""
-    last = ''
+    status contradicts that, or nothing was counted, that is one more failure. Adds the lines to `printed`."""
+    last, printed = '', [] if printed is None else printed
     try:
         with subprocess.Popen(command, cwd=TOP, env={**settings, **os.environ}, stdin=subprocess.DEVNULL, stdout=subprocess.PIPE, encoding='utf-8', errors='surrogateescape') as run:
             for line in run.stdout:
                 last = line.rstrip('\n')
+                printed.append(last)
                 say(f'{name}: {last}' if COUNTS.fullmatch(last) else last)
     except OSError as error:
         say(f'{name}: not run: {error}')
@@ -80,6 +82,13 @@ def proving(words):
     return ['rt', 'ci', *(word for word in words if word in told)]
 
 
+def resting(printed):
+    """Compares what the proofs rest on, as `rt ci` printed it."""
+    passed, failed = axioms.compare(printed)
+    say(f'axioms: {passed} passed, {failed} failed')
+    return passed, failed
+
+
 def over_programs(name, script, programs):
     for program in programs:
         if not program.is_file():
@@ -95,13 +104,16 @@ def main():
         sys.exit(__doc__)
     for program in PROGRAMS:
         remove(program)
+    printed = []
     parts = [
         counted('names', [sys.executable, str(TOP / 'tests/names.py')]),
         counted('prose', [sys.executable, str(TOP / 'tests/prose.py')]),
         counted('pages', [sys.executable, str(TOP / 'tools/theorem.py'), '--check']),
         counted('header', [sys.executable, str(TOP / 'tests/library/header.py')]),
         counted('generated', [sys.executable, str(TOP / 'tools/generated.py'), '--sums']),
-        counted('rt ci', proving(sys.argv[1:]), RT_JOBS=str(side_by_side())),
+        counted('toolchain', [sys.executable, str(TOP / 'tests/toolchain.py')]),
+        counted('rt ci', proving(sys.argv[1:]), printed, RT_JOBS=str(side_by_side())),
+        resting(printed),
         counted('mutants', [sys.executable, str(TOP / 'tests/mutants/run.py')]),
         *(over_programs(*it) for it in OVER_PROGRAMS),
     ]
