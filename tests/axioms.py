@@ -1,5 +1,5 @@
 #!/usr/bin/env python3
-"""Compares what each proof rests on, as the toolchain reports it, with `axioms.txt`.
+"""Compares what the toolchain reports that each proof rests on with `axioms.txt`.
 
     axioms.py LOG             compares the crates whose reports are in LOG, which has what `./test` or `rt ci` printed
     axioms.py --write LOG     writes the reports in LOG into `axioms.txt`; those of other crates stay
@@ -19,7 +19,7 @@ import sys
 TOP = pathlib.Path(__file__).resolve().parents[1]
 FILE = TOP / 'tests/axioms.txt'
 HEAD = """\
-# What each proof rests on, as the toolchain reports it: a line with the end of the crate's verdict, then a line for each crate
+# What the toolchain reports about each proof: a line with the end of the crate's verdict, then a line for each crate
 # whose C functions the proof may rest on. `tests/axioms.py` says more, and the gate compares.
 """
 # How the report of a crate begins, and how its verdict does. Sums and numbers of functions say nothing of what is trusted.

@@ -1,7 +1,7 @@
 #!/usr/bin/env python3
 """The gate. Checks the names of definitions, the prose, the quotations in pages, the header for C, and whether a crate has
 changed since the C in generated/ was written, and the version of the toolchain. Then runs `rt ci`, which proves and builds
-everything; compares what the proofs rest on, as it prints it, with `tests/axioms.txt`; tries the mutants with the libraries
+everything; compares what it reports that the proofs rest on with `tests/axioms.txt`; tries the mutants with the libraries
 that it built; and runs the outside vectors, the cases, the hostile runs and the streams with the programs that it built.
 
     gate.py [--anew]
@@ -83,7 +83,7 @@ def proving(words):
 
 
 def resting(printed):
-    """Compares what the proofs rest on, as `rt ci` printed it."""
+    """Compares what `rt ci` reported that the proofs rest on."""
     passed, failed = axioms.compare(printed)
     say(f'axioms: {passed} passed, {failed} failed')
     return passed, failed
