@@ -13,9 +13,9 @@ function: for a change outside of functions, or of a fact that only the other fu
 refusal of any function of the crate.
 
 The mutants of a crate that are in different functions are applied together, and one check proves these functions only.
-That is sound because a function is proved from the contracts of what it calls, not from their bodies. So the number of
-checks is the largest number of mutants in one function or cycle of functions. Each check reuses what an earlier one
-kept of unchanged functions. A mutant of a definition is tried on its own.
+What they call is taken by its contract: its proof, which `rt ci` checks, is replaced by a hole. That is sound because a
+function is proved from the contracts of what it calls, not from their bodies. So the number of checks is the largest
+number of mutants in one function or cycle of functions. A mutant of a definition is tried on its own.
 
 Prints for each mutant the function that is refused and the first goal that stays open, and in the last line
 `N passed, M failed`. A mutant fails if it isn't refused, if it can't be applied, compiled or read, or if its check is
@@ -38,6 +38,19 @@ from libraries import PARTS, Crates
 FUNCTION = re.compile(r'( *)(?:pub(?:\([a-z]+\))? )?(?:const )?(?:unsafe )?(?:extern "C" )?fn (\w+)')
 BLOCK = re.compile(r'( *)(?:unsafe )?(?:impl(?:<.*?>)?|(?:pub(?:\([a-z]+\))? )?trait) (.*)')
 CYCLE = re.compile(r' *#\[cycle\((\w+)\)\]')
+# The first line of an impl of a plain type, with the trait that it is of.
+IMPL = re.compile(r' *impl(?:<[^<>]*(?:<[^<>]*>[^<>]*)*>)? (?:(?:\w+::)*(\w+) for )?(?:\w+::)*\w+(?:<[^<>]*>)?(?: where| \{|$)')
+TYPE = re.compile(r' *(?:pub(?:\([a-z]+\))? )?(?:struct|enum) (\w+)')
+# A proof with a hole: with `--allow-holes`, a check goes by the contract of the function that it is for.
+HOLE = '''use Rattle.{crate}.proofs.{path}.Statement.{{statement}}
+
+pub {name}_spec : {{M : Type 1}} → statement M
+{name}_spec = ?
+'''
+# A line that says that such a proof isn't read as that.
+NO_HOLE = re.compile(r'(?:\./)?proofs/\S+/Proof\.antt:\d+:\d+: error')
+# Words of antt, which can't be part of a path as they are.
+RESERVED = set('abbrev axiom coe com data elim fcoe hcom in infix infixl infixr let module mutual open package record ruleset tcoe unfold unfoldable unfolding use using'.split())
 # A line of the prover about a goal or an answer: its file, its line number and the message.
 SAID = re.compile(r'(?:note: )?(?:\./)?((?:src|specs|proofs)/\S+?):(\d+):\d+: (.*)')
 # Messages that a text can't be read, which has nothing to do with contracts.
@@ -56,13 +69,25 @@ class BadMutant(Exception):
 
 @dataclasses.dataclass(frozen=True)
 class Function:
-    """A function that contains a mutant: its path (for a method only from the type on, wherever that is declared), its file,
-    its first and last line, and the cycle of functions that it is proved in."""
+    """A function: its path (for a method only from the type on, wherever that is declared), its file, its first and last line,
+    the cycle of functions that it is proved in, and the first line of the impl or the trait that it is in."""
     path: str
     file: str
     first: int
     last: int
     cycle: str
+    block: str
+
+    def folder(self, homes):
+        """The path of the folder below proofs/ that has its proof, or None if the source doesn't tell. `homes` has the modules
+        that declare a type, by the type's name."""
+        names, block = self.path.split('::'), IMPL.match(self.block)
+        if self.cycle or not RESERVED.isdisjoint(names) or self.block and (not block or block[1] == 'Drop'):
+            return None
+        if block and block[1]:
+            return [*module_of(self.file), *names]
+        at = homes.get(names[0], []) if block else [[]]
+        return [*at[0], *names] if len(at) == 1 else None
 
     def has_answer(self, file):
         """Whether this file has answers for it; functions of a cycle share one."""
@@ -99,6 +124,11 @@ class Mutant:
         return changed
 
 
+def module_of(file):
+    """The path of the module in a source file."""
+    return [it for it in file[4:-3].split('/') if it not in ('lib', 'main')]
+
+
 def enclosing(lines, number, form):
     """The innermost item of this form that contains the line. `rt fmt` puts its last brace under its first letter."""
     for first in range(number, -1, -1):
@@ -115,8 +145,9 @@ def type_of(block):
     """The segment that an impl or a trait has in the path of its functions."""
     head = re.sub(r'\bwhere\b.*|\{.*', '', block)
     trait, _, of = head.rpartition(' for ')
-    name = re.match(r"\s*(?:&(?:'\w+ )?(?:mut )?)?(?:dyn )?(?:\w+::)*\[?(\w+)", of)[1]
-    if not trait:
+    found = re.match(r"\s*(?:&(?:'\w+ )?(?:mut )?)?(?:dyn )?(?:\w+::)*\[?(\w+)", of)
+    name = found[1] if found else ''
+    if not trait or not name:
         return name
     return name[0].upper() + name[1:] + re.match(r'\s*(?:\w+::)*(\w+)', trait)[1]
 
@@ -127,26 +158,54 @@ def function_at(file, lines, number):
     if not found:
         return None
     first, last, head = found
-    module = [it for it in file[4:-3].split('/') if it not in ('lib', 'main')]
     block = enclosing(lines, first - 1, BLOCK) if head[1] and first else None
-    path = '::'.join([*([type_of(block[2][2])] if block else module), head[2]])
+    path = '::'.join([*([type_of(block[2][2])] if block else module_of(file)), head[2]])
     cycle = ''
     while first and lines[first - 1].lstrip().startswith(('#[', '///')):
         first -= 1
         if named := CYCLE.match(lines[first]):
             cycle = named[1]
-    return Function(path, file, first + 1, last + 1, cycle)
+    return Function(path, file, first + 1, last + 1, cycle, lines[block[0]] if block else '')
+
+
+def functions_in(folder):
+    """The functions of the crate in a folder."""
+    for source in sorted((folder / 'src').rglob('*.rt')):
+        lines = source.read_text(encoding='utf-8').split('\n')
+        for number, line in enumerate(lines):
+            if FUNCTION.match(line) and (found := function_at(str(source.relative_to(folder)), lines, number)):
+                yield found
 
 
 def function_named(crate, path):
     """The function of a crate with this path."""
-    for source in sorted((TOP / 'crates' / crate / 'src').rglob('*.rt')):
-        file = str(source.relative_to(TOP / 'crates' / crate))
-        lines = source.read_text(encoding='utf-8').split('\n')
-        for number, line in enumerate(lines):
-            if FUNCTION.match(line) and (found := function_at(file, lines, number)) and found.path == path:
-                return found
+    for found in functions_in(TOP / 'crates' / crate):
+        if found.path == path:
+            return found
     raise BadMutant(f'there is no function {path}')
+
+
+def homes_in(folder):
+    """The modules that declare types, in the crate in a folder, by the types' names."""
+    homes = {}
+    for source in sorted((folder / 'src').rglob('*.rt')):
+        for found in filter(None, map(TYPE.match, source.read_text(encoding='utf-8').split('\n'))):
+            homes.setdefault(found[1], []).append(module_of(str(source.relative_to(folder))))
+    return homes
+
+
+def take_as_proved(folder, crate, functions):
+    """Replaces the proofs of all functions of the crate in a folder by holes, except for these functions, their cycles, and those
+    whose proofs the source doesn't tell the place of."""
+    homes, paths, cycles = homes_in(folder), {it.path for it in functions}, {f'+{it.cycle}' for it in functions}
+    places = [it.folder(homes) for it in functions_in(folder) if it.path not in paths]
+    places += [it.relative_to(folder / 'proofs').parts for it in (folder / 'proofs').rglob('+*') if it.name not in cycles]
+    for names in filter(None, places):
+        place = folder / 'proofs' / pathlib.Path(*names)
+        place.mkdir(parents=True, exist_ok=True)
+        for name in ('Answers.antt', 'Invariants.antt'):
+            (place / name).unlink(missing_ok=True)
+        (place / 'Proof.antt').write_text(HOLE.format(crate=crate, path='.'.join(names), name=names[-1]), encoding='utf-8')
 
 
 def read(path):
@@ -212,15 +271,17 @@ def rounds_of(mutants):
     return [mutants for mutants, _, _ in rounds]
 
 
-def checked(crates, mutants, kept):
-    """Applies these mutants to a copy of their crate and checks the functions that contain them. Returns the status and the
-    lines that the check printed. The folder `kept` has what earlier checks kept, which isn't checked again if unchanged."""
+def checked(crates, mutants, kept, has_holes):
+    """Applies these mutants to a copy of their crate and checks the functions that contain them. With `has_holes`, takes what
+    they call as proved. Returns the status and the lines that the check printed. The folder `kept` has what earlier checks
+    kept, which isn't checked again if unchanged."""
     name = mutants[0].crate
     texts = {}
     for mutant in mutants:
         texts = mutant.applied(texts)
+    functions = [it for mutant in mutants for it in mutant.functions]
     words = [f'{crates.kit}/bin/rattle', 'check', *crates.words(name), '--incremental', kept, '--jobs', '1']
-    for path in dict.fromkeys(it.path for mutant in mutants for it in mutant.functions):
+    for path in dict.fromkeys(it.path for it in functions):
         words += ['--only', path]
     with tempfile.TemporaryDirectory(prefix='mutants-') as room:
         for part in PARTS:
@@ -228,6 +289,9 @@ def checked(crates, mutants, kept):
                 shutil.copytree(TOP / 'crates' / name / part, f'{room}/{part}')
         for file, text in texts.items():
             pathlib.Path(room, file).write_text(text, encoding='utf-8')
+        if has_holes:
+            words.append('--allow-holes')
+            take_as_proved(pathlib.Path(room), name, functions)
         run = subprocess.run(words, cwd=room, stdin=subprocess.DEVNULL, stdout=subprocess.PIPE, stderr=subprocess.STDOUT, encoding='utf-8', errors='replace')
     return run.returncode, run.stdout.rstrip('\n').split('\n')
 
@@ -274,24 +338,29 @@ def unread(mutants, lines):
     return None
 
 
-def tried(crates, mutants, kept):
+def tried(crates, mutants, kept, has_holes=True):
     """Tries mutants of one crate together. Returns for each whether it is refused, and what to print about it. A check prints a
     limited number of goals, so mutants without one are tried again without the others. If there is no verdict at all, tries
-    each half."""
-    status, lines = checked(crates, mutants, kept)
+    each half; and a mutant that isn't refused is tried once more, with everything that its function calls proved."""
+    has_holes = has_holes and all(it.functions for it in mutants)
+    status, lines = checked(crates, mutants, kept, has_holes)
     if status == -signal.SIGKILL:
         return [(it, False, 'NOT TRIED: its check was killed, probably because memory ran out') for it in mutants]
+    if has_holes and any(map(NO_HOLE.match, lines)):
+        return tried(crates, mutants, kept, False)
     bad = unread(mutants, lines)
     if not bad and (lines[-1].startswith(('logic=', 'rattle: no verdict')) or any(it.startswith('fn ') for it in lines)):
         told = [(it, *verdict(it, lines, len(mutants) == 1)) for it in mutants]
         left = [mutant for mutant, is_refused, _ in told if not is_refused]
-        if not left or len(mutants) == 1:
+        if not left or len(mutants) == 1 and not has_holes:
             return told
         if len(left) < len(mutants):
-            return [it for it in told if it[1]] + tried(crates, left, kept)
+            return [it for it in told if it[1]] + tried(crates, left, kept, has_holes)
     if len(mutants) > 1:
         half = len(mutants) // 2
-        return tried(crates, mutants[:half], kept) + tried(crates, mutants[half:], kept)
+        return tried(crates, mutants[:half], kept, has_holes) + tried(crates, mutants[half:], kept, has_holes)
+    if has_holes:
+        return tried(crates, mutants, kept, False)
     why = bad or next((it for it in lines if re.search(r'\berror[:\[]', it)), lines[0])
     return [(mutants[0], False, f'BAD MUTANT: it did not reach the prover: {why}')]
 
