@@ -65,9 +65,6 @@ pub on_err : {X E : Type 0} (result : Result X E) (P : E → Type 0) (Q : Type 0
 on_err (Ok x) P Q h f = tt
 on_err (Err k) P Q h f = f k h
 
-pub nothing_zeroed : (S : Segments) → IsPruned S S
-nothing_zeroed S = record { segments = refl; words = λ v. refl; only = λ v r. inl refl }
-
 -- no segment becomes shorter, whether the copy is made or refused
 pub copy_grows : {X : Type 0} (result : Result X ErrorKind) (o : Original Tree) (c : Change) → IfOk result (λ _. MakesCopy o c) → IfErr result (StopsCopy o c Null) → Grows c.old.words c.new.words
 copy_grows (Ok x) o c copied refused = replaced_grows copied.made

@@ -12,7 +12,7 @@ use Rattle.capnp_format.specs.Segments.{Segments, Target}
 use Rattle.capnp_format.specs.Tree.{Tree, Flat, Trees, no_trees, tree, count}
 use Rattle.capnp_making.specs.Fields.{with_field}
 use Rattle.capnp_making.specs.Path.{put_tree, tree_at}
-use Rattle.capnp_making.specs.Stored.{IsStored, IsReplaced}
+use Rattle.capnp_making.specs.Stored.{IsReplaced}
 use Rattle.capnp_making.proofs.Replace.{put_tree-count}
 use Rattle.capnp_contents.proofs.FieldsWritten.{flat_element_stays, flat_element_written}
 use Rattle.capnp_readers.specs.Sections.{data_bits, step_bits}
@@ -21,6 +21,7 @@ use Rattle.capnp_readers.specs.declared.readers.struct_reader.StructPlace.{Struc
 use Rattle.capnp_builders.specs.Held.{HasList, HasStruct, Holder, struct_held}
 use Rattle.capnp_builders.proofs.HeldStructs.{child_set}
 use Rattle.capnp_builders.proofs.StructPlaces.{struct_starts}
+use Rattle.capnp_widening.proofs.Listed.{flat_width}
 
 step_of : (size : ElementSize) (sizes : StructSize) → size_number size ≤ 5 → step_bits size sizes ≡ element_bits (size_number size)
 step_of Void sizes l = refl
@@ -53,9 +54,6 @@ flat_size EightBytes some = omega arith
 flat_size Pointer some = absurd (omega arith)
 flat_size InlineComposite some = absurd (omega arith)
 
-flat_few : (S : Segments) (s p n : ℕ) (ns : List ℕ) → IsStored S s p (Flat n ns) → n ≤ 5
-flat_few S s p n ns y = let (levels, c, (a, some, few, o, claim, is, g)) = y.means in few
-
 -- element k of the list is written, w bits with the number v
 pub record WritesElement (S R : Segments) (list : ListPlace) (k w v : ℕ) : Type 0 where
   pub range : k < list.count
@@ -74,7 +72,7 @@ there {S} {R} {list} {k} {w} {v} s p n ns e h =
     let (size, many) = h.plain in
     let seg : list.segment ≡ a.segment = ap (λ (l : ListPlace). l.segment) h.is_place in
     let byte : list.byte ≡ 8 * a.start = ap (λ (l : ListPlace). l.byte) h.is_place in
-    let step : step_bits list.size list.struct_size ≡ element_bits n = step_of list.size list.struct_size (omega (arith, size, flat_few S s p n ns h.stored)) ∙ ap element_bits size in
+    let step : step_bits list.size list.struct_size ≡ element_bits n = step_of list.size list.struct_size (omega (arith, size, flat_width S s p n ns h.stored)) ∙ ap element_bits size in
     let wide : w ≡ element_bits n = sym e.width ∙ ap element_bits size in
     e.written ∙ ap₂ (λ z b. with_field S z b w v) seg (let f : 8 * list.byte + k * step_bits list.size list.struct_size ≡ 64 * a.start + k * element_bits n = rw step (omega (arith, byte)) in f) ∙ ap (λ z. with_field S a.segment (64 * a.start + k * element_bits n) z v) wide
 

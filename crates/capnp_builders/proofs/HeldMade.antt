@@ -1,6 +1,6 @@
 -- What becomes of a struct if a call at its place writes a field, or makes an object for one of its
 -- pointers.
-use Rattle.std.proofs.Common.{◌≡◌, ℕ, zero, suc, ◌+◌, ◌*◌, ◌/◌, ◌<◌, length, Bool, true, false, cond, nat_eq, Result, Ok, Err, OnOk, OnErr, IfOk, refl, sym, ap, ap₂, ◌∙◌, subst, arith}
+use Rattle.std.proofs.Common.{◌≡◌, ℕ, zero, suc, ◌+◌, ◌*◌, ◌/◌, ◌<◌, length, List, Bool, true, false, cond, nat_eq, Result, Ok, Err, IfOk, refl, sym, ap, ap₂, ◌∙◌, subst, arith}
 use Rattle.std.proofs.lemmas.Bool.{eqb-true}
 use Rattle.std.proofs.lemmas.List.{length-replicate}
 use Rattle.capnp_words.specs.declared.error.ErrorKind.{ErrorKind}
@@ -9,7 +9,7 @@ use Rattle.capnp_words.specs.declared.wire_pointer.StructSize.{StructSize}
 use Rattle.capnp_words.specs.Sizes.{size_number}
 use Rattle.capnp_format.specs.Forest.{target}
 use Rattle.capnp_format.specs.Segments.{Target}
-use Rattle.capnp_format.specs.Tree.{Tree, Null, Struct, Flat, Pointers, Structs, Elements, count}
+use Rattle.capnp_format.specs.Tree.{Tree, Null, Struct, Flat, Pointers, Structs, Trees, Elements, count}
 use Rattle.capnp_arena_traits.specs.View.{View}
 use Rattle.capnp_contents.specs.Existing.{plain_list, struct_list}
 use Rattle.capnp_making.specs.Made.{words_of_zero, nulls, zero_elements, zero_list, zero_struct, zero_structs}
@@ -24,7 +24,7 @@ use Rattle.capnp_readers.specs.Sections.{IsInside}
 use Rattle.capnp_readers.specs.declared.readers.list_reader.ListPlace.{ListPlace}
 use Rattle.capnp_readers.specs.declared.readers.struct_reader.StructPlace.{StructPlace}
 use Rattle.capnp_widening.specs.Opening.{existing_struct}
-use Rattle.capnp_builders.specs.Held.{HasList, HasStruct, IsPlainList, ReplacesChild, ReplacesField, SetsChild, SetsField, call_in, element_of, pointer_to}
+use Rattle.capnp_builders.specs.Held.{HasList, HasStruct, Holder, IsPlainList, MakesChild, ReplacesField, SetsField, call_in, element_of, pointer_to}
 use Rattle.capnp_builders.specs.Places.{Field, IsListOf, IsStructOf, WritesField, element_place, list_place, struct_place}
 use Rattle.capnp_builders.proofs.ElementContent.{put_struct-same}
 use Rattle.capnp_builders.proofs.FieldPlaces.{in_bits}
@@ -42,22 +42,23 @@ pub replaces_field : (old new : View) (place : StructPlace) (f : Field) → f.st
 replaces_field old new place f inside written = λ x ws ts h. field_replaced old.words new.words x place ws ts f.start f.bits f.value inside (ap (λ (v : View). v.words) written) h
 
 -- an object for a pointer, or null after a refusal
-
-pub child_made : {A : Type 0} (r : Result A ErrorKind) (old new : View) (place : StructPlace) (i : ℕ) (t : Tree) (n : ℕ) → i < place.pointers → MakesObject r (call_at place.segment (place.pointers_at + i) old new) t n → SetsChild (OnOk r) (call_in place old.words new.words) i t
-child_made (Ok v) old new place i t n inside made = λ x ws ts h. child_set old.words new.words x place ws ts i t inside (made.made (tree_at ts i) (child_stored old.words x place ws ts i inside h)) h
-child_made (Err k) old new place i t n inside made = λ x ws ts h. tt
-
-pub child_made_alone : {A : Type 0} (r : Result A ErrorKind) (old new : View) (place : StructPlace) (i : ℕ) (t : Tree) (n : ℕ) → i < place.pointers → MakesObject r (call_at place.segment (place.pointers_at + i) old new) t n → ReplacesChild (OnOk r) (call_in place old.words new.words) i t
-child_made_alone (Ok v) old new place i t n inside made = λ x ws ts h. child_replaced old.words new.words x place ws ts i t inside (made.made (tree_at ts i) (child_stored old.words x place ws ts i inside h)) h
-child_made_alone (Err k) old new place i t n inside made = λ x ws ts h. tt
-
-pub child_refused : {A : Type 0} (r : Result A ErrorKind) (old new : View) (place : StructPlace) (i : ℕ) (t : Tree) (n : ℕ) → i < place.pointers → MakesObject r (call_at place.segment (place.pointers_at + i) old new) t n → SetsChild (OnErr r) (call_in place old.words new.words) i Null
-child_refused (Ok v) old new place i t n inside made = λ x ws ts h. tt
-child_refused (Err k) old new place i t n inside made = λ x ws ts h. child_set old.words new.words x place ws ts i Null inside (made.refused (tree_at ts i) (child_stored old.words x place ws ts i inside h)) h
-
-pub child_refused_alone : {A : Type 0} (r : Result A ErrorKind) (old new : View) (place : StructPlace) (i : ℕ) (t : Tree) (n : ℕ) → i < place.pointers → MakesObject r (call_at place.segment (place.pointers_at + i) old new) t n → ReplacesChild (OnErr r) (call_in place old.words new.words) i Null
-child_refused_alone (Ok v) old new place i t n inside made = λ x ws ts h. tt
-child_refused_alone (Err k) old new place i t n inside made = λ x ws ts h. child_replaced old.words new.words x place ws ts i Null inside (made.refused (tree_at ts i) (child_stored old.words x place ws ts i inside h)) h
+pub child_made : {A : Type 0} (r : Result A ErrorKind) (old new : View) (place : StructPlace) (i : ℕ) (t : Tree) (n : ℕ) → i < place.pointers → MakesObject r (call_at place.segment (place.pointers_at + i) old new) t n → MakesChild r (call_in place old.words new.words) i t
+child_made (Ok v) old new place i t n inside made =
+    let stored = λ (x : Holder) (ws : List ℕ) (ts : Trees) (h : HasStruct old.words x place ws ts). made.made (tree_at ts i) (child_stored old.words x place ws ts i inside h) in
+    record {
+      sets = λ x ws ts h. child_set old.words new.words x place ws ts i t inside (stored x ws ts h) h;
+      replaces = λ x ws ts h. child_replaced old.words new.words x place ws ts i t inside (stored x ws ts h) h;
+      refused = λ x ws ts h. tt;
+      emptied = λ x ws ts h. tt;
+    }
+child_made (Err k) old new place i t n inside made =
+    let stored = λ (x : Holder) (ws : List ℕ) (ts : Trees) (h : HasStruct old.words x place ws ts). made.refused (tree_at ts i) (child_stored old.words x place ws ts i inside h) in
+    record {
+      sets = λ x ws ts h. tt;
+      replaces = λ x ws ts h. tt;
+      refused = λ x ws ts h. child_set old.words new.words x place ws ts i Null inside (stored x ws ts h) h;
+      emptied = λ x ws ts h. child_replaced old.words new.words x place ws ts i Null inside (stored x ws ts h) h;
+    }
 
 -- the new struct
 

@@ -1,9 +1,9 @@
 -- The structs and lists of a message being built, by the pointers that lead to them, and what calls
 -- at their places do to their values ("Structs", "Lists").
-use Rattle.std.specs.Prelude.{◌≡◌, ℕ, ◌+◌, ◌*◌, ◌<◌, List, length, ⊤}
+use Rattle.std.specs.Prelude.{◌≡◌, ℕ, ◌+◌, ◌*◌, ◌<◌, List, length, ⊤, OnErr, OnOk, Result}
 use Rattle.capnp_format.specs.Forest.{target}
 use Rattle.capnp_format.specs.Segments.{Segments}
-use Rattle.capnp_format.specs.Tree.{Tree, Struct, Flat, Pointers, Structs, Trees, Elements, count, element_count}
+use Rattle.capnp_format.specs.Tree.{Tree, Null, Struct, Flat, Pointers, Structs, Trees, Elements, count, element_count}
 use Rattle.capnp_making.specs.Fields.{put_field}
 use Rattle.capnp_making.specs.Path.{put_tree, put_struct}
 use Rattle.capnp_making.specs.Stored.{IsStored, IsReplaced}
@@ -15,6 +15,7 @@ use Rattle.capnp_contents.specs.declared.existing.ExistingStruct.{ExistingStruct
 use Rattle.capnp_readers.specs.declared.readers.list_reader.ListPlace.{ListPlace}
 use Rattle.capnp_readers.specs.declared.readers.struct_reader.StructPlace.{StructPlace}
 use Rattle.capnp_builders.specs.Places.{Field, list_place, struct_place}
+use Rattle.capnp_words.specs.declared.error.ErrorKind.{ErrorKind}
 
 -- How a pointer leads to a struct: directly, or through a list of structs that has the struct as
 -- its element i. The elements of that list have d data words and q pointers; all but element i are
@@ -114,3 +115,12 @@ ReplacesChild On c i u =
     (x : Holder) (ws : List ℕ) (ts : Trees) → HasStruct c.old x c.place ws ts →
     On (IsReplaced c.old c.new x.segment x.at (held_tree x.lead ws ts)
     (held_tree x.lead ws (put_tree ts i u)))
+
+-- The call, with the result r, makes u child i of the struct, and changes nothing else of the
+-- message. If it is refused, the child is Null afterwards.
+pub record MakesChild {V : Type 0} (r : Result V ErrorKind) (c : CallIn) (i : ℕ) (u : Tree)
+    : Type 0 where
+  pub sets : SetsChild (OnOk r) c i u
+  pub replaces : ReplacesChild (OnOk r) c i u
+  pub refused : SetsChild (OnErr r) c i Null
+  pub emptied : ReplacesChild (OnErr r) c i Null

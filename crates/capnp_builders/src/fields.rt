@@ -19,7 +19,7 @@ ghost use Rattle.capnp_making.specs.Path.{put_tree};
 ghost use Rattle.capnp_making.specs.Stored.{IsStored};
 ghost use Rattle.capnp_readers.specs.Readers.{IsListPlace, IsStructPlace};
 ghost use Rattle.capnp_readers.specs.Sections.{IsInside};
-ghost use Rattle.capnp_builders.specs.Held.{HasList, HasStruct, Holder, ReplacesChild, ReplacesField, SetsChild, SetsField, call_in, element_of, pointer_to};
+ghost use Rattle.capnp_builders.specs.Held.{HasList, HasStruct, Holder, MakesChild, ReplacesField, SetsField, call_in, element_of, pointer_to};
 ghost use Rattle.capnp_builders.specs.Places.{IsAligned, IsListOf, IsStructOf, WritesField, element_place, field, number_field};
 
 use crate::builders::{NO_SECTIONS, list_builder};
@@ -108,16 +108,9 @@ pub fn set_text<A: BuilderArena>(
         (A.view arena.old) (A.view arena.new)) (Flat 2 (text.now ++ 0 ∷ []))
         (words_for 2 (length text.now + 1)) }
     ensures grows { Grows (A.view arena.old).words (A.view arena.new).words }
-    ensures sets { SetsChild (OnOk result)
+    ensures child { MakesChild result
         (call_in place (A.view arena.old).words (A.view arena.new).words) index
         (Flat 2 (text.now ++ 0 ∷ [])) }
-    ensures replaces { ReplacesChild (OnOk result)
-        (call_in place (A.view arena.old).words (A.view arena.new).words) index
-        (Flat 2 (text.now ++ 0 ∷ [])) }
-    ensures refused { SetsChild (OnErr result)
-        (call_in place (A.view arena.old).words (A.view arena.new).words) index Null }
-    ensures emptied { ReplacesChild (OnErr result)
-        (call_in place (A.view arena.old).words (A.view arena.new).words) index Null }
 {
     bytes::set_text(arena, place.segment, place.pointers_at + index as u32, text)
 }
@@ -141,16 +134,9 @@ pub fn set_data<A: BuilderArena>(
         (A.view arena.old) (A.view arena.new)) (Flat 2 contents.now)
         (words_for 2 (length contents.now)) }
     ensures grows { Grows (A.view arena.old).words (A.view arena.new).words }
-    ensures sets { SetsChild (OnOk result)
+    ensures child { MakesChild result
         (call_in place (A.view arena.old).words (A.view arena.new).words) index
         (Flat 2 contents.now) }
-    ensures replaces { ReplacesChild (OnOk result)
-        (call_in place (A.view arena.old).words (A.view arena.new).words) index
-        (Flat 2 contents.now) }
-    ensures refused { SetsChild (OnErr result)
-        (call_in place (A.view arena.old).words (A.view arena.new).words) index Null }
-    ensures emptied { ReplacesChild (OnErr result)
-        (call_in place (A.view arena.old).words (A.view arena.new).words) index Null }
 {
     bytes::set_data(
         arena,
@@ -187,16 +173,9 @@ pub fn init_struct<A: BuilderArena>(
         → IfOk result (λ inner. HasStruct (A.view arena.new).words
         (pointer_to place.segment (place.pointers_at + index)) inner
         (words_of_zero size.data_words) (nulls size.pointers)) }
-    ensures sets { SetsChild (OnOk result)
+    ensures child { MakesChild result
         (call_in place (A.view arena.old).words (A.view arena.new).words) index
         (zero_struct size) }
-    ensures replaces { ReplacesChild (OnOk result)
-        (call_in place (A.view arena.old).words (A.view arena.new).words) index
-        (zero_struct size) }
-    ensures refused { SetsChild (OnErr result)
-        (call_in place (A.view arena.old).words (A.view arena.new).words) index Null }
-    ensures emptied { ReplacesChild (OnErr result)
-        (call_in place (A.view arena.old).words (A.view arena.new).words) index Null }
 {
     new_struct(arena, place.segment, place.pointers_at + index as u32, size)
 }
@@ -233,16 +212,9 @@ pub fn init_list<A: BuilderArena>(
         → HasStruct (A.view arena.old).words x place ws ts
         → IfOk result (λ list. HasList (A.view arena.new).words place.segment
         (place.pointers_at + index) list (zero_list (size_number size) count)) }
-    ensures sets { SetsChild (OnOk result)
+    ensures child { MakesChild result
         (call_in place (A.view arena.old).words (A.view arena.new).words) index
         (zero_list (size_number size) count) }
-    ensures replaces { ReplacesChild (OnOk result)
-        (call_in place (A.view arena.old).words (A.view arena.new).words) index
-        (zero_list (size_number size) count) }
-    ensures refused { SetsChild (OnErr result)
-        (call_in place (A.view arena.old).words (A.view arena.new).words) index Null }
-    ensures emptied { ReplacesChild (OnErr result)
-        (call_in place (A.view arena.old).words (A.view arena.new).words) index Null }
 {
     new_list(
         arena,
@@ -286,16 +258,9 @@ pub fn init_struct_list<A: BuilderArena>(
         (element_of place.segment (place.pointers_at + index) size
         (zero_elements size.data_words size.pointers count) i) (element_place list.size list i)
         (words_of_zero size.data_words) (nulls size.pointers)) }
-    ensures sets { SetsChild (OnOk result)
+    ensures child { MakesChild result
         (call_in place (A.view arena.old).words (A.view arena.new).words) index
         (zero_structs count size) }
-    ensures replaces { ReplacesChild (OnOk result)
-        (call_in place (A.view arena.old).words (A.view arena.new).words) index
-        (zero_structs count size) }
-    ensures refused { SetsChild (OnErr result)
-        (call_in place (A.view arena.old).words (A.view arena.new).words) index Null }
-    ensures emptied { ReplacesChild (OnErr result)
-        (call_in place (A.view arena.old).words (A.view arena.new).words) index Null }
 {
     new_struct_list(
         arena,

@@ -11,7 +11,8 @@ use Rattle.capnp_copies.specs.Originals.{value_original}
 use Rattle.capnp_copies.proofs.FlatRead.{ok_so, err_so}
 use Rattle.capnp_copies.proofs.Growth.{none_itself, none_pruned, taken_so, value_within, until_within}
 use Rattle.capnp_contents.proofs.Growing.{grows_again, pruned_grows}
-use Rattle.capnp_builders.proofs.CopiesHeld.{null_replaced, fresh_copied, alone_copied, nothing_zeroed, put_copied, put_stopped, can_later, copy_grows}
+use Rattle.capnp_builders.proofs.CopiesHeld.{null_replaced, fresh_copied, alone_copied, put_copied, put_stopped, can_later, copy_grows}
+use Rattle.capnp_making.proofs.Zeros.{pruned_itself}
 use Rattle.capnp_builders.proofs.builders.PointerBuilder.copy_from.Goals as goal
 use Rattle.capnp_making.specs.Makes.{call_at}
 
@@ -24,7 +25,7 @@ returns-then-is_null-clause-copied g c =
     let p = c.args.self.now.at in
     let zero : word_at old.words s p ≡ 0 = c.is_null.ensures.0 (search rules) in
     let null = null_replaced old.words old.words s p Null c.requires.place zero (unchanged old.words s p Null (null_stored old.words s p c.requires.place zero)) in
-    ok_so c.copy_value.result _ _ (rw (c.pointer-value.ensures.source, c.pointer-value.ensures.place, c.pointer-value.ensures.nesting) at c.copy_value.ensures.copied) (λ x made. put_copied (change (form_of c.args.canonicalize) (call_at c.args.self.now.segment c.args.self.now.at (g.A.BuilderArena.view c.args.self.now.arena.now) (g.A.BuilderArena.view c.copy_value.new.arena)) c.args.lim.now c.copy_value.new.lim) old refl (nothing_zeroed old.words) null made)
+    ok_so c.copy_value.result _ _ (rw (c.pointer-value.ensures.source, c.pointer-value.ensures.place, c.pointer-value.ensures.nesting) at c.copy_value.ensures.copied) (λ x made. put_copied (change (form_of c.args.canonicalize) (call_at c.args.self.now.segment c.args.self.now.at (g.A.BuilderArena.view c.args.self.now.arena.now) (g.A.BuilderArena.view c.copy_value.new.arena)) c.args.lim.now c.copy_value.new.lim) old refl (pruned_itself old.words) null made)
 
 pub returns-then-is_null-clause-refused : goal.returns-then-is_null-clause-refused
 returns-then-is_null-clause-refused g c =
@@ -33,7 +34,7 @@ returns-then-is_null-clause-refused g c =
     let p = c.args.self.now.at in
     let zero : word_at old.words s p ≡ 0 = c.is_null.ensures.0 (search rules) in
     let null = null_replaced old.words old.words s p Null c.requires.place zero (unchanged old.words s p Null (null_stored old.words s p c.requires.place zero)) in
-    err_so c.copy_value.result _ _ (rw (c.pointer-value.ensures.source, c.pointer-value.ensures.place, c.pointer-value.ensures.nesting) at c.copy_value.ensures.refused) (λ k stop. put_stopped (change (form_of c.args.canonicalize) (call_at c.args.self.now.segment c.args.self.now.at (g.A.BuilderArena.view c.args.self.now.arena.now) (g.A.BuilderArena.view c.copy_value.new.arena)) c.args.lim.now c.copy_value.new.lim) old refl (nothing_zeroed old.words) null stop)
+    err_so c.copy_value.result _ _ (rw (c.pointer-value.ensures.source, c.pointer-value.ensures.place, c.pointer-value.ensures.nesting) at c.copy_value.ensures.refused) (λ k stop. put_stopped (change (form_of c.args.canonicalize) (call_at c.args.self.now.segment c.args.self.now.at (g.A.BuilderArena.view c.args.self.now.arena.now) (g.A.BuilderArena.view c.copy_value.new.arena)) c.args.lim.now c.copy_value.new.lim) old refl (pruned_itself old.words) null stop)
 
 pub returns-then-is_null-clause-fresh : goal.returns-then-is_null-clause-fresh
 returns-then-is_null-clause-fresh g c = λ only. fresh_copied c.copy_value.result (read_by g.B.ReaderArena c.args.from) (change (form_of c.args.canonicalize) (call_at c.args.self.now.segment c.args.self.now.at (g.A.BuilderArena.view c.args.self.now.arena.now) (g.A.BuilderArena.view c.copy_value.new.arena)) c.args.lim.now c.copy_value.new.lim) c.requires.place only (rw (c.pointer-value.ensures.source, c.pointer-value.ensures.place, c.pointer-value.ensures.nesting) at c.copy_value.ensures.copied)
