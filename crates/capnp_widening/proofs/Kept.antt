@@ -1,16 +1,7 @@
 -- What a call keeps, and what one call after another keeps.
-use Rattle.std.proofs.Common.{◌≡◌, inl, ℕ, ◌+◌, ◌*◌, ◌<◌, ◌≤◌, refl, sym, ap, subst, ◌∙◌, arith}
-use Rattle.capnp_arena_traits.specs.View.{View, KeepsLimits}
-use Rattle.capnp_format.specs.Segments.{Segments}
-use Rattle.capnp_making.specs.Zeroed.{IsPruned}
+use Rattle.std.proofs.Common.{◌≡◌, ℕ, ◌+◌, ◌*◌, ◌<◌, ◌≤◌, arith}
 use Rattle.capnp_making.proofs.BelowElements.{element_within}
 pub use Rattle.capnp_contents.proofs.Growing.{grows_itself, grows_again}
-
-pub limits_again : (a b c : View) → KeepsLimits a b → KeepsLimits b c → KeepsLimits a c
-limits_again a b c first second = second ∙ ap (λ (v : View). record v { words = c.words }) first
-
-pub nothing_pruned : (S : Segments) → IsPruned S S
-nothing_pruned S = record { segments = refl; words = λ v. refl; only = λ v r. inl refl }
 
 -- Words allocated in two steps are at most as many as both steps allow.
 pub few_again : (s m r n k : ℕ) → m ≤ s + n → r ≤ m + k → r ≤ s + (n + k)
@@ -31,9 +22,6 @@ some_in_rows k i n less some = omega (arith, element_within k n i less)
 
 pub lt_next : (i : ℕ) → i < i + 1
 lt_next i = omega arith
-
-pub written_keeps : (a b : View) (S : Segments) → b ≡ record a { words = S } → KeepsLimits a b
-written_keeps a b S e = subst (KeepsLimits a) (sym e) refl
 
 pub few_at_most : (s r n k : ℕ) → r ≤ s + n → r ≤ s + (n + k)
 few_at_most s r n k more = omega arith

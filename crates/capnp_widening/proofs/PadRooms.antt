@@ -25,12 +25,6 @@ use Rattle.capnp_widening.proofs.Statements.{a_move, row_moves, rows_moves}
 abbrev near_word : ℕ → ℕ
 near_word x = cond (nat_eq x 0) 0 (cond (nat_lt (kind x) 2) 1 0)
 
-null_word : (x : ℕ) → x ≡ 0 → near_word x ≡ 0
-null_word x e = grind (arith, nat_tests)
-
-copied_word : (x : ℕ) → 2 ≤ kind x → near_word x ≡ 0
-copied_word x l = grind (arith, nat_tests)
-
 far_word : (x : ℕ) → x ≢ 0 → kind x < 2 → near_word x ≡ 1
 far_word x some l = grind (arith, nat_tests)
 
@@ -39,12 +33,6 @@ one_word x = grind (arith, nat_tests)
 
 near_one : (S : Segments) (s p v r n : ℕ) → near_word (word_at S s p) ≡ n → near_pointers S (a_move s p v r ∷ []) ≡ n
 near_one S s p v r n e = omega (arith, e)
-
-pub near_null : (S : Segments) (s p v r : ℕ) → word_at S s p ≡ 0 → near_pointers S (a_move s p v r ∷ []) ≡ 0
-near_null S s p v r e = near_one S s p v r 0 (null_word (word_at S s p) e)
-
-pub near_copied : (S : Segments) (s p v r : ℕ) → 2 ≤ kind (word_at S s p) → near_pointers S (a_move s p v r ∷ []) ≡ 0
-near_copied S s p v r l = near_one S s p v r 0 (copied_word (word_at S s p) l)
 
 pub near_far : (S : Segments) (s p v r : ℕ) → word_at S s p ≢ 0 → kind (word_at S s p) < 2 → near_pointers S (a_move s p v r ∷ []) ≡ 1
 near_far S s p v r some l = near_one S s p v r 1 (far_word (word_at S s p) some l)

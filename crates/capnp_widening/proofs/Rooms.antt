@@ -7,7 +7,7 @@ use Rattle.std.proofs.lemmas.Bool.{cases_lt, cases_eq}
 use Rattle.capnp_words.specs.declared.error.ErrorKind.{ErrorKind}
 use Rattle.capnp_format.specs.Segments.{Segments, Grows, segment}
 use Rattle.capnp_arena_traits.specs.Taking.{IsFirstFit, IsFull, IsTaken, SameRoomBelow, with_another}
-use Rattle.capnp_arena_traits.specs.View.{View, KeepsLimits}
+use Rattle.capnp_arena_traits.specs.View.{View}
 use Rattle.capnp_arena_traits.specs.Written.{extended, with_word}
 use Rattle.capnp_making.specs.Memory.{HasRoom, RefusesWords}
 use Rattle.capnp_making.specs.Near.{HasOwnRoom}
@@ -90,14 +90,6 @@ less_room v m n l (k, there, fits) = (k, there, omega (arith, fits))
 
 pub room_still : (a b : View) (n : ℕ) → b.words ≡ a.words → b.room ≡ a.room → HasSomeRoom a n → HasSomeRoom b n
 room_still a b n words room (k, l, fits) = (k, omega (arith, ap length words), omega (arith, fits, ap (λ S. length (segment S k)) words, ap (λ (f : ℕ → ℕ). f k) room))
-
-pub room_written : (a b : View) (n : ℕ) → KeepsLimits a b → length b.words ≡ length a.words → ((x : ℕ) → length (segment b.words x) ≡ length (segment a.words x)) → HasSomeRoom a n → HasSomeRoom b n
-room_written a b n limits segments words (k, l, fits) = (k, omega (arith, segments), omega (arith, fits, words k, ap (λ (v : View). v.room k) limits))
-
--- The room that an object's segment has, or any other segment.
-pub room_some : (v : View) (id n : ℕ) → id < length v.words → HasRoom v id n → HasSomeRoom v n
-room_some v id n l (inl fits) = (id, l, fits)
-room_some v id n l (inr (k, fit)) = (k, fit.0, omega (arith, fit.1))
 
 -- The object's segment has no room.
 pub room_elsewhere : (v : View) (id n m : ℕ) → v.room id < length (segment v.words id) + n → HasRoom v id (n + m) → HasSomeRoom v (n + 1 + m)

@@ -3,9 +3,6 @@
 use Rattle.std.proofs.Common.{◌≡◌, ◌⊎◌, inl, inr, ℕ, ◌+◌, ◌*◌, ◌^◌, ◌<◌, ◌≤◌, ap, ap₂, arith}
 use Rattle.capnp_making.proofs.BelowElements.{element_within, next_place}
 
-pub first_row : (at step : ℕ) → at ≡ at + 0 * step
-first_row at step = omega arith
-
 pub next_row : (at step i place : ℕ) → place ≡ at + i * step → place + step ≡ at + (i + 1) * step
 next_row at step i place is = omega (arith, is, next_place step i)
 

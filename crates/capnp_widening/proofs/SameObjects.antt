@@ -14,6 +14,7 @@ use Rattle.capnp_format.proofs.Frame.{times-append}
 use Rattle.capnp_making.proofs.Extents.{times-object}
 use Rattle.capnp_widening.proofs.NewObjects.{pads_from}
 use Rattle.capnp_widening.proofs.Statements.{SameStart}
+use Rattle.capnp_format.proofs.ZeroWords.{zero_is_null}
 
 -- Where a near pointer leads, a far pointer by one pad, and a far pointer by two.
 pub near_leads : (S : Segments) (s p b : ℕ) → word_at S s p ≢ 0 → kind (word_at S s p) ≢ 2 → b ≤ length (segment S s) → IsOffsetTo p (offset_bits (word_at S s p)) b →
@@ -240,18 +241,10 @@ null_cost S n s p (Flat size ns) c e (a, some, small, o, claim, w, g) = absurd (
 null_cost S n s p (Pointers ts) c e (a, k, some, o, claim, all, g) = absurd (o.leads_to.0 e)
 null_cost S n s p (Structs d q es) c e (a, m, k, some, o, claim, tag, fits, all, g) = absurd (o.leads_to.0 e)
 
-null_only : (S : Segments) (n s p : ℕ) (t : Tree) (c : ℕ) → word_at S s p ≡ 0 → Means S n s p t c → t ≡ Null
-null_only S n s p Null c e m = refl
-null_only S n s p (Capability i) c e (a, l, w, g) = absurd (l.0 e)
-null_only S n s p (Struct ws ts) c e (a, k, some, o, claim, w, all, g) = absurd (o.leads_to.0 e)
-null_only S n s p (Flat size ns) c e (a, some, small, o, claim, w, g) = absurd (o.leads_to.0 e)
-null_only S n s p (Pointers ts) c e (a, k, some, o, claim, all, g) = absurd (o.leads_to.0 e)
-null_only S n s p (Structs d q es) c e (a, m, k, some, o, claim, tag, fits, all, g) = absurd (o.leads_to.0 e)
-
 -- A moved pointer means the value of the old one.
 pub moved_means : (S : Segments) (n s p v r : ℕ) (t : Tree) (c : ℕ) → IsMoved S s p v r → Means S n s p t c → MeansToo S n s p v r t c
 moved_means S n s p v r t c (inl (e, f)) m =
-    subst (λ z. MeansToo S n s p v r z c) (sym (null_only S n s p t c e m)) (record {
+    subst (λ z. MeansToo S n s p v r z c) (sym (zero_is_null S s p t n c e m)) (record {
       cost = 0;
       means = (f, refl);
       costs = omega (arith, null_pads S s p e, null_pads S v r f, null_cost S n s p t c e m);

@@ -9,7 +9,8 @@ use Rattle.capnp_widening.specs.Rooms.{GrowsByAtMost}
 use Rattle.capnp_widening.proofs.Kept.{grows_again, grows_itself, lt_next, rows_few, some_in_rows}
 use Rattle.capnp_widening.proofs.Movings.{none_moved}
 use Rattle.capnp_widening.proofs.PadRooms.{Apart, apart_none, apart_of, apart_rows, made_apart, refused_apart, row_pads_at}
-use Rattle.capnp_widening.proofs.RowPlaces.{first_row, next_row, row_inside, row_behind_fits, row_there}
+use Rattle.capnp_widening.proofs.RowPlaces.{next_row, row_inside, row_behind_fits, row_there}
+use Rattle.capnp_making.proofs.WordsInside.{first_place}
 use Rattle.capnp_widening.proofs.Rows.{rows_moves_next, rows_some}
 use Rattle.capnp_widening.proofs.WrittenAnew.{writes_none, rows_writes_next}
 use Rattle.capnp_widening.proofs.Statements.{rows_moves}
@@ -55,8 +56,8 @@ loop-i-init g c =
     record {
       moves = none_moved v.words;
       written = writes_none v;
-      source_at = first_row c.args.from.at c.args.from.step;
-      place_at = first_row c.args.to.at c.args.to.step;
+      source_at = first_place c.args.from.at c.args.from.step;
+      place_at = first_place c.args.to.at c.args.to.step;
       longer = grows_itself v.words;
       few = le-add_right _ _;
       memory = keeps_itself v;

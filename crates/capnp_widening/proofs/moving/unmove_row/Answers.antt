@@ -1,6 +1,6 @@
 use Rattle.capnp_format.specs.Segments.{Segments}
 use Rattle.capnp_making.proofs.Zeros.{pruned_again}
-use Rattle.capnp_widening.proofs.Kept.{limits_again}
+use Rattle.capnp_making.proofs.Memory.{limits_again}
 use Rattle.capnp_widening.proofs.Unmoving.{unmoves_next}
 use Rattle.capnp_widening.proofs.moving.unmove_row.Goals as goal
 

@@ -1,9 +1,10 @@
 use Rattle.std.proofs.Common.{◌≡◌, refl, subst, le_antisymm, le_of_eq, sym, rules}
 use Rattle.capnp_format.specs.Segments.{Segments}
-use Rattle.capnp_making.proofs.Zeros.{nothing_zeroed, pruned_again}
+use Rattle.capnp_making.proofs.Zeros.{nothing_zeroed, pruned_again, pruned_itself}
 use Rattle.capnp_widening.specs.Moved.{Unmoves}
-use Rattle.capnp_widening.proofs.Kept.{limits_again, nothing_pruned}
-use Rattle.capnp_widening.proofs.RowPlaces.{first_row, next_row, row_inside, row_behind_fits}
+use Rattle.capnp_making.proofs.Memory.{limits_again}
+use Rattle.capnp_widening.proofs.RowPlaces.{next_row, row_inside, row_behind_fits}
+use Rattle.capnp_making.proofs.WordsInside.{first_place}
 use Rattle.capnp_widening.proofs.Rows.{rows_unmoves_next}
 use Rattle.capnp_widening.proofs.Statements.{rows_moves}
 use Rattle.capnp_widening.proofs.moving.unmove_rows.Goals as goal
@@ -48,9 +49,9 @@ loop-i-init g c =
     let S : Segments = (g.A.BuilderArena.view c.args.arena.now).words in
     record {
       zeroed = λ inside old_apart new_apart. nothing_zeroed S;
-      source_at = first_row c.args.from.at c.args.from.step;
-      place_at = first_row c.args.to.at c.args.to.step;
-      pruned = nothing_pruned S;
+      source_at = first_place c.args.from.at c.args.from.step;
+      place_at = first_place c.args.to.at c.args.to.step;
+      pruned = pruned_itself S;
       limits = refl;
     }
 

@@ -2,11 +2,11 @@ use Rattle.std.proofs.Common.{◌≡◌, ℕ, ◌+◌, ◌*◌, ◌<◌, length,
 use Rattle.capnp_format.specs.Numbers.{element_bits}
 use Rattle.capnp_format.specs.Segments.{Segments, segment}
 use Rattle.capnp_words.specs.Sizes.{size_number}
-use Rattle.capnp_making.proofs.Memory.{words_in}
-use Rattle.capnp_widening.proofs.Kept.{limits_again, written_keeps}
+use Rattle.capnp_making.proofs.Memory.{words_in, limits_again, limits_written}
 use Rattle.capnp_widening.proofs.NumbersRead.{in_words}
 use Rattle.capnp_widening.proofs.NumberSteps.{no_numbers_copied, numbers_copied_next}
-use Rattle.capnp_widening.proofs.RowPlaces.{first_row, next_row, start_inside, step_fits}
+use Rattle.capnp_widening.proofs.RowPlaces.{next_row, start_inside, step_fits}
+use Rattle.capnp_making.proofs.WordsInside.{first_place}
 use Rattle.capnp_widening.proofs.Statements.{CopiedNumbers, numbers_copied}
 use Rattle.capnp_widening.proofs.numbers.copy_numbers.Goals as goal
 
@@ -32,7 +32,7 @@ pub loop-i-init : goal.loop-i-init
 loop-i-init g c =
     record {
       copied = no_numbers_copied (g.A.BuilderArena.view c.args.arena.now).words c.args.old.segment c.args.old.start (element_bits (size_number c.args.old.size)) c.args.to.segment c.args.to.at c.args.step;
-      place_at = first_row c.args.to.at c.args.step;
+      place_at = first_place c.args.to.at c.args.step;
       limits = refl;
     }
 
@@ -55,7 +55,7 @@ loop-i-preserved g c =
       place_at = next_row c.args.to.at c.args.step i c.loop-i.place c.loop-i.invariant.place_at;
       limits = limits_again (g.A.BuilderArena.view c.args.arena.now) (g.A.BuilderArena.view c.loop-i.arena)
           (g.A.BuilderArena.view c.set_word.new.self) c.loop-i.invariant.limits
-          (written_keeps (g.A.BuilderArena.view c.loop-i.arena) (g.A.BuilderArena.view c.set_word.new.self) _
+          (limits_written (g.A.BuilderArena.view c.loop-i.arena) (g.A.BuilderArena.view c.set_word.new.self) _
           c.set_word.ensures);
     }
 

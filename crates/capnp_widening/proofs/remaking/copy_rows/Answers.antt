@@ -1,7 +1,8 @@
 use Rattle.std.proofs.Common.{◌≡◌, refl, sym, subst, le_antisymm, le_of_eq}
 use Rattle.capnp_format.specs.Segments.{Segments}
-use Rattle.capnp_widening.proofs.Kept.{limits_again}
-use Rattle.capnp_widening.proofs.RowPlaces.{first_row, next_row, step_inside, step_fits, steps_apart}
+use Rattle.capnp_making.proofs.Memory.{limits_again}
+use Rattle.capnp_widening.proofs.RowPlaces.{next_row, step_inside, step_fits, steps_apart}
+use Rattle.capnp_making.proofs.WordsInside.{first_place}
 use Rattle.capnp_widening.proofs.RowsCopied.{no_words_copied, no_rows_copied, rows_copied_next}
 use Rattle.capnp_widening.proofs.Statements.{CopiedRows}
 use Rattle.capnp_widening.proofs.remaking.copy_rows.Goals as goal
@@ -57,8 +58,8 @@ loop-i-init g c =
     let S : Segments = (g.A.BuilderArena.view c.args.arena.now).words in
     record {
       copied = no_rows_copied S c.args.from.segment c.args.from.at c.args.from.step c.args.to.segment c.args.to.at c.args.to.step c.args.words;
-      source_at = first_row c.args.from.at c.args.from.step;
-      place_at = first_row c.args.to.at c.args.to.step;
+      source_at = first_place c.args.from.at c.args.from.step;
+      place_at = first_place c.args.to.at c.args.to.step;
       limits = refl;
     }
 
