@@ -1,18 +1,26 @@
 //! The number zero, by type.
 ghost use Rattle.std.specs.Prelude.{◌≡◌, pos};
+ghost use Rattle.std.proofs.Common.{refl};
+
+use crate::primitive::Primitive;
 
 /// Numbers with a zero. A field that a struct doesn't have is read as zero.
-pub trait Zero {
+pub trait Zero: Primitive {
     // The zero.
     ghost nought: { Self };
 
     /// The number 0.
     fn zero() -> Self
         ensures { result ≡ nought };
+
+    // The zero has no bit.
+    ghost no_bits: { Self.bits_of nought ≡ 0 };
 }
 
 impl Zero for u8 {
     ghost nought = { 0 };
+
+    ghost no_bits = { refl };
 
     fn zero() -> u8 {
         0
@@ -22,6 +30,8 @@ impl Zero for u8 {
 impl Zero for u16 {
     ghost nought = { 0 };
 
+    ghost no_bits = { refl };
+
     fn zero() -> u16 {
         0
     }
@@ -29,6 +39,8 @@ impl Zero for u16 {
 
 impl Zero for u32 {
     ghost nought = { 0 };
+
+    ghost no_bits = { refl };
 
     fn zero() -> u32 {
         0
@@ -38,6 +50,8 @@ impl Zero for u32 {
 impl Zero for u64 {
     ghost nought = { 0 };
 
+    ghost no_bits = { refl };
+
     fn zero() -> u64 {
         0
     }
@@ -45,6 +59,8 @@ impl Zero for u64 {
 
 impl Zero for i8 {
     ghost nought = { pos 0 };
+
+    ghost no_bits = { refl };
 
     fn zero() -> i8 {
         0
@@ -54,6 +70,8 @@ impl Zero for i8 {
 impl Zero for i16 {
     ghost nought = { pos 0 };
 
+    ghost no_bits = { refl };
+
     fn zero() -> i16 {
         0
     }
@@ -62,6 +80,8 @@ impl Zero for i16 {
 impl Zero for i32 {
     ghost nought = { pos 0 };
 
+    ghost no_bits = { refl };
+
     fn zero() -> i32 {
         0
     }
@@ -69,6 +89,8 @@ impl Zero for i32 {
 
 impl Zero for i64 {
     ghost nought = { pos 0 };
+
+    ghost no_bits = { refl };
 
     fn zero() -> i64 {
         0
