@@ -8,6 +8,7 @@ pub mod Same
 pub mod Values
 pub mod ListValues
 pub mod Given
+pub mod Stays
 pub mod Fields
 pub mod Texts
 pub mod Spent

@@ -8,13 +8,13 @@ use Rattle.capnp_words.specs.declared.wire_pointer.ElementSize.TheVariants.{Void
 use Rattle.capnp_words.specs.declared.wire_pointer.StructSize.{StructSize}
 use Rattle.capnp_arena_traits.specs.declared.arena.reader_arena.ReaderArena.{Ghosts}
 use Rattle.capnp_format.specs.Bytes.{words_of}
-use Rattle.capnp_format.specs.Means.{Means, MeansAll, MeansElements, ListAt}
+use Rattle.capnp_format.specs.Means.{MeansAll, MeansElements, ListAt}
 use Rattle.capnp_format.specs.Numbers.{unpacked, words_for}
 use Rattle.capnp_format.specs.Segments.{Segments, Target, words_at, HasWords}
 use Rattle.capnp_format.specs.Tree.{Tree, Null, Capability, Struct, Flat, Pointers, Structs, Trees, no_trees, tree, Elements, no_elements, element, count, element_count}
 use Rattle.capnp_format.specs.Word.{kind, element_size, offset_bits, list_count}
 use Rattle.capnp_making.specs.Path.{tree_at, struct_at, next, Child}
-use Rattle.capnp_making.proofs.Paths.{means_child, means_element_child}
+use Rattle.capnp_making.proofs.Paths.{means_child}
 use Rattle.capnp_objects.specs.Demands.{tag}
 use Rattle.capnp_objects.specs.Faults.{LeadsTo, child_at}
 use Rattle.capnp_objects.specs.Outcomes.{MeansThere}
@@ -28,16 +28,16 @@ use Rattle.capnp_readers.specs.Calls.{Call, WhereRead, IsListRead}
 use Rattle.capnp_readers.specs.Readers.{read_by, IsTargetList, ShowsList, ShowsElement}
 use Rattle.capnp_readers.specs.Sections.{HoldsPointer, pointers_behind, elements_words}
 use Rattle.capnp_readers.specs.Sizes.{pointers_read}
-use Rattle.capnp_readers.specs.Values.{HasValue, HasStructs, list_length, struct_element, place_read, first_element, ShowsStructOf, ShowsListOf}
+use Rattle.capnp_readers.specs.Values.{HasValue, HasStructs, list_length, struct_element, place_read, first_element, tree_cost, first_cost, pointer_cost, ShowsStructOf, ShowsListOf}
 use Rattle.capnp_readers.specs.declared.readers.PointerReader.{PointerReader}
 use Rattle.capnp_readers.specs.declared.readers.struct_reader.StructReader.{StructReader}
 use Rattle.capnp_readers.specs.declared.readers.list_reader.ListReader.{ListReader}
 use Rattle.capnp_readers.proofs.Answering.{read_at}
 use Rattle.capnp_readers.proofs.Sections.{flat_words}
-use Rattle.capnp_readers.proofs.Values.{level_less}
+use Rattle.capnp_readers.proofs.Values.{level_less, tree_means}
 
 -- Element i of a list of structs is at its place.
-record ElementThere (r : Reading) (d q : ℕ) (es : Elements) (i : ℕ) : Type 0 where
+pub record ElementThere (r : Reading) (d q : ℕ) (es : Elements) (i : ℕ) : Type 0 where
   pub words : List ℕ
   pub children : Trees
   pub cost : ℕ
@@ -47,7 +47,7 @@ record ElementThere (r : Reading) (d q : ℕ) (es : Elements) (i : ℕ) : Type 0
   pub has : HasWords r.segments r.segment (r.at + i * (d + q)) words
   pub means : MeanThere (behind r (i * (d + q) + d)) children cost
 
-element_there : (r : Reading) (d q : ℕ) (es : Elements) (c i : ℕ) → i < element_count es → MeansElements r.segments r.levels r.segment r.at d q es c → ElementThere r d q es i
+pub element_there : (r : Reading) (d q : ℕ) (es : Elements) (c i : ℕ) → i < element_count es → MeansElements r.segments r.levels r.segment r.at d q es c → ElementThere r d q es i
 element_there r d q no_elements c i l h = absurd (omega arith)
 element_there r d q (element ws ts es) c zero l (a, b, long, many, here, all, rest, cost) = record {
   words = ws;
@@ -71,6 +71,15 @@ element_there r d q (element ws ts es) c (suc i) l (a, b, long, many, here, all,
       has = subst (λ z. HasWords r.segments r.segment z x.words) (let e : r.at + (d + q) + i * (d + q) ≡ r.at + suc i * (d + q) = omega arith in e) x.has;
       means = subst (λ z. MeansAll r.segments r.levels r.segment z x.children x.cost) (let e : r.at + (d + q) + (i * (d + q) + d) ≡ r.at + (suc i * (d + q) + d) = omega arith in e) x.means;
     }
+
+-- the first child of element i, at its cost
+first_means : (r : Reading) (d q : ℕ) (es : Elements) (c i : ℕ) → i < element_count es → 0 < q → (all : MeansElements r.segments r.levels r.segment r.at d q es c) → MeansThere (behind r (i * (d + q) + d)) (next (struct_at es i) (Child 0)) (first_cost r d q es c all i)
+first_means r d q no_elements c i l some all = absurd (omega arith)
+first_means r d q (element ws ts es) c zero l some all =
+    subst (λ z. MeansThere (record r { at = z }) (tree_at ts 0) (tree_cost (behind r d) ts all.0 all.5 0)) (let e : r.at + d + 0 ≡ r.at + (0 * (d + q) + d) = omega arith in e) (tree_means ts (behind r d) all.0 0 (omega (arith, some, all.3)) all.5)
+first_means r d q (element ws ts es) c (suc i) l some all =
+    subst (λ z. MeansThere (record r { at = z }) (next (struct_at es i) (Child 0)) (first_cost (behind (behind r d) q) d q es all.1 all.6 i)) (let e : r.at + d + q + (i * (d + q) + d) ≡ r.at + (suc i * (d + q) + d) = omega arith in e)
+    (first_means (behind (behind r d) q) d q es all.1 i (omega arith) some all.6)
 
 module _ {A : Type 0} (g : Ghosts A) where
   -- a list with a tag is one of structs
@@ -249,24 +258,20 @@ module _ {A : Type 0} (g : Ghosts A) where
   element_value list i r inside shows source nesting (Struct ws ts) is has = absurd has
 
   -- the place of element i, or of the first pointer of a struct, means that element or child
-  pub pointer_element_value : (list : ListReader A g) (i : ℕ) (y : Reading) → i < list.count → HoldsPointer list.element_size list.struct_size →
-      y ≡ behind (first_element g list) (pointers_behind list.element_size list.struct_size i) → (t : Tree) → ShowsListOf g list t → HasStructs t → HasValue y (next (struct_element t i) (Child 0))
-  pointer_element_value list i y inside holds there Null is has = (let none = is.shown.0 in absurd (omega (arith, inside, none)))
-  pointer_element_value list i y inside holds there (Pointers ts) is has =
+  pub pointer_element_means : (list : ListReader A g) (i : ℕ) (y : Reading) → i < list.count → HoldsPointer list.element_size list.struct_size →
+      y ≡ behind (first_element g list) (pointers_behind list.element_size list.struct_size i) → (t : Tree) (is : ShowsListOf g list t) → HasStructs t → MeansThere y (next (struct_element t i) (Child 0)) (pointer_cost g is i)
+  pointer_element_means list i y inside holds there Null is has = (let none = is.shown.0 in absurd (omega (arith, inside, none)))
+  pointer_element_means list i y inside holds there (Pointers ts) is has =
       let (wide, counts, all) = is.shown in
       let x : Reading = first_element g list in
-      let one = means_child x.segments x.levels x.segment x.at ts is.cost i (omega (arith, inside, counts)) all in
       let at : y ≡ behind x i = there ∙ ap (λ (size : ElementSize). behind x (pointers_behind size list.struct_size i)) wide in
-      subst (λ z. HasValue z (tree_at ts i)) (sym at) (record { cost = one.0; means = one.1 })
-  pointer_element_value list i y inside holds there (Structs d q es) is has =
+      subst (λ z. MeansThere z (tree_at ts i) (pointer_cost g is i)) (sym at) (tree_means ts x is.cost i (omega (arith, inside, counts)) is.shown.2)
+  pointer_element_means list i y inside holds there (Structs d q es) is has =
       let (wide, sections, counts, all) = is.shown in
       let x : Reading = first_element g list in
       let some : 0 < q = subst (λ (size : StructSize). 0 < size.pointers) sections (subst (λ size. HoldsPointer size list.struct_size) wide holds) in
-      let one = means_element_child x.segments x.levels x.segment x.at d q es is.cost i 0 (omega (arith, inside, counts)) some all in
       let at : y ≡ behind x (i * (d + q) + d) = there ∙ ap₂ (λ (size : ElementSize) (sections : StructSize). behind x (pointers_behind size sections i)) wide sections in
-      let last : x.at + i * (d + q) + d + 0 ≡ x.at + (i * (d + q) + d) = omega arith in
-      let means : MeansThere (behind x (i * (d + q) + d)) (next (struct_at es i) (Child 0)) one.0 = subst (λ z. Means x.segments x.levels x.segment z (next (struct_at es i) (Child 0)) one.0) last one.1 in
-      subst (λ z. HasValue z (next (struct_at es i) (Child 0))) (sym at) (record { cost = one.0; means = means })
-  pointer_element_value list i y inside holds there (Flat size ns) is has = absurd has
-  pointer_element_value list i y inside holds there (Capability j) is has = absurd has
-  pointer_element_value list i y inside holds there (Struct ws ts) is has = absurd has
+      subst (λ z. MeansThere z (next (struct_at es i) (Child 0)) (pointer_cost g is i)) (sym at) (first_means x d q es is.cost i (omega (arith, inside, counts)) some is.shown.3)
+  pointer_element_means list i y inside holds there (Flat size ns) is has = absurd has
+  pointer_element_means list i y inside holds there (Capability j) is has = absurd has
+  pointer_element_means list i y inside holds there (Struct ws ts) is has = absurd has

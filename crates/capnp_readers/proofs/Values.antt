@@ -9,7 +9,6 @@ use Rattle.capnp_format.specs.Segments.{Target, words_at}
 use Rattle.capnp_format.specs.Tree.{Tree, Null, Capability, Struct, Flat, Pointers, Structs, Trees, no_trees, tree, count}
 use Rattle.capnp_format.specs.Word.{kind, data_words, pointer_count}
 use Rattle.capnp_making.specs.Path.{tree_at, next, Child}
-use Rattle.capnp_making.proofs.Paths.{means_child}
 use Rattle.capnp_objects.specs.Faults.{LeadsTo, child_at}
 use Rattle.capnp_objects.specs.Outcomes.{MeansThere}
 use Rattle.capnp_objects.specs.Reading.{Reading, behind, word_of}
@@ -21,7 +20,7 @@ use Rattle.capnp_objects.proofs.Shorthands.{MeanThere}
 use Rattle.capnp_readers.specs.Calls.{Call, WhereRead, IsStructRead}
 use Rattle.capnp_readers.specs.Readers.{read_by}
 use Rattle.capnp_readers.specs.Sizes.{pointers_read}
-use Rattle.capnp_readers.specs.Values.{HasValue, place_read, ShowsStructOf}
+use Rattle.capnp_readers.specs.Values.{HasValue, place_read, struct_children, tree_cost, child_cost, ShowsStructOf}
 use Rattle.capnp_readers.specs.declared.readers.PointerReader.{PointerReader}
 use Rattle.capnp_readers.specs.declared.readers.struct_reader.StructReader.{StructReader}
 use Rattle.capnp_readers.proofs.Answering.{read_at}
@@ -43,9 +42,22 @@ no_words : (bytes : List ℕ) → length bytes ≡ 0 → words_of bytes ≡ []
 no_words [] e = refl
 no_words (b ∷ bytes) e = absurd (omega arith)
 
--- child i of a struct
-child_at_index : (ts : Trees) (r : Reading) (c i : ℕ) → i < count ts → MeanThere r ts c → HasValue (behind r i) (tree_at ts i)
-child_at_index ts r c i l all = let one = means_child r.segments r.levels r.segment r.at ts c i l all in record { cost = one.0; means = one.1 }
+-- child i of a struct, at its cost
+pub tree_means : (ts : Trees) (r : Reading) (c i : ℕ) → i < count ts → (all : MeanThere r ts c) → MeansThere (behind r i) (tree_at ts i) (tree_cost r ts c all i)
+tree_means no_trees r c i l all = absurd (omega arith)
+tree_means (tree t ts) r c zero l all = subst (λ q. MeansThere (record r { at = q }) t all.0) (let e : r.at ≡ r.at + 0 = omega arith in e) all.2
+tree_means (tree t ts) r c (suc i) l all =
+    subst (λ q. MeansThere (record r { at = q }) (tree_at ts i) (tree_cost (behind r 1) ts all.1 all.3 i)) (let e : r.at + 1 + i ≡ r.at + suc i = omega arith in e) (tree_means ts (behind r 1) all.1 i (omega arith) all.3)
+
+tree_within : (ts : Trees) (r : Reading) (c i : ℕ) (all : MeanThere r ts c) → tree_cost r ts c all i ≤ c
+tree_within no_trees r c i all = omega arith
+tree_within (tree t ts) r c zero all = omega (arith, all.4)
+tree_within (tree t ts) r c (suc i) all = omega (arith, all.4, tree_within ts (behind r 1) all.1 i all.3)
+
+no_cost : (ts : Trees) (r : Reading) (c i : ℕ) → count ts ≤ i → (all : MeanThere r ts c) → tree_cost r ts c all i ≡ 0
+no_cost no_trees r c i l all = refl
+no_cost (tree t ts) r c zero l all = absurd (omega arith)
+no_cost (tree t ts) r c (suc i) l all = no_cost ts (behind r 1) all.1 i (omega arith) all.3
 
 module _ {A : Type 0} (g : Ghosts A) where
   -- a pointer that was read as a struct, or is null, leads to no other object
@@ -105,13 +117,25 @@ module _ {A : Type 0} (g : Ghosts A) where
     pub there : i < r.pointer_count → x ≡ behind (pointers_read g r) i
     pub beyond : r.pointer_count ≤ i → word_of x ≡ 0
 
-  pub child_value : (r : StructReader A g) (i : ℕ) (x : Reading) (t : Tree) → IsField r i x → ShowsStructOf g r t → HasValue x (next t (Child i))
-  child_value r i x Null field shows = record { cost = 0; means = (field.beyond (omega (arith, shows.pointers_are)), refl) }
-  child_value r i x (Struct ws ts) field shows = elim (within_or_not (count ts) i) [
-    | inl past ↦ subst (HasValue x) (sym (tree_past ts i past)) (record { cost = 0; means = (field.beyond (omega (arith, shows.pointers_are, past)), refl) })
-    | inr inside ↦ subst (λ y. HasValue y (tree_at ts i)) (sym (field.there (omega (arith, shows.pointers_are, inside)))) (child_at_index ts (pointers_read g r) shows.cost i inside shows.children_are)
+  pub child_means : (r : StructReader A g) (i : ℕ) (x : Reading) (t : Tree) → IsField r i x → (shows : ShowsStructOf g r t) → MeansThere x (next t (Child i)) (child_cost g shows i)
+  child_means r i x Null field shows = (field.beyond (omega (arith, shows.pointers_are)), refl)
+  child_means r i x (Struct ws ts) field shows = elim (within_or_not (count ts) i) [
+    | inl past ↦ subst (λ u. MeansThere x u (child_cost g shows i)) (sym (tree_past ts i past)) (field.beyond (omega (arith, shows.pointers_are, past)), no_cost ts (pointers_read g r) shows.cost i past shows.children_are)
+    | inr inside ↦ subst (λ y. MeansThere y (tree_at ts i) (child_cost g shows i)) (sym (field.there (omega (arith, shows.pointers_are, inside)))) (tree_means ts (pointers_read g r) shows.cost i inside shows.children_are)
   ]
-  child_value r i x (Capability j) field shows = absurd shows.is_struct
-  child_value r i x (Flat size ns) field shows = absurd shows.is_struct
-  child_value r i x (Pointers ts) field shows = absurd shows.is_struct
-  child_value r i x (Structs d q es) field shows = absurd shows.is_struct
+  child_means r i x (Capability j) field shows = absurd shows.is_struct
+  child_means r i x (Flat size ns) field shows = absurd shows.is_struct
+  child_means r i x (Pointers ts) field shows = absurd shows.is_struct
+  child_means r i x (Structs d q es) field shows = absurd shows.is_struct
+
+  pub child_within : (r : StructReader A g) (i : ℕ) (t : Tree) (shows : ShowsStructOf g r t) → child_cost g shows i ≤ shows.cost
+  child_within r i t shows = tree_within (struct_children t) (pointers_read g r) shows.cost i shows.children_are
+
+  -- a struct has no child where it has no pointer
+  pub child_beyond : (r : StructReader A g) (i : ℕ) (t : Tree) → ShowsStructOf g r t → r.pointer_count ≤ i → next t (Child i) ≡ Null
+  child_beyond r i Null shows past = refl
+  child_beyond r i (Struct ws ts) shows past = tree_past ts i (omega (arith, shows.pointers_are, past))
+  child_beyond r i (Capability j) shows past = refl
+  child_beyond r i (Flat size ns) shows past = refl
+  child_beyond r i (Pointers ts) shows past = refl
+  child_beyond r i (Structs d q es) shows past = refl

@@ -12,7 +12,7 @@ ghost use Rattle.capnp_arena_traits.specs.Checks.{Holds, misplaced};
 ghost use Rattle.capnp_objects.specs.Source.{default_segment, levels};
 ghost use Rattle.capnp_objects.specs.Refusals.{NotRead, CanBeRead};
 ghost use Rattle.capnp_objects.specs.Objects.{IsHeld};
-ghost use Rattle.capnp_objects.specs.Reading.{source_start, reading_at, word_of};
+ghost use Rattle.capnp_objects.specs.Reading.{Reading, source_start, reading_at, word_of};
 ghost use Rattle.capnp_objects.specs.Objects.{IsFew, IsObject};
 ghost use Rattle.capnp_objects.specs.Expected.{expectation, struct_expected, list_expected, text_expected, data_expected, CanBeGiven, IsGiven};
 ghost use Rattle.capnp_words.specs.declared.wire_pointer.PointerType.{PointerType};
@@ -80,7 +80,7 @@ impl<'a, A: ReaderArena> Copy for PointerReader<'a, A> {}
 impl<'a, A: ReaderArena> PointerReader<'a, A> {
     ghost use Rattle.capnp_readers.specs.Readers.{IsTarget, read_by};
     ghost use Rattle.capnp_readers.specs.Calls.{IsRead, IsRefused, WhereRead, IsListRead, IsStructRead, AreBytesRead};
-    ghost use Rattle.capnp_readers.specs.Values.{HasValue, ShowsStructOf, ShowsListOf, place_read, list_numbers, text_bytes, IsStructOrNull, FitsSize, IsBytes, IsText};
+    ghost use Rattle.capnp_readers.specs.Values.{FitsElements, HasValue, ShowsStructOf, ShowsListOf, StaysIn, place_read, list_numbers, text_bytes, IsStructOrNull, FitsSize, IsBytes, IsText};
 
     /// Returns a null pointer that isn't in any message: its source is `Source::Nothing`, its place
     /// word 0 of segment 0, and its nesting limit `i32::MAX`. A pointer field that its struct
@@ -316,6 +316,9 @@ impl<'a, A: ReaderArena> PointerReader<'a, A> {
             lim.old lim.new) }
         ensures value { (t : Tree) → HasValue (place_read A.ReaderArena self.entry default.entry) t
             → IfOk result (λ r. ShowsStructOf A.ReaderArena r t) }
+        ensures stays { (from : Reading)
+            → StaysIn from (place_read A.ReaderArena self.entry default.entry)
+            → IfOk result (λ r. StaysIn from (source_start A.ReaderArena r.source)) }
         ensures spent { let place = place_read A.ReaderArena self.entry default.entry in
             (t : Tree) (c : ℕ) → t ≢ Null → MeansThere place t c
             → IfOk result (λ r. (shows : ShowsStructOf A.ReaderArena r t)
@@ -372,6 +375,10 @@ impl<'a, A: ReaderArena> PointerReader<'a, A> {
             lim.old lim.new) }
         ensures value { (t : Tree) → HasValue (place_read A.ReaderArena self.entry default.entry) t
             → IfOk result (λ r. ShowsListOf A.ReaderArena r t) }
+        ensures fits { IfOk result (FitsElements A.ReaderArena expected_element_size) }
+        ensures stays { (from : Reading)
+            → StaysIn from (place_read A.ReaderArena self.entry default.entry)
+            → IfOk result (λ r. StaysIn from (source_start A.ReaderArena r.source)) }
         ensures spent { let place = place_read A.ReaderArena self.entry default.entry in
             (t : Tree) (c : ℕ) → t ≢ Null → MeansThere place t c
             → IfOk result (λ r. (shows : ShowsListOf A.ReaderArena r t)

@@ -1,12 +1,13 @@
 //! Lists of a message, read in place.
-ghost use Rattle.std.specs.Prelude.{◌≡◌, ◌≢◌, ◌<◌, ◌≤◌, ◌+◌, ◌*◌, ◌/◌, ◌^◌, ◌↔◌, ℕ, pos, [], ⊤, IsTrue, length, take, drop, slice_index, slice_range, nat_eq};
+ghost use Rattle.std.specs.Prelude.{◌≡◌, ◌≢◌, ◌<◌, ◌≤◌, ◌+◌, ◌*◌, ◌/◌, ◌^◌, ◌↔◌, ℕ, List, pos, [], ⊤, IsTrue, length, take, drop, slice_index, slice_range, nat_eq, ◌%◌, if◌then◌else◌};
 ghost use Rattle.capnp_format.specs.Bytes.{message};
 ghost use Rattle.capnp_format.specs.Segments.{word_at, segment};
-ghost use Rattle.capnp_format.specs.Tree.{Tree};
+ghost use Rattle.capnp_format.specs.Tree.{Tree, Flat};
 ghost use Rattle.capnp_making.specs.Path.{Child, next};
 ghost use Rattle.capnp_words.specs.declared.wire_pointer.ElementSize.TheVariants.{Void, InlineComposite};
 ghost use Rattle.capnp_format.specs.Numbers.{element_bits, from_digits};
 ghost use Rattle.capnp_words.specs.Sizes.{size_number};
+ghost use Rattle.capnp_objects.specs.Outcomes.{MeansThere};
 ghost use Rattle.capnp_objects.specs.Reading.{source_start};
 ghost use Rattle.capnp_objects.specs.Rows.{rows_sized};
 ghost use Rattle.capnp_objects.specs.Objects.{IsHeld};
@@ -95,7 +96,7 @@ fn words_of_elements(size: ElementSize, struct_size: StructSize, count: u32) -> 
 
 impl<'a, A: ReaderArena> ListReader<'a, A> {
     ghost use Rattle.capnp_readers.specs.Readers.{ShowsList, ShowsElement, IsListPlace, element_start, read_by};
-    ghost use Rattle.capnp_readers.specs.Values.{HasNumbers, HasStructs, HasValue, ShowsListOf, ShowsStructOf, list_length, list_numbers, struct_element};
+    ghost use Rattle.capnp_readers.specs.Values.{HasStructs, HasValue, ShowsListOf, ShowsNumber, ShowsStructOf, element_number, list_length, pointer_cost, struct_element};
 
     /// Returns a list of void without elements, which isn't in any message. Its nesting limit is
     /// `i32::MAX`.
@@ -199,7 +200,9 @@ impl<'a, A: ReaderArena> ListReader<'a, A> {
 
     /// Whether there are no elements.
     pub fn is_empty(&self) -> bool
-        ensures { IsTrue result ↔ (self.now.count ≡ 0) }
+        ensures count { IsTrue result ↔ (self.now.count ≡ 0) }
+        ensures value { (t : Tree) → ShowsListOf A.ReaderArena self.now t
+            → (IsTrue result ↔ (list_length t ≡ 0)) }
     {
         self.count == 0
     }
@@ -243,8 +246,8 @@ impl<'a, A: ReaderArena> ListReader<'a, A> {
         requires { index < self.now.count }
         ensures data { result ≡ low_data self.now.element_size self.now.struct_size
             self.now.content.now index }
-        ensures value { (t : Tree) → ShowsListOf A.ReaderArena self.now t → HasNumbers t
-            → result ≡ slice_index (list_numbers t) index }
+        ensures value { (t : Tree) → ShowsListOf A.ReaderArena self.now t
+            → result ≡ element_number t index }
     {
         are_bytes(self.content);
         self.lowest_data(index)
@@ -294,7 +297,10 @@ impl<'a, A: ReaderArena> ListReader<'a, A> {
         ensures little_endian { let start = element_start A.ReaderArena self.now index / 8 in
             T.bits_of result
             ≡ from_digits 256 (slice_range self.now.content.now start (start + T.BYTES)) }
+        ensures number { (t : Tree) → ShowsListOf A.ReaderArena self.now t
+            → T.bits_of result ≡ element_number t index % 2 ^ (8 * T.BYTES) }
     {
+        are_bytes(self.content);
         let n = T::BYTES;
         let step = self.step_bits() / 8;
         let start = index as usize * step as usize;
@@ -305,9 +311,12 @@ impl<'a, A: ReaderArena> ListReader<'a, A> {
     pub(crate) fn bit_at(&self, index: u32) -> bool
         requires range { index < self.now.count }
         requires wide { 1 ≤ data_bits self.now.element_size self.now.struct_size }
-        ensures { result ≡ nat_eq
+        ensures bit { result ≡ nat_eq
             (bit_at self.now.content.now (element_start A.ReaderArena self.now index)) 1 }
+        ensures number { (t : Tree) → ShowsListOf A.ReaderArena self.now t
+            → (if result then 1 else 0) ≡ element_number t index % 2 }
     {
+        are_bytes(self.content);
         let at = index as usize * self.step_bits() as usize;
         self.content[at / 8] >> (at % 8) & 1 == 1
     }
@@ -326,6 +335,9 @@ impl<'a, A: ReaderArena> ListReader<'a, A> {
         ensures nesting { result.nesting_limit ≡ self.entry.nesting_limit }
         ensures value { (t : Tree) → ShowsListOf A.ReaderArena self.entry t → HasStructs t
             → HasValue (read_by A.ReaderArena result) (next (struct_element t index) (Child 0)) }
+        ensures means { (t : Tree) (shows : ShowsListOf A.ReaderArena self.entry t) → HasStructs t
+            → MeansThere (read_by A.ReaderArena result) (next (struct_element t index) (Child 0))
+            (pointer_cost A.ReaderArena shows index) }
     {
         let behind = match self.element_size {
             ElementSize::InlineComposite => {
@@ -354,7 +366,11 @@ impl<'a, A: ReaderArena> ListReader<'a, A> {
         ensures nesting { result.nesting_limit ≡ self.now.nesting_limit }
         ensures value { (t : Tree) → ShowsListOf A.ReaderArena self.now t → HasStructs t
             → ShowsStructOf A.ReaderArena result (struct_element t index) }
+        ensures number { (size : ℕ) (ns : List ℕ)
+            → ShowsListOf A.ReaderArena self.now (Flat size ns)
+            → ShowsNumber A.ReaderArena result (element_bits size) (slice_index ns index) }
     {
+        are_bytes(self.content);
         self.element_within(index, self.nesting_limit)
     }
 
@@ -367,6 +383,9 @@ impl<'a, A: ReaderArena> ListReader<'a, A> {
         ensures nesting { result.nesting_limit ≡ self.now.nesting_limit }
         ensures value { (t : Tree) → ShowsListOf A.ReaderArena self.now t → HasStructs t
             → ShowsStructOf A.ReaderArena result (struct_element t index) }
+        ensures number { (size : ℕ) (ns : List ℕ)
+            → ShowsListOf A.ReaderArena self.now (Flat size ns)
+            → ShowsNumber A.ReaderArena result (element_bits size) (slice_index ns index) }
     {
         self.get_struct_element(index)
     }

@@ -1,10 +1,11 @@
 //! Structs of a message, read in place.
-ghost use Rattle.std.specs.Prelude.{◌≡◌, ◌<◌, ◌≤◌, ◌+◌, ◌*◌, ◌/◌, ◌^◌, ◌↔◌, ℕ, pos, [], true, false, ⊤, IsTrue, length, take, drop, slice_range};
+ghost use Rattle.std.specs.Prelude.{◌≡◌, ◌≢◌, bit_xor, ◌<◌, ◌≤◌, ◌+◌, ◌*◌, ◌/◌, ◌^◌, ◌↔◌, ℕ, pos, [], true, false, ⊤, IsTrue, length, take, drop, slice_range};
 ghost use Rattle.capnp_format.specs.Bytes.{message};
 ghost use Rattle.capnp_format.specs.Segments.{word_at, segment};
-ghost use Rattle.capnp_format.specs.Tree.{Tree};
+ghost use Rattle.capnp_format.specs.Tree.{Tree, Null};
 ghost use Rattle.capnp_making.specs.Fields.{field_in};
 ghost use Rattle.capnp_making.specs.Path.{Child, next};
+ghost use Rattle.capnp_objects.specs.Outcomes.{MeansThere};
 ghost use Rattle.capnp_objects.specs.Reading.{source_start, sized};
 ghost use Rattle.capnp_objects.specs.Rows.{rows_sized};
 ghost use Rattle.capnp_objects.specs.Objects.{IsHeld};
@@ -74,7 +75,7 @@ impl<'a, A: ReaderArena> Copy for StructReader<'a, A> {}
 
 impl<'a, A: ReaderArena> StructReader<'a, A> {
     ghost use Rattle.capnp_readers.specs.Readers.{ShowsStruct, ShowsList, IsStructPlace, read_by};
-    ghost use Rattle.capnp_readers.specs.Values.{HasValue, ShowsStructOf, struct_data};
+    ghost use Rattle.capnp_readers.specs.Values.{HasValue, ShowsNumber, ShowsStructOf, StaysIn, child_cost, field_of_number, struct_data};
 
     /// Returns a struct without sections, which isn't in any message. Its nesting limit is
     /// `i32::MAX`.
@@ -204,6 +205,16 @@ impl<'a, A: ReaderArena> StructReader<'a, A> {
             → (result.place.segment ≡ 0) × (result.place.at ≡ 0) }
         ensures value { (t : Tree) → ShowsStructOf A.ReaderArena self.now t
             → HasValue (read_by A.ReaderArena result) (next t (Child index)) }
+        ensures means { (t : Tree) (shows : ShowsStructOf A.ReaderArena self.now t)
+            → MeansThere (read_by A.ReaderArena result) (next t (Child index))
+            (child_cost A.ReaderArena shows index) }
+        ensures within { (t : Tree) (shows : ShowsStructOf A.ReaderArena self.now t)
+            → child_cost A.ReaderArena shows index ≤ shows.cost }
+        ensures stays { StaysIn (source_start A.ReaderArena self.now.source)
+            (read_by A.ReaderArena result) }
+        ensures charging { (t : Tree) → ShowsStructOf A.ReaderArena self.now t
+            → next t (Child index) ≢ Null → (read_by A.ReaderArena result).charging
+            ≡ (source_start A.ReaderArena self.now.source).charging }
     {
         if index >= usize::from(self.pointer_count) {
             return PointerReader::new_default();
@@ -242,10 +253,12 @@ impl<'a, A: ReaderArena> StructReader<'a, A> {
 
     /// Whether pointer `index` of the pointer section is null, or the section has no such pointer.
     pub fn is_pointer_field_null(&self, index: usize) -> bool
-        ensures { IsTrue result
+        ensures null { IsTrue result
             ↔ (index < self.now.pointer_count
             → word_at (source_start A.ReaderArena self.now.source).segments
             self.now.pointers.segment (self.now.pointers.at + index) ≡ 0) }
+        ensures value { (t : Tree) → ShowsStructOf A.ReaderArena self.now t
+            → (IsTrue result ↔ (next t (Child index) ≡ Null)) }
     {
         self.get_pointer_field(index).is_null()
     }
@@ -257,8 +270,10 @@ impl<'a, A: ReaderArena> StructReader<'a, A> {
             → result ≡ T.value_of
             (slice_range self.now.content.now (offset * T.BYTES) (offset * T.BYTES + T.BYTES)) }
         ensures outside { (IsInside self.now.bits (8 * T.BYTES) offset → ⊥) → result ≡ T.nought }
-        ensures value { T.bits_of T.nought ≡ 0 → (t : Tree) → ShowsStructOf A.ReaderArena self.now t
+        ensures value { (t : Tree) → ShowsStructOf A.ReaderArena self.now t
             → T.bits_of result ≡ field_in (struct_data t) (8 * T.BYTES * offset) (8 * T.BYTES) }
+        ensures number { (bits x : ℕ) → ShowsNumber A.ReaderArena self.now bits x
+            → T.bits_of result ≡ field_of_number bits x (8 * T.BYTES * offset) (8 * T.BYTES) }
     {
         are_bytes(self.content);
         let n = T::BYTES;
@@ -284,6 +299,10 @@ impl<'a, A: ReaderArena> StructReader<'a, A> {
             (offset * T.BYTES + T.BYTES))) mask }
         ensures outside { (IsInside self.now.bits (8 * T.BYTES) offset → ⊥)
             → result ≡ T.masked T.nought mask }
+        ensures value { (t : Tree) → ShowsStructOf A.ReaderArena self.now t
+            → T.bits_of result
+            ≡ bit_xor (field_in (struct_data t) (8 * T.BYTES * offset) (8 * T.BYTES))
+            (T.mask_bits mask) }
     {
         T::mask(self.get_data_field(offset), mask)
     }
@@ -295,6 +314,8 @@ impl<'a, A: ReaderArena> StructReader<'a, A> {
             × (bit_at self.now.content.now offset ≡ 1) }
         ensures value { (t : Tree) → ShowsStructOf A.ReaderArena self.now t
             → (IsTrue result ↔ (field_in (struct_data t) offset 1 ≡ 1)) }
+        ensures number { (bits x : ℕ) → ShowsNumber A.ReaderArena self.now bits x
+            → (IsTrue result ↔ (field_of_number bits x offset 1 ≡ 1)) }
     {
         are_bytes(self.content);
         offset < self.bits as usize && self.content[offset / 8] >> (offset % 8) & 1 == 1
@@ -309,6 +330,10 @@ impl<'a, A: ReaderArena> StructReader<'a, A> {
             × (bit_at self.now.content.now offset ≡ 1)) }
         ensures turned { mask ≡ true → (IsTrue result
             ↔ ((offset < self.now.bits) × (bit_at self.now.content.now offset ≡ 1) → ⊥)) }
+        ensures plain_value { mask ≡ false → (t : Tree) → ShowsStructOf A.ReaderArena self.now t
+            → (IsTrue result ↔ (field_in (struct_data t) offset 1 ≡ 1)) }
+        ensures turned_value { mask ≡ true → (t : Tree) → ShowsStructOf A.ReaderArena self.now t
+            → (IsTrue result ↔ (field_in (struct_data t) offset 1 ≢ 1)) }
     {
         self.get_bool_field(offset) != mask
     }

@@ -8,6 +8,7 @@ use Rattle.capnp_readers.proofs.Answering.{IsShown, no_list, wide_target, given_
 use Rattle.capnp_readers.proofs.Given.{list_suits}
 use Rattle.capnp_readers.proofs.ListValues.{list_value}
 use Rattle.capnp_readers.proofs.Spent.{list_spent}
+use Rattle.capnp_readers.proofs.Stays.{list_stays, list_fits}
 use Rattle.capnp_readers.proofs.readers.PointerReader.get_list.Goals as goal
 
 pub target_of-requires : goal.target_of-requires
@@ -61,3 +62,15 @@ returns-in-List-clause-spent g c = list_spent g.A.ReaderArena c.args.expected_el
 
 pub returns-in_default-clause-spent : goal.returns-in_default-clause-spent
 returns-in_default-clause-spent g c = list_spent g.A.ReaderArena c.args.expected_element_size c.new_default.result (returns-in_default-clause-read g c)
+
+pub returns-in-List-clause-stays : goal.returns-in-List-clause-stays
+returns-in-List-clause-stays g c = list_stays g.A.ReaderArena c.args.expected_element_size c.in-List.found (returns-in-List-clause-read g c)
+
+pub returns-in_default-clause-stays : goal.returns-in_default-clause-stays
+returns-in_default-clause-stays g c = list_stays g.A.ReaderArena c.args.expected_element_size c.new_default.result (returns-in_default-clause-read g c)
+
+pub returns-in-List-clause-fits : goal.returns-in-List-clause-fits
+returns-in-List-clause-fits g c = list_fits g.A.ReaderArena c.args.expected_element_size c.in-List.found (returns-in-List-clause-read g c)
+
+pub returns-in_default-clause-fits : goal.returns-in_default-clause-fits
+returns-in_default-clause-fits g c = list_fits g.A.ReaderArena c.args.expected_element_size c.new_default.result (returns-in_default-clause-read g c)

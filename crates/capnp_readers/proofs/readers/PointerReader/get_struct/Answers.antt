@@ -7,6 +7,7 @@ use Rattle.capnp_readers.proofs.Answering.{IsShown, no_struct, never_refused, of
 use Rattle.capnp_readers.proofs.Given.{struct_suits}
 use Rattle.capnp_readers.proofs.Values.{struct_value}
 use Rattle.capnp_readers.proofs.Spent.{struct_spent}
+use Rattle.capnp_readers.proofs.Stays.{struct_stays}
 use Rattle.capnp_readers.proofs.readers.PointerReader.get_struct.Goals as goal
 
 pub target_of-requires : goal.target_of-requires
@@ -56,3 +57,9 @@ returns-in-Struct-clause-spent g c = struct_spent g.A.ReaderArena c.in-Struct.fo
 
 pub returns-in_default-clause-spent : goal.returns-in_default-clause-spent
 returns-in_default-clause-spent g c = struct_spent g.A.ReaderArena c.new_default.result (returns-in_default-clause-read g c)
+
+pub returns-in-Struct-clause-stays : goal.returns-in-Struct-clause-stays
+returns-in-Struct-clause-stays g c = struct_stays g.A.ReaderArena c.in-Struct.found (returns-in-Struct-clause-read g c)
+
+pub returns-in_default-clause-stays : goal.returns-in_default-clause-stays
+returns-in_default-clause-stays g c = struct_stays g.A.ReaderArena c.new_default.result (returns-in_default-clause-read g c)
