@@ -110,6 +110,7 @@ WORDS = (
     ('AllByRecursion', '`AllByRecursion P xs`', 'P holds for each element of xs'),
     ('to_le_bytes w32', '`to_le_bytes w32 n`', 'the four bytes of n, the lowest first'),
     ('Appends', '`Appends o p bs`', 'if o is `Some xs`, then p is `Some (xs ++ bs)`'),
+    ('sha256', '`sha256 bs`', 'the SHA-256 of these bytes (FIPS 180-4), as the toolchain\'s crate `sha2` defines it'),
     ('from_le_bytes w64', '`from_le_bytes w64 bs`', 'the number with these eight bytes, the lowest first'),
     ('◌≡◌', '`a ≡ b`', 'a equals b'),
     ('', '`a ≢ b`', 'a differs from b'),

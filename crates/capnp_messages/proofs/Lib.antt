@@ -9,3 +9,4 @@ pub mod MessageLemmas
 pub mod AnsweredLemmas
 pub mod FramesLemmas
 pub mod AsItStandsLemmas
+pub mod DigestLemmas

@@ -8,3 +8,4 @@ pub mod CanonicalErrors
 pub mod CanonicalMessages
 pub mod Messages
 pub mod Commands
+pub mod Digests

@@ -1,5 +1,5 @@
-//! Makes canonical copies of whole messages, tests whether messages are in canonical form, and
-//! measures them (encoding specification, "Canonicalization").
+//! Makes canonical copies and digests of whole messages, tests whether messages are in canonical
+//! form, and measures them (encoding specification, "Canonicalization").
 
 mod as_it_stands;
 mod canonical_copy;
@@ -7,6 +7,7 @@ mod canonical_error;
 mod canonical_message;
 mod command;
 mod copy_memory;
+mod digest;
 pub mod laws;
 mod lent_memory;
 mod message_fault;
@@ -20,6 +21,7 @@ pub use canonical_error::CanonicalError;
 pub use canonical_message::is_canonical_message;
 pub use command::{Command, Form};
 pub use copy_memory::CopyMemory;
+pub use digest::{digest_from, digest_with};
 pub use lent_memory::LentMemory;
 pub use message_fault::canonical_fault;
 pub use root::read_root;
