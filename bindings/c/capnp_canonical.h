@@ -1,5 +1,5 @@
 /* Canonical form of Cap'n Proto messages ("Canonicalization" in the encoding specification), for C and C++: copies a
- * message into canonical form, tests whether it is canonical, and measures it.
+ * message into canonical form, hashes that form, tests whether a message is canonical, and measures it.
  *
  * You pass a message in one of three ways:
  *   - as a frame ("Serialization Over a Stream"), as `capnp encode`, capnp::writeMessage and Rust's
@@ -25,9 +25,9 @@
  * Answers. Each call returns CAPNP_CANONICAL_DONE or the number of a refusal. A number never changes its meaning.
  *
  * Memory. No call keeps anything, so several threads may call at once. If both a message and its copy have fewer than
- * 64 words, the copy is made on the stack. A longer message that is already canonical is copied from your buffer. For
- * others, the calls that copy take memory with malloc, about the size of the canonical message, and free it before they
- * return. No other call takes any.
+ * 64 words, the copy is made on the stack. A longer message that is already canonical is copied from your buffer, or
+ * hashed in it. For others, the calls that copy or hash take memory with malloc, about the size of the canonical
+ * message, and free it before they return. No other call takes any.
  *
  * Stack. A level of nesting takes up to 624 bytes as ./install builds the library, which is for x86-64-v2 and later. As
  * make builds it from generated/, for any 64-bit processor, it takes up to 640 bytes with clang, 768 with gcc, and
@@ -176,6 +176,12 @@ uint32_t capnp_canonical_copy(const uint8_t *frame, size_t frame_size, int32_t n
  * that capnp_canonical_size gives, are always enough. */
 uint32_t capnp_canonical_copy_flat(const uint8_t *frame, size_t frame_size, int32_t nesting, uint64_t words, uint8_t *to, size_t room, size_t *written);
 
+/* Writes the SHA-256 of the canonical words of the message at `frame` to the 32 bytes at `digest`: the hash of the bytes
+ * that capnp_canonical_copy_flat writes. It names the value: messages with equal values have the same. It needs no room
+ * for the copy. The refusals are those of capnp_canonical_copy_flat, except that there is always room. After a refusal
+ * the 32 bytes are 0. */
+uint32_t capnp_canonical_digest(const uint8_t *frame, size_t frame_size, int32_t nesting, uint64_t words, uint8_t digest[32]);
+
 /* Tests whether the message of the frame at the front of `frame_size` bytes is canonical: one segment, which holds the
  * canonical words of a value and nothing else. Writes the answer to `*is_canonical`. If it is true, the value is also
  * within both limits. If it is false, `*fault` says why and where. If it is true, or the call is refused, the numbers of
@@ -191,11 +197,13 @@ uint32_t capnp_canonical_size(const uint8_t *frame, size_t frame_size, int32_t n
  * Reads only the segment table, not the message. After a refusal `*bytes` is 0. */
 uint32_t capnp_canonical_frame_size(const uint8_t *frame, size_t size, uint64_t words, size_t *bytes);
 
-/* copy, copy_flat, check and size, for a message of `count` segments. There may be more segments than a frame can have.
- * If there are none there is no root, and the call is refused with CAPNP_CANONICAL_INVALID_SEGMENT_ID. */
+/* copy, copy_flat, digest, check and size, for a message of `count` segments. There may be more segments than a frame can
+ * have. If there are none there is no root, and the call is refused with CAPNP_CANONICAL_INVALID_SEGMENT_ID. */
 uint32_t capnp_canonical_segments_copy(const struct capnp_canonical_segment *segments, size_t count, int32_t nesting, uint64_t words, uint8_t *to, size_t room, size_t *written);
 
 uint32_t capnp_canonical_segments_copy_flat(const struct capnp_canonical_segment *segments, size_t count, int32_t nesting, uint64_t words, uint8_t *to, size_t room, size_t *written);
+
+uint32_t capnp_canonical_segments_digest(const struct capnp_canonical_segment *segments, size_t count, int32_t nesting, uint64_t words, uint8_t digest[32]);
 
 uint32_t capnp_canonical_segments_check(const struct capnp_canonical_segment *segments, size_t count, int32_t nesting, uint64_t words, bool *is_canonical, struct capnp_canonical_fault *fault);
 
@@ -206,6 +214,8 @@ uint32_t capnp_canonical_segments_size(const struct capnp_canonical_segment *seg
  * value. If `size` is 0, the message has no root, which is refused with
  * CAPNP_CANONICAL_MESSAGE_CONTAINS_OUT_OF_BOUNDS_POINTER. */
 uint32_t capnp_canonical_words_copy(const uint8_t *message, size_t size, int32_t nesting, uint64_t words, uint8_t *to, size_t room, size_t *written);
+
+uint32_t capnp_canonical_words_digest(const uint8_t *message, size_t size, int32_t nesting, uint64_t words, uint8_t digest[32]);
 
 uint32_t capnp_canonical_words_check(const uint8_t *message, size_t size, int32_t nesting, uint64_t words, bool *is_canonical, struct capnp_canonical_fault *fault);
 

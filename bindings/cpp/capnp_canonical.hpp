@@ -18,6 +18,7 @@
 #include "capnp_canonical.h"
 
 #include <algorithm>
+#include <array>
 #include <cstddef>
 #include <cstdint>
 #include <cstring>
@@ -257,6 +258,9 @@ private:
     std::optional<Fault> fault_;
 };
 
+// The SHA-256 of the canonical words of a message.
+using Digest = std::array<std::uint8_t, 32>;
+
 // The size of what the root of a message leads to, without the root pointer and landing pads.
 struct Size {
     std::uint64_t words;
@@ -301,6 +305,9 @@ public:
         auto call = form == Form::flat ? capnp_canonical_copy_flat : capnp_canonical_copy;
         return call(frame_.data(), frame_.size(), limits_.nesting, limits_.words, to, room, written);
     }
+    std::uint32_t digest(std::uint8_t* to) const noexcept {
+        return capnp_canonical_digest(frame_.data(), frame_.size(), limits_.nesting, limits_.words, to);
+    }
     std::uint32_t check(bool* is_canonical, capnp_canonical_fault* fault) const noexcept {
         return capnp_canonical_check(frame_.data(), frame_.size(), limits_.nesting, limits_.words, is_canonical, fault);
     }
@@ -331,6 +338,9 @@ public:
     std::uint32_t copy(Form form, std::uint8_t* to, std::size_t room, std::size_t* written) const noexcept {
         auto call = form == Form::flat ? capnp_canonical_segments_copy_flat : capnp_canonical_segments_copy;
         return call(segments_, count_, limits_.nesting, limits_.words, to, room, written);
+    }
+    std::uint32_t digest(std::uint8_t* to) const noexcept {
+        return capnp_canonical_segments_digest(segments_, count_, limits_.nesting, limits_.words, to);
     }
     std::uint32_t check(bool* is_canonical, capnp_canonical_fault* fault) const noexcept {
         return capnp_canonical_segments_check(segments_, count_, limits_.nesting, limits_.words, is_canonical, fault);
@@ -430,6 +440,14 @@ inline void unpack_to(std::vector<std::uint8_t>& to, Bytes packed) {
 }
 
 template <typename Source>
+Digest digest_of(const Source& source) {
+    Digest to;
+    std::uint32_t answer = source.digest(to.data());
+    if (answer != CAPNP_CANONICAL_DONE) throw Error(answer, source.place());
+    return to;
+}
+
+template <typename Source>
 Checked checked(const Source& source) {
     bool is_canonical = false;
     capnp_canonical_fault fault = {};
@@ -486,6 +504,15 @@ inline Bytes copy_flat_into(std::vector<std::uint8_t>& buffer CAPNP_CANONICAL_LI
     return detail::copy_into(buffer, detail::Form::flat, [&] { return detail::SegmentSource(segments, limits); });
 }
 
+// The SHA-256 of the canonical words of the message, which are the bytes that copy_flat returns. It names the value:
+// messages with equal values have the same. It needs no room for the copy.
+[[nodiscard]] inline Digest digest(Bytes frame, Limits limits = {}) {
+    return detail::digest_of(detail::FrameSource(frame, limits));
+}
+[[nodiscard]] inline Digest digest(const Segments& segments, Limits limits = {}) {
+    return detail::digest_of(detail::SegmentSource(segments, limits));
+}
+
 // Tests whether the message is canonical, and if not, says why and where. Canonical means one segment, which holds the
 // canonical words of a value and nothing else.
 [[nodiscard]] inline Checked check(Bytes frame, Limits limits = {}) {
@@ -514,6 +541,7 @@ inline Size size(const Segments& segments, Limits limits = {}) {
 inline std::vector<std::uint8_t> words_copy(Bytes words, Limits limits = {}) {
     return copy_flat(Segments{words}, limits);
 }
+[[nodiscard]] inline Digest words_digest(Bytes words, Limits limits = {}) { return digest(Segments{words}, limits); }
 [[nodiscard]] inline Checked words_check(Bytes words, Limits limits = {}) { return check(Segments{words}, limits); }
 [[nodiscard]] inline bool words_is_canonical(Bytes words, Limits limits = {}) noexcept {
     return capnp_canonical_words_is_canonical(words.data(), words.size(), limits.nesting, limits.words);
@@ -705,8 +733,8 @@ Limits limits_of(const Value&) {
     return detail::NO_LIMITS;
 }
 
-// The calls above for a MessageReader or a MessageBuilder. The copies also take a value inside a message: a reader or
-// builder of a struct (also AnyStruct), a list (also AnyList) or AnyPointer. Cap'n Proto reads and copies such a value
+// The calls above for a MessageReader or a MessageBuilder. The copies and digests also take a value inside a message: a
+// reader or builder of a struct (also AnyStruct), a list (also AnyList) or AnyPointer. Cap'n Proto reads and copies such a value
 // first, and throws its own exceptions if that fails.
 template <typename Message, typename = detail::IfCopied<Message>>
 std::vector<std::uint8_t> copy(Message&& message, Limits limits) {
@@ -744,6 +772,15 @@ Bytes copy_flat_into(std::vector<std::uint8_t>& buffer CAPNP_CANONICAL_LIFETIMEB
 template <typename Message, typename = detail::IfCopied<Message>>
 Bytes copy_flat_into(std::vector<std::uint8_t>& buffer CAPNP_CANONICAL_LIFETIMEBOUND, Message&& message) {
     return copy_flat_into(buffer, message, limits_of(message));
+}
+
+template <typename Message, typename = detail::IfCopied<Message>>
+[[nodiscard]] Digest digest(Message&& message, Limits limits) {
+    return detail::with_segments(message, [&](const Segments& it) { return digest(it, limits); });
+}
+template <typename Message, typename = detail::IfCopied<Message>>
+[[nodiscard]] Digest digest(Message&& message) {
+    return digest(message, limits_of(message));
 }
 
 template <typename Message, typename = detail::IfMessage<Message>>

@@ -51,6 +51,11 @@ void test_messages(capnp::MallocMessageBuilder& builder) {
     kj::VectorOutputStream packed;
     capnp::writePackedMessage(packed, builder);
     report(same(capnp_canonical::copy_flat(capnp_canonical::unpack(packed.getArray())), theirs), "writePackedMessage");
+    auto digest = capnp_canonical::digest(frame);
+    report(digest != capnp_canonical::Digest{} && digest == capnp_canonical::digest(builder), "the digest of a MessageBuilder");
+    report(digest == capnp_canonical::digest(reader) && digest == capnp_canonical::digest(reader, {64, 1000}), "of a MessageReader");
+    report(digest == capnp_canonical::digest(reader.getRoot<Book>()), "of a reader of the root");
+    report(digest == capnp_canonical::words_digest(theirs), "of the words of capnp::canonicalize");
     report(!capnp_canonical::is_canonical(reader) && !capnp_canonical::check(builder).is_canonical(), "not canonical");
     report(capnp_canonical::size(builder).words == reader.getRoot<capnp::AnyPointer>().targetSize().wordCount, "size");
 }

@@ -113,11 +113,12 @@ std::string what(const std::function<void()>& call) {
 
 template <typename Message>
 void require_answers(const Message& message, const std::string& copy, const std::string& flat, const std::string& check,
-                     const std::string& size) {
+                     const std::string& size, const std::string& digest) {
     std::string words = copy == "Done" ? flat : copy;
     std::string frame = copy == "Done" ? digits_of(framed(bytes_of(flat))) : copy;
     require_same("copy", answer([&] { return digits_of(capnp_canonical::copy(message)); }), frame);
     require_same("copy_flat", answer([&] { return digits_of(capnp_canonical::copy_flat(message)); }), words);
+    require_same("digest", answer([&] { return digits_of(capnp_canonical::digest(message)); }), copy == "Done" ? digest : copy);
     require_same("check", answer([&] {
                      auto checked = capnp_canonical::check(message);
                      if (checked.is_canonical()) return std::string("yes");
@@ -138,8 +139,9 @@ void require_answers(const Message& message, const std::string& copy, const std:
 }
 
 // Canonical words, by the calls of raw words.
-void require_words(const Vector& flat) {
+void require_words(const Vector& flat, const std::string& digest) {
     require(capnp_canonical::words_copy(flat) == flat, "words_copy");
+    require_same("words_digest", digits_of(capnp_canonical::words_digest(flat)), digest);
     require(capnp_canonical::words_is_canonical(flat) && capnp_canonical::words_check(flat).is_canonical(), "words_check");
     require(capnp_canonical::words_size(flat).words >= flat.size() / 8 - 1, "words_size");
 }
@@ -149,14 +151,14 @@ void test_messages(const char* path) {
     int count = 0;
     for (std::string line; std::getline(file, line);) {
         if (line.empty() || line[0] == '#') continue;
-        std::string name, digits, copy, flat, check, size;
-        std::istringstream(line) >> name >> digits >> copy >> flat >> check >> size;
+        std::string name, digits, copy, flat, check, size, digest;
+        std::istringstream(line) >> name >> digits >> copy >> flat >> check >> size >> digest;
         Vector frame = bytes_of(digits);
         count++;
-        test(name, [&] { require_answers(Bytes(frame), copy, flat, check, size); });
+        test(name, [&] { require_answers(Bytes(frame), copy, flat, check, size, digest); });
         if (copy == "Truncated" || copy == "NoMessage") continue;
-        test(name + " by its segments", [&] { require_answers(segments_in(frame), copy, flat, check, size); });
-        if (copy == "Done") test(name + " by its words", [&] { require_words(bytes_of(flat)); });
+        test(name + " by its segments", [&] { require_answers(segments_in(frame), copy, flat, check, size, digest); });
+        if (copy == "Done") test(name + " by its words", [&] { require_words(bytes_of(flat), digest); });
     }
     test("ten messages", [&] { require(count == 10, std::to_string(count) + " messages"); });
 }

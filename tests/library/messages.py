@@ -5,6 +5,7 @@
 
 The canonical words come from `capnp convert binary:canonical` of C++ Cap'n Proto, which must be installed. The rest was
 worked out by hand."""
+import hashlib
 import pathlib
 import subprocess
 
@@ -16,12 +17,13 @@ BOOK = '''(title = "People", people = [
 # The friends of the second person have three data words, and all are zero.
 BOOK_FAULT = '12,0,50'
 BOOK_SIZE = '67,0'
-HEAD = '''# Ten messages, good and bad, and what each call answers to them. messages.py writes this file. A line is six words:
-#   NAME FRAME COPY FLAT CHECK SIZE
-# FRAME is the bytes of the frame as hex digits, `-` where there are none. COPY is the answer of both copies: `Done` or the name of a
-# refusal; FLAT the canonical words as hex digits, `-` where there are none: those of `capnp convert binary:canonical`. The framed copy
-# is FLAT behind 00000000 and its length in words, four bytes, the lowest first. CHECK is `yes`, or REASON,SEGMENT,WORD, or the name of a
-# refusal; SIZE is WORDS,CAPS or the name of a refusal. The limits are 64 levels and 8388608 words.
+HEAD = '''# Ten messages, good and bad, and what each call answers to them. messages.py writes this file. A line is seven words:
+#   NAME FRAME COPY FLAT CHECK SIZE DIGEST
+# FRAME is the bytes of the frame as hex digits, `-` where there are none. COPY is the answer of both copies and of the digest: `Done` or
+# the name of a refusal; FLAT the canonical words as hex digits, `-` where there are none: those of `capnp convert binary:canonical`. The
+# framed copy is FLAT behind 00000000 and its length in words, four bytes, the lowest first. CHECK is `yes`, or REASON,SEGMENT,WORD, or the
+# name of a refusal; SIZE is WORDS,CAPS or the name of a refusal; DIGEST the SHA-256 of FLAT by Python's hashlib, `-` where there is none.
+# The limits are 64 levels and 8388608 words.
 '''
 
 
@@ -47,7 +49,8 @@ def struct(offset, data, pointers):
 
 def line(name, bytes, copy='Done', check='yes', size='0,0'):
     flat = run(bytes, 'capnp', 'convert', '--quiet', 'binary:canonical') if copy == 'Done' else b''
-    print(name, bytes.hex() or '-', copy, flat.hex() or '-', check, size)
+    digest = hashlib.sha256(flat).hexdigest() if flat else '-'
+    print(name, bytes.hex() or '-', copy, flat.hex() or '-', check, size, digest)
 
 
 def main():

@@ -14,7 +14,7 @@ static const uint64_t WORDS = CAPNP_CANONICAL_WORDS;
 
 /* A message of the file. */
 struct message {
-    char name[64], copy[96], check[96], size[96];
+    char name[64], copy[96], check[96], size[96], digest[96];
     struct bytes frame, flat;
 };
 
@@ -121,6 +121,36 @@ static void test_copies(const struct message *of, const struct parts *parts) {
     free(frame.at);
 }
 
+static uint32_t digested(struct bytes frame, const struct parts *parts, struct bytes to) {
+    memset(to.at, FILL, to.size);
+    return parts ? capnp_canonical_segments_digest(parts->at, parts->count, NESTING, WORDS, to.at)
+                 : capnp_canonical_digest(frame.at, frame.size, NESTING, WORDS, to.at);
+}
+
+static int is_zero(struct bytes it) {
+    for (size_t i = 0; i < it.size; i++) {
+        if (it.at[i]) return 0;
+    }
+    return 1;
+}
+
+static void test_digest(const struct message *of, const struct parts *parts) {
+    struct bytes to = block(32);
+    uint32_t answer = digested(of->frame, parts, to);
+    expect(is_named(answer, of->copy), "the answer of the digest");
+    if (answer == CAPNP_CANONICAL_DONE) {
+        struct bytes wanted = from_hex(of->digest);
+        expect(are_same(to.at, to.size, wanted), "the digest");
+        memset(to.at, FILL, to.size);
+        expect(capnp_canonical_words_digest(of->flat.at, of->flat.size, NESTING, WORDS, to.at) == CAPNP_CANONICAL_DONE && are_same(to.at, to.size, wanted),
+               "the digest of the words");
+        free(wanted.at);
+    } else {
+        expect(is_zero(to), "the digest of a message that is refused");
+    }
+    free(to.at);
+}
+
 static uint32_t checked(struct bytes frame, const struct parts *parts, bool *holds, struct capnp_canonical_fault *fault) {
     *holds = true;
     memset(fault, FILL, sizeof *fault);
@@ -173,7 +203,7 @@ static void test_frame_size(const struct message *of) {
 static void test_cuts(struct bytes frame) {
     for (size_t size = 0; size < frame.size; size++) {
         uint32_t wanted = size ? CAPNP_CANONICAL_TRUNCATED : CAPNP_CANONICAL_NO_MESSAGE;
-        struct bytes cut = copy_of(frame.at, size), to = block(64), none = {NULL, 0};
+        struct bytes cut = copy_of(frame.at, size), to = block(64), digest = block(32), none = {NULL, 0};
         struct copier plain = {"", 0, cut, NULL}, flat = {"", 1, cut, NULL};
         size_t written, taken = SIZE_MAX;
         bool holds;
@@ -182,12 +212,14 @@ static void test_cuts(struct bytes frame) {
         uint32_t caps;
         expect(copied(&plain, to, &written) == wanted && written == 0, "a frame cut short is copied");
         expect(copied(&flat, none, &written) == wanted && written == 0, "a frame cut short is copied flat");
+        expect(digested(cut, NULL, digest) == wanted && is_zero(digest), "a frame cut short has a digest");
         expect(checked(cut, NULL, &holds, &fault) == wanted && !holds && !fault.reason, "a frame cut short is tested");
         expect(sized(cut, NULL, &words, &caps) == wanted && !words && !caps, "a frame cut short is measured");
         expect(capnp_canonical_frame_size(cut.at, size, WORDS, &taken) == wanted && !taken, "a frame cut short has a size");
         expect(is_filled(to), "a refused copy is written");
         free(cut.at);
         free(to.at);
+        free(digest.at);
     }
 }
 
@@ -214,6 +246,24 @@ static void test_copied(const struct copier *by, struct bytes to, size_t written
     free(again.at);
 }
 
+/* The digest of any bytes: it is that of the words of the flat copy, or refused like that. */
+static void test_any_digest(struct bytes frame, const struct parts *parts, uint32_t copied, struct bytes words) {
+    struct bytes to = block(32), of_words = block(32);
+    uint32_t answer = digested(frame, parts, to);
+    if (copied == CAPNP_CANONICAL_NO_ROOM) {
+        expect(answer == CAPNP_CANONICAL_DONE, "a digest needs room");
+    } else {
+        expect(answer == copied, "a digest is refused by another number than a copy");
+    }
+    if (copied == CAPNP_CANONICAL_DONE) {
+        expect(capnp_canonical_words_digest(words.at, words.size, NESTING, WORDS, of_words.at) == CAPNP_CANONICAL_DONE, "words have no digest");
+        expect(are_same(to.at, to.size, of_words), "the digest isn't that of the copy");
+    }
+    expect(answer == CAPNP_CANONICAL_DONE || is_zero(to), "the digest of bytes that are refused");
+    free(to.at);
+    free(of_words.at);
+}
+
 /* Each of the calls on any bytes. */
 static void test_any(struct bytes frame, const struct parts *parts) {
     for (int flat = 0; flat < 2; flat++) {
@@ -227,6 +277,7 @@ static void test_any(struct bytes frame, const struct parts *parts) {
             expect(is_filled(to), "a refused copy is written");
             expect((answer == CAPNP_CANONICAL_NO_ROOM) == (written != 0), "the room that is wanted");
         }
+        if (flat) test_any_digest(frame, parts, answer, (struct bytes){to.at, answer == CAPNP_CANONICAL_DONE ? written : 0});
         free(to.at);
     }
     bool holds;
@@ -262,7 +313,7 @@ static void test_bits(struct bytes frame) {
 
 /* A segment that isn't of whole words is refused by each call. */
 static void test_parts_of_words(struct parts *parts) {
-    struct bytes none = {NULL, 0}, to = block(64);
+    struct bytes none = {NULL, 0}, to = block(64), digest = block(32);
     struct copier plain = {"", 0, none, parts}, flat = {"", 1, none, parts};
     uint32_t wanted = CAPNP_CANONICAL_SEGMENT_IS_NOT_WHOLE_WORDS;
     for (size_t i = 0; i < parts->count; i++) {
@@ -275,6 +326,7 @@ static void test_parts_of_words(struct parts *parts) {
             parts->at[i].size = whole - less;
             expect(copied(&plain, to, &written) == wanted && !written, "a part of a word is copied");
             expect(copied(&flat, to, &written) == wanted && !written, "a part of a word is copied flat");
+            expect(digested(none, parts, digest) == wanted && is_zero(digest), "a part of a word has a digest");
             expect(checked(none, parts, &holds, &fault) == wanted && !holds, "a part of a word is tested");
             expect(sized(none, parts, &words, &caps) == wanted && !words, "a part of a word is measured");
         }
@@ -282,11 +334,12 @@ static void test_parts_of_words(struct parts *parts) {
     }
     expect(is_filled(to), "a refused copy is written");
     free(to.at);
+    free(digest.at);
 }
 
 #ifdef WRAP
-/* Each block refused in turn: the copy is refused, and nothing is written, until no more are asked for. Gives how many it
- * takes. */
+/* Each block refused in turn: the copy is refused, and nothing is written, until no more are asked for; and so is the
+ * digest. Gives how many each takes. */
 static long blocks_taken(struct bytes frame, struct bytes wanted) {
     struct bytes to = block(wanted.size);
     struct copier flat = {"", 1, frame, NULL};
@@ -301,6 +354,15 @@ static long blocks_taken(struct bytes frame, struct bytes wanted) {
         expect(is_filled(to) && !written, "a copy without memory is written");
     }
     expect(answer == CAPNP_CANONICAL_DONE && are_same(to.at, written, wanted), "a copy with memory");
+    struct bytes digest = block(32);
+    for (long i = 0; i <= n; i++) {
+        blocks = i;
+        answer = digested(frame, NULL, digest);
+        blocks = -1;
+        if (i < n) expect(answer == CAPNP_CANONICAL_ALLOCATION_FAILED && is_zero(digest), "a digest without memory");
+    }
+    expect(answer == CAPNP_CANONICAL_DONE && !is_zero(digest), "a digest with memory");
+    free(digest.at);
     free(to.at);
     return n;
 }
@@ -328,6 +390,7 @@ static void test_message(const struct message *of) {
     static struct parts parts;
     place = of->name;
     test_copies(of, NULL);
+    test_digest(of, NULL);
     test_check(of, NULL);
     test_size(of, NULL);
     if (strcmp(of->copy, "Truncated") == 0 || of->frame.size == 0) return;
@@ -335,6 +398,7 @@ static void test_message(const struct message *of) {
     for (int odd = 0; odd < 2; odd++) {
         take_apart(of->frame, &parts, odd);
         test_copies(of, &parts);
+        test_digest(of, &parts);
         test_check(of, &parts);
         test_size(of, &parts);
         test_parts_of_words(&parts);
@@ -409,7 +473,7 @@ int main(int count, char **words) {
     if (!file) return 2;
     while (fgets(line, sizeof line, file)) {
         if (*line == '#') continue;
-        if (sscanf(line, "%63s %32767s %95s %32767s %95s %95s", of.name, frame, of.copy, flat, of.check, of.size) != 6) return 2;
+        if (sscanf(line, "%63s %32767s %95s %32767s %95s %95s %95s", of.name, frame, of.copy, flat, of.check, of.size, of.digest) != 7) return 2;
         of.frame = from_hex(frame);
         of.flat = from_hex(flat);
         test_message(&of);

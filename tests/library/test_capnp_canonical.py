@@ -65,18 +65,20 @@ def size_text(size):
 class Messages(unittest.TestCase):
     """One test for each message of messages.txt."""
 
-    def compare(self, given, calls, copy, flat, check, size):
+    def compare(self, given, calls, copy, flat, check, size, digest):
         words = bytes.fromhex(flat.strip('-'))
-        copy_call, flat_call, check_call, size_call = calls
+        copy_call, flat_call, check_call, size_call, digest_call = calls
         done = copy == 'Done'
         self.assertEqual(answer(bytes.hex, copy_call, given), framed(words).hex() if done else copy)
         self.assertEqual(answer(bytes.hex, flat_call, given), words.hex() if done else copy)
         self.assertEqual(answer(fault_text, check_call, given), check)
         self.assertEqual(answer(size_text, size_call, given), size)
+        self.assertEqual(answer(bytes.hex, digest_call, given), digest if done else copy)
         is_canonical = capnp_canonical.is_canonical if isinstance(given, bytes) else capnp_canonical.segments_is_canonical
         self.assertIs(is_canonical(given), check == 'yes')
         if done:
             self.assertEqual(capnp_canonical.words_copy(words), words)
+            self.assertEqual(capnp_canonical.words_digest(words).hex(), digest)
             self.assertTrue(capnp_canonical.words_is_canonical(words))
             self.assertIsNone(capnp_canonical.words_check(words))
             self.assertGreaterEqual(8 + 8 * capnp_canonical.words_size(words).words, len(words))
@@ -84,9 +86,10 @@ class Messages(unittest.TestCase):
     def frame(self, digits, copy, *wanted):
         given = bytes.fromhex(digits.strip('-'))
         module = capnp_canonical
-        self.compare(given, (module.copy, module.copy_flat, module.check, module.size), copy, *wanted)
+        self.compare(given, (module.copy, module.copy_flat, module.check, module.size, module.digest), copy, *wanted)
         if copy not in ('Truncated', 'NoMessage'):
-            calls = module.segments_copy, module.segments_copy_flat, module.segments_check, module.segments_size
+            calls = (module.segments_copy, module.segments_copy_flat, module.segments_check, module.segments_size,
+                     module.segments_digest)
             self.compare(list(segments_in(given)), calls, copy, *wanted)
 
     def test_count(self):
@@ -110,7 +113,7 @@ class Calls(unittest.TestCase):
 
     def test_buffers_are_given_back(self):
         message = bytearray(ZERO_WORD)
-        for call in capnp_canonical.copy_flat, capnp_canonical.check, capnp_canonical.size, capnp_canonical.frame_size:
+        for call in capnp_canonical.copy_flat, capnp_canonical.digest, capnp_canonical.check, capnp_canonical.size, capnp_canonical.frame_size:
             call(message)
         capnp_canonical.segments_copy([message[8:]])
         with self.assertRaises(Error):

@@ -1,7 +1,7 @@
 """Canonical form of Cap'n Proto messages, over the library libcapnp_canonical.so.
 
-    import capnp_canonical, hashlib
-    digest = hashlib.sha256(capnp_canonical.copy_flat(frame)).digest()
+    import capnp_canonical
+    name = capnp_canonical.digest(frame).hex()    # the SHA-256 of the canonical words
 
 You pass a message as a frame, which is what `capnp encode`, capnp::writeMessage and pycapnp's `to_bytes` write, or as
 its segments. Bytes after the frame are ignored. Unpack packed bytes first, with `unpack`.
@@ -25,18 +25,18 @@ else the one that the system's loader finds.
 """
 from capnp_canonical._answers import Error, Fault, Limits, Reason, Refusal, Size
 from capnp_canonical._calls import (
-    check, copy, copy_flat, copy_flat_into, copy_into, frame_size, is_canonical, segments_check, segments_copy,
-    segments_copy_flat, segments_is_canonical, segments_size, size, unpack, unpack_into, words_check, words_copy,
-    words_is_canonical, words_size,
+    check, copy, copy_flat, copy_flat_into, copy_into, digest, frame_size, is_canonical, segments_check, segments_copy,
+    segments_copy_flat, segments_digest, segments_is_canonical, segments_size, size, unpack, unpack_into, words_check,
+    words_copy, words_digest, words_is_canonical, words_size,
 )
 from capnp_canonical._frames import frames
 from capnp_canonical._library import version
 
 __all__ = [
-    'Error', 'Fault', 'Limits', 'Reason', 'Refusal', 'Size', 'check', 'copy', 'copy_flat', 'copy_flat_into', 'copy_into',
-    'frame_size', 'frames', 'is_canonical', 'segments_check', 'segments_copy', 'segments_copy_flat',
-    'segments_is_canonical', 'segments_size', 'size', 'unpack', 'unpack_into', 'version', 'words_check', 'words_copy',
-    'words_is_canonical', 'words_size',
+    'Error', 'Fault', 'Limits', 'Reason', 'Refusal', 'Size', 'check', 'copy', 'copy_flat', 'copy_flat_into',
+    'copy_into', 'digest', 'frame_size', 'frames', 'is_canonical', 'segments_check', 'segments_copy',
+    'segments_copy_flat', 'segments_digest', 'segments_is_canonical', 'segments_size', 'size', 'unpack', 'unpack_into',
+    'version', 'words_check', 'words_copy', 'words_digest', 'words_is_canonical', 'words_size',
 ]
 
 for _shown in Error, Fault, Limits, Reason, Refusal, Size:

@@ -18,6 +18,8 @@ LIMITS = Limits()
 _SMALL = 4096
 # The most bytes of a table, which has up to 512 segments.
 _TABLE = 2056
+# The bytes of a SHA-256.
+_DIGEST = 32
 _OF_FRAMES = Refusal.TOO_MANY_SEGMENTS, Refusal.MESSAGE_TOO_LONG, Refusal.TRUNCATED
 _Call = Callable[..., int]
 _REASONS = {int(it): it for it in Reason}
@@ -137,6 +139,16 @@ def _written_into(call: _Call, to: WriteableBuffer, frame: ReadableBuffer, limit
     return written.value
 
 
+def _digest(call: _Call, given: _Given, limits: Limits) -> bytes:
+    to = ctypes.create_string_buffer(_DIGEST)
+    with given:
+        nesting, words = _limits(limits)
+        answer = call(given.first, given.second, nesting, words, to)
+        if answer != DONE:
+            raise _error_of(answer, given)
+    return to.raw
+
+
 def _checked(call: _Call, given: _Given, limits: Limits) -> Optional[Fault]:
     is_canonical, fault = ctypes.c_bool(), RawFault()
     with given:
@@ -188,6 +200,12 @@ def copy_flat_into(to: WriteableBuffer, frame: ReadableBuffer, limits: Limits = 
     return _written_into(library.capnp_canonical_copy_flat, to, frame, limits)
 
 
+def digest(frame: ReadableBuffer, limits: Limits = LIMITS) -> bytes:
+    """The SHA-256 of the canonical words of the message, which are the bytes that `copy_flat` gives. It names the value:
+    messages with equal values have the same."""
+    return _digest(library.capnp_canonical_digest, _frame(frame), limits)
+
+
 def check(frame: ReadableBuffer, limits: Limits = LIMITS) -> Optional[Fault]:
     """Say why and where the message isn't canonical; None if it is: one segment that holds the canonical words of a
     value and nothing else."""
@@ -215,6 +233,11 @@ def segments_copy_flat(segments: Iterable[ReadableBuffer], limits: Limits = LIMI
     return _written_of_segments(library.capnp_canonical_segments_copy_flat, segments, limits)
 
 
+def segments_digest(segments: Iterable[ReadableBuffer], limits: Limits = LIMITS) -> bytes:
+    """Like `digest`, for a message of these segments."""
+    return _digest(library.capnp_canonical_segments_digest, _segments(segments), limits)
+
+
 def segments_check(segments: Iterable[ReadableBuffer], limits: Limits = LIMITS) -> Optional[Fault]:
     """Like `check`, for a message of these segments."""
     return _checked(library.capnp_canonical_segments_check, _segments(segments), limits)
@@ -233,6 +256,11 @@ def segments_size(segments: Iterable[ReadableBuffer], limits: Limits = LIMITS) -
 def words_copy(words: ReadableBuffer, limits: Limits = LIMITS) -> bytes:
     """Like `copy_flat`, for a message passed as raw words: all of them are its one segment."""
     return segments_copy_flat([words], limits)
+
+
+def words_digest(words: ReadableBuffer, limits: Limits = LIMITS) -> bytes:
+    """Like `digest`, for a message passed as raw words."""
+    return segments_digest([words], limits)
 
 
 def words_check(words: ReadableBuffer, limits: Limits = LIMITS) -> Optional[Fault]:

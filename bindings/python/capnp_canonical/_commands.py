@@ -4,7 +4,6 @@ from __future__ import annotations
 import argparse
 import contextlib
 import errno
-import hashlib
 import io
 import itertools
 import os
@@ -12,10 +11,11 @@ import re
 import sys
 import time
 from dataclasses import dataclass
-from typing import Any, BinaryIO, Dict, Iterator, List, NoReturn, Optional, Tuple, Union
+from typing import Any, BinaryIO, Callable, Dict, Iterator, List, NoReturn, Optional, Tuple, Union
 
 from capnp_canonical._answers import Error, Limits
-from capnp_canonical._calls import LIMITS, copy_flat, words_copy
+from capnp_canonical._calls import LIMITS, copy_flat, words_copy, words_digest
+from capnp_canonical._calls import digest as frame_digest
 from capnp_canonical._frames import frames
 from capnp_canonical._library import version
 
@@ -25,6 +25,8 @@ SAME, DIFFERS, TROUBLE = 0, 1, 2
 ENCODING = sys.getfilesystemencoding()
 # What a line of `digest` says: the digest, the name of the file, and the number of the message.
 Entry = Tuple[bytes, str, int]
+# A call on the bytes of a message.
+_Call = Callable[[bytes, Limits], bytes]
 ABOUT = '''Names Cap'n Proto messages by the SHA-256 of their canonical words, so that equal values have equal names,
 whatever their layout. FILE holds framed messages, one after the other, as `capnp encode` writes them; `-` is standard
 input. Message N of a file is FILE:N, counted from 1. No schema is needed.'''
@@ -93,11 +95,20 @@ class Reading:
     def words_of(self, name: str) -> Iterator[Tuple[int, Optional[bytes]]]:
         """The numbers of the messages of a file and their canonical words; None for one that is refused, which is
         reported."""
-        answers = self._answers_of(name)
+        return self._told(name, self._answers_of(name, copy_flat, words_copy))
+
+    def digests_of(self, name: str) -> Iterator[Tuple[int, bytes]]:
+        """The numbers of the messages of a file and their digests, without those that are refused, which are reported."""
+        for number, value in self._told(name, self._answers_of(name, frame_digest, words_digest)):
+            if value is not None:
+                yield number, value
+
+    def _told(self, name: str, answers: Iterator[Tuple[int, Union[bytes, Error]]]) -> Iterator[Tuple[int, Optional[bytes]]]:
+        """The answers to the messages of a file; None for each refusal, which is reported."""
         while True:
             # an error of standard output, where mistakes are reported, is none of the file
             try:
-                number, words = next(answers)
+                number, answer = next(answers)
             except StopIteration:
                 return
             except OSError as error:
@@ -110,31 +121,27 @@ class Reading:
                 # the bytes aren't a frame, or no file can have the name
                 self.trouble(name, error)
                 return
-            if isinstance(words, Error):
-                self.trouble(name, words)
+            if isinstance(answer, Error):
+                self.trouble(name, answer)
                 yield number, None
             else:
-                yield number, words
+                yield number, answer
 
-    def _answers_of(self, name: str) -> Iterator[Tuple[int, Union[bytes, Error]]]:
+    def _answers_of(self, name: str, of_frame: _Call, of_words: _Call) -> Iterator[Tuple[int, Union[bytes, Error]]]:
+        """What a call answers to each message of a file."""
         with opened(name) as stream:
             if self.is_flat:
-                yield 1, words_copy(stream.read(), self.limits)
+                yield 1, of_words(stream.read(), self.limits)
                 return
             at = 0
             for number, frame in enumerate(frames(stream, self.limits.words), 1):
                 try:
-                    answer: Union[bytes, Error] = copy_flat(frame, self.limits)
+                    answer: Union[bytes, Error] = of_frame(frame, self.limits)
                 except Error as error:
                     answer = error.at(number, at)
                 yield number, answer
                 at += len(frame)
                 self.progress.add(len(frame))
-
-    def digests_of(self, name: str) -> Iterator[Tuple[int, bytes]]:
-        for number, words in self.words_of(name):
-            if words is not None:
-                yield number, hashlib.sha256(words).digest()
 
 
 def opened(name: str) -> BinaryIO:

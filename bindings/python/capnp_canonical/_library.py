@@ -87,6 +87,7 @@ def _load() -> ctypes.CDLL:
     calls: Any = (
         ('copy', [at, size, pointer(size)]),
         ('copy_flat', [at, size, pointer(size)]),
+        ('digest', [ctypes.c_char_p]),
         ('check', [pointer(ctypes.c_bool), pointer(RawFault)]),
         ('size', [pointer(u64), pointer(u32)]),
     )

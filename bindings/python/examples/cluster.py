@@ -11,7 +11,6 @@ A task is a piece of a file: whole messages of at least BYTES bytes. Several tas
 among the hashes with certain first bytes, so that no process has to hold all of them.
 """
 import argparse
-import hashlib
 import itertools
 import mmap
 import os
@@ -24,7 +23,8 @@ from typing import Callable, Dict, Iterator, List, Optional, Tuple
 
 from distributed import Client, Future, LocalCluster
 
-from capnp_canonical import Error, copy_flat, frames
+from capnp_canonical import Error, frames
+from capnp_canonical import digest as digest_of
 
 PIECE = 16 << 20
 
@@ -93,7 +93,7 @@ def names_in(name: str, piece: Piece, buckets: int) -> Tuple[List[bytes], Counts
     at = piece.start
     for number, frame in enumerate(frames(mapped(name)[piece.start:piece.end]), piece.first):
         try:
-            digest = hashlib.sha256(copy_flat(frame)).digest()
+            digest = digest_of(frame)
             records[(digest[0] << 8 | digest[1]) * buckets >> 16] += struct.pack(RECORD, digest, piece.file, number)
         except Error as error:
             counts.refused.append(f'{name}: {error.at(number, at)}')

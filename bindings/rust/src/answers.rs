@@ -236,6 +236,13 @@ fn attempt(
     Ok(call(rest.as_mut_ptr().cast(), rest.len(), written))
 }
 
+/// The 32 bytes that a call writes.
+pub(crate) fn digest_of(call: impl FnOnce(*mut u8) -> u32) -> Result<[u8; 32], Error> {
+    let mut digest = [0; 32];
+    done(call(digest.as_mut_ptr()))?;
+    Ok(digest)
+}
+
 pub(crate) fn fault_of(
     call: impl FnOnce(&mut bool, &mut RawFault) -> u32,
 ) -> Result<Option<Fault>, Error> {

@@ -48,7 +48,7 @@ mod texts;
 pub mod words;
 
 use alloc::vec::Vec;
-use answers::{append, done, fault_of, size_of};
+use answers::{append, digest_of, done, fault_of, size_of};
 pub use answers::{Error, Fault, Reason, Size};
 pub use looks::looks_like;
 pub use packed::{unpack, unpack_into};
@@ -135,6 +135,24 @@ pub fn canonical_words_into(
                 to,
                 room,
                 written,
+            )
+        }
+    })
+}
+
+/// The SHA-256 of the canonical words of the message, which are the bytes that [`canonical_words`] returns. It names the
+/// value: messages with equal values have the same. It takes no vector for the words.
+pub fn digest(frame: impl AsRef<[u8]>, limits: Limits) -> Result<[u8; 32], Error> {
+    let frame = frame.as_ref();
+    digest_of(|to| {
+        // SAFETY: the slice is a pointer and its length, and `to` has room for 32 bytes.
+        unsafe {
+            ffi::capnp_canonical_digest(
+                frame.as_ptr(),
+                frame.len(),
+                limits.nesting,
+                limits.words,
+                to,
             )
         }
     })

@@ -1,5 +1,5 @@
 //! The same calls, for a message whose segments you have. The length of each segment is a multiple of 8 bytes.
-use crate::answers::{append, fault_of, size_of};
+use crate::answers::{append, digest_of, fault_of, size_of};
 use crate::ffi::{self, RawSegment};
 use crate::{Error, Fault, Limits, Size};
 use alloc::vec::Vec;
@@ -126,6 +126,23 @@ pub fn canonical_words_into<S: Segments + ?Sized>(
                 to,
                 room,
                 written,
+            )
+        }
+    })
+}
+
+/// The SHA-256 of the canonical words of the message, which are the bytes that [`canonical_words`] returns.
+pub fn digest<S: Segments + ?Sized>(segments: &S, limits: Limits) -> Result<[u8; 32], Error> {
+    let raw = Raw::of(segments)?;
+    digest_of(|to| {
+        // SAFETY: the segments are pointers and lengths, and `to` has room for 32 bytes.
+        unsafe {
+            ffi::capnp_canonical_segments_digest(
+                raw.segments.as_ptr(),
+                raw.segments.len(),
+                limits.nesting,
+                limits.words,
+                to,
             )
         }
     })

@@ -20,6 +20,11 @@ pub fn canonical_words_into(
     segments::canonical_words_into(&[words], limits, to)
 }
 
+/// The SHA-256 of the canonical words of the value that the words hold.
+pub fn digest(words: impl AsRef<[u8]>, limits: Limits) -> Result<[u8; 32], Error> {
+    segments::digest(&[words], limits)
+}
+
 /// Says why and where the words aren't canonical; `None` if they are the canonical words of a value and nothing else.
 pub fn check(words: impl AsRef<[u8]>, limits: Limits) -> Result<Option<Fault>, Error> {
     segments::check(&[words], limits)

@@ -1,8 +1,8 @@
 //! The messages of tests/library/messages.txt, and what that file can't say.
 use capnp_canonical::{
-    canonical_copy, canonical_words, canonical_words_into, check, frame_size, frames, is_canonical,
-    looks_like, segments, size, unpack, unpack_into, version, words, Error, Fault, Limits, Reason,
-    Size,
+    canonical_copy, canonical_words, canonical_words_into, check, digest, frame_size, frames,
+    is_canonical, looks_like, segments, size, unpack, unpack_into, version, words, Error, Fault,
+    Limits, Reason, Size,
 };
 use std::fs;
 
@@ -64,10 +64,14 @@ fn size_text(size: Size) -> String {
 }
 
 /// Canonical words, by the module of raw words.
-fn require_words(flat: &[u8], are_there: bool) {
+fn require_words(flat: &[u8], hash: &str, are_there: bool) {
     if are_there {
         let limits = Limits::default();
         assert_eq!(words::canonical_words(flat, limits).as_deref(), Ok(flat));
+        assert_eq!(
+            words::digest(flat, limits).map(Vec::from),
+            Ok(bytes_of(hash))
+        );
         assert_eq!(words::check(flat, limits), Ok(None));
         assert!(words::is_canonical(flat, limits));
         assert!(words::size(flat, limits).is_ok_and(|it| 8 * it.words + 8 >= flat.len() as u64));
@@ -81,11 +85,11 @@ fn messages() -> Tested {
     let lines = text.lines().filter(|line| !line.starts_with('#'));
     let mut count = 0;
     for line in lines {
-        let [name, frame, copy, flat, checked, measured] = line
+        let [name, frame, copy, flat, checked, measured, hash] = line
             .split(' ')
             .collect::<Vec<_>>()
             .try_into()
-            .map_err(|_| format!("not six words: {line}"))?;
+            .map_err(|_| format!("not seven words: {line}"))?;
         let frame = bytes_of(frame);
         let wanted = |bytes: Vec<u8>| {
             if copy == "Done" {
@@ -106,10 +110,15 @@ fn messages() -> Tested {
             wanted(bytes_of(flat)),
             "{name}"
         );
+        assert_eq!(
+            named(digest(&frame, limits).map(Vec::from)),
+            wanted(bytes_of(hash)),
+            "{name}"
+        );
         assert_eq!(answer(check(&frame, limits), fault_text), checked, "{name}");
         assert_eq!(answer(size(&frame, limits), size_text), measured, "{name}");
         assert_eq!(is_canonical(&frame, limits), checked == "yes", "{name}");
-        require_words(&bytes_of(flat), copy == "Done");
+        require_words(&bytes_of(flat), hash, copy == "Done");
         count += 1;
         if ["Truncated", "NoMessage"].contains(&copy) {
             continue;
@@ -123,6 +132,11 @@ fn messages() -> Tested {
         assert_eq!(
             named(segments::canonical_words(&parts, limits)),
             wanted(bytes_of(flat)),
+            "{name}"
+        );
+        assert_eq!(
+            named(segments::digest(&parts, limits).map(Vec::from)),
+            wanted(bytes_of(hash)),
             "{name}"
         );
         assert_eq!(

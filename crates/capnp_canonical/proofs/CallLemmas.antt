@@ -127,10 +127,14 @@ test_told limits S told (Some f) true e m n h = absurd (let wrong : true ≡ fal
 test_told limits S told (Some f) false e m n h = (h.0, (f, h.1, m))
 
 -- the copy of a value that fits is refused only for lack of memory or room
+pub meaning_granted : (form : Form) (limits : ReaderOptions) {r : Refusal} (S : Segments) →
+    RefusesMeaning (Canon form) limits S r → HasAnswerWithin (Canon form) limits S → answer_number r ≡ 32
+meaning_granted form limits S (k, named, refused) can =
+    ap answer_number (named ∙ ap Layout (answer_refused (Canon form) limits S can refused))
+
 pub room_granted : (form : Form) (limits : ReaderOptions) (room : ℕ) {r : Refusal} (S : Segments) →
     RefusesRoom form limits room S r → HasAnswerWithin (Canon form) limits S → IsGranted (answer_number r)
-room_granted form limits room S (inl (k, named, refused)) can =
-    inr (inr (ap answer_number (named ∙ ap Layout (answer_refused (Canon form) limits S can refused))))
+room_granted form limits room S (inl refused) can = inr (inr (meaning_granted form limits S refused can))
 room_granted form limits room S (inr (bytes, copy, named, less)) can = inr (inl (ap answer_number named))
 
 -- words of this many bytes fit a segment of a copy

@@ -1,4 +1,4 @@
-//! Copies, tests and measures the message whose frame is at the front of a buffer (encoding
+//! Copies, tests, measures and hashes the message whose frame is at the front of a buffer (encoding
 //! specification, "Serialization Over a Stream").
 ghost use Rattle.std.specs.Prelude.{◌≡◌, ◌⊎◌, ◌≤◌, length, take, drop, IfOk, IfErr, OnErr};
 ghost use Rattle.capnp_format.specs.Bytes.{message};
@@ -7,10 +7,13 @@ ghost use Rattle.capnp_framing.specs.Flat.{BeginsWithFrame};
 ghost use Rattle.capnp_framing.specs.Frames.{frame};
 ghost use Rattle.capnp_messages.specs.CanonicalMessages.{IsCanonicalMessage};
 ghost use Rattle.capnp_messages.specs.Messages.{HasSizeOf};
+ghost use Rattle.capnp_messages.specs.Digests.{IsDigestOf};
 ghost use Rattle.capnp_messages.specs.declared.messages.command.Command.{Command};
+ghost use Rattle.capnp_messages.specs.declared.messages.command.Form.{Form};
 ghost use Rattle.capnp_canonical.specs.Calls.{Fills, InFrame, IsCopyOf, RefusesBytes, RefusesMeaning, RefusesRoom, TestFinds, limits_of};
 
 use crate::calls::{Limits, copy};
+use crate::digest::digest;
 use crate::refusal::Refusal;
 use capnp_arena::arena::ReaderSegments;
 use capnp_framing::framing::{FrameSegments, read_from_flat_slice};
@@ -87,4 +90,17 @@ pub fn frame_size(bytes: &[u8], words: u64) -> Result<usize, Refusal>
     ensures refused { IfErr result (RefusesBytes bytes.now words) }
 {
     Ok(message_in(bytes, words)?.size_in_bytes())
+}
+
+/// Returns the SHA-256 of the canonical words of the message whose frame is at the front of
+/// `frame`.
+pub fn digest_frame(alloc: Global, frame: &[u8], limits: Limits) -> Result<[u8; 32], Refusal>
+    ensures digest { IfOk result (λ d. InFrame frame.now limits.words
+        (λ S. IsDigestOf S (limits_of limits.nesting limits.words) d)) }
+    ensures refused { IfErr result (λ r. RefusesBytes frame.now limits.words r
+        ⊎ InFrame frame.now limits.words (λ S. RefusesMeaning (Command.Canon Form.Flat)
+        (limits_of limits.nesting limits.words) S r)) }
+{
+    let segments = message_in(frame, limits.words)?;
+    digest(alloc, segments, limits.options())
 }

@@ -1,16 +1,17 @@
 //! Canonical form (encoding specification, "Canonicalization") for C, and for languages that call
-//! C. Copies, tests and measures a message that is given as a frame in a buffer, as segments, or as
-//! the words of its only segment. Also unpacks packed bytes. Keeps no state between calls.
+//! C. Copies, tests, measures and hashes a message that is given as a frame in a buffer, as segments,
+//! or as the words of its only segment. Also unpacks packed bytes. Keeps no state between calls.
 //!
 //! `bindings/c/capnp_canonical.h` says how to call each function. A function returns 0 if it
 //! succeeded, otherwise the number of a refusal. The functions for names, texts and versions are
 //! never refused; they return a length or the version.
 #![tactic(auto)]
 
-ghost use Rattle.std.specs.Prelude.{◌≡◌, ◌≢◌, ◌⊎◌, ◌≤◌, ⊤, ◌+◌, ◌*◌, ◌++◌, ℕ, List, codes, false, length, take, drop};
+ghost use Rattle.std.specs.Prelude.{◌≡◌, ◌≢◌, ◌⊎◌, ◌≤◌, ⊤, ◌+◌, ◌*◌, ◌++◌, ℕ, List, codes, false, length, replicate, take, drop};
 ghost use Rattle.capnp_format.specs.Segments.{Segments};
 ghost use Rattle.capnp_framing.specs.Frames.{IsFrameOf};
 ghost use Rattle.capnp_framing.specs.Reading.{total};
+ghost use Rattle.capnp_messages.specs.Digests.{IsDigestOf};
 ghost use Rattle.capnp_messages.specs.Messages.{HasSizeOf};
 ghost use Rattle.capnp_messages.specs.Commands.{HasAnswerWithin};
 ghost use Rattle.capnp_messages.specs.declared.messages.command.Command.{Command};
@@ -22,6 +23,7 @@ ghost use Rattle.capnp_canonical.specs.Numbers.{answer_name, answer_number, reas
 ghost use Rattle.capnp_canonical.specs.Texts.{PutsText, IsTextOf};
 
 mod calls;
+mod digest;
 mod fault;
 mod frames;
 mod names;
@@ -34,12 +36,12 @@ use calls::Limits;
 use capnp_messages::messages::Form;
 use capnp_packing::packing::Place;
 use fault::{Fault, NO_FAULT};
-use frames::{check_frame, copy_frame, frame_size, size_frame};
+use frames::{check_frame, copy_frame, digest_frame, frame_size, size_frame};
 use names::{name_of_number, put_text, text_of_reason};
 use packed::unpack;
-use segments::{check_segments, copy_segments, size_segments};
+use segments::{check_segments, copy_segments, digest_segments, size_segments};
 use std::alloc::Global;
-use words::{check_words, copy_words, size_words};
+use words::{check_words, copy_words, digest_words, size_words};
 
 /// Makes a canonical copy of the message whose frame is at the front of `frame`, writes the copy to
 /// the front of `to`, as a frame of one segment, and stores the number of bytes written in
@@ -182,6 +184,40 @@ pub extern "C" fn capnp_canonical_size(
         Err(refusal) => {
             *word_count = 0;
             *cap_count = 0;
+            refusal.number()
+        }
+    }
+}
+
+/// Stores in `digest` the SHA-256 of the canonical words of the message whose frame is at the front
+/// of `frame`: of the bytes that `capnp_canonical_copy_flat` writes. `nesting` and `words` limit the
+/// reading, as in `capnp_canonical_check`. After a refusal `digest` is all 0. The refusals are those
+/// of `capnp_canonical_copy_flat`, except that there is always room.
+#[unsafe(no_mangle)]
+pub extern "C" fn capnp_canonical_digest(
+    alloc: Global,
+    frame: &[u8],
+    nesting: i32,
+    words: u64,
+    digest: &mut [u8; 32],
+) -> u32
+    ensures done { result ≡ 0 → InFrame frame.now words
+        (λ S. IsDigestOf S (limits_of nesting words) digest.new) }
+    ensures refused { result ≢ 0 → IsNumberWhere result (λ r. RefusesBytes frame.now words r
+        ⊎ InFrame frame.now words
+        (λ S. RefusesMeaning (Command.Canon Form.Flat) (limits_of nesting words) S r)) }
+    ensures none { result ≢ 0 → digest.new ≡ replicate 32 0 }
+    ensures granted { InFrame frame.now words
+        (HasAnswerWithin (Command.Canon Form.Flat) (limits_of nesting words))
+        → (result ≡ 0) ⊎ (result ≡ 32) }
+{
+    match digest_frame(alloc, frame, Limits { nesting, words }) {
+        Ok(made) => {
+            *digest = made;
+            0
+        }
+        Err(refusal) => {
+            *digest = [0; 32];
             refusal.number()
         }
     }
@@ -340,6 +376,38 @@ pub extern "C" fn capnp_canonical_segments_size(
     }
 }
 
+/// Like `capnp_canonical_digest`, for a message that the caller passes as `segments`, without a
+/// frame.
+#[unsafe(no_mangle)]
+pub extern "C" fn capnp_canonical_segments_digest(
+    alloc: Global,
+    segments: &[&[u8]],
+    nesting: i32,
+    words: u64,
+    digest: &mut [u8; 32],
+) -> u32
+    ensures done { result ≡ 0 → InSegments segments.now
+        (λ S. IsDigestOf S (limits_of nesting words) digest.new) }
+    ensures refused { result ≢ 0 → IsNumberWhere result (λ r. RefusesSegments segments.now r
+        ⊎ InSegments segments.now
+        (λ S. RefusesMeaning (Command.Canon Form.Flat) (limits_of nesting words) S r)) }
+    ensures none { result ≢ 0 → digest.new ≡ replicate 32 0 }
+    ensures granted { InSegments segments.now
+        (HasAnswerWithin (Command.Canon Form.Flat) (limits_of nesting words))
+        → (result ≡ 0) ⊎ (result ≡ 32) }
+{
+    match digest_segments(alloc, segments, Limits { nesting, words }) {
+        Ok(made) => {
+            *digest = made;
+            0
+        }
+        Err(refusal) => {
+            *digest = [0; 32];
+            refusal.number()
+        }
+    }
+}
+
 /// Like `capnp_canonical_copy_flat`, for a message with one segment, whose words the caller passes
 /// as `bytes`, without a frame.
 #[unsafe(no_mangle)]
@@ -431,6 +499,38 @@ pub extern "C" fn capnp_canonical_words_size(
         Err(refusal) => {
             *word_count = 0;
             *cap_count = 0;
+            refusal.number()
+        }
+    }
+}
+
+/// Like `capnp_canonical_digest`, for a message with one segment, whose words the caller passes as
+/// `bytes`, without a frame.
+#[unsafe(no_mangle)]
+pub extern "C" fn capnp_canonical_words_digest(
+    alloc: Global,
+    bytes: &[u8],
+    nesting: i32,
+    words: u64,
+    digest: &mut [u8; 32],
+) -> u32
+    ensures done { result ≡ 0 → InWords bytes.now
+        (λ S. IsDigestOf S (limits_of nesting words) digest.new) }
+    ensures refused { result ≢ 0 → IsNumberWhere result (λ r. RefusesSegment bytes.now r
+        ⊎ InWords bytes.now
+        (λ S. RefusesMeaning (Command.Canon Form.Flat) (limits_of nesting words) S r)) }
+    ensures none { result ≢ 0 → digest.new ≡ replicate 32 0 }
+    ensures granted { InWords bytes.now
+        (HasAnswerWithin (Command.Canon Form.Flat) (limits_of nesting words))
+        → (result ≡ 0) ⊎ (result ≡ 32) }
+{
+    match digest_words(alloc, bytes, Limits { nesting, words }) {
+        Ok(made) => {
+            *digest = made;
+            0
+        }
+        Err(refusal) => {
+            *digest = [0; 32];
             refusal.number()
         }
     }

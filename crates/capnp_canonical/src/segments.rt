@@ -1,12 +1,15 @@
-//! Copies, tests and measures a message in the caller's segments.
+//! Copies, tests, measures and hashes a message in the caller's segments.
 ghost use Rattle.std.specs.Prelude.{◌≡◌, ◌⊎◌, ◌≤◌, map, length, take, drop, IfOk, IfErr, OnErr};
 ghost use Rattle.capnp_arena_traits.specs.Limits.{AreSmall, IsSmall};
 ghost use Rattle.capnp_messages.specs.CanonicalMessages.{IsCanonicalMessage};
 ghost use Rattle.capnp_messages.specs.Messages.{HasSizeOf};
+ghost use Rattle.capnp_messages.specs.Digests.{IsDigestOf};
 ghost use Rattle.capnp_messages.specs.declared.messages.command.Command.{Command};
+ghost use Rattle.capnp_messages.specs.declared.messages.command.Form.{Form};
 ghost use Rattle.capnp_canonical.specs.Calls.{AreWholeWords, Fills, InSegments, IsCopyOf, RefusesMeaning, RefusesRoom, RefusesSegments, TestFinds, lent_bytes, limits_of};
 
 use crate::calls::{Limits, copy};
+use crate::digest::digest;
 use crate::refusal::Refusal;
 use capnp_arena::arena::{ReaderSegments, SegmentArray};
 use capnp_messages::messages::{Form, canonical_fault_of, size_of};
@@ -110,4 +113,20 @@ pub fn size_segments(segments: &[&[u8]], limits: Limits) -> Result<MessageSize, 
 {
     let lent = LentSegments::new(segments)?;
     Ok(size_of(lent, limits.options())?)
+}
+
+/// Returns the SHA-256 of the canonical words of the message in `segments`.
+pub fn digest_segments(
+    alloc: Global,
+    segments: &[&[u8]],
+    limits: Limits,
+) -> Result<[u8; 32], Refusal>
+    ensures digest { IfOk result (λ d. InSegments segments.now
+        (λ S. IsDigestOf S (limits_of limits.nesting limits.words) d)) }
+    ensures refused { IfErr result (λ r. RefusesSegments segments.now r
+        ⊎ InSegments segments.now (λ S. RefusesMeaning (Command.Canon Form.Flat)
+        (limits_of limits.nesting limits.words) S r)) }
+{
+    let lent = LentSegments::new(segments)?;
+    digest(alloc, lent, limits.options())
 }

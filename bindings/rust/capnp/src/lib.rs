@@ -86,6 +86,11 @@ pub fn canonical_words_into<S: ReaderSegments + ?Sized>(
     segments::canonical_words_into(&Of(message), limits, to)
 }
 
+/// The SHA-256 of the canonical words of the message, which are the bytes that [`canonical_words`] returns.
+pub fn digest<S: ReaderSegments + ?Sized>(message: &S, limits: Limits) -> Result<[u8; 32], Error> {
+    segments::digest(&Of(message), limits)
+}
+
 /// Says why and where the message isn't canonical; `None` if it is: one segment that holds the canonical words of a
 /// value and nothing else.
 pub fn check<S: ReaderSegments + ?Sized>(

@@ -3,10 +3,10 @@ use capnp::message::{Builder, Reader, ReaderOptions, SegmentArray};
 use capnp_canonical::{Error, Limits};
 use capnp_canonical_capnp::{
     canonical_copy, canonical_words, canonical_words_into, canonical_words_of,
-    canonical_words_of_reader, check, is_canonical, limits, size, ValueError,
+    canonical_words_of_reader, check, digest, is_canonical, limits, size, ValueError,
 };
 
-/// The ten messages of the library's tests: NAME FRAME COPY FLAT CHECK SIZE.
+/// The ten messages of the library's tests: NAME FRAME COPY FLAT CHECK SIZE DIGEST.
 const MESSAGES: &str = include_str!("../../../../tests/library/messages.txt");
 
 fn bytes_of(digits: &str) -> Vec<u8> {
@@ -22,8 +22,9 @@ fn messages_that_are_read() {
     let options = ReaderOptions::new();
     let mut count = 0;
     for line in MESSAGES.lines().filter(|line| !line.starts_with('#')) {
-        let [name, frame, copy, flat, checked, _] = line.split(' ').collect::<Vec<_>>()[..] else {
-            panic!("not six words: {line}");
+        let [name, frame, copy, flat, checked, _, hash] = line.split(' ').collect::<Vec<_>>()[..]
+        else {
+            panic!("not seven words: {line}");
         };
         let frame = bytes_of(frame);
         let Ok(message) = capnp::serialize::read_message(&mut &frame[..], options) else {
@@ -35,7 +36,11 @@ fn messages_that_are_read() {
         // capnp may find another reason first
         assert_eq!(copied.ok(), words.clone().ok(), "{name}");
         match words {
-            Ok(words) => assert_eq!(words, bytes_of(flat), "{name}"),
+            Ok(words) => {
+                assert_eq!(words, bytes_of(flat), "{name}");
+                let found = digest(&segments, limits(&options)).map(Vec::from);
+                assert_eq!(found, Ok(bytes_of(hash)), "{name}");
+            }
             Err(error) => assert_eq!(error.name(), copy, "{name}"),
         }
         assert_eq!(

@@ -1,0 +1,34 @@
+//! The SHA-256 of a message's canonical words, for any type that holds the message's segments.
+ghost use Rattle.std.specs.Prelude.{IfErr, IfOk};
+ghost use Rattle.capnp_format.specs.Bytes.{message};
+ghost use Rattle.capnp_arena_traits.specs.Limits.{IsSmall};
+ghost use Rattle.capnp_messages.specs.Digests.{IsDigestOf};
+ghost use Rattle.capnp_messages.specs.declared.messages.command.Command.{Command};
+ghost use Rattle.capnp_messages.specs.declared.messages.command.Form.{Form};
+ghost use Rattle.capnp_canonical.specs.Calls.{RefusesMeaning};
+
+use crate::refusal::Refusal;
+use capnp_arena::arena::{HeapAllocator, ReaderOptions, ReaderSegments};
+use capnp_messages::messages::digest_with;
+use std::alloc::Global;
+
+/// Returns the SHA-256 of the canonical words of the message in `segments`.
+///
+/// Takes heap memory if a message of fewer than 64 words has more than 64 canonical words, or if a
+/// larger one isn't canonical.
+pub fn digest<S: ReaderSegments + Drop>(
+    alloc: Global,
+    segments: S,
+    limits: ReaderOptions,
+) -> Result<[u8; 32], Refusal>
+    requires { IsSmall (S.segments segments) }
+    ensures digest { IfOk result (IsDigestOf (message (S.segments segments)) limits) }
+    ensures refused { IfErr result (RefusesMeaning (Command.Canon Form.Flat) limits
+        (message (S.segments segments))) }
+{
+    let (digest, _) = digest_with(alloc, HeapAllocator::new(alloc, 0), segments, limits);
+    match digest {
+        Ok(digest) => Ok(digest),
+        Err(kind) => Err(Refusal::Layout(kind)),
+    }
+}
