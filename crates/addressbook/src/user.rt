@@ -1,0 +1,29 @@
+//! A user of the readers.
+ghost use Rattle.std.specs.Prelude.{◌≡◌, ◌<◌, ℕ, IfOk, IfSome};
+ghost use Rattle.capnp_format.specs.Bytes.{message};
+ghost use Rattle.capnp_format.specs.Means.{Means};
+ghost use Rattle.capnp_format.specs.Tree.{Tree};
+ghost use Rattle.capnp_objects.specs.Source.{levels};
+ghost use Rattle.capnp_readers.specs.Values.{HasStructs, struct_element};
+ghost use Rattle.addressbook.specs.Schema.{address_book_people, person_id};
+
+use crate::address_book;
+use capnp_arena_traits::arena::ReaderArena;
+use capnp_words::error::ErrorKind;
+use capnp_words::read_limiter::ReadLimiter;
+
+/// Returns the id of the first person of the address book that a message is, or `None` if there are
+/// no people.
+pub fn first_id<A: ReaderArena>(arena: &A, lim: &mut ReadLimiter) -> Result<Option<u32>, ErrorKind>
+    ensures { (t : Tree) (c : ℕ)
+        → Means (message (A.segments arena.now)) (levels (A.nesting arena.now)) 0 0 t c
+        → HasStructs (address_book_people t) → IfOk result (λ first. IfSome first
+        (λ id. id ≡ person_id (struct_element (address_book_people t) 0))) }
+{
+    let book = address_book::Reader::root(arena, lim)?;
+    let people = book.get_people(lim)?;
+    if people.len() == 0 {
+        return Ok(None);
+    }
+    Ok(Some(people.get(0).get_id()))
+}

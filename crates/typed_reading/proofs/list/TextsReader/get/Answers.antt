@@ -1,0 +1,20 @@
+use Rattle.std.proofs.Common.{arith}
+use Rattle.capnp_readers.specs.Values.{pointer_cost}
+use Rattle.typed_reading.proofs.Root.{holds}
+use Rattle.typed_reading.specs.Values.{pointer_element}
+use Rattle.typed_reading.proofs.list.TextsReader.get.Goals as goal
+
+pub get_pointer_element-requires : goal.get_pointer_element-requires
+get_pointer_element-requires g c =
+    let list = c.args.self.now.reader in
+    record { range = c.requires; pointers = holds list.element_size list.struct_size list.sized (c.args.self.now.pointers (omega arith)) }
+
+pub returns-clause-answered : goal.returns-clause-answered
+returns-clause-answered g c = λ t shows has words is covers.
+    let element = c.get_pointer_element.ensures in
+    c.get_text.ensures.answered (pointer_element c.args.index t) (pointer_cost g.A.ReaderArena shows c.args.index) tt (rw element.source words) is (element.means t shows has) (rw element.source covers)
+
+pub returns-clause-spent : goal.returns-clause-spent
+returns-clause-spent g c = λ t shows has other.
+    let element = c.get_pointer_element.ensures in
+    rw element.source at (c.get_text.ensures.spent (pointer_element c.args.index t) (pointer_cost g.A.ReaderArena shows c.args.index) other (element.means t shows has))

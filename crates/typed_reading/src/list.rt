@@ -1,0 +1,255 @@
+//! Lists of structs, of numbers and of texts that are read.
+ghost use Rattle.std.specs.Prelude.{◌≡◌, ◌≢◌, ◌<◌, ◌≤◌, ◌-◌, ◌%◌, ◌^◌, ℕ, List, IfOk, IsOk, OnOk, slice_index, ⊤};
+ghost use Rattle.capnp_format.specs.Numbers.{element_bits};
+ghost use Rattle.capnp_format.specs.Segments.{AreWords};
+ghost use Rattle.capnp_format.specs.Tree.{Tree, Null, Flat};
+ghost use Rattle.capnp_words.specs.Meter.{Affords};
+ghost use Rattle.capnp_words.specs.Sizes.{size_number};
+ghost use Rattle.capnp_words.specs.declared.wire_pointer.ElementSize.TheVariants.{InlineComposite, Pointer};
+ghost use Rattle.capnp_objects.specs.Reading.{source_start};
+ghost use Rattle.capnp_objects.specs.Spending.{Paid};
+ghost use Rattle.capnp_readers.specs.Sections.{data_bits};
+ghost use Rattle.capnp_readers.specs.Values.{ShowsListOf, ShowsNumber, ShowsStructOf, StaysIn, FitsElements, FitsSize, HasStructs, IsText, child_cost, element_number, list_length, pointer_cost, struct_element, text_bytes};
+ghost use Rattle.typed_reading.specs.Values.{child, pointer_element};
+
+use capnp_arena_traits::arena::ReaderArena;
+use capnp_readers::readers::{ListReader, PrimitiveElement, StructReader};
+use capnp_words::error::ErrorKind;
+use capnp_words::read_limiter::ReadLimiter;
+use capnp_words::wire_pointer::ElementSize;
+use std::alloc::AllocError;
+use std::marker::PhantomData;
+
+/// A list of structs that is read.
+pub struct StructsReader<'a, A: ReaderArena> {
+    /// The list.
+    pub reader: ListReader<'a, A>,
+    ghost whole: { size_number reader.element_size ≢ 1 },
+}
+
+impl<'a, A: ReaderArena> Clone for StructsReader<'a, A> {
+    ghost is_clone = { λ x y. y ≡ x };
+
+    ghost is_infallible = { λ _. ⊤ };
+
+    fn clone(&self) -> Result<Self, AllocError> {
+        Ok(*self)
+    }
+}
+
+impl<'a, A: ReaderArena> Copy for StructsReader<'a, A> {}
+
+impl<'a, A: ReaderArena> StructsReader<'a, A> {
+    /// The number of elements.
+    pub fn len(&self) -> u32
+        ensures count { result ≡ self.now.reader.count }
+        ensures value { (t : Tree) → ShowsListOf A.ReaderArena self.now.reader t
+            → result ≡ list_length t }
+    {
+        self.reader.len()
+    }
+
+    /// Returns element `index`. Precondition: `index` is below the number of elements.
+    pub fn get(&self, index: u32) -> StructReader<'a, A>
+        requires { index < self.now.reader.count }
+        ensures value { (t : Tree) → ShowsListOf A.ReaderArena self.now.reader t → HasStructs t
+            → ShowsStructOf A.ReaderArena result (struct_element t index) }
+        ensures number { (size : ℕ) (ns : List ℕ)
+            → ShowsListOf A.ReaderArena self.now.reader (Flat size ns)
+            → ShowsNumber A.ReaderArena result (element_bits size) (slice_index ns index) }
+        ensures source { result.source ≡ self.now.reader.source }
+    {
+        self.reader.get_struct_element(index)
+    }
+}
+
+/// A list of numbers that is read, of bits, or of nothing.
+pub struct NumbersReader<'a, A: ReaderArena, T: PrimitiveElement> {
+    /// The list.
+    pub reader: ListReader<'a, A>,
+    // The type of the elements.
+    of: PhantomData<T>,
+    ghost wide: { 0 < reader.count → element_bits (size_number T.size)
+        ≤ data_bits reader.element_size reader.struct_size },
+}
+
+impl<'a, A: ReaderArena, T: PrimitiveElement> NumbersReader<'a, A, T> {
+    /// The number of elements.
+    pub fn len(&self) -> u32
+        ensures count { result ≡ self.now.reader.count }
+        ensures value { (t : Tree) → ShowsListOf A.ReaderArena self.now.reader t
+            → result ≡ list_length t }
+    {
+        self.reader.len()
+    }
+
+    /// Returns element `index`: the lowest bits of its data. Precondition: `index` is below the
+    /// number of elements.
+    pub fn get(&self, index: u32) -> T
+        requires { index < self.now.reader.count }
+        ensures { (t : Tree) → ShowsListOf A.ReaderArena self.now.reader t
+            → T.number_of result
+            ≡ element_number t index % 2 ^ element_bits (size_number T.size) }
+    {
+        T::get(&self.reader, index)
+    }
+}
+
+/// A list of texts that is read.
+pub struct TextsReader<'a, A: ReaderArena> {
+    /// The list.
+    pub reader: ListReader<'a, A>,
+    ghost pointers: { 0 < reader.count → size_number reader.element_size ≢ 6
+        → 0 < reader.struct_size.pointers },
+}
+
+impl<'a, A: ReaderArena> Clone for TextsReader<'a, A> {
+    ghost is_clone = { λ x y. y ≡ x };
+
+    ghost is_infallible = { λ _. ⊤ };
+
+    fn clone(&self) -> Result<Self, AllocError> {
+        Ok(*self)
+    }
+}
+
+impl<'a, A: ReaderArena> Copy for TextsReader<'a, A> {}
+
+impl<'a, A: ReaderArena> TextsReader<'a, A> {
+    /// The number of elements.
+    pub fn len(&self) -> u32
+        ensures count { result ≡ self.now.reader.count }
+        ensures value { (t : Tree) → ShowsListOf A.ReaderArena self.now.reader t
+            → result ≡ list_length t }
+    {
+        self.reader.len()
+    }
+
+    /// Returns the bytes of text `index`, without the zero byte at its end; no bytes if the element
+    /// is null. Precondition: `index` is below the number of elements.
+    ///
+    /// Refuses like `PointerReader::get_text`.
+    pub fn get(&self, index: u32, lim: &mut ReadLimiter) -> Result<&'a [u8], ErrorKind>
+        requires { index < self.now.reader.count }
+        ensures value { (t : Tree) → ShowsListOf A.ReaderArena self.now.reader t → HasStructs t
+            → IfOk result (λ text. text.now ≡ text_bytes (pointer_element index t)) }
+        ensures answered { let start = source_start A.ReaderArena self.now.reader.source in
+            (t : Tree) (shows : ShowsListOf A.ReaderArena self.now.reader t) → HasStructs t
+            → AreWords start.segments → IsText (pointer_element index t)
+            → Affords start.charging lim.old (pointer_cost A.ReaderArena shows index)
+            → IsOk result }
+        ensures spent { let start = source_start A.ReaderArena self.now.reader.source in
+            (t : Tree) (shows : ShowsListOf A.ReaderArena self.now.reader t) → HasStructs t
+            → pointer_element index t ≢ Null → OnOk result (Paid start.charging lim.old lim.new
+            (pointer_cost A.ReaderArena shows index) 1) }
+    {
+        self.reader.get_pointer_element(index).get_text(lim, None)
+    }
+}
+
+// The list that a pointer of a struct leads to; a list without elements if the pointer is null.
+fn get_list<'a, A: ReaderArena>(
+    reader: &StructReader<'a, A>,
+    index: usize,
+    expected: ElementSize,
+    lim: &mut ReadLimiter,
+) -> Result<ListReader<'a, A>, ErrorKind>
+    ensures value { (t : Tree) → ShowsStructOf A.ReaderArena reader.now t
+        → IfOk result (λ list. ShowsListOf A.ReaderArena list (child index t)) }
+    ensures answered { let start = source_start A.ReaderArena reader.now.source in
+        (t : Tree) (shows : ShowsStructOf A.ReaderArena reader.now t)
+        → FitsSize expected (child index t)
+        → Affords start.charging lim.old (child_cost A.ReaderArena shows index) → IsOk result }
+    ensures spent { let start = source_start A.ReaderArena reader.now.source in
+        (t : Tree) (shows : ShowsStructOf A.ReaderArena reader.now t) → child index t ≢ Null
+        → IfOk result (λ list. (inner : ShowsListOf A.ReaderArena list (child index t))
+        → Paid start.charging lim.old lim.new
+        (child_cost A.ReaderArena shows index - inner.cost) 1) }
+    ensures stays { IfOk result (λ list. StaysIn (source_start A.ReaderArena reader.now.source)
+        (source_start A.ReaderArena list.source)) }
+    ensures fits { IfOk result (FitsElements A.ReaderArena expected) }
+{
+    reader
+        .get_pointer_field(index)
+        .get_list(lim, expected, None)
+}
+
+/// Returns the list of structs that a pointer of a struct leads to; a list without elements if the
+/// pointer is null.
+///
+/// Refuses like `PointerReader::get_list`.
+pub fn get_structs<'a, A: ReaderArena>(
+    reader: &StructReader<'a, A>,
+    index: usize,
+    lim: &mut ReadLimiter,
+) -> Result<StructsReader<'a, A>, ErrorKind>
+    ensures value { (t : Tree) → ShowsStructOf A.ReaderArena reader.now t
+        → IfOk result (λ list. ShowsListOf A.ReaderArena list.reader (child index t)) }
+    ensures answered { let start = source_start A.ReaderArena reader.now.source in
+        (t : Tree) (shows : ShowsStructOf A.ReaderArena reader.now t)
+        → FitsSize InlineComposite (child index t)
+        → Affords start.charging lim.old (child_cost A.ReaderArena shows index) → IsOk result }
+    ensures spent { let start = source_start A.ReaderArena reader.now.source in
+        (t : Tree) (shows : ShowsStructOf A.ReaderArena reader.now t) → child index t ≢ Null
+        → IfOk result (λ list. (inner : ShowsListOf A.ReaderArena list.reader (child index t))
+        → Paid start.charging lim.old lim.new
+        (child_cost A.ReaderArena shows index - inner.cost) 1) }
+    ensures stays { IfOk result (λ list. StaysIn (source_start A.ReaderArena reader.now.source)
+        (source_start A.ReaderArena list.reader.source)) }
+{
+    let reader = get_list(reader, index, ElementSize::InlineComposite, lim)?;
+    Ok(StructsReader { reader })
+}
+
+/// Returns the list of numbers that a pointer of a struct leads to; a list without elements if the
+/// pointer is null.
+///
+/// Refuses like `PointerReader::get_list`.
+pub fn get_numbers<'a, A: ReaderArena, T: PrimitiveElement>(
+    reader: &StructReader<'a, A>,
+    index: usize,
+    lim: &mut ReadLimiter,
+) -> Result<NumbersReader<'a, A, T>, ErrorKind>
+    ensures value { (t : Tree) → ShowsStructOf A.ReaderArena reader.now t
+        → IfOk result (λ list. ShowsListOf A.ReaderArena list.reader (child index t)) }
+    ensures answered { let start = source_start A.ReaderArena reader.now.source in
+        (t : Tree) (shows : ShowsStructOf A.ReaderArena reader.now t)
+        → FitsSize T.size (child index t)
+        → Affords start.charging lim.old (child_cost A.ReaderArena shows index) → IsOk result }
+    ensures spent { let start = source_start A.ReaderArena reader.now.source in
+        (t : Tree) (shows : ShowsStructOf A.ReaderArena reader.now t) → child index t ≢ Null
+        → IfOk result (λ list. (inner : ShowsListOf A.ReaderArena list.reader (child index t))
+        → Paid start.charging lim.old lim.new
+        (child_cost A.ReaderArena shows index - inner.cost) 1) }
+{
+    let reader = get_list(reader, index, T::element_size(), lim)?;
+    Ok(NumbersReader {
+        reader,
+        of: PhantomData,
+    })
+}
+
+/// Returns the list of texts that a pointer of a struct leads to; a list without elements if the
+/// pointer is null.
+///
+/// Refuses like `PointerReader::get_list`.
+pub fn get_texts<'a, A: ReaderArena>(
+    reader: &StructReader<'a, A>,
+    index: usize,
+    lim: &mut ReadLimiter,
+) -> Result<TextsReader<'a, A>, ErrorKind>
+    ensures value { (t : Tree) → ShowsStructOf A.ReaderArena reader.now t
+        → IfOk result (λ list. ShowsListOf A.ReaderArena list.reader (child index t)) }
+    ensures answered { let start = source_start A.ReaderArena reader.now.source in
+        (t : Tree) (shows : ShowsStructOf A.ReaderArena reader.now t)
+        → FitsSize Pointer (child index t)
+        → Affords start.charging lim.old (child_cost A.ReaderArena shows index) → IsOk result }
+    ensures spent { let start = source_start A.ReaderArena reader.now.source in
+        (t : Tree) (shows : ShowsStructOf A.ReaderArena reader.now t) → child index t ≢ Null
+        → IfOk result (λ list. (inner : ShowsListOf A.ReaderArena list.reader (child index t))
+        → Paid start.charging lim.old lim.new
+        (child_cost A.ReaderArena shows index - inner.cost) 1) }
+{
+    let reader = get_list(reader, index, ElementSize::Pointer, lim)?;
+    Ok(TextsReader { reader })
+}

@@ -1,0 +1,163 @@
+//! The root of a message, and the fields of a struct that is read.
+ghost use Rattle.std.specs.Prelude.{◌≡◌, ◌≢◌, ◌+◌, ◌-◌, ◌*◌, ◌↔◌, ℕ, bit_xor, IsTrue, IfOk, IsOk, OnOk};
+ghost use Rattle.capnp_format.specs.Bytes.{message};
+ghost use Rattle.capnp_format.specs.Means.{Means};
+ghost use Rattle.capnp_format.specs.Segments.{AreWords};
+ghost use Rattle.capnp_format.specs.Tree.{Tree, Null};
+ghost use Rattle.capnp_words.specs.Meter.{Affords, charged};
+ghost use Rattle.capnp_arena_traits.specs.Checks.{Holds};
+ghost use Rattle.capnp_objects.specs.Reading.{source_start};
+ghost use Rattle.capnp_objects.specs.Source.{levels};
+ghost use Rattle.capnp_objects.specs.Spending.{Paid};
+ghost use Rattle.capnp_readers.specs.Values.{ShowsNumber, ShowsStructOf, StaysIn, IsBytes, IsStructOrNull, IsText, child_cost, field_of_number, list_numbers, text_bytes};
+ghost use Rattle.typed_reading.specs.Values.{bits_in, child};
+
+use capnp_arena_traits::arena::ReaderArena;
+use capnp_objects::source::Source;
+use capnp_readers::readers::{PointerReader, StructReader};
+use capnp_words::error::ErrorKind;
+use capnp_words::mask::Mask;
+use capnp_words::primitive::Primitive;
+use capnp_words::read_limiter::ReadLimiter;
+use capnp_words::zero::Zero;
+
+/// Returns the struct that the root of a message is.
+///
+/// Refuses like `PointerReader::get_root_from_arena` and `PointerReader::get_struct`.
+pub fn root<'a, A: ReaderArena>(
+    arena: &'a A,
+    lim: &mut ReadLimiter,
+) -> Result<StructReader<'a, A>, ErrorKind>
+    ensures value { (t : Tree) (c : ℕ)
+        → Means (message (A.segments arena.now)) (levels (A.nesting arena.now)) 0 0 t c
+        → IfOk result (λ r. ShowsStructOf A.ReaderArena r t) }
+    ensures answered { let S = message (A.segments arena.now) in (t : Tree) (c : ℕ)
+        → Holds S 0 0 1 → IsStructOrNull t → Means S (levels (A.nesting arena.now)) 0 0 t c
+        → Affords (A.charging arena.now) lim.old (1 + c) → IsOk result }
+    ensures spent { let charging = A.charging arena.now in (t : Tree) (c : ℕ) → t ≢ Null
+        → Means (message (A.segments arena.now)) (levels (A.nesting arena.now)) 0 0 t c
+        → IfOk result (λ r. (shows : ShowsStructOf A.ReaderArena r t)
+        → Paid charging (charged charging lim.old 1) lim.new (c - shows.cost) 1) }
+    ensures stays { IfOk result (λ r. StaysIn (source_start A.ReaderArena (Source.Arena arena.entry))
+        (source_start A.ReaderArena r.source)) }
+{
+    let root = PointerReader::get_root_from_arena(arena, lim)?;
+    root.get_struct(lim, None)
+}
+
+/// Returns the number at `offset` of a struct's data, which is counted in numbers of type `T`.
+/// Returns zero if the number isn't wholly inside the data.
+pub fn get_number<A: ReaderArena, T: Primitive + Zero>(
+    reader: &StructReader<'_, A>,
+    offset: usize,
+) -> T
+    ensures value { (t : Tree) → ShowsStructOf A.ReaderArena reader.now t
+        → T.bits_of result ≡ bits_in (8 * T.BYTES * offset) (8 * T.BYTES) t }
+    ensures number { (bits x : ℕ) → ShowsNumber A.ReaderArena reader.now bits x
+        → T.bits_of result ≡ field_of_number bits x (8 * T.BYTES * offset) (8 * T.BYTES) }
+{
+    reader.get_data_field(offset)
+}
+
+/// Returns the number at `offset` of a struct's data, like `get_number`, of a field whose default
+/// value is `default`: the exclusive or of what is stored and the default.
+pub fn get_number_or<A: ReaderArena, T: Primitive + Zero + Mask>(
+    reader: &StructReader<'_, A>,
+    offset: usize,
+    default: <T as Mask>::T,
+) -> T
+    ensures { (t : Tree) → ShowsStructOf A.ReaderArena reader.now t
+        → T.bits_of result
+        ≡ bit_xor (bits_in (8 * T.BYTES * offset) (8 * T.BYTES) t) (T.mask_bits default) }
+{
+    reader.get_data_field_mask(offset, default)
+}
+
+/// Returns bit `offset` of a struct's data; `false` if the data ends before it.
+pub fn get_bool<A: ReaderArena>(reader: &StructReader<'_, A>, offset: usize) -> bool
+    ensures value { (t : Tree) → ShowsStructOf A.ReaderArena reader.now t
+        → (IsTrue result ↔ (bits_in offset 1 t ≡ 1)) }
+    ensures number { (bits x : ℕ) → ShowsNumber A.ReaderArena reader.now bits x
+        → (IsTrue result ↔ (field_of_number bits x offset 1 ≡ 1)) }
+{
+    reader.get_bool_field(offset)
+}
+
+/// Returns whether a pointer of a struct is null, or the struct has no such pointer.
+pub fn is_null<A: ReaderArena>(reader: &StructReader<'_, A>, index: usize) -> bool
+    ensures { (t : Tree) → ShowsStructOf A.ReaderArena reader.now t
+        → (IsTrue result ↔ (child index t ≡ Null)) }
+{
+    reader.is_pointer_field_null(index)
+}
+
+/// Returns the bytes of the text that a pointer of a struct leads to, without the zero byte at its
+/// end; no bytes if the pointer is null.
+///
+/// Refuses like `PointerReader::get_text`.
+pub fn get_text<'a, A: ReaderArena>(
+    reader: &StructReader<'a, A>,
+    index: usize,
+    lim: &mut ReadLimiter,
+) -> Result<&'a [u8], ErrorKind>
+    ensures value { (t : Tree) → ShowsStructOf A.ReaderArena reader.now t
+        → IfOk result (λ text. text.now ≡ text_bytes (child index t)) }
+    ensures answered { let start = source_start A.ReaderArena reader.now.source in
+        (t : Tree) (shows : ShowsStructOf A.ReaderArena reader.now t)
+        → AreWords start.segments → IsText (child index t)
+        → Affords start.charging lim.old (child_cost A.ReaderArena shows index) → IsOk result }
+    ensures spent { let start = source_start A.ReaderArena reader.now.source in
+        (t : Tree) (shows : ShowsStructOf A.ReaderArena reader.now t) → child index t ≢ Null
+        → OnOk result (Paid start.charging lim.old lim.new
+        (child_cost A.ReaderArena shows index) 1) }
+{
+    reader.get_pointer_field(index).get_text(lim, None)
+}
+
+/// Returns the bytes of the data that a pointer of a struct leads to; no bytes if the pointer is
+/// null.
+///
+/// Refuses like `PointerReader::get_data`.
+pub fn get_data<'a, A: ReaderArena>(
+    reader: &StructReader<'a, A>,
+    index: usize,
+    lim: &mut ReadLimiter,
+) -> Result<&'a [u8], ErrorKind>
+    ensures value { (t : Tree) → ShowsStructOf A.ReaderArena reader.now t
+        → IfOk result (λ bytes. bytes.now ≡ list_numbers (child index t)) }
+    ensures answered { let start = source_start A.ReaderArena reader.now.source in
+        (t : Tree) (shows : ShowsStructOf A.ReaderArena reader.now t) → IsBytes (child index t)
+        → Affords start.charging lim.old (child_cost A.ReaderArena shows index) → IsOk result }
+    ensures spent { let start = source_start A.ReaderArena reader.now.source in
+        (t : Tree) (shows : ShowsStructOf A.ReaderArena reader.now t) → child index t ≢ Null
+        → OnOk result (Paid start.charging lim.old lim.new
+        (child_cost A.ReaderArena shows index) 1) }
+{
+    reader.get_pointer_field(index).get_data(lim, None)
+}
+
+/// Returns the struct that a pointer of a struct leads to; a struct without sections if the pointer
+/// is null.
+///
+/// Refuses like `PointerReader::get_struct`.
+pub fn get_struct<'a, A: ReaderArena>(
+    reader: &StructReader<'a, A>,
+    index: usize,
+    lim: &mut ReadLimiter,
+) -> Result<StructReader<'a, A>, ErrorKind>
+    ensures value { (t : Tree) → ShowsStructOf A.ReaderArena reader.now t
+        → IfOk result (λ r. ShowsStructOf A.ReaderArena r (child index t)) }
+    ensures answered { let start = source_start A.ReaderArena reader.now.source in
+        (t : Tree) (shows : ShowsStructOf A.ReaderArena reader.now t)
+        → IsStructOrNull (child index t)
+        → Affords start.charging lim.old (child_cost A.ReaderArena shows index) → IsOk result }
+    ensures spent { let start = source_start A.ReaderArena reader.now.source in
+        (t : Tree) (shows : ShowsStructOf A.ReaderArena reader.now t) → child index t ≢ Null
+        → IfOk result (λ r. (inner : ShowsStructOf A.ReaderArena r (child index t))
+        → Paid start.charging lim.old lim.new
+        (child_cost A.ReaderArena shows index - inner.cost) 1) }
+    ensures stays { IfOk result (λ r. StaysIn (source_start A.ReaderArena reader.now.source)
+        (source_start A.ReaderArena r.source)) }
+{
+    reader.get_pointer_field(index).get_struct(lim, None)
+}
