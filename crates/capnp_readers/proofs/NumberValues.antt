@@ -152,10 +152,10 @@ module _ {A : Type 0} (g : Ghosts A) where
       let part : r.content.now ≡ take (bytes_for (64 * n)) (drop (8 * r.start.at) bs) = r.content_is.0 ∙ ap (λ m. take (bytes_for (64 * m)) (drop (8 * r.start.at) bs)) all in (
         omega (arith, r.content_is.1, all, l),
         ap (λ xs. get_or (words_of xs) j 0) part
-        ∙ ap (λ ws. get_or ws j 0) (words_of-part r.start.at n (8 * r.start.at) (bytes_for (64 * n)) bs refl (omega arith) (omega (arith, r.inside, all, r.held.1)))
-        ∙ get_or-take n (drop r.start.at (words_of bs)) j 0 l
-        ∙ get_or-drop r.start.at (words_of bs) j 0
-        ∙ ap (λ ws. get_or ws (r.start.at + j) 0) r.held.0,
+            ∙ ap (λ ws. get_or ws j 0) (words_of-part r.start.at n (8 * r.start.at) (bytes_for (64 * n)) bs refl (omega arith) (omega (arith, r.inside, all, r.held.1)))
+            ∙ get_or-take n (drop r.start.at (words_of bs)) j 0 l
+            ∙ get_or-drop r.start.at (words_of bs) j 0
+            ∙ ap (λ ws. get_or ws (r.start.at + j) 0) r.held.0,
       )
 
   struct_number : (r : ListReader A g) (i d q : ℕ) (es : Elements) (k : ℕ) → i < r.count → r.element_size ≡ InlineComposite → r.struct_size ≡ sized d q → r.count ≡ element_count es →
@@ -167,11 +167,11 @@ module _ {A : Type 0} (g : Ghosts A) where
       let width : w ≡ d + q = ap (λ (s : StructSize). s.data_words + s.pointers) sections in
       ap (λ s. low_data InlineComposite s r.content.now i) sections
       ∙ first_data d q i r.content.now e.words e.long (λ some.
-        let there = word_of_structs r (i * w) size (omega (arith, words_within w r.count i inside, width, some)) in
-        let at : i * w ≡ i * (d + q) = ap (λ y. i * y) width in
-        let first : get_or e.words 0 0 ≡ get_or (segment x.segments x.segment) (x.at + i * (d + q)) 0 =
-        ap (λ ws. get_or ws 0 0) (sym e.has) ∙ get_or-take (length e.words) (drop (x.at + i * (d + q)) (segment x.segments x.segment)) 0 0 (omega (arith, e.long, some)) ∙ get_or-drop (x.at + i * (d + q)) (segment x.segments x.segment) 0 0 ∙ ap (λ j. get_or (segment x.segments x.segment) j 0) (omega arith) in
-        (omega (arith, there.0, at), ap (λ j. get_or (words_of r.content.now) j 0) (sym at) ∙ there.1 ∙ ap (λ j. get_or (segment x.segments x.segment) (x.at + j) 0) at ∙ sym first))
+      let there = word_of_structs r (i * w) size (omega (arith, words_within w r.count i inside, width, some)) in
+      let at : i * w ≡ i * (d + q) = ap (λ y. i * y) width in
+      let first : get_or e.words 0 0 ≡ get_or (segment x.segments x.segment) (x.at + i * (d + q)) 0 =
+      ap (λ ws. get_or ws 0 0) (sym e.has) ∙ get_or-take (length e.words) (drop (x.at + i * (d + q)) (segment x.segments x.segment)) 0 0 (omega (arith, e.long, some)) ∙ get_or-drop (x.at + i * (d + q)) (segment x.segments x.segment) 0 0 ∙ ap (λ j. get_or (segment x.segments x.segment) j 0) (omega arith) in
+      (omega (arith, there.0, at), ap (λ j. get_or (words_of r.content.now) j 0) (sym at) ∙ there.1 ∙ ap (λ j. get_or (segment x.segments x.segment) (x.at + j) 0) at ∙ sym first))
       ∙ ap (λ t. get_or (struct_data t) 0 0) (sym e.is)
 
   -- a pointer has no data
@@ -264,9 +264,9 @@ module _ {A : Type 0} (g : Ghosts A) where
   pub bit_alone : (b : ℕ) {x : Bool} (r : StructReader A g) → ((i : ℕ) → get_or r.content.now i 0 < 256) → (IsTrue x ↔ (b < r.bits) × (bit_at r.content.now b ≡ 1)) → (bits y : ℕ) → ShowsNumber g r bits y → IsTrue x ↔ (field_of_number bits y b 1 ≡ 1)
   bit_alone b {x} r small is bits y shows =
       let there : b < r.bits → bit_at r.content.now b ≡ field_of_number bits y b 1 = λ within.
-        bit_in b r.content.now (below_each 256 r.content.now small) (omega (arith, within, r.content_is.1))
-        ∙ ap₂ (λ z p. z / 2 ^ p % 2 ^ 1) shows.number_is (let e : 1 * b ≡ b = omega arith in e)
-        ∙ sym (inside_field bits y b 1 (omega (arith, within, shows.bits_are))) in (
+      bit_in b r.content.now (below_each 256 r.content.now small) (omega (arith, within, r.content_is.1))
+      ∙ ap₂ (λ z p. z / 2 ^ p % 2 ^ 1) shows.number_is (let e : 1 * b ≡ b = omega arith in e)
+      ∙ sym (inside_field bits y b 1 (omega (arith, within, shows.bits_are))) in (
         (λ yes. sym (there (is.0 yes).0) ∙ (is.0 yes).1),
         (λ one. elim (within_or_not r.bits b) [
           | inl past ↦ absurd (let none = no_field bits y b 1 (omega (arith, past, shows.bits_are)) in omega (arith, one, none))
