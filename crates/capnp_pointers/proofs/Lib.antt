@@ -11,6 +11,7 @@ pub mod Checks
 pub mod Falls
 pub mod Fails
 pub mod Measured
+pub mod Tested
 mod Worked
 pub mod Counted
 pub mod Rooms

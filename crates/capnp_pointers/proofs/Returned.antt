@@ -63,13 +63,13 @@ pointers_stopped {n = n} {from = from} new (Err x) err found less one = record {
 }
 
 -- A struct with words, by its sections.
-pub struct_tested : {E : Type 0} {r x : Reading} {m m' : Meter} {head : ℕ} {new : Test} {result : Result ℕ E} (start : Place) (size : StructSize) → IsTested r → IsObject Value r m m' (ObjectStruct start size) → 0 < size.data_words + size.pointers → start.at ≡ head → x ≡ beginning r start →
+pub struct_returned : {E : Type 0} {r x : Reading} {m m' : Meter} {head : ℕ} {new : Test} {result : Result ℕ E} (start : Place) (size : StructSize) → IsTested r → IsObject Value r m m' (ObjectStruct start size) → 0 < size.data_words + size.pointers → start.at ≡ head → x ≡ beginning r start →
     IfOk result (λ end. TellsStruct x size m' new.lim (Some end)) →
     OnErr result (OnOk new.answer (TellsStruct x size m' new.lim None)) →
     OnErr result (IfErr new.answer (λ k. TestsEnd (Unread k) (behind x size.data_words) size.pointers (progress (x.at + size.data_words + size.pointers) m') new.lim)) →
     OnErr result (IfOk new.answer (λ f. SectionsFail f x size m' new.lim)) →
     TestsPlace r (progress head m) new result
-struct_tested {r = r} {m = m} {m' = m'} {head = head} {new = new} {result = result} start size ready object some begins there tells never refused failed =
+struct_returned {r = r} {m = m} {m' = m'} {head = head} {new = new} {result = result} start size ready object some begins there tells never refused failed =
     let from : Progress = progress head m in
     let right : StartsRight (ObjectStruct start size) r.at head = some_right r.at some begins in
     record {
@@ -81,12 +81,12 @@ struct_tested {r = r} {m = m} {m' = m'} {head = head} {new = new} {result = resu
     }
 
 -- A list of numbers, by the bits after its last number.
-pub flat_tested : {E : Type 0} {r : Reading} {m : Meter} {head : ℕ} {new : Test} {result : Result ℕ E} (start : Place) (size : ElementSize) (n : ℕ) → IsTested r → IsObject Value r m new.lim (ObjectFlat start size n) → start.at ≡ head →
+pub flat_returned : {E : Type 0} {r : Reading} {m : Meter} {head : ℕ} {new : Test} {result : Result ℕ E} (start : Place) (size : ElementSize) (n : ℕ) → IsTested r → IsObject Value r m new.lim (ObjectFlat start size n) → start.at ≡ head →
     IfOk result (λ end. TellsFlat (words_of start.bytes.now) start.at size n (Some end)) →
     OnErr result (TellsFlat (words_of start.bytes.now) start.at size n None) →
     OnErr result (new.answer ≡ Ok (record { segment = start.segment; word = start.at + words_for (size_number size) n - 1; reason = Padding })) →
     TestsPlace r (progress head m) new result
-flat_tested {r = r} {m = m} {head = head} {new = new} {result = result} start size n ready object right tells never failed =
+flat_returned {r = r} {m = m} {head = head} {new = new} {result = result} start size n ready object right tells never failed =
     let from : Progress = progress head m in
     let fault : CanonicalFault = record { segment = start.segment; word = start.at + words_for (size_number size) n - 1; reason = Padding } in
     record {
@@ -97,9 +97,9 @@ flat_tested {r = r} {m = m} {head = head} {new = new} {result = result} start si
     }
 
 -- A list of pointers, by these.
-pub list_tested : {E : Type 0} {r x : Reading} {m m' : Meter} {head : ℕ} {new : Test} {result : Result ℕ E} (start : Place) (n : ℕ) → IsTested r → IsObject Value r m m' (ObjectPointers start n) → start.at ≡ head → x ≡ beginning r start →
+pub list_returned : {E : Type 0} {r x : Reading} {m m' : Meter} {head : ℕ} {new : Test} {result : Result ℕ E} (start : Place) (n : ℕ) → IsTested r → IsObject Value r m m' (ObjectPointers start n) → start.at ≡ head → x ≡ beginning r start →
     TestsPointers x n (progress (start.at + n) m') new result → TestsPlace r (progress head m) new result
-list_tested {E} {r} {x} {m} {m'} {head} {new} {result} start n ready object right there given =
+list_returned {E} {r} {x} {m} {m'} {head} {new} {result} start n ready object right there given =
     let from : Progress = progress head m in
     let its : TestsPointers (beginning r start) n (progress (start.at + n) m') new result = subst (λ y. TestsPointers y n (progress (start.at + n) m') new result) there given in
     record {
@@ -110,14 +110,14 @@ list_tested {E} {r} {x} {m} {m'} {head} {new} {result} start n ready object righ
     }
 
 -- A list of structs, by its elements and the words that it claims.
-pub elements_tested : {E : Type 0} {r x : Reading} {m m' : Meter} {head claimed : ℕ} {new : Test} {result : Result ℕ E} (start : Place) (size : StructSize) (n : ℕ) → IsTested r → IsObject Value r m m' (ObjectStructs start size n) → start.at ≡ head + 1 → x ≡ beginning r start → claimed ≡ list_count (word_of r) →
+pub elements_returned : {E : Type 0} {r x : Reading} {m m' : Meter} {head claimed : ℕ} {new : Test} {result : Result ℕ E} (start : Place) (size : StructSize) (n : ℕ) → IsTested r → IsObject Value r m m' (ObjectStructs start size n) → start.at ≡ head + 1 → x ≡ beginning r start → claimed ≡ list_count (word_of r) →
     IfOk result (λ end. TellsClaimed x size n claimed m' new.lim (Some end)) →
     OnErr result (OnOk new.answer (TellsClaimed x size n claimed m' new.lim None)) →
     OnErr result (OnErr new.answer (n * (size.data_words + size.pointers) ≡ claimed)) →
     OnErr result (IfErr new.answer (λ k. RowTestsEnd (Unread k) x (rows_sized size n) (progress (x.at + claimed) m') new.lim)) →
     OnErr result (IfOk new.answer (λ f. ClaimedFails f x size n claimed m' new.lim)) →
     TestsPlace r (progress head m) new result
-elements_tested {E} {r} {x} {m} {m'} {head} {claimed} {new} {result} start size n ready object right there count tells never exact refused failed =
+elements_returned {E} {r} {x} {m} {m'} {head} {claimed} {new} {result} start size n ready object right there count tells never exact refused failed =
     let from : Progress = progress head m in
     let s : Reading = beginning r start in
     record {

@@ -1,5 +1,5 @@
-//! Laws of sizes. Each function does nothing: its contract is the law, proved for all messages and
-//! limits.
+//! Laws of sizes and of the test for canonical form. Each function does nothing: its contract is the
+//! law, proved for all messages and limits.
 
 ghost use Rattle.std.specs.Prelude.{◌≡◌, ◌<◌, ◌≤◌, ℕ, Ok, Err};
 ghost use Rattle.capnp_words.specs.declared.error.ErrorKind.{ErrorKind};
@@ -11,7 +11,9 @@ ghost use Rattle.capnp_objects.specs.Outcomes.{MeansThere};
 ghost use Rattle.capnp_objects.specs.Reading.{Reading};
 ghost use Rattle.capnp_objects.specs.Spending.{after, pointers_in};
 ghost use Rattle.capnp_pointers.specs.Measure.{FitSize, measure, only_words};
+ghost use Rattle.capnp_pointers.specs.Testing.{test_value, test_values};
 ghost use Rattle.capnp_pointers.specs.ValueSize.{value_size};
+ghost use Rattle.capnp_pointers.specs.declared.pointers.canonical_fault.CanonicalFault.{CanonicalFault};
 ghost use Rattle.capnp_pointers.specs.declared.pointers.sizes.MessageSize.{MessageSize};
 
 /// If a place means a value, and the place has a size, it is that value's: its words and its
@@ -43,5 +45,20 @@ pub fn values_have_sizes()
 pub fn one_size_refusal()
     ensures { (r : Reading) (z : MessageSize) (m m' m'' : Meter) (k l : ErrorKind)
         → measure r z m ≡ (Err k, m') → measure r z m ≡ (Err l, m'')
+        → (k ≡ l) × (m' ≡ m'') }
+{}
+
+/// If a test for canonical form finds a fault, only one is possible; if it is refused, only one name
+/// is. The limiter has only one state afterwards. The same holds for the refusal of a test of
+/// consecutive pointers.
+pub fn one_verdict()
+    ensures fault { (r : Reading) (head : ℕ) (m m' m'' : Meter) (f g : CanonicalFault)
+        → test_value r head m ≡ (Ok (Err f), m') → test_value r head m ≡ (Ok (Err g), m'')
+        → (f ≡ g) × (m' ≡ m'') }
+    ensures refused { (r : Reading) (head : ℕ) (m m' m'' : Meter) (k l : ErrorKind)
+        → test_value r head m ≡ (Err k, m') → test_value r head m ≡ (Err l, m'')
+        → (k ≡ l) × (m' ≡ m'') }
+    ensures pointers { (i : ℕ) (r : Reading) (head : ℕ) (m m' m'' : Meter) (k l : ErrorKind)
+        → test_values i r head m ≡ (Err k, m') → test_values i r head m ≡ (Err l, m'')
         → (k ≡ l) × (m' ≡ m'') }
 {}

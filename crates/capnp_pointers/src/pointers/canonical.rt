@@ -4,12 +4,14 @@ ghost use Rattle.capnp_format.specs.Bytes.{words_of};
 ghost use Rattle.capnp_format.specs.Word.{kind, element_size};
 ghost use Rattle.capnp_format.specs.Numbers.{words_for};
 ghost use Rattle.capnp_words.specs.Sizes.{size_number};
+ghost use Rattle.capnp_objects.specs.Metered.{◌>>>◌, answer};
 ghost use Rattle.capnp_objects.specs.Reading.{behind, segment_read, word_of};
 ghost use Rattle.capnp_objects.specs.Source.{levels};
 ghost use Rattle.capnp_pointers.specs.Faults.{FaultIs};
 ghost use Rattle.capnp_pointers.specs.Pointers.{reading, reading_on};
 ghost use Rattle.capnp_objects.specs.Rows.{rows_sized};
 ghost use Rattle.capnp_pointers.specs.Checking.{progress, level_refusal_name, IsFound, AreFound, IsCanonicalAt, AreCanonicalAt, IsTestedWord, StartsRight, TellsFlat, TellsStruct, TellsRows, CanBeFound, CanAllBeFound, Unread, TestStops, TestEnds, TestsPlace, TestsPointers, IsFault, IsUnfit, TestsEnd, RowTestsEnd, SectionsFail, RowsFail};
+ghost use Rattle.capnp_pointers.specs.Testing.{Tests, fault_verdict, head_found, head_moved, rows_tested, struct_tested, structs_tested, test_value, test_values, test_within};
 
 use crate::pointers::Pointer;
 use crate::pointers::canonical_answer::{Answer, Stopped, Test, fault_at, reason_of, refused};
@@ -68,6 +70,8 @@ impl<'a, A: ReaderArena> Pointer<'a, A> {
         ensures fault { IfOk result (λ o. IfSome o
             (λ f. TestEnds (IsFault f) (reading A.ReaderArena self.now)
             (progress head.old lim.old) lim.new)) }
+        ensures computed { test_value (reading A.ReaderArena self.now) head.old lim.old
+            ≡ (fault_verdict result head.new, lim.new) }
         ensures kept { (result ≡ Ok None → ⊥) → head.new ≡ head.old }
     {
         let mut test = Test::begin(lim);
@@ -109,6 +113,8 @@ impl<'a, A: ReaderArena> Pointer<'a, A> {
             (reading A.ReaderArena self.now) count (progress head.old lim.old) lim.new) }
         ensures failed { result ≡ Ok false → TestsEnd IsUnfit
             (reading A.ReaderArena self.now) count (progress head.old lim.old) lim.new }
+        ensures computed { (test_values count (reading A.ReaderArena self.now) head.old
+            >>> λ v. answer (head_found v)) lim.old ≡ (head_moved result head.new, lim.new) }
         ensures kept { (result ≡ Ok true → ⊥) → head.new ≡ head.old }
     {
         let mut test = Test::begin(lim);
@@ -140,8 +146,10 @@ fn test_place<A: ReaderArena>(
     head: u32,
     test: &mut Test,
 ) -> Result<u32, Stopped>
-    ensures { TestsPlace (reading_on A.ReaderArena from.now at nesting_limit)
+    ensures told { TestsPlace (reading_on A.ReaderArena from.now at nesting_limit)
         (progress head test.old.lim) test.new result }
+    ensures computed { Tests (test_value (reading_on A.ReaderArena from.now at nesting_limit) head)
+        test.old test.new result }
 {
     let word = Place { at, ..from.place }.word();
     if at as usize >= whole_words(from.place.bytes) {
@@ -177,8 +185,10 @@ fn test_children<A: ReaderArena>(
     test: &mut Test,
 ) -> Result<u32, Stopped>
     requires inside { at + count ≤ length (segment_read (reading A.ReaderArena from.now)) }
-    ensures { TestsPointers (reading_on A.ReaderArena from.now at nesting_limit) count
+    ensures told { TestsPointers (reading_on A.ReaderArena from.now at nesting_limit) count
         (progress first test.old.lim) test.new result }
+    ensures computed { Tests (test_values count (reading_on A.ReaderArena from.now at nesting_limit)
+        first) test.old test.new result }
 {
     let mut head = first;
     for i in 0..count {
@@ -202,8 +212,10 @@ fn test_struct<A: ReaderArena>(
     requires tested { IsTestedWord word.0 (reading_on A.ReaderArena from.now at nesting_limit) }
     requires some { word.0 ≢ 0 }
     requires is_struct { kind word.0 ≡ 0 }
-    ensures { TestsPlace (reading_on A.ReaderArena from.now at nesting_limit)
+    ensures told { TestsPlace (reading_on A.ReaderArena from.now at nesting_limit)
         (progress head test.old.lim) test.new result }
+    ensures computed { Tests (test_value (reading_on A.ReaderArena from.now at nesting_limit) head)
+        test.old test.new result }
 {
     let pointer = PointerWord {
         place: Place { at, ..from.place },
@@ -262,6 +274,9 @@ fn test_sections<A: ReaderArena>(
         test.new.lim)) }
     ensures failed { OnErr result (IfOk test.new.answer (λ f. SectionsFail f
         (reading_on A.ReaderArena from.now start nesting_limit) size test.old.lim test.new.lim)) }
+    ensures computed { Tests (struct_tested (test_within (levels nesting_limit)) size.data_words
+        size.pointers (reading_on A.ReaderArena from.now start nesting_limit))
+        test.old test.new result }
 {
     let data_words = u32::from(size.data_words);
     let pointers = u32::from(size.pointers);
@@ -300,8 +315,10 @@ fn test_near_flat<A: ReaderArena>(
     requires tested { IsTestedWord word.0 (reading_on A.ReaderArena from.now at nesting_limit) }
     requires is_list { kind word.0 ≡ 1 }
     requires of_bits { (0 < element_size word.0) × (element_size word.0 ≤ 5) }
-    ensures { TestsPlace (reading_on A.ReaderArena from.now at nesting_limit)
+    ensures told { TestsPlace (reading_on A.ReaderArena from.now at nesting_limit)
         (progress head test.old.lim) test.new result }
+    ensures computed { Tests (test_value (reading_on A.ReaderArena from.now at nesting_limit) head)
+        test.old test.new result }
 {
     let size = word.list_element_size();
     let count = word.list_element_count();
@@ -343,8 +360,10 @@ fn test_list<A: ReaderArena>(
 ) -> Result<u32, Stopped>
     requires tested { IsTestedWord word.0 (reading_on A.ReaderArena from.now at nesting_limit) }
     requires is_list { kind word.0 ≡ 1 }
-    ensures { TestsPlace (reading_on A.ReaderArena from.now at nesting_limit)
+    ensures told { TestsPlace (reading_on A.ReaderArena from.now at nesting_limit)
         (progress head test.old.lim) test.new result }
+    ensures computed { Tests (test_value (reading_on A.ReaderArena from.now at nesting_limit) head)
+        test.old test.new result }
 {
     let place = Place { at, ..from.place };
     let object = match from.source.read_object(place, nesting_limit, &mut test.lim) {
@@ -411,6 +430,8 @@ fn test_structs<A: ReaderArena>(
         ⊎ ((count * (size.data_words + size.pointers) ≡ claimed)
         × RowsFail f (reading_on A.ReaderArena from.now start nesting_limit) (rows_sized size count)
         test.old.lim test.new.lim))) }
+    ensures computed { Tests (structs_tested (test_within (levels nesting_limit)) claimed size count
+        (reading_on A.ReaderArena from.now start nesting_limit)) test.old test.new result }
 {
     if u64::from(count) * u64::from(size.total()) != u64::from(claimed) {
         return Err(fault_at(
@@ -454,6 +475,9 @@ fn test_rows<A: ReaderArena>(
     ensures failed { OnErr result (IfOk test.new.answer (λ f. RowsFail f
         (reading_on A.ReaderArena from.now start nesting_limit) (rows_sized size count)
         test.old.lim test.new.lim)) }
+    ensures computed { Tests (rows_tested (test_within (levels nesting_limit)) size.data_words
+        size.pointers count (reading_on A.ReaderArena from.now start nesting_limit))
+        test.old test.new result }
 {
     let data_words = u32::from(size.data_words);
     let pointers = u32::from(size.pointers);
@@ -500,8 +524,10 @@ fn test_row<A: ReaderArena>(
     test: &mut Test,
 ) -> Result<u32, Stopped>
     requires inside { at + count ≤ length (segment_read (reading A.ReaderArena from.now)) }
-    ensures { TestsPointers (reading_on A.ReaderArena from.now at nesting_limit) count
+    ensures told { TestsPointers (reading_on A.ReaderArena from.now at nesting_limit) count
         (progress first test.old.lim) test.new result }
+    ensures computed { Tests (test_values count (reading_on A.ReaderArena from.now at nesting_limit)
+        first) test.old test.new result }
 {
     if count == 0 {
         return Ok(first);

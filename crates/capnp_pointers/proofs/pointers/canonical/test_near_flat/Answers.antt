@@ -1,4 +1,4 @@
-use Rattle.std.proofs.Common.{◌≡◌, ◌≤◌, Some, None, ap, ◌∙◌, refl}
+use Rattle.std.proofs.Common.{◌≡◌, ◌≤◌, Some, None, ap, ◌∙◌, refl, ℕ, sym, subst}
 use Rattle.std.proofs.lemmas.Int.{to_z-of_z}
 use mir.Syntax.{w32}
 use Rattle.capnp_format.specs.Word.{kind, element_size, list_count}
@@ -13,10 +13,11 @@ use Rattle.capnp_pointers.proofs.NearRead.{flat_by_word}
 use Rattle.capnp_pointers.proofs.Walking.{ok_so, on_err_so, on_err_both}
 use Rattle.capnp_pointers.proofs.Checks.{unplaced_never, flat_tells}
 use Rattle.capnp_pointers.proofs.Fails.{unplaced_fails, flat_fails}
+use Rattle.capnp_pointers.proofs.Tested.{flat_elsewhere, flat_ends, flat_is, flat_there, refused_here, stopped}
 use Rattle.capnp_pointers.proofs.pointers.canonical.test_near_flat.Goals as goal
 
-pub returns-in-Err : goal.returns-in-Err
-returns-in-Err g c =
+pub returns-in-Err-clause-told : goal.returns-in-Err-clause-told
+returns-in-Err-clause-told g c =
     let nl = to_z-of_z w32 c.args.nesting_limit c.ranges.nesting_limit in
     record {
       tells = tt;
@@ -25,8 +26,8 @@ returns-in-Err g c =
       failed = rw c.refused.ensures tt;
     }
 
-pub returns-then-start-head : goal.returns-then-start-head
-returns-then-start-head g c =
+pub returns-then-start-head-clause-told : goal.returns-then-start-head-clause-told
+returns-then-start-head-clause-told g c =
     let r : Reading = reading_on g.A.ReaderArena c.args.from.now c.args.at c.args.nesting_limit in
     let nl = to_z-of_z w32 c.args.nesting_limit c.ranges.nesting_limit in
     let start = record c.args.from.now.place { at = c.in-Ok.start } in
@@ -44,8 +45,8 @@ returns-then-start-head g c =
       failed = rw c.fault_at.ensures (unplaced_fails {r = r} {from = progress c.args.head c.args.test.now.lim} (ObjectFlat start size count) (refl, refl, refl) c.requires.tested.ready of_bits.0 object c.if-start-head.true);
     }
 
-pub returns : goal.returns
-returns g c =
+pub returns-clause-told : goal.returns-clause-told
+returns-clause-told g c =
     let r : Reading = reading_on g.A.ReaderArena c.args.from.now c.args.at c.args.nesting_limit in
     let nl = to_z-of_z w32 c.args.nesting_limit c.ranges.nesting_limit in
     let start = record c.args.from.now.place { at = c.in-Ok.start } in
@@ -62,3 +63,27 @@ returns g c =
       refused = on_err_so c.test_flat.result c.test_flat.ensures.failed (λ is. rw is tt);
       failed = on_err_both c.test_flat.result c.test_flat.ensures.never c.test_flat.ensures.failed (λ fails is. rw is (flat_fails {r = r} {from = progress c.args.head c.args.test.now.lim} start size count c.requires.tested.ready object c.if-start-head.false fails (refl, refl, refl)));
     }
+
+pub returns-in-Err-clause-computed : goal.returns-in-Err-clause-computed
+returns-in-Err-clause-computed g c =
+    let r : Reading = reading_on g.A.ReaderArena c.args.from.now c.args.at c.args.nesting_limit in
+    let nl = to_z-of_z w32 c.args.nesting_limit c.ranges.nesting_limit in
+    refused_here {r = r} c.args.head c.requires.tested (rw nl at c.in-Err.ensures.refused) c.refused.ensures
+
+pub returns-then-start-head-clause-computed : goal.returns-then-start-head-clause-computed
+returns-then-start-head-clause-computed g c =
+    let r : Reading = reading_on g.A.ReaderArena c.args.from.now c.args.at c.args.nesting_limit in
+    let nl = to_z-of_z w32 c.args.nesting_limit c.ranges.nesting_limit in
+    flat_is {r = r} c.args.head c.requires.tested c.requires.is_list c.requires.of_bits.1 (rw nl at c.in-Ok.ensures.object) c.list_element_size-size.ensures c.list_element_count-count.ensures.value
+    ∙ flat_elsewhere r r.segment c.in-Ok.start _ _ c.args.head c.read_near_flat.new.lim c.if-start-head.true
+    ∙ ap (λ a. stopped a c.read_near_flat.new.lim) (sym c.fault_at.ensures)
+
+pub returns-clause-computed : goal.returns-clause-computed
+returns-clause-computed g c =
+    let r : Reading = reading_on g.A.ReaderArena c.args.from.now c.args.at c.args.nesting_limit in
+    let nl = to_z-of_z w32 c.args.nesting_limit c.ranges.nesting_limit in
+    let size = c.list_element_size-size.result in
+    let count = c.list_element_count-count.result in
+    flat_is {r = r} c.args.head c.requires.tested c.requires.is_list c.requires.of_bits.1 (rw nl at c.in-Ok.ensures.object) c.list_element_size-size.ensures c.list_element_count-count.ensures.value
+    ∙ flat_there r r.segment c.in-Ok.start _ _ c.args.head c.read_near_flat.new.lim c.if-start-head.false
+    ∙ flat_ends c.test_flat.result (record r { at = c.in-Ok.start }) c.test_flat.new.answer c.read_near_flat.new.lim _ size count c.args.from.now.held.0 c.test_flat.ensures.tells c.test_flat.ensures.never c.test_flat.ensures.failed
