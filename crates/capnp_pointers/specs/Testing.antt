@@ -122,7 +122,7 @@ object_tested f at r (structs s p d q n) head =
     structs_tested f (list_count (word_of r)) (sized d q) n (at s p)) head
 object_tested f at r o head = answer (Ok head)
 
--- The same with the error of a refusal renamed, for a pointer with the word w.
+-- A result with the error of its refusal renamed, if it has one, for a pointer with the word w.
 abbrev pub renamed : {A : Type 0} → ℕ → Result A ErrorKind × Meter → Result A ErrorKind × Meter
 renamed w (Ok x, m) = (Ok x, m)
 renamed w (Err k, m) = (Err (level_refusal_name w k), m)
