@@ -1,6 +1,6 @@
 -- The reading of one object: the function `read` returns what the relations `IsObject`, `Entered`,
 -- `Stopped` and `NotMeasured` state.
-use Rattle.std.proofs.Common.{◌≡◌, ◌≢◌, inl, inr, ℕ, zero, suc, ◌+◌, ◌%◌, ◌^◌, ◌<◌, ◌≤◌, Bool, true, false, not, ◌||◌, ◌&&◌, cond, nat_eq, nat_lt, nat_le, Option, Some, None, Result, Ok, Err, IfOk, IfErr, length, refl, sym, ap, ap₂, ◌∙◌, subst, arith, eq-eqb, lt-ltb, le-leb, eqb-true}
+use Rattle.std.proofs.Common.{◌≡◌, ◌≢◌, inl, inr, ℕ, zero, suc, ◌+◌, ◌%◌, ◌^◌, ◌<◌, ◌≤◌, Bool, true, false, not, ◌||◌, ◌&&◌, cond, nat_eq, nat_lt, nat_le, Option, Some, None, Result, Ok, Err, length, refl, sym, ap, ap₂, ◌∙◌, subst, arith, eq-eqb, lt-ltb, le-leb, eqb-true}
 use Rattle.std.proofs.lemmas.Bool.{ne_eqb, eqb-false}
 use Rattle.capnp_words.specs.declared.error.ErrorKind.{ErrorKind}
 use Rattle.capnp_words.specs.declared.error.ErrorKind.TheVariants.{ReadLimitExceeded}
@@ -10,7 +10,7 @@ use Rattle.capnp_format.specs.Segments.{Segments, segment, Target}
 use Rattle.capnp_objects.specs.Demands.{claim, tag, element_words, amplified, own, Meets, LiesThere}
 use Rattle.capnp_objects.specs.declared.object.Purpose.{Purpose}
 use Rattle.capnp_objects.specs.declared.object.Purpose.TheVariants.{Value, Size}
-use Rattle.capnp_objects.specs.Metered.{Metered, refuse, onward, fits, covers}
+use Rattle.capnp_objects.specs.Metered.{Metered, refuse, onward, covers}
 use Rattle.capnp_objects.specs.Enter.{Shape, is_struct_list, is_void_list, shape, is_in_segment, no_tag_name, enter_object}
 use Rattle.capnp_objects.specs.Reading.{Reading}
 use Rattle.capnp_objects.specs.Spending.{after}
@@ -24,35 +24,20 @@ use Rattle.capnp_format.specs.Means.{Claims}
 use Rattle.capnp_objects.specs.Measures.{NotMeasured, no_level, stopped}
 use Rattle.capnp_objects.specs.Outcomes.{Entered}
 use Rattle.capnp_objects.specs.Reading.{word_of}
-use Rattle.capnp_objects.specs.Refusals.{landing_words, granted_before, Unfollowed, exceeding, leading_nowhere, Stopped, NotRead, no_target, broken, claim_exceeds, count_exceeds}
+use Rattle.capnp_objects.specs.Refusals.{landing_words, granted_before, Unfollowed, exceeding, leading_nowhere, Stopped, no_target, broken, claim_exceeds, count_exceeds}
 use Rattle.capnp_objects.specs.Wanted.{plain, BreaksObject, follow_at, FollowsTo}
 use Rattle.capnp_objects.specs.Follow.{◌>=>◌}
 use Rattle.capnp_objects.specs.declared.object.Object.{Object}
 use Rattle.capnp_objects.specs.declared.object.Object.TheVariants.{Null as ObjectNull, Capability as ObjectCapability, Struct as ObjectStruct, Flat as ObjectFlat, Pointers as ObjectPointers, Structs as ObjectStructs}
-use Rattle.capnp_objects.specs.Enter.{object_shape, result_shape, near_shape}
-use Rattle.capnp_objects.specs.Objects.{IsObject, EntersNear, near_at}
+use Rattle.capnp_objects.specs.Enter.{object_shape}
+use Rattle.capnp_objects.specs.Objects.{IsObject}
 use Rattle.capnp_objects.proofs.Budgets.{less_less}
 use Rattle.capnp_objects.proofs.Followed.{unnamed_ok, is_named, follow as follows, or_named, existing, far_steps, followed_at, near_landed}
-use Rattle.capnp_objects.proofs.Landings.{no_pads_near, pads_there, counted_after, charged_none, lies as lies_for}
+use Rattle.capnp_objects.proofs.Charges.{covers_true, covers_false, charged_none, counted_after}
+use Rattle.capnp_objects.proofs.Landings.{no_pads_near, pads_there, lies as lies_for}
 use Rattle.capnp_objects.proofs.Refusals.{affords_less}
 
 -- the meter
-covers_true : (charging : Bool) (m : Meter) (n : ℕ) → Affords charging m n → covers charging m n ≡ true
-covers_true false m n h = refl
-covers_true true m n h = go m.left h
-  where
-    go : (o : Option ℕ) → FitsIn o n → fits o n ≡ true
-    go None h = refl
-    go (Some x) h = le-leb n x h
-
-covers_false : (charging : Bool) (m : Meter) (n : ℕ) → (Affords charging m n → ⊥) → covers charging m n ≡ false
-covers_false false m n h = absurd (h tt)
-covers_false true m n h = go m.left h
-  where
-    go : (o : Option ℕ) → (FitsIn o n → ⊥) → fits o n ≡ false
-    go None h = absurd (h tt)
-    go (Some x) h = let lt : x < n = omega (arith, h) in let e : nat_le n x ≡ false = grind (arith, lt) in e
-
 pub spent_in_steps : (charging : Bool) (m : Meter) (g h k : ℕ) → charged charging (charged charging (charged charging (counted_once charging m) g) h) k ≡ after charging m (g + h + k) 1
 spent_in_steps true m g h k = ap (λ o. record { left = o; followed = raised m.followed 1 }) (ap (λ o. less o k) (less_less m.left g h) ∙ less_less m.left (g + h) k)
 spent_in_steps false m g h k = refl
@@ -251,7 +236,7 @@ broken_is purpose r a m InlineCompositeListsElementsOverrunItsWordCount (some, t
 broken_is purpose r a m k h covered = absurd h
 
 -- one object, read with a level left if only the size is wanted
-leveled : (purpose : Purpose) (n : ℕ) → (purpose ≡ Size → 0 < n) → has_level purpose n ≡ true
+pub leveled : (purpose : Purpose) (n : ℕ) → (purpose ≡ Size → 0 < n) → has_level purpose n ≡ true
 leveled Value n h = refl
 leveled Size n h = lt-ltb _ _ (h refl)
 
@@ -368,11 +353,3 @@ object_is purpose r m m' (ObjectStructs start size i) (a, o, z, seven, (held, se
     let list : nat_eq (kind a.word) 0 ≡ false = ne_eqb _ _ (λ e. omega (arith, e, z)) in
     let is_seven : nat_eq (element_size a.word) 7 ≡ true = eq-eqb _ _ seven in
     entering_is purpose r m m' a o ∙ rw (list, is_seven, len, d, q, seg, at) refl
-
-pub measured_computed : (r : Reading) (m m' : Meter) (result : Result Object ErrorKind) → 0 < r.levels → IfOk result (IsObject Size r m m') → IfErr result (NotRead Size r m m') → read Size r m ≡ (result_shape result, m')
-measured_computed r m m' (Ok x) level good bad = object_is Size r m m' x good
-measured_computed r m m' (Err k) level good bad = stopped_is Size r m m' k (λ _. level) bad
-
-pub near_computed : (r : Reading) (m m' : Meter) (result : Result ℕ ErrorKind) → 0 < r.levels → IfOk result (EntersNear Size r m m') → IfErr result (NotRead Size r m m') → read Size r m ≡ (near_shape r result, m')
-near_computed r m m' (Ok at) level good bad = entering_is Size r m m' (near_at r at) good
-near_computed r m m' (Err k) level good bad = stopped_is Size r m m' k (λ _. level) bad

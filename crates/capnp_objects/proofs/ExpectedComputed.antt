@@ -1,16 +1,17 @@
 -- An object that a call expects to be of some kind: the function `expect` returns what the relations
 -- `CanBeGiven` and `Withheld` state, and they state what it returns.
-use Rattle.std.proofs.Common.{◌≡◌, ◌≢◌, ◌⊎◌, inl, inr, ℕ, ◌+◌, ◌<◌, false, nat_eq, Option, Some, None, Result, Ok, Err, IsOk, IfOk, IfErr, ◌↔◌, refl, sym, ap, ◌∙◌, arith}
+use Rattle.std.proofs.Common.{◌≡◌, ◌≢◌, ◌⊎◌, inl, inr, ℕ, ◌+◌, ◌<◌, false, nat_eq, Option, Some, None, Result, Ok, Err, IsOk, IfErr, ◌↔◌, refl, sym, ap, ◌∙◌, arith}
 use Rattle.std.proofs.lemmas.Bool.{ne_eqb}
 use Rattle.capnp_words.specs.declared.error.ErrorKind.{ErrorKind}
 use Rattle.capnp_words.specs.Meter.{Meter, Affords, charged, counted_once}
 use Rattle.capnp_format.specs.Word.{kind}
 use Rattle.capnp_format.specs.Segments.{Target}
+use Rattle.capnp_objects.specs.declared.object.Expected.{Expected}
 use Rattle.capnp_objects.specs.declared.object.Object.{Object}
 use Rattle.capnp_objects.specs.declared.object.Purpose.TheVariants.{Value}
 use Rattle.capnp_objects.specs.Demands.{claim, own}
-use Rattle.capnp_objects.specs.Enter.{Shape, nothing, shape, enter, read, object_shape}
-use Rattle.capnp_objects.specs.Expected.{Expectation, CanBeGiven, null_pointer, fitting, Withheld, no_level, unfollowed, of_another_kind, stopped, misfits}
+use Rattle.capnp_objects.specs.Enter.{Shape, nothing, shape, enter, read, object_shape, result_shape}
+use Rattle.capnp_objects.specs.Expected.{Expectation, expectation, CanBeGiven, null_pointer, fitting, Withheld, no_level, unfollowed, of_another_kind, stopped, misfits}
 use Rattle.capnp_objects.specs.Metered.{onward, answer, refuse_if, ◌>>>◌}
 use Rattle.capnp_objects.specs.Objects.{IsObject}
 use Rattle.capnp_objects.specs.Outcomes.{Entered}
@@ -21,16 +22,16 @@ use Rattle.capnp_objects.specs.Values.{enter_expected, expect}
 use Rattle.capnp_objects.specs.Wanted.{plain, follow_at, FollowsTo}
 use Rattle.capnp_objects.proofs.Computed.{onward_is, followed_is, unfollowed_is, pads_are, spent_once, not_null, null_is, reached_is, entering_is, stopped_is, object_is}
 use Rattle.capnp_objects.proofs.Decided.{same_or_not}
-use Rattle.capnp_objects.proofs.Expecting.{one_level, level_unfollowed}
+use Rattle.capnp_objects.proofs.Expecting.{one_level, kind_below_two, level_unfollowed}
 use Rattle.capnp_objects.proofs.Inverted.{Ends, at_capability, at_object, refused, ends, is_answer, no_answer, of_same_refusal}
 use Rattle.capnp_objects.proofs.Refusals.{affords_less}
 
 -- once the pointer was followed to its target
 target_is : (expected : Expectation) (r : Reading) (a : Target) (m : Meter) → expected.too_deep r.levels ≡ None → FollowsTo r a → Affords r.charging m a.pads →
-    expect expected r m ≡ enter_expected expected r a (charged r.charging (counted_once r.charging m) a.pads)
+    expect expected r m ≡ enter_expected expected (one_level r) a (charged r.charging (counted_once r.charging m) a.pads)
 target_is expected r a m level f covered =
     let some : nat_eq (word_of r) 0 ≡ false = ne_eqb _ _ f.0 in
-    rw (some, level) (onward_is (enter_expected expected r) (followed_is r a m f.1 (pads_are r a f.1) covered))
+    rw (some, level) (onward_is (enter_expected expected (one_level r)) (followed_is r a m f.1 (pads_are r a f.1) covered))
 
 -- once the target was seen to be of the expected kind: x is the result of reading it with one level
 kind_is : (expected : Expectation) (r : Reading) (a : Target) (m : Meter) (x : Result Shape ErrorKind × Meter) → expected.too_deep r.levels ≡ None → FollowsTo r a → Affords r.charging m a.pads →
@@ -52,7 +53,7 @@ fitting_is expected r m m' a level kind o fits =
 nowhere_is : (expected : Expectation) (r : Reading) (m m' : Meter) (k : ErrorKind) → expected.too_deep r.levels ≡ None → Unfollowed (one_level r) m m' k → expect expected r m ≡ (Err k, m')
 nowhere_is expected r m m' k level u =
     let some : nat_eq (word_of r) 0 ≡ false = ne_eqb _ _ (not_null u) in
-    rw (some, level) (ap (onward (enter_expected expected r)) (unfollowed_is (one_level r) m m' k u))
+    rw (some, level) (ap (onward (enter_expected expected (one_level r))) (unfollowed_is (one_level r) m m' k u))
 
 pub withheld_is : (expected : Expectation) (r : Reading) (m m' : Meter) (k : ErrorKind) → Withheld expected r m m' k → expect expected r m ≡ (Err k, m')
 withheld_is expected r m m' k (no_level some deep same) =
@@ -89,10 +90,6 @@ given_answers expected r m (fitting {m' = n} a level kind o fits) = is_answer (f
 -- so a call is answered exactly if it can be
 pub not_withheld : (expected : Expectation) (r : Reading) (m m' : Meter) (k : ErrorKind) → CanBeGiven expected r m → Withheld expected r m m' k → ⊥
 not_withheld expected r m m' k can h = no_answer (withheld_is expected r m m' k h) (given_answers expected r m can)
-
-pub given_exactly : (expected : Expectation) (r : Reading) (m m' : Meter) (result : Result Object ErrorKind) → IfOk result (λ x. CanBeGiven expected r m) → IfErr result (Withheld expected r m m') → IsOk result ↔ CanBeGiven expected r m
-given_exactly expected r m m' (Ok x) good bad = ((λ e. good), (λ can. refl))
-given_exactly expected r m m' (Err k) good bad = ((λ e. absurd (cc e)), (λ can. absurd (not_withheld expected r m m' k can bad)))
 
 -- either the call has an answer, or it is refused
 abbrev GivenOrWithheld : Expectation → Reading → Meter → Type 0
@@ -159,3 +156,12 @@ given_if expected r m objects answered = elim (given_or_withheld expected r m ob
   | inl can ↦ can
   | inr (l, n, h) ↦ absurd (no_answer (withheld_is expected r m n l h) answered)
 ]
+
+-- what a call that computes `expect` returned
+pub given_exactly : (expected : Expected) (r : Reading) (m m' : Meter) (result : Result Object ErrorKind) → expect (expectation expected) r m ≡ (result_shape result, m') → IsOk result ↔ CanBeGiven (expectation expected) r m
+given_exactly expected r m m' (Ok x) e = ((λ _. given_if (expectation expected) r m (kind_below_two expected) (is_answer e)), (λ _. refl))
+given_exactly expected r m m' (Err k) e = ((λ f. absurd (cc f)), (λ can. absurd (no_answer e (given_answers (expectation expected) r m can))))
+
+pub expect_refused : (expected : Expected) (r : Reading) (m m' : Meter) (result : Result Object ErrorKind) → expect (expectation expected) r m ≡ (result_shape result, m') → IfErr result (Withheld (expectation expected) r m m')
+expect_refused expected r m m' (Ok x) e = tt
+expect_refused expected r m m' (Err k) e = withheld_if (expectation expected) r m m' k (kind_below_two expected) e

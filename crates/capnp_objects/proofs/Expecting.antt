@@ -1,5 +1,6 @@
 -- From the steps of a reading that expects an object of some kind to its outcome.
-use Rattle.std.proofs.Common.{◌≡◌, inl, inr, ℕ, zero, suc, ◌+◌, ◌-◌, ◌*◌, ◌/◌, ◌%◌, ◌^◌, ◌<◌, ◌≤◌, Bool, true, false, ◌||◌, cond, nat_eq, Some, None, Result, Ok, Err, IsOk, IfOk, refl, sym, ap, ap₂, ◌⊎◌, ◌∙◌, subst, arith, eqb-true}
+use Rattle.std.proofs.Common.{◌≡◌, ◌≢◌, inl, inr, ℕ, zero, suc, ◌+◌, ◌-◌, ◌*◌, ◌/◌, ◌%◌, ◌^◌, ◌<◌, ◌≤◌, Bool, true, false, ◌||◌, cond, nat_eq, Option, Some, None, Result, Ok, Err, IfOk, refl, sym, ap, ap₂, ◌⊎◌, ◌∙◌, arith, eqb-true}
+use Rattle.std.proofs.lemmas.Bool.{ne_eqb}
 use Rattle.capnp_words.specs.declared.error.ErrorKind.{ErrorKind}
 use Rattle.capnp_words.specs.Meter.{Meter}
 use Rattle.capnp_format.specs.Word.{kind, data_words, pointer_count, element_size, list_count}
@@ -13,22 +14,25 @@ use Rattle.capnp_objects.specs.declared.object.Expected.TheVariants.{Struct, Lis
 use Rattle.capnp_objects.specs.declared.object.Object.{Object}
 use Rattle.capnp_objects.specs.declared.object.Object.TheVariants.{Null as ObjectNull, Capability as ObjectCapability, Struct as ObjectStruct, Flat as ObjectFlat, Pointers as ObjectPointers, Structs as ObjectStructs}
 use Rattle.capnp_objects.specs.declared.object.Place.{Place}
-use Rattle.capnp_objects.specs.declared.source.Found.{Found}
 use Rattle.capnp_objects.specs.Demands.{tag}
-use Rattle.capnp_objects.specs.Entering.{IsUnsuited, another, not_entered, misfits as unsuited_misfits, object_misfit, place_byte}
-use Rattle.capnp_objects.specs.Expected.{Expectation, struct_expected, list_expected, text_expected, data_expected, expectation, narrow_elements, narrow_structs, CanBeGiven, null_pointer, fitting, Withheld, of_another_kind, stopped, misfits, IsGiven}
+use Rattle.capnp_objects.specs.Enter.{Shape, nothing, follow, enter, object_shape, result_shape}
+use Rattle.capnp_objects.specs.Entering.{object_misfit, place_byte, IsObjectHeld}
+use Rattle.capnp_objects.specs.Expected.{Expectation, struct_expected, list_expected, text_expected, data_expected, expectation, narrow_elements, narrow_structs, CanBeGiven, null_pointer, fitting, IsGiven}
+use Rattle.capnp_objects.specs.Metered.{Metered, answer, onward, ◌>>>◌, refuse_if}
 use Rattle.capnp_objects.specs.Faults.{LeadsTo}
-use Rattle.capnp_objects.specs.Landings.{found_target, following, IsFollowed, Arrival, IsEntered, IsOpened}
 use Rattle.capnp_objects.specs.Objects.{IsObject}
 use Rattle.capnp_objects.specs.Outcomes.{Entered}
 use Rattle.capnp_objects.specs.Reading.{Reading, word_of, tag_size}
 use Rattle.capnp_objects.specs.Refusals.{Unfollowed, exceeding, leading_nowhere}
-use Rattle.capnp_objects.specs.Spending.{Paid}
-use Rattle.capnp_objects.specs.Wanted.{follow_at}
+use Rattle.capnp_objects.specs.Values.{enter_expected, expect}
 use Rattle.capnp_objects.specs.declared.object.Purpose.TheVariants.{Value}
+use Rattle.capnp_objects.proofs.Computed.{null_is}
+use Rattle.capnp_objects.proofs.Decided.{same_or_not}
+use Rattle.capnp_objects.proofs.Entries.{object_enters}
 use Rattle.capnp_objects.proofs.Faultless.{same_target}
 use Rattle.capnp_objects.proofs.Followed.{entered_leads}
-use Rattle.capnp_objects.proofs.Landings.{IsCounted, reached, entered, object_refused, arrived}
+use Rattle.capnp_objects.proofs.Inverted.{not_both}
+use Rattle.capnp_objects.proofs.Shapes.{answered, entered_shape, Seen, seen, shape_is, part, object_read}
 
 -- the place with one level, because the level is checked separately
 abbrev pub one_level : Reading → Reading
@@ -72,21 +76,11 @@ is_byte EightBytes e = absurd (omega arith)
 is_byte Pointer e = absurd (omega arith)
 is_byte InlineComposite e = absurd (omega arith)
 
--- The object has the expected kind and is entered as x, from m to m'.
-pub record IsEnteredAs (expected : Expected) (o : Arrival) (m m' : Meter) (x : Object) : Type 0 where
-  pub of_kind : (expectation expected).another_kind o.target.word ≡ None
-  pub opened : IsOpened Value o m m' x
-
-pub is_entered : {expected : Expected} {o : Arrival} {m m' : Meter} {x : Object} → IsOpened Value o m m' x → (expectation expected).another_kind o.target.word ≡ None → IsEnteredAs expected o m m' x
-is_entered h e = record { of_kind = e; opened = h }
-
-pub entered_object : {expected : Expected} {o : Arrival} {m m' : Meter} (x : Object) → IsEnteredAs expected o m m' x → IsEntered Value o m m'
-entered_object ObjectNull h = absurd h.opened
-entered_object {expected} {o = o} (ObjectCapability i) h = absurd (let k = kind_below_two expected o.target.word h.of_kind in let low = h.opened.0 in omega (arith, low, k))
-entered_object (ObjectStruct start size) h = h.opened.0
-entered_object (ObjectFlat start size count) h = h.opened.0
-entered_object (ObjectPointers start count) h = h.opened.0
-entered_object (ObjectStructs start size count) h = h.opened.0
+-- The object x was read at the target a, which has the expected kind.
+pub record IsSeenAs (expected : Expected) (S : Segments) (a : Target) (x : Object) : Type 0 where
+  pub of_kind : (expectation expected).another_kind a.word ≡ None
+  pub seen : Seen S a x
+  pub held : IsObjectHeld S x
 
 -- why the object isn't what was expected, by its words
 same_sections : (S : Segments) (a : Target) (sections : StructSize) → sections.data_words ≡ data_words (tag S a) → sections.pointers ≡ pointer_count (tag S a) → sections ≡ tag_size S a
@@ -102,56 +96,67 @@ narrow_list size sections (suc (suc (suc (suc (suc zero))))) h = refl
 narrow_list size sections (suc (suc (suc (suc (suc (suc zero)))))) h = refl
 narrow_list size sections (suc (suc (suc (suc (suc (suc (suc i))))))) h = absurd (omega arith)
 
-misfit_of_list : {size : ElementSize} {o : Arrival} {m m' : Meter} (x : Object) → kind o.target.word ≡ 1 → IsEnteredAs (List size) o m m' x → object_misfit (List size) x ≡ (list_expected size).misfit o.segments o.target
-misfit_of_list ObjectNull k h = absurd h.opened
-misfit_of_list {o = o} (ObjectCapability i) k h = absurd (let low = h.opened.0 in omega (arith, low, k))
-misfit_of_list (ObjectStruct start size) k h = absurd (let z = h.opened.1 in omega (arith, z, k))
-misfit_of_list {size} {o = o} (ObjectFlat start found count) k h =
-    let small = h.opened.2 in
-    let wide = h.opened.4 in
-    rw wide (narrow_list size (tag_size o.segments o.target) (element_size o.target.word) (omega (arith, small)))
-misfit_of_list {size} {o = o} (ObjectPointers start count) k h = let six = h.opened.2 in rw six refl
-misfit_of_list {size} {o = o} (ObjectStructs start sections count) k h =
-    let seven = h.opened.2 in
-    rw (seven, same_sections o.segments o.target sections h.opened.5 h.opened.6) refl
+misfit_of_list : {size : ElementSize} {S : Segments} {a : Target} (x : Object) → kind a.word ≡ 1 → IsSeenAs (List size) S a x → object_misfit (List size) x ≡ (list_expected size).misfit S a
+misfit_of_list ObjectNull k h = absurd h.seen
+misfit_of_list (ObjectCapability i) k h = absurd h.seen
+misfit_of_list (ObjectStruct start size) k h = absurd (let z = h.seen.0 in omega (arith, z, k))
+misfit_of_list {size} {S} {a} (ObjectFlat start found count) k h =
+    let small = h.seen.1 in
+    let wide = h.seen.4 in
+    rw wide (narrow_list size (tag_size S a) (element_size a.word) (omega (arith, small)))
+misfit_of_list (ObjectPointers start count) k h = let six = h.seen.1 in rw six refl
+misfit_of_list {size} {S} {a} (ObjectStructs start sections count) k h =
+    let seven = h.seen.1 in
+    rw (seven, same_sections S a sections h.seen.5 h.seen.6) refl
 
-misfit_of_text : {o : Arrival} {m m' : Meter} (x : Object) → (kind o.target.word ≡ 1) × (element_size o.target.word ≡ 2) → IsEnteredAs Text o m m' x → object_misfit Text x ≡ text_expected.misfit o.segments o.target
-misfit_of_text ObjectNull k h = absurd h.opened
-misfit_of_text {o = o} (ObjectCapability i) k h = absurd (let low = h.opened.0 in omega (arith, low, k.0))
-misfit_of_text (ObjectStruct start size) k h = absurd (let z = h.opened.1 in omega (arith, z, k.0))
-misfit_of_text {o = o} (ObjectFlat start size count) k h =
-    let wide = h.opened.4 in
-    let there = h.opened.3 in
+misfit_of_text : {S : Segments} {a : Target} (x : Object) → (kind a.word ≡ 1) × (element_size a.word ≡ 2) → IsSeenAs Text S a x → object_misfit Text x ≡ text_expected.misfit S a
+misfit_of_text ObjectNull k h = absurd h.seen
+misfit_of_text (ObjectCapability i) k h = absurd h.seen
+misfit_of_text (ObjectStruct start size) k h = absurd (let z = h.seen.0 in omega (arith, z, k.0))
+misfit_of_text {S} {a} (ObjectFlat start size count) k h =
+    let wide = h.seen.4 in
     let byte : size ≡ Byte = is_byte size (omega (arith, wide, k.1)) in
-    let first : start.at ≡ o.target.start = (let at = there.2 in omega (arith, at)) in
-    let bytes : (i : ℕ) → place_byte start i ≡ word_at o.segments o.target.segment (o.target.start + i / 8) / 2 ^ (8 * (i % 8)) % 256 = λ i. rw (there.0.0, there.1, first) refl in
-    rw (byte, h.opened.5, bytes (list_count o.target.word - 1)) refl
-misfit_of_text (ObjectPointers start count) k h = absurd (let six = h.opened.2 in omega (arith, six, k.1))
-misfit_of_text (ObjectStructs start sections count) k h = absurd (let seven = h.opened.2 in omega (arith, seven, k.1))
+    let bytes : (i : ℕ) → place_byte start i ≡ word_at S a.segment (a.start + i / 8) / 2 ^ (8 * (i % 8)) % 256 = λ i. rw (h.held.0, h.seen.2, h.seen.3) refl in
+    rw (byte, h.seen.5, bytes (list_count a.word - 1)) refl
+misfit_of_text (ObjectPointers start count) k h = absurd (let six = h.seen.1 in omega (arith, six, k.1))
+misfit_of_text (ObjectStructs start sections count) k h = absurd (let seven = h.seen.1 in omega (arith, seven, k.1))
 
-pub misfit_of : {expected : Expected} {o : Arrival} {m m' : Meter} (x : Object) → IsEnteredAs expected o m m' x → object_misfit expected x ≡ (expectation expected).misfit o.segments o.target
+pub misfit_of : {expected : Expected} {S : Segments} {a : Target} (x : Object) → IsSeenAs expected S a x → object_misfit expected x ≡ (expectation expected).misfit S a
 misfit_of {expected = Struct} x h = refl
-misfit_of {expected = List size} {o = o} x h = misfit_of_list x (kind_of_list size o.target.word h.of_kind) h
-misfit_of {expected = Text} {o = o} x h = misfit_of_text x (kind_of_text o.target.word h.of_kind) h
+misfit_of {expected = List size} {a = a} x h = misfit_of_list x (kind_of_list size a.word h.of_kind) h
+misfit_of {expected = Text} {a = a} x h = misfit_of_text x (kind_of_text a.word h.of_kind) h
 misfit_of {expected = Data} x h = refl
+
+-- an object that was entered for its value
+pub entered_as : {expected : Expected} (r : Reading) (a : Target) (m m' : Meter) (x : Object) → (expectation expected).another_kind a.word ≡ None → enter Value r a m ≡ (Ok (object_shape x), m') → IsObjectHeld r.segments x → IsSeenAs expected r.segments a x
+entered_as {expected} r a m m' x kind e held =
+    let near = kind_below_two expected a.word kind in
+    record { of_kind = kind; seen = seen x (shape_is r.segments a near) (sym (entered_shape Value r a m m' (object_shape x) (sym (object_enters Value r a m near) ∙ e))); held = held }
+
+-- an object of the expected kind that was entered
+pub entered_expected : (expected : Expected) (r : Reading) (a : Target) (m m' : Meter) (x : Object) → (expectation expected).another_kind a.word ≡ None → enter Value r a m ≡ (Ok (object_shape x), m') → IsObjectHeld r.segments x →
+    enter_expected (expectation expected) r a m ≡ onward (λ _. answer (object_shape x)) (refuse_if (object_misfit expected x) m')
+entered_expected expected r a m m' x kind e held =
+    rw kind (ap (onward (λ o. refuse_if ((expectation expected).misfit r.segments a) >>> λ _. answer o)) e)
+    ∙ ap (λ o. onward (λ _. answer (object_shape x)) (refuse_if o m')) (sym (misfit_of x (entered_as r a m m' x kind e held)))
 
 -- the object is as expected
 some_level : (expected : Expected) (k : ErrorKind) (n : ℕ) → (expectation expected).too_deep zero ≡ Some k → (expectation expected).too_deep n ≡ None → 0 < n
 some_level expected k zero e none = absurd (cc (e, none))
 some_level expected k (suc n) e none = omega arith
 
-given_struct : {o : Arrival} {m m' : Meter} (x : Object) {n : ℕ} → 0 < n → IsEnteredAs Struct o m m' x → IsGiven Struct n x
+given_struct : {S : Segments} {a : Target} (x : Object) {n : ℕ} → 0 < n → IsSeenAs Struct S a x → IsGiven Struct n x
 given_struct ObjectNull level h = tt
-given_struct {o = o} (ObjectCapability i) level h = absurd (let k = kind_of_struct o.target.word h.of_kind in let low = h.opened.0 in omega (arith, low, k))
+given_struct (ObjectCapability i) level h = absurd h.seen
 given_struct (ObjectStruct start size) level h = level
-given_struct {o = o} (ObjectFlat start size count) level h = absurd (let k = kind_of_struct o.target.word h.of_kind in let z = h.opened.1 in omega (arith, z, k))
-given_struct {o = o} (ObjectPointers start count) level h = absurd (let k = kind_of_struct o.target.word h.of_kind in let z = h.opened.1 in omega (arith, z, k))
-given_struct {o = o} (ObjectStructs start size count) level h = absurd (let k = kind_of_struct o.target.word h.of_kind in let z = h.opened.1 in omega (arith, z, k))
+given_struct {a = a} (ObjectFlat start size count) level h = absurd (let k = kind_of_struct a.word h.of_kind in let z = h.seen.0 in omega (arith, z, k))
+given_struct {a = a} (ObjectPointers start count) level h = absurd (let k = kind_of_struct a.word h.of_kind in let z = h.seen.0 in omega (arith, z, k))
+given_struct {a = a} (ObjectStructs start size count) level h = absurd (let k = kind_of_struct a.word h.of_kind in let z = h.seen.0 in omega (arith, z, k))
 
-given_list : {size : ElementSize} {o : Arrival} {m m' : Meter} (x : Object) {n : ℕ} → 0 < n → object_misfit (List size) x ≡ None → IsEnteredAs (List size) o m m' x → IsGiven (List size) n x
+given_list : {size : ElementSize} {S : Segments} {a : Target} (x : Object) {n : ℕ} → 0 < n → object_misfit (List size) x ≡ None → IsSeenAs (List size) S a x → IsGiven (List size) n x
 given_list ObjectNull level fits h = tt
-given_list {size} {o = o} (ObjectCapability i) level fits h = absurd (let k = kind_of_list size o.target.word h.of_kind in let low = h.opened.0 in omega (arith, low, k))
-given_list {size} {o = o} (ObjectStruct start sections) level fits h = absurd (let k = kind_of_list size o.target.word h.of_kind in let z = h.opened.1 in omega (arith, z, k))
+given_list (ObjectCapability i) level fits h = absurd h.seen
+given_list {size} {a = a} (ObjectStruct start sections) level fits h = absurd (let k = kind_of_list size a.word h.of_kind in let z = h.seen.0 in omega (arith, z, k))
 given_list (ObjectFlat start found count) level fits h = (level, fits)
 given_list (ObjectPointers start count) level fits h = (level, fits)
 given_list (ObjectStructs start sections count) level fits h = (level, fits)
@@ -164,16 +169,16 @@ no_bytes k b (suc count) e = omega arith
 abbrev IsBytes : Object → Type 0
 IsBytes x = (x ≡ ObjectNull) ⊎ ((start : Place) × (count : ℕ) × (x ≡ ObjectFlat start Byte count))
 
-given_bytes : {expected : Expected} {o : Arrival} {m m' : Meter} (x : Object) → (kind o.target.word ≡ 1) × (element_size o.target.word ≡ 2) → IsEnteredAs expected o m m' x → IsBytes x
-given_bytes ObjectNull k h = inl refl
-given_bytes (ObjectCapability i) k h = absurd (let low = h.opened.0 in omega (arith, low, k.0))
-given_bytes (ObjectStruct start size) k h = absurd (let z = h.opened.1 in omega (arith, z, k.0))
-given_bytes (ObjectFlat start size count) k h =
-    let wide = h.opened.4 in
+given_bytes : (S : Segments) (a : Target) (x : Object) → (kind a.word ≡ 1) × (element_size a.word ≡ 2) → Seen S a x → IsBytes x
+given_bytes S a ObjectNull k h = absurd h
+given_bytes S a (ObjectCapability i) k h = absurd h
+given_bytes S a (ObjectStruct start size) k h = absurd (let z = h.0 in omega (arith, z, k.0))
+given_bytes S a (ObjectFlat start size count) k h =
+    let wide = h.4 in
     let byte : size ≡ Byte = is_byte size (omega (arith, wide, k.1)) in
     inr (start, count, ap (λ i. ObjectFlat start i count) byte)
-given_bytes (ObjectPointers start count) k h = absurd (let six = h.opened.2 in omega (arith, six, k.1))
-given_bytes (ObjectStructs start size count) k h = absurd (let seven = h.opened.2 in omega (arith, seven, k.1))
+given_bytes S a (ObjectPointers start count) k h = absurd (let six = h.1 in omega (arith, six, k.1))
+given_bytes S a (ObjectStructs start size count) k h = absurd (let seven = h.1 in omega (arith, seven, k.1))
 
 given_text : (n : ℕ) (x : Object) → IsBytes x → object_misfit Text x ≡ None → IsGiven Text n x
 given_text n x (inl e) fits = rw e tt
@@ -183,50 +188,67 @@ given_data : (n : ℕ) (x : Object) → IsBytes x → IsGiven Data n x
 given_data n x (inl e) = rw e tt
 given_data n x (inr (start, count, e)) = rw e refl
 
-pub given : {expected : Expected} {o : Arrival} {m m' : Meter} (x : Object) (n : ℕ) → (expectation expected).too_deep n ≡ None → object_misfit expected x ≡ None → IsEnteredAs expected o m m' x → IsGiven expected n x
-given {expected = Struct} {o = o} x n level fits h = given_struct x (some_level Struct _ n refl level) h
-given {expected = List size} {o = o} x n level fits h = given_list x (some_level (List size) _ n refl level) fits h
-given {expected = Text} {o = o} x n level fits h = given_text n x (given_bytes x (kind_of_text o.target.word h.of_kind) h) fits
-given {expected = Data} {o = o} x n level fits h = given_data n x (given_bytes x (kind_of_data o.target.word h.of_kind) h)
-
--- the outcome of the call after the pointer was counted and followed, and the object was examined
-pub level_counted : {r : Reading} {m m' : Meter} → IsCounted r m m' → IsCounted (one_level r) m m'
-level_counted o = record { some = o.some; by_one = o.by_one }
+given : {expected : Expected} {S : Segments} {a : Target} (x : Object) (n : ℕ) → (expectation expected).too_deep n ≡ None → (expectation expected).misfit S a ≡ None → IsSeenAs expected S a x → IsGiven expected n x
+given {expected = Struct} x n level fits h = given_struct x (some_level Struct _ n refl level) h
+given {expected = List size} x n level fits h = given_list x (some_level (List size) _ n refl level) (misfit_of x h ∙ fits) h
+given {expected = Text} {S = S} {a = a} x n level fits h = given_text n x (given_bytes S a x (kind_of_text a.word h.of_kind) h.seen) (misfit_of x h ∙ fits)
+given {expected = Data} {S = S} {a = a} x n level fits h = given_data n x (given_bytes S a x (kind_of_data a.word h.of_kind) h.seen)
 
 pub level_unfollowed : {r : Reading} {m m' : Meter} {k : ErrorKind} → Unfollowed r m m' k → Unfollowed (one_level r) m m' k
 level_unfollowed (exceeding some short paid named) = exceeding some short paid named
 level_unfollowed (leading_nowhere some h paid) = leading_nowhere some h paid
 
-pub withheld : (expected : Expectation) {r : Reading} {m m₁ m₂ m₃ : Meter} {l : Found} {k : ErrorKind} → IsCounted r m m₁ → IsFollowed (following r) m₁ m₂ l → expected.too_deep r.levels ≡ None →
-    IsUnsuited expected (arrived (one_level r) (found_target l)) m₂ m₃ k → Withheld expected r m m₃ k
-withheld expected {r} {m} {m₁} {m₂} {m₃} {l} {k} o f level (another e same) =
-    let there = reached o f in of_another_kind (found_target l) level there.follows e (subst (λ y. Paid r.charging m y l.pads 1) (sym same) there.paid)
-withheld expected {r} {m} {m₁} {m₂} {m₃} {l} {k} o f level (not_entered e h) =
-    let of_kind : (b : Target) → follow_at r ≡ Ok b → expected.another_kind b.word ≡ None = λ b same. (let g = f.leads_to in let b_is : b ≡ found_target l = cc (g, same) in rw b_is e) in
-    stopped level of_kind (object_refused {r = one_level r} (level_counted o) f h)
-withheld expected {r} {m} {m₁} {m₂} {m₃} {l} {k} o f level (unsuited_misfits e h fits) =
-    misfits (found_target l) level e (entered (reached {r = one_level r} (level_counted o) f) h) fits
+-- what a call that computes `expect` returned
+refused_then : {A : Type 0} (o : Option ErrorKind) (f : Unit {0} → Metered A) (m : Meter) {m' : Meter} {y : A} → onward f (refuse_if o m) ≡ (Ok y, m') → (o ≡ None) × (f tt m ≡ (Ok y, m'))
+refused_then None f m e = (refl, e)
+refused_then (Some k) f m e = absurd (not_both e refl)
 
--- the place means what the call expects
-pub suited : (expected : Expected) {r : Reading} {m m₁ m₂ m₃ : Meter} {l : Found} (x : Object) → IsCounted r m m₁ → IsFollowed (following r) m₁ m₂ l → (expectation expected).too_deep r.levels ≡ None →
-    object_misfit expected x ≡ None → IsEnteredAs expected (arrived (one_level r) (found_target l)) m₂ m₃ x → CanBeGiven (expectation expected) r m
-suited expected {r} {m} {m₁} {m₂} {m₃} {l} x o f level fits h =
-    let all : Entered Value (one_level r) m m₃ (found_target l) = entered (reached {r = one_level r} (level_counted o) f) (entered_object x h) in
-    fitting (found_target l) level h.of_kind all (sym (misfit_of x h) ∙ fits)
+given_null : (expected : Expected) (n : ℕ) (x : Object) → nothing ≡ object_shape x → IsGiven expected n x
+given_null expected n ObjectNull e = tt
+given_null expected n (ObjectCapability i) e = absurd (cc e)
+given_null expected n (ObjectStruct start size) e = absurd (cc e)
+given_null expected n (ObjectFlat start size i) e = absurd (cc e)
+given_null expected n (ObjectPointers start i) e = absurd (cc e)
+given_null expected n (ObjectStructs start size i) e = absurd (cc e)
 
-pub null_given : (expected : Expectation) (r : Reading) (m : Meter) → word_of r ≡ 0 → CanBeGiven expected r m
-null_given expected r m null = null_pointer null
+-- The object x was returned from the target a.
+record IsReturned (expected : Expected) (r : Reading) (m m' : Meter) (x : Object) : Type 0 where
+  level : (expectation expected).too_deep r.levels ≡ None
+  target : Target
+  of_kind : (expectation expected).another_kind target.word ≡ None
+  fits : (expectation expected).misfit r.segments target ≡ None
+  middle : Meter
+  follows : follow r m ≡ (Ok target, middle)
+  enters : enter Value (one_level r) target middle ≡ (Ok (object_shape x), m')
 
--- two clauses on the same result
-pub if_both : {A E : Type 0} (r : Result A E) (P Q R : A → Type 0) → ((x : A) → P x → Q x → R x) → IfOk r P → IfOk r Q → IfOk r R
-if_both (Ok x) P Q R f h k = f x h k
-if_both (Err e) P Q R f h k = tt
+returned : (expected : Expected) (r : Reading) (m m' : Meter) (x : Object) → word_of r ≢ 0 → expect (expectation expected) r m ≡ (Ok (object_shape x), m') → IsReturned expected r m m' x
+returned expected r m m' x some e =
+    let there : nat_eq (word_of r) 0 ≡ false = ne_eqb _ _ some in
+    let k = expectation expected in
+    let fit = λ (a : Target) (o : Shape). refuse_if (k.misfit r.segments a) >>> λ _. answer o in
+    let level = refused_then (k.too_deep r.levels) (λ _. follow r >>> λ a. enter_expected k (one_level r) a) m (rw there at e) in
+    let follows = answered {f = λ a. enter_expected k (one_level r) a} {x = follow r m} level.1 in
+    let kind = refused_then (k.another_kind follows.0.word) (λ _. enter Value (one_level r) follows.0 >>> fit follows.0) follows.1 follows.3 in
+    let enters = answered {f = fit follows.0} {x = enter Value (one_level r) follows.0 follows.1} kind.1 in
+    let fits = refused_then (k.misfit r.segments follows.0) (λ _. answer enters.0) enters.1 enters.3 in
+    record { level = level.0; target = follows.0; of_kind = kind.0; fits = fits.0; middle = follows.1; follows = follows.2; enters = enters.2 ∙ fits.1 }
 
--- what was entered has the expected kind and fits
-pub fits_kind : (expected : Expected) (w : ℕ) (r : Result Object ErrorKind) → (IsOk r → (expectation expected).another_kind w ≡ None) → IfOk r (λ x. object_misfit expected x ≡ None) →
-    IfOk r (λ x. ((expectation expected).another_kind w ≡ None) × (object_misfit expected x ≡ None))
-fits_kind expected w (Ok x) of_kind fits = (of_kind refl, fits)
-fits_kind expected w (Err k) of_kind fits = tt
+pub expect_given : (expected : Expected) (r : Reading) (m m' : Meter) (result : Result Object ErrorKind) → expect (expectation expected) r m ≡ (result_shape result, m') → IfOk result (IsObjectHeld r.segments) → IfOk result (IsGiven expected r.levels)
+expect_given expected r m m' (Err k) e held = tt
+expect_given expected r m m' (Ok x) e held = elim (same_or_not (word_of r) 0) [
+  | inl z ↦ let null : expect (expectation expected) r m ≡ (Ok nothing, m) = rw z refl in given_null expected r.levels x (part (sym null ∙ e)).0
+  | inr some ↦ let o = returned expected r m m' x some e in given x r.levels o.level o.fits (entered_as (one_level r) o.target o.middle m' x o.of_kind o.enters held)
+]
+
+pub expect_read : (expected : Expected) (r : Reading) (m m' : Meter) (result : Result Object ErrorKind) → expect (expectation expected) r m ≡ (result_shape result, m') → IfOk result (IsObjectHeld r.segments) → IfOk result (IsObject Value (one_level r) m m')
+expect_read expected r m m' (Err k) e held = tt
+expect_read expected r m m' (Ok x) e held = object_read Value (one_level r) m m' (Ok x) (elim (same_or_not (word_of r) 0) [
+  | inl z ↦ let null : expect (expectation expected) r m ≡ (Ok nothing, m) = rw z refl in null_is Value (one_level r) m z ∙ sym null ∙ e
+  | inr some ↦
+      let o = returned expected r m m' x some e in
+      let there : nat_eq (word_of r) 0 ≡ false = ne_eqb _ _ some in
+      rw there (ap (onward (enter Value (one_level r))) o.follows ∙ o.enters)
+]) held
 
 -- a reading with one level is one with r's own levels, if r has any
 own_level : {r : Reading} {m m' : Meter} {a : Target} → 0 < r.levels → Entered Value (one_level r) m m' a → Entered Value r m m' a

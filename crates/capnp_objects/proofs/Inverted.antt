@@ -1,6 +1,6 @@
 -- How the reading of one object ends: the relations have a case for each place. So a result of the
 -- function `read` is one of theirs, and there is only one.
-use Rattle.std.proofs.Common.{◌≡◌, ◌≢◌, ◌⊎◌, inl, inr, ℕ, ◌+◌, ◌%◌, ◌^◌, ◌<◌, Bool, true, false, Option, Some, None, Result, Ok, Err, IsOk, IfOk, IfErr, ◌↔◌, length, refl, sym, ap, ◌∙◌, subst, arith}
+use Rattle.std.proofs.Common.{◌≡◌, ◌≢◌, ◌⊎◌, inl, inr, ℕ, ◌+◌, ◌%◌, ◌^◌, ◌<◌, Bool, true, false, Option, Some, None, Result, Ok, Err, IsOk, length, refl, sym, ap, ◌∙◌, subst, arith}
 use Rattle.std.proofs.lemmas.Bool.{false≢true}
 use Rattle.capnp_words.specs.declared.error.ErrorKind.{ErrorKind}
 use Rattle.capnp_words.specs.declared.error.ErrorKind.TheVariants.{CantHandleNonStructInlineComposite, InlineCompositeListsElementsOverrunItsWordCount, InlineCompositeListsOfNonStructTypeAreNotSupported, MalformedDoubleFarPointer, MessageContainsOutOfBoundsPointer, MessageIsTooDeeplyNestedOrContainsCycles, ReadLimitExceeded, UnknownPointerType, MessageIsTooDeeplyNested}
@@ -9,19 +9,17 @@ use Rattle.capnp_format.specs.Word.{kind, element_size, list_count, upper_half}
 use Rattle.capnp_format.specs.Segments.{Segments, segment, Target}
 use Rattle.capnp_format.specs.Means.{Claims}
 use Rattle.capnp_objects.specs.Demands.{claim, tag, element_words, own, IsStructList, IsVoidList, LiesThere, Meets}
-use Rattle.capnp_objects.specs.declared.object.Object.{Object}
 use Rattle.capnp_objects.specs.declared.object.Purpose.{Purpose}
 use Rattle.capnp_objects.specs.declared.object.Purpose.TheVariants.{Value, Size}
 use Rattle.capnp_objects.specs.Enter.{Shape, nothing, capability, shape, read}
 use Rattle.capnp_objects.specs.Measures.{NotMeasured, no_level, stopped}
-use Rattle.capnp_objects.specs.Objects.{IsObject}
 use Rattle.capnp_objects.specs.Outcomes.{Entered}
 use Rattle.capnp_objects.specs.Reading.{Reading, word_of}
 use Rattle.capnp_objects.specs.Refusals.{landing_words, granted_before, exceeding, leading_nowhere, Stopped, no_target, broken, claim_exceeds, count_exceeds, NotRead, CanBeRead}
 use Rattle.capnp_objects.specs.Spending.{after}
 use Rattle.capnp_objects.specs.Wanted.{plain, BreaksObject, follow_at, FollowsTo}
 use Rattle.capnp_objects.proofs.Budgets.{affords_none}
-use Rattle.capnp_objects.proofs.Computed.{null_is, capability_is, entering_is, stopped_is, measured_is, object_is, pads_are}
+use Rattle.capnp_objects.proofs.Computed.{null_is, capability_is, entering_is, stopped_is, measured_is, pads_are}
 use Rattle.capnp_objects.proofs.Decided.{same_or_not, within_or_not}
 use Rattle.capnp_objects.proofs.Parts.{claim_list}
 
@@ -228,13 +226,6 @@ pub could_be_read_if : (purpose : Purpose) (r : Reading) (m : Meter) → IsOk (r
 could_be_read_if Value r m answered = value_can_be_read r m answered
 could_be_read_if Size r m answered = size_can_be_read r m answered
 
--- so a call reads an object exactly if one can be read
-pub could_be_read : (purpose : Purpose) (r : Reading) (m m' : Meter) (x : Object) → IsObject purpose r m m' x → CanBeRead purpose r m
-could_be_read purpose r m m' x h = could_be_read_if purpose r m (is_answer (object_is purpose r m m' x h))
-
-pub read_exactly : (r : Reading) (m m' : Meter) (result : Result Object ErrorKind) → IfOk result (IsObject Value r m m') → IfErr result (NotRead Value r m m') → IsOk result ↔ CanBeRead Value r m
-read_exactly r m m' (Ok x) good bad = ((λ _. could_be_read Value r m m' x good), (λ _. refl))
-read_exactly r m m' (Err k) good bad = ((λ e. absurd (cc e)), (λ can. absurd (no_answer (stopped_is Value r m m' k (λ e. absurd (cc e)) bad) (can_be_read_is Value r m can))))
-
+-- so a size that can be read is not refused
 pub can_not : {r : Reading} {m m' : Meter} {k : ErrorKind} → CanBeRead Size r m → NotMeasured r m m' k → ⊥
 can_not {r} {m} {m'} {k} can h = no_answer (measured_is r m m' k h) (can_be_read_is Size r m can)

@@ -1,4 +1,5 @@
 pub mod Budgets
+pub mod Charges
 pub mod Computed
 pub mod Copies
 pub mod Inverted
@@ -16,10 +17,11 @@ pub mod Stops
 pub mod Truths
 pub mod Refusals
 pub mod Unreadable
-pub mod Expecting
-pub mod ExpectedComputed
-pub mod Typing
 pub mod TypesComputed
-pub mod Measures
 pub mod Shorthands
 pub mod Walked
+pub mod Measures
+pub mod Expecting
+pub mod ExpectedComputed
+pub mod Entries
+pub mod Shapes

@@ -1,6 +1,6 @@
 -- The type of a pointer: the function `pointer_type` returns what the relations `IsOfType` and
 -- `HasNoType` state, and they state what it returns.
-use Rattle.std.proofs.Common.{◌≡◌, ◌≢◌, ◌⊎◌, inl, inr, false, nat_eq, Result, Ok, Err, refl, sym, ap, ap₂, ◌∙◌, subst}
+use Rattle.std.proofs.Common.{◌≡◌, ◌≢◌, ◌⊎◌, inl, inr, false, nat_eq, Result, Ok, Err, IsOk, IfOk, IfErr, ◌↔◌, refl, sym, ap, ap₂, ◌∙◌, subst}
 use Rattle.std.proofs.lemmas.Bool.{ne_eqb}
 use Rattle.capnp_words.specs.declared.error.ErrorKind.{ErrorKind}
 use Rattle.capnp_words.specs.declared.error.ErrorKind.TheVariants.{ReadLimitExceeded}
@@ -70,3 +70,16 @@ untyped_if r m m' k e = elim (typed_or_not r m) [
   | inl (u, n, h) ↦ absurd (not_both (typed_is r m n u h) e)
   | inr (l, n, h) ↦ of_same_refusal (HasNoType r m) (untyped_is r m n l h) e h
 ]
+
+-- what a call that computes `pointer_type` returned
+pub typed_ok : (r : Reading) (m m' : Meter) (result : Result PointerType ErrorKind) → pointer_type r m ≡ (result, m') → IfOk result (IsOfType r m m')
+typed_ok r m m' (Ok t) e = typed_if r m m' t e
+typed_ok r m m' (Err k) e = tt
+
+pub typed_exactly : (r : Reading) (m m' : Meter) (result : Result PointerType ErrorKind) → pointer_type r m ≡ (result, m') → IsOk result ↔ ((t : PointerType) × (left : Meter) × IsOfType r m left t)
+typed_exactly r m m' (Ok t) e = ((λ _. (t, m', typed_if r m m' t e)), (λ _. refl))
+typed_exactly r m m' (Err k) e = ((λ f. absurd (cc f)), (λ h. absurd (not_both (typed_is r m h.1 h.0 h.2) e)))
+
+pub untyped_refused : (r : Reading) (m m' : Meter) (result : Result PointerType ErrorKind) → pointer_type r m ≡ (result, m') → IfErr result (HasNoType r m m')
+untyped_refused r m m' (Ok t) e = tt
+untyped_refused r m m' (Err k) e = untyped_if r m m' k e

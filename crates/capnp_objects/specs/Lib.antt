@@ -11,7 +11,6 @@ pub mod Refusals
 pub mod Expected
 pub mod Types
 pub mod Objects
-pub mod Landings
 pub mod Entering
 pub mod Measures
 pub mod Metered

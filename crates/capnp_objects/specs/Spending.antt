@@ -1,8 +1,6 @@
 -- What reading takes of a limiter: words of its budget, and pointers that it counts as followed.
-use Rattle.std.specs.Prelude.{◌≡◌, ◌↔◌, ℕ, Bool, true, false, ◌+◌, Result, IsOk, OnOk, OnErr, IfErr}
-use Rattle.capnp_words.specs.declared.error.ErrorKind.{ErrorKind}
-use Rattle.capnp_words.specs.declared.error.ErrorKind.TheVariants.{ReadLimitExceeded}
-use Rattle.capnp_words.specs.Meter.{Meter, less, raised, Affords, charged}
+use Rattle.std.specs.Prelude.{◌≡◌, ℕ, Bool, true, false, ◌+◌}
+use Rattle.capnp_words.specs.Meter.{Meter, less, raised, Affords}
 use Rattle.capnp_format.specs.Tree.{Tree, Null, Capability, Struct, Flat, Pointers, Structs, Trees}
 use Rattle.capnp_format.specs.Tree.{no_trees, tree, Elements, no_elements, element}
 
@@ -16,15 +14,6 @@ after false m g r = m
 pub record Paid (charging : Bool) (m m' : Meter) (g r : ℕ) : Type 0 where
   pub covers : Affords charging m g
   pub spent : m' ≡ after charging m g r
-
--- Words are requested, from m to m'. They are granted exactly if m covers them; a refusal takes
--- nothing, and is `ReadLimitExceeded`.
-pub record ChargesFor {A : Type 0} (words : ℕ) (charging : Bool) (m m' : Meter)
-    (result : Result A ErrorKind) : Type 0 where
-  pub exactly : IsOk result ↔ Affords charging m words
-  pub granted : OnOk result (m' ≡ charged charging m words)
-  pub refused : OnErr result (m' ≡ m)
-  pub named : IfErr result (λ k. k ≡ ReadLimitExceeded)
 
 -- The number of subtrees that aren't Null, the value itself included, each as often as it occurs.
 abbrev mutual

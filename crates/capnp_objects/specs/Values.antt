@@ -65,22 +65,21 @@ value_within form (suc n) r =
 abbrev pub value : Form → Reading → Metered Tree
 value form r = value_within form r.levels r
 
--- Enters the object at the target a, for a call that expects one of some kind. It has one level,
--- because the level is checked separately.
+-- Enters the object at the target a, for a call that expects one of some kind.
 abbrev pub enter_expected : Expectation → Reading → Target → Metered Shape
 enter_expected expected r a =
     refuse_if (expected.another_kind a.word) >>> λ _.
-    enter Value (record r { levels = 1 }) a >>> λ o.
+    enter Value r a >>> λ o.
     refuse_if (expected.misfit r.segments a) >>> λ _.
     answer o
 
--- Reads the object at a place, for a call that expects one of some kind: a line for each check and
--- each charge.
+-- Reads the object at a place, for a call that expects one of some kind. The object is entered with
+-- one level, because the level is checked separately.
 abbrev pub expect : Expectation → Reading → Metered Shape
 expect expected r =
     if nat_eq (word_of r) 0 then answer nothing else (
     refuse_if (expected.too_deep r.levels) >>> λ _.
-    follow r >>> λ a. enter_expected expected r a)
+    follow r >>> λ a. enter_expected expected (record r { levels = 1 }) a)
 
 -- Reads the type of the pointer at a place.
 abbrev pub pointer_type : Reading → Metered PointerType

@@ -1,19 +1,22 @@
 //! What readers read from: an arena, a field's default value, or nothing. A pointer is read in two
 //! steps, each with its checks and charges: following the pointer, and entering the object that it
 //! leads to.
-ghost use Rattle.std.specs.Prelude.{◌≡◌, ◌<◌, ◌≤◌, ◌↔◌, IfOk, IsOk, OnOk, OnErr, IfErr, length};
+ghost use Rattle.std.specs.Prelude.{◌≡◌, ◌<◌, ◌≤◌, ◌+◌, ◌↔◌, IfOk, IsOk, IfErr, length};
 ghost use Rattle.capnp_format.specs.Word.{kind, element_size};
 ghost use Rattle.capnp_words.specs.Meter.{counted_once};
 ghost use Rattle.capnp_objects.specs.Source.{levels};
 ghost use Rattle.capnp_format.specs.Bytes.{message};
 ghost use Rattle.capnp_objects.specs.declared.object.Purpose.{Purpose};
 ghost use Rattle.capnp_objects.specs.declared.object.Purpose.TheVariants.{Value, Size};
-ghost use Rattle.capnp_objects.specs.Demands.{claim, count_charge, IsStructList, IsVoidList};
+ghost use Rattle.capnp_objects.specs.Demands.{claim, count_charge};
 ghost use Rattle.capnp_objects.specs.Reading.{source_start, reading_at, pointer_at};
-ghost use Rattle.capnp_objects.specs.Spending.{ChargesFor};
 ghost use Rattle.capnp_objects.specs.Objects.{EntersNear, IsObject, IsHeld, IsWordRead, IsFew};
 ghost use Rattle.capnp_objects.specs.Refusals.{NotRead, CanBeRead};
-ghost use Rattle.capnp_objects.specs.Landings.{following, far_in, IsPad, IsFollowed, NotFollowed};
+ghost use Rattle.capnp_format.specs.Word.{is_double};
+ghost use Rattle.capnp_objects.specs.Enter.{has_level, read, follow, near_shape};
+ghost use Rattle.capnp_objects.specs.Entering.{found_result, follow_pads, IsPad, enter_plain, ReadsAs};
+ghost use Rattle.capnp_objects.specs.Follow.{follow_far, ◌>=>◌};
+ghost use Rattle.capnp_objects.specs.Metered.{◌>>>◌, charge_words};
 
 mod expected;
 mod landing;
@@ -85,41 +88,40 @@ impl<'a, A: ReaderArena> Source<'a, A> {
         ensures refused { IfErr result (NotRead Value
             (reading_at A.ReaderArena self.entry place.entry nesting_limit) lim.old lim.new) }
     {
+        self.read_place(Purpose::Value, place, nesting_limit, lim)
+    }
+
+    // Reads the object that the pointer at a place leads to, for its value or only for its size.
+    #[inline(always)]
+    fn read_place(
+        self,
+        purpose: Purpose,
+        place: Place<'a>,
+        nesting_limit: i32,
+        lim: &mut ReadLimiter,
+    ) -> Result<Object<'a>, ErrorKind>
+        requires { IsHeld (source_start A.ReaderArena self).segments place }
+        ensures { let r = reading_at A.ReaderArena self.entry place.entry nesting_limit in
+            ReadsAs (read purpose r) r.segments lim.old lim.new result }
+    {
         let word = place.word();
         if word.is_null() {
             return Ok(Object::Null);
+        }
+        let depth = depth_of(nesting_limit);
+        if !has_level(purpose, depth) {
+            return Err(ErrorKind::MessageIsTooDeeplyNested);
         }
         let pointer = PointerWord {
             place,
             word,
             nesting_limit,
         };
-        self.read_pointer(Purpose::Value, pointer, lim)
-    }
-
-    // Reads the object that a pointer word leads to. Preconditions: the word isn't zero; for the
-    // size only, a level is left.
-    #[inline(always)]
-    fn read_pointer(
-        self,
-        purpose: Purpose,
-        pointer: PointerWord<'a>,
-        lim: &mut ReadLimiter,
-    ) -> Result<Object<'a>, ErrorKind>
-        requires word { IsWordRead (pointer_at A.ReaderArena self pointer) pointer }
-        requires level { purpose ≡ Size → 0 < levels pointer.nesting_limit }
-        ensures object { IfOk result (IsObject purpose
-            (pointer_at A.ReaderArena self.entry pointer.entry) lim.old lim.new) }
-        ensures few { IfOk result IsFew }
-        ensures refused { IfErr result (NotRead purpose
-            (pointer_at A.ReaderArena self.entry pointer.entry) lim.old lim.new) }
-    {
-        self.count(lim);
         let found = self.follow(pointer, lim)?;
         let entrance = Entrance {
             source: self,
             found,
-            depth: depth_of(pointer.nesting_limit),
+            depth,
         };
         entrance.enter(purpose, lim)
     }
@@ -179,15 +181,10 @@ impl<'a, A: ReaderArena> Source<'a, A> {
     ) -> Result<u32, ErrorKind>
         requires word { IsWordRead (pointer_at A.ReaderArena self pointer) pointer }
         requires near { kind pointer.word.0 < 2 }
-        requires of_bits { IsVoidList pointer.word.0 → ⊥ }
-        requires untagged { IsStructList pointer.word.0 → ⊥ }
         requires claimed { words ≡ claim pointer.word.0 }
-        ensures object { (purpose : Purpose) → IfOk result (EntersNear purpose
-            (pointer_at A.ReaderArena self.entry pointer.entry) lim.old lim.new) }
-        ensures refused { (purpose : Purpose) → IfErr result (NotRead purpose
-            (pointer_at A.ReaderArena self.entry pointer.entry) lim.old lim.new) }
+        ensures { let r = pointer_at A.ReaderArena self.entry pointer.entry in
+            (follow r >>> λ a. enter_plain r a) lim.old ≡ (near_shape r result, lim.new) }
     {
-        self.count(lim);
         let found = self.follow(pointer, lim)?;
         let entrance = Entrance {
             source: self,
@@ -214,8 +211,8 @@ impl<'a, A: ReaderArena> Source<'a, A> {
 
     // Charges words, if the source is an arena.
     fn charge(self, words: u64, lim: &mut ReadLimiter) -> Result<(), ErrorKind>
-        ensures { ChargesFor words (source_start A.ReaderArena self.entry).charging
-            lim.old lim.new result }
+        ensures { charge_words (source_start A.ReaderArena self.entry).charging words lim.old
+            ≡ (result, lim.new) }
     {
         match self {
             Source::Arena(arena) => arena.amplified_read(words, lim),
@@ -231,8 +228,8 @@ impl<'a, A: ReaderArena> Source<'a, A> {
         count: u32,
         lim: &mut ReadLimiter,
     ) -> Result<(), ErrorKind>
-        ensures { ChargesFor (count_charge purpose width count)
-            (source_start A.ReaderArena self.entry).charging lim.old lim.new result }
+        ensures { charge_words (source_start A.ReaderArena self.entry).charging
+            (count_charge purpose width count) lim.old ≡ (result, lim.new) }
     {
         if width > 0 {
             return Ok(());
@@ -243,16 +240,17 @@ impl<'a, A: ReaderArena> Source<'a, A> {
         }
     }
 
-    // Follows a pointer word. Precondition: it isn't zero. A default has no segment that a far
-    // pointer could name.
+    // Follows a pointer word, and counts it. Precondition: it isn't zero. A default has no segment
+    // that a far pointer could name.
     #[inline(always)]
     fn follow(self, pointer: PointerWord<'a>, lim: &mut ReadLimiter) -> Result<Found<'a>, ErrorKind>
         requires { IsWordRead (pointer_at A.ReaderArena self pointer) pointer }
-        ensures followed { IfOk result (IsFollowed
-            (following (pointer_at A.ReaderArena self.entry pointer.entry)) lim.old lim.new) }
-        ensures refused { IfErr result (NotFollowed
-            (following (pointer_at A.ReaderArena self.entry pointer.entry)) lim.old lim.new) }
+        ensures held { IfOk result
+            (λ found. IsHeld (source_start A.ReaderArena self.entry).segments found.start) }
+        ensures computed { follow (pointer_at A.ReaderArena self.entry pointer.entry) lim.old
+            ≡ (found_result result, lim.new) }
     {
+        self.count(lim);
         let PointerWord { place, word, .. } = pointer;
         if word.kind() == WirePointerKind::Far {
             return match self {
@@ -280,10 +278,9 @@ fn follow_far<'a, A: ReaderArena>(
 ) -> Result<Found<'a>, ErrorKind>
     requires some { 0 < length (message (A.segments arena.now)) }
     requires is_far { kind far.0 ≡ 2 }
-    ensures followed { IfOk result (IsFollowed (far_in A.ReaderArena arena.now far)
-        lim.old lim.new) }
-    ensures refused { IfErr result (NotFollowed (far_in A.ReaderArena arena.now far)
-        lim.old lim.new) }
+    ensures held { IfOk result (λ found. IsHeld (message (A.segments arena.now)) found.start) }
+    ensures computed { follow_pads (message (A.segments arena.now)) (A.charging arena.now) far.0
+        lim.old ≡ (found_result result, lim.new) }
 {
     let pad = landing_pad(arena, far, lim)?;
     let word = pad.word();
@@ -323,14 +320,15 @@ fn landing_pad<'a, A: ReaderArena>(
 ) -> Result<Place<'a>, ErrorKind>
     requires some { 0 < length (message (A.segments arena.now)) }
     requires is_far { kind far.0 ≡ 2 }
-    ensures pad { IfOk result (IsPad (far_in A.ReaderArena arena.now far) lim.old lim.new) }
-    ensures refused { IfErr result (NotFollowed (far_in A.ReaderArena arena.now far)
-        lim.old lim.new) }
+    ensures pad { IfOk result (IsPad (message (A.segments arena.now)) far.0) }
+    ensures computed { let S = message (A.segments arena.now) in
+        follow_pads S (A.charging arena.now) far.0 lim.old
+        ≡ (result >=> λ _. follow_far S far.0 (is_double far.0), lim.new) }
 {
     let id = far.far_segment_id();
     let bytes = arena.get_segment(id)?;
     let at = far.far_position_in_segment();
-    let words: u32 = if far.is_double_far() { 2 } else { 1 };
+    let words = pad_words(far);
     if (at + words) as usize > bytes.len() / 8 {
         return Err(ErrorKind::MessageContainsOutOfBoundsPointer);
     }
@@ -340,6 +338,23 @@ fn landing_pad<'a, A: ReaderArena>(
         bytes,
         at,
     })
+}
+
+// The number of words of the landing pad of a far pointer.
+fn pad_words(far: WirePointer) -> u32
+    ensures { result ≡ 1 + is_double far.0 }
+{
+    if far.is_double_far() { 2 } else { 1 }
+}
+
+// Whether a level is left, as far as it is checked before the pointer is followed.
+fn has_level(purpose: Purpose, depth: u32) -> bool
+    ensures { result ≡ has_level purpose depth }
+{
+    match purpose {
+        Purpose::Value => true,
+        Purpose::Size => depth > 0,
+    }
 }
 
 // The number of levels that a nesting limit leaves.

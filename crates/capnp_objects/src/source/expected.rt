@@ -6,9 +6,9 @@ ghost use Rattle.capnp_words.specs.Sizes.{size_number};
 ghost use Rattle.capnp_objects.specs.declared.object.Purpose.TheVariants.{Value};
 ghost use Rattle.capnp_objects.specs.Reading.{source_start, reading_at};
 ghost use Rattle.capnp_objects.specs.Objects.{IsObject, IsHeld, IsFew};
-ghost use Rattle.capnp_objects.specs.Landings.{arrival, IsOpened};
 ghost use Rattle.capnp_objects.specs.Expected.{expectation, narrow_elements, narrow_structs, CanBeGiven, IsGiven, Withheld};
-ghost use Rattle.capnp_objects.specs.Entering.{object_misfit, place_byte, IsAtHand, IsUnsuited};
+ghost use Rattle.capnp_objects.specs.Entering.{found_target, entered_from, ReadsAs, object_misfit, place_byte, IsAtHand};
+ghost use Rattle.capnp_objects.specs.Values.{enter_expected, expect};
 
 use super::landing::Entrance;
 use super::{Source, depth_of};
@@ -55,6 +55,22 @@ impl<'a, A: ReaderArena> Source<'a, A> {
             (Withheld (expectation expected)
             (reading_at A.ReaderArena self.entry place.entry nesting_limit) lim.old lim.new) }
     {
+        self.expect(expected, place, nesting_limit, lim)
+    }
+
+    // Reads the object that the pointer at a place leads to, if it is as expected.
+    #[inline(always)]
+    fn expect(
+        self,
+        expected: Expected,
+        place: Place<'a>,
+        nesting_limit: i32,
+        lim: &mut ReadLimiter,
+    ) -> Result<Object<'a>, ErrorKind>
+        requires { IsHeld (source_start A.ReaderArena self).segments place }
+        ensures { let r = reading_at A.ReaderArena self.entry place.entry nesting_limit in
+            ReadsAs (expect (expectation expected) r) r.segments lim.old lim.new result }
+    {
         let word = place.word();
         if word.is_null() {
             return Ok(Object::Null);
@@ -63,7 +79,6 @@ impl<'a, A: ReaderArena> Source<'a, A> {
             Some(kind) => return Err(kind),
             None => {}
         }
-        self.count(lim);
         let pointer = PointerWord {
             place,
             word,
@@ -87,15 +102,9 @@ impl<'a, A: ReaderArena> Entrance<'a, A> {
         expected: Expected,
         lim: &mut ReadLimiter,
     ) -> Result<Object<'a>, ErrorKind>
-        ensures object { IfOk result (IsOpened Value (arrival A.ReaderArena self.entry)
-            lim.old lim.new) }
-        ensures of_kind { IsOk result
-            → (expectation expected).another_kind self.entry.found.word.0 ≡ None }
-        ensures fits { IfOk result (λ object. object_misfit expected object ≡ None) }
-        ensures few { IfOk result IsFew }
-        ensures refused { IfErr result
-            (IsUnsuited (expectation expected) (arrival A.ReaderArena self.entry)
-            lim.old lim.new) }
+        ensures { let r = entered_from A.ReaderArena self.entry in
+            ReadsAs (enter_expected (expectation expected) r (found_target self.entry.found))
+            r.segments lim.old lim.new result }
     {
         match name_of_kind(expected, self.found.word) {
             Some(kind) => return Err(kind),

@@ -1,8 +1,8 @@
 //! Enters the object that a followed pointer leads to: checks and charges the words that the object
 //! claims.
 ghost use Rattle.std.specs.Prelude.{◌≡◌, ⊤};
-ghost use Rattle.capnp_words.specs.declared.error.ErrorKind.TheVariants.{CantHandleNonStructInlineComposite, InlineCompositeListsOfNonStructTypeAreNotSupported};
-ghost use Rattle.capnp_objects.specs.declared.object.Purpose.TheVariants.{Value, Size};
+ghost use Rattle.capnp_objects.specs.declared.object.Purpose.TheVariants.{Size};
+ghost use Rattle.capnp_objects.specs.Enter.{no_tag_name};
 ghost use Rattle.capnp_objects.specs.Objects.{IsHeld};
 ghost use Rattle.capnp_objects.specs.Reading.{source_start};
 
@@ -38,12 +38,13 @@ impl<'a, A: ReaderArena> Clone for Entrance<'a, A> {
 impl<'a, A: ReaderArena> Copy for Entrance<'a, A> {}
 
 impl<'a, A: ReaderArena> Entrance<'a, A> {
-    ghost use Rattle.std.specs.Prelude.{◌<◌, ◌≤◌, OnOk, IfErr};
+    ghost use Rattle.std.specs.Prelude.{◌<◌, ◌≤◌};
     ghost use Rattle.capnp_format.specs.Word.{kind, element_size};
     ghost use Rattle.capnp_words.specs.Sizes.{size_number};
     ghost use Rattle.capnp_objects.specs.declared.object.Purpose.{Purpose};
     ghost use Rattle.capnp_objects.specs.Demands.{claim, IsStructList, IsVoidList};
-    ghost use Rattle.capnp_objects.specs.Landings.{arrival, IsClaimed, NotEntered, Enters};
+    ghost use Rattle.capnp_objects.specs.Enter.{enter_object, enter};
+    ghost use Rattle.capnp_objects.specs.Entering.{found_target, entered_from, claim_words, enter_plain, enter_void, enter_structs, ReadsAs};
 
     // Enters the object that a pointer leads to, which takes one of the levels. Precondition for
     // the size only: a level is left.
@@ -54,7 +55,9 @@ impl<'a, A: ReaderArena> Entrance<'a, A> {
         lim: &mut ReadLimiter,
     ) -> Result<Object<'a>, ErrorKind>
         requires level { purpose ≡ Size → 0 < self.depth }
-        ensures { Enters purpose (arrival A.ReaderArena self.entry) lim.old lim.new result }
+        ensures { let r = entered_from A.ReaderArena self.entry in
+            ReadsAs (enter purpose r (found_target self.entry.found)) r.segments
+            lim.old lim.new result }
     {
         match self.found.word.kind() {
             WirePointerKind::Struct => self.enter_struct(purpose, lim),
@@ -73,13 +76,9 @@ impl<'a, A: ReaderArena> Entrance<'a, A> {
     // Checks and charges the words that an object claims.
     #[inline(always)]
     pub(crate) fn claim(self, words: u32, lim: &mut ReadLimiter) -> Result<(), ErrorKind>
-        requires is_object { kind self.found.word.0 < 2 }
-        requires claimed { words ≡ claim self.found.word.0 }
-        ensures claimed { OnOk result (IsClaimed (arrival A.ReaderArena self.entry)
-            lim.old lim.new) }
-        ensures refused { IfErr result (λ k. (purpose : Purpose)
-            → (IsVoidList self.entry.found.word.0 → purpose ≡ Value)
-            → NotEntered purpose (arrival A.ReaderArena self.entry) lim.old lim.new k) }
+        requires { words ≡ claim self.found.word.0 }
+        ensures { claim_words (entered_from A.ReaderArena self.entry) (found_target self.entry.found)
+            lim.old ≡ (result, lim.new) }
     {
         if self.depth == 0 {
             return Err(ErrorKind::MessageIsTooDeeplyNestedOrContainsCycles);
@@ -95,7 +94,9 @@ impl<'a, A: ReaderArena> Entrance<'a, A> {
     #[inline(always)]
     fn enter_struct(self, purpose: Purpose, lim: &mut ReadLimiter) -> Result<Object<'a>, ErrorKind>
         requires { kind self.found.word.0 ≡ 0 }
-        ensures { Enters purpose (arrival A.ReaderArena self.entry) lim.old lim.new result }
+        ensures { let r = entered_from A.ReaderArena self.entry in
+            ReadsAs (enter_plain r (found_target self.entry.found)) r.segments
+            lim.old lim.new result }
     {
         self.claim(self.found.word.struct_word_size(), lim)?;
         Ok(Object::Struct {
@@ -109,7 +110,9 @@ impl<'a, A: ReaderArena> Entrance<'a, A> {
     fn enter_list(self, purpose: Purpose, lim: &mut ReadLimiter) -> Result<Object<'a>, ErrorKind>
         requires is_list { kind self.found.word.0 ≡ 1 }
         requires level { purpose ≡ Size → 0 < self.depth }
-        ensures { Enters purpose (arrival A.ReaderArena self.entry) lim.old lim.new result }
+        ensures { let r = entered_from A.ReaderArena self.entry in
+            ReadsAs (enter_object purpose r (found_target self.entry.found)) r.segments
+            lim.old lim.new result }
     {
         match self.found.word.list_element_size() {
             ElementSize::InlineComposite => self.enter_structs(purpose, lim),
@@ -124,7 +127,9 @@ impl<'a, A: ReaderArena> Entrance<'a, A> {
     fn enter_void(self, purpose: Purpose, lim: &mut ReadLimiter) -> Result<Object<'a>, ErrorKind>
         requires of_void { IsVoidList self.found.word.0 }
         requires level { purpose ≡ Size → 0 < self.depth }
-        ensures { Enters purpose (arrival A.ReaderArena self.entry) lim.old lim.new result }
+        ensures { let r = entered_from A.ReaderArena self.entry in
+            ReadsAs (enter_void purpose r (found_target self.entry.found)) r.segments
+            lim.old lim.new result }
     {
         let start = self.found.start;
         let size = ElementSize::Void;
@@ -149,7 +154,9 @@ impl<'a, A: ReaderArena> Entrance<'a, A> {
         requires is_list { kind self.found.word.0 ≡ 1 }
         requires is_size { size_number size ≡ element_size self.found.word.0 }
         requires of_bits { (0 < size_number size) × (size_number size ≤ 5) }
-        ensures { Enters purpose (arrival A.ReaderArena self.entry) lim.old lim.new result }
+        ensures { let r = entered_from A.ReaderArena self.entry in
+            ReadsAs (enter_plain r (found_target self.entry.found)) r.segments
+            lim.old lim.new result }
     {
         let count = self.found.word.list_element_count();
         self.claim(flat_words(size, count), lim)?;
@@ -168,7 +175,9 @@ impl<'a, A: ReaderArena> Entrance<'a, A> {
         lim: &mut ReadLimiter,
     ) -> Result<Object<'a>, ErrorKind>
         requires { (kind self.found.word.0 ≡ 1) × (element_size self.found.word.0 ≡ 6) }
-        ensures { Enters purpose (arrival A.ReaderArena self.entry) lim.old lim.new result }
+        ensures { let r = entered_from A.ReaderArena self.entry in
+            ReadsAs (enter_plain r (found_target self.entry.found)) r.segments
+            lim.old lim.new result }
     {
         let count = self.found.word.list_element_count();
         self.claim(count, lim)?;
@@ -182,7 +191,9 @@ impl<'a, A: ReaderArena> Entrance<'a, A> {
     #[inline(always)]
     fn enter_structs(self, purpose: Purpose, lim: &mut ReadLimiter) -> Result<Object<'a>, ErrorKind>
         requires { IsStructList self.found.word.0 }
-        ensures { Enters purpose (arrival A.ReaderArena self.entry) lim.old lim.new result }
+        ensures { let r = entered_from A.ReaderArena self.entry in
+            ReadsAs (enter_structs purpose r (found_target self.entry.found)) r.segments
+            lim.old lim.new result }
     {
         let words = self.found.word.list_inline_composite_word_count();
         self.claim(words + 1, lim)?;
@@ -209,9 +220,7 @@ impl<'a, A: ReaderArena> Entrance<'a, A> {
 
 // The refusal of a list of structs without a tag.
 fn name_of_non_struct_tag(purpose: Purpose) -> ErrorKind
-    ensures value { purpose ≡ Value
-        → result ≡ InlineCompositeListsOfNonStructTypeAreNotSupported }
-    ensures size { purpose ≡ Size → result ≡ CantHandleNonStructInlineComposite }
+    ensures { result ≡ no_tag_name purpose }
 {
     match purpose {
         Purpose::Value => ErrorKind::InlineCompositeListsOfNonStructTypeAreNotSupported,

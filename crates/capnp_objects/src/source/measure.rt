@@ -45,19 +45,7 @@ impl<'a, A: ReaderArena> Source<'a, A> {
         ensures computed { read Size (reading_at A.ReaderArena self.entry place.entry nesting_limit)
             lim.old ≡ (result_shape result, lim.new) }
     {
-        let word = place.word();
-        if word.is_null() {
-            return Ok(Object::Null);
-        }
-        if depth_of(nesting_limit) == 0 {
-            return Err(ErrorKind::MessageIsTooDeeplyNested);
-        }
-        let pointer = PointerWord {
-            place,
-            word,
-            nesting_limit,
-        };
-        self.read_pointer(Purpose::Size, pointer, lim)
+        self.read_place(Purpose::Size, place, nesting_limit, lim)
     }
 
     /// Reads the object that `pointer` leads to only for its size, like `measure_object`. Returns

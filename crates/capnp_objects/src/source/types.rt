@@ -5,6 +5,7 @@ ghost use Rattle.capnp_words.specs.declared.wire_pointer.PointerType.{PointerTyp
 ghost use Rattle.capnp_objects.specs.Reading.{source_start, reading_at};
 ghost use Rattle.capnp_objects.specs.Objects.{IsHeld};
 ghost use Rattle.capnp_objects.specs.Types.{type_of, IsOfType, HasNoType};
+ghost use Rattle.capnp_objects.specs.Values.{pointer_type};
 
 use super::Source;
 use crate::object::{Place, PointerWord};
@@ -39,11 +40,24 @@ impl<'a, A: ReaderArena> Source<'a, A> {
             (HasNoType (reading_at A.ReaderArena self.entry place.entry nesting_limit)
             lim.old lim.new) }
     {
+        self.type_at(place, nesting_limit, lim)
+    }
+
+    // Reads the type of the pointer at a place.
+    fn type_at(
+        self,
+        place: Place<'a>,
+        nesting_limit: i32,
+        lim: &mut ReadLimiter,
+    ) -> Result<PointerType, ErrorKind>
+        requires { IsHeld (source_start A.ReaderArena self).segments place }
+        ensures { pointer_type (reading_at A.ReaderArena self.entry place.entry nesting_limit) lim.old
+            ≡ (result, lim.new) }
+    {
         let word = place.word();
         if word.is_null() {
             return Ok(PointerType::Null);
         }
-        self.count(lim);
         let pointer = PointerWord {
             place,
             word,

@@ -1,19 +1,23 @@
-use Rattle.std.proofs.Common.{arith, eq-eqb}
+use Rattle.std.proofs.Common.{◌≡◌, ◌≢◌, ◌<◌, arith, eq-eqb}
 use Rattle.capnp_format.specs.Word.{kind}
+use Rattle.capnp_objects.specs.Demands.{IsStructList}
 use Rattle.capnp_objects.specs.declared.object.Purpose.TheVariants.{Value}
+use Rattle.capnp_objects.specs.Reading.{Reading, pointer_at, word_of}
+use Rattle.capnp_objects.proofs.Shapes.{near_read, near_entered, near_refused}
 use Rattle.capnp_objects.proofs.source.Source.read_near_struct.Goals as goal
-
-pub enter_near-requires-clause-of_bits : goal.enter_near-requires-clause-of_bits
-enter_near-requires-clause-of_bits g c = λ void. absurd (omega (arith, void.0, c.requires.is_struct))
-
-pub enter_near-requires-clause-untagged : goal.enter_near-requires-clause-untagged
-enter_near-requires-clause-untagged g c = λ tagged. absurd (omega (arith, tagged.0, c.requires.is_struct))
 
 pub enter_near-requires-clause-claimed : goal.enter_near-requires-clause-claimed
 enter_near-requires-clause-claimed g c = search (c.struct_word_size.ensures, eq-eqb (kind c.args.pointer.word.0) 0 c.requires.is_struct)
 
-pub returns-clause-object : goal.returns-clause-object
-returns-clause-object g c = c.enter_near.ensures.object Value
-
-pub returns-clause-refused : goal.returns-clause-refused
-returns-clause-refused g c = c.enter_near.ensures.refused Value
+pub returns : goal.returns
+returns g c =
+    let r : Reading = pointer_at g.A.ReaderArena c.args.self c.args.pointer in
+    let some : word_of r ≢ 0 = rw c.requires.word.there at c.requires.word.some in
+    let is_it : kind (word_of r) ≡ 0 = rw c.requires.word.there at c.requires.is_struct in
+    let near : kind (word_of r) < 2 = omega (arith, is_it) in
+    let untagged : IsStructList (word_of r) → ⊥ = λ t. omega (arith, t.0, is_it) in
+    let computed = near_read Value r c.args.lim.now some near (λ v. omega (arith, v.0, is_it)) untagged (λ e. absurd (cc e)) c.enter_near.ensures in
+    record {
+      object = near_entered Value r c.args.lim.now c.enter_near.new.lim c.enter_near.result some near untagged (λ e. absurd (cc e)) computed;
+      refused = near_refused r c.args.lim.now c.enter_near.new.lim c.enter_near.result computed;
+    }

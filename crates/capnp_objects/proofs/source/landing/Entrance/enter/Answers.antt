@@ -1,10 +1,14 @@
-use Rattle.std.proofs.Common.{inl, refl, sym}
-use Rattle.std.proofs.lemmas.Bool.{false≢true}
-use Rattle.capnp_objects.proofs.Landings.{not_opened, refuses_at_once}
+use Rattle.std.proofs.Common.{◌≡◌, ◌∙◌, sym, arith}
+use Rattle.capnp_format.specs.Word.{kind}
+use Rattle.capnp_format.specs.Segments.{Target}
+use Rattle.capnp_objects.specs.Entering.{found_target, entered_from}
+use Rattle.capnp_objects.specs.Reading.{Reading}
+use Rattle.capnp_objects.proofs.Entries.{object_enters, plain_is, reads_as}
 use Rattle.capnp_objects.proofs.source.landing.Entrance.enter.Goals as goal
 
-pub returns-in-Far : goal.returns-in-Far
-returns-in-Far g c = not_opened (refuses_at_once (sym c.in-Far.ensures) refl)
-
-pub returns-else-is_capability : goal.returns-else-is_capability
-returns-else-is_capability g c = not_opened (refuses_at_once (sym c.in-Other.ensures, inl (λ e. false≢true (c.if-is_capability.ensures.1 e))) refl)
+pub returns-in-Struct : goal.returns-in-Struct
+returns-in-Struct g c =
+    let r : Reading = entered_from g.A.ReaderArena c.args.self in
+    let a : Target = found_target c.args.self.found in
+    let z : kind a.word ≡ 0 = sym c.in-Struct.ensures in
+    reads_as (object_enters c.args.purpose r a c.args.lim.now (omega arith) ∙ plain_is c.args.purpose r a c.args.lim.now (omega arith) (λ v. omega (arith, v.0, z)) (λ t. omega (arith, t.0, z))) c.enter_struct.ensures

@@ -1,12 +1,30 @@
-use Rattle.std.proofs.Common.{sym, ◌∙◌}
-use Rattle.capnp_objects.specs.Entering.{misfits}
-use Rattle.capnp_objects.specs.Landings.{arrival}
-use Rattle.capnp_objects.proofs.Expecting.{IsEnteredAs, entered_object, misfit_of}
+use Rattle.std.proofs.Common.{◌∙◌, sym, ap}
+use Rattle.capnp_objects.specs.Enter.{object_shape}
+use Rattle.capnp_objects.specs.Entering.{found_target, entered_from}
+use Rattle.capnp_objects.specs.Metered.{answer, onward, refuse_if}
+use Rattle.capnp_objects.proofs.Expecting.{entered_expected}
 use Rattle.capnp_objects.proofs.source.landing.Entrance.enter_expected.Goals as goal
 
-pub returns-in-Some-name_of_misfit-clause-refused :
-    goal.returns-in-Some-name_of_misfit-clause-refused
-returns-in-Some-name_of_misfit-clause-refused g c =
-    let of_kind = sym c.name_of_kind.ensures ∙ c.in-None.is in
-    let there : IsEnteredAs c.args.expected (arrival g.A.ReaderArena c.args.self) c.args.lim.now c.enter.new.lim c.in_ok-object.object = record { of_kind = of_kind; opened = c.in_ok-object.ensures.object } in
-    misfits of_kind (entered_object c.in_ok-object.object there) (sym (misfit_of c.in_ok-object.object there) ∙ sym c.name_of_misfit.ensures ∙ c.in-Some-name_of_misfit.is)
+pub returns-in-Some-name_of_misfit : goal.returns-in-Some-name_of_misfit
+returns-in-Some-name_of_misfit g c =
+    let object = c.in_ok-object.ensures in
+    record {
+      computed =
+          entered_expected c.args.expected (entered_from g.A.ReaderArena c.args.self) (found_target c.args.self.found) c.args.lim.now c.enter.new.lim c.in_ok-object.object (sym c.name_of_kind.ensures ∙ c.in-None.is) object.computed object.held
+          ∙ ap (λ o. onward (λ _. answer (object_shape c.in_ok-object.object)) (refuse_if o c.enter.new.lim)) (sym c.name_of_misfit.ensures ∙ c.in-Some-name_of_misfit.is);
+      held = tt;
+      few = tt;
+      at_hand = tt;
+    }
+
+pub returns-in-None-name_of_misfit : goal.returns-in-None-name_of_misfit
+returns-in-None-name_of_misfit g c =
+    let object = c.in_ok-object.ensures in
+    record {
+      computed =
+          entered_expected c.args.expected (entered_from g.A.ReaderArena c.args.self) (found_target c.args.self.found) c.args.lim.now c.enter.new.lim c.in_ok-object.object (sym c.name_of_kind.ensures ∙ c.in-None.is) object.computed object.held
+          ∙ ap (λ o. onward (λ _. answer (object_shape c.in_ok-object.object)) (refuse_if o c.enter.new.lim)) (sym c.name_of_misfit.ensures ∙ c.in-None-name_of_misfit.is);
+      held = object.held;
+      few = object.few;
+      at_hand = object.at_hand;
+    }
