@@ -40,3 +40,4 @@ pub mod Growth
 pub mod NoRoom
 pub mod ObjectsMade
 pub mod WordsInside
+pub mod WithinBudget
