@@ -10,3 +10,4 @@ pub mod AnsweredLemmas
 pub mod FramesLemmas
 pub mod AsItStandsLemmas
 pub mod DigestLemmas
+pub mod CanonicalizeLemmas

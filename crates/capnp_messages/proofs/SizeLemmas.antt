@@ -20,13 +20,13 @@ fits_one None h = refl
 fits_one (Some x) h = le-leb 1 x h
 
 -- The root is read, or isn't.
-root_is : (S : Segments) (n : ℕ) (left : Option ℕ) → CoversRoot S left → read_message_root S n (unused left) ≡ (Ok (message_root S n), unused (less left 1))
+pub root_is : (S : Segments) (n : ℕ) (left : Option ℕ) → CoversRoot S left → read_message_root S n (unused left) ≡ (Ok (message_root S n), unused (less left 1))
 root_is S n left covers =
     let there : nat_lt 0 (length (segment S 0)) ≡ true = lt-ltb _ _ covers.root in
     let covered : fits left 1 ≡ true = fits_one left covers.covered in
     rw (there, covered) refl
 
-root_stops : (S : Segments) (n : ℕ) (left : Option ℕ) (k : ErrorKind) → RefusesRoot S left k → read_message_root S n (unused left) ≡ (Err k, unused left)
+pub root_stops : (S : Segments) (n : ℕ) (left : Option ℕ) (k : ErrorKind) → RefusesRoot S left k → read_message_root S n (unused left) ≡ (Err k, unused left)
 root_stops S n left k (no_root named none) =
     let empty : length (segment S 0) ≤ 0 = omega (arith, none) in
     let absent : nat_lt 0 (length (segment S 0)) ≡ false = grind (arith, empty) in

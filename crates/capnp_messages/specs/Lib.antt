@@ -7,5 +7,6 @@ pub mod CopyMemoryLemmas
 pub mod CanonicalErrors
 pub mod CanonicalMessages
 pub mod Messages
+pub mod Canonicalize
 pub mod Commands
 pub mod Digests

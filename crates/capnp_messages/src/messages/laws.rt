@@ -1,13 +1,19 @@
-//! Laws of canonical messages (encoding specification, "Canonicalization"). Each function does
-//! nothing: its contract is the law, proved for all messages.
+//! Laws of canonical messages and their copies (encoding specification, "Canonicalization"). Each
+//! function does nothing: its contract is the law, proved for all messages.
 
-ghost use Rattle.std.specs.Prelude.{◌≡◌, ◌↔◌, ◌≤◌, ℕ};
+ghost use Rattle.std.specs.Prelude.{◌≡◌, ◌↔◌, ◌⊎◌, ◌≤◌, ◌+◌, ℕ, List, Some, Ok, Err};
+ghost use Rattle.capnp_words.specs.declared.error.ErrorKind.{ErrorKind};
+ghost use Rattle.capnp_words.specs.declared.error.ErrorKind.TheVariants.{MessageTooLarge};
 ghost use Rattle.capnp_format.specs.Segments.{Segments};
 ghost use Rattle.capnp_format.specs.Tree.{Tree, depth};
 ghost use Rattle.capnp_format.specs.Means.{Means};
-ghost use Rattle.capnp_format.specs.Canonical.{charge};
+ghost use Rattle.capnp_format.specs.Canonical.{charge, encoding, trim, word_count};
+ghost use Rattle.capnp_arena_traits.specs.Allocations.{max_segment_words};
+ghost use Rattle.capnp_arena.specs.declared.arena.reader_arena_impl.ReaderOptions.{ReaderOptions};
 ghost use Rattle.capnp_framing.specs.Frames.{CanBeFramed, frame};
 ghost use Rattle.capnp_messages.specs.CanonicalMessages.{IsCanonicalOf};
+ghost use Rattle.capnp_messages.specs.Canonicalize.{OutgrowsSegment, canonicalize};
+ghost use Rattle.capnp_messages.specs.Messages.{IsValueOf, RefusesCanon};
 
 /// A message is the canonical form of at most one value. Under any nesting limit that is at least
 /// the value's depth, reading the message from its root results in this value, and costs as few
@@ -22,4 +28,26 @@ pub fn canonical_message()
 pub fn canonical_frames()
     ensures { (S R : Segments) (t u : Tree) → CanBeFramed S → CanBeFramed R
         → IsCanonicalOf S t → IsCanonicalOf R u → (frame S ≡ frame R) ↔ (t ≡ u) }
+{}
+
+/// The canonical copy of a message is a function of its segments and the limits: `canonicalize`
+/// returns words exactly if the message means a value without capabilities within both limits and
+/// the value's canonical words fit a segment, and then it returns these words.
+pub fn copies_computed()
+    ensures { (S : Segments) (limits : ReaderOptions) (words : List ℕ)
+        → (canonicalize S limits ≡ Ok words) ↔ ((t : Tree) × IsValueOf S limits t
+        × (1 + word_count (trim t) ≤ max_segment_words) × (words ≡ encoding (trim t))) }
+{}
+
+/// Apart from lack of memory, a canonical copy is refused with the error of `canonicalize`, or with
+/// `MessageTooLarge` if it outgrows a segment (`exactly`). If the traversal limit is at most the
+/// number of words that a segment can have, no copy outgrows one, so a refusal has one name
+/// (`within`).
+pub fn copies_refused()
+    ensures exactly { (S : Segments) (limits : ReaderOptions) (k : ErrorKind)
+        → RefusesCanon S limits k ↔ ((canonicalize S limits ≡ Err k)
+        ⊎ ((k ≡ MessageTooLarge max_segment_words) × OutgrowsSegment S limits)) }
+    ensures within { (S : Segments) (limits : ReaderOptions) (n : ℕ) (k : ErrorKind)
+        → limits.traversal_limit_in_words ≡ Some n → n ≤ max_segment_words
+        → RefusesCanon S limits k ↔ (canonicalize S limits ≡ Err k) }
 {}

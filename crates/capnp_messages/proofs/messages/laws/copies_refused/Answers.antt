@@ -1,0 +1,5 @@
+use Rattle.capnp_messages.proofs.CanonicalizeLemmas.{refusals_are, refusals_within}
+use Rattle.capnp_messages.proofs.messages.laws.copies_refused.Goals as goal
+
+pub returns : goal.returns
+returns c = record { exactly = refusals_are; within = refusals_within }
