@@ -1,5 +1,5 @@
 -- The copy and the test agree, and are about the same value.
-use Rattle.std.proofs.Common.{◌≡◌, ◌↔◌, Bool, true, false, IsTrue, Result, Ok, Err, IfOk, ◌++◌, ℕ, zero, suc, ◌+◌, ◌<◌, ◌≤◌, List, [], ◌∷◌, length, Option, Some, None, refl, sym, ap, ◌∙◌, subst, arith}
+use Rattle.std.proofs.Common.{◌≡◌, ◌↔◌, Bool, true, false, IsTrue, Result, Ok, Err, IfOk, ◌++◌, ℕ, zero, suc, ◌+◌, ◌<◌, ◌≤◌, List, [], ◌∷◌, length, refl, sym, ap, ◌∙◌, subst, arith}
 use Rattle.std.specs.Bool.{OnTrue}
 use Rattle.std.proofs.lemmas.Grind.{common_steps}
 use Rattle.std.proofs.lemmas.List.{append-nil}
@@ -24,6 +24,7 @@ use Rattle.capnp_objects.specs.Source.{levels}
 use Rattle.capnp_messages.specs.CanonicalMessages.{CanBeTested, IsCanonicalMessage, IsCanonicalOf}
 use Rattle.capnp_messages.proofs.CanonicalMessageLemmas.{canonical_length, means_its_value}
 use Rattle.capnp_messages.specs.Messages.{IsValueOf}
+use Rattle.capnp_messages.proofs.AsItStandsLemmas.{covers_less}
 
 pub only_value : (S : Segments) (limits others : ReaderOptions) (t u : Tree) → IsValueOf S limits t → IsValueOf S others u → t ≡ u
 only_value S limits others t u a b =
@@ -87,11 +88,6 @@ same_there V W a b left right of_left of_right = (
   λ same. of_left (words_of a) left ∙ sym (of_right (words_of a) (sym same ∙ left)),
 )
 
--- a limit that covers a cost covers a lesser one
-covers_less : (limit : Option ℕ) (c d : ℕ) → d ≤ c → FitsIn limit c → FitsIn limit d
-covers_less None c d less covered = tt
-covers_less (Some left) c d less covered = omega (arith, less, covered)
-
 pub copy_is_canonical : (S : Segments) (limits : ReaderOptions) (t : Tree) → AreWords S → IsValueOf S limits t → 1 + word_count (trim t) ≤ max_segment_words →
     IsCanonicalOf (encoding (trim t) ∷ []) (trim t) × IsValueOf (encoding (trim t) ∷ []) limits (trim t)
 copy_is_canonical S limits t words a short =
@@ -110,7 +106,7 @@ copy_is_canonical S limits t words a short =
         cost = charge (trim t);
         means = here;
         free = free;
-        covered = covers_less limits.traversal_limit_in_words (1 + a.cost) (1 + charge (trim t)) (omega (arith, cheap)) a.covered;
+        covered = covers_less limits.traversal_limit_in_words (1 + charge (trim t)) (1 + a.cost) (omega (arith, cheap)) a.covered;
       },
     )
 
@@ -150,7 +146,7 @@ fresh_forest = record { means = (0, 0, (refl, refl)); apart = apart; inside = in
 pub value_within : {S : Segments} {limits : ReaderOptions} {t : Tree} → IsCanonicalOf S t → depth t ≤ levels limits.nesting_limit →
     FitsIn limits.traversal_limit_in_words (1 + charge t) → IsValueOf S limits t
 value_within {S} {limits} {t} canonical deep covered = record {
-  root = record { root = omega (arith, canonical_length canonical); covered = covers_less limits.traversal_limit_in_words (1 + charge t) 1 (omega arith) covered };
+  root = record { root = omega (arith, canonical_length canonical); covered = covers_less limits.traversal_limit_in_words 1 (1 + charge t) (omega arith) covered };
   cost = charge t;
   means = means_its_value S t (levels limits.nesting_limit) canonical deep;
   free = canonical.free;

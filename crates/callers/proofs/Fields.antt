@@ -8,7 +8,7 @@ use Rattle.capnp_words.specs.declared.wire_pointer.StructSize.{StructSize}
 use Rattle.capnp_readers.specs.declared.readers.struct_reader.StructPlace.{StructPlace}
 use Rattle.capnp_making.specs.Made.{words_of_zero, nulls, zero_struct}
 use Rattle.capnp_making.specs.Memory.{start_of}
-use Rattle.capnp_making.specs.Path.{Child, node, PathLeads, Step, put_tree, tree_at, update}
+use Rattle.capnp_format.specs.Path.{Child, node, PathLeads, Step, put_tree, tree_at, update}
 use Rattle.capnp_making.specs.Stored.{Puts}
 use Rattle.capnp_making.proofs.Placed.{count-nulls}
 use Rattle.capnp_making.proofs.Paths.{node_of_parts}

@@ -1,5 +1,5 @@
 -- Where a pointer means a value whose canonical words fit a segment, it can be copied there; and what a copy of it leaves there.
-use Rattle.std.proofs.Common.{◌≡◌, ◌↔◌, inl, inr, true, ℕ, ◌+◌, ◌≤◌, List, [], ◌∷◌, length, refl, sym, ap, subst, arith}
+use Rattle.std.proofs.Common.{◌≡◌, ◌↔◌, inl, inr, true, ℕ, ◌+◌, ◌≤◌, [], ◌∷◌, length, refl, sym, ap, subst, arith}
 use Rattle.capnp_words.specs.declared.error.ErrorKind.{ErrorKind}
 use Rattle.capnp_words.specs.Meter.{Meter, FitsIn}
 use Rattle.capnp_format.specs.Forest.{IsForest}
@@ -24,6 +24,7 @@ use Rattle.callers.specs.Truly.{read_at}
 use Rattle.callers.proofs.AgreedLemmas.{fresh_forest}
 use Rattle.callers.proofs.Evenness.{canonical_long}
 use Rattle.callers.proofs.InRoom.{IsFreshRoot, at_first}
+use Rattle.capnp_format.proofs.Slices.{only_segment}
 
 pub fits_here : {S : Segments} {n i j : ℕ} {r : Reading} {m : Meter} (v w : View) (id : ℕ) → r ≡ read_at S n i j → w ≡ v → id ≡ 0 →
     v.words ≡ (0 ∷ []) ∷ [] → (t : Tree) (c : ℕ) → Means S n i j t c → IsFree t → FitsIn m.left c → 1 + word_count (trim t) ≤ v.room 0 →
@@ -42,12 +43,6 @@ fits_here {S} {n} {i} {j} {r} {m} v w id at same first is t c means free covers 
     subst (λ (x : View). CanBeCopied (value_original r) canonical m x id) (sym same)
     (subst (λ (k : ℕ). CanBeCopied (value_original r) canonical m v k) (sym first)
     (subst (λ (x : Reading). CanBeCopied (value_original x) canonical m v 0) (sym at) here))
-
--- a message of one segment is that segment
-only_segment : (S : Segments) (ws : List ℕ) → length S ≡ 1 → segment S 0 ≡ ws → S ≡ ws ∷ []
-only_segment [] ws one is = absurd (omega (arith, one))
-only_segment (x ∷ []) ws one is = ap (λ (s : List ℕ). s ∷ []) is
-only_segment (x ∷ y ∷ S) ws one is = absurd (omega (arith, one))
 
 -- a copy to the root of a fresh message is all of the message exactly if it fits its segment, and means the value in any case
 made_first : (r : Reading) (m after : Meter) (v made : View) → v.words ≡ (0 ∷ []) ∷ [] → length (segment made.words 0) ≤ made.room 0 →

@@ -12,8 +12,8 @@ use Rattle.capnp_arena_traits.specs.Allocations.{max_segment_words}
 use Rattle.capnp_arena_traits.specs.Taking.{IsAllocationRefusal}
 use Rattle.capnp_arena_traits.specs.View.{View}
 use Rattle.capnp_making.specs.Memory.{HasRoom, IsRefusedFor}
-use Rattle.capnp_making.specs.Path.{node, PathLeads}
-use Rattle.capnp_widening.specs.Rooms.{is_allocation_name}
+use Rattle.capnp_format.specs.Path.{node, PathLeads}
+use Rattle.capnp_words.specs.Names.{is_allocation_name}
 use Rattle.capnp_edits.specs.declared.edit.Edit.{Edit}
 use Rattle.capnp_edits.specs.declared.edit.Op.{Op}
 use Rattle.capnp_edits.specs.declared.edit.Op.TheVariants.{InitData, InitList, InitStruct, InitStructList, InitText, SetData, SetText}

@@ -15,7 +15,7 @@ ghost use Rattle.capnp_format.specs.Numbers.{words_for};
 ghost use Rattle.capnp_format.specs.Segments.{segment, IsPlace};
 ghost use Rattle.capnp_format.specs.Tree.{Tree, Null, Struct};
 ghost use Rattle.capnp_making.specs.Made.{words_of_zero, nulls, zero_struct};
-ghost use Rattle.capnp_making.specs.Path.{put_tree};
+ghost use Rattle.capnp_format.specs.Path.{put_tree};
 ghost use Rattle.callers.specs.Meaning.{MeansTheSame};
 
 use capnp_arena::arena::{

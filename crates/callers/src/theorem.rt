@@ -29,7 +29,7 @@ ghost use Rattle.capnp_messages.specs.CanonicalMessages.{IsCanonicalMessage, IsC
 ghost use Rattle.capnp_messages.specs.Commands.{form_bytes};
 ghost use Rattle.capnp_messages.specs.Copies.{LacksMemoryOr, RefusesCopy, RefusesCopyAnywhere};
 ghost use Rattle.capnp_messages.specs.Messages.{HasCanonicalCopy, IsReadable, IsValueOf, RefusesAt, RefusesCanon, RefusesCheck, left_of, root_within};
-ghost use Rattle.capnp_making.specs.Path.{node, PathLeads, Step, update};
+ghost use Rattle.capnp_format.specs.Path.{node, PathLeads, Step, update};
 ghost use Rattle.capnp_format.specs.Forest.{IsForest, target};
 ghost use Rattle.callers.specs.Truly.{AreRefusedTruly, read_at};
 

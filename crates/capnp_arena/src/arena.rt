@@ -16,7 +16,7 @@ mod row;
 mod rows;
 mod scratch_allocator;
 
-pub use allocator::{Allocator, Segment};
+pub use allocator::{Allocator, Segment, keep_in};
 pub use builder_arena_impl::BuilderArenaImpl;
 pub use capnp_arena_traits::arena::{BuilderArena, ReaderArena, SegmentId, WordPlace};
 pub use heap_allocator::{HeapAllocator, HeapSegment};

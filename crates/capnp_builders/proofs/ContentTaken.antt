@@ -10,10 +10,11 @@ use Rattle.capnp_format.specs.Forest.{target, target_in}
 use Rattle.capnp_format.specs.Means.{Means, Leads}
 use Rattle.capnp_format.specs.Segments.{Segments, segment, Target}
 use Rattle.capnp_format.specs.Tree.{Tree, Null, Struct, Trees, no_trees, tree, count}
-use Rattle.capnp_making.specs.Fields.{with_bits, put_field, with_field, field_in}
+use Rattle.capnp_making.specs.Fields.{with_field}
+use Rattle.capnp_format.specs.Fields.{with_bits, put_field, field_in}
 use Rattle.capnp_making.specs.Filled.{AreFilled}
 use Rattle.capnp_making.specs.Made.{nulls}
-use Rattle.capnp_making.specs.Path.{Step, Child, tree_at, put_tree}
+use Rattle.capnp_format.specs.Path.{Step, Child, tree_at, put_tree}
 use Rattle.capnp_making.specs.Stored.{IsStored, IsReplaced}
 use Rattle.capnp_making.proofs.Extents.{word_within}
 use Rattle.capnp_contents.proofs.FieldRead.{read_back, other_stays}

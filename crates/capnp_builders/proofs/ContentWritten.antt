@@ -6,7 +6,7 @@ use Rattle.std.proofs.lemmas.Nat.{and_mask, pow_below}
 use Rattle.std.proofs.lemmas.List.{length-set}
 use Rattle.capnp_words.specs.declared.error.ErrorKind.{ErrorKind}
 use Rattle.capnp_format.specs.Segments.{Segments, Grows, segment}
-use Rattle.capnp_making.specs.Fields.{with_bits, put_field}
+use Rattle.capnp_format.specs.Fields.{with_bits, put_field}
 use Rattle.capnp_making.specs.Zeroed.{IsPruned}
 use Rattle.capnp_making.proofs.FillingChains.{filled_grows}
 use Rattle.capnp_making.proofs.Zeros.{lengths_kept}

@@ -1,5 +1,5 @@
 -- What a place holds after a value was copied to it, if it was null or was cleared first.
-use Rattle.std.proofs.Common.{◌≡◌, inl, inr, ℕ, ◌+◌, ◌<◌, zero, suc, List, length, refl, ◌∙◌, Result, Ok, Err, IfOk, IfErr, OnOk, OnErr, [], ◌∷◌, ap, sym, subst, arith}
+use Rattle.std.proofs.Common.{◌≡◌, inl, inr, ℕ, ◌+◌, ◌<◌, zero, suc, length, refl, ◌∙◌, Result, Ok, Err, IfOk, IfErr, OnOk, OnErr, [], ◌∷◌, ap, sym, subst, arith}
 use Rattle.capnp_words.specs.declared.error.ErrorKind.{ErrorKind}
 use Rattle.capnp_words.specs.Meter.{Meter}
 use Rattle.capnp_format.specs.Canonical.{encoding}
@@ -24,6 +24,7 @@ use Rattle.capnp_copies.specs.Originals.{Original, value_original}
 use Rattle.capnp_builders.specs.Kept.{PutsCopy, LeavesCleared, FillsSegment, FillsMessage}
 use Rattle.capnp_copies.proofs.Copying.{fresh_made}
 use Rattle.capnp_copies.proofs.Originals.{lacks_before}
+use Rattle.capnp_format.proofs.Slices.{only_segment}
 
 -- a null pointer stores only Null
 pub null_replaced : (S R : Segments) (s p : ℕ) (t : Tree) → IsPlace S s p → word_at S s p ≡ 0 → IsReplaced S R s p Null t → Puts S R s p t
@@ -36,12 +37,6 @@ null_replaced S R s p t place null made = λ u stored.
 pub fresh_copied : {X : Type 0} (o : Result X ErrorKind) (r : Reading) (c : Change) → IsPlace c.old.words c.segment c.at → segment c.old.words c.segment ≡ 0 ∷ [] → IfOk o (λ _. MakesCopy (value_original r) c) → IfOk o (λ _. FillsSegment r c)
 fresh_copied (Ok x) r c place one made = (made.value, made.is_read, λ fits. fresh_made c.old.words c.segment c.at (kept c.form made.value) (place, one) (made.stands fits))
 fresh_copied (Err k) r c place one made = tt
-
--- a message of one segment is that segment
-only_segment : (M : Segments) (ws : List ℕ) → length M ≡ 1 → segment M 0 ≡ ws → M ≡ ws ∷ []
-only_segment [] ws one e = absurd (omega (arith, one))
-only_segment (x ∷ []) ws one e = ap (λ (s : List ℕ). s ∷ []) e
-only_segment (x ∷ y ∷ M) ws one e = absurd (omega (arith, one))
 
 first_segment : (s p : ℕ) → IsPlace ((0 ∷ []) ∷ []) s p → s ≡ 0
 first_segment zero p place = refl

@@ -2,12 +2,13 @@
 -- that element.
 use Rattle.std.proofs.Common.{◌≡◌, ℕ, zero, suc, pred, ◌+◌, ◌*◌, ◌/◌, ◌<◌, ◌≤◌, List, [], ◌∷◌, length, refl, sym, ap, ◌∙◌, subst, le_of_eq, arith}
 use Rattle.capnp_format.specs.Forest.{target, target_in}
-use Rattle.capnp_format.specs.Means.{Means, MeansElements, Leads}
+use Rattle.capnp_format.specs.Means.{Means, MeansElements}
 use Rattle.capnp_format.specs.Segments.{Segments, segment, Target}
 use Rattle.capnp_format.specs.Tree.{Tree, Null, Struct, Structs, Trees, Elements, no_elements, element, count, element_count}
-use Rattle.capnp_making.specs.Fields.{put_field, with_field}
+use Rattle.capnp_making.specs.Fields.{with_field}
+use Rattle.capnp_format.specs.Fields.{put_field}
 use Rattle.capnp_making.specs.Filled.{AreFilled}
-use Rattle.capnp_making.specs.Path.{Child, Element, struct_at, put_struct}
+use Rattle.capnp_format.specs.Path.{Child, Element, struct_at, put_struct}
 use Rattle.capnp_making.specs.Stored.{IsStored, IsReplaced}
 use Rattle.capnp_making.proofs.Extents.{word_within}
 use Rattle.capnp_contents.proofs.FieldsWritten.{element_field_written}
@@ -19,15 +20,12 @@ use Rattle.capnp_builders.proofs.ContentTaken.{Turns, IsContent, filled, stopped
 use Rattle.capnp_builders.specs.Places.{struct_place}
 use Rattle.capnp_readers.specs.declared.readers.struct_reader.StructPlace.{StructPlace}
 use Rattle.capnp_builders.proofs.StructPlaces.{struct_starts}
+use Rattle.capnp_making.proofs.FillingMade.{structs_lead}
 
 pub put_struct-same : (X : Elements) (i : ℕ) (ws : List ℕ) (ts : Trees) → struct_at X i ≡ Struct ws ts → put_struct X i (Struct ws ts) ≡ X
 put_struct-same no_elements i ws ts e = refl
 put_struct-same (element xs us X) zero ws ts e = let f : element ws ts X ≡ element xs us X = cc in f
 put_struct-same (element xs us X) (suc i) ws ts e = ap (element xs us) (put_struct-same X i ws ts e)
-
--- where the pointer to a stored list of structs leads, and what its elements have
-pub structs_leads : (S : Segments) (s p d q : ℕ) (X : Elements) → IsStored S s p (Structs d q X) → Leads S s p (target S s p)
-structs_leads S s p d q X y = let (n, c, (b, m, k, some, o, claim, tag, fits, all, g)) = y.means in subst (Leads S s p) (sym (ap target_in o.leads_to.1)) o.leads_to
 
 sections_there : (S : Segments) (n s p d q : ℕ) (X : Elements) (c i : ℕ) (ws : List ℕ) (ts : Trees) → MeansElements S n s p d q X c → i < element_count X → struct_at X i ≡ Struct ws ts → (length ws ≡ d) × (count ts ≡ q)
 sections_there S n s p d q no_elements c i ws ts m l e = absurd (omega arith)
@@ -93,7 +91,7 @@ element_content_taken S M R s p d q es i ws ts us place bits bytes y less is pla
     let F : List ℕ → Trees → Tree = λ vs os. Structs d q (put_struct es i (Struct vs os)) in
     let own : put_struct es i (Struct ws ts) ≡ es = put_struct-same es i ws ts is in
     let long = element_long S s p d q es i ws ts y less is in
-    let held : Holds (F ws) S s p a ts = record { stored = subst (λ X. IsStored S s p (Structs d q X)) (sym own) y; leads = structs_leads S s p d q es y } in
+    let held : Holds (F ws) S s p a ts = record { stored = subst (λ X. IsStored S s p (Structs d q X)) (sym own) y; leads = structs_lead S s p d q es y } in
     let (vs, hold, turns) =
     filled F (λ j. Element i ∷ Child j ∷ []) S M R s p d q a (a.start + 1 + i * (d + q)) (1 + element_count es * (d + q)) ws ts us place bits bytes (element_content s p d q a es i less) held long.0 long.1 (struct_starts place (record { segment = a.segment; start = a.start + 1 + i * (d + q); size = record { data_words = d; pointers = q } }) placed) takes fills few in
     (vs, hold, subst (λ X. IsReplaced S R s p (Structs d q X) (F vs (up_to q us))) own turns.0)
@@ -117,7 +115,7 @@ element_content_stopped S M K R s p d q es i ws ts us place bits bytes y less is
     let F : List ℕ → Trees → Tree = λ vs os. Structs d q (put_struct es i (Struct vs os)) in
     let own : put_struct es i (Struct ws ts) ≡ es = put_struct-same es i ws ts is in
     let long = element_long S s p d q es i ws ts y less is in
-    let held : Holds (F ws) S s p a ts = record { stored = subst (λ X. IsStored S s p (Structs d q X)) (sym own) y; leads = structs_leads S s p d q es y } in
+    let held : Holds (F ws) S s p a ts = record { stored = subst (λ X. IsStored S s p (Structs d q X)) (sym own) y; leads = structs_lead S s p d q es y } in
     let (vs, hold, turns) =
     stopped F (λ j. Element i ∷ Child j ∷ []) S M K R s p d q a (a.start + 1 + i * (d + q)) (1 + element_count es * (d + q)) ws ts us place bits bytes (element_content s p d q a es i less) held long.0 long.1 (struct_starts place (record { segment = a.segment; start = a.start + 1 + i * (d + q); size = record { data_words = d; pointers = q } }) placed) takes fills fewer null in
     (vs, hold, subst (λ X. IsReplaced S R s p (Structs d q X) (F vs (up_to q us))) own turns.0)

@@ -2,29 +2,18 @@
 use Rattle.std.proofs.Common.{◌≡◌, ℕ, ◌+◌, ◌*◌, ◌/◌, ◌%◌, ◌<◌, ◌≤◌, length, refl, arith}
 use Rattle.capnp_arena_traits.specs.View.{View}
 use Rattle.capnp_format.specs.Segments.{Segments, segment}
-use Rattle.capnp_making.specs.Fields.{with_field, field_in}
+use Rattle.capnp_making.specs.Fields.{with_field}
+use Rattle.capnp_format.specs.Fields.{field_in}
 use Rattle.capnp_words.specs.declared.wire_pointer.ElementSize.{ElementSize}
 use Rattle.capnp_words.specs.declared.wire_pointer.ElementSize.TheVariants.{Void, Bit, Byte, TwoBytes, FourBytes, EightBytes, Pointer, InlineComposite}
 use Rattle.capnp_words.specs.declared.wire_pointer.StructSize.{StructSize}
 use Rattle.capnp_readers.specs.Readers.{IsListPlace}
-use Rattle.capnp_readers.specs.Sections.{elements_words, step_bits, data_bits}
+use Rattle.capnp_readers.specs.Sections.{step_bits, data_bits}
 use Rattle.capnp_readers.specs.declared.readers.list_reader.ListPlace.{ListPlace}
-use Rattle.capnp_readers.proofs.Elements.{whole_step}
-use Rattle.capnp_readers.proofs.Sections.{words_within}
+use Rattle.capnp_readers.proofs.Elements.{whole_step, data_among}
 use Rattle.capnp_builders.proofs.FieldPlaces.{aligned_to, field_aligned}
 use Rattle.capnp_builders.specs.Elements.{lowest_bits}
 use Rattle.capnp_builders.specs.Places.{HasField, WritesField}
-
--- the data of an element is among the words of all elements
-data_within : (size : ElementSize) (sections : StructSize) (count i : ℕ) → i < count → i * step_bits size sections + data_bits size sections ≤ 64 * elements_words size count (sections.data_words + sections.pointers)
-data_within Void sections count i l = omega arith
-data_within Bit sections count i l = omega (arith, l)
-data_within Byte sections count i l = omega (arith, l)
-data_within TwoBytes sections count i l = omega (arith, l)
-data_within FourBytes sections count i l = omega (arith, l)
-data_within EightBytes sections count i l = omega (arith, l)
-data_within Pointer sections count i l = omega (arith, l)
-data_within InlineComposite sections count i l = omega (arith, words_within (sections.data_words + sections.pointers) count i l)
 
 -- the bits of an element that starts at a byte
 start_in_bits : (list : ListPlace) (i n : ℕ) → 0 < n → 8 * n ≤ data_bits list.size list.struct_size →
@@ -50,7 +39,7 @@ number_read view list i n v some wide is = rw (start_in_bits list i n some wide)
 -- the lowest bits of an element are inside the list's segment
 pub bits_inside : (S : Segments) (list : ListPlace) (i w : ℕ) → IsListPlace S list → i < list.count → w ≤ data_bits list.size list.struct_size →
     8 * list.byte + i * step_bits list.size list.struct_size + w ≤ 64 * length (segment S list.segment)
-bits_inside S list i w (there, aligned, fits) l wide = omega (arith, fits, wide, data_within list.size list.struct_size list.count i l)
+bits_inside S list i w (there, aligned, fits) l wide = omega (arith, fits, wide, data_among list.size list.struct_size list.count i l)
 
 -- the lowest bytes of an element are inside the list's segment
 pub bytes_inside : (S : Segments) (list : ListPlace) (i n : ℕ) → IsListPlace S list → i < list.count → 0 < n → 8 * n ≤ data_bits list.size list.struct_size →

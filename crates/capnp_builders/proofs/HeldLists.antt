@@ -11,7 +11,7 @@ use Rattle.capnp_format.specs.Numbers.{element_bits}
 use Rattle.capnp_format.specs.Segments.{Segments, Target}
 use Rattle.capnp_format.specs.Tree.{Tree, Flat, Trees, no_trees, tree, count}
 use Rattle.capnp_making.specs.Fields.{with_field}
-use Rattle.capnp_making.specs.Path.{put_tree, tree_at}
+use Rattle.capnp_format.specs.Path.{put_tree, tree_at}
 use Rattle.capnp_making.specs.Stored.{IsReplaced}
 use Rattle.capnp_making.proofs.Replace.{put_tree-count}
 use Rattle.capnp_contents.proofs.FieldsWritten.{flat_element_stays, flat_element_written}

@@ -1,12 +1,12 @@
 -- What becomes of a struct if a call at its place writes a field, or makes an object for one of its
 -- pointers.
-use Rattle.std.proofs.Common.{◌≡◌, ℕ, zero, suc, ◌+◌, ◌*◌, ◌/◌, ◌<◌, length, List, Bool, true, false, cond, nat_eq, Result, Ok, Err, IfOk, refl, sym, ap, ap₂, ◌∙◌, subst, arith}
+use Rattle.std.proofs.Common.{◌≡◌, ℕ, ◌+◌, ◌*◌, ◌/◌, ◌<◌, length, List, Bool, true, false, cond, nat_eq, Result, Ok, Err, IfOk, refl, sym, ap, ap₂, ◌∙◌, subst, arith}
 use Rattle.std.proofs.lemmas.Bool.{eqb-true}
 use Rattle.std.proofs.lemmas.List.{length-replicate}
 use Rattle.capnp_words.specs.declared.error.ErrorKind.{ErrorKind}
 use Rattle.capnp_words.specs.declared.wire_pointer.ElementSize.{ElementSize}
 use Rattle.capnp_words.specs.declared.wire_pointer.StructSize.{StructSize}
-use Rattle.capnp_words.specs.Sizes.{size_number}
+use Rattle.capnp_words.specs.Sizes.{size_number, sized}
 use Rattle.capnp_format.specs.Forest.{target}
 use Rattle.capnp_format.specs.Segments.{Target}
 use Rattle.capnp_format.specs.Tree.{Tree, Null, Struct, Flat, Pointers, Structs, Trees, Elements, count}
@@ -15,9 +15,8 @@ use Rattle.capnp_contents.specs.Existing.{plain_list, struct_list}
 use Rattle.capnp_making.specs.Made.{words_of_zero, nulls, zero_elements, zero_list, zero_struct, zero_structs}
 use Rattle.capnp_making.specs.Makes.{MakesObject, call_at}
 use Rattle.capnp_making.specs.Memory.{start_of}
-use Rattle.capnp_making.specs.Path.{put_struct, struct_at, tree_at}
+use Rattle.capnp_format.specs.Path.{put_struct, tree_at}
 use Rattle.capnp_making.specs.Stored.{IsStored}
-use Rattle.capnp_making.specs.Zeroed.{sections}
 use Rattle.capnp_making.proofs.Placed.{count-nulls}
 use Rattle.capnp_making.proofs.PlacedStructs.{count-zero_elements}
 use Rattle.capnp_readers.specs.Sections.{IsInside}
@@ -29,6 +28,7 @@ use Rattle.capnp_builders.specs.Places.{Field, IsListOf, IsStructOf, WritesField
 use Rattle.capnp_builders.proofs.ElementContent.{put_struct-same}
 use Rattle.capnp_builders.proofs.FieldPlaces.{in_bits}
 use Rattle.capnp_builders.proofs.HeldStructs.{child_replaced, child_set, child_stored, field_replaced, field_set}
+use Rattle.capnp_making.proofs.FillingElements.{blank_at}
 
 -- a field
 
@@ -62,8 +62,8 @@ child_made (Err k) old new place i t n inside made =
 
 -- the new struct
 
-same_sections : (size : StructSize) → size ≡ sections (length (words_of_zero size.data_words)) (count (nulls size.pointers))
-same_sections size = ap₂ sections (sym (length-replicate {A = ℕ} size.data_words 0)) (sym (count-nulls size.pointers))
+same_sections : (size : StructSize) → size ≡ sized (length (words_of_zero size.data_words)) (count (nulls size.pointers))
+same_sections size = ap₂ sized (sym (length-replicate {A = ℕ} size.data_words 0)) (sym (count-nulls size.pointers))
 
 pub struct_made : (r : Result StructPlace ErrorKind) (old new : View) (s p : ℕ) (size : StructSize) (n : ℕ) (t : Tree) → MakesObject r (call_at s p old new) (zero_struct size) n → IfOk r (IsStructOf (call_at s p old new) size) → IsStored old.words s p t →
     IfOk r (λ place. HasStruct new.words (pointer_to s p) place (words_of_zero size.data_words) (nulls size.pointers))
@@ -95,11 +95,6 @@ list_made (Err k) old new s p size count n t made leads stored = tt
 
 -- the structs of the new list
 
-zero_at : (d q n i : ℕ) → i < n → struct_at (zero_elements d q n) i ≡ Struct (words_of_zero d) (nulls q)
-zero_at d q zero i l = absurd (omega arith)
-zero_at d q (suc n) zero l = refl
-zero_at d q (suc n) (suc i) l = zero_at d q n i (omega arith)
-
 pub structs_made : (r : Result ListPlace ErrorKind) (old new : View) (s p : ℕ) (size : StructSize) (count n i : ℕ) (t : Tree) → i < count → MakesObject r (call_at s p old new) (zero_structs count size) n → IfOk r (IsListOf (call_at s p old new) (λ a. struct_list a size.data_words size.pointers count)) → IsStored old.words s p t →
     IfOk r (λ list. HasStruct new.words (element_of s p size (zero_elements size.data_words size.pointers count) i) (element_place list.size list i) (words_of_zero size.data_words) (nulls size.pointers))
 structs_made (Ok list) old new s p size count n i t less made leads stored =
@@ -107,7 +102,7 @@ structs_made (Ok list) old new s p size count n i t less made leads stored =
     let q : ℕ = size.pointers in
     let a : Target = target new.words s p in
     let es : Elements = zero_elements d q count in
-    let same : put_struct es i (Struct (words_of_zero d) (nulls q)) ≡ es = put_struct-same es i (words_of_zero d) (nulls q) (zero_at d q count i less) in
+    let same : put_struct es i (Struct (words_of_zero d) (nulls q)) ≡ es = put_struct-same es i (words_of_zero d) (nulls q) (blank_at d q count i less) in
     record {
       stored = subst (λ X. IsStored new.words s p (Structs d q X)) (sym same) (made.made t stored).stored;
       sizes = (omega (arith, less, count-zero_elements d q count), length-replicate {A = ℕ} d 0, count-nulls q);

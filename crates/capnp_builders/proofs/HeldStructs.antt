@@ -5,8 +5,9 @@ use Rattle.std.proofs.lemmas.List.{length-set}
 use Rattle.capnp_format.specs.Forest.{target, target_in}
 use Rattle.capnp_format.specs.Segments.{Segments, Target}
 use Rattle.capnp_format.specs.Tree.{Tree, Struct, Trees, count, element_count}
-use Rattle.capnp_making.specs.Fields.{with_bits, put_field, with_field}
-use Rattle.capnp_making.specs.Path.{Step, Child, Element, put_struct, put_tree, tree_at}
+use Rattle.capnp_making.specs.Fields.{with_field}
+use Rattle.capnp_format.specs.Fields.{with_bits, put_field}
+use Rattle.capnp_format.specs.Path.{Step, Child, Element, put_struct, put_tree, tree_at}
 use Rattle.capnp_making.specs.Stored.{IsStored, IsReplaced}
 use Rattle.capnp_making.proofs.Filling.{Holds, holder_put}
 use Rattle.capnp_making.proofs.Replace.{put_tree-count}
@@ -14,7 +15,8 @@ use Rattle.capnp_making.proofs.Replaced.{stored_within}
 use Rattle.capnp_readers.specs.declared.readers.struct_reader.StructPlace.{StructPlace}
 use Rattle.capnp_builders.specs.Held.{Lead, directly, as_element, Holder, held_tree, held_start, LeadsToSections, HasStruct, struct_held}
 use Rattle.capnp_builders.proofs.ContentTaken.{IsContent, Turns, leads_of, struct_content}
-use Rattle.capnp_builders.proofs.ElementContent.{element_content, structs_leads}
+use Rattle.capnp_builders.proofs.ElementContent.{element_content}
+use Rattle.capnp_making.proofs.FillingMade.{structs_lead}
 use Rattle.capnp_builders.proofs.StructPlaces.{struct_starts}
 
 -- the struct is part of the value that its pointer has
@@ -38,7 +40,7 @@ part_of s p (as_element d q es i) a n k (less, wide, many) =
 
 held : (S : Segments) (s p : ℕ) (lead : Lead) (ws : List ℕ) (ts : Trees) → IsStored S s p (held_tree lead ws ts) → Holds (held_tree lead ws) S s p (target S s p) ts
 held S s p directly ws ts y = record { stored = y; leads = (leads_of S s p ws ts y).0 }
-held S s p (as_element d q es i) ws ts y = record { stored = y; leads = structs_leads S s p d q (put_struct es i (Struct ws ts)) y }
+held S s p (as_element d q es i) ws ts y = record { stored = y; leads = structs_lead S s p d q (put_struct es i (Struct ws ts)) y }
 
 -- the struct is where it was, with other data words and children
 stays : (S R : Segments) (x : Holder) (place : StructPlace) (ws vs : List ℕ) (ts us : Trees) → length vs ≡ length ws → count us ≡ count ts → HasStruct S x place ws ts → Turns S R x.segment x.at (target S x.segment x.at) (held_tree x.lead ws ts) (held_tree x.lead vs us) → HasStruct R x place vs us

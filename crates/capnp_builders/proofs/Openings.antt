@@ -11,7 +11,8 @@ use Rattle.capnp_arena_traits.specs.View.{View}
 use Rattle.capnp_contents.specs.declared.existing.ExistingList.{ExistingList}
 use Rattle.capnp_contents.specs.declared.existing.ExistingStruct.{ExistingStruct}
 use Rattle.capnp_making.specs.Stored.{IsStored}
-use Rattle.capnp_contents.proofs.Growing.{grows_itself, replaced_grows}
+use Rattle.capnp_contents.proofs.Growing.{replaced_grows}
+use Rattle.capnp_making.proofs.FillingChains.{no_growth}
 use Rattle.capnp_making.proofs.Leading.{leads_segment}
 use Rattle.capnp_readers.specs.declared.readers.list_reader.ListPlace.{ListPlace}
 use Rattle.capnp_readers.specs.declared.readers.struct_reader.StructPlace.{StructPlace}
@@ -31,7 +32,7 @@ use Rattle.capnp_builders.proofs.FoundLists.{given_inside}
 no_error : {A : Type 0} (x : A) (k : ErrorKind) → ◌≡◌ {A = Result A ErrorKind} (Ok x) (Err k) → ⊥
 no_error x k e = cc
 
-same_error : {A : Type 0} (k l : ErrorKind) → ◌≡◌ {A = Result A ErrorKind} (Err k) (Err l) → k ≡ l
+pub same_error : {A : Type 0} (k l : ErrorKind) → ◌≡◌ {A = Result A ErrorKind} (Err k) (Err l) → k ≡ l
 same_error k l e = cc
 
 opens_as : {A B : Type 0} (size : StructSize) (c : CallAt) (t : Tree) (r : Result Tree ErrorKind) (G : Segments → ℕ → ℕ → Tree → A → Type 0) (H : Segments → ℕ → ℕ → Tree → B → Type 0) (x : A) (y : B) →
@@ -113,7 +114,7 @@ pub still_there : (a m b : View) (s p : ℕ) → IsPlace a.words s p → Grows a
 still_there a m b s p place grows longer = omega (arith, place, grows.words s, longer.words s)
 
 same_grows : (a b : View) → b ≡ a → Grows a.words b.words
-same_grows a b same = subst (λ (v : View). Grows a.words v.words) (sym same) (grows_itself a.words)
+same_grows a b same = subst (λ (v : View). Grows a.words v.words) (sym same) (no_growth a.words)
 
 pub opens_grows : {B : Type 0} (size : StructSize) (G : Segments → ℕ → ℕ → Tree → B → Type 0) (a b : View) (s p : ℕ) (t : Tree) (r : Result Tree ErrorKind) (o : Result B ErrorKind) → Opens size G (call_at s p a b) t r o → Grows a.words b.words
 opens_grows size G a b s p t (Ok u) (Ok x) o = replaced_grows o.replaced

@@ -4,18 +4,17 @@ use Rattle.std.specs.Prelude.{◌≡◌, ℕ, ◌+◌, ◌*◌, ◌<◌, List, l
 use Rattle.capnp_format.specs.Forest.{target}
 use Rattle.capnp_format.specs.Segments.{Segments}
 use Rattle.capnp_format.specs.Tree.{Tree, Null, Struct, Flat, Pointers, Structs, Trees, Elements, count, element_count}
-use Rattle.capnp_making.specs.Fields.{put_field}
-use Rattle.capnp_making.specs.Path.{put_tree, put_struct}
+use Rattle.capnp_format.specs.Fields.{put_field}
+use Rattle.capnp_format.specs.Path.{put_tree, put_struct}
 use Rattle.capnp_making.specs.Stored.{IsStored, IsReplaced}
-use Rattle.capnp_making.specs.Zeroed.{sections}
-use Rattle.capnp_words.specs.Sizes.{size_number}
+use Rattle.capnp_words.specs.Sizes.{size_number, sized}
+use Rattle.capnp_words.specs.declared.error.ErrorKind.{ErrorKind}
 use Rattle.capnp_words.specs.declared.wire_pointer.StructSize.{StructSize}
 use Rattle.capnp_contents.specs.Existing.{plain_list}
 use Rattle.capnp_contents.specs.declared.existing.ExistingStruct.{ExistingStruct}
 use Rattle.capnp_readers.specs.declared.readers.list_reader.ListPlace.{ListPlace}
 use Rattle.capnp_readers.specs.declared.readers.struct_reader.StructPlace.{StructPlace}
 use Rattle.capnp_builders.specs.Places.{Field, list_place, struct_place}
-use Rattle.capnp_words.specs.declared.error.ErrorKind.{ErrorKind}
 
 -- How a pointer leads to a struct: directly, or through a list of structs that has the struct as
 -- its element i. The elements of that list have d data words and q pointers; all but element i are
@@ -59,7 +58,7 @@ LeadsToSections (as_element d q es i) n k = (i < element_count es) × (n ≡ d) 
 abbrev pub struct_held : Segments → Holder → ℕ → ℕ → ExistingStruct
 struct_held S x n k =
     let a = target S x.segment x.at in
-    record { segment = a.segment; start = held_start x.lead a.start; size = sections n k }
+    record { segment = a.segment; start = held_start x.lead a.start; size = sized n k }
 
 -- In S the holder x has the struct of the data words ws and the children ts, at this place.
 pub record HasStruct (S : Segments) (x : Holder) (place : StructPlace) (ws : List ℕ) (ts : Trees)

@@ -15,7 +15,7 @@ ghost use Rattle.capnp_contents.specs.Existing.{plain_list, struct_list};
 ghost use Rattle.capnp_making.specs.Made.{list_words, words_of_zero, nulls, zero_elements, zero_list, zero_struct, zero_structs};
 ghost use Rattle.capnp_making.specs.Makes.{MakesObject, call_at};
 ghost use Rattle.capnp_making.specs.Near.{LeadsToEnd};
-ghost use Rattle.capnp_making.specs.Path.{put_tree};
+ghost use Rattle.capnp_format.specs.Path.{put_tree};
 ghost use Rattle.capnp_making.specs.Stored.{IsStored};
 ghost use Rattle.capnp_readers.specs.Readers.{IsListPlace, IsStructPlace};
 ghost use Rattle.capnp_readers.specs.Sections.{IsInside};

@@ -7,7 +7,7 @@ ghost use Rattle.capnp_format.specs.Segments.{Segments};
 ghost use Rattle.capnp_format.specs.Tree.{Tree, Null, Struct, Structs, Trees, Elements, count, element_count};
 ghost use Rattle.capnp_making.specs.Filled.{AreFilled};
 ghost use Rattle.capnp_making.specs.Memory.{start_of};
-ghost use Rattle.capnp_making.specs.Path.{put_struct, put_tree, struct_at, tree_at};
+ghost use Rattle.capnp_format.specs.Path.{put_struct, put_tree, struct_at, tree_at};
 ghost use Rattle.capnp_making.specs.Stored.{IsStored, IsReplaced};
 ghost use Rattle.capnp_readers.specs.declared.readers.struct_reader.StructPlace.{StructPlace};
 ghost use Rattle.capnp_widening.specs.Opening.{existing_struct};

@@ -1,6 +1,6 @@
 -- A call isn't refused if there is an answer, nor for lack of room if the size says that there is
 -- enough.
-use Rattle.std.proofs.Common.{◌≡◌, ◌≢◌, ◌⊎◌, inl, inr, ℕ, zero, suc, ◌+◌, ◌*◌, ◌<◌, ◌≤◌, ◌^◌, List, [], ◌∷◌, All, length, get_or, take, Result, Ok, Err}
+use Rattle.std.proofs.Common.{◌≡◌, ◌≢◌, ◌⊎◌, inl, inr, ℕ, zero, suc, ◌+◌, ◌*◌, ◌<◌, ◌≤◌, ◌^◌, List, [], ◌∷◌, All, length, get_or, take, Result}
 use Rattle.std.proofs.Common.{◌↔◌, Bool, true, false, Option, None, Some, IfNone, IfSome, IsNone, is_some, not}
 use Rattle.std.proofs.Common.{refl, sym, ap, ◌∙◌, subst, arith}
 use Rattle.std.specs.Borrow.{Bor}
@@ -19,7 +19,7 @@ use Rattle.capnp_framing.specs.Flat.{BeginsWithFrame}
 use Rattle.capnp_framing.specs.Frames.{AreSegmentWords, bytes_of_words}
 use Rattle.capnp_framing.specs.Reading.{NoFrame}
 use Rattle.capnp_framing.proofs.FrameLemmas.{one_frame_begins}
-use Rattle.capnp_framing.proofs.ReadingLemmas.{frame_is_read}
+use Rattle.capnp_framing.proofs.ReadingLemmas.{frame_is_read, bytes-length}
 use Rattle.capnp_messages.specs.CanonicalMessages.{IsCanonicalMessage}
 use Rattle.capnp_pointers.specs.declared.pointers.canonical_fault.CanonicalFault.{CanonicalFault}
 use Rattle.capnp_messages.specs.Messages.{HasSizeOf, IsCanonicalWithin, IsFaultOf}
@@ -29,12 +29,12 @@ use Rattle.capnp_messages.specs.declared.messages.command.Form.{Form}
 use Rattle.capnp_messages.specs.declared.messages.command.Form.TheVariants.{Framed, Flat}
 use Rattle.capnp_messages.proofs.AnsweredLemmas.{answer_refused, check_refused, size_refused}
 use Rattle.capnp_messages.proofs.FramesLemmas.{no_bytes_begin}
-use Rattle.capnp_canonical.specs.Calls.{AreWholeWords, Fills, FillsByNumber, InFrame, IsCopyOf, IsGranted, IsOneSegment, RefusesBytes, RefusesMeaning, RefusesRoom, RefusesSegments, RefusesSegment, TestFinds, TestIs, no_fault, table_bytes, told_fault}
+use Rattle.capnp_canonical.specs.Calls.{AreWholeWords, Fills, InFrame, IsCopyOf, IsGranted, IsOneSegment, RefusesBytes, RefusesMeaning, RefusesRoom, RefusesSegments, RefusesSegment, TestFinds, TestIs, no_fault, table_bytes, told_fault}
 use Rattle.capnp_canonical.specs.Numbers.{answer_number}
 use Rattle.capnp_canonical.specs.declared.fault.Fault.{Fault}
 use Rattle.capnp_canonical.specs.declared.refusal.Refusal.{Refusal}
 use Rattle.capnp_canonical.specs.declared.refusal.Refusal.TheVariants.{Layout}
-use Rattle.capnp_canonical.proofs.FrameLemmas.{length-bytes, length_frame}
+use Rattle.capnp_canonical.proofs.FrameLemmas.{length_frame}
 use Rattle.capnp_canonical.proofs.NumberLemmas.{error_number_above}
 
 -- if Q follows from P, a buffer that is filled with bytes for P is filled with bytes for Q
@@ -45,25 +45,6 @@ fills_weaker {result = result} {new = new} more fills = record {
   within = fills.within;
   behind = fills.behind;
   kept = fills.kept;
-}
-
--- a call that fills a buffer, as C sees it
-pub fills_done : {n : ℕ} {old new : List ℕ} {P : List ℕ → Type 0} →
-    Fills (Ok n) old new P → FillsByNumber 0 n old new P
-fills_done fills = record {
-  front = λ done. fills.front;
-  within = λ done. fills.within;
-  behind = λ done. fills.behind;
-  kept = λ some. absurd (some refl);
-}
-
-pub fills_refused : {r : Refusal} {answer written : ℕ} {old new : List ℕ} {P : List ℕ → Type 0} →
-    Fills (Err r) old new P → 0 < answer → FillsByNumber answer written old new P
-fills_refused fills some = record {
-  front = λ done. absurd (omega arith);
-  within = λ done. absurd (omega arith);
-  behind = λ done. absurd (omega arith);
-  kept = λ refused. fills.kept;
 }
 
 -- the words of a message that has a frame have 64 bits
@@ -140,12 +121,12 @@ room_granted form limits room S (inr (bytes, copy, named, less)) can = inr (inl 
 -- words of this many bytes fit a segment of a copy
 pub fit_segment : {bytes : List ℕ} (words : List ℕ) → bytes ≡ bytes_of_words words → length bytes ≤ 8 * max_segment_words →
     length words ≤ max_segment_words
-fit_segment words is short = omega (arith, ap length is, length-bytes words, short)
+fit_segment words is short = omega (arith, ap length is, bytes-length words, short)
 
 -- and not for lack of room if the size says that there is enough
 pub copy_bytes : (form : Form) (words : List ℕ) → length (form_bytes form words) ≡ table_bytes form + 8 * length words
-copy_bytes Framed words = omega (arith, length_frame words (bytes_of_words words) refl, length-bytes words)
-copy_bytes Flat words = omega (arith, length-bytes words)
+copy_bytes Framed words = omega (arith, length_frame words (bytes_of_words words) refl, bytes-length words)
+copy_bytes Flat words = omega (arith, bytes-length words)
 
 copy_within : (form : Form) (limits : ReaderOptions) (n caps : ℕ) {bytes : List ℕ} (S : Segments) → AreWords S →
     IsCopyOf form limits S bytes → HasSizeOf S limits n caps → length bytes ≤ table_bytes form + 8 + 8 * n

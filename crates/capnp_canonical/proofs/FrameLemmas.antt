@@ -1,19 +1,15 @@
 -- A frame of one segment is its table and its bytes.
-use Rattle.std.proofs.Common.{◌≡◌, ◌+◌, ◌-◌, ◌*◌, ◌/◌, ℕ, List, [], ◌∷◌, ◌++◌, length, take, drop, refl, sym, ap, ◌∙◌, append_assoc, append-nil, arith, length-append, take_at, drop_at, drop-drop}
-use Rattle.std.specs.Int.{to_le_bytes, w32, w64}
+use Rattle.std.proofs.Common.{◌≡◌, ◌+◌, ◌-◌, ◌*◌, ◌/◌, ℕ, List, [], ◌∷◌, ◌++◌, length, take, drop, sym, ap, ◌∙◌, append_assoc, append-nil, arith, length-append, take_at, drop_at, drop-drop}
+use Rattle.std.specs.Int.{to_le_bytes, w32}
 use borrow.Rule.Slice.PartMut.{put_mid}
 use Rattle.capnp_framing.specs.Frames.{bytes_of_words, frame}
-
--- words have eight bytes each
-pub length-bytes : (ws : List ℕ) → length (bytes_of_words ws) ≡ 8 * length ws
-length-bytes [] = refl
-length-bytes (w ∷ ws) = omega (arith, length-append (to_le_bytes w64 w) (bytes_of_words ws), length-bytes ws)
+use Rattle.capnp_framing.proofs.ReadingLemmas.{bytes-length}
 
 pub frame_put : (words seg to h : List ℕ) → seg ≡ bytes_of_words words → h ≡ 0 ∷ 0 ∷ 0 ∷ 0 ∷ to_le_bytes w32 (length seg / 8)
     → take (8 + length seg) (put_mid 8 (8 + length seg - 8) (h ++ drop 8 to) seg) ≡ frame (words ∷ [])
 frame_put words seg to h same table =
     let eight : length h ≡ 8 = ap length table in
-    let size : length seg ≡ 8 * length words = ap length same ∙ length-bytes words in
+    let size : length seg ≡ 8 * length words = ap length same ∙ bytes-length words in
     let count : length seg / 8 ≡ length words = omega arith in
     let rest : List ℕ = drop (8 + length seg - 8) (drop 8 (h ++ drop 8 to)) in
     let front : take 8 (h ++ drop 8 to) ≡ h = take_at h (drop 8 to) 8 eight in

@@ -21,7 +21,7 @@ use Rattle.capnp_making.specs.Stored.{IsStored, IsReplaced}
 use Rattle.capnp_contents.specs.declared.existing.ExistingBytes.{ExistingBytes}
 use Rattle.capnp_making.specs.declared.making.Start.{Start}
 use Rattle.capnp_contents.proofs.BytesWritten.{WritesBytes, over_front, length-front, same_number, words_written, flat_claims, whole_words}
-use Rattle.capnp_making.proofs.FieldBytes.{below_drop}
+use Rattle.capnp_format.proofs.FieldBytes.{below_drop}
 use Rattle.capnp_making.proofs.Filling.{unchanged}
 use Rattle.capnp_making.proofs.PlacedLists.{from_zeros}
 use Rattle.capnp_making.proofs.Written.{flat_written}

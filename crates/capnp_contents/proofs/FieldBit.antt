@@ -1,40 +1,14 @@
 -- One bit of a byte is written: its word has the new bit in place of the old one.
-use Rattle.std.proofs.Common.{◌≡◌, ℕ, zero, suc, ◌+◌, ◌*◌, ◌/◌, ◌%◌, ◌^◌, ◌<◌, ◌≤◌, List, [], ◌∷◌, ◌++◌, length, get_or, set, take, drop, Some, slice_get, refl, sym, ap, ◌∙◌, arith, drop-drop, get_or-drop}
-use Rattle.std.proofs.lemmas.List.{set_split, get_or_append_left}
+use Rattle.std.proofs.Common.{◌≡◌, ℕ, suc, ◌+◌, ◌*◌, ◌/◌, ◌%◌, ◌^◌, ◌<◌, List, [], ◌∷◌, ◌++◌, length, get_or, set, take, drop, Some, slice_get, refl, sym, ap, ◌∙◌, arith, drop-drop}
+use Rattle.std.proofs.lemmas.List.{set_split}
 use borrow.Rule.Slice.PartMut.{put_mid}
 use Rattle.capnp_format.specs.Bytes.{words_of, message}
-use Rattle.capnp_format.specs.Numbers.{from_digits}
-use Rattle.capnp_format.specs.Value.{AreBelow}
-use Rattle.capnp_format.proofs.Lies.{pow_pow}
 use Rattle.capnp_format.proofs.WordsOf.{words}
-use Rattle.capnp_words.proofs.LittleEndian.{eight_bytes}
-use Rattle.capnp_making.specs.Fields.{with_bits, put_field, with_field}
-use Rattle.capnp_making.proofs.FieldBytes.{cut, low, below_drop, words_of-put_bytes, message_written}
+use Rattle.capnp_making.specs.Fields.{with_field}
+use Rattle.capnp_format.specs.Fields.{with_bits, put_field}
+use Rattle.capnp_making.proofs.FieldBytes.{message_written}
+use Rattle.capnp_format.proofs.FieldBytes.{words_of-put_bytes, byte_of_word}
 use Rattle.capnp_contents.proofs.WithBits.{within_part}
-
-first_digit : (ds : List ℕ) → AreBelow 256 ds → from_digits 256 ds % 256 ≡ get_or ds 0 0
-first_digit [] h = refl
-first_digit (d ∷ ds) h = low 256 d (from_digits 256 ds) h.0
-
-byte_of_digits : (k : ℕ) (ds : List ℕ) → AreBelow 256 ds → k ≤ length ds → get_or ds k 0 ≡ from_digits 256 ds / 2 ^ (8 * k) % 2 ^ 8
-byte_of_digits k ds h l =
-    ap (λ j. get_or ds j 0) (let q : k ≡ k + 0 = omega arith in q)
-    ∙ sym (get_or-drop k ds 0 0)
-    ∙ sym (first_digit (drop k ds) (below_drop 256 k ds h))
-    ∙ ap (λ x. x % 256) (sym (cut 256 k ds h l).others ∙ ap (λ p. from_digits 256 ds / p) (pow_pow 8 k))
-
--- Byte k of word i.
-pub byte_of_word : (i k : ℕ) (bs : List ℕ) → ((j : ℕ) → get_or bs j 0 < 256) → k < 8 → i < length (words_of bs) → get_or bs (8 * i + k) 0 ≡ get_or (words_of bs) i 0 / 2 ^ (8 * k) % 2 ^ 8
-byte_of_word zero k (a ∷ b ∷ c ∷ d ∷ e ∷ f ∷ g ∷ h ∷ rest) small m l =
-    let xs : List ℕ = a ∷ b ∷ c ∷ d ∷ e ∷ f ∷ g ∷ h ∷ [] in
-    ap (λ j. get_or (xs ++ rest) j 0) (let q : 8 * 0 + k ≡ k = omega arith in q)
-    ∙ get_or_append_left xs rest 0 k m
-    ∙ byte_of_digits k xs (small 0, (small 1, (small 2, (small 3, (small 4, (small 5, (small 6, (small 7, tt)))))))) (omega arith)
-    ∙ ap (λ w. w / 2 ^ (8 * k) % 2 ^ 8) (sym (eight_bytes xs refl))
-byte_of_word (suc i) k (a ∷ b ∷ c ∷ d ∷ e ∷ f ∷ g ∷ h ∷ rest) small m l =
-    ap (λ j. get_or (a ∷ b ∷ c ∷ d ∷ e ∷ f ∷ g ∷ h ∷ rest) j 0) (let q : 8 * suc i + k ≡ suc (suc (suc (suc (suc (suc (suc (suc (8 * i + k)))))))) = omega arith in q)
-    ∙ byte_of_word i k rest (λ j. small (suc (suc (suc (suc (suc (suc (suc (suc j))))))))) m (omega arith)
-byte_of_word i k _ small m l = absurd (omega arith)
 
 pub set_is_put : (bs : List ℕ) (b y : ℕ) → b < length bs → set bs b y ≡ put_mid b 1 bs (y ∷ [])
 set_is_put bs b y l =

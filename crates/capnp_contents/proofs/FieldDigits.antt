@@ -7,9 +7,10 @@ use Rattle.std.proofs.lemmas.Nat.Bits.{same_from_bits}
 use Rattle.std.specs.Int.{bit_at}
 use Rattle.capnp_format.specs.Numbers.{from_digits, digits}
 use Rattle.capnp_format.specs.Value.{AreBelow}
-use Rattle.capnp_making.specs.Fields.{with_bits, put_field}
-use Rattle.capnp_making.proofs.FieldBytes.{low, high}
-use Rattle.capnp_contents.proofs.WithBits.{has_bits, is_with_bits, with_bits-below, within_part, bit_at-mod, bit_at-mod_past, bit_at-div, cat_low, cat_high}
+use Rattle.capnp_format.specs.Fields.{with_bits, put_field}
+use Rattle.capnp_format.proofs.Digits.{low, high}
+use Rattle.capnp_contents.proofs.WithBits.{has_bits, is_with_bits, with_bits-below, within_part, bit_at-mod_past, cat_low, cat_high}
+use Rattle.capnp_format.proofs.FieldBytes.{bit_at-mod, bit_at-div}
 
 pub mod_same : (y x k : ℕ) → ((i : ℕ) → i < k → bit_at y i ≡ bit_at x i) → y % 2 ^ k ≡ x % 2 ^ k
 mod_same y x k h = same_from_bits (y % 2 ^ k) (x % 2 ^ k) (λ i. elim (cases_lt i k) [

@@ -13,8 +13,9 @@ use Rattle.capnp_format.specs.Means.{Means, MeansElements}
 use Rattle.capnp_format.specs.Forest.{Interval, times, object_of, target, target_in}
 use Rattle.capnp_format.proofs.Bounds.{digits_below}
 use Rattle.capnp_arena_traits.specs.Written.{with_word}
-use Rattle.capnp_making.specs.Fields.{with_bits, put_field, with_field}
-use Rattle.capnp_making.specs.Path.{struct_at, put_struct, word_interval}
+use Rattle.capnp_making.specs.Fields.{with_field}
+use Rattle.capnp_format.specs.Fields.{with_bits, put_field}
+use Rattle.capnp_format.specs.Path.{struct_at, put_struct, word_interval}
 use Rattle.capnp_making.specs.Stored.{IsStored, IsReplaced}
 use Rattle.capnp_contents.proofs.FieldDigits.{field_in_words, from_digits-set, from_digits-part}
 use Rattle.capnp_contents.proofs.WithBits.{with_bits-below}

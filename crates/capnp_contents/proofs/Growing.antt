@@ -6,15 +6,13 @@ use Rattle.capnp_words.specs.declared.error.ErrorKind.{ErrorKind}
 use Rattle.capnp_format.specs.Segments.{Segments, segment, Grows}
 use Rattle.capnp_format.specs.Tree.{Tree}
 use Rattle.capnp_arena_traits.specs.View.{View}
-use Rattle.capnp_making.specs.Fields.{with_bits, put_field, with_field}
+use Rattle.capnp_making.specs.Fields.{with_field}
+use Rattle.capnp_format.specs.Fields.{with_bits, put_field}
 use Rattle.capnp_making.specs.Makes.{CallAt, MakesObject}
 use Rattle.capnp_making.specs.Memory.{Lengthens, TakesWords}
 use Rattle.capnp_making.specs.Stored.{IsReplaced}
 use Rattle.capnp_making.specs.Zeroed.{IsPruned, IsPrunedBut}
 use Rattle.capnp_making.proofs.Zeros.{lengths_kept}
-
-pub grows_itself : (S : Segments) → Grows S S
-grows_itself S = record { segments = omega arith; words = λ x. omega arith }
 
 pub grows_again : (S M R : Segments) → Grows S M → Grows M R → Grows S R
 grows_again S M R first second = record {

@@ -5,7 +5,7 @@ use Rattle.capnp_format.specs.Segments.{Segments}
 use Rattle.capnp_format.specs.Tree.{Tree, Null}
 use Rattle.capnp_arena_traits.specs.View.{View, KeepsLimits}
 use Rattle.capnp_making.specs.Makes.{Allocates, CallAt, MakesObject, ObjectStartsAt, call_at}
-use Rattle.capnp_making.specs.Path.{extent}
+use Rattle.capnp_format.specs.Path.{extent}
 use Rattle.capnp_making.specs.Stored.{IsReplaced, Puts}
 use Rattle.capnp_making.specs.Zeroed.{IsApart, IsPruned, IsZeroed, Zeroes}
 use Rattle.capnp_making.specs.declared.making.Start.{Start}

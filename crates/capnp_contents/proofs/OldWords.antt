@@ -7,7 +7,7 @@ use Rattle.capnp_format.specs.Forest.{times, cover}
 use Rattle.capnp_arena_traits.specs.View.{View}
 use Rattle.capnp_making.specs.declared.making.Start.{Start}
 use Rattle.capnp_making.specs.Memory.{StandsBehind}
-use Rattle.capnp_making.specs.Path.{extent, word_interval}
+use Rattle.capnp_format.specs.Path.{extent, word_interval}
 use Rattle.capnp_making.specs.Stored.{IsReplaced, IsStored}
 use Rattle.capnp_making.specs.Zeroed.{IsApart, IsZeroed}
 use Rattle.capnp_contents.proofs.BytesWritten.{WritesBytes, written_beside}

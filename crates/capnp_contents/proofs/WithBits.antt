@@ -1,19 +1,14 @@
 -- The bits of a number after some of them were replaced.
 use Rattle.std.proofs.Common.{◌≡◌, ◌≢◌, inl, inr, ℕ, ◌+◌, ◌-◌, ◌*◌, ◌/◌, ◌%◌, ◌^◌, ◌<◌, ◌≤◌, bit_and, bit_or, w8, sym, ap, ◌∙◌, subst, arith}
 use Rattle.std.proofs.lemmas.Bool.{cases_lt}
-use Rattle.std.proofs.lemmas.Nat.{shr-shr, shr_split, mod_below, pow_pos, and_le_l}
+use Rattle.std.proofs.lemmas.Nat.{mod_below, pow_pos, and_le_l}
 use Rattle.std.proofs.lemmas.Nat.Bits.{bit_at_cat_low, bit_at_cat_high, bit_at_above, same_from_bits, bit_at_set_same, bit_at_set_other, bit_at_clear_same, bit_at_clear_other}
 use Rattle.std.specs.Int.{bit_at}
-use Rattle.capnp_making.specs.Fields.{with_bits}
-
-pub bit_at-mod : (x o i : ℕ) → i < o → bit_at (x % 2 ^ o) i ≡ bit_at x i
-bit_at-mod x o i l = sym (bit_at_cat_low (x / 2 ^ o) o (x % 2 ^ o) i l) ∙ ap (λ z. bit_at z i) (shr_split x o)
+use Rattle.capnp_format.specs.Fields.{with_bits}
+use Rattle.capnp_format.proofs.FieldBytes.{bit_at-mod, bit_at-div}
 
 pub bit_at-mod_past : (x o i : ℕ) → o ≤ i → bit_at (x % 2 ^ o) i ≡ 0
 bit_at-mod_past x o i l = bit_at_above (x % 2 ^ o) o i (mod_below x (2 ^ o) (pow_pos o)) l
-
-pub bit_at-div : (x o i : ℕ) → bit_at (x / 2 ^ o) i ≡ bit_at x (o + i)
-bit_at-div x o i = ap (λ z. z % 2) (shr-shr x o i)
 
 -- y is x, with the w bits from bit o on replaced by those of v.
 pub record HasBits (x y o w v : ℕ) : Type 0 where

@@ -6,8 +6,9 @@ ghost use Rattle.capnp_format.specs.Forest.{IsForest, times, target};
 ghost use Rattle.capnp_format.specs.Numbers.{element_bits};
 ghost use Rattle.capnp_format.specs.Segments.{Segments, segment, word_at};
 ghost use Rattle.capnp_format.specs.Tree.{Tree, Struct, Flat, Structs, Trees, Elements, element_count};
-ghost use Rattle.capnp_making.specs.Fields.{put_field, with_field, field_in};
-ghost use Rattle.capnp_making.specs.Path.{Step, node, PathLeads, update, extent, struct_at, put_struct};
+ghost use Rattle.capnp_making.specs.Fields.{with_field};
+ghost use Rattle.capnp_format.specs.Fields.{put_field, field_in};
+ghost use Rattle.capnp_format.specs.Path.{Step, node, PathLeads, update, extent, struct_at, put_struct};
 ghost use Rattle.capnp_making.specs.Stored.{IsStored, IsReplaced, Puts};
 
 /// A message is a forest if its value holds no word twice, and all other words are zero. After a

@@ -3,7 +3,8 @@
 ghost use Rattle.std.specs.Prelude.{◌≡◌, ◌<◌, ◌≤◌, ◌+◌, ◌*◌, ◌%◌, ◌^◌, ◌↔◌, IsTrue, cond, length};
 ghost use Rattle.capnp_format.specs.Bytes.{words_of};
 ghost use Rattle.capnp_format.specs.Segments.{Grows, segment};
-ghost use Rattle.capnp_making.specs.Fields.{with_field, field_in};
+ghost use Rattle.capnp_making.specs.Fields.{with_field};
+ghost use Rattle.capnp_format.specs.Fields.{field_in};
 
 use capnp_arena_traits::arena::BuilderArena;
 use capnp_words::primitive::Primitive;

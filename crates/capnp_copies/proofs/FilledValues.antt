@@ -43,7 +43,8 @@ use Rattle.capnp_copies.proofs.NoRoom.{entered_comes, struct_value_comes, pointe
 use Rattle.capnp_copies.proofs.TooLarge.{struct_value_too_large, pointers_value_too_large, structs_value_too_large, flat_too_large}
 use Rattle.capnp_copies.proofs.Originals.{halfway, sections_beyond, pointers_beyond, structs_beyond}
 use Rattle.capnp_copies.proofs.StructsCopied.{null_written}
-use Rattle.capnp_copies.proofs.ObjectsRead.{inside, stopped_in, capability_stopped, default_stopped, flat_held}
+use Rattle.capnp_copies.proofs.ObjectsRead.{inside, capability_stopped, default_stopped, flat_held}
+use Rattle.capnp_objects.proofs.Valued.{stopped_form}
 use Rattle.capnp_objects.proofs.Followed.{leads_there}
 use Rattle.capnp_making.specs.Makes.{call_at}
 
@@ -53,7 +54,7 @@ object_stops {r} {b} {s} {p} {v} {m} {m'} {k} place null h =
     ((Null, nothing_left v.words v.words s p place null refl), spends_nothing v v k (not_the_allocator k (λ e. not_for_memory (here (subst (Stopped Value b r m m') e h)))) (keeps_itself v))
 
 pub read_stops : {r : Reading} {b : Form} {s p : ℕ} {v : View} {m m' : Meter} {k : ErrorKind} → IsPlace v.words s p → word_at v.words s p ≡ 0 → Stopped Value plain r m m' k → StopsHalfway (value_original r) (change b (call_at s p v v) m m') k
-read_stops {b = b} place null h = object_stops place null (stopped_in b h)
+read_stops {b = b} place null h = object_stops place null (stopped_form b h)
 
 -- Null pointers and capabilities.
 

@@ -50,7 +50,8 @@ use Rattle.capnp_copies.proofs.FilledSections.{sections_kept}
 use Rattle.capnp_copies.proofs.FilledValues.{capability_read, CapabilityCopied}
 use Rattle.capnp_copies.proofs.KeptForms.{SourceKept, one_more as one_row_more, stops_sooner, blank_elements}
 use Rattle.capnp_copies.proofs.ObjectsMade.{TakesForCopy, TakesUntilStop, Begins, no_pad}
-use Rattle.capnp_copies.proofs.ObjectsRead.{inside, stopped_in, capability_stopped, default_stopped}
+use Rattle.capnp_copies.proofs.ObjectsRead.{inside, capability_stopped, default_stopped}
+use Rattle.capnp_objects.proofs.Valued.{stopped_form}
 use Rattle.capnp_copies.proofs.StayingNear.{stay_fewer}
 use Rattle.capnp_objects.proofs.Unreadable.{Spends}
 use Rattle.capnp_objects.proofs.Shorthands.{ReadsBefore}
@@ -319,7 +320,7 @@ no_wider n a b c d l m = mul-le-mul_left n (omega (arith, l, m))
 -- What a pointer leads to.
 
 pub read_stop_taken : {r : Reading} {b : Form} {s : ℕ} {v : View} {m m' : Meter} {k : ErrorKind} → Stopped Value plain r m m' k → TakesUntilStop (value_original r) (change b (call_at s 0 v v) m m')
-read_stop_taken {b = b} {v = v} {k = k} stopped = (here (inl (k, stopped_in b stopped)), made_none (none_itself v))
+read_stop_taken {b = b} {v = v} {k = k} stopped = (here (inl (k, stopped_form b stopped)), made_none (none_itself v))
 
 pub null_takes : {r : Reading} {b : Form} {s : ℕ} {v : View} {m m' : Meter} → IsObject Value r m m' ObjectNull → TakesForCopy (value_original r) (change b (call_at s 0 v v) m m')
 unfolding read_null

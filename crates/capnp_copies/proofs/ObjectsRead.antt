@@ -1,7 +1,6 @@
 -- What a pointer means, once its object was read.
-use Rattle.std.proofs.Common.{◌≡◌, inl, inr, ℕ, Bool, pred, ◌+◌, refl, sym, ap, ◌∙◌, subst, arith}
-use Rattle.capnp_words.specs.declared.error.ErrorKind.{ErrorKind}
-use Rattle.capnp_words.specs.declared.error.ErrorKind.TheVariants.{CannotCreateACanonicalMessageWithACapability, InlineCompositeListsElementsOverrunItsWordCount, InlineCompositeListsOfNonStructTypeAreNotSupported, MalformedDoubleFarPointer, MessageContainsOutOfBoundsPointer, MessageIsTooDeeplyNestedOrContainsCycles, UnknownPointerType}
+use Rattle.std.proofs.Common.{◌≡◌, inr, ℕ, Bool, pred, ◌+◌, refl, sym, ap, ◌∙◌, subst, arith}
+use Rattle.capnp_words.specs.declared.error.ErrorKind.TheVariants.{CannotCreateACanonicalMessageWithACapability, UnknownPointerType}
 use Rattle.capnp_words.specs.declared.wire_pointer.ElementSize.{ElementSize}
 use Rattle.capnp_format.specs.Word.{kind, offset_bits, data_words, pointer_count, element_size, list_count}
 use Rattle.capnp_format.specs.Bytes.{words_of}
@@ -17,10 +16,10 @@ use Rattle.capnp_objects.proofs.Faultless.{same_target}
 use Rattle.capnp_objects.specs.Demands.{tag}
 use Rattle.capnp_objects.specs.Faults.{LeadsTo}
 use Rattle.capnp_objects.specs.Outcomes.{MeansThere}
-use Rattle.capnp_objects.specs.Refusals.{Stopped, no_target, broken, claim_exceeds, count_exceeds}
+use Rattle.capnp_objects.specs.Refusals.{Stopped, broken}
 use Rattle.capnp_objects.specs.Reading.{Reading}
 use Rattle.capnp_objects.specs.Spending.{after, Paid}
-use Rattle.capnp_objects.specs.Wanted.{Form, plain, canonical, of_default, BreaksObject}
+use Rattle.capnp_objects.specs.Wanted.{canonical, of_default}
 use Rattle.capnp_objects.specs.declared.object.Purpose.TheVariants.{Value}
 use Rattle.capnp_objects.proofs.Stops.{same_word}
 
@@ -38,22 +37,6 @@ abbrev pub inside : Reading → ℕ → Place → Reading
 inside r levels start = record r { levels = levels; segment = start.segment; at = start.at }
 
 -- What breaks a plain reading breaks one in any form.
-
-still_refused : (form : Form) (S : Segments) (n : ℕ) (a : Target) (k : ErrorKind) → BreaksObject Value plain S n a k → BreaksObject Value form S n a k
-still_refused form S n a CannotCreateACanonicalMessageWithACapability h = absurd (let e = h.0 in cc e)
-still_refused form S n a MalformedDoubleFarPointer h = h
-still_refused form S n a UnknownPointerType h = (h.0, elim h.1 [ inl unlike ↦ inl unlike | inr never ↦ absurd (cc never) ])
-still_refused form S n a MessageIsTooDeeplyNestedOrContainsCycles h = h
-still_refused form S n a MessageContainsOutOfBoundsPointer h = h
-still_refused form S n a InlineCompositeListsOfNonStructTypeAreNotSupported h = h
-still_refused form S n a InlineCompositeListsElementsOverrunItsWordCount h = h
-still_refused form S n a _ h = absurd h
-
-pub stopped_in : {r : Reading} {m m' : Meter} {k : ErrorKind} (form : Form) → Stopped Value plain r m m' k → Stopped Value form r m m' k
-stopped_in form (no_target h) = no_target h
-stopped_in {r} {k = k} form (broken a f h paid) = broken a f (still_refused form r.segments r.levels a k h) paid
-stopped_in form (claim_exceeds a f level object claims short paid named) = claim_exceeds a f level object claims short paid named
-stopped_in form (count_exceeds a f meets short paid named) = count_exceeds a f meets short paid named
 
 -- A capability is refused in canonical form, and in a default.
 

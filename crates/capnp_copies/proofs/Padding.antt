@@ -8,10 +8,9 @@ use Rattle.capnp_format.specs.Bytes.{words_of}
 use Rattle.capnp_format.specs.Numbers.{from_digits, digits, element_bits, words_for, unpacked, packed}
 use Rattle.capnp_format.specs.Segments.{Segments, segment}
 use Rattle.capnp_format.specs.Value.{AreBelow}
-use Rattle.capnp_format.proofs.Digits.{length-digits, digits-from_digits, from_digits-below}
+use Rattle.capnp_format.proofs.Digits.{length-digits, digits-from_digits, from_digits-below, low, high}
 use Rattle.capnp_format.proofs.Lies.{pow_pow}
 use Rattle.capnp_arena_traits.specs.Written.{overwritten, with_word, with_words, extended}
-use Rattle.capnp_making.proofs.FieldBytes.{low, high}
 
 -- Remainders.
 

@@ -4,6 +4,7 @@ use Rattle.std.proofs.lemmas.List.{drop-take}
 use Rattle.capnp_format.specs.Canonical.{used_from, used_words}
 use Rattle.capnp_objects.proofs.Walked.{row_within}
 use Rattle.capnp_copies.specs.Widths.{most_used}
+use Rattle.capnp_making.proofs.BelowElements.{next_place}
 
 -- The words that are used, but at least n.
 used_beyond : (n : ℕ) (xs : List ℕ) → n ≤ length xs → max n (used_words xs) ≡ n + used_words (drop n xs)
@@ -74,9 +75,6 @@ none_left ws p d stride least {k} {all} none e =
 
 -- The positions of the sections of the next element.
 
-pub first_at : (p w : ℕ) → p ≡ p + 0 * w
-first_at p w = omega arith
-
 pub none_fits : (n : ℕ) → 0 ≤ n
 none_fits n = omega arith
 
@@ -89,8 +87,5 @@ pointers_inside p q {i = i} {n = n} {d = d} place inside bytes less same = omega
 pub next_at : (at : ℕ) {f g d q : ℕ} → f ≡ d → g ≡ q → at + f + g ≡ at + (d + q)
 next_at at is_f is_g = omega arith
 
-row_more : (i w : ℕ) → (i + 1) * w ≡ i * w + w
-row_more i w = grind arith
-
 pub next_reached : (p i w : ℕ) {at e : ℕ} → at ≡ p + i * w → e ≡ at + w → e ≡ p + (i + 1) * w
-next_reached p i w place next = omega (arith, place, next, row_more i w)
+next_reached p i w place next = omega (arith, place, next, next_place w i)

@@ -6,7 +6,8 @@ use Rattle.capnp_format.specs.Tree.{Tree, Null, Capability, Struct, Flat, Pointe
 use Rattle.capnp_words.specs.declared.wire_pointer.StructSize.{StructSize}
 use Rattle.capnp_objects.specs.Faults.{child_at}
 use Rattle.capnp_objects.specs.Outcomes.{MeansThere}
-use Rattle.capnp_objects.specs.Reading.{Reading, behind, sized}
+use Rattle.capnp_objects.specs.Reading.{Reading, behind}
+use Rattle.capnp_words.specs.Sizes.{sized}
 use Rattle.capnp_format.specs.Canonical.{used_trees, take_trees, data_width, pointer_width, cut_to, trim, trim_each, trim_elements, word_count, word_count_all, word_count_elements, pointers, rows, body, bodies, element_bodies}
 use Rattle.capnp_format.proofs.Digits.{length-digits}
 use Rattle.capnp_format.proofs.Lengths.{length-pointers}

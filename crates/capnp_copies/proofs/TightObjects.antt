@@ -50,7 +50,7 @@ stays {N} S s p x h ws B C D l less inside made =
     ap (λ xs. get_or xs p 0) (words_written K N s (take h V ++ B ++ C ++ D) (there K s p (omega (arith, less, inside))) made)
     ∙ in_first (take h V) B C D p (omega (arith, length-take h V, less, inside)) ∙ pointer_stays S s p x h ws l less inside
 
-no_trees_left : (ts : Trees) → count ts ≡ 0 → ts ≡ no_trees
+pub no_trees_left : (ts : Trees) → count ts ≡ 0 → ts ≡ no_trees
 no_trees_left no_trees e = refl
 no_trees_left (tree t ts) e = absurd (omega arith)
 

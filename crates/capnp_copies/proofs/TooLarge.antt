@@ -15,7 +15,8 @@ use Rattle.capnp_making.specs.Near.{HasOwnRoom, StartsBehind}
 use Rattle.capnp_making.specs.declared.making.Start.{Start}
 use Rattle.capnp_objects.specs.Objects.{IsObject}
 use Rattle.capnp_objects.specs.Outcomes.{Reads, MeansThere}
-use Rattle.capnp_objects.specs.Reading.{Reading, behind, segment_read, pointers_of, sized, tag_size}
+use Rattle.capnp_objects.specs.Reading.{Reading, behind, segment_read, pointers_of, tag_size}
+use Rattle.capnp_words.specs.Sizes.{sized}
 use Rattle.capnp_objects.specs.Demands.{tag}
 use Rattle.capnp_objects.specs.Faults.{child_at}
 use Rattle.capnp_objects.specs.Wanted.{Form}

@@ -1,11 +1,11 @@
 -- Children and words that are used, according to the words of the source; and the Nulls after them.
-use Rattle.std.proofs.Common.{◌≡◌, ℕ, zero, suc, ◌+◌, ◌-◌, ◌<◌, ◌≤◌, max, true, nat_eq, List, [], ◌∷◌, length, get_or, take, drop, refl, sym, ap, ap₂, ◌∙◌, subst, arith, eqb-true, get_or-take, get_or-drop}
-use Rattle.capnp_format.specs.Segments.{Segments, segment, word_at, words_at}
+use Rattle.std.proofs.Common.{◌≡◌, ℕ, zero, suc, ◌+◌, ◌-◌, ◌<◌, ◌≤◌, max, true, nat_eq, List, [], ◌∷◌, length, get_or, take, refl, sym, ap, ap₂, ◌∙◌, subst, arith, eqb-true}
+use Rattle.capnp_format.specs.Segments.{Segments, segment, word_at}
 use Rattle.capnp_format.specs.Tree.{Tree, Null, Capability, Struct, Flat, Pointers, Structs, Trees, no_trees, tree, Elements, no_elements, element, count, capabilities_all}
 use Rattle.capnp_format.specs.Means.{MeansAll}
 use Rattle.capnp_format.specs.Canonical.{used_from, used_words, is_null, used_trees, take_trees, data_width, pointer_width, trim, trim_each, trim_elements, cut_to}
 use Rattle.capnp_words.specs.Meter.{Meter}
-use Rattle.capnp_format.proofs.Trimming.{used_from-rest, used_from-past}
+use Rattle.capnp_format.proofs.Trimming.{used_from-rest, used_from-past, trim_each-take}
 use Rattle.capnp_format.proofs.Appending.{append_trees, count-append, means_joined}
 use Rattle.capnp_making.specs.Made.{nulls}
 use Rattle.capnp_making.proofs.Placed.{count-nulls, nulls_mean}
@@ -15,6 +15,7 @@ use Rattle.capnp_objects.specs.Outcomes.{MeansThere, ReadsAll}
 use Rattle.capnp_objects.specs.Reading.{Reading, behind, segment_read, words_from}
 use Rattle.capnp_objects.specs.Wanted.{canonical}
 use Rattle.capnp_objects.proofs.Shorthands.{MeanThere}
+use Rattle.capnp_format.proofs.Slices.{word_in_part}
 
 -- Nothing is used after the used words.
 pub behind_used : (xs : List ℕ) (i : ℕ) → used_words xs ≤ i → get_or xs i 0 ≡ 0
@@ -22,11 +23,8 @@ behind_used [] i l = refl
 behind_used (x ∷ xs) zero l = eqb-true x 0 (used_from-past (nat_eq x 0) (used_words xs) l).0
 behind_used (x ∷ xs) (suc i) l = behind_used xs i (used_from-rest (nat_eq x 0) (used_words xs) i l)
 
-pub word_of : (S : Segments) (s p n i : ℕ) → i < n → get_or (words_at S s p n) i 0 ≡ word_at S s (p + i)
-word_of S s p n i l = get_or-take n (drop p (segment S s)) i 0 l ∙ get_or-drop p (segment S s) i 0
-
 pub null_behind : (r : Reading) (n i : ℕ) → used_words (words_from r n) ≤ i → i < n → word_at r.segments r.segment (r.at + i) ≡ 0
-null_behind r n i u l = sym (word_of r.segments r.segment r.at n i l) ∙ behind_used (words_from r n) i u
+null_behind r n i u l = sym (word_in_part r.segments r.segment r.at n i l) ∙ behind_used (words_from r n) i u
 
 -- The number of children that are used is that of the words used among their pointers.
 pub used_children : {q : ℕ} (r : Reading) (ts : Trees) (c : ℕ) → r.at + q ≤ length (segment_read r) → count ts ≡ q → MeanThere r ts c → used_trees ts ≡ used_words (words_from r q)
@@ -53,11 +51,6 @@ data_width-trim (element ws ts es) = ap (max (used_words ws)) (data_width-trim e
 pointer_width-trim : (es : Elements) → pointer_width (trim_elements es) ≡ pointer_width es
 pointer_width-trim no_elements = refl
 pointer_width-trim (element ws ts es) = ap₂ max (used_trees-trim ts) (pointer_width-trim es)
-
-trim_each-take : (n : ℕ) (ts : Trees) → trim_each (take_trees n ts) ≡ take_trees n (trim_each ts)
-trim_each-take zero ts = refl
-trim_each-take (suc n) no_trees = refl
-trim_each-take (suc n) (tree t ts) = ap (tree (trim t)) (trim_each-take n ts)
 
 -- What is copied of a struct and of a list of structs, with widths from the words of the source.
 pub trim-struct : (ws : List ℕ) (ts : Trees) → trim (Struct ws ts) ≡ Struct (take (used_words ws) ws) (trim_each (take_trees (used_trees ts) ts))

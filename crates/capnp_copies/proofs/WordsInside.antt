@@ -1,6 +1,6 @@
 -- What is inside a row of words is inside the segment, and its positions fit 32 bits: about plain
 -- numbers.
-use Rattle.std.proofs.Common.{◌≡◌, ◌≢◌, ℕ, ◌+◌, ◌*◌, ◌<◌, ◌≤◌, ◌^◌, ap, arith}
+use Rattle.std.proofs.Common.{◌≡◌, ℕ, ◌+◌, ◌*◌, ◌<◌, ◌≤◌, ◌^◌, ap, arith}
 use Rattle.capnp_objects.proofs.Walked.{row_within}
 
 pub child_there : (p n i : ℕ) {l m : ℕ} → p + n ≤ l → i < n → l ≤ m → p + i < m
@@ -23,9 +23,6 @@ one_more less = omega arith
 
 pub some_more : (n : ℕ) → 0 < 1 + n
 some_more n = omega arith
-
-pub some_words : {k n : ℕ} → k ≡ n → k ≢ 0 → 0 < n
-some_words same some = omega (arith, same, some)
 
 pub fewer_words : {a b c d n : ℕ} → a ≤ c → b ≤ d → n ≡ c → a + b ≤ n + d
 fewer_words less fewer long = omega arith

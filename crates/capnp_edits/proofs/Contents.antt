@@ -15,7 +15,7 @@ use Rattle.capnp_contents.specs.declared.existing.ExistingBytes.{ExistingBytes}
 use Rattle.capnp_contents.specs.declared.existing.ExistingList.{ExistingList}
 use Rattle.capnp_contents.specs.Existing.{size_of, plain_misfit, structs_misfit, plain_list, struct_list, unless, list_in, bytes_at, ends_in_zero, text_in, data_in, BytesLieIn}
 use Rattle.capnp_making.specs.Fields.{with_field}
-use Rattle.capnp_making.specs.Path.{put_struct}
+use Rattle.capnp_format.specs.Path.{put_struct}
 use Rattle.capnp_making.specs.Stored.{IsStored, IsReplaced}
 use Rattle.capnp_contents.proofs.FieldsWritten.{flat_part_written, element_field_written}
 use Rattle.capnp_making.proofs.Zeros.{there}

@@ -59,7 +59,7 @@ use Rattle.capnp_edits.proofs.ListReads.{list_read_as}
 use Rattle.capnp_edits.proofs.Steps.{same_some}
 use Rattle.capnp_edits.proofs.Ways.{as_it_stands, is_copied, is_not_copied, is_unread}
 use Rattle.capnp_making.specs.Near.{HasOwnRoom}
-use Rattle.capnp_widening.specs.Rooms.{is_allocation_name}
+use Rattle.capnp_words.specs.Names.{is_allocation_name}
 
 -- The reader is at the source's root, and the root's word is charged.
 abbrev pub IsRootReader : {A : Type 0} (g : Ghosts A) → Source → PointerReader A g → Meter → Type 0

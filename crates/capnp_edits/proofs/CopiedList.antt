@@ -8,7 +8,7 @@ use Rattle.capnp_words.specs.declared.error.ErrorKind.TheVariants.{MessageContai
 use Rattle.capnp_words.specs.declared.wire_pointer.ElementSize.{ElementSize}
 use Rattle.capnp_words.specs.declared.wire_pointer.ElementSize.TheVariants.{Void, Bit, Byte, TwoBytes, FourBytes, EightBytes, Pointer, InlineComposite}
 use Rattle.capnp_words.specs.declared.wire_pointer.StructSize.{StructSize}
-use Rattle.capnp_words.specs.Sizes.{size_number}
+use Rattle.capnp_words.specs.Sizes.{size_number, sized}
 use Rattle.capnp_arena_traits.specs.View.{View}
 use Rattle.capnp_arena_traits.specs.declared.arena.reader_arena.ReaderArena.{Ghosts}
 use Rattle.capnp_format.specs.Means.{IsTag, Claims, count_cost}
@@ -22,7 +22,7 @@ use Rattle.capnp_objects.specs.Demands.{tag, own, Meets}
 use Rattle.capnp_objects.specs.Expected.{list_expected, CanBeGiven, null_pointer, fitting, narrow_elements}
 use Rattle.capnp_objects.specs.Faults.{LeadsTo, child_at}
 use Rattle.capnp_objects.specs.Outcomes.{Reads, ReadsAll, ReadsElements, Entered, MeansThere}
-use Rattle.capnp_objects.specs.Reading.{Reading, word_of, words_from, sized, tag_size}
+use Rattle.capnp_objects.specs.Reading.{Reading, word_of, words_from, tag_size}
 use Rattle.capnp_objects.specs.Refusals.{Refused}
 use Rattle.capnp_objects.specs.Source.{levels}
 use Rattle.capnp_objects.specs.Spending.{after, pointers_in_all, pointers_in_elements}
@@ -45,10 +45,11 @@ use Rattle.capnp_copies.specs.Originals.{FitsListPointer, list_original}
 use Rattle.capnp_copies.proofs.Originals.{exceeding, list_words, refused_words}
 use Rattle.capnp_edits.specs.declared.edit.copying.Copying.{Copying}
 use Rattle.capnp_edits.specs.declared.edit.copying.Wanted.TheVariants.{List as AList}
-use Rattle.capnp_widening.specs.Rooms.{is_allocation_name}
+use Rattle.capnp_words.specs.Names.{is_allocation_name}
 use Rattle.capnp_edits.specs.Sources.{as_wanted, ListElements, LeadsToList, no_list, a_plain_list, a_struct_list}
 use Rattle.capnp_edits.proofs.Applied.{of_allocation}
-use Rattle.capnp_edits.proofs.CopiedStruct.{CanBeCopiedAs, level_less}
+use Rattle.capnp_edits.proofs.CopiedStruct.{CanBeCopiedAs}
+use Rattle.capnp_objects.proofs.Levels.{level_less}
 use Rattle.capnp_edits.proofs.ListReads.{ReadsList, RefusedList, as_list_read, list_refused_as}
 use Rattle.capnp_edits.proofs.Steps.{same_some}
 use Rattle.capnp_objects.proofs.Followed.{leads_to, entered_leads}

@@ -1,8 +1,6 @@
 -- The copy of the struct that a root leads to.
-use Rattle.std.proofs.Common.{◌≡◌, inl, inr, ◌⊎◌, ℕ, zero, suc, pred, ◌+◌, ◌*◌, ◌/◌, ◌%◌, ◌^◌, ◌<◌, ◌≤◌, Bool, true, nat_eq, cond, List, [], length, Some, None, refl, sym, ap, ap₂, ◌∙◌, subst, arith}
+use Rattle.std.proofs.Common.{◌≡◌, inl, inr, ◌⊎◌, ℕ, pred, ◌+◌, ◌*◌, ◌/◌, ◌%◌, ◌^◌, ◌<◌, ◌≤◌, Bool, true, nat_eq, cond, List, [], length, Some, None, refl, sym, ap, ap₂, ◌∙◌, subst, arith}
 use Rattle.std.proofs.lemmas.Bool.{ne_eqb}
-use lib.IntN.{ℤ, pos, negsuc, ◌-ℤ◌}
-use Rattle.std.proofs.lemmas.Int.{ints}
 use Rattle.capnp_words.specs.Meter.{Meter, Affords}
 use Rattle.capnp_words.specs.declared.error.ErrorKind.{ErrorKind}
 use Rattle.capnp_words.specs.declared.error.ErrorKind.TheVariants.{MessageContainsNonStructPointerWhereStructPointerWasExpected, MessageIsTooDeeplyNestedOrContainsCycles}
@@ -46,13 +44,15 @@ use Rattle.capnp_value_copies.proofs.DataSections.{whole_section}
 use Rattle.capnp_copies.proofs.KeptForms.{kept_count-le}
 use Rattle.capnp_edits.specs.declared.edit.copying.Copying.{Copying}
 use Rattle.capnp_edits.specs.declared.edit.copying.Wanted.TheVariants.{Struct as AStruct}
-use Rattle.capnp_widening.specs.Rooms.{is_allocation_name}
+use Rattle.capnp_words.specs.Names.{is_allocation_name}
 use Rattle.capnp_edits.specs.Sources.{as_wanted, Sections, LeadsToStruct, no_struct, a_struct}
 use Rattle.capnp_edits.proofs.Applied.{of_allocation}
 use Rattle.capnp_edits.proofs.Steps.{same_some}
 use Rattle.capnp_objects.proofs.Followed.{leads_to, entered_leads}
 use Rattle.capnp_objects.proofs.Shorthands.{RefusedAll}
 use Rattle.capnp_making.specs.Makes.{call_at}
+use Rattle.capnp_copies.proofs.TightObjects.{no_trees_left}
+use Rattle.capnp_objects.proofs.Levels.{level_less}
 
 -- The place r means a value that is as wanted, and without capabilities if the copy is canonical,
 -- at a cost within the limiter m. The words that the copy keeps of it fit after `used` words of a
@@ -66,12 +66,6 @@ pub record CanBeCopiedAs (c : Copying) (r : Reading) (m : Meter) (used room : �
   pub copied : Tree
   pub is_wanted : as_wanted c.wanted value ≡ Some copied
   pub fits : used + word_count (kept (form_of c.canonicalize) copied) ≤ room
-
--- one level less, for a nesting limit z
-pub level_less : (z : ℤ) → 0 < levels z → levels (z -ℤ pos 1) ≡ pred (levels z)
-level_less (pos zero) some = absurd (omega arith)
-level_less (pos (suc n)) some = let e : (pos (suc n) -ℤ pos 1) ≡ pos n = omega (arith, ints) in ap levels e
-level_less (negsuc n) some = absurd (omega arith)
 
 -- what a struct reader shows is the struct that the place leads to
 pub struct_at : {A : Type 0} (g : Ghosts A) (p : PointerReader A g) (m m' : Meter) (v : StructReader A g) → length v.content.now ≡ bytes_for v.bits → IsStructRead g p m m' v →
@@ -96,11 +90,6 @@ pub whole_bits : {A : Type 0} (g : Ghosts A) (p : PointerReader A g) (m n : Mete
 whole_bits g p m n v (inl (null, same, nothing, no_bits, none, nesting)) = omega (arith, no_bits)
 whole_bits g p m n v (inr (a, o, z, shows, source, nesting)) = omega (arith, shows.bits_are)
 
--- reading the struct, and then its pointers, is reading the value
-no_children : (ts : Trees) → count ts ≡ 0 → ts ≡ no_trees
-no_children no_trees e = refl
-no_children (tree t ts) e = absurd (omega arith)
-
 none_read : (form : Form) (r : Reading) (m m' : Meter) (ts : Trees) → ReadsAll form r m m' ts → ts ≡ no_trees → m' ≡ m
 none_read form r m m' no_trees all e = all.spent ∙ ap (λ c. after r.charging m c 0) all.means ∙ after_none r.charging m
 none_read form r m m' (tree t ts) all e = absurd (cc)
@@ -108,7 +97,7 @@ none_read form r m m' (tree t ts) all e = absurd (cc)
 pub struct_reads : (form : Form) (r : Reading) (m m' : Meter) (s : Sections) (ts : Trees) → LeadsToStruct r m s → count ts ≡ s.pointers → ReadsAll form s.first s.limiter m' ts →
     (t : Tree) × Reads form r m m' t × (as_wanted AStruct t ≡ Some (Struct s.words ts))
 struct_reads form r m m' s ts (no_struct null ws none same) counts all =
-    let empty : ts ≡ no_trees = no_children ts (counts ∙ none) in
+    let empty : ts ≡ no_trees = no_trees_left ts (counts ∙ none) in
     let still : m ≡ m' = sym (none_read form s.first s.limiter m' ts all empty ∙ same) in
     (Null, subst (λ y. Reads form r m y Null) still (read_null m null), ap₂ (λ w u. Some (Struct w u)) (sym ws) (sym empty))
 struct_reads form r m m' s ts (a_struct a o z ws first q) counts all =

@@ -1,6 +1,6 @@
 -- Content of another message's struct, copied over a struct that a pointer leads to or that is an
 -- element of a list.
-use Rattle.std.proofs.Common.{◌≡◌, ◌⊎◌, inl, inr, ℕ, zero, suc, pred, min, ◌+◌, ◌*◌, ◌/◌, ◌<◌, List, [], ◌∷◌, length, Option, Some, None, IsSomeAnd, Result, Ok, Err, IsOk, IfOk, IfErr, OnErr, true, refl, sym, ap, ap₂, ◌∙◌, subst, arith, map}
+use Rattle.std.proofs.Common.{◌≡◌, ◌⊎◌, inl, inr, ℕ, zero, suc, pred, min, ◌+◌, ◌*◌, ◌<◌, List, [], ◌∷◌, length, Option, Some, None, IsSomeAnd, Result, Ok, Err, IsOk, IfOk, IfErr, OnErr, true, refl, sym, ap, ap₂, ◌∙◌, subst, arith, map}
 use Rattle.std.specs.Prelude.{MatchOption, ⊤}
 use Rattle.capnp_words.specs.Meter.{Meter}
 use Rattle.capnp_words.specs.declared.error.ErrorKind.{ErrorKind}
@@ -15,7 +15,7 @@ use Rattle.capnp_format.specs.Word.{data_words, pointer_count}
 use Rattle.capnp_making.specs.Memory.{refusals_for}
 use Rattle.capnp_contents.specs.declared.existing.ExistingStruct.{ExistingStruct}
 use Rattle.capnp_contents.specs.Existing.{struct_in}
-use Rattle.capnp_making.specs.Path.{Element, update, put_struct, struct_at}
+use Rattle.capnp_format.specs.Path.{Element, update, put_struct, struct_at}
 use Rattle.capnp_making.specs.Stored.{IsStored, IsReplaced}
 use Rattle.capnp_making.proofs.Replaced.{forest_stored, forest_updated, stored_within}
 use Rattle.capnp_objects.specs.Outcomes.{ReadsAll}
@@ -46,7 +46,7 @@ use Rattle.capnp_value_copies.specs.StructValues.{data_of}
 use Rattle.capnp_copies.proofs.Growth.{none_taken, all_taken}
 use Rattle.capnp_builders.specs.Content.{TakesContent, StopsAtContent, ContentFits, pointers_copied}
 use Rattle.capnp_builders.specs.Content.{up_to}
-use Rattle.capnp_builders.specs.Places.{IsAligned, struct_place}
+use Rattle.capnp_builders.specs.Places.{struct_place}
 use Rattle.capnp_builders.proofs.ContentTaken.{content_taken, content_stopped}
 use Rattle.capnp_builders.proofs.ElementContent.{element_content_taken, element_content_stopped, element_long}
 use Rattle.capnp_format.specs.Canonical.{word_count_all}
@@ -202,12 +202,6 @@ fill_nowhere (Err k) old new e source (x, is, inr stops) n =
       | inl h ↦ of_no_place k (of_allocation stops.taken new (length new.words) (h.0.0 + 1) k h.0.2.0.0) nowhere
       | inr refused ↦ not_for_place (subst (λ y. Refused plain (behind stops.content.from.first (count stops.content.children)) stops.content.after stops.after y) nowhere refused)
     ])
-
--- whole words start at a word
-pub sections_aligned : (e : ExistingStruct) → IsAligned (struct_place e)
-sections_aligned e some =
-    let eight : min 8 (64 * e.size.data_words / 8) ≡ 8 = omega (arith, some) in
-    (rw eight refl, rw eight (omega arith))
 
 -- copying content over a struct without words changes nothing
 pub fill_nothing : {A : Type 0} (g : Ghosts A) (source : Source) (from : PointerReader A g) (v : StructReader A g) (m n : Meter) (S : Segments) (e : ExistingStruct) → IsRootReader g source from m → length v.content.now ≡ bytes_for v.bits →

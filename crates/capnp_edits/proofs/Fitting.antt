@@ -12,12 +12,12 @@ use Rattle.capnp_format.specs.Forest.{IsForest, cover}
 use Rattle.capnp_format.specs.Segments.{Segments, segment}
 use Rattle.capnp_format.specs.Tree.{Tree}
 use Rattle.capnp_making.specs.Memory.{KeepsMemory, TakesWords}
-use Rattle.capnp_making.specs.Path.{word_interval}
+use Rattle.capnp_format.specs.Path.{word_interval}
 use Rattle.capnp_making.specs.Stored.{IsStored}
 use Rattle.capnp_making.proofs.Extents.{once_held, times-first}
 use Rattle.capnp_making.proofs.Replaced.{forest_stored, stored_within}
 use Rattle.capnp_widening.specs.Anew.{OnlyWrites}
-use Rattle.capnp_widening.specs.Rooms.{is_allocation_name}
+use Rattle.capnp_words.specs.Names.{is_allocation_name}
 use Rattle.capnp_pointers.specs.declared.pointers.PointerPlace.{PointerPlace}
 use Rattle.capnp_edits.specs.declared.edit.Edit.{Edit}
 use Rattle.capnp_edits.specs.declared.edit.path.PathEnd.{PathEnd}

@@ -40,7 +40,8 @@ use Rattle.capnp_readers.specs.declared.readers.list_reader.ListPlace.{ListPlace
 use Rattle.capnp_readers.specs.declared.readers.struct_reader.StructPlace.{StructPlace}
 use Rattle.capnp_making.specs.Makes.{CallAt, call_at}
 use Rattle.capnp_widening.specs.Opening.{IsNoWider, Opens, OpensStruct, struct_opened}
-use Rattle.capnp_widening.specs.Rooms.{HasRoomFor, OpeningFits, RefusesGrowth, RefusesToBecome, direct_pointers, is_allocation_name, widened_words}
+use Rattle.capnp_widening.specs.Rooms.{HasRoomFor, OpeningFits, RefusesGrowth, RefusesToBecome, direct_pointers, widened_words}
+use Rattle.capnp_words.specs.Names.{is_allocation_name}
 use Rattle.capnp_widening.specs.RowsRemade.{RefusesWider}
 use Rattle.capnp_widening.specs.Widened.{list_widened, widened}
 use Rattle.capnp_widening.proofs.Refusing.{growth_named}
@@ -63,6 +64,8 @@ use Rattle.capnp_edits.proofs.Contents.{list_anywhere, data_anywhere, text_anywh
 use Rattle.capnp_edits.proofs.Names.{elsewhere, struct_elsewhere, structs_elsewhere, list_elsewhere, data_elsewhere, text_elsewhere, fault_elsewhere, unfound_name, list_unfound, data_unfound, text_unfound}
 use Rattle.capnp_edits.proofs.Steps.{same_some}
 use Rattle.capnp_edits.proofs.Ways.{Way, as_it_stands, default_dropped, default_put, is_allocated, is_denied, is_done, is_not_allocated, yielded}
+use Rattle.capnp_widening.proofs.Listed.{same_tree}
+use Rattle.capnp_builders.proofs.Openings.{same_error}
 
 -- a small default has few words
 pub few_words : (default : Option (Bor (List ℕ))) → is_small_default default ≡ true → IsShortDefault default
@@ -210,12 +213,6 @@ IsWhy sought c k = ((k ≡ NoSuchPlace → ⊥) × (c.new ≡ c.old)) ⊎ IsGrow
 abbrev WhySo : Sought → (CallAt → Tree → Type 0) → ErrorKind → Type 0
 WhySo sought P k = (c : CallAt) (t : Tree) → IsStored c.old.words c.segment c.at t → P c t → IsWhy sought c k
 
-same_err : {A : Type 0} (j k : ErrorKind) → ◌≡◌ {A = Result A ErrorKind} (Err j) (Err k) → j ≡ k
-same_err j k e = cc
-
-same_ok : (t u : Tree) → ◌≡◌ {A = Result Tree ErrorKind} (Ok t) (Ok u) → t ≡ u
-same_ok t u e = cc
-
 -- memory is refused for what the value t at the place becomes
 not_become : (becomes_of : Tree → Result Tree ErrorKind) (c : CallAt) (t u : Tree) (k : ErrorKind) → IsStored c.old.words c.segment c.at t → becomes_of t ≡ Ok u → SpendsMemory c.old c.new k →
     RefusesGrowth c.old c.new (widened_words u) (direct_pointers t) k → RefusesToBecome (IsStored c.old.words c.segment c.at) becomes_of c.old c.new k
@@ -224,14 +221,14 @@ not_become becomes_of c t u k stored e memory full = record {
   memory = memory;
   full = λ x v stands f.
       (let same : x ≡ t = (one_value c.old.words stands.means.0 stored.means.0 c.segment c.at x t stands.means.1 stored.means.1 stands.means.2 stored.means.2).0 in
-      let made : u ≡ v = same_ok u v (sym e ∙ ap becomes_of (sym same) ∙ f) in
+      let made : u ≡ v = same_tree u v (sym e ∙ ap becomes_of (sym same) ∙ f) in
       subst (λ y. RefusesGrowth c.old c.new (widened_words y) (direct_pointers x) k) made (subst (λ y. RefusesGrowth c.old c.new (widened_words u) (direct_pointers y) k) (sym same) full));
 }
 
 why_opened : {B : Type 0} (becomes_of : Tree → Result Tree ErrorKind) (k : ErrorKind) (size : StructSize) (Given : Segments → ℕ → ℕ → Tree → B → Type 0) (c : CallAt) (t : Tree) → IsStored c.old.words c.segment c.at t → (q : Result Tree ErrorKind) → becomes_of t ≡ q →
     ((j : ErrorKind) → q ≡ Err j → j ≡ NoSuchPlace → ⊥) → Opens size Given c t q (Err k) → ((k ≡ NoSuchPlace → ⊥) × (c.new ≡ c.old)) ⊎ RefusesToBecome (IsStored c.old.words c.segment c.at) becomes_of c.old c.new k
 why_opened becomes_of k size Given c t stored (Ok u) e names h = inr (not_become becomes_of c t u k stored e h.memory h.full)
-why_opened becomes_of k size Given c t stored (Err j) e names h = inl ((λ e. names j refl (sym (same_err k j h.0) ∙ e)), h.1)
+why_opened becomes_of k size Given c t stored (Err j) e names h = inl ((λ e. names j refl (sym (same_error k j h.0) ∙ e)), h.1)
 
 struct_why : (size : StructSize) (k : ErrorKind) → WhySo (ForStruct size) (OpensStruct IsStructGiven size (Err k)) k
 struct_why size k c t stored h = why_opened (struct_opened size) k size IsStructGiven c t stored (struct_opened size t) refl (λ j e. elsewhere (struct_opened size t) j (struct_elsewhere size t) e) h
@@ -397,13 +394,13 @@ opened_fits : (v : View) (s p : ℕ) (size : StructSize) (t u : Tree) → IsStor
 opened_fits v s p size Null u stored is room = inl (stored.means.2.0, new_room room)
   where
     words : widened_words u ≡ size.data_words + size.pointers
-    words = ap widened_words (sym (same_ok (zero_struct size) u is)) ∙ (let e : length (words_of_zero size.data_words) + count (nulls size.pointers) ≡ size.data_words + size.pointers = omega (arith, length-replicate {A = ℕ} size.data_words 0, count-nulls size.pointers) in e)
+    words = ap widened_words (sym (same_tree (zero_struct size) u is)) ∙ (let e : length (words_of_zero size.data_words) + count (nulls size.pointers) ≡ size.data_words + size.pointers = omega (arith, length-replicate {A = ℕ} size.data_words 0, count-nulls size.pointers) in e)
 
     new_room : HasRoomFor v s p Null u → HasRoom v s (size.data_words + size.pointers)
     new_room h =
         let a = (target v.words s p).segment in
         subst (HasRoom v s) (let e : widened_words u + 2 * (0 - (v.room a - length (segment v.words a))) ≡ size.data_words + size.pointers = omega (arith, words) in e) h
-opened_fits v s p size (Struct ws ts) u stored is room = inr (ws, ts, stored, subst (HasRoomFor v s p (Struct ws ts)) (sym (same_ok (widened size ws ts) u is)) room)
+opened_fits v s p size (Struct ws ts) u stored is room = inr (ws, ts, stored, subst (HasRoomFor v s p (Struct ws ts)) (sym (same_tree (widened size ws ts) u is)) room)
 opened_fits v s p size (Capability i) u stored is room = absurd (cc)
 opened_fits v s p size (Flat z ns) u stored is room = absurd (cc)
 opened_fits v s p size (Pointers ts) u stored is room = absurd (cc)
@@ -472,12 +469,12 @@ IsDenied (is_copied_from bytes) = ⊥
 
 used_fits : (B : Type 0) (k : ErrorKind) (of_null : DefaultUse) (bytes ws : List ℕ) (P : CallAt → Tree → Type 0) (c : CallAt) → IsDenied of_null → NamedSo P k →
     CanBeCopied (value_original (default_root bytes)) of_default (unused None) c.old c.segment → WithDefault {B = B} (use_of_words of_null bytes ws) c Null P (Err k) → is_of_path k ≡ true
-used_fits B k of_null bytes [] P c plain name room h = ap is_of_path (same_err k MessageContainsOutOfBoundsPointer h.0)
+used_fits B k of_null bytes [] P c plain name room h = ap is_of_path (same_error k MessageContainsOutOfBoundsPointer h.0)
 used_fits B k of_null bytes (x ∷ xs) P c plain name room h = by_first (nat_eq x 0) of_null plain h
   where
     by_first : (b : Bool) (used : DefaultUse) → IsDenied used → WithDefault {B = B} (cond b used (is_copied_from bytes)) c Null P (Err k) → is_of_path k ≡ true
     by_first true ignored d g = unfound_place k (name c Null g)
-    by_first true (is_denied_by j) d g = ap is_of_path (same_err k j g.0) ∙ d
+    by_first true (is_denied_by j) d g = ap is_of_path (same_error k j g.0) ∙ d
     by_first true (is_copied_from other) d g = absurd d
     by_first false used d (inl on) = unfound_place k (name (record c { old = on.0 }) on.1 on.3)
     by_first false used d (inr drops) = absurd (never_dropped bytes c.segment c.at c.old c.new k room drops.named)

@@ -10,7 +10,7 @@ use Rattle.capnp_format.specs.Tree.{Tree, Struct, Pointers, Structs, count, elem
 use Rattle.capnp_making.proofs.Extents.{once_held, times-first}
 use Rattle.capnp_making.proofs.Paths.{same_node}
 use Rattle.capnp_making.proofs.Replaced.{forest_stored}
-use Rattle.capnp_making.specs.Path.{Step, Child, Element, tree_at, struct_at, next, node, PathLeads, word_interval}
+use Rattle.capnp_format.specs.Path.{Step, Child, Element, tree_at, struct_at, next, node, PathLeads, word_interval}
 use Rattle.capnp_making.specs.Stored.{IsStored}
 use Rattle.capnp_edits.specs.declared.edit.Edit.{Edit}
 use Rattle.capnp_edits.specs.declared.edit.tasks.Task.{Task}

@@ -12,7 +12,7 @@ use Rattle.capnp_words.specs.declared.wire_pointer.ElementSize.TheVariants.{Void
 use Rattle.capnp_contents.specs.declared.existing.ExistingList.{ExistingList}
 use Rattle.capnp_contents.specs.declared.existing.ExistingStruct.{ExistingStruct}
 use Rattle.capnp_contents.specs.Existing.{struct_in, list_in, size_of, plain_list, struct_list, plain_misfit, unless}
-use Rattle.capnp_making.specs.Path.{Step, Child, Element, tree_at, struct_at, next, node, PathLeads, word_interval}
+use Rattle.capnp_format.specs.Path.{Step, Child, Element, tree_at, struct_at, next, node, PathLeads, word_interval}
 use Rattle.capnp_making.specs.Stored.{IsStored}
 use Rattle.capnp_making.proofs.Extents.{once_held, times-first}
 use Rattle.capnp_making.proofs.Paths.{node_of_parts}

@@ -4,7 +4,8 @@ use Rattle.std.proofs.lemmas.List.{length-set}
 use Rattle.capnp_words.specs.declared.error.ErrorKind.{ErrorKind}
 use Rattle.capnp_arena_traits.proofs.WordsOver.{lengths_kept}
 use Rattle.capnp_format.specs.Segments.{Segments, segment}
-use Rattle.capnp_making.specs.Fields.{put_field, with_field}
+use Rattle.capnp_making.specs.Fields.{with_field}
+use Rattle.capnp_format.specs.Fields.{put_field}
 use Rattle.capnp_contents.specs.declared.existing.ExistingBytes.{ExistingBytes}
 use Rattle.capnp_contents.specs.declared.existing.ExistingList.{ExistingList}
 use Rattle.capnp_contents.specs.declared.existing.ExistingStruct.{ExistingStruct}

@@ -1,5 +1,5 @@
 -- The task of an operation is in range.
-use Rattle.std.proofs.Common.{◌≡◌, ℕ, Bool, true, false, cond, if◌then◌else◌, Option, Some, None, refl, subst}
+use Rattle.std.proofs.Common.{◌≡◌, Bool, true, false, cond, if◌then◌else◌, Option, Some, None, refl, subst}
 use Rattle.capnp_words.specs.declared.wire_pointer.ElementSize.TheVariants.{Bit, Byte}
 use Rattle.capnp_edits.specs.declared.edit.Op.{Op}
 use Rattle.capnp_edits.specs.declared.edit.Op.TheVariants.{InitStruct, InitList, InitStructList, InitText, InitData, SetText, SetData, SetCapability, Clear, SetField, SetBool, SetElement, WriteText, WriteData, GetStruct, GetList, GetStructList, GetText, GetData, CopyFrom, SetStruct, SetList, CopyContent}
@@ -10,16 +10,12 @@ use Rattle.capnp_edits.specs.declared.edit.tasks.NewObject.TheVariants.{ZeroStru
 use Rattle.capnp_edits.specs.declared.edit.tasks.StructChange.TheVariants.{Bits, Content}
 use Rattle.capnp_edits.specs.declared.edit.tasks.Part.TheVariants.{ListElement, TextByte, DataByte}
 use Rattle.capnp_edits.specs.declared.edit.tasks.Sought.TheVariants.{Struct as ForStruct, List as ForList, StructList as ForStructs, Text as ForText, Data as ForData}
-use Rattle.capnp_edits.specs.Tasks.{is_in_range, as_task, task_of}
+use Rattle.capnp_edits.specs.Tasks.{is_in_range, task_of}
 use Rattle.capnp_edits.proofs.Steps.{same_some}
 
 -- A task, if its numbers are in range.
 abbrev pub if_in_range : Task → Option Task
 if_in_range task = if is_in_range task then Some task else None
-
-pub other_task : (op : Op) → ((i v : ℕ) → op ≡ SetField Bit i v → ⊥) → if_in_range (as_task op) ≡ task_of op
-other_task (SetField Bit i v) other = absurd (other i v refl)
-other_task op other = refl
 
 picked : (task t : Task) → if_in_range task ≡ Some t → is_in_range t ≡ true
 picked task t e = go (is_in_range task) refl e

@@ -9,11 +9,11 @@ use Rattle.capnp_words.specs.declared.wire_pointer.ElementSize.TheVariants.{Void
 use Rattle.capnp_words.specs.Sizes.{size_number}
 use Rattle.capnp_format.specs.Canonical.{IsFree}
 use Rattle.capnp_format.specs.Tree.{Tree, Null, Struct, count}
-use Rattle.capnp_making.specs.Path.{update}
+use Rattle.capnp_format.specs.Path.{update}
 use Rattle.capnp_objects.specs.Faults.{HasFault}
 use Rattle.capnp_objects.specs.Outcomes.{MeansThere}
 use Rattle.capnp_objects.specs.Wanted.{of_default}
-use Rattle.capnp_widening.specs.Rooms.{is_allocation_name}
+use Rattle.capnp_words.specs.Names.{is_allocation_name}
 use Rattle.capnp_builders.specs.Content.{HoldContent, up_to}
 use Rattle.capnp_builders.specs.Defaults.{default_root}
 use Rattle.capnp_edits.specs.declared.edit.Edit.{Edit}

@@ -19,11 +19,12 @@ use Rattle.capnp_format.specs.Tree.{Tree, Null, Capability, Struct, Flat, Struct
 use Rattle.capnp_format.specs.Canonical.{IsFree}
 use Rattle.capnp_format.specs.Forest.{IsForest}
 use Rattle.capnp_contents.specs.Existing.{is_unfound, list_in, data_in, text_in, BytesLieIn}
-use Rattle.capnp_making.specs.Fields.{with_bits, put_field, with_field}
+use Rattle.capnp_making.specs.Fields.{with_field}
+use Rattle.capnp_format.specs.Fields.{with_bits, put_field}
 use Rattle.capnp_making.specs.Filled.{AreFilled}
 use Rattle.capnp_making.specs.Memory.{refusals_for}
 use Rattle.capnp_making.specs.Made.{zero_struct, zero_structs, zero_list}
-use Rattle.capnp_making.specs.Path.{struct_at, put_struct, update}
+use Rattle.capnp_format.specs.Path.{struct_at, put_struct, update}
 use Rattle.capnp_making.specs.Stored.{IsReplaced}
 use Rattle.capnp_contents.specs.declared.existing.ExistingBytes.{ExistingBytes}
 use Rattle.capnp_contents.specs.declared.existing.ExistingList.{ExistingList}
@@ -33,7 +34,7 @@ use Rattle.capnp_objects.specs.Outcomes.{MeansThere}
 use Rattle.capnp_objects.specs.Wanted.{of_default}
 use Rattle.capnp_readers.specs.Readers.{IsListPlace}
 use Rattle.capnp_readers.specs.declared.readers.struct_reader.StructPlace.{StructPlace}
-use Rattle.capnp_widening.specs.Rooms.{is_allocation_name}
+use Rattle.capnp_words.specs.Names.{is_allocation_name}
 use Rattle.capnp_widening.specs.Widened.{list_widened}
 use Rattle.capnp_builders.specs.Defaults.{DefaultUse, ignored, denied as is_denied_by}
 use Rattle.capnp_builders.specs.Defaults.{copied as is_copied_from, default_use}

@@ -7,7 +7,7 @@ use Rattle.capnp_format.specs.Tree.{Tree, Struct, Pointers, Structs, Elements, c
 use Rattle.capnp_format.specs.Forest.{target}
 use Rattle.capnp_contents.specs.Existing.{StructLiesIn}
 use Rattle.capnp_making.specs.Stored.{IsStored}
-use Rattle.capnp_making.specs.Path.{Step, Child, Element, tree_at, struct_at, next, node, PathLeads}
+use Rattle.capnp_format.specs.Path.{Step, Child, Element, tree_at, struct_at, next, node, PathLeads}
 use Rattle.capnp_contents.specs.declared.existing.ExistingList.{ExistingList}
 use Rattle.capnp_contents.specs.declared.existing.ExistingStruct.{ExistingStruct}
 use Rattle.capnp_edits.specs.declared.edit.Step.{Step as EditStep}

@@ -7,7 +7,7 @@ ghost use Rattle.capnp_arena_traits.specs.View.{View};
 ghost use Rattle.capnp_format.specs.Forest.{IsForest};
 ghost use Rattle.capnp_format.specs.Segments.{segment};
 ghost use Rattle.capnp_format.specs.Tree.{Tree, count};
-ghost use Rattle.capnp_making.specs.Path.{node, PathLeads};
+ghost use Rattle.capnp_format.specs.Path.{node, PathLeads};
 ghost use Rattle.capnp_edits.specs.declared.edit.Edit.{Edit};
 ghost use Rattle.capnp_edits.specs.declared.edit.Source.{Source};
 ghost use Rattle.capnp_edits.specs.declared.edit.copying.Copying.{Copying};

@@ -4,7 +4,6 @@ use Rattle.std.proofs.Common.{◌≡◌, ℕ, suc, ◌+◌, ◌∷◌, ◌++◌,
 use Rattle.capnp_format.specs.Segments.{Segments}
 use Rattle.capnp_format.specs.Tree.{Trees, no_trees, tree, count}
 use Rattle.capnp_format.specs.Means.{MeansAll}
-use Rattle.capnp_format.proofs.Meant.{AllMeant}
 use Rattle.capnp_format.specs.Canonical.{word_count, word_count_all, pointer, pointers, body, bodies}
 
 abbrev pub append_trees : Trees → Trees → Trees
@@ -14,10 +13,6 @@ append_trees (tree t ts) us = tree t (append_trees ts us)
 pub count-append : (ts us : Trees) → count (append_trees ts us) ≡ count ts + count us
 count-append no_trees us = omega arith
 count-append (tree t ts) us = omega (arith, count-append ts us)
-
-pub words-append : (ts us : Trees) → word_count_all (append_trees ts us) ≡ word_count_all ts + word_count_all us
-words-append no_trees us = omega arith
-words-append (tree t ts) us = omega (arith, words-append ts us)
 
 pub pointers-append : (k : ℕ) (ts us : Trees) → pointers k (append_trees ts us) ≡ pointers (k + count us) ts ++ pointers (k + word_count_all ts) us
 pointers-append k no_trees us = ap (λ j. pointers j us) (let e : k ≡ k + 0 = omega arith in e)
@@ -36,10 +31,3 @@ means_joined S n s p no_trees us k l h m =
     subst (λ j. MeansAll S n s p us j) (let e : l ≡ k + l = omega arith in e) (subst (λ q. MeansAll S n s q us l) (let e : p + 0 ≡ p = omega arith in e) m)
 means_joined S n s p (tree t ts) us k l (a, b, one, rest, g) m =
     (a, b + l, one, means_joined S n s (p + 1) ts us b l rest (subst (λ q. MeansAll S n s q us l) (let e : p + suc (count ts) ≡ p + 1 + count ts = omega arith in e) m), omega arith)
-
-pub means_parted : {S : Segments} {n s p c : ℕ} (ts us : Trees) → AllMeant S n s p (append_trees ts us) c → (k : ℕ) × (l : ℕ) × MeansAll S n s p ts k × MeansAll S n s (p + count ts) us l × (c ≡ k + l)
-means_parted {S = S} {n = n} {s = s} {p = p} {c = c} no_trees us h = (0, c, refl, subst (λ q. MeansAll S n s q us c) (let e : p ≡ p + 0 = omega arith in e) h.means, omega arith)
-means_parted {S = S} {n = n} {s = s} {p = p} (tree t ts) us h =
-    let (a, b, one, rest, g) = h.means in
-    let r = means_parted {p = p + 1} {c = b} ts us (record { means = rest }) in
-    (a + r.0, r.1, (a, r.0, one, r.2, refl), subst (λ q. MeansAll S n s q us r.1) (let e : p + 1 + count ts ≡ p + suc (count ts) = omega arith in e) r.3, omega (arith, r.4))

@@ -13,14 +13,17 @@ digit_at base (suc n) x (suc i) l =
     digit_at base n (x / base) i (omega arith)
     ∙ ap (λ y. y % base) (div-div-eq-div-mul x base (base ^ i) ∙ ap (λ y. x / y) (mul_comm base (base ^ i) ∙ sym (pow-suc base i)))
 
--- the word of eight bytes has these as its digits; the words as one number are the bytes as one
--- number
+-- the word of eight bytes has these as its digits
+pub eight_bytes : (bs : List ℕ) → length bs ≡ 8 → from_le_bytes w64 bs ≡ from_digits 256 bs
+eight_bytes (a ∷ b ∷ c ∷ d ∷ e ∷ f ∷ g ∷ h ∷ []) l = omega arith
+eight_bytes _ l = absurd (omega arith)
+
+-- the words as one number are the bytes as one number
 pub words_are_bytes : (n : ℕ) (bytes : List ℕ) → length bytes ≡ 8 * n → from_digits (2 ^ 64) (words_of bytes) ≡ from_digits (2 ^ 8) bytes
 words_are_bytes zero [] l = refl
 words_are_bytes (suc n) (a ∷ b ∷ c ∷ d ∷ e ∷ f ∷ g ∷ h ∷ rest) l =
     let x = from_digits 256 rest in
-    let digits_of : from_le_bytes w64 (a ∷ b ∷ c ∷ d ∷ e ∷ f ∷ g ∷ h ∷ []) ≡ from_digits 256 (a ∷ b ∷ c ∷ d ∷ e ∷ f ∷ g ∷ h ∷ []) = omega arith in
     let grouped : from_digits 256 (a ∷ b ∷ c ∷ d ∷ e ∷ f ∷ g ∷ h ∷ []) + 2 ^ 64 * x ≡ a + 256 * (b + 256 * (c + 256 * (d + 256 * (e + 256 * (f + 256 * (g + 256 * (h + 256 * x))))))) = omega arith in
-    ap₂ (λ x y. x + 2 ^ 64 * y) digits_of (words_are_bytes n rest (omega arith)) ∙ grouped
+    ap₂ (λ x y. x + 2 ^ 64 * y) (eight_bytes (a ∷ b ∷ c ∷ d ∷ e ∷ f ∷ g ∷ h ∷ []) refl) (words_are_bytes n rest (omega arith)) ∙ grouped
 words_are_bytes zero (x ∷ xs) l = absurd (omega arith)
 words_are_bytes (suc n) _ l = absurd (omega arith)

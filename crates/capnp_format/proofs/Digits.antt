@@ -9,10 +9,10 @@ pub length-digits : (base n x : ℕ) → length (digits base n x) ≡ n
 length-digits base zero x = refl
 length-digits base (suc n) x = ap suc (length-digits base n (x / base))
 
-low : (b d x : ℕ) → d < b → (d + b * x) % b ≡ d
+pub low : (b d x : ℕ) → d < b → (d + b * x) % b ≡ d
 low b d x l = ap (λ y. y % b) (add_comm d (b * x) ∙ ap (λ y. y + d) (mul_comm b x)) ∙ mod-mul-add x b d l
 
-high : (b d x : ℕ) → d < b → (d + b * x) / b ≡ x
+pub high : (b d x : ℕ) → d < b → (d + b * x) / b ≡ x
 high b d x l = ap (λ y. y / b) (add_comm d (b * x) ∙ ap (λ y. y + d) (mul_comm b x)) ∙ div-mul-add x b d l
 
 pub digits-from_digits : (base : ℕ) (ds : List ℕ) → AreBelow base ds → digits base (length ds) (from_digits base ds) ≡ ds

@@ -87,3 +87,9 @@ pub leads_kept : {S R : Segments} {a : Target} (s p : ℕ) → Grows S R → wor
     word_at R (upper_half (word_at S s p)) (far_position (word_at S s p) + i) ≡ word_at S (upper_half (word_at S s p)) (far_position (word_at S s p) + i)) →
     leads S s p ≡ Some a → leads R s p ≡ Some a
 leads_kept {S = S} {R = R} s p grows same pads h = ap (λ y. cond (nat_eq (kind y) 2) (far R y (is_double y)) (near R s p y 0)) same ∙ word_leads_kept s p (word_at S s p) grows pads h
+
+-- If two steps found something, the first one found something, and so did the second one from
+-- there.
+pub bind_found : {A B : Type 0} (o : Option A) (f : A → Option B) (y : B) → (o >>= f) ≡ Some y → (x : A) × (o ≡ Some x) × (f x ≡ Some y)
+bind_found (Some x) f y h = (x, refl, h)
+bind_found None f y h = absurd (cc h)

@@ -6,6 +6,7 @@ pub mod Charges
 pub mod Children
 pub mod Digits
 pub mod Fields
+pub mod FieldBytes
 pub mod Following
 pub mod Frame
 pub mod LandingPads

@@ -1,5 +1,5 @@
 -- The bits after the elements of a list, only by its last word.
-use Rattle.std.proofs.Common.{◌≡◌, ◌≢◌, ℕ, zero, suc, ◌+◌, ◌*◌, ◌/◌, ◌%◌, ◌^◌, ◌<◌, ◌≤◌, ◌↔◌, inl, inr, List, [], ◌∷◌, ◌++◌, length, take, drop, refl, sym, ap, ◌∙◌, subst, arith, pow-suc, pow-add, pow_pos, mul-le-mul_left, mul_comm, get_or-drop, length-drop}
+use Rattle.std.proofs.Common.{◌≡◌, ◌≢◌, ℕ, zero, suc, ◌+◌, ◌*◌, ◌/◌, ◌%◌, ◌^◌, ◌<◌, ◌≤◌, ◌↔◌, inl, inr, List, [], ◌∷◌, ◌++◌, length, take, drop, refl, sym, ap, ◌∙◌, subst, arith, lt_of_lt_of_le, pow_mono, pow-suc, pow-add, pow_pos, mul-le-mul_left, mul_comm, get_or-drop, length-drop}
 use Rattle.std.proofs.lemmas.List.{take_more}
 use Rattle.std.proofs.Math.Nat.{pow-zero}
 use Rattle.std.proofs.lemmas.Bool.{cases_lt}
@@ -100,3 +100,12 @@ packed-unpacked size n ws h e small =
     let same : from_digits (2 ^ element_bits size) (unpacked size n ws) ≡ x = from_digits-digits (2 ^ element_bits size) n x (pow_pos (element_bits size)) fits in
     ap (λ m. digits (2 ^ 64) (words_for size m) (from_digits (2 ^ element_bits size) (unpacked size n ws))) (length-digits (2 ^ element_bits size) n x)
     ∙ ap (digits (2 ^ 64) (words_for size n)) same ∙ digits_again (2 ^ 64) (words_for size n) ws h e
+
+-- Packed elements leave zeros after them.
+pub packed_below : (size : ℕ) (ns : List ℕ) → AreBelow (2 ^ element_bits size) ns → from_digits (2 ^ 64) (packed size ns) < 2 ^ (element_bits size * length ns)
+packed_below size ns h =
+    let x = from_digits (2 ^ element_bits size) ns in
+    let small : x < 2 ^ (element_bits size * length ns) = rw pow_pow at (from_digits-below (2 ^ element_bits size) ns h) in
+    let room : element_bits size * length ns ≤ 64 * words_for size (length ns) = omega arith in
+    let fits : x < (2 ^ 64) ^ words_for size (length ns) = rw (pow_pow 64 (words_for size (length ns))) (lt_of_lt_of_le small (pow_mono room)) in
+    subst (λ y. y < 2 ^ (element_bits size * length ns)) (sym (from_digits-digits (2 ^ 64) (words_for size (length ns)) x (omega arith) fits)) small

@@ -42,3 +42,13 @@ pub there : (S : Segments) (s p : ℕ) → p < length (segment S s) → s < leng
 there [] s p l = absurd (omega arith)
 there (xs ∷ S) zero p l = omega arith
 there (xs ∷ S) (suc s) p l = omega (arith, there S s p l)
+
+-- Word i of a part is the word i places after its start.
+pub word_in_part : (S : Segments) (s p n i : ℕ) → i < n → get_or (words_at S s p n) i 0 ≡ word_at S s (p + i)
+word_in_part S s p n i l = get_or-take n (drop p (segment S s)) i 0 l ∙ get_or-drop p (segment S s) i 0
+
+-- A message of one segment.
+pub only_segment : (S : Segments) (ws : List ℕ) → length S ≡ 1 → segment S 0 ≡ ws → S ≡ ws ∷ []
+only_segment [] ws one e = absurd (omega (arith, one))
+only_segment (x ∷ []) ws one e = ap (λ (s : List ℕ). s ∷ []) e
+only_segment (x ∷ y ∷ S) ws one e = absurd (omega (arith, one))

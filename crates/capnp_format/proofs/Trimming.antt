@@ -50,7 +50,7 @@ take_trees-again (suc n) (tree t ts) = ap (tree t) (take_trees-again n ts)
 
 -- trimming twice
 
-trim_each-take : (n : ℕ) (ts : Trees) → trim_each (take_trees n ts) ≡ take_trees n (trim_each ts)
+pub trim_each-take : (n : ℕ) (ts : Trees) → trim_each (take_trees n ts) ≡ take_trees n (trim_each ts)
 trim_each-take zero ts = refl
 trim_each-take (suc n) no_trees = refl
 trim_each-take (suc n) (tree t ts) = ap (tree (trim t)) (trim_each-take n ts)

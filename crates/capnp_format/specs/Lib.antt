@@ -9,4 +9,6 @@ pub mod Means
 pub mod Decode
 pub mod Canonical
 pub mod Forest
+pub mod Path
+pub mod Fields
 pub mod Examples

@@ -8,8 +8,8 @@ use Rattle.capnp_format.specs.Tree.{Tree, Null, Capability, Struct, Flat, Pointe
 use Rattle.capnp_format.specs.Means.{Means}
 use Rattle.capnp_format.specs.Forest.{Interval, times, pads_of, object_of, target_in, cover, cover_all, cover_elements}
 use Rattle.capnp_format.proofs.Frame.{Agree, times-append, agree_here, agree_rest, frame, frame_all}
-use Rattle.capnp_making.specs.Path.{tree_at, word_interval, extent}
-use Rattle.capnp_making.proofs.Paths.{means_child}
+use Rattle.capnp_format.specs.Path.{tree_at, word_interval, extent}
+use Rattle.capnp_format.proofs.Children.{means_child}
 use Rattle.capnp_making.specs.Zeroed.{row, IsZeroed, IsApart, AreApart, IsObjectAt, object_cover}
 use Rattle.capnp_making.proofs.Zeros.{zeroed_again, nothing_zeroed}
 pub use Rattle.capnp_format.proofs.LandingPads.{pads_inside}

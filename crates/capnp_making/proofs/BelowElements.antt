@@ -7,7 +7,8 @@ use Rattle.capnp_format.specs.Word.{offset_bits, data_words, pointer_count}
 use Rattle.capnp_format.specs.Means.{MeansAll, MeansElements, IsTag}
 use Rattle.capnp_format.specs.Forest.{Interval, times, cover_all, cover_elements}
 use Rattle.capnp_format.proofs.Frame.{times-append}
-use Rattle.capnp_making.specs.Zeroed.{row, IsZeroed, AreApart, AreApartElements, IsStructListApart, element_extents, sections, struct_list_cover}
+use Rattle.capnp_making.specs.Zeroed.{row, IsZeroed, AreApart, AreApartElements, IsStructListApart, element_extents, struct_list_cover}
+use Rattle.capnp_words.specs.Sizes.{sized}
 use Rattle.capnp_making.proofs.Zeros.{zeroed_again, nothing_zeroed}
 use Rattle.capnp_making.proofs.Below.{split_row, all_kept}
 
@@ -18,14 +19,14 @@ rest_elements (suc i) no_elements = no_elements
 rest_elements (suc i) (element ws ts es) = rest_elements i es
 
 -- The pointers of elements are within the elements' words.
-pub extents_within : (S : Segments) (s p d q : ℕ) (es : Elements) (v r : ℕ) → times (element_extents S s p (sections d q) es) v r ≤ times (row s p (element_count es * (d + q)) ∷ cover_elements S s p d q es) v r
+pub extents_within : (S : Segments) (s p d q : ℕ) (es : Elements) (v r : ℕ) → times (element_extents S s p (sized d q) es) v r ≤ times (row s p (element_count es * (d + q)) ∷ cover_elements S s p d q es) v r
 extents_within S s p d q no_elements v r = omega arith
 extents_within S s p d q (element ws ts es) v r =
     let more = element_count es * (d + q) in
     let whole = ap (λ n. times (row s p n ∷ []) v r) (let e : suc (element_count es) * (d + q) ≡ d + (q + more) = omega arith in e) in
     omega (
       arith,
-      times-append (row s (p + d) q ∷ cover_all S s (p + d) ts) (element_extents S s (p + d + q) (sections d q) es) v r,
+      times-append (row s (p + d) q ∷ cover_all S s (p + d) ts) (element_extents S s (p + d + q) (sized d q) es) v r,
       times-append (cover_all S s (p + d) ts) (cover_elements S s (p + d + q) d q es) v r,
       extents_within S s (p + d + q) d q es v r,
       split_row s p d (q + more) v r,
@@ -33,12 +34,12 @@ extents_within S s p d q (element ws ts es) v r =
       whole,
     )
 
-pub within_extents : (S : Segments) (s p d q : ℕ) (es : Elements) (v r : ℕ) → times (cover_elements S s p d q es) v r ≤ times (element_extents S s p (sections d q) es) v r
+pub within_extents : (S : Segments) (s p d q : ℕ) (es : Elements) (v r : ℕ) → times (cover_elements S s p d q es) v r ≤ times (element_extents S s p (sized d q) es) v r
 within_extents S s p d q no_elements v r = omega arith
 within_extents S s p d q (element ws ts es) v r =
     omega (
       arith,
-      times-append (row s (p + d) q ∷ cover_all S s (p + d) ts) (element_extents S s (p + d + q) (sections d q) es) v r,
+      times-append (row s (p + d) q ∷ cover_all S s (p + d) ts) (element_extents S s (p + d + q) (sized d q) es) v r,
       times-append (cover_all S s (p + d) ts) (cover_elements S s (p + d + q) d q es) v r,
       within_extents S s (p + d + q) d q es v r,
     )
@@ -59,9 +60,9 @@ no_element_left (element ws ts es) = no_element_left es
 
 -- What is zero after the first i elements, while the others are still to come.
 abbrev pub DoneElements : Segments → Segments → ℕ → ℕ → ℕ → ℕ → ℕ → Elements → ℕ → Type 0
-DoneElements S K s p d q at es i = (is : List Interval) × IsZeroed S K is × ((v r : ℕ) → times is v r + times (element_extents S s at (sections d q) (rest_elements i es)) v r ≡ times (element_extents S s p (sections d q) es) v r)
+DoneElements S K s p d q at es i = (is : List Interval) × IsZeroed S K is × ((v r : ℕ) → times is v r + times (element_extents S s at (sized d q) (rest_elements i es)) v r ≡ times (element_extents S s p (sized d q) es) v r)
 
-pub next_element_done : (S K L : Segments) (s p d q at i : ℕ) (es : Elements) → i < element_count es → at ≡ p + i * (d + q) → AreApartElements S s p (sections d q) es → DoneElements S K s p d q at es i →
+pub next_element_done : (S K L : Segments) (s p d q at i : ℕ) (es : Elements) → i < element_count es → at ≡ p + i * (d + q) → AreApartElements S s p (sized d q) es → DoneElements S K s p d q at es i →
     ((ts : Trees) → count ts ≡ q → AreApart K s (at + d) ts → IsZeroed K L (row s (at + d) q ∷ cover_all K s (at + d) ts)) → DoneElements S L s p d q (at + d + q) es (i + 1)
 next_element_done S K L s p d q at i es l place a (is, z, sum) h =
     let m = a.mean in
@@ -69,8 +70,8 @@ next_element_done S K L s p d q at i es l place a (is, z, sum) h =
     let here : MeansAll S m.0 s (at + d) ts k = subst (λ x. MeansAll S m.0 s (x + d) ts k) (sym place) mean in
     let own = row s (at + d) q ∷ cover_all S s (at + d) ts in
     let same : (v r : ℕ) → times (row s (at + d) (count ts) ∷ cover_all S s (at + d) ts) v r ≡ times own v r = λ v r. ap (λ n. times (row s (at + d) n ∷ cover_all S s (at + d) ts) v r) len in
-    let parts : (v r : ℕ) → times (element_extents S s at (sections d q) (rest_elements i es)) v r ≡ times own v r + times (element_extents S s (at + d + q) (sections d q) (rest_elements (i + 1) es)) v r =
-    λ v r. ap (λ us. times (element_extents S s at (sections d q) us) v r) step ∙ times-append own (element_extents S s (at + d + q) (sections d q) (rest_elements (i + 1) es)) v r in
+    let parts : (v r : ℕ) → times (element_extents S s at (sized d q) (rest_elements i es)) v r ≡ times own v r + times (element_extents S s (at + d + q) (sized d q) (rest_elements (i + 1) es)) v r =
+    λ v r. ap (λ us. times (element_extents S s at (sized d q) us) v r) step ∙ times-append own (element_extents S s (at + d + q) (sized d q) (rest_elements (i + 1) es)) v r in
     let few : (v r : ℕ) → times is v r + times (row s (at + d) (count ts) ∷ cover_all S s (at + d) ts) v r ≤ 1 = λ v r. omega (arith, sum v r, parts v r, same v r, extents_within S s p d q es v r, a.apart v r) in
     let one : AreApart S s (at + d) ts = record { mean = (m.0, k, here); apart = λ v r. omega (arith, few v r) } in
     let kept = all_kept S K s (at + d) ts is z few one in
@@ -80,14 +81,14 @@ next_element_done S K L s p d q at i es l place a (is, z, sum) h =
       λ v r. omega (arith, times-append is own v r, parts v r, sum v r),
     )
 
-pub elements_done : (S K : Segments) (s p d q at : ℕ) (es : Elements) → DoneElements S K s p d q at es (element_count es) → IsZeroed S K (element_extents S s p (sections d q) es)
+pub elements_done : (S K : Segments) (s p d q at : ℕ) (es : Elements) → DoneElements S K s p d q at es (element_count es) → IsZeroed S K (element_extents S s p (sized d q) es)
 elements_done S K s p d q at es (is, z, sum) =
-    let none : (v r : ℕ) → times (element_extents S s at (sections d q) (rest_elements (element_count es) es)) v r ≡ 0 = λ v r. ap (λ us. times (element_extents S s at (sections d q) us) v r) (no_element_left es) in
-    zeroed_again S S K [] is (element_extents S s p (sections d q) es) (λ v r. (λ x. omega (arith, sum v r, none v r), λ x. omega (arith, sum v r, none v r))) (nothing_zeroed S) z
+    let none : (v r : ℕ) → times (element_extents S s at (sized d q) (rest_elements (element_count es) es)) v r ≡ 0 = λ v r. ap (λ us. times (element_extents S s at (sized d q) us) v r) (no_element_left es) in
+    zeroed_again S S K [] is (element_extents S s p (sized d q) es) (λ v r. (λ x. omega (arith, sum v r, none v r), λ x. omega (arith, sum v r, none v r))) (nothing_zeroed S) z
 
 -- Elements without pointers have nothing below them.
-pub no_pointers : (S : Segments) (n s p d : ℕ) (es : Elements) (c : ℕ) → MeansElements S n s p d 0 es c → IsZeroed S S (element_extents S s p (sections d 0) es)
-no_pointers S n s p d es c m = zeroed_again S S S [] [] (element_extents S s p (sections d 0) es) (λ v r. let e = none n p es c m v r in (λ x. omega (arith, e), λ x. omega arith)) (nothing_zeroed S) (nothing_zeroed S)
+pub no_pointers : (S : Segments) (n s p d : ℕ) (es : Elements) (c : ℕ) → MeansElements S n s p d 0 es c → IsZeroed S S (element_extents S s p (sized d 0) es)
+no_pointers S n s p d es c m = zeroed_again S S S [] [] (element_extents S s p (sized d 0) es) (λ v r. let e = none n p es c m v r in (λ x. omega (arith, e), λ x. omega arith)) (nothing_zeroed S) (nothing_zeroed S)
   where
     no_row : (p v r : ℕ) → times (row s p 0 ∷ []) v r ≡ 0
     no_row p v r = grind (arith, nat_tests)
@@ -96,19 +97,19 @@ no_pointers S n s p d es c m = zeroed_again S S S [] [] (element_extents S s p (
     no_cover p no_trees e = refl
     no_cover p (tree t ts) e = absurd (omega arith)
 
-    none : (n p : ℕ) (es : Elements) (c : ℕ) → MeansElements S n s p d 0 es c → (v r : ℕ) → times (element_extents S s p (sections d 0) es) v r ≡ 0
+    none : (n p : ℕ) (es : Elements) (c : ℕ) → MeansElements S n s p d 0 es c → (v r : ℕ) → times (element_extents S s p (sized d 0) es) v r ≡ 0
     none n p no_elements c m v r = refl
     none n p (element ws ts es) c (k, j, long, len, e, all, others, g) v r =
         let own = row s (p + d) 0 ∷ cover_all S s (p + d) ts in
         let f : times own v r ≡ 0 = ap (λ js. times (row s (p + d) 0 ∷ js) v r) (no_cover (p + d) ts len) ∙ no_row (p + d) v r in
-        omega (arith, times-append own (element_extents S s (p + d + 0) (sections d 0) es) v r, none n (p + d + 0) es j others v r, f)
+        omega (arith, times-append own (element_extents S s (p + d + 0) (sized d 0) es) v r, none n (p + d + 0) es j others v r, f)
 
 -- Then the elements' words are zeroed as well, and the tag before them.
-pub structs_done : (S K L : Segments) (s p d q : ℕ) (es : Elements) → IsZeroed S K (element_extents S s (p + 1) (sections d q) es) → IsZeroed K L (row s p (1 + element_count es * (d + q)) ∷ []) →
+pub structs_done : (S K L : Segments) (s p d q : ℕ) (es : Elements) → IsZeroed S K (element_extents S s (p + 1) (sized d q) es) → IsZeroed K L (row s p (1 + element_count es * (d + q)) ∷ []) →
     IsZeroed S L (row s p (1 + element_count es * (d + q)) ∷ cover_elements S s (p + 1) d q es)
 structs_done S K L s p d q es a b =
     let w = element_count es * (d + q) in
-    zeroed_again S K L (element_extents S s (p + 1) (sections d q) es) (row s p (1 + w) ∷ []) (row s p (1 + w) ∷ cover_elements S s (p + 1) d q es)
+    zeroed_again S K L (element_extents S s (p + 1) (sized d q) es) (row s p (1 + w) ∷ []) (row s p (1 + w) ∷ cover_elements S s (p + 1) d q es)
     (λ v r. let e = extents_within S s (p + 1) d q es v r in let f = within_extents S s (p + 1) d q es v r in let g = split_row s p 1 w v r in (λ x. omega (arith, e, f, g), λ x. omega (arith, e, f, g))) a b
 
 -- The words of element i are within those of all n elements.
@@ -120,7 +121,7 @@ next_place width i = grind arith
 
 -- A list of structs is zeroed, with the counts that its tag has.
 pub structs_zeroed : (S K L : Segments) (s p g n d q w : ℕ) → n ≡ offset_bits g → d ≡ data_words g → q ≡ pointer_count g → w ≡ 1 + n * (d + q) → length (segment K s) ≡ length (segment S s) →
-    ((es : Elements) → (element_count es ≡ n) × AreApartElements S s (p + 1) (sections d q) es → IsZeroed S K (element_extents S s (p + 1) (sections d q) es)) →
+    ((es : Elements) → (element_count es ≡ n) × AreApartElements S s (p + 1) (sized d q) es → IsZeroed S K (element_extents S s (p + 1) (sized d q) es)) →
     (p + w ≤ length (segment K s) → IsZeroed K L (row s p w ∷ [])) → g ≡ word_at S s p → (t : Tree) → IsStructListApart S s p t → IsZeroed S L (struct_list_cover S s p t)
 structs_zeroed S K L s p g n d q w is_n is_d is_q is_w long h k is_g Null a = absurd a
 structs_zeroed S K L s p g n d q w is_n is_d is_q is_w long h k is_g (Capability i) a = absurd a
@@ -133,8 +134,8 @@ structs_zeroed S K L s p g n d q w is_n is_d is_q is_w long h k is_g (Structs e 
     let same_d : d ≡ e = is_d ∙ tag.data_of in
     let same_q : q ≡ f = is_q ∙ tag.pointers in
     let same_w : w ≡ 1 + element_count es * (e + f) = is_w ∙ ap₂ (λ x y. 1 + x * y) same_n (ap₂ (λ x y. x + y) same_d same_q) in
-    let apart : AreApartElements S s (p + 1) (sections d q) es = subst (λ x. AreApartElements S s (p + 1) (sections x q) es) (sym same_d) (subst (λ x. AreApartElements S s (p + 1) (sections e x) es) (sym same_q) a) in
-    let below : IsZeroed S K (element_extents S s (p + 1) (sections e f) es) = subst (λ x. IsZeroed S K (element_extents S s (p + 1) (sections e x) es)) same_q (subst (λ x. IsZeroed S K (element_extents S s (p + 1) (sections x q) es)) same_d (h es (sym same_n, apart))) in
+    let apart : AreApartElements S s (p + 1) (sized d q) es = subst (λ x. AreApartElements S s (p + 1) (sized x q) es) (sym same_d) (subst (λ x. AreApartElements S s (p + 1) (sized e x) es) (sym same_q) a) in
+    let below : IsZeroed S K (element_extents S s (p + 1) (sized e f) es) = subst (λ x. IsZeroed S K (element_extents S s (p + 1) (sized e x) es)) same_q (subst (λ x. IsZeroed S K (element_extents S s (p + 1) (sized x q) es)) same_d (h es (sym same_n, apart))) in
     structs_done S K L s p e f es below (subst (λ x. IsZeroed K L (row s p x ∷ [])) same_w (k (omega (arith, same_w, long))))
 
 -- A list of structs doesn't exist if its words, by the tag, aren't inside their segment.

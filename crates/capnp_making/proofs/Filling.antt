@@ -8,7 +8,7 @@ use Rattle.capnp_format.specs.Forest.{Interval, times, pads_of, object_of, targe
 use Rattle.capnp_format.proofs.Frame.{leads_agree}
 use Rattle.capnp_making.specs.Filled.{AreFilled}
 use Rattle.capnp_making.specs.Made.{nulls}
-use Rattle.capnp_making.specs.Path.{Step, Child, Element, tree_at, put_tree, update, node, PathLeads, word_interval}
+use Rattle.capnp_format.specs.Path.{Step, Child, Element, tree_at, put_tree, update, node, PathLeads, word_interval}
 use Rattle.capnp_making.specs.Stored.{IsStored, IsReplaced}
 use Rattle.capnp_making.proofs.Extents.{word_within, once_held, times-first, times-object}
 use Rattle.capnp_making.proofs.Placed.{count-nulls}

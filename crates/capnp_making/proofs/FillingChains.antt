@@ -10,7 +10,7 @@ use Rattle.capnp_making.proofs.Extents.{not_held}
 use Rattle.capnp_making.proofs.WordsPut.{words_put}
 use Rattle.capnp_making.proofs.Written.{past_row, same_grows}
 
-no_growth : (S : Segments) → Grows S S
+pub no_growth : (S : Segments) → Grows S S
 no_growth S = record { segments = omega arith; words = λ v. omega arith }
 
 grows_on : {S M R : Segments} → Grows S M → Grows M R → Grows S R

@@ -10,7 +10,7 @@ use Rattle.capnp_format.specs.Forest.{times, pads_of, object_of, target, target_
 use Rattle.capnp_format.proofs.Frame.{times-append}
 use Rattle.capnp_making.specs.Filled.{AreFilled, IsElementFilled, AreElementsFilled, ArePartlyFilled}
 use Rattle.capnp_making.specs.Made.{words_of_zero, nulls, zero_elements}
-use Rattle.capnp_making.specs.Path.{Child, Element, put, put_tree, struct_at, put_struct, next, tree_at}
+use Rattle.capnp_format.specs.Path.{Child, Element, put, put_tree, struct_at, put_struct, next, tree_at}
 use Rattle.capnp_making.specs.Stored.{IsStored, IsReplaced}
 use Rattle.capnp_making.specs.Zeroed.{row}
 use Rattle.capnp_making.proofs.Filling.{IsHolder, Holds, in_struct, holder_filled, put_from, put_all, still_leads, unchanged}
@@ -161,7 +161,7 @@ put_elements-all : (d q : ℕ) (es : Elements) → put_elements (zero_elements d
 put_elements-all d q no_elements = refl
 put_elements-all d q (element ws ts es) = put_elements_behind (zero_elements d q (element_count es)) es ws ts 0 ∙ ap (element ws ts) (put_elements-all d q es)
 
-blank_at : (d q n i : ℕ) → i < n → struct_at (zero_elements d q n) i ≡ Struct (words_of_zero d) (nulls q)
+pub blank_at : (d q n i : ℕ) → i < n → struct_at (zero_elements d q n) i ≡ Struct (words_of_zero d) (nulls q)
 blank_at d q zero i l = absurd (omega arith)
 blank_at d q (suc n) zero l = refl
 blank_at d q (suc n) (suc i) l = blank_at d q n i (omega arith)

@@ -13,7 +13,7 @@ use Rattle.capnp_format.proofs.Digits.{length-digits}
 use Rattle.capnp_arena_traits.specs.Written.{with_words}
 use Rattle.capnp_making.specs.Filled.{AreFilled, AreElementsFilled, ArePartlyFilled}
 use Rattle.capnp_making.specs.Made.{LeadsToStart, words_of_zero, nulls, zero_elements}
-use Rattle.capnp_making.specs.Path.{Child, Element, word_interval}
+use Rattle.capnp_format.specs.Path.{Child, Element, word_interval}
 use Rattle.capnp_making.specs.Stored.{IsStored, IsReplaced}
 use Rattle.capnp_making.specs.Zeroed.{row}
 use Rattle.capnp_making.specs.declared.making.Start.{Start}
@@ -51,7 +51,7 @@ struct_leads S s p ws ts y = let (n, c, (a, k, some, o, claim, e, all, g)) = y.m
 pointers_lead : (S : Segments) (s p : ℕ) (ts : Trees) → IsStored S s p (Pointers ts) → Leads S s p (target S s p)
 pointers_lead S s p ts y = let (n, c, (a, k, some, o, claim, all, g)) = y.means in leads_of S s p a o.leads_to
 
-structs_lead : (S : Segments) (s p d q : ℕ) (es : Elements) → IsStored S s p (Structs d q es) → Leads S s p (target S s p)
+pub structs_lead : (S : Segments) (s p d q : ℕ) (es : Elements) → IsStored S s p (Structs d q es) → Leads S s p (target S s p)
 structs_lead S s p d q es y = let (n, c, (a, m, k, some, o, claim, tag, fits, all, g)) = y.means in leads_of S s p a o.leads_to
 
 nulls_zero : (S : Segments) (n s p q c i : ℕ) → MeansAll S n s p (nulls q) c → i < q → word_at S s (p + i) ≡ 0

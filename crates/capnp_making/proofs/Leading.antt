@@ -5,10 +5,10 @@ use Rattle.capnp_format.specs.Word.{kind, is_double, far_position, upper_half, o
 use Rattle.capnp_format.specs.Segments.{Segments, segment, word_at, Target, leads, offset_leads, near, far, pad, given, ◌>>=◌}
 use Rattle.capnp_format.specs.Means.{Leads}
 use Rattle.capnp_making.proofs.Zeros.{there}
-use Rattle.capnp_format.proofs.Following.{IsOffsetTo, offset_at}
+use Rattle.capnp_format.proofs.Following.{IsOffsetTo, offset_at, bind_found}
 
 -- Where a far pointer leads by one pad, and by two.
-far_word : (S : Segments) (s p x : ℕ) (a : Target) → word_at S s p ≡ x → kind x ≡ 2 → far S x (is_double x) ≡ Some a → Leads S s p a
+pub far_word : (S : Segments) (s p x : ℕ) (a : Target) → word_at S s p ≡ x → kind x ≡ 2 → far S x (is_double x) ≡ Some a → Leads S s p a
 far_word S s p x a e is_far h = (
   λ z. let o : x ≡ 0 = cc in omega arith,
   ap (λ y. cond (nat_eq (kind y) 2) (far S y (is_double y)) (near S s p y 0)) e ∙ ap (λ y. cond y (far S x (is_double x)) (near S s p x 0)) (eq-eqb (kind x) 2 is_far) ∙ h,
@@ -34,14 +34,10 @@ past : {A : Type 0} (b : Bool) (o : Option A) (y : A) → cond b None o ≡ Some
 past true o y e = cc
 past false o y e = e
 
-bound : {A B : Type 0} (o : Option A) (f : A → Option B) (y : B) → (o >>= f) ≡ Some y → (x : A) × (o ≡ Some x) × (f x ≡ Some y)
-bound (Some x) f y e = (x, refl, e)
-bound None f y e = cc
-
 -- A word that isn't a far pointer leads into its own segment.
 near_segment : (S : Segments) (s p x pads : ℕ) (a : Target) → near S s p x pads ≡ Some a → a.segment ≡ s
 near_segment S s p x pads a e =
-    let (b, there, found) = bound (offset_leads (length (segment S s)) p (offset_bits x)) (λ b. Some (record { word = x; segment = s; start = b; pads = pads })) a e in
+    let (b, there, found) = bind_found (offset_leads (length (segment S s)) p (offset_bits x)) (λ b. Some (record { word = x; segment = s; start = b; pads = pads })) a e in
     let same : record { word = x; segment = s; start = b; pads = pads } ≡ a = cc in
     ap (λ (t : Target). t.segment) (sym same)
 
@@ -49,13 +45,13 @@ far_segment : (S : Segments) (x d : ℕ) (a : Target) → far S x d ≡ Some a �
 far_segment S x zero a e =
     let u = upper_half x in
     let r = far_position x in
-    let (w, is_pad, found) = bound (pad S x 0) (λ w. cond (nat_eq (kind w) 2) None (near S u r w 1)) a e in
+    let (w, is_pad, found) = bind_found (pad S x 0) (λ w. cond (nat_eq (kind w) 2) None (near S u r w 1)) a e in
     let place = passed (nat_lt (r + 0) (length (segment S u))) (word_at S u r) w is_pad in
     omega (arith, there S u (r + 0) (ltb-true (r + 0) (length (segment S u)) place.0), near_segment S u r w 1 a (past (nat_eq (kind w) 2) (near S u r w 1) a found))
 far_segment S x (suc d) a e =
     let w = word_at S (upper_half x) (far_position x + 1) in
     let second = λ (f : ℕ). given (nat_lt (upper_half f) (length S)) (record { word = w; segment = upper_half f; start = far_position f; pads = 2 }) in
-    let (f, is_pad, found) = bound (pad S x 1) (λ f. cond (nat_eq (kind w) 2) None (second f)) a e in
+    let (f, is_pad, found) = bind_found (pad S x 1) (λ f. cond (nat_eq (kind w) 2) None (second f)) a e in
     let place = passed (nat_lt (upper_half f) (length S)) (record { word = w; segment = upper_half f; start = far_position f; pads = 2 }) a (past (nat_eq (kind w) 2) (second f) a found) in
     omega (arith, ltb-true (upper_half f) (length S) place.0, ap (λ (t : Target). t.segment) place.1)
 

@@ -12,7 +12,7 @@ use Rattle.capnp_format.proofs.Lies.{reaches_offset, near_leads}
 use Rattle.capnp_format.proofs.Following.{IsOffsetTo}
 use Rattle.capnp_arena_traits.specs.Taking.{IsTaken, with_another}
 use Rattle.capnp_arena_traits.specs.Written.{with_word, extended}
-use Rattle.capnp_making.specs.Path.{word_interval}
+use Rattle.capnp_format.specs.Path.{word_interval}
 use Rattle.capnp_making.proofs.Leading.{single_far_leads}
 use Rattle.capnp_making.specs.Zeroed.{row, IsPruned, IsPrunedBut}
 use Rattle.capnp_making.specs.Made.{IsGrown, IsMade}
@@ -127,7 +127,7 @@ pruned_but S M R s p x pruned put = record {
 pub not_far : (x : ℕ) → kind x ≢ 2 → pads_of x ≡ []
 not_far x n = ap (λ b. cond b (record { segment = upper_half x; start = far_position x; words = 1 + is_double x } ∷ []) []) (ne_eqb (kind x) 2 n)
 
-is_far : (x : ℕ) → kind x ≡ 2 → pads_of x ≡ record { segment = upper_half x; start = far_position x; words = 1 + is_double x } ∷ []
+pub is_far : (x : ℕ) → kind x ≡ 2 → pads_of x ≡ record { segment = upper_half x; start = far_position x; words = 1 + is_double x } ∷ []
 is_far x n = ap (λ b. cond b (record { segment = upper_half x; start = far_position x; words = 1 + is_double x } ∷ []) []) (eq-eqb (kind x) 2 n)
 
 pub outside : (s p v r : ℕ) → (v ≡ s → r ≡ p → ⊥) → times (word_interval s p ∷ []) v r ≡ 0
@@ -136,7 +136,7 @@ outside s p v r h = elim (cases_eq (times (word_interval s p ∷ []) v r) 0) [
   | inr e ↦ (let i = in_row s p 1 v r (omega arith) in absurd (h i.0 (omega (arith, i.1, i.2))))
 ]
 
-once_row : (s p n v r : ℕ) → times (row s p n ∷ []) v r ≤ 1
+pub once_row : (s p n v r : ℕ) → times (row s p n ∷ []) v r ≤ 1
 once_row s p n v r = grind (arith, nat_tests)
 
 -- Words are allocated after those of the pointer's segment, and a near pointer is written.

@@ -1,5 +1,5 @@
 -- What an arena's view is after a call.
-use Rattle.std.proofs.Common.{◌≡◌, inl, inr, ℕ, ◌+◌, ◌≤◌, length, refl, sym, ap, ap₂, ◌∙◌, subst, arith}
+use Rattle.std.proofs.Common.{◌≡◌, inl, inr, ℕ, ◌+◌, ◌≤◌, true, length, refl, sym, ap, ap₂, ◌∙◌, subst, arith}
 use Rattle.capnp_words.specs.declared.error.ErrorKind.{ErrorKind}
 use Rattle.capnp_words.specs.declared.error.ErrorKind.TheVariants.{AllocationFailed}
 use Rattle.capnp_format.specs.Segments.{Segments, segment}
@@ -8,6 +8,7 @@ use Rattle.capnp_arena_traits.specs.Taking.{IsAllocationRefusal}
 use Rattle.capnp_arena_traits.specs.View.{View, KeepsLimits}
 use Rattle.capnp_making.specs.Memory.{HasRoom, KeepsMemory, refusals_for, SpendsMemory, IsRefusedFor, RefusesWords}
 use Rattle.capnp_making.specs.Zeroed.{IsPruned}
+use Rattle.capnp_words.specs.Names.{is_allocation_name}
 
 abbrev pub words_in : View → Segments
 words_in v = v.words
@@ -113,3 +114,9 @@ made_refused a b id n k (r, e) words full =
         ],
       ),
     )
+
+-- The errors with which words are refused.
+pub words_named : (a b : View) (n : ℕ) (k : ErrorKind) → RefusesWords a b n k → is_allocation_name k ≡ true
+words_named a b n k (inl h, none) = ap is_allocation_name h.0
+words_named a b n k (inr (inl h), none) = ap is_allocation_name h.0
+words_named a b n k (inr (inr h), none) = ap is_allocation_name h.0

@@ -7,7 +7,7 @@ use Rattle.capnp_format.specs.Tree.{Tree, Null, Capability, Struct, Flat, Pointe
 use Rattle.capnp_format.specs.Means.{MeansAll, IsTag}
 use Rattle.capnp_format.specs.Forest.{times, pads_of, object_of, cover_all, cover_elements}
 use Rattle.capnp_format.proofs.Frame.{Agree, times-append, agree_here, agree_rest, frame_all, frame_elements}
-use Rattle.capnp_making.specs.Path.{word_interval, extent}
+use Rattle.capnp_format.specs.Path.{word_interval, extent}
 use Rattle.capnp_making.specs.Zeroed.{row, IsZeroed, PadsInside, IsApart, AreApart, IsObjectAt, object_cover, IsObjectApart, IsStructListApart, struct_list_cover}
 use Rattle.capnp_making.proofs.Zeros.{zeroed_again}
 use Rattle.capnp_format.proofs.ZeroWords.{zero_is_null}

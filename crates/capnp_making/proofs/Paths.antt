@@ -6,31 +6,14 @@ use Rattle.capnp_format.specs.Segments.{Segments, segment, word_at, Target, lead
 use Rattle.capnp_format.specs.Tree.{Tree, Struct, Pointers, Structs, Trees, no_trees, tree, Elements, no_elements, element, count, element_count}
 use Rattle.capnp_format.specs.Means.{IsTag, count_cost, Means, MeansAll, MeansElements}
 use Rattle.capnp_format.specs.Forest.{Interval, times, pads_of, object_of, target, target_in, cover, cover_all, cover_elements, IsTidy, AreTidy, AreTidyElements}
-use Rattle.capnp_making.specs.Path.{Step, Child, Element, tree_at, put_tree, struct_at, put_struct, next, put, update, Node, node, PathLeads, word_interval, extent}
+use Rattle.capnp_format.specs.Path.{Step, Child, Element, tree_at, put_tree, struct_at, put_struct, next, put, update, Node, node, PathLeads, word_interval, extent}
 use Rattle.capnp_format.specs.Segments.{Grows}
 use Rattle.capnp_format.proofs.Frame.{Agree, times-append, agree_left, agree_right, has_words_kept, list_kept, frame, frame_all, frame_elements}
 use Rattle.capnp_making.proofs.Replace.{cover_others, times-others, cover_other_elements, put_tree-count}
 use Rattle.capnp_format.proofs.Levels.{other_levels, depth_within}
 use Rattle.capnp_making.proofs.Extents.{AgreeBeside, word_within, times-first, times-object, keeps_object}
 use Rattle.capnp_making.proofs.Tidy.{at_target, tidy_kept, tidy_kept_all, tidy_kept_elements}
-
--- One child, at its place.
-pub means_child : (S : Segments) (n s p : ℕ) (ts : Trees) (c i : ℕ) → i < count ts → MeansAll S n s p ts c → (k : ℕ) × Means S n s (p + i) (tree_at ts i) k
-means_child S n s p no_trees c i l h = absurd (omega arith)
-means_child S n s p (tree t ts) c zero l (a, b, one, rest, g) = (a, subst (λ q. Means S n s q t a) (let e : p ≡ p + 0 = omega arith in e) one)
-means_child S n s p (tree t ts) c (suc i) l (a, b, one, rest, g) =
-    let r = means_child S n s (p + 1) ts b i (omega arith) rest in
-    (r.0, subst (λ q. Means S n s q (tree_at ts i) r.0) (let e : p + 1 + i ≡ p + suc i = omega arith in e) r.1)
-
-pub means_element_child : (S : Segments) (n s p d q : ℕ) (es : Elements) (c i j : ℕ) → i < element_count es → j < q → MeansElements S n s p d q es c →
-    (k : ℕ) × Means S n s (p + i * (d + q) + d + j) (next (struct_at es i) (Child j)) k
-means_element_child S n s p d q no_elements c i j l m h = absurd (omega arith)
-means_element_child S n s p d q (element ws ts es) c zero j l m (a, b, long, len, here, all, rest, g) =
-    let r = means_child S n s (p + d) ts a j (omega arith) all in
-    (r.0, subst (λ z. Means S n s z (tree_at ts j) r.0) (let e : p + d + j ≡ p + 0 * (d + q) + d + j = omega arith in e) r.1)
-means_element_child S n s p d q (element ws ts es) c (suc i) j l m (a, b, long, len, here, all, rest, g) =
-    let r = means_element_child S n s (p + d + q) d q es b i j (omega arith) m rest in
-    (r.0, subst (λ z. Means S n s z (next (struct_at es i) (Child j)) r.0) (let e : p + d + q + i * (d + q) + d + j ≡ p + suc i * (d + q) + d + j = omega arith in e) r.1)
+use Rattle.capnp_format.proofs.Children.{means_child, means_element_child}
 
 pub times-other-elements : (S : Segments) (n s p d q : ℕ) (es : Elements) (c i j v r : ℕ) → i < element_count es → j < q → MeansElements S n s p d q es c →
     times (cover_elements S s p d q es) v r ≡ times (cover S s (p + i * (d + q) + d + j) (next (struct_at es i) (Child j))) v r + times (cover_other_elements S s p d q es i j) v r

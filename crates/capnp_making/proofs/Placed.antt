@@ -9,7 +9,7 @@ use Rattle.capnp_format.specs.Tree.{Tree, Null, Struct, count}
 use Rattle.capnp_format.specs.Means.{Means, MeansAll}
 use Rattle.capnp_format.specs.Forest.{times, pads_of, object_of, target, target_in, cover, cover_all, AreTidy}
 use Rattle.capnp_format.proofs.Frame.{times-append}
-use Rattle.capnp_making.specs.Path.{extent}
+use Rattle.capnp_format.specs.Path.{extent}
 use Rattle.capnp_making.specs.Stored.{IsStored, IsReplaced}
 use Rattle.capnp_making.proofs.Replaced.{cleared, placed}
 use Rattle.capnp_format.proofs.Lies.{near_leads}

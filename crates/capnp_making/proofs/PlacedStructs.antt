@@ -8,7 +8,7 @@ use Rattle.capnp_format.specs.Means.{Leads, Means, MeansElements, IsTag, count_c
 use Rattle.capnp_format.specs.Forest.{times, pads_of, object_of, target, target_in, cover, cover_elements, IsTidy, AreTidyElements}
 use Rattle.capnp_format.proofs.Frame.{Agree, times-append, leads_agree}
 use Rattle.capnp_arena_traits.specs.Written.{with_word}
-use Rattle.capnp_making.specs.Path.{word_interval}
+use Rattle.capnp_format.specs.Path.{word_interval}
 use Rattle.capnp_making.specs.Stored.{IsReplaced}
 use Rattle.capnp_making.specs.Made.{IsMade, words_of_zero, zero_elements}
 use Rattle.capnp_format.proofs.Lies.{near_leads}

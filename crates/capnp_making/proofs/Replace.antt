@@ -3,7 +3,7 @@ use Rattle.std.proofs.Common.{◌≡◌, ℕ, zero, suc, ◌+◌, ◌<◌, List,
 use Rattle.capnp_format.specs.Segments.{Segments}
 use Rattle.capnp_format.specs.Tree.{Tree, Trees, no_trees, tree, count, Elements, no_elements, element}
 use Rattle.capnp_format.specs.Forest.{Interval, times, cover, cover_all, cover_elements}
-use Rattle.capnp_making.specs.Path.{tree_at, put_tree}
+use Rattle.capnp_format.specs.Path.{tree_at, put_tree}
 use Rattle.capnp_format.proofs.Frame.{times-append}
 
 -- What all children except the i-th cover.

@@ -7,14 +7,15 @@ use Rattle.capnp_format.specs.Segments.{Segments, segment, word_at}
 use Rattle.capnp_format.specs.Tree.{Tree, Null, Struct, Pointers, Structs}
 use Rattle.capnp_format.specs.Means.{Means}
 use Rattle.capnp_format.specs.Forest.{times, target_in, cover, IsTidy, AreTidy, AreTidyElements, IsForest}
-use Rattle.capnp_making.specs.Path.{Step, Child, Element, tree_at, struct_at, next, update, node, PathLeads, word_interval, extent}
+use Rattle.capnp_format.specs.Path.{Step, Child, Element, tree_at, struct_at, next, update, node, PathLeads, word_interval, extent}
 use Rattle.capnp_making.specs.Stored.{IsStored, IsReplaced}
 use Rattle.capnp_format.specs.Segments.{Grows}
 use Rattle.capnp_format.proofs.Frame.{Agree, frame}
 use Rattle.capnp_making.proofs.Tidy.{tidy_kept}
 use Rattle.capnp_format.proofs.Levels.{other_levels, depth_within}
 use Rattle.capnp_making.proofs.Extents.{AgreeBeside, once_held, times-first}
-use Rattle.capnp_making.proofs.Paths.{means_child, means_element_child, tidy_child, tidy_element_child, same_node, part_within, updated}
+use Rattle.capnp_making.proofs.Paths.{tidy_child, tidy_element_child, same_node, part_within, updated}
+use Rattle.capnp_format.proofs.Children.{means_child, means_element_child}
 
 -- The end of a path means its value, and is tidy.
 pub within_means : (S : Segments) (n s p : ℕ) (t : Tree) (c : ℕ) (path : List Step) (u q : ℕ) (x : Tree) → PathLeads S (node s p t) path (node u q x) → Means S n s p t c → IsTidy S s p t →

@@ -43,7 +43,7 @@ another_lengthens S n =
     }
 
 -- Either some segment is the first with room for n words, or none of the first m has it.
-first_below : (v : View) (n m : ℕ) → m ≤ length v.words → ((k : ℕ) × IsFirstFit v n k) ⊎ ((k : ℕ) → k < m → v.room k < length (segment v.words k) + n)
+pub first_below : (v : View) (n m : ℕ) → m ≤ length v.words → ((k : ℕ) × IsFirstFit v n k) ⊎ ((k : ℕ) → k < m → v.room k < length (segment v.words k) + n)
 first_below v n zero l = inr (λ k less. absurd (omega arith))
 first_below v n (suc m) l = elim (first_below v n m (omega arith)) [
   | inl found ↦ inl found
@@ -56,7 +56,7 @@ first_below v n (suc m) l = elim (first_below v n m (omega arith)) [
   ]
 ]
 
-first_or_full : (v : View) (n : ℕ) → ((k : ℕ) × IsFirstFit v n k) ⊎ IsFull v n
+pub first_or_full : (v : View) (n : ℕ) → ((k : ℕ) × IsFirstFit v n k) ⊎ IsFull v n
 first_or_full v n = first_below v n (length v.words) (omega arith)
 
 -- The arena grants n words: in the first segment with room or, if there is none, in a new one.

@@ -10,7 +10,7 @@ use Rattle.capnp_format.specs.Tree.{Tree, Struct, Flat, Structs, Trees, Elements
 use Rattle.capnp_format.specs.Word.{list_count}
 use Rattle.capnp_format.specs.Means.{Leads, IsTag, count_cost, Means, MeansAll, MeansElements}
 use Rattle.capnp_format.specs.Forest.{Interval, times, pads_of, object_of, target, row, target_in, cover, cover_all, cover_elements, IsTidy, AreTidy, AreTidyElements}
-use Rattle.capnp_making.specs.Path.{struct_at, put_struct, word_interval, extent}
+use Rattle.capnp_format.specs.Path.{struct_at, put_struct, word_interval, extent}
 use Rattle.capnp_making.specs.Stored.{IsStored, IsReplaced}
 use Rattle.capnp_format.specs.Segments.{Grows}
 use Rattle.capnp_format.proofs.Frame.{Agree, SameWords, agree_left, agree_right, leads_agree, list_kept, has_words_kept, frame_all, frame_elements, same_cover}

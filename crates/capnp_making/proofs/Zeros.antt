@@ -9,7 +9,7 @@ use Rattle.capnp_arena_traits.specs.Written.{with_segment, overwritten, with_wor
 pub use Rattle.capnp_arena_traits.proofs.WordsOver.{segment_here, segment_other, word_here, word_other, lengths_kept, length-over, over_within, over_beside}
 pub use Rattle.capnp_format.proofs.Frame.{in_row, of_row}
 pub use Rattle.capnp_format.proofs.Slices.{there}
-use Rattle.capnp_making.specs.Path.{word_interval}
+use Rattle.capnp_format.specs.Path.{word_interval}
 use Rattle.capnp_making.specs.Zeroed.{row, IsZeroed, IsPruned}
 
 -- The number of words that aren't zero.

@@ -1,4 +1,3 @@
-pub mod Path
 pub mod Stored
 pub mod Landings
 pub mod Zeroed

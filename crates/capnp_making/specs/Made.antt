@@ -10,7 +10,7 @@ use Rattle.capnp_format.specs.Tree.{Tree, Null, Struct, Flat, Pointers, Structs,
 use Rattle.capnp_format.specs.Tree.{tree, Elements, no_elements, element}
 use Rattle.capnp_format.specs.Means.{Leads}
 use Rattle.capnp_format.specs.Forest.{times, pads_of, object_of, target}
-use Rattle.capnp_making.specs.Path.{word_interval}
+use Rattle.capnp_format.specs.Path.{word_interval}
 use Rattle.capnp_making.specs.declared.making.Shape.{Shape}
 use Rattle.capnp_making.specs.declared.making.Start.{Start}
 use Rattle.capnp_making.specs.declared.making.Shape.TheVariants.{Struct as StructShape, List as ListShape}

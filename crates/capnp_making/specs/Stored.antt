@@ -5,7 +5,7 @@ use Rattle.capnp_format.specs.Segments.{Segments, segment, word_at}
 use Rattle.capnp_format.specs.Tree.{Tree, Null}
 use Rattle.capnp_format.specs.Means.{Means}
 use Rattle.capnp_format.specs.Forest.{times, IsTidy}
-use Rattle.capnp_making.specs.Path.{extent}
+use Rattle.capnp_format.specs.Path.{extent}
 use Rattle.capnp_making.specs.Zeroed.{IsPruned}
 
 -- The word at (s, p) means t, and holds no word twice and none outside its segment.

@@ -11,7 +11,8 @@ pub use Rattle.capnp_format.specs.Forest.{row, PadsInside, object_cover}
 use Rattle.capnp_format.specs.Forest.{Interval, times, pads_of, cover_all, cover_elements}
 use Rattle.capnp_words.specs.declared.wire_pointer.StructSize.{StructSize}
 use Rattle.capnp_arena_traits.specs.View.{View, KeepsLimits}
-use Rattle.capnp_making.specs.Path.{word_interval, extent}
+use Rattle.capnp_format.specs.Path.{word_interval, extent}
+use Rattle.capnp_words.specs.Sizes.{sized}
 
 -- From S to R the words in these intervals are zeroed; all others stay.
 pub record IsZeroed (S R : Segments) (is : List Interval) : Type 0 where
@@ -85,16 +86,12 @@ element_extents S s p size (element ws ts es) =
     (row s (p + size.data_words) size.pointers ∷ cover_all S s (p + size.data_words) ts) ++
     element_extents S s (p + size.data_words + size.pointers) size es
 
--- Sections of d data words and q pointers.
-abbrev pub sections : ℕ → ℕ → StructSize
-sections d q = record { data_words = d; pointers = q }
-
 -- S has a list of structs from (s, p) on: its tag, and elements that hold no word twice.
 abbrev pub IsStructListApart : Segments → ℕ → ℕ → Tree → Type 0
 IsStructListApart S s p (Structs d q es) =
     IsTag (word_at S s p) (element_count es) d q
     × (p + (1 + element_count es * (d + q)) ≤ length (segment S s))
-    × AreApartElements S s (p + 1) (sections d q) es
+    × AreApartElements S s (p + 1) (sized d q) es
 IsStructListApart S s p t = ⊥
 
 -- The words of a list of structs from (s, p) on, with all that is reached from it.

@@ -7,7 +7,7 @@ ghost use Rattle.capnp_format.specs.Tree.{Tree, Trees, Elements, element_count};
 ghost use Rattle.capnp_format.specs.Tree.{count as number};
 ghost use Rattle.capnp_format.specs.Word.{far_position, is_double, kind, upper_half};
 ghost use Rattle.capnp_format.specs.Forest.{pads_of, row, PadsInside, object_cover, cover_all, cover_elements};
-ghost use Rattle.capnp_making.specs.Path.{extent};
+ghost use Rattle.capnp_format.specs.Path.{extent};
 ghost use Rattle.capnp_making.specs.Landings.{target_of};
 ghost use Rattle.capnp_making.specs.Zeroed.{IsZeroed, IsPruned, Zeroes, ZeroesPads, IsApart, IsObjectApart, AreApart, AreApartElements, IsStructListApart, element_extents, struct_list_cover};
 

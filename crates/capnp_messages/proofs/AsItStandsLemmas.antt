@@ -14,7 +14,7 @@ use Rattle.capnp_messages.specs.Messages.{IsValueOf}
 use Rattle.capnp_messages.proofs.CanonicalMessageLemmas.{has_root, means_its_value}
 
 -- a limit that covers `more` words covers n of them
-covers_less : (limit : Option ℕ) (n more : ℕ) → n ≤ more → FitsIn limit more → FitsIn limit n
+pub covers_less : (limit : Option ℕ) (n more : ℕ) → n ≤ more → FitsIn limit more → FitsIn limit n
 covers_less None n more less covered = tt
 covers_less (Some left) n more less covered = omega arith
 

@@ -1,6 +1,6 @@
 -- What a copy to the root of a fresh message leaves, and what a refused one states about the
 -- message that was read.
-use Rattle.std.proofs.Common.{◌≡◌, ◌⊎◌, inl, inr, Some, None, ℕ, ◌+◌, ◌<◌, ◌≤◌, List, [], ◌∷◌, length, Bool, true, false, IsTrue, Option, IfSome, IsNone, refl, ap, sym, ◌∙◌, subst, arith, length-set}
+use Rattle.std.proofs.Common.{◌≡◌, ◌⊎◌, inl, inr, Some, None, ℕ, ◌+◌, ◌<◌, ◌≤◌, [], ◌∷◌, length, Bool, true, false, IsTrue, Option, IfSome, IsNone, refl, ap, sym, ◌∙◌, subst, arith, length-set}
 use Rattle.capnp_words.specs.declared.error.ErrorKind.{ErrorKind}
 use Rattle.capnp_words.specs.declared.error.ErrorKind.TheVariants.{AllocationFailed, MessageTooLarge}
 use Rattle.capnp_format.specs.Segments.{Segments, IsPlace, segment, word_at}
@@ -14,16 +14,19 @@ use Rattle.capnp_format.specs.Tree.{Tree, Null}
 use Rattle.capnp_format.proofs.Levels.{one_value}
 use Rattle.capnp_objects.specs.Outcomes.{Reads}
 use Rattle.std.proofs.lemmas.Bool.{cases_lt}
-use Rattle.capnp_making.specs.Memory.{KeepsMemory, RefusesWords}
+use Rattle.capnp_making.specs.Memory.{KeepsMemory}
 use Rattle.capnp_copies.specs.Changes.{ComesToObject, MakesCopy, StopsCopy, change}
 use Rattle.capnp_copies.specs.Originals.{value_original}
 use Rattle.capnp_copies.proofs.Copying.{fresh_made}
 use Rattle.capnp_copies.proofs.Originals.{value_beyond}
-use Rattle.capnp_messages.specs.Copies.{HoldsCanonicalWords, LacksMemoryOr, OutgrowsRoom, RefusesCopy, RefusesCopyAnywhere, is_message_too_large, wants_room}
+use Rattle.capnp_messages.specs.Copies.{HoldsCanonicalWords, LacksMemoryOr, OutgrowsRoom, RefusesCopy, RefusesCopyAnywhere, is_message_too_large}
+use Rattle.capnp_words.specs.Names.{is_allocation_name}
 use Rattle.capnp_messages.specs.Tries.{NeedsMoreRoom}
 use Rattle.capnp_arena_traits.specs.Allocations.{max_segment_words, one_more}
 use Rattle.capnp_arena_traits.specs.View.{View}
 use Rattle.capnp_making.specs.Makes.{call_at}
+use Rattle.capnp_format.proofs.Slices.{only_segment}
+use Rattle.capnp_making.proofs.Memory.{words_named}
 
 -- the root of a fresh message is its only word, which is zero
 root_alone : (S : Segments) → S ≡ (0 ∷ []) ∷ [] → segment S 0 ≡ 0 ∷ []
@@ -34,12 +37,6 @@ root_there S fresh = omega (arith, ap length (root_alone S fresh))
 
 pub root_null : (S : Segments) → S ≡ (0 ∷ []) ∷ [] → word_at S 0 0 ≡ 0
 root_null S fresh = ap (λ (M : Segments). word_at M 0 0) fresh
-
--- a message of one segment is that segment
-only_segment : (S : Segments) (ws : List ℕ) → length S ≡ 1 → segment S 0 ≡ ws → S ≡ ws ∷ []
-only_segment [] ws one e = absurd (omega (arith, one))
-only_segment (x ∷ []) ws one e = ap (λ (s : List ℕ). s ∷ []) e
-only_segment (x ∷ y ∷ S) ws one e = absurd (omega (arith, one))
 
 -- a copy to the root is the whole message, if the message has one segment afterwards
 pub made_copy : (r : Reading) (left : Option ℕ) (old made : View) (l m : Meter) → old.words ≡ (0 ∷ []) ∷ [] → l ≡ unused left →
@@ -73,12 +70,6 @@ kept_room old new fresh kept =
     let some : 0 < length old.words = omega (arith, ap length fresh) in
     kept.1 0 some
 
--- the errors of refused words are for lack of room
-want_of_words : (old new : View) (n : ℕ) (k : ErrorKind) → RefusesWords old new n k → wants_room k ≡ true
-want_of_words old new n k (inl memory, none) = ap wants_room memory.0
-want_of_words old new n k (inr (inl large), none) = ap wants_room large.0
-want_of_words old new n k (inr (inr many), none) = ap wants_room many.0
-
 -- why a copy to the root of a fresh message is refused
 pub refused_copy : (r : Reading) (left : Option ℕ) (old new : View) (l m : Meter) (k : ErrorKind) → old.words ≡ (0 ∷ []) ∷ [] → l ≡ unused left →
     StopsCopy (value_original r) (change canonical (call_at 0 0 old new) l m) Null k → RefusesCopyAnywhere r left (old.room 0) k
@@ -89,7 +80,7 @@ refused_copy r left old new l m k fresh begun stop =
       | inl (inr (n, stops, (refused, full)), large) ↦
           let out : ComesToObject (value_original r) canonical l m (λ i all. old.room 0 < 1 + all) = (n, stops, omega (arith, full, used)) in
           inl (
-            want_of_words old new n k refused,
+            words_named old new n k refused,
             λ t c means. (let beyond = value_beyond canonical r (length (segment old.words 0)) (old.room 0) large t c means in omega (arith, beyond, used)),
             (m, subst (λ (x : Meter). ComesToObject (value_original r) canonical x m (λ i all. old.room 0 < 1 + all)) begun out),
           )
@@ -112,13 +103,13 @@ moved_offer {new = new} asked {there = there} same kept offered =
     subst (λ n. IsTrue (new asked n)) (sym kept) (subst (λ (offers : ℕ → ℕ → Bool). IsTrue (offers asked there)) same offered)
 
 -- a reading isn't refused for lack of room
-pub never_read : {r : Reading} {l m : Meter} (k : ErrorKind) → wants_room k ≡ true → Refused canonical r l m k → ⊥
+pub never_read : {r : Reading} {l m : Meter} (k : ErrorKind) → is_allocation_name k ≡ true → Refused canonical r l m k → ⊥
 never_read AllocationFailed want refused = not_for_memory refused
 never_read (MessageTooLarge w) want refused = not_for_size w refused
 never_read _ want refused = absurd (cc)
 
 -- an error that something is too large is for lack of room
-pub large_wants : (k : ErrorKind) → is_message_too_large k ≡ true → wants_room k ≡ true
+pub large_wants : (k : ErrorKind) → is_message_too_large k ≡ true → is_allocation_name k ≡ true
 large_wants (MessageTooLarge w) large = refl
 large_wants _ large = absurd (cc)
 
@@ -128,7 +119,7 @@ less_outgrown more room least (m, (n, stops, full)) = (m, (n, stops, omega (arit
 
 -- a copy that is refused for room, with `more` words in its segment, has too little with `room`
 -- words, if these aren't more
-pub refused_try : {r : Reading} {left : Option ℕ} {k : ErrorKind} (more room : ℕ) → room ≤ more → wants_room k ≡ true → RefusesCopyAnywhere r left more k → RefusesCopy r left room (MessageTooLarge room)
+pub refused_try : {r : Reading} {left : Option ℕ} {k : ErrorKind} (more room : ℕ) → room ≤ more → is_allocation_name k ≡ true → RefusesCopyAnywhere r left more k → RefusesCopy r left room (MessageTooLarge room)
 refused_try more room least want (inl (named, large, out)) = inl (refl, λ t c means. (let beyond = large t c means in omega arith), inr (less_outgrown more room least out))
 refused_try {k = k} more room least want (inr (m, refused)) = absurd (never_read k want refused)
 

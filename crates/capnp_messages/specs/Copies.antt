@@ -15,16 +15,12 @@ use Rattle.capnp_objects.specs.Wanted.{canonical}
 use Rattle.capnp_copies.specs.Changes.{ComesToObject}
 use Rattle.capnp_copies.specs.Originals.{value_original}
 use Rattle.capnp_messages.specs.Tries.{NeedsMoreRoom}
+use Rattle.capnp_words.specs.Names.{is_allocation_name}
 
 -- Whether a refusal says that something would be too large.
 abbrev pub is_message_too_large : ErrorKind → Bool
 is_message_too_large (MessageTooLarge w) = true
 is_message_too_large _ = false
-
--- Whether a refusal says that there is no room, or no memory.
-abbrev pub wants_room : ErrorKind → Bool
-wants_room AllocationFailed = true
-wants_room k = is_message_too_large k
 
 -- Copying what r means comes to an object that doesn't fit: the object's words, the root's word and
 -- the words charged before it are together more than `room`.
@@ -48,7 +44,7 @@ RefusesCopy r left room k =
 -- refused with k.
 abbrev pub RefusesCopyAnywhere : Reading → Option ℕ → ℕ → ErrorKind → Type 0
 RefusesCopyAnywhere r left room k =
-    ((wants_room k ≡ true) × NeedsMoreRoom r room × OutgrowsRoom r left room) ⊎
+    ((is_allocation_name k ≡ true) × NeedsMoreRoom r room × OutgrowsRoom r left room) ⊎
     ((m : Meter) × Refused canonical r (unused left) m k)
 
 -- Either k is `AllocationFailed`, and new counts one more refused request than old; or P holds, and

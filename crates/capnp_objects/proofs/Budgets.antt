@@ -9,7 +9,8 @@ use Rattle.capnp_objects.specs.Spending.{after, Paid, pointers_in, pointers_in_a
 use Rattle.capnp_words.specs.declared.wire_pointer.StructSize.{StructSize}
 use Rattle.capnp_objects.specs.Demands.{own}
 use Rattle.capnp_objects.specs.Outcomes.{Reads, ReadsAll, ReadsElements, Entered}
-use Rattle.capnp_objects.specs.Reading.{Reading, sized}
+use Rattle.capnp_objects.specs.Reading.{Reading}
+use Rattle.capnp_words.specs.Sizes.{sized}
 use Rattle.capnp_objects.specs.Wanted.{Form}
 use Rattle.capnp_objects.specs.declared.object.Purpose.TheVariants.{Value}
 

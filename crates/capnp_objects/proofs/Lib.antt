@@ -10,6 +10,7 @@ pub mod Defaults
 pub mod Faultless
 pub mod Followed
 pub mod Landings
+pub mod Levels
 pub mod Limits
 pub mod Objects
 pub mod Parts

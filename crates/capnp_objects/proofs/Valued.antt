@@ -34,7 +34,7 @@ use Rattle.capnp_objects.proofs.Refusals.{stops_struct, stops_pointers, stops_st
 use Rattle.capnp_objects.proofs.Shorthands.{RefusedAll, RefusedElements}
 
 -- an object that is refused as a plain value is refused in each form
-breaks_form : (form : Form) (S : Segments) (n : ℕ) (a : Target) (k : ErrorKind) → BreaksObject Value plain S n a k → BreaksObject Value form S n a k
+pub breaks_form : (form : Form) (S : Segments) (n : ℕ) (a : Target) (k : ErrorKind) → BreaksObject Value plain S n a k → BreaksObject Value form S n a k
 breaks_form form S n a MalformedDoubleFarPointer h = h
 breaks_form form S n a UnknownPointerType (three, inl other) = (three, inl other)
 breaks_form form S n a UnknownPointerType (three, inr e) = absurd (cc e)
@@ -45,7 +45,7 @@ breaks_form form S n a InlineCompositeListsOfNonStructTypeAreNotSupported h = h
 breaks_form form S n a InlineCompositeListsElementsOverrunItsWordCount h = h
 breaks_form form S n a k h = absurd h
 
-stopped_form : {r : Reading} {m m' : Meter} {k : ErrorKind} (form : Form) → Stopped Value plain r m m' k → Stopped Value form r m m' k
+pub stopped_form : {r : Reading} {m m' : Meter} {k : ErrorKind} (form : Form) → Stopped Value plain r m m' k → Stopped Value form r m m' k
 stopped_form form (no_target h) = no_target h
 stopped_form {r} {k = k} form (broken a f h paid) = broken a f (breaks_form form r.segments r.levels a k h) paid
 stopped_form form (claim_exceeds a f some object claims short paid named) = claim_exceeds a f some object claims short paid named

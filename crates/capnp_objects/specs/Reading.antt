@@ -77,10 +77,6 @@ words_from r n = words_at r.segments r.segment r.at n
 abbrev pub pointers_of : Reading → StructSize → ℕ → Reading
 pointers_of r size j = record r { at = r.at + j * (size.data_words + size.pointers) + size.data_words }
 
--- The size of d data words and q pointers.
-abbrev pub sized : ℕ → ℕ → StructSize
-sized d q = record { data_words = d; pointers = q }
-
 -- The size of the elements of the list of structs at the target a, by its tag.
 abbrev pub tag_size : Segments → Target → StructSize
 tag_size S a =

@@ -280,7 +280,7 @@ sent_more first old new items sent n end l k h =
     Keeps-trans first _ _ k (append_known-moved old new (take n (slice_range items sent end))
     (slice_range items (sent + n) end) (slice_range items sent end) h (parts_of items sent end n l))
 
-kept_appends : (a b c : Option (List ℕ)) (bytes : List ℕ) → Keeps a b → Appends b c bytes → Appends a c bytes
+pub kept_appends : (a b c : Option (List ℕ)) (bytes : List ℕ) → Keeps a b → Appends b c bytes → Appends a c bytes
 kept_appends None b c bytes k h = tt
 kept_appends (Some x) None c bytes k h = absurd k
 kept_appends (Some x) (Some y) None bytes k h = absurd h

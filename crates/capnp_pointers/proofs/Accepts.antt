@@ -1,9 +1,9 @@
 -- If an object passes the checks of its canonical form, and its children have canonical words, so
 -- has its value. Each lemma takes what the checks found one by one.
-use Rattle.std.proofs.Common.{◌≡◌, ◌≢◌, inl, inr, ℕ, zero, suc, ◌+◌, ◌-◌, ◌*◌, ◌^◌, ◌<◌, ◌≤◌, cond, nat_eq, List, [], ◌∷◌, ◌++◌, length, Option, Some, None, refl, sym, ap, ap₂, ◌∙◌, subst, arith, ne_eqb, take_all, pow_pos, length-append}
+use Rattle.std.proofs.Common.{◌≡◌, ◌≢◌, inl, inr, ℕ, zero, suc, ◌+◌, ◌-◌, ◌*◌, ◌^◌, ◌<◌, ◌≤◌, cond, nat_eq, List, [], ◌∷◌, ◌++◌, length, Some, refl, sym, ap, ap₂, ◌∙◌, subst, arith, ne_eqb, take_all, pow_pos, length-append}
 use Rattle.capnp_format.specs.Word.{kind, offset_bits, data_words, pointer_count, element_size, list_count, is_double, struct_word, list_word}
 use Rattle.capnp_format.specs.Numbers.{words_for, unpacked, packed, element_bits, from_digits}
-use Rattle.capnp_format.specs.Segments.{Segments, segment, word_at, words_at, HasWords, IsPlace, Target, leads, near, far, offset_leads, ◌>>=◌}
+use Rattle.capnp_format.specs.Segments.{Segments, segment, word_at, words_at, HasWords, IsPlace, Target, leads, near, far, offset_leads}
 use Rattle.capnp_format.specs.Tree.{Null, Struct, Flat, Pointers, Structs, Trees, no_trees, tree, Elements, no_elements, element, blank, count, element_count}
 use Rattle.capnp_format.specs.Means.{Claims, StructAt, ListAt, IsTag}
 use Rattle.capnp_format.specs.Canonical.{used_from, used_words, used_trees, take_trees, data_width, pointer_width, cut_to, trim, word_count, word_count_elements, pointer, pointers, rows, bodies, element_bodies, offset_to, Reaches, Stands}
@@ -15,16 +15,10 @@ use Rattle.capnp_format.proofs.Digits.{length-digits}
 use Rattle.capnp_format.proofs.Padding.{packed-unpacked}
 use Rattle.capnp_format.proofs.Slices.{length_words, has_words_at, moved}
 use Rattle.capnp_format.proofs.Lengths.{length-pointers, length-rows}
-use Rattle.capnp_format.proofs.Following.{IsOffsetTo, offset_is}
+use Rattle.capnp_format.proofs.Following.{IsOffsetTo, offset_is, bind_found}
 use Rattle.capnp_format.proofs.Unique.{for_offset}
 use Rattle.capnp_pointers.proofs.Chains.{laid_where_standing, rows_where_standing, has_words_joined, has_words_more}
 use Rattle.capnp_pointers.proofs.Used.{ends_used, pointer_is_null, words_at-more}
-
--- If two steps found something, the first one found something, and so did the second one from
--- there.
-bind_found : {A B : Type 0} (o : Option A) (f : A → Option B) (y : B) → (o >>= f) ≡ Some y → (x : A) × (o ≡ Some x) × (f x ≡ Some y)
-bind_found (Some x) f y h = (x, refl, h)
-bind_found None f y h = absurd (cc h)
 
 -- The pointer at (s, p) is near: it leads into its own segment, over no pads, to where its offset
 -- says.

@@ -19,7 +19,8 @@ use Rattle.capnp_objects.specs.Enter.{Shape, read, shape}
 use Rattle.capnp_objects.specs.Faults.{LeadsTo, child_at}
 use Rattle.capnp_objects.specs.Metered.{Metered, onward}
 use Rattle.capnp_objects.specs.Outcomes.{Entered, MeansThere}
-use Rattle.capnp_objects.specs.Reading.{Reading, behind, sized}
+use Rattle.capnp_objects.specs.Reading.{Reading, behind}
+use Rattle.capnp_words.specs.Sizes.{sized}
 use Rattle.capnp_objects.specs.Refusals.{CanBeRead}
 use Rattle.capnp_objects.specs.Spending.{Paid, after, pointers_in, pointers_in_all, pointers_in_elements}
 use Rattle.capnp_objects.proofs.Budgets.{affords_rest, paid_both}

@@ -8,13 +8,13 @@ use Rattle.capnp_format.specs.Segments.{Segments}
 use Rattle.capnp_words.specs.Meter.{Meter}
 use Rattle.capnp_words.specs.declared.wire_pointer.StructSize.{StructSize}
 use Rattle.capnp_words.specs.declared.wire_pointer.ElementSize.{ElementSize}
-use Rattle.capnp_words.specs.Sizes.{size_number}
+use Rattle.capnp_words.specs.Sizes.{size_number, sized}
 use Rattle.capnp_objects.specs.declared.object.Object.{Object}
 use Rattle.capnp_objects.specs.declared.object.Object.TheVariants.{Null as ObjectNull, Capability as ObjectCapability, Struct as ObjectStruct, Flat as ObjectFlat, Pointers as ObjectPointers, Structs as ObjectStructs}
 use Rattle.capnp_objects.specs.declared.object.Place.{Place}
 use Rattle.capnp_objects.specs.Demands.{claim, tag, element_words}
 use Rattle.capnp_objects.specs.Objects.{IsObject}
-use Rattle.capnp_objects.specs.Reading.{Reading, word_of, behind, sized, tag_size}
+use Rattle.capnp_objects.specs.Reading.{Reading, word_of, behind, tag_size}
 use Rattle.capnp_objects.specs.Faults.{child_at}
 use Rattle.capnp_objects.specs.declared.object.Purpose.TheVariants.{Value}
 use Rattle.capnp_objects.proofs.Parts.{claim_struct, claim_list}

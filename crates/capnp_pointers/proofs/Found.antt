@@ -1,6 +1,6 @@
 -- If S has the canonical words of a value, its object passes each check of its canonical form, and
 -- its children have canonical words. Each lemma states what the checks find one by one.
-use Rattle.std.proofs.Common.{◌≡◌, ◌≢◌, inl, inr, ℕ, ◌+◌, ◌-◌, ◌*◌, ◌^◌, ◌<◌, ◌≤◌, List, [], ◌∷◌, ◌++◌, length, take, refl, sym, ap, ap₂, ◌∙◌, subst, arith, take_all, length-take, length-append, pow_mono, lt_of_lt_of_le}
+use Rattle.std.proofs.Common.{◌≡◌, ◌≢◌, inl, inr, ℕ, ◌+◌, ◌-◌, ◌*◌, ◌^◌, ◌<◌, ◌≤◌, List, [], ◌∷◌, ◌++◌, length, take, refl, sym, ap, ap₂, ◌∙◌, subst, arith, take_all, length-take, length-append}
 use Rattle.std.proofs.lemmas.Bool.{cases_lt}
 use Rattle.capnp_format.specs.Word.{kind, offset_bits, struct_word, list_word}
 use Rattle.capnp_format.specs.Numbers.{words_for, unpacked, packed, element_bits, from_digits}
@@ -8,16 +8,17 @@ use Rattle.capnp_format.specs.Segments.{Segments, segment, word_at, words_at, Ta
 use Rattle.capnp_format.specs.Tree.{Tree, Null, Capability, Struct, Flat, Pointers, Structs, Trees, no_trees, tree, Elements, no_elements, element, count, element_count, capabilities}
 use Rattle.capnp_format.specs.Means.{Claims, StructAt, ListAt, IsTag}
 use Rattle.capnp_format.specs.Canonical.{used_words, used_trees, take_trees, data_width, pointer_width, cut_to, trim, trim_each, trim_elements, pointer, pointers, rows, bodies, element_bodies, ForOffset, offset_to, Reaches, Stands}
-use Rattle.capnp_format.specs.Value.{AreBelow, AreElements}
+use Rattle.capnp_format.specs.Value.{AreElements}
 use Rattle.capnp_pointers.specs.Standing.{AllStand, ElementsStand, EndsUsed, IsPadded}
-use Rattle.capnp_format.proofs.Digits.{length-digits, from_digits-below, from_digits-digits}
+use Rattle.capnp_format.proofs.Digits.{length-digits}
 use Rattle.capnp_format.proofs.Slices.{has_words_first, has_words_rest, has_words_head, has_words_tail, has_words_within, moved}
 use Rattle.capnp_format.proofs.Lengths.{length-pointers, length-rows}
-use Rattle.capnp_format.proofs.Lies.{pow_pow, unpacked-packed, tag_is}
+use Rattle.capnp_format.proofs.Lies.{unpacked-packed, tag_is}
 use Rattle.capnp_format.proofs.Trimming.{used_words-le, used_trees-le, take_trees-count, trim_each-count}
 use Rattle.capnp_pointers.proofs.Chains.{standing_where_laid, standing_where_rows}
 use Rattle.capnp_pointers.proofs.Used.{used_words-pointers, used_ends}
 use Rattle.capnp_pointers.proofs.Accepts.{near_to, near_struct_word, near_list_word, take_trees_all, struct_pointer}
+use Rattle.capnp_format.proofs.Padding.{packed_below}
 
 -- The pointer of a value without capabilities is one of a struct or of a list.
 kind_of_pointer : (t : Tree) (k : ℕ) → capabilities t ≡ 0 → kind (pointer t k) < 2
@@ -261,15 +262,6 @@ pub record FoundFlat (S : Segments) (s p h : ℕ) (a : Target) (size n : ℕ) (t
   pub claim : Claims S a (words_for size n)
   pub padded : IsPadded S s h size n
   pub value : t ≡ Flat size (unpacked size n (words_at S s h (words_for size n)))
-
--- Packed elements leave zeros after them.
-packed_below : (size : ℕ) (ns : List ℕ) → AreBelow (2 ^ element_bits size) ns → from_digits (2 ^ 64) (packed size ns) < 2 ^ (element_bits size * length ns)
-packed_below size ns h =
-    let x = from_digits (2 ^ element_bits size) ns in
-    let small : x < 2 ^ (element_bits size * length ns) = rw pow_pow at (from_digits-below (2 ^ element_bits size) ns h) in
-    let room : element_bits size * length ns ≤ 64 * words_for size (length ns) = omega arith in
-    let fits : x < (2 ^ 64) ^ words_for size (length ns) = rw (pow_pow 64 (words_for size (length ns))) (lt_of_lt_of_le small (pow_mono room)) in
-    subst (λ y. y < 2 ^ (element_bits size * length ns)) (sym (from_digits-digits (2 ^ 64) (words_for size (length ns)) x (omega arith) fits)) small
 
 -- A canonical list of numbers is found so if its pointer leads to the head.
 flat_parts : (S : Segments) (s p h : ℕ) (a : Target) (size : ℕ) (ns : List ℕ) → h ≤ length (segment S s) → Stands S s p h (Flat size ns) → a.start ≡ h → a.segment ≡ s → FoundFlat S s p h a size (length ns) (Flat size ns)

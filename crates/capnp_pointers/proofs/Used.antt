@@ -1,5 +1,5 @@
 -- How many words and children are used, by the last word and by the pointers.
-use Rattle.std.proofs.Common.{◌≡◌, ◌≢◌, ℕ, zero, suc, ◌+◌, ◌-◌, ◌<◌, ◌≤◌, ◌⊎◌, inl, inr, nat_eq, List, [], ◌∷◌, length, get_or, take, drop, refl, sym, ap, ap₂, ◌∙◌, subst, arith, eq-eqb, ne_eqb, get_or-drop, take_all, length-take, get_or-take}
+use Rattle.std.proofs.Common.{◌≡◌, ◌≢◌, ℕ, zero, suc, ◌+◌, ◌-◌, ◌<◌, ◌≤◌, ◌⊎◌, inl, inr, nat_eq, List, [], ◌∷◌, length, get_or, take, refl, sym, ap, ap₂, ◌∙◌, subst, arith, eq-eqb, ne_eqb, take_all, length-take}
 use Rattle.std.proofs.lemmas.List.{drop_more}
 use Rattle.std.proofs.lemmas.Bool.{cases_eq}
 use Rattle.capnp_format.specs.Word.{capability_word, struct_word, list_word}
@@ -7,7 +7,7 @@ use Rattle.capnp_format.specs.Segments.{Segments, segment, word_at, words_at}
 use Rattle.capnp_format.specs.Tree.{Tree, Null, Capability, Struct, Flat, Pointers, Structs, Trees, no_trees, tree, count}
 use Rattle.capnp_format.specs.Canonical.{used_from, used_words, is_null, used_trees, word_count, pointer, pointers}
 use Rattle.capnp_pointers.specs.Standing.{EndsUsed}
-use Rattle.capnp_format.proofs.Slices.{length_words}
+use Rattle.capnp_format.proofs.Slices.{length_words, word_in_part}
 use Rattle.capnp_format.proofs.Trimming.{used_words-le}
 use Rattle.capnp_format.proofs.UsedUp.{used_whole}
 
@@ -50,10 +50,6 @@ some_used xs n long e z =
     let same : used_words xs ≡ used_words (take n xs) = ap used_words (sym (take_all (suc n) xs (omega arith))) ∙ unused_at xs n z in
     omega (arith, used_words-le (take n xs), length-take n xs)
 
--- Word i of the n words from a place on is the word i places further.
-word_of : (S : Segments) (s p n i : ℕ) → i < n → get_or (words_at S s p n) i 0 ≡ word_at S s (p + i)
-word_of S s p n i l = get_or-take n (drop p (segment S s)) i 0 l ∙ get_or-drop p (segment S s) i 0
-
 -- Words of a segment are all used if they don't end with a zero.
 pub ends_used : (S : Segments) (s p n : ℕ) → p + n ≤ length (segment S s) → EndsUsed S s p n → used_words (words_at S s p n) ≡ n
 ends_used S s p n l (inl e) =
@@ -65,7 +61,7 @@ ends_used S s p n l (inr e) =
       | inl z ↦ all_used (words_at S s p n) (inl (omega (arith, long))) ∙ long
       | inr some ↦
           (let there : get_or (words_at S s p n) (length (words_at S s p n) - 1) 0 ≡ word_at S s (p + n - 1) =
-          ap (λ m. get_or (words_at S s p n) (m - 1) 0) long ∙ word_of S s p n (n - 1) (omega arith) ∙ ap (word_at S s) (let q : p + (n - 1) ≡ p + n - 1 = omega arith in q) in
+          ap (λ m. get_or (words_at S s p n) (m - 1) 0) long ∙ word_in_part S s p n (n - 1) (omega arith) ∙ ap (word_at S s) (let q : p + (n - 1) ≡ p + n - 1 = omega arith in q) in
           all_used (words_at S s p n) (inr (λ z. e (sym there ∙ z))) ∙ long)
     ]
 
@@ -76,7 +72,7 @@ used_ends S s p n l e = elim (cases_eq n 0) [
   | inr some ↦
       (let long = length_words S s p n l in
       let there : get_or (words_at S s p n) (n - 1) 0 ≡ word_at S s (p + n - 1) =
-      word_of S s p n (n - 1) (omega arith) ∙ ap (word_at S s) (let q : p + (n - 1) ≡ p + n - 1 = omega arith in q) in
+      word_in_part S s p n (n - 1) (omega arith) ∙ ap (word_at S s) (let q : p + (n - 1) ≡ p + n - 1 = omega arith in q) in
       inr (λ z. some_used (words_at S s p n) (n - 1) (omega (arith, long)) (e ∙ sym long) (there ∙ z)))
 ]
 

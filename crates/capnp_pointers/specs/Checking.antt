@@ -1,7 +1,7 @@
 -- What the test for canonical form finds, how far it has come, and where it stops
 -- ("Canonicalization"). It visits the pointers in order with a head, the word at which the next
 -- object must start, and enters a level for each struct and list.
-use Rattle.std.specs.Prelude.{◌≡◌, ◌≢◌, ◌⊎◌, ℕ, pred, ◌+◌, ◌*◌, ◌-◌, ◌/◌, ◌%◌, ◌^◌, min, ◌<◌, ◌≤◌}
+use Rattle.std.specs.Prelude.{◌≡◌, ◌≢◌, ◌⊎◌, ℕ, pred, ◌+◌, ◌*◌, ◌-◌, ◌^◌, ◌<◌, ◌≤◌}
 use Rattle.std.specs.Prelude.{List, [], ◌∷◌, Option, Some, None, if◌then◌else◌, nat_eq, length, ⊤}
 use Rattle.std.specs.Prelude.{Result, IfOk, IfErr, OnOk, OnErr}
 use Rattle.capnp_words.specs.declared.error.ErrorKind.{ErrorKind}
@@ -10,10 +10,10 @@ use Rattle.capnp_words.specs.declared.error.ErrorKind.TheVariants.{NestingLimitE
 use Rattle.capnp_words.specs.Meter.{Meter, Affords}
 use Rattle.capnp_words.specs.declared.wire_pointer.StructSize.{StructSize}
 use Rattle.capnp_words.specs.declared.wire_pointer.ElementSize.{ElementSize}
-use Rattle.capnp_words.specs.Sizes.{size_number}
+use Rattle.capnp_words.specs.Sizes.{size_number, sized}
 use Rattle.capnp_format.specs.Numbers.{words_for}
 use Rattle.capnp_format.specs.Word.{kind, offset_bits, data_words, pointer_count, element_size, list_count}
-use Rattle.capnp_format.specs.Segments.{Segments, Target, word_at, IsPlace}
+use Rattle.capnp_format.specs.Segments.{Target, word_at, IsPlace}
 use Rattle.capnp_format.specs.Tree.{Tree, Trees, Elements, count, element_count, depth, depth_all}
 use Rattle.capnp_format.specs.Tree.{depth_elements}
 use Rattle.capnp_format.specs.Canonical.{Stands, ForOffset, word_count, word_count_all}
@@ -29,8 +29,8 @@ use Rattle.capnp_objects.specs.declared.object.Object.TheVariants.{Structs as Ob
 use Rattle.capnp_objects.specs.Demands.{claim, tag, element_words, IsStructList}
 use Rattle.capnp_objects.specs.Faults.{child_at}
 use Rattle.capnp_objects.specs.Outcomes.{Entered}
-use Rattle.capnp_objects.specs.Reading.{Reading, source_start, word_of, segment_read, behind}
-use Rattle.capnp_objects.specs.Reading.{pointers_of, sized, tag_size}
+use Rattle.capnp_objects.specs.Reading.{Reading, word_of, segment_read, behind}
+use Rattle.capnp_objects.specs.Reading.{pointers_of, tag_size}
 use Rattle.capnp_objects.specs.Refusals.{Stopped, GoesBefore}
 use Rattle.capnp_objects.specs.Spending.{Paid, pointers_in, pointers_in_all, pointers_in_elements}
 use Rattle.capnp_objects.specs.Wanted.{plain}

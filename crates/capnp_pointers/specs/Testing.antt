@@ -5,13 +5,14 @@ use Rattle.std.specs.Prelude.{◌≡◌, ℕ, zero, suc, ◌+◌, ◌*◌, ◌-�
 use Rattle.std.specs.Prelude.{nat_lt, length, Option, Some, None, Result, Ok, Err, true, false}
 use Rattle.capnp_words.specs.declared.error.ErrorKind.{ErrorKind}
 use Rattle.capnp_words.specs.Meter.{Meter}
+use Rattle.capnp_words.specs.Sizes.{sized}
 use Rattle.capnp_words.specs.declared.wire_pointer.StructSize.{StructSize}
 use Rattle.capnp_format.specs.Numbers.{words_for, element_bits, from_digits}
 use Rattle.capnp_format.specs.Word.{kind, list_count}
 use Rattle.capnp_objects.specs.declared.object.Purpose.TheVariants.{Value}
 use Rattle.capnp_objects.specs.Enter.{Shape, nothing, capability, struct, flat, pointers, structs, read}
 use Rattle.capnp_objects.specs.Metered.{Metered, answer, ◌>>>◌, onward}
-use Rattle.capnp_objects.specs.Reading.{Reading, behind, segment_read, sized, word_of, words_from}
+use Rattle.capnp_objects.specs.Reading.{Reading, behind, segment_read, word_of, words_from}
 use Rattle.capnp_pointers.specs.Checking.{level_refusal_name}
 use Rattle.capnp_pointers.specs.Faults.{other_reason}
 use Rattle.capnp_pointers.specs.declared.pointers.canonical_answer.Test.{Test}

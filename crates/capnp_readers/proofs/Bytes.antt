@@ -1,5 +1,5 @@
 -- The bytes of a text or data, in place.
-use Rattle.std.proofs.Common.{◌≡◌, inl, inr, ℕ, zero, suc, ◌+◌, ◌-◌, ◌*◌, ◌/◌, ◌%◌, ◌<◌, ◌≤◌, List, [], ◌∷◌, take, drop, length, get_or, refl, sym, ap, ap₂, ◌∙◌, subst, arith, length-take, length-drop}
+use Rattle.std.proofs.Common.{◌≡◌, inl, inr, ℕ, zero, suc, ◌+◌, ◌-◌, ◌*◌, ◌/◌, ◌%◌, ◌<◌, ◌≤◌, List, [], ◌∷◌, take, take_all, drop, length, get_or, refl, sym, ap, ap₂, ◌∙◌, subst, arith, length-take, length-drop}
 use Rattle.std.proofs.lemmas.List.{take-take}
 use Rattle.capnp_words.specs.Meter.{Meter}
 use Rattle.capnp_arena_traits.specs.declared.arena.reader_arena.ReaderArena.{Ghosts}
@@ -12,7 +12,7 @@ use Rattle.capnp_format.specs.Word.{kind, element_size, list_count}
 use Rattle.capnp_format.proofs.Bounds.{below_each}
 use Rattle.capnp_format.proofs.BytesLemmas.{words_are_bytes}
 use Rattle.capnp_format.proofs.WordsOf.{words_of-part}
-use Rattle.capnp_making.proofs.FieldBytes.{low, high}
+use Rattle.capnp_format.proofs.Digits.{low, high}
 use Rattle.capnp_words.specs.declared.wire_pointer.ElementSize.TheVariants.{Byte}
 use Rattle.capnp_objects.specs.Demands.{claim}
 use Rattle.capnp_objects.specs.Faults.{LeadsTo}
@@ -99,12 +99,6 @@ take-none : (n : ℕ) → take {A = ℕ} n [] ≡ []
 take-none zero = refl
 take-none (suc n) = refl
 
-take-whole : (n : ℕ) (xs : List ℕ) → length xs ≤ n → take n xs ≡ xs
-take-whole zero [] l = refl
-take-whole zero (x ∷ xs) l = absurd (omega arith)
-take-whole (suc n) [] l = refl
-take-whole (suc n) (x ∷ xs) l = ap (λ ys. x ∷ ys) (take-whole n xs (omega arith))
-
 module _ {A : Type 0} (g : Ghosts A) where
   -- The target a is a list of bytes, and these are its bytes without the last `but`.
   pub record AreBytesAt (but : ℕ) (p : PointerReader A g) (bytes : List ℕ) (a : Target) : Type 0 where
@@ -140,4 +134,4 @@ module _ {A : Type 0} (g : Ghosts A) where
   pub data_value : {c : Call g} {m m' : Meter} (bytes : List ℕ) → WhereRead g c (λ p. AreBytesRead g 0 p m m' bytes) → (t : Tree) → HasValue (place_read g c.from c.default) t → bytes ≡ list_numbers t
   data_value {c} {m} {m'} bytes (p, is, read) t has =
       bytes_shown 0 p m m' bytes t has.cost read (subst (λ x. MeansThere x t has.cost) (sym (read_at g is)) has.means)
-      ∙ take-whole (length (list_numbers t) - 0) (list_numbers t) (omega arith)
+      ∙ take_all (length (list_numbers t) - 0) (list_numbers t) (omega arith)

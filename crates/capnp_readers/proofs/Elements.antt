@@ -9,7 +9,7 @@ use Rattle.capnp_readers.specs.declared.readers.list_reader.ListReader.{ListRead
 use Rattle.capnp_readers.proofs.Sections.{words_within}
 
 -- the data of an element is among the bits of all elements
-data_among : (size : ElementSize) (sections : StructSize) (n i : ℕ) → i < n → i * step_bits size sections + data_bits size sections ≤ 64 * elements_words size n (sections.data_words + sections.pointers)
+pub data_among : (size : ElementSize) (sections : StructSize) (n i : ℕ) → i < n → i * step_bits size sections + data_bits size sections ≤ 64 * elements_words size n (sections.data_words + sections.pointers)
 data_among InlineComposite sections n i l = omega (arith, words_within (sections.data_words + sections.pointers) n i l)
 data_among Pointer sections n i l = omega arith
 data_among Void sections n i l = omega arith

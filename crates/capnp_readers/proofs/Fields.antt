@@ -1,62 +1,20 @@
 -- Fields of a data section, by its bytes and by its words.
-use Rattle.std.proofs.Common.{◌≡◌, inl, inr, ◌↔◌, ℕ, zero, suc, ◌+◌, ◌-◌, ◌*◌, ◌/◌, ◌%◌, ◌^◌, ◌<◌, ◌≤◌, Bool, List, [], ◌∷◌, ◌++◌, length, take, drop, get_or, refl, sym, ap, ap₂, ◌∙◌, arith, length-drop}
+use Rattle.std.proofs.Common.{◌≡◌, inl, inr, ◌↔◌, ℕ, ◌+◌, ◌-◌, ◌*◌, ◌/◌, ◌%◌, ◌^◌, ◌<◌, ◌≤◌, Bool, List, length, get_or, refl, sym, ap, ap₂, ◌∙◌, arith}
 use Rattle.std.specs.Prelude.{IsTrue, slice_range}
 use Rattle.std.specs.Int.{bit_at as bit_of}
 use Rattle.std.proofs.Math.Nat.{zero-div, zero-mod, mul-mod_left}
-use Rattle.std.proofs.lemmas.List.{take-append-le, drop-append-le, get_or_past}
-use Rattle.std.proofs.lemmas.Nat.{shr-shr, shr_split}
-use Rattle.std.proofs.lemmas.Nat.Bits.{bit_at_cat_low}
+use Rattle.std.proofs.lemmas.List.{get_or_past}
+use Rattle.std.proofs.lemmas.Nat.{shr-shr}
 use Rattle.capnp_arena_traits.specs.declared.arena.reader_arena.ReaderArena.{Ghosts}
 use Rattle.capnp_format.specs.Bytes.{words_of}
 use Rattle.capnp_format.specs.Numbers.{from_digits}
 use Rattle.capnp_format.specs.Tree.{Tree}
-use Rattle.capnp_format.specs.Value.{AreBelow}
-use Rattle.capnp_format.proofs.Lies.{pow_pow}
-use Rattle.capnp_words.proofs.LittleEndian.{eight_bytes}
-use Rattle.capnp_making.specs.Fields.{field_in}
-use Rattle.capnp_making.proofs.FieldBytes.{cut, below_drop, in_one_word}
+use Rattle.capnp_format.specs.Fields.{field_in}
+use Rattle.capnp_format.proofs.FieldBytes.{in_one_word, bytes_read, byte_as_digit, bit_at-mod}
 use Rattle.capnp_objects.proofs.Decided.{within_or_not}
 use Rattle.capnp_readers.specs.Sections.{IsInside, bytes_for, bit_at}
 use Rattle.capnp_readers.specs.Values.{struct_data, ShowsStructOf}
 use Rattle.capnp_readers.specs.declared.readers.struct_reader.StructReader.{StructReader}
-
-pub part_of_digits : (k n : ℕ) (ds : List ℕ) → AreBelow 256 ds → k + n ≤ length ds → from_digits 256 (take n (drop k ds)) ≡ from_digits 256 ds / 2 ^ (8 * k) % 2 ^ (8 * n)
-part_of_digits k n ds h l =
-    sym (cut 256 n (drop k ds) (below_drop 256 k ds h) (omega (arith, length-drop k ds))).first
-    ∙ ap (λ p. from_digits 256 (drop k ds) % p) (pow_pow 8 n)
-    ∙ ap (λ x. x % 2 ^ (8 * n)) (sym (cut 256 k ds h (omega arith)).others ∙ ap (λ p. from_digits 256 ds / p) (pow_pow 8 k))
-
--- n bytes from byte k of word i on, in one word
-part_of_word : (i k n : ℕ) (bs : List ℕ) → ((j : ℕ) → get_or bs j 0 < 256) → k + n ≤ 8 → i < length (words_of bs) → from_digits 256 (take n (drop (8 * i + k) bs)) ≡ get_or (words_of bs) i 0 / 2 ^ (8 * k) % 2 ^ (8 * n)
-part_of_word zero k n (a ∷ b ∷ c ∷ d ∷ e ∷ f ∷ g ∷ h ∷ rest) small m l =
-    let xs : List ℕ = a ∷ b ∷ c ∷ d ∷ e ∷ f ∷ g ∷ h ∷ [] in
-    ap (λ j. from_digits 256 (take n (drop j (xs ++ rest)))) (let q : 8 * 0 + k ≡ k = omega arith in q)
-    ∙ ap (λ ys. from_digits 256 (take n ys)) (drop-append-le k xs rest (omega arith))
-    ∙ ap (from_digits 256) (take-append-le n (drop k xs) rest (omega (arith, length-drop k xs)))
-    ∙ part_of_digits k n xs (small 0, (small 1, (small 2, (small 3, (small 4, (small 5, (small 6, (small 7, tt)))))))) (omega arith)
-    ∙ ap (λ w. w / 2 ^ (8 * k) % 2 ^ (8 * n)) (sym (eight_bytes xs refl))
-part_of_word (suc i) k n (a ∷ b ∷ c ∷ d ∷ e ∷ f ∷ g ∷ h ∷ rest) small m l =
-    ap (λ j. from_digits 256 (take n (drop j (a ∷ b ∷ c ∷ d ∷ e ∷ f ∷ g ∷ h ∷ rest)))) (let q : 8 * suc i + k ≡ suc (suc (suc (suc (suc (suc (suc (suc (8 * i + k)))))))) = omega arith in q)
-    ∙ part_of_word i k n rest (λ j. small (suc (suc (suc (suc (suc (suc (suc (suc j))))))))) m (omega arith)
-part_of_word i k n _ small m l = absurd (omega arith)
-
--- n bytes from byte b on, in one word
-bytes_read : (b n m : ℕ) (bs : List ℕ) → m ≡ n → ((j : ℕ) → get_or bs j 0 < 256) → b % 8 + n ≤ 8 → b / 8 < length (words_of bs) → from_digits 256 (take m (drop b bs)) ≡ field_in (words_of bs) (8 * b) (8 * n)
-bytes_read b n m bs e small fits l =
-    ap₂ (λ j a. from_digits 256 (take j (drop a bs))) e (let q : b ≡ 8 * (b / 8) + b % 8 = omega arith in q)
-    ∙ part_of_word (b / 8) (b % 8) n bs small fits l
-    ∙ ap₂ (λ i o. get_or (words_of bs) i 0 / 2 ^ o % 2 ^ (8 * n)) (let q : b / 8 ≡ 8 * b / 64 = omega arith in q) (let q : 8 * (b % 8) ≡ 8 * b % 64 = omega arith in q)
-
--- bit p of the low bits of a number
-pub bit_of-mod : (x o p : ℕ) → p < o → bit_of (x % 2 ^ o) p ≡ bit_of x p
-bit_of-mod x o p l = sym (bit_at_cat_low (x / 2 ^ o) o (x % 2 ^ o) p l) ∙ ap (λ z. bit_of z p) (shr_split x o)
-
--- one byte
-pub byte_as_digit : (b : ℕ) (bs : List ℕ) → b < length bs → get_or bs b 0 ≡ from_digits 256 (take 1 (drop b bs))
-byte_as_digit zero [] l = absurd (omega arith)
-byte_as_digit zero (x ∷ bs) l = omega arith
-byte_as_digit (suc b) [] l = absurd (omega arith)
-byte_as_digit (suc b) (x ∷ bs) l = byte_as_digit b bs (omega arith)
 
 -- The data section of a struct, of `bits` bits, holds these words.
 pub record Holds (bits : ℕ) (bytes ws : List ℕ) : Type 0 where
@@ -98,7 +56,7 @@ bit_of_bytes b {bits} {bytes} {ws} h within =
     let inside : i < length bytes = omega (arith, within, h.long) in
     let byte : get_or bytes i 0 ≡ x / 2 ^ (8 * i % 64) % 2 ^ 8 = byte_as_digit i bytes inside ∙ bytes_read i 1 1 bytes refl h.small (omega arith) there ∙ ap (λ us. field_in us (8 * i) 8) h.words_are in
     ap (λ y. bit_of y (b % 8)) byte
-    ∙ bit_of-mod (x / 2 ^ (8 * i % 64)) 8 (b % 8) (omega arith)
+    ∙ bit_at-mod (x / 2 ^ (8 * i % 64)) 8 (b % 8) (omega arith)
     ∙ ap (λ z. z % 2) (shr-shr x (8 * i % 64) (b % 8))
     ∙ ap₂ (λ j o. get_or ws j 0 / 2 ^ o % 2) (let q : 8 * i / 64 ≡ b / 64 = omega arith in q) (let q : 8 * i % 64 + b % 8 ≡ b % 64 = omega arith in q)
 

@@ -11,7 +11,8 @@ use Rattle.capnp_objects.specs.Demands.{own}
 use Rattle.capnp_objects.specs.Expected.{struct_expected, list_expected, narrow_structs, narrow_elements, CanBeGiven, null_pointer, fitting}
 use Rattle.capnp_objects.specs.Faults.{LeadsTo}
 use Rattle.capnp_objects.specs.Outcomes.{MeansThere, Entered}
-use Rattle.capnp_objects.specs.Reading.{Reading, word_of, tag_size, sized}
+use Rattle.capnp_objects.specs.Reading.{Reading, word_of, tag_size}
+use Rattle.capnp_words.specs.Sizes.{sized}
 use Rattle.capnp_objects.specs.Spending.{after}
 use Rattle.capnp_objects.specs.declared.object.Purpose.TheVariants.{Value}
 use Rattle.capnp_objects.proofs.Expecting.{one_level}

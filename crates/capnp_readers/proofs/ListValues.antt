@@ -2,7 +2,7 @@
 use Rattle.std.proofs.Common.{◌≡◌, inl, inr, ℕ, zero, suc, pred, ◌+◌, ◌*◌, ◌<◌, ◌≤◌, List, [], length, refl, sym, ap, ap₂, ◌∙◌, subst, arith}
 use lib.IntN.{pos, ◌-ℤ◌}
 use Rattle.capnp_words.specs.Meter.{Meter}
-use Rattle.capnp_words.specs.Sizes.{size_number}
+use Rattle.capnp_words.specs.Sizes.{size_number, sized}
 use Rattle.capnp_words.specs.declared.wire_pointer.ElementSize.{ElementSize}
 use Rattle.capnp_words.specs.declared.wire_pointer.ElementSize.TheVariants.{Void, Bit, Byte, TwoBytes, FourBytes, EightBytes, Pointer, InlineComposite}
 use Rattle.capnp_words.specs.declared.wire_pointer.StructSize.{StructSize}
@@ -13,12 +13,12 @@ use Rattle.capnp_format.specs.Numbers.{unpacked, words_for}
 use Rattle.capnp_format.specs.Segments.{Segments, Target, words_at, HasWords}
 use Rattle.capnp_format.specs.Tree.{Tree, Null, Capability, Struct, Flat, Pointers, Structs, Trees, no_trees, tree, Elements, no_elements, element, count, element_count}
 use Rattle.capnp_format.specs.Word.{kind, element_size, offset_bits, list_count}
-use Rattle.capnp_making.specs.Path.{tree_at, struct_at, next, Child}
-use Rattle.capnp_making.proofs.Paths.{means_child}
+use Rattle.capnp_format.specs.Path.{tree_at, struct_at, next, Child}
+use Rattle.capnp_format.proofs.Children.{means_child, means_element_child}
 use Rattle.capnp_objects.specs.Demands.{tag}
 use Rattle.capnp_objects.specs.Faults.{LeadsTo, child_at}
 use Rattle.capnp_objects.specs.Outcomes.{MeansThere}
-use Rattle.capnp_objects.specs.Reading.{Reading, behind, sized, tag_size}
+use Rattle.capnp_objects.specs.Reading.{Reading, behind, tag_size}
 use Rattle.capnp_objects.specs.Rows.{rows_sized}
 use Rattle.capnp_objects.specs.Source.{levels}
 use Rattle.capnp_objects.proofs.Faultless.{same_target}
@@ -34,7 +34,8 @@ use Rattle.capnp_readers.specs.declared.readers.struct_reader.StructReader.{Stru
 use Rattle.capnp_readers.specs.declared.readers.list_reader.ListReader.{ListReader}
 use Rattle.capnp_readers.proofs.Answering.{read_at}
 use Rattle.capnp_readers.proofs.Sections.{flat_words}
-use Rattle.capnp_readers.proofs.Values.{level_less, tree_means}
+use Rattle.capnp_readers.proofs.Values.{tree_means}
+use Rattle.capnp_objects.proofs.Levels.{level_less}
 
 -- Element i of a list of structs is at its place.
 pub record ElementThere (r : Reading) (d q : ℕ) (es : Elements) (i : ℕ) : Type 0 where

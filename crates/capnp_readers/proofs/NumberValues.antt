@@ -20,18 +20,18 @@ use Rattle.capnp_format.proofs.Bounds.{below_each, below_take}
 use Rattle.capnp_format.proofs.BytesLemmas.{words_are_bytes}
 use Rattle.capnp_format.proofs.LawLemmas.{element_is_bits}
 use Rattle.capnp_format.proofs.Lies.{pow_pow}
-use Rattle.capnp_making.proofs.FieldBytes.{cut, below_drop}
+use Rattle.capnp_format.proofs.FieldBytes.{cut, below_drop}
 use Rattle.capnp_objects.proofs.Decided.{within_or_not}
 use Rattle.capnp_readers.proofs.Elements.{bit_within, whole_step}
 use Rattle.capnp_format.proofs.WordsOf.{words, words_of-part}
-use Rattle.capnp_making.specs.Path.{struct_at}
-use Rattle.capnp_objects.specs.Reading.{sized}
+use Rattle.capnp_format.specs.Path.{struct_at}
+use Rattle.capnp_words.specs.Sizes.{sized}
 use Rattle.capnp_readers.specs.Sections.{IsInside, bit_at, bytes_for, data_bits, elements_words, low_data, step_bits}
 use Rattle.capnp_readers.specs.Readers.{ShowsElement}
 use Rattle.capnp_readers.specs.Values.{element_number, first_element, field_of_number, struct_data, ShowsListOf, ShowsNumber}
 use Rattle.capnp_readers.specs.declared.readers.struct_reader.StructReader.{StructReader}
 use Rattle.capnp_readers.specs.declared.readers.list_reader.ListReader.{ListReader}
-use Rattle.capnp_readers.proofs.Fields.{part_of_digits, byte_as_digit, bit_of-mod}
+use Rattle.capnp_format.proofs.FieldBytes.{part_of_digits, byte_as_digit, bit_at-mod}
 use Rattle.capnp_readers.proofs.ListValues.{element_there}
 use Rattle.capnp_readers.proofs.Sections.{words_within}
 
@@ -46,7 +46,7 @@ bit_in i bytes small l =
     let x : ℕ = from_digits 256 bytes in
     let byte : get_or bytes (i / 8) 0 ≡ x / 2 ^ (8 * (i / 8)) % 2 ^ 8 = byte_as_digit (i / 8) bytes l ∙ part_of_digits (i / 8) 1 bytes small (omega arith) in
     ap (λ z. bit_of z (i % 8)) byte
-    ∙ bit_of-mod (x / 2 ^ (8 * (i / 8))) 8 (i % 8) (omega arith)
+    ∙ bit_at-mod (x / 2 ^ (8 * (i / 8))) 8 (i % 8) (omega arith)
     ∙ ap (λ z. z % 2) (shr-shr x (8 * (i / 8)) (i % 8))
     ∙ ap (λ e. x / 2 ^ e % 2) (let e : 8 * (i / 8) + i % 8 ≡ 1 * i = omega arith in e)
 

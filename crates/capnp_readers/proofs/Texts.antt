@@ -15,7 +15,7 @@ use Rattle.capnp_format.proofs.Bounds.{words_below}
 use Rattle.capnp_format.proofs.LawLemmas.{element_is_bits}
 use Rattle.capnp_format.proofs.Lies.{pow_pow}
 use Rattle.capnp_format.proofs.Slices.{length_words}
-use Rattle.capnp_making.proofs.FieldBytes.{cut}
+use Rattle.capnp_format.proofs.FieldBytes.{cut}
 use Rattle.capnp_objects.specs.Expected.{text_expected, data_expected, CanBeGiven, null_pointer, fitting}
 use Rattle.capnp_objects.specs.Outcomes.{MeansThere}
 use Rattle.capnp_objects.specs.Reading.{Reading}

@@ -1,14 +1,13 @@
 -- The structs and lists that readers show, and what their pointers mean.
 use Rattle.std.proofs.Common.{◌≡◌, inl, inr, ℕ, zero, suc, pred, ◌+◌, ◌*◌, ◌<◌, ◌≤◌, List, [], ◌∷◌, length, refl, sym, ap, ap₂, ◌∙◌, subst, arith}
-use lib.IntN.{ℤ, pos, negsuc, ◌-ℤ◌}
-use Rattle.std.proofs.lemmas.Int.{ints}
 use Rattle.capnp_words.specs.Meter.{Meter}
 use Rattle.capnp_arena_traits.specs.declared.arena.reader_arena.ReaderArena.{Ghosts}
 use Rattle.capnp_format.specs.Bytes.{words_of}
 use Rattle.capnp_format.specs.Segments.{Target, words_at}
 use Rattle.capnp_format.specs.Tree.{Tree, Null, Capability, Struct, Flat, Pointers, Structs, Trees, no_trees, tree, count}
 use Rattle.capnp_format.specs.Word.{kind, data_words, pointer_count}
-use Rattle.capnp_making.specs.Path.{tree_at, next, Child}
+use Rattle.capnp_format.specs.Path.{tree_at, next, Child}
+use Rattle.capnp_format.proofs.Children.{means_child}
 use Rattle.capnp_objects.specs.Faults.{LeadsTo, child_at}
 use Rattle.capnp_objects.specs.Outcomes.{MeansThere}
 use Rattle.capnp_objects.specs.Reading.{Reading, behind, word_of}
@@ -24,12 +23,7 @@ use Rattle.capnp_readers.specs.Values.{HasValue, place_read, struct_children, tr
 use Rattle.capnp_readers.specs.declared.readers.PointerReader.{PointerReader}
 use Rattle.capnp_readers.specs.declared.readers.struct_reader.StructReader.{StructReader}
 use Rattle.capnp_readers.proofs.Answering.{read_at}
-
--- one level less, as a nesting limit
-pub level_less : (z : ℤ) → 0 < levels z → levels (z -ℤ pos 1) ≡ pred (levels z)
-level_less (pos zero) some = absurd (omega arith)
-level_less (pos (suc n)) some = let e : (pos (suc n) -ℤ pos 1) ≡ pos n = omega (arith, ints) in ap levels e
-level_less (negsuc n) some = absurd (omega arith)
+use Rattle.capnp_objects.proofs.Levels.{level_less}
 
 -- there are no children after the last
 tree_past : (ts : Trees) (i : ℕ) → count ts ≤ i → tree_at ts i ≡ Null

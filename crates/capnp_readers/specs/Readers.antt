@@ -4,14 +4,14 @@ use Rattle.capnp_format.specs.Bytes.{words_of}
 use Rattle.capnp_words.specs.Meter.{Meter, Affords}
 use Rattle.capnp_format.specs.Segments.{Segments, Target, segment, words_at}
 use Rattle.capnp_format.specs.Numbers.{element_bits}
-use Rattle.capnp_words.specs.Sizes.{size_number}
+use Rattle.capnp_words.specs.Sizes.{size_number, sized}
 use Rattle.capnp_format.specs.Word.{kind, offset_bits, data_words, pointer_count, element_size}
 use Rattle.capnp_format.specs.Word.{list_count, upper_half}
 use Rattle.capnp_words.specs.declared.wire_pointer.ElementSize.{ElementSize}
 use Rattle.capnp_words.specs.declared.wire_pointer.ElementSize.TheVariants.{Pointer, InlineComposite}
 use Rattle.capnp_arena_traits.specs.declared.arena.reader_arena.ReaderArena.{Ghosts}
 use Rattle.capnp_objects.specs.Demands.{tag}
-use Rattle.capnp_objects.specs.Reading.{Reading, source_start, reading_at, word_of, sized, tag_size}
+use Rattle.capnp_objects.specs.Reading.{Reading, source_start, reading_at, word_of, tag_size}
 use Rattle.capnp_objects.specs.Rows.{Rows, rows_sized}
 use Rattle.capnp_words.specs.declared.wire_pointer.StructSize.{StructSize}
 use Rattle.capnp_objects.specs.Outcomes.{Entered}

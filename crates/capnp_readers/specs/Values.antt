@@ -10,14 +10,14 @@ use Rattle.capnp_format.specs.Segments.{AreWords}
 use Rattle.capnp_format.specs.Tree.{Tree, Null, Struct, Flat, Pointers, Structs, Trees, no_trees, tree}
 use Rattle.capnp_format.specs.Tree.{Elements, no_elements, element, count, element_count}
 use Rattle.capnp_words.specs.Meter.{Meter, Affords}
-use Rattle.capnp_words.specs.Sizes.{size_number}
+use Rattle.capnp_words.specs.Sizes.{size_number, sized}
 use Rattle.capnp_words.specs.declared.wire_pointer.ElementSize.{ElementSize}
 use Rattle.capnp_words.specs.declared.wire_pointer.ElementSize.TheVariants.{Pointer, InlineComposite}
 use Rattle.capnp_arena_traits.specs.declared.arena.reader_arena.ReaderArena.{Ghosts}
-use Rattle.capnp_making.specs.Path.{tree_at, struct_at}
+use Rattle.capnp_format.specs.Path.{tree_at, struct_at}
 use Rattle.capnp_objects.specs.Expected.{narrow_elements, narrow_structs}
 use Rattle.capnp_objects.specs.Outcomes.{MeansThere}
-use Rattle.capnp_objects.specs.Reading.{Reading, behind, reading_at, source_start, word_of, sized}
+use Rattle.capnp_objects.specs.Reading.{Reading, behind, reading_at, source_start, word_of}
 use Rattle.capnp_objects.specs.Source.{levels}
 use Rattle.capnp_objects.specs.declared.source.Source.TheVariants.{Default}
 use Rattle.capnp_readers.specs.Readers.{read_by}

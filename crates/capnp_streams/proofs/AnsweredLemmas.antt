@@ -12,9 +12,7 @@ use Rattle.capnp_framing.specs.declared.devices.Output.{Ghosts}
 use Rattle.capnp_framing.proofs.FrameLemmas.{one_frame_begins}
 use Rattle.capnp_framing.proofs.ReadingLemmas.{frame_is_read}
 use Rattle.capnp_words.specs.declared.error.ErrorKind.{ErrorKind}
-use Rattle.capnp_words.specs.declared.error.ErrorKind.TheVariants.{AllocationFailed}
 use Rattle.capnp_messages.specs.Commands.{HasAnswerWithin, RefusesAnswer}
-use Rattle.capnp_messages.specs.Copies.{LacksMemoryOr}
 use Rattle.capnp_messages.proofs.AnsweredLemmas.{answer_refused}
 use Rattle.capnp_messages.proofs.FramesLemmas.{no_bytes_begin}
 use Rattle.capnp_streams.specs.Streams.{AnswerIs, Answers, AreDone, AreFrames, CanBeAnswered, EndsBehind, IsOfDevices}
@@ -91,11 +89,6 @@ pub ends_behind : {W : Type 0} (task : Task) (old new : Stage) (failed : Bool) (
     W ⊎ EndsBehind task old new failed stop
 ends_behind task old new failed stop (inl written) = inl written
 ends_behind task old new failed stop (inr (stops, kept)) = inr (kept, inl stops)
-
--- if a copy is refused, memory ran out, or it is refused for what the message holds
-pub copy_refused : {old new : ℕ} {k : ErrorKind} {P : Type 0} → LacksMemoryOr old new k P → (k ≡ AllocationFailed) ⊎ P
-copy_refused (inl (lacks, counted)) = inl lacks
-copy_refused (inr (refused, counted)) = inr refused
 
 -- an answer was written, or the output has failed
 pub answer_written : {W A E : Type 0} (g : Ghosts W) (from to : W) (q : Question) {result : Result Bool Fault} (written : Result A E)

@@ -13,6 +13,7 @@ use Rattle.capnp_framing.proofs.WritingLemmas.{appends_both}
 use Rattle.capnp_streams.specs.Streams.{AnswerIs, AreAnswered, AreDone, AreFrames, Stage, most_words}
 use Rattle.capnp_streams.specs.declared.streams.runs.Summary.{Summary}
 use Rattle.capnp_streams.specs.declared.streams.task.Task.{Task}
+use Rattle.capnp_packing.proofs.PackingLemmas.{kept_appends}
 
 -- frames after others
 frames_both : (most : ℕ) (Ss Ts : List Segments) (bytes others : List ℕ) → AreFrames most Ss bytes →
@@ -142,13 +143,6 @@ all_done {old = old} left between after end kept done = record {
   written = appends_keeps old.output between after done.answers done.written kept;
 }
 
--- an output that kept what it had, and then got more
-pub keeps_appends : (a b c : Option (List ℕ)) (bytes : List ℕ) → Keeps a b → Appends b c bytes → Appends a c bytes
-keeps_appends None b c bytes kept written = tt
-keeps_appends (Some x) None c bytes kept written = absurd kept
-keeps_appends (Some x) (Some y) None bytes kept written = absurd written
-keeps_appends (Some x) (Some y) (Some z) bytes kept written = written ∙ ap (λ (bs : List ℕ). bs ++ bytes) kept
-
 -- what isn't changed keeps what it had
 pub keeps_same : (a : Option (List ℕ)) → Keeps a a
 keeps_same None = tt
@@ -173,7 +167,7 @@ done_after input a b {new = new} kept done = record {
   framed = done.framed;
   consumed = done.consumed;
   answered = done.answered;
-  written = keeps_appends a b new.output done.answers kept done.written;
+  written = kept_appends a b new.output done.answers kept done.written;
 }
 
 -- what is refused after that, with nothing more written

@@ -14,7 +14,7 @@ use Rattle.capnp_format.proofs.Lies.{pow_pow}
 use Rattle.capnp_format.proofs.UsedUp.{used-zero, used-word}
 use Rattle.capnp_format.proofs.WordsOf.{words}
 use Rattle.capnp_arena_traits.specs.Written.{overwritten, with_word, with_words}
-use Rattle.capnp_making.proofs.FieldBytes.{below_drop}
+use Rattle.capnp_format.proofs.FieldBytes.{below_drop}
 use Rattle.capnp_readers.specs.Sections.{bytes_for}
 use Rattle.capnp_value_copies.specs.StructValues.{bits_left, section_words}
 

@@ -7,7 +7,7 @@ use Rattle.capnp_format.specs.Canonical.{trim, encoding}
 use Rattle.capnp_format.specs.Forest.{target}
 use Rattle.capnp_words.specs.declared.wire_pointer.StructSize.{StructSize}
 use Rattle.capnp_words.specs.declared.error.ErrorKind.{ErrorKind}
-use Rattle.capnp_making.specs.Path.{Step, Child, Element, tree_at, put_tree, struct_at, put_struct, next, put, update, node, PathLeads}
+use Rattle.capnp_format.specs.Path.{Step, Child, Element, tree_at, put_tree, struct_at, put_struct, next, put, update, node, PathLeads}
 use Rattle.capnp_making.proofs.Paths.{same_node}
 use Rattle.capnp_making.proofs.Replaced.{stored_within}
 use Rattle.capnp_making.specs.Stored.{IsStored}

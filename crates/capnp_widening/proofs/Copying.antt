@@ -1,17 +1,13 @@
 -- Words copied over others at once.
-use Rattle.std.proofs.Common.{◌≡◌, ℕ, ◌+◌, ◌<◌, ◌≤◌, [], ◌∷◌, length, get_or, drop, sym, ap, ◌∙◌, subst, arith, get_or-take, get_or-drop}
+use Rattle.std.proofs.Common.{◌≡◌, ℕ, ◌+◌, ◌≤◌, [], ◌∷◌, length, get_or, sym, ap, ◌∙◌, subst, arith}
 use Rattle.capnp_format.specs.Segments.{Segments, segment, word_at, words_at}
 use Rattle.capnp_format.specs.Forest.{times}
-use Rattle.capnp_format.proofs.Slices.{length_words}
+use Rattle.capnp_format.proofs.Slices.{length_words, word_in_part}
 use Rattle.capnp_arena_traits.specs.Written.{with_word, with_words}
 use Rattle.capnp_making.specs.Zeroed.{row}
 use Rattle.capnp_making.proofs.MadeWords.{word_put}
 use Rattle.capnp_making.proofs.WordsPut.{words_put}
 use Rattle.capnp_widening.specs.Housed.{AreWordsCopied}
-
--- Word i of a part is the word i places after its start.
-word_in_part : (S : Segments) (s p n i : ℕ) → i < n → get_or (words_at S s p n) i 0 ≡ word_at S s (p + i)
-word_in_part S s p n i l = get_or-take n (drop p (segment S s)) i 0 l ∙ get_or-drop p (segment S s) i 0
 
 pub copied_at_once : (S R : Segments) (s p v r n : ℕ) → p + n ≤ length (segment S s) → r + n ≤ length (segment S v) → R ≡ with_words S v r (words_at S s p n) → AreWordsCopied S R (record { segment = s; at = p }) (record { segment = v; at = r }) n
 copied_at_once S R s p v r n there inside e =

@@ -1,7 +1,8 @@
 -- What a call keeps, and what one call after another keeps.
 use Rattle.std.proofs.Common.{◌≡◌, ℕ, ◌+◌, ◌*◌, ◌<◌, ◌≤◌, arith}
 use Rattle.capnp_making.proofs.BelowElements.{element_within}
-pub use Rattle.capnp_contents.proofs.Growing.{grows_itself, grows_again}
+pub use Rattle.capnp_making.proofs.FillingChains.{no_growth}
+pub use Rattle.capnp_contents.proofs.Growing.{grows_again}
 
 -- Words allocated in two steps are at most as many as both steps allow.
 pub few_again : (s m r n k : ℕ) → m ≤ s + n → r ≤ m + k → r ≤ s + (n + k)

@@ -6,7 +6,7 @@ use Rattle.capnp_format.specs.Word.{kind, element_size, list_count}
 use Rattle.capnp_format.specs.Tree.{Structs, Elements, no_elements, element, element_count}
 use Rattle.capnp_format.specs.Means.{IsTag, Means, MeansElements}
 use Rattle.capnp_format.specs.Forest.{times, target, target_in, cover, cover_elements}
-use Rattle.capnp_making.specs.Path.{struct_at, word_interval}
+use Rattle.capnp_format.specs.Path.{struct_at, word_interval}
 use Rattle.capnp_making.specs.Stored.{IsStored, IsReplaced}
 use Rattle.capnp_making.specs.Zeroed.{row}
 use Rattle.capnp_making.proofs.BelowElements.{element_within}
@@ -14,7 +14,7 @@ use Rattle.capnp_making.proofs.Zeros.{in_row, of_row}
 use Rattle.capnp_making.specs.Made.{IsGrown}
 use Rattle.capnp_making.proofs.Below.{split_row}
 use Rattle.capnp_making.proofs.Extents.{times-first, times-object}
-use Rattle.capnp_widening.proofs.Basics.{once_row}
+use Rattle.capnp_making.proofs.MadeWords.{once_row}
 use Rattle.capnp_widening.specs.Moved.{new_places, fresh_pads, IsMoved}
 use Rattle.capnp_widening.specs.Widened.{fill_words, fill_elements}
 use Rattle.capnp_widening.proofs.Movings.{new_places-append, row_new_places, same_old, same_new}

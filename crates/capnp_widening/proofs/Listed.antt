@@ -109,11 +109,6 @@ pub structs_widen : (d q e k : ℕ) (es : Elements) → (d ≤ e → q ≤ k →
 structs_widen d q e k es h =
     ap (λ b. cond b (Ok (Structs e k es)) (limited (element_count es * (max e d + max k q)) (Structs (max e d) (max k q) (fill_elements d q es)))) (narrow_test d e q k h)
 
--- What one clause states of a refusal, and two state together.
-pub if_err_so : {A E : Type 0} (r : Result A E) (P Q : E → Type 0) → IfErr r P → ((k : E) → P k → Q k) → IfErr r Q
-if_err_so (Ok x) P Q h f = tt
-if_err_so (Err k) P Q h f = f k h
-
 pub err_both : {A E : Type 0} (r : Result A E) (P : Type 0) (Q : E → Type 0) → OnErr r P → IfErr r Q → IfErr r (λ k. Q k × P)
 err_both (Ok x) P Q h g = tt
 err_both (Err k) P Q h g = (g, h)

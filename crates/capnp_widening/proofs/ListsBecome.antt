@@ -14,13 +14,13 @@ use Rattle.capnp_making.specs.Made.{zero_elements}
 use Rattle.capnp_making.specs.Makes.{CallAt, call_at}
 use Rattle.capnp_making.specs.Memory.{SpendsMemory}
 use Rattle.capnp_making.specs.Stored.{IsStored}
-use Rattle.capnp_making.proofs.Outcomes.{if_ok_so, on_err_so, on_made_so}
+use Rattle.capnp_making.proofs.Outcomes.{if_ok_so, on_err_so, on_made_so, if_err_so}
 use Rattle.capnp_widening.specs.declared.remaking.ElementRows.{ElementRows}
 use Rattle.capnp_widening.specs.Anew.{BecomesAnew}
 use Rattle.capnp_widening.specs.Rooms.{GrowsByAtMost, HasRoomFor, direct_pointers, widened_words}
 use Rattle.capnp_widening.specs.RowsRemade.{IsList, MakesListOfStructs, StoresRows, WidensList, as_structs, rows_in, element_rows, struct_for}
 use Rattle.capnp_widening.specs.Widened.{fill_elements, limited, list_widened, struct_for_each, struct_for_each_tree}
-use Rattle.capnp_widening.proofs.Listed.{filled_to_greater, flat_found, flat_width, if_err_so, listed_size, never_refused, no_list, not_a_list, same_list, same_refusal, same_tree, structs_widen}
+use Rattle.capnp_widening.proofs.Listed.{filled_to_greater, flat_found, flat_width, listed_size, never_refused, no_list, not_a_list, same_list, same_refusal, same_tree, structs_widen}
 use Rattle.capnp_widening.proofs.ListRooms.{not_refused}
 use Rattle.capnp_widening.proofs.PlainLists.{first_numbers, first_pointers, numbers_as_structs, numbers_limited}
 use Rattle.capnp_widening.proofs.StructSteps.{nothing_grown}

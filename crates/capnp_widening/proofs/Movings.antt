@@ -9,7 +9,7 @@ use Rattle.capnp_format.specs.Tree.{Trees, no_trees, tree, count}
 use Rattle.capnp_format.specs.Means.{MeansAll}
 use Rattle.capnp_format.specs.Forest.{times, pads_of, cover, cover_all}
 use Rattle.capnp_format.proofs.Frame.{times-append}
-use Rattle.capnp_making.specs.Path.{word_interval}
+use Rattle.capnp_format.specs.Path.{word_interval}
 use Rattle.capnp_making.specs.Zeroed.{row}
 use Rattle.capnp_making.proofs.Zeros.{in_row}
 use Rattle.capnp_making.proofs.Extents.{once_held, times-first}

@@ -4,7 +4,7 @@ use Rattle.capnp_format.specs.Segments.{Segments, segment, word_at, Target}
 use Rattle.capnp_format.specs.Tree.{Tree, Struct}
 use Rattle.capnp_format.specs.Forest.{Interval, times, pads_of, object_of}
 use Rattle.capnp_format.specs.Word.{kind}
-use Rattle.capnp_making.specs.Path.{word_interval}
+use Rattle.capnp_format.specs.Path.{word_interval}
 use Rattle.capnp_widening.specs.Moved.{Move}
 
 -- The data words of a struct.

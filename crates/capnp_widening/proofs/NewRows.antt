@@ -10,7 +10,7 @@ use Rattle.capnp_making.specs.Zeroed.{row}
 use Rattle.capnp_making.proofs.BelowElements.{element_within}
 use Rattle.capnp_making.proofs.Zeros.{of_row}
 use Rattle.capnp_widening.specs.Moved.{new_places, fresh_pads, IsMoved}
-use Rattle.capnp_widening.proofs.Basics.{once_row}
+use Rattle.capnp_making.proofs.MadeWords.{once_row}
 use Rattle.capnp_widening.proofs.ListRemade.{rows_place, beside_rows}
 use Rattle.capnp_widening.proofs.Movings.{same_old, same_new}
 use Rattle.capnp_widening.proofs.Remade.{IsRemade, before_last, is_rehoused, all_moved, moves_same, object_word, IsBegun}

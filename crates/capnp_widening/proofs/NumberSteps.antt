@@ -9,7 +9,7 @@ use Rattle.capnp_format.specs.Forest.{times, pads_of, target, target_in}
 use Rattle.capnp_words.specs.declared.wire_pointer.StructSize.{StructSize}
 use Rattle.capnp_words.specs.declared.wire_pointer.ElementSize.TheVariants.{InlineComposite}
 use Rattle.capnp_arena_traits.specs.Written.{with_word}
-use Rattle.capnp_making.specs.Fields.{field_in}
+use Rattle.capnp_format.specs.Fields.{field_in}
 use Rattle.capnp_arena_traits.specs.View.{View}
 use Rattle.capnp_making.specs.Made.{IsGrown, structs_words}
 use Rattle.capnp_making.specs.Makes.{call_at}

@@ -11,10 +11,10 @@ use Rattle.capnp_format.proofs.Bounds.{digits_below}
 use Rattle.capnp_format.proofs.BytesLemmas.{digit_at}
 use Rattle.capnp_format.proofs.Digits.{digits-from_digits}
 use Rattle.capnp_format.proofs.Lies.{pow_pow}
-use Rattle.capnp_making.specs.Fields.{field_in}
+use Rattle.capnp_format.specs.Fields.{field_in}
 use Rattle.capnp_making.specs.Stored.{IsStored}
 use Rattle.capnp_contents.proofs.FieldDigits.{mod_same}
-use Rattle.capnp_contents.proofs.WithBits.{bit_at-mod, bit_at-div}
+use Rattle.capnp_format.proofs.FieldBytes.{bit_at-mod, bit_at-div}
 
 -- Bits among the lowest k.
 low_bits : (y k o w : ℕ) → o + w ≤ k → y % 2 ^ k / 2 ^ o % 2 ^ w ≡ y / 2 ^ o % 2 ^ w

@@ -10,12 +10,11 @@ use Rattle.capnp_format.specs.Forest.{times, pads_of}
 use Rattle.capnp_format.proofs.Lies.{near_leads}
 use Rattle.capnp_format.proofs.Following.{IsOffsetTo}
 use Rattle.capnp_arena_traits.specs.Written.{with_word}
-use Rattle.capnp_making.specs.Path.{word_interval}
+use Rattle.capnp_format.specs.Path.{word_interval}
 use Rattle.capnp_making.specs.Zeroed.{row}
 use Rattle.capnp_making.specs.Made.{IsGrown}
 use Rattle.capnp_making.proofs.Leading.{single_far_leads}
-use Rattle.capnp_making.proofs.MadeWords.{word_put, not_far, outside}
-use Rattle.capnp_widening.proofs.Basics.{is_far}
+use Rattle.capnp_making.proofs.MadeWords.{word_put, not_far, outside, is_far}
 use Rattle.capnp_making.proofs.Zeros.{in_row}
 use Rattle.capnp_widening.specs.Pointed.{HasPlainPads}
 use Rattle.capnp_widening.proofs.SameObjects.{double_far_leads}

@@ -11,7 +11,7 @@ use Rattle.capnp_arena_traits.specs.View.{View}
 use Rattle.capnp_making.specs.Makes.{call_at}
 use Rattle.capnp_making.specs.Memory.{start_of}
 use Rattle.capnp_making.specs.declared.making.Start.{Start}
-use Rattle.capnp_making.specs.Path.{word_interval}
+use Rattle.capnp_format.specs.Path.{word_interval}
 use Rattle.capnp_making.specs.Stored.{IsStored}
 use Rattle.capnp_making.specs.Zeroed.{row, IsZeroed}
 use Rattle.capnp_making.proofs.BelowElements.{element_within}

@@ -5,8 +5,9 @@ use Rattle.capnp_format.specs.Segments.{Segments, segment}
 use Rattle.capnp_arena_traits.specs.Taking.{IsAllocationRefusal, IsFirstFit}
 use Rattle.capnp_arena_traits.specs.View.{View}
 use Rattle.capnp_making.specs.Memory.{RefusesWords}
-use Rattle.capnp_making.proofs.Memory.{made_refused, words_in}
-use Rattle.capnp_widening.specs.Rooms.{RefusesGrowth, is_allocation_name}
+use Rattle.capnp_making.proofs.Memory.{made_refused, words_in, words_named}
+use Rattle.capnp_widening.specs.Rooms.{RefusesGrowth}
+use Rattle.capnp_words.specs.Names.{is_allocation_name}
 
 -- n words are refused if segment id has no room for them, and no segment has room for one word
 -- more.
@@ -16,12 +17,6 @@ anywhere_refused a mid b id n k same full named e none =
     let all : b ≡ record mid { words = b.words; refusals = b.refusals } = e ∙ ap (λ (S : Segments). record mid { words = S; refusals = b.refusals }) (sym (ap words_in e)) in
     subst (λ v. (length (segment v.words id) + n ≤ v.room id → ⊥) → RefusesWords v b n k) same
     (λ closed. (made_refused mid b id n k (named, all) (ap words_in e) (λ room. elim room [ inl fits ↦ closed fits | inr (j, fit) ↦ none j fit ])).0) full
-
--- The errors with which words are refused.
-words_named : (a b : View) (n : ℕ) (k : ErrorKind) → RefusesWords a b n k → is_allocation_name k ≡ true
-words_named a b n k (inl h, none) = ap is_allocation_name h.0
-words_named a b n k (inr (inl h), none) = ap is_allocation_name h.0
-words_named a b n k (inr (inr h), none) = ap is_allocation_name h.0
 
 pub growth_named : (a b : View) (n pointers : ℕ) (k : ErrorKind) → RefusesGrowth a b n pointers k → is_allocation_name k ≡ true
 growth_named a b n pointers k (inl (words, same)) = words_named a b n k words

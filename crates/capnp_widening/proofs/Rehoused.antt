@@ -6,7 +6,7 @@ use Rattle.capnp_format.specs.Segments.{Segments, segment, word_at, Target}
 use Rattle.capnp_format.specs.Tree.{Tree}
 use Rattle.capnp_format.specs.Means.{Means}
 use Rattle.capnp_format.specs.Forest.{Interval, times, pads_of, object_of, IsTidy}
-use Rattle.capnp_making.specs.Path.{word_interval, extent}
+use Rattle.capnp_format.specs.Path.{word_interval, extent}
 use Rattle.capnp_making.specs.Stored.{IsStored, IsReplaced}
 use Rattle.capnp_format.proofs.Following.{Grows}
 use Rattle.capnp_format.proofs.Frame.{Agree, SameWords, times-append}

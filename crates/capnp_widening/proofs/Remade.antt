@@ -11,13 +11,12 @@ use Rattle.capnp_arena_traits.specs.Written.{with_word}
 use Rattle.capnp_making.specs.Makes.{call_at}
 use Rattle.capnp_making.specs.Memory.{KeepsMemory, StandsBehind, TakesWords, start_of}
 use Rattle.capnp_making.specs.declared.making.Start.{Start}
-use Rattle.capnp_making.specs.Path.{word_interval}
+use Rattle.capnp_format.specs.Path.{word_interval}
 use Rattle.capnp_making.specs.Zeroed.{row, IsZeroed}
 use Rattle.capnp_making.specs.Made.{IsGrown}
 use Rattle.capnp_making.proofs.Below.{split_row}
 use Rattle.capnp_making.proofs.Extents.{times-first}
-use Rattle.capnp_making.proofs.MadeWords.{IsPut, word_put, outside}
-use Rattle.capnp_widening.proofs.Basics.{once_row}
+use Rattle.capnp_making.proofs.MadeWords.{IsPut, word_put, outside, once_row}
 use Rattle.capnp_making.proofs.Zeros.{in_row, of_row}
 use Rattle.capnp_widening.specs.Moved.{Move, CanMove, AreMoved, Moves, MovesSome, Unmoves, new_places, fresh_pads}
 use Rattle.capnp_widening.specs.Anew.{OnlyWrites, StandsAnew, WritesAnew}

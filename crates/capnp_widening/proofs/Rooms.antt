@@ -1,17 +1,18 @@
 -- How many words are allocated, and what room is left.
-use Rattle.std.proofs.Common.{◌≡◌, ◌⊎◌, true, false, inl, inr, ℕ, zero, suc, ◌+◌, ◌<◌, ◌≤◌, List, [], ◌∷◌, ◌++◌, length, replicate, refl, sym, ap, ◌∙◌, subst, arith}
+use Rattle.std.proofs.Common.{◌≡◌, true, false, inl, inr, ℕ, zero, suc, ◌+◌, ◌<◌, ◌≤◌, List, [], ◌∷◌, ◌++◌, length, replicate, refl, ap, ◌∙◌, arith}
 use Rattle.std.specs.Prelude.{slice_set, sum_by}
 use Rattle.std.proofs.lemmas.List.{length-append, length-replicate, length-set}
 use Rattle.std.proofs.lemmas.List.Sums.{sum_by-cons}
-use Rattle.std.proofs.lemmas.Bool.{cases_lt, cases_eq}
+use Rattle.std.proofs.lemmas.Bool.{cases_lt}
 use Rattle.capnp_words.specs.declared.error.ErrorKind.{ErrorKind}
 use Rattle.capnp_format.specs.Segments.{Segments, Grows, segment}
-use Rattle.capnp_arena_traits.specs.Taking.{IsFirstFit, IsFull, IsTaken, SameRoomBelow, with_another}
+use Rattle.capnp_arena_traits.specs.Taking.{IsTaken, SameRoomBelow, with_another}
 use Rattle.capnp_arena_traits.specs.View.{View}
 use Rattle.capnp_arena_traits.specs.Written.{extended, with_word}
 use Rattle.capnp_making.specs.Memory.{HasRoom, RefusesWords}
 use Rattle.capnp_making.specs.Near.{HasOwnRoom}
 use Rattle.capnp_widening.specs.Rooms.{GrowsByAtMost}
+use Rattle.capnp_making.proofs.Taken.{first_or_full}
 
 -- The number of words of all segments.
 abbrev pub all_words : Segments → ℕ
@@ -101,23 +102,6 @@ not_true e = cc
 
 pub not_within : (a n : ℕ) → (n ≤ a → ⊥) → a < n
 not_within a n h = elim (cases_lt a n) [ inl l ↦ l | inr l ↦ absurd (h l) ]
-
--- Either some segment is the first with room for n words, or none of the first m has it.
-first_below : (v : View) (n m : ℕ) → m ≤ length v.words → ((k : ℕ) × IsFirstFit v n k) ⊎ ((k : ℕ) → k < m → v.room k < length (segment v.words k) + n)
-first_below v n zero l = inr (λ k less. absurd (omega arith))
-first_below v n (suc m) l = elim (first_below v n m (omega arith)) [
-  | inl found ↦ inl found
-  | inr none ↦ elim (cases_lt (v.room m) (length (segment v.words m) + n)) [
-    | inl full ↦ inr (λ k less. elim (cases_eq k m) [
-      | inl e ↦ subst (λ j. v.room j < length (segment v.words j) + n) (sym e) full
-      | inr e ↦ none k (omega (arith, e))
-    ])
-    | inr fits ↦ inl (m, (omega arith, omega arith, none))
-  ]
-]
-
-first_or_full : (v : View) (n : ℕ) → ((k : ℕ) × IsFirstFit v n k) ⊎ IsFull v n
-first_or_full v n = first_below v n (length v.words) (omega arith)
 
 -- If words are refused, no segment has room for them.
 pub none_refused : (a b : View) (n : ℕ) (k : ErrorKind) → RefusesWords a b n k → HasSomeRoom b (n + 1) → ⊥

@@ -14,6 +14,7 @@ use Rattle.capnp_format.proofs.Frame.{times-append}
 use Rattle.capnp_making.proofs.Extents.{times-object}
 use Rattle.capnp_widening.proofs.NewObjects.{pads_from}
 use Rattle.capnp_widening.proofs.Statements.{SameStart}
+use Rattle.capnp_making.proofs.Leading.{far_word}
 use Rattle.capnp_format.proofs.ZeroWords.{zero_is_null}
 
 -- Where a near pointer leads, a far pointer by one pad, and a far pointer by two.
@@ -36,12 +37,6 @@ near_found S s p a other e =
         let same : record { word = word_at S s p; segment = s; start = b; pads = 0 } ≡ a = cc in
         (ap (λ (t : Target). t.word) (sym same), ap (λ (t : Target). t.segment) (sym same), ap (λ (t : Target). t.pads) (sym same), ap (λ (t : Target). Some t.start) same)
     found None h = cc
-
-far_word : (S : Segments) (s p x : ℕ) (a : Target) → word_at S s p ≡ x → kind x ≡ 2 → far S x (is_double x) ≡ Some a → Leads S s p a
-far_word S s p x a e is_far h = (
-  λ z. let o : x ≡ 0 = cc in omega arith,
-  ap (λ y. cond (nat_eq (kind y) 2) (far S y (is_double y)) (near S s p y 0)) e ∙ ap (λ y. cond y (far S x (is_double x)) (near S s p x 0)) (eq-eqb (kind x) 2 is_far) ∙ h,
-)
 
 pub double_far_leads : (S : Segments) (s p x v r : ℕ) → word_at S s p ≡ x → kind x ≡ 2 → is_double x ≡ 1 → upper_half x ≡ v → far_position x ≡ r → r + 1 < length (segment S v) → kind (word_at S v (r + 1)) ≢ 2 →
     upper_half (word_at S v r) < length S → Leads S s p (record { word = word_at S v (r + 1); segment = upper_half (word_at S v r); start = far_position (word_at S v r); pads = 2 })

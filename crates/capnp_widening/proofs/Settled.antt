@@ -10,8 +10,7 @@ use Rattle.capnp_format.proofs.Following.{IsOffsetTo}
 use Rattle.capnp_arena_traits.specs.Written.{with_word}
 use Rattle.capnp_making.specs.Zeroed.{row}
 use Rattle.capnp_making.proofs.Leading.{single_far_leads}
-use Rattle.capnp_making.proofs.MadeWords.{word_put, not_far, outside}
-use Rattle.capnp_widening.proofs.Basics.{is_far}
+use Rattle.capnp_making.proofs.MadeWords.{word_put, not_far, outside, is_far}
 use Rattle.capnp_widening.proofs.Statements.{IsSettled}
 
 no_row : (v r x y : ℕ) → times (row v r 0 ∷ []) x y ≡ 0

@@ -11,14 +11,13 @@ use Rattle.capnp_format.specs.Forest.{Interval, times, pads_of, object_of, targe
 use Rattle.capnp_format.proofs.Following.{offset_is}
 use Rattle.capnp_format.proofs.Frame.{Agree, times-append, frame, leads_agree}
 use Rattle.capnp_arena_traits.specs.Written.{with_word}
-use Rattle.capnp_making.specs.Path.{word_interval}
+use Rattle.capnp_format.specs.Path.{word_interval}
 use Rattle.capnp_making.specs.Made.{IsShape}
 use Rattle.capnp_making.specs.declared.making.Shape.{Shape}
 use Rattle.capnp_making.specs.declared.making.Shape.TheVariants.{Struct as StructShape, List as ListShape}
 use Rattle.capnp_making.specs.declared.making.Start.{Start}
 use Rattle.capnp_making.proofs.Extents.{once_held, times-first}
-use Rattle.capnp_making.proofs.MadeWords.{word_put, not_far}
-use Rattle.capnp_widening.proofs.Basics.{is_far, once_row}
+use Rattle.capnp_making.proofs.MadeWords.{word_put, not_far, is_far, once_row}
 use Rattle.capnp_widening.specs.Moved.{SameObject, IsMoved, HasValueInside, fresh_pads, CanMove, AreMoved}
 use Rattle.capnp_widening.specs.Pointed.{PointsTo}
 use Rattle.capnp_widening.proofs.SameObjects.{near_leads, near_found}

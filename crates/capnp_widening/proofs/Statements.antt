@@ -3,7 +3,7 @@ use Rattle.std.specs.List.{AllByRecursion}
 use Rattle.std.proofs.Common.{◌≡◌, ◌≢◌, ◌⊎◌, ℕ, ◌+◌, ◌*◌, ◌<◌, ◌≤◌, ◌%◌, ◌^◌, true, Option, Ok, List, [], ◌∷◌, map, length}
 use Rattle.capnp_format.specs.Numbers.{element_bits}
 use Rattle.capnp_words.specs.Sizes.{size_number}
-use Rattle.capnp_making.specs.Fields.{field_in}
+use Rattle.capnp_format.specs.Fields.{field_in}
 use Rattle.capnp_format.specs.Word.{kind, upper_half}
 use Rattle.capnp_format.specs.Segments.{Segments, Grows, segment, word_at, Target}
 use Rattle.capnp_format.specs.Tree.{Tree, Null, Struct, Trees, count}
@@ -14,7 +14,7 @@ use Rattle.capnp_arena_traits.specs.View.{view_of}
 use Rattle.capnp_making.specs.Made.{IsShape}
 use Rattle.capnp_making.specs.Makes.{CallAt, call_at}
 use Rattle.capnp_making.specs.Memory.{TakesWords}
-use Rattle.capnp_making.specs.Path.{word_interval}
+use Rattle.capnp_format.specs.Path.{word_interval}
 use Rattle.capnp_making.specs.Stored.{IsStored, IsReplaced}
 use Rattle.capnp_making.specs.Zeroed.{row}
 use Rattle.capnp_making.specs.declared.making.Shape.{Shape}

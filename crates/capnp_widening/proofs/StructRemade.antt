@@ -8,11 +8,11 @@ use Rattle.capnp_format.specs.Tree.{Struct, Trees, count}
 use Rattle.capnp_format.specs.Means.{Leads, Means}
 use Rattle.capnp_format.specs.Forest.{times, pads_of, object_of, target, target_in, cover, cover_all}
 use Rattle.capnp_making.specs.Made.{IsGrown, words_of_zero}
-use Rattle.capnp_making.specs.Path.{word_interval, extent}
+use Rattle.capnp_format.specs.Path.{word_interval, extent}
 use Rattle.capnp_making.specs.Stored.{IsStored, IsReplaced}
 use Rattle.capnp_making.specs.Zeroed.{row}
 use Rattle.capnp_making.proofs.Extents.{times-first, times-object}
-use Rattle.capnp_widening.proofs.Basics.{once_row}
+use Rattle.capnp_making.proofs.MadeWords.{once_row}
 use Rattle.capnp_making.proofs.Below.{split_row}
 use Rattle.capnp_making.proofs.Zeros.{in_row}
 use Rattle.capnp_widening.specs.Moved.{IsMoved, new_places, fresh_pads}

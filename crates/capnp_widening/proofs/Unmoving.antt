@@ -5,7 +5,7 @@ use Rattle.capnp_format.specs.Segments.{Segments, word_at}
 use Rattle.capnp_format.specs.Forest.{times, pads_of}
 use Rattle.capnp_format.proofs.Frame.{times-append}
 use Rattle.capnp_making.specs.Zeroed.{IsZeroed, PadsInside}
-use Rattle.capnp_widening.proofs.Basics.{is_far}
+use Rattle.capnp_making.proofs.MadeWords.{is_far}
 use Rattle.capnp_making.proofs.Zeros.{of_row, zeroed_again}
 use Rattle.capnp_making.proofs.Extents.{once_held}
 use Rattle.capnp_widening.specs.Moved.{Move, new_places, fresh_pads, Unmoves}

@@ -7,7 +7,7 @@ use Rattle.capnp_format.specs.Word.{list_count}
 use Rattle.capnp_format.specs.Tree.{Struct, Structs, Trees, no_trees, tree, Elements, no_elements, element, count, element_count}
 use Rattle.capnp_format.specs.Means.{StructAt, ListAt, IsTag, count_cost, Means, MeansAll, MeansElements}
 use Rattle.capnp_format.specs.Forest.{Interval, times, pads_of, object_of, target, target_in, cover, cover_all, cover_elements, AreTidy, AreTidyElements}
-use Rattle.capnp_making.specs.Path.{struct_at, word_interval, extent}
+use Rattle.capnp_format.specs.Path.{struct_at, word_interval, extent}
 use Rattle.capnp_making.specs.Stored.{IsStored, IsReplaced}
 use Rattle.capnp_widening.specs.Moved.{IsMoved}
 use Rattle.capnp_making.specs.Made.{nulls, words_of_zero}

@@ -5,7 +5,7 @@ use Rattle.capnp_words.specs.declared.error.ErrorKind.{ErrorKind}
 use Rattle.capnp_format.specs.Segments.{Segments, segment, word_at, Target}
 use Rattle.capnp_format.specs.Means.{Leads}
 use Rattle.capnp_format.specs.Forest.{times, pads_of}
-use Rattle.capnp_making.specs.Path.{word_interval}
+use Rattle.capnp_format.specs.Path.{word_interval}
 use Rattle.capnp_making.specs.Zeroed.{row}
 use Rattle.capnp_making.specs.Made.{IsShape, IsGrown}
 use Rattle.capnp_arena_traits.specs.View.{View, KeepsLimits}

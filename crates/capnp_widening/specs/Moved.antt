@@ -7,7 +7,7 @@ use Rattle.capnp_format.specs.Segments.{Segments, Grows, segment, word_at, Targe
 use Rattle.capnp_format.specs.Tree.{Tree, Struct, Pointers, Structs, count, element_count}
 use Rattle.capnp_format.specs.Means.{Leads, Means}
 use Rattle.capnp_format.specs.Forest.{Interval, times, pads_of}
-use Rattle.capnp_making.specs.Path.{word_interval, extent}
+use Rattle.capnp_format.specs.Path.{word_interval, extent}
 use Rattle.capnp_making.specs.Zeroed.{IsZeroed}
 use Rattle.capnp_making.specs.declared.making.Start.{Start}
 use Rattle.capnp_widening.specs.declared.moving.PointerRows.{PointerRows}

@@ -4,7 +4,7 @@ use Rattle.capnp_format.specs.Segments.{Segments, Grows, segment, word_at, Targe
 use Rattle.capnp_format.specs.Means.{Leads}
 use Rattle.capnp_format.specs.Forest.{times, pads_of}
 use Rattle.capnp_format.specs.Word.{kind, far_position, is_double, offset_bits, upper_half}
-use Rattle.capnp_making.specs.Path.{word_interval}
+use Rattle.capnp_format.specs.Path.{word_interval}
 use Rattle.capnp_making.specs.Made.{IsShape}
 use Rattle.capnp_making.specs.declared.making.Shape.{Shape}
 use Rattle.capnp_making.specs.declared.making.Start.{Start}

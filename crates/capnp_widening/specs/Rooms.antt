@@ -1,8 +1,7 @@
 -- The words that widening an object takes, and the room for them.
-use Rattle.std.specs.Prelude.{◌≡◌, ◌≢◌, ◌⊎◌, ℕ, ◌+◌, ◌-◌, ◌*◌, ◌<◌, ◌≤◌, Bool, true, false, Result, Ok, List}
+use Rattle.std.specs.Prelude.{◌≡◌, ◌≢◌, ◌⊎◌, ℕ, ◌+◌, ◌-◌, ◌*◌, ◌<◌, ◌≤◌, true, Result, Ok, List}
 use Rattle.std.specs.Prelude.{length, sum_by, IfErr, OnErr, OnOk}
 use Rattle.capnp_words.specs.declared.error.ErrorKind.{ErrorKind}
-use Rattle.capnp_words.specs.declared.error.ErrorKind.TheVariants.{AllocationFailed, MessageTooLarge}
 use Rattle.capnp_format.specs.Segments.{Segments, Grows, segment, word_at}
 use Rattle.capnp_format.specs.Tree.{Tree, Struct, Pointers, Structs, Trees, count, element_count}
 use Rattle.capnp_format.specs.Forest.{target}
@@ -14,6 +13,7 @@ use Rattle.capnp_making.specs.Stored.{IsStored}
 use Rattle.capnp_making.specs.declared.making.Start.{Start}
 use Rattle.capnp_widening.specs.Moved.{moves_into, near_pointers}
 use Rattle.capnp_widening.specs.Widened.{widened, list_widened}
+use Rattle.capnp_words.specs.Names.{is_allocation_name}
 
 -- From S to R at most n words are allocated.
 abbrev pub GrowsByAtMost : Segments → Segments → ℕ → Type 0
@@ -59,12 +59,6 @@ direct_pointers (Struct ws ts) = count ts
 direct_pointers (Pointers ts) = count ts
 direct_pointers (Structs d q es) = element_count es * q
 direct_pointers t = 0
-
--- Whether k is an error with which a request for words is refused.
-abbrev pub is_allocation_name : ErrorKind → Bool
-is_allocation_name AllocationFailed = true
-is_allocation_name (MessageTooLarge n) = true
-is_allocation_name k = false
 
 -- An object of n words, to which this many pointers are moved, is refused with k: for its words and
 -- a pad, and then no words are allocated; or for the two words of a landing pad of one of these

@@ -16,11 +16,11 @@ use Rattle.capnp_words.specs.declared.wire_pointer.ElementSize.TheVariants.{Inli
 use Rattle.capnp_contents.specs.declared.existing.ExistingList.{ExistingList}
 use Rattle.capnp_making.specs.declared.making.Start.{Start}
 use Rattle.capnp_contents.specs.Existing.{list_in}
-use Rattle.capnp_making.specs.Fields.{field_in}
+use Rattle.capnp_format.specs.Fields.{field_in}
 use Rattle.capnp_making.specs.Made.{zero_elements, structs_words}
 use Rattle.capnp_making.specs.Makes.{CallAt}
 use Rattle.capnp_making.specs.Memory.{KeepsMemory, SpendsMemory}
-use Rattle.capnp_making.specs.Path.{word_interval}
+use Rattle.capnp_format.specs.Path.{word_interval}
 use Rattle.capnp_making.specs.Stored.{IsStored, IsReplaced}
 use Rattle.capnp_making.specs.Zeroed.{row}
 use Rattle.capnp_widening.specs.declared.moving.PointerRows.{PointerRows}

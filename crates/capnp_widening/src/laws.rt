@@ -4,7 +4,7 @@ ghost use Rattle.std.specs.Prelude.{◌≡◌, ℕ, List, Ok};
 ghost use Rattle.capnp_format.specs.Forest.{IsForest};
 ghost use Rattle.capnp_format.specs.Segments.{Segments};
 ghost use Rattle.capnp_format.specs.Tree.{Tree, Trees, Struct, Elements, Structs};
-ghost use Rattle.capnp_making.specs.Path.{Step, node, PathLeads};
+ghost use Rattle.capnp_format.specs.Path.{Step, node, PathLeads};
 ghost use Rattle.capnp_making.specs.Stored.{IsStored, IsReplaced};
 ghost use Rattle.capnp_widening.specs.Laws.{HaveSize, SameCanonicalForm};
 ghost use Rattle.capnp_widening.specs.Widened.{fill_words, fill_trees, list_widened, widened};

@@ -15,8 +15,8 @@ ghost use Rattle.capnp_format.specs.Word.{kind, offset_bits, struct_word, upper_
 ghost use Rattle.capnp_format.specs.Forest.{times};
 ghost use Rattle.capnp_making.specs.Made.{IsShape, CountFits, AsksWords};
 ghost use Rattle.capnp_making.specs.Memory.{KeepsMemory, SpendsMemory, RefusesWords, TakesWords};
-ghost use Rattle.capnp_making.specs.Path.{word_interval};
 ghost use Rattle.capnp_making.specs.Zeroed.{IsPruned};
+ghost use Rattle.capnp_format.specs.Path.{word_interval};
 ghost use Rattle.capnp_making.specs.Makes.{call_at};
 ghost use Rattle.capnp_widening.specs.Anew.{IsWrittenAnew, MovesApart, MovesInTurn, MovesRow, TakesBack, WritesAnew, pad_words};
 ghost use Rattle.capnp_widening.specs.Moved.{BothLieInside, RowsLieInside, row_of_moves, Moves, rows_of_moves};

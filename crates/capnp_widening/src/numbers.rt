@@ -6,7 +6,7 @@ ghost use Rattle.capnp_format.specs.Numbers.{element_bits, words_for};
 ghost use Rattle.capnp_format.specs.Segments.{segment, IsPlace};
 ghost use Rattle.capnp_words.specs.Sizes.{size_number};
 ghost use Rattle.capnp_making.specs.Made.{structs_words};
-ghost use Rattle.capnp_making.specs.Fields.{field_in};
+ghost use Rattle.capnp_format.specs.Fields.{field_in};
 ghost use Rattle.capnp_making.specs.Makes.{call_at};
 ghost use Rattle.capnp_making.specs.Memory.{HasRoom, RefusesWords};
 ghost use Rattle.capnp_widening.specs.Rooms.{GrowsByAtMost};

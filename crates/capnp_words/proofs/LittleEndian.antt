@@ -4,6 +4,7 @@ use Rattle.std.specs.Int.{Width, w8, w16, w32, w64, from_le_bytes, to_le_bytes}
 use Rattle.std.proofs.lemmas.Int.{of_z-to_z, to_z-of_z}
 use Rattle.std.proofs.lemmas.Nat.{le_bytes_2, le_bytes_4, le_bytes_8, from_le_bytes-to_le_bytes_2, from_le_bytes-to_le_bytes_4, from_le_bytes-to_le_bytes_8}
 use Rattle.capnp_format.specs.Numbers.{from_digits}
+use Rattle.capnp_format.proofs.BytesLemmas.{eight_bytes}
 use mir.Val.{SFits, bits}
 
 pub one_byte : (bs : List ℕ) → length bs ≡ 1 → from_le_bytes w8 bs ≡ from_digits 256 bs
@@ -17,10 +18,6 @@ two_bytes _ l = absurd (omega arith)
 pub four_bytes : (bs : List ℕ) → length bs ≡ 4 → from_le_bytes w32 bs ≡ from_digits 256 bs
 four_bytes (a ∷ b ∷ c ∷ d ∷ []) l = omega arith
 four_bytes _ l = absurd (omega arith)
-
-pub eight_bytes : (bs : List ℕ) → length bs ≡ 8 → from_le_bytes w64 bs ≡ from_digits 256 bs
-eight_bytes (a ∷ b ∷ c ∷ d ∷ e ∷ f ∷ g ∷ h ∷ []) l = omega arith
-eight_bytes _ l = absurd (omega arith)
 
 -- one byte written
 pub one_written : (bs : List ℕ) (x : ℕ) → length bs ≡ 1 → from_digits 256 (set bs 0 x) ≡ x

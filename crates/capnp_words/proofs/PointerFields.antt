@@ -1,7 +1,6 @@
 -- Pointer words composed from their fields, and offsets.
 use Rattle.std.proofs.Common.{◌≡◌, ℕ, suc, ◌+◌, ◌*◌, ◌%◌, ◌^◌, ◌<◌, ◌≤◌, ℤ, pos, negsuc, ◌+ℤ◌, ◌-ℤ◌, to_z, of_z, ap, ap₂, ◌∙◌, arith}
 use Rattle.std.specs.Int.{w32, w64}
-use Rattle.std.proofs.lemmas.Bool.Decides.{nat_tests}
 use Rattle.std.proofs.lemmas.Int.{ints}
 use Rattle.std.proofs.lemmas.Nat.{or_comm, or_shifted, shl_whole}
 use Rattle.capnp_format.specs.Canonical.{offset_to, Reaches}
@@ -48,10 +47,6 @@ described_list bits low many code offset size count same few is again all fits c
 pub offset_masked : (z : ℤ) → IsOffset z → of_z w32 z % 2 ^ 30 ≡ offset_field z
 offset_masked (pos n) l = omega arith
 offset_masked (negsuc n) l = omega arith
-
-pub signed_again : (z : ℤ) → IsOffset z → signed (offset_field z) ≡ z
-signed_again (pos n) l = grind (arith, nat_tests)
-signed_again (negsuc n) l = grind (arith, nat_tests)
 
 pub offset_small : (z : ℤ) → IsOffset z → offset_field z < 2 ^ 30
 offset_small (pos n) l = omega arith

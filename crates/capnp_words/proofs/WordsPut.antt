@@ -8,7 +8,7 @@ use lib.Lanes.{put_chunk}
 use Rattle.capnp_format.specs.Bytes.{words_of}
 use Rattle.capnp_format.specs.Numbers.{digits}
 use Rattle.capnp_format.proofs.Digits.{from_digits-digits}
-use Rattle.capnp_words.proofs.LittleEndian.{eight_bytes}
+use Rattle.capnp_format.proofs.BytesLemmas.{eight_bytes}
 use Rattle.capnp_format.proofs.WordsOf.{words, words_of-put_mid, words_of-put_mid_at, words_of-part}
 
 word_of_digits : (w : ℕ) → w < 2 ^ 64 → words_of (digits 256 8 w) ≡ w ∷ []

@@ -1,5 +1,5 @@
 -- The names of refusals, and their texts.
-use Rattle.std.specs.Prelude.{ℕ, List, codes, ◌++◌}
+use Rattle.std.specs.Prelude.{ℕ, List, codes, ◌++◌, Bool, true, false}
 use Rattle.std.specs.Fmt.{decimal}
 use Rattle.capnp_words.specs.declared.error.ErrorKind.{ErrorKind}
 use Rattle.capnp_words.specs.declared.error.ErrorKind.TheVariants.{AllocationFailed}
@@ -94,3 +94,9 @@ abbrev pub text_of : ErrorKind → List ℕ
 text_of (InvalidSegmentId n) = codes "InvalidSegmentId(" ++ decimal n ++ codes ")"
 text_of (MessageTooLarge n) = codes "MessageTooLarge(" ++ decimal n ++ codes ")"
 text_of e = name_of e
+
+-- Whether k is an error with which a request for words is refused.
+abbrev pub is_allocation_name : ErrorKind → Bool
+is_allocation_name AllocationFailed = true
+is_allocation_name (MessageTooLarge n) = true
+is_allocation_name k = false

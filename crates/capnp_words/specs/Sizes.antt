@@ -1,10 +1,11 @@
--- The numbers of element sizes and of kinds of pointers.
+-- The sizes of elements and of structs, and the numbers of kinds of pointers.
 use Rattle.std.specs.Prelude.{ℕ}
 use Rattle.capnp_words.specs.declared.wire_pointer.ElementSize.{ElementSize}
 use Rattle.capnp_words.specs.declared.wire_pointer.ElementSize.TheVariants.{Void, Bit, Byte}
 use Rattle.capnp_words.specs.declared.wire_pointer.ElementSize.TheVariants.{TwoBytes, FourBytes}
 use Rattle.capnp_words.specs.declared.wire_pointer.ElementSize.TheVariants.{EightBytes, Pointer}
 use Rattle.capnp_words.specs.declared.wire_pointer.ElementSize.TheVariants.{InlineComposite}
+use Rattle.capnp_words.specs.declared.wire_pointer.StructSize.{StructSize}
 use Rattle.capnp_words.specs.declared.wire_pointer.WirePointerKind.{WirePointerKind}
 use Rattle.capnp_words.specs.declared.wire_pointer.WirePointerKind.TheVariants.{Struct, List, Far, Other}
 
@@ -29,6 +30,10 @@ pointers_per_element FourBytes = 0
 pointers_per_element EightBytes = 0
 pointers_per_element Pointer = 1
 pointers_per_element InlineComposite = 0
+
+-- The size of d data words and q pointers.
+abbrev pub sized : ℕ → ℕ → StructSize
+sized d q = record { data_words = d; pointers = q }
 
 abbrev pub kind_number : WirePointerKind → ℕ
 kind_number Struct = 0

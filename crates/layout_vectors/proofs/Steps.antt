@@ -1,6 +1,6 @@
 -- One object is marked: what is counted with it before is what is counted without it afterwards; or
 -- nothing can be counted.
-use Rattle.std.proofs.Common.{◌≡◌, ◌≢◌, ◌↔◌, ℕ, zero, suc, length-append, ◌+◌, ◌*◌, ◌^◌, ◌<◌, ◌≤◌, List, [], ◌∷◌, ◌++◌, length, Some, None, refl, sym, ap, ap₂, ◌∙◌, subst, arith, pow_pos, pow_mono, lt_of_lt_of_le}
+use Rattle.std.proofs.Common.{◌≡◌, ◌≢◌, ◌↔◌, ℕ, zero, suc, length-append, ◌+◌, ◌*◌, ◌^◌, ◌<◌, ◌≤◌, List, [], ◌∷◌, ◌++◌, length, Some, None, refl, sym, ap, ap₂, ◌∙◌, subst, arith, pow_pos}
 use Rattle.capnp_format.specs.Word.{kind, lower_half, upper_half, data_words, pointer_count, element_size, list_count, capability_word}
 use Rattle.capnp_format.specs.Numbers.{words_for, unpacked, packed, element_bits, from_digits}
 use Rattle.capnp_format.specs.Value.{AreBelow}
@@ -11,13 +11,12 @@ use Rattle.capnp_format.specs.Forest.{times, pads_of, object_of, cover, cover_al
 use Rattle.capnp_format.proofs.Frame.{times-append}
 use Rattle.capnp_format.proofs.Fields.{capability_again}
 use Rattle.capnp_format.proofs.Bounds.{HasSmallWords, digits_below, words_below}
-use Rattle.capnp_format.proofs.Digits.{length-digits, from_digits-below, from_digits-digits}
-use Rattle.capnp_format.proofs.Lies.{pow_pow}
+use Rattle.capnp_format.proofs.Digits.{length-digits}
 use Rattle.capnp_format.proofs.Slices.{length_words}
 use Rattle.capnp_format.specs.Padding.{IsPadded}
 use Rattle.capnp_format.proofs.Frame.{of_row}
 use Rattle.capnp_format.proofs.LandingPads.{pads_inside}
-use Rattle.capnp_format.proofs.Padding.{packed-unpacked}
+use Rattle.capnp_format.proofs.Padding.{packed-unpacked, packed_below}
 use Rattle.capnp_format.proofs.ZeroWords.{zero_is_null}
 use Rattle.capnp_format.specs.Forest.{row, object_cover, PadsInside}
 use Rattle.layout_vectors.specs.Counts.{Counting, plus, Counts, MeansTidily, AreRead, IsTidyObject, ObjectCounts}
@@ -135,15 +134,6 @@ structs_goes S a M N J n d q x seven tag exact claim is F = (λ h. to h.0 h.1 h.
           (x, seven, sym count_is, omega (arith, claim, count_is), record { is_struct = tag.is_struct; counts = tag.counts ∙ sym c.number; data_of = tag.data_of; pointers = tag.pointers }, c.are_read),
           counts_same S (plus N (times below)) (plus M (times (object_of a (1 + element_count c.elements * (d + q)) ∷ below))) J F (λ u v. omega (arith, same (1 + element_count c.elements * (d + q)) u v (omega (arith, count_is)))) c.counts,
         )
-
--- packed elements leave zeros after them
-packed_below : (size : ℕ) (ns : List ℕ) → AreBelow (2 ^ element_bits size) ns → from_digits (2 ^ 64) (packed size ns) < 2 ^ (element_bits size * length ns)
-packed_below size ns h =
-    let x = from_digits (2 ^ element_bits size) ns in
-    let small : x < 2 ^ (element_bits size * length ns) = rw pow_pow at (from_digits-below (2 ^ element_bits size) ns h) in
-    let room : element_bits size * length ns ≤ 64 * words_for size (length ns) = omega arith in
-    let fits : x < (2 ^ 64) ^ words_for size (length ns) = rw (pow_pow 64 (words_for size (length ns))) (lt_of_lt_of_le small (pow_mono room)) in
-    subst (λ y. y < 2 ^ (element_bits size * length ns)) (sym (from_digits-digits (2 ^ 64) (words_for size (length ns)) x (omega arith) fits)) small
 
 tidy_padded : (S : Segments) (s p size : ℕ) (ns : List ℕ) → ns ≡ unpacked size (length ns) (words_at S s p (words_for size (length ns))) → words_at S s p (words_for size (length ns)) ≡ packed size ns → IsPadded S s p size (length ns)
 tidy_padded S s p size ns e y =

@@ -1,7 +1,9 @@
 //! An allocator that refuses memory where a test wants it to.
 ghost use Rattle.std.specs.Prelude.{◌≡◌, false};
 
-use capnp_arena::arena::{Allocator, HeapAllocator, HeapSegment, MAX_SEGMENT_WORDS, Segment};
+use capnp_arena::arena::{
+    Allocator, HeapAllocator, HeapSegment, MAX_SEGMENT_WORDS, Segment, keep_in,
+};
 use capnp_words::error::ErrorKind;
 use std::cell::Cell;
 
@@ -116,14 +118,7 @@ impl Allocator for TestAllocator<'_> {
             self.refused = self.refused.saturating_add(1);
             return Some(row);
         }
-        match list.push(row) {
-            Ok(()) => None,
-            Err(e) => {
-                self.refused = self.refused.saturating_add(1);
-                let row = e.value;
-                Some(row)
-            }
-        }
+        keep_in(list, row, &mut self.refused)
     }
 
     fn refused(&self) -> u64 {

@@ -1,8 +1,8 @@
 -- What typed code reads of a value. What a struct doesn't have reads as zero bits, or as null.
 use Rattle.std.specs.Prelude.{ℕ}
 use Rattle.capnp_format.specs.Tree.{Tree}
-use Rattle.capnp_making.specs.Fields.{field_in}
-use Rattle.capnp_making.specs.Path.{Child, next}
+use Rattle.capnp_format.specs.Fields.{field_in}
+use Rattle.capnp_format.specs.Path.{Child, next}
 use Rattle.capnp_readers.specs.Values.{struct_data, struct_element}
 
 -- The w bits of a struct's data from bit b on, which are in one word.

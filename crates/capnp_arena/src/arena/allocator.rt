@@ -116,3 +116,22 @@ pub trait Allocator: Drop {
     fn refused(&self) -> u64
         ensures { result ≡ refusals self.now };
 }
+
+/// Does the work of `Allocator::keep` for an allocator that counts in a field: appends `row` to
+/// `list`, and returns `None`. If there is no memory for `row`, returns it, leaves `list`
+/// unchanged, and adds 1 to `refused`.
+pub fn keep_in<T>(list: &mut Vec<T>, row: T, refused: &mut u64) -> Option<T>
+    ensures kept { IsNone result → (list.new.items ≡ list.old.items ++ row ∷ [])
+        × (refused.new ≡ refused.old) }
+    ensures given_back { IfSome result (λ r. (r ≡ row) × (list.new.items ≡ list.old.items)
+        × (refused.new ≡ one_more refused.old)) }
+{
+    match list.push(row) {
+        Ok(()) => None,
+        Err(e) => {
+            *refused = refused.saturating_add(1);
+            let row = e.value;
+            Some(row)
+        }
+    }
+}

@@ -2,7 +2,7 @@
 ghost use Rattle.std.specs.Prelude.{◌≡◌, ◌≤◌, ◌==◌, max};
 ghost use Rattle.capnp_arena_traits.specs.Allocations.{max_segment_words};
 
-use crate::arena::{Allocator, MAX_SEGMENT_WORDS, Segment};
+use crate::arena::{Allocator, MAX_SEGMENT_WORDS, Segment, keep_in};
 use capnp_words::error::ErrorKind;
 use std::alloc::Global;
 
@@ -108,14 +108,7 @@ impl Allocator for HeapAllocator {
     }
 
     fn keep<T>(&mut self, list: &mut Vec<T>, row: T) -> Option<T> {
-        match list.push(row) {
-            Ok(()) => None,
-            Err(e) => {
-                self.refused = self.refused.saturating_add(1);
-                let row = e.value;
-                Some(row)
-            }
-        }
+        keep_in(list, row, &mut self.refused)
     }
 
     fn refused(&self) -> u64 {

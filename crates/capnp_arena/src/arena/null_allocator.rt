@@ -1,7 +1,7 @@
 //! An allocator that grants no segment.
 ghost use Rattle.std.specs.Prelude.{◌≡◌, false};
 
-use crate::arena::{Allocator, MAX_SEGMENT_WORDS};
+use crate::arena::{Allocator, MAX_SEGMENT_WORDS, keep_in};
 use capnp_words::error::ErrorKind;
 use std::marker::PhantomData;
 
@@ -59,14 +59,7 @@ impl<A: Allocator> Allocator for NullAllocator<A> {
     }
 
     fn keep<T>(&mut self, list: &mut Vec<T>, row: T) -> Option<T> {
-        match list.push(row) {
-            Ok(()) => None,
-            Err(e) => {
-                self.refused = self.refused.saturating_add(1);
-                let row = e.value;
-                Some(row)
-            }
-        }
+        keep_in(list, row, &mut self.refused)
     }
 
     fn refused(&self) -> u64 {

@@ -1,7 +1,7 @@
 //! Structs of a message being built (encoding specification, "Structs").
 ghost use Rattle.std.specs.Prelude.{◌≡◌, ◌≢◌, ◌↔◌, ◌+◌, ◌*◌, ◌<◌, [], IsTrue, IsOk, IfOk, IfErr, cond, true, false, min};
 ghost use Rattle.capnp_format.specs.Segments.{segment, word_at, Grows, IsPlace};
-ghost use Rattle.capnp_making.specs.Fields.{field_in};
+ghost use Rattle.capnp_format.specs.Fields.{field_in};
 ghost use Rattle.capnp_readers.specs.Readers.{IsStructPlace};
 ghost use Rattle.capnp_builders.specs.Places.{HasField, IsAligned, WritesField, number_field, field};
 ghost use Rattle.capnp_arena_traits.specs.View.{View};

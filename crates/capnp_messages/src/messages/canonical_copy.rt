@@ -14,7 +14,8 @@ ghost use Rattle.capnp_objects.specs.Outcomes.{Reads};
 ghost use Rattle.capnp_objects.specs.Refusals.{Refused};
 ghost use Rattle.capnp_objects.specs.Wanted.{canonical};
 ghost use Rattle.capnp_pointers.specs.Pointers.{reading};
-ghost use Rattle.capnp_messages.specs.Copies.{HoldsCanonicalWords, LacksMemoryOr, RefusesCopy, RefusesCopyAnywhere, is_message_too_large, wants_room};
+ghost use Rattle.capnp_messages.specs.Copies.{HoldsCanonicalWords, LacksMemoryOr, RefusesCopy, RefusesCopyAnywhere, is_message_too_large};
+ghost use Rattle.capnp_words.specs.Names.{is_allocation_name};
 ghost use Rattle.capnp_messages.specs.CanonicalErrors.{IsLeftOf};
 ghost use Rattle.capnp_messages.specs.Tries.{IsMadeByFirstTry, IsSegmentRoom, NeedsMoreRoom, as_asked, room_of_try, words_read};
 
@@ -31,7 +32,7 @@ use std::alloc::Global;
 
 /// Whether `kind` says that the room is too small, or that memory ran out.
 fn is_want_of_room(kind: ErrorKind) -> bool
-    ensures { result ≡ wants_room kind }
+    ensures { result ≡ is_allocation_name kind }
 {
     matches!(
         kind,

@@ -2,7 +2,7 @@
 ghost use Rattle.std.specs.Prelude.{◌≡◌, ◌==◌, ◌≤◌, ◌+◌, length, true, vec_len};
 ghost use Rattle.std.specs.Vec.{vec_capacity};
 
-use capnp_arena::arena::{Allocator, MAX_SEGMENT_WORDS, Segment};
+use capnp_arena::arena::{Allocator, MAX_SEGMENT_WORDS, Segment, keep_in};
 use capnp_words::error::ErrorKind;
 use std::alloc::{AllocError, Global};
 use std::mem;
@@ -149,14 +149,7 @@ impl Allocator for CopyMemory {
     }
 
     fn keep<T>(&mut self, list: &mut Vec<T>, row: T) -> Option<T> {
-        match list.push(row) {
-            Ok(()) => None,
-            Err(e) => {
-                self.refused = self.refused.saturating_add(1);
-                let row = e.value;
-                Some(row)
-            }
-        }
+        keep_in(list, row, &mut self.refused)
     }
 
     fn refused(&self) -> u64 {

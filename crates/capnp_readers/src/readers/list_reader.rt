@@ -3,7 +3,7 @@ ghost use Rattle.std.specs.Prelude.{◌≡◌, ◌≢◌, ◌<◌, ◌≤◌, �
 ghost use Rattle.capnp_format.specs.Bytes.{message};
 ghost use Rattle.capnp_format.specs.Segments.{word_at, segment};
 ghost use Rattle.capnp_format.specs.Tree.{Tree, Flat};
-ghost use Rattle.capnp_making.specs.Path.{Child, next};
+ghost use Rattle.capnp_format.specs.Path.{Child, next};
 ghost use Rattle.capnp_words.specs.declared.wire_pointer.ElementSize.TheVariants.{Void, InlineComposite};
 ghost use Rattle.capnp_format.specs.Numbers.{element_bits, from_digits};
 ghost use Rattle.capnp_words.specs.Sizes.{size_number};

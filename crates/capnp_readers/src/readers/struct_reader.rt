@@ -3,10 +3,11 @@ ghost use Rattle.std.specs.Prelude.{◌≡◌, ◌≢◌, bit_xor, ◌<◌, ◌�
 ghost use Rattle.capnp_format.specs.Bytes.{message};
 ghost use Rattle.capnp_format.specs.Segments.{word_at, segment};
 ghost use Rattle.capnp_format.specs.Tree.{Tree, Null};
-ghost use Rattle.capnp_making.specs.Fields.{field_in};
-ghost use Rattle.capnp_making.specs.Path.{Child, next};
+ghost use Rattle.capnp_format.specs.Fields.{field_in};
+ghost use Rattle.capnp_format.specs.Path.{Child, next};
 ghost use Rattle.capnp_objects.specs.Outcomes.{MeansThere};
-ghost use Rattle.capnp_objects.specs.Reading.{source_start, sized};
+ghost use Rattle.capnp_objects.specs.Reading.{source_start};
+ghost use Rattle.capnp_words.specs.Sizes.{sized};
 ghost use Rattle.capnp_objects.specs.Rows.{rows_sized};
 ghost use Rattle.capnp_objects.specs.Objects.{IsHeld};
 ghost use Rattle.capnp_readers.specs.Sections.{IsPart, IsInside, HasWordsFrom, bit_at, bytes_for};

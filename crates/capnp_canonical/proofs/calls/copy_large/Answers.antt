@@ -6,7 +6,7 @@ use Rattle.capnp_messages.specs.Commands.{form_bytes}
 use Rattle.capnp_canonical.specs.Calls.{table_bytes}
 use Rattle.capnp_canonical.specs.declared.refusal.Refusal.TheVariants.{NoRoom}
 use Rattle.capnp_canonical.proofs.CallLemmas.{copy_bytes, fills_weaker, fit_segment}
-use Rattle.capnp_canonical.proofs.FrameLemmas.{length-bytes}
+use Rattle.capnp_framing.proofs.ReadingLemmas.{bytes-length}
 use Rattle.capnp_canonical.proofs.calls.copy_large.Goals as goal
 
 pub returns-in-Some-clause-copied : goal.returns-in-Some-clause-copied
@@ -21,7 +21,7 @@ returns-in-Some-clause-refused g c =
     let (t, value, is) = c.in-Some.ensures.words in
     let bytes = c.in-Some.ensures.whole ∙ ap bytes_of_words is in
     let long : length (form_bytes c.args.form (encoding (trim t))) ≡ table_bytes c.args.form + length c.in-Some.words.now =
-    omega (arith, copy_bytes c.args.form (encoding (trim t)), ap length bytes, length-bytes (encoding (trim t))) in
+    omega (arith, copy_bytes c.args.form (encoding (trim t)), ap length bytes, bytes-length (encoding (trim t))) in
     IfErr-weaker c.put.result _ _ (λ r no. inr (
       form_bytes c.args.form (encoding (trim t)),
       (t, value, fit_segment (encoding (trim t)) bytes c.in-Some.ensures.short, refl),

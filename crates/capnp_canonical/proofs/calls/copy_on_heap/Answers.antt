@@ -5,7 +5,7 @@ use Rattle.capnp_messages.specs.Commands.{form_bytes}
 use Rattle.capnp_canonical.specs.Calls.{table_bytes}
 use Rattle.capnp_canonical.specs.declared.refusal.Refusal.TheVariants.{NoRoom}
 use Rattle.capnp_canonical.proofs.CallLemmas.{copy_bytes, fills_weaker, fit_segment}
-use Rattle.capnp_canonical.proofs.FrameLemmas.{length-bytes}
+use Rattle.capnp_framing.proofs.ReadingLemmas.{bytes-length}
 use Rattle.capnp_messages.proofs.CanonLemmas.{or_memory}
 use Rattle.capnp_canonical.proofs.calls.copy_on_heap.Goals as goal
 
@@ -24,7 +24,7 @@ returns-in-Ok-clause-refused g c =
     let (t, value, is_made) = c.in-Ok.ensures.copied in
     let bytes = c.canonical_bytes.ensures.bytes (encoding (trim t)) is_made in
     let long : length (form_bytes c.args.form (encoding (trim t))) ≡ table_bytes c.args.form + length c.canonical_bytes.result.now =
-    omega (arith, copy_bytes c.args.form (encoding (trim t)), ap length bytes, length-bytes (encoding (trim t))) in
+    omega (arith, copy_bytes c.args.form (encoding (trim t)), ap length bytes, bytes-length (encoding (trim t))) in
     IfErr-weaker c.put.result _ _ (λ r no. inr (
       form_bytes c.args.form (encoding (trim t)),
       (t, value, fit_segment (encoding (trim t)) bytes c.canonical_bytes.ensures.short, refl),

@@ -2,7 +2,7 @@ use Rattle.std.proofs.Common.{◌≡◌, ◌/◌, ◌%◌, ◌^◌, get_or, bit_
 use Rattle.std.proofs.lemmas.Grind.{common_steps}
 use Rattle.capnp_format.specs.Bytes.{words_of}
 use Rattle.capnp_format.proofs.WordsOf.{words}
-use Rattle.capnp_making.specs.Fields.{field_in}
+use Rattle.capnp_format.specs.Fields.{field_in}
 use Rattle.capnp_contents.proofs.FieldRead.{bit_read}
 use Rattle.capnp_contents.proofs.numbers.bit_in.Goals as goal
 

@@ -1,8 +1,7 @@
 use Rattle.std.proofs.Common.{◌+◌, ◌-◌, ◌/◌, ◌%◌, ◌<◌, ◌≤◌, ℕ, length, get_or, ◌∙◌, arith}
 use Rattle.capnp_format.specs.Bytes.{words_of}
 use Rattle.capnp_format.proofs.WordsOf.{words}
-use Rattle.capnp_making.proofs.FieldBytes.{in_one_word}
-use Rattle.capnp_contents.proofs.FieldRead.{bytes_read}
+use Rattle.capnp_format.proofs.FieldBytes.{in_one_word, bytes_read}
 use Rattle.capnp_contents.proofs.numbers.number_in.Goals as goal
 
 pub overflow_add-start : goal.overflow_add-start

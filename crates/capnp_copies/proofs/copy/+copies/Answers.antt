@@ -44,7 +44,8 @@ use Rattle.capnp_copies.proofs.KeptForms.{SourceKept, SectionsCut}
 use Rattle.capnp_copies.proofs.Originals.{halfway, sections_large, pointers_large, structs_large}
 use Rattle.capnp_copies.proofs.TightElements.{all_rows}
 use Rattle.capnp_copies.proofs.TooLarge.{no_pointers_room, no_structs_room, no_sections_room}
-use Rattle.capnp_copies.proofs.WordsInside.{child_there, part_inside, behind_inside, rows_inside, one_more, some_more, kept_inside, some_words, fewer_words, first_fits, row_fits, product_fits, kept_fits, child_fits, null_fits, children_fit, kept_starts}
+use Rattle.capnp_copies.proofs.WordsInside.{child_there, part_inside, behind_inside, rows_inside, one_more, some_more, kept_inside, fewer_words, first_fits, row_fits, product_fits, kept_fits, child_fits, null_fits, children_fit, kept_starts}
+use Rattle.capnp_pointers.proofs.Returned.{some_words}
 use Rattle.capnp_copies.proofs.copy.+copies.Goals as goal
 
 -- Positions fit 32 bits.

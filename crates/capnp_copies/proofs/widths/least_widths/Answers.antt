@@ -1,7 +1,8 @@
 use Rattle.std.proofs.Common.{◌≡◌, suc, ◌+◌, ◌-◌, max, take, drop, sym, ap, ap₂, ◌∙◌, arith}
 use Rattle.capnp_format.specs.Bytes.{words_of}
 use Rattle.capnp_format.specs.Canonical.{used_words}
-use Rattle.capnp_copies.proofs.Scanning.{data_used, pointers_used, no_data, no_pointers, one_left, data_more, pointers_more, none_yet, no_more, none_left, first_at, none_fits, data_inside, pointers_inside, next_at, next_reached}
+use Rattle.capnp_copies.proofs.Scanning.{data_used, pointers_used, no_data, no_pointers, one_left, data_more, pointers_more, none_yet, no_more, none_left, none_fits, data_inside, pointers_inside, next_at, next_reached}
+use Rattle.capnp_making.proofs.WordsInside.{first_place}
 use Rattle.capnp_copies.proofs.widths.least_widths.Goals as goal
 
 pub loop-i-preserved : goal.loop-i-preserved
@@ -47,7 +48,7 @@ loop-i-init c =
     let d = c.args.size.data_words in
     let q = c.args.size.pointers in
     record {
-      reached = first_at c.args.start (d + q);
+      reached = first_place c.args.start (d + q);
       data_fits = none_fits d;
       pointers_fit = none_fits q;
       data_left = none_yet ws c.args.start d (d + q) c.args.count;

@@ -1,5 +1,5 @@
 use Rattle.capnp_format.specs.Tree.{Struct, Structs}
-use Rattle.capnp_making.specs.Path.{update}
+use Rattle.capnp_format.specs.Path.{update}
 use Rattle.capnp_making.proofs.Replaced.{replaced_within}
 use Rattle.capnp_widening.specs.Widened.{widened}
 use Rattle.capnp_widening.proofs.CanonicalWords.{struct_within, list_within}

@@ -6,7 +6,7 @@ use Rattle.capnp_making.proofs.Memory.{keeps_both, keeps_itself, keeps_then_spen
 use Rattle.capnp_widening.specs.Anew.{WritesAnew}
 use Rattle.capnp_widening.specs.Moved.{Move, Moves}
 use Rattle.capnp_widening.specs.Rooms.{GrowsByAtMost}
-use Rattle.capnp_widening.proofs.Kept.{grows_again, grows_itself, lt_next, rows_few, some_in_rows}
+use Rattle.capnp_widening.proofs.Kept.{grows_again, no_growth, lt_next, rows_few, some_in_rows}
 use Rattle.capnp_widening.proofs.Movings.{none_moved}
 use Rattle.capnp_widening.proofs.PadRooms.{Apart, apart_none, apart_of, apart_rows, made_apart, refused_apart, row_pads_at}
 use Rattle.capnp_widening.proofs.RowPlaces.{next_row, row_inside, row_behind_fits, row_there}
@@ -58,7 +58,7 @@ loop-i-init g c =
       written = writes_none v;
       source_at = first_place c.args.from.at c.args.from.step;
       place_at = first_place c.args.to.at c.args.to.step;
-      longer = grows_itself v.words;
+      longer = no_growth v.words;
       few = le-add_right _ _;
       memory = keeps_itself v;
       apart = λ other. apart_none v c.args.from.segment;

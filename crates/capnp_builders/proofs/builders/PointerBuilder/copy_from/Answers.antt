@@ -8,7 +8,7 @@ use Rattle.capnp_readers.specs.Readers.{read_by}
 use Rattle.capnp_copies.specs.Changes.{change}
 use Rattle.capnp_copies.specs.Forms.{form_of}
 use Rattle.capnp_copies.specs.Originals.{value_original}
-use Rattle.capnp_copies.proofs.FlatRead.{ok_so, err_so}
+use Rattle.capnp_making.proofs.Outcomes.{if_ok_so, if_err_so}
 use Rattle.capnp_copies.proofs.Growth.{none_itself, none_pruned, taken_so, value_within, until_within}
 use Rattle.capnp_contents.proofs.Growing.{grows_again, pruned_grows}
 use Rattle.capnp_builders.proofs.CopiesHeld.{null_replaced, fresh_copied, alone_copied, put_copied, put_stopped, can_later, copy_grows}
@@ -25,7 +25,7 @@ returns-then-is_null-clause-copied g c =
     let p = c.args.self.now.at in
     let zero : word_at old.words s p ≡ 0 = c.is_null.ensures.0 (search rules) in
     let null = null_replaced old.words old.words s p Null c.requires.place zero (unchanged old.words s p Null (null_stored old.words s p c.requires.place zero)) in
-    ok_so c.copy_value.result _ _ (rw (c.pointer-value.ensures.source, c.pointer-value.ensures.place, c.pointer-value.ensures.nesting) at c.copy_value.ensures.copied) (λ x made. put_copied (change (form_of c.args.canonicalize) (call_at c.args.self.now.segment c.args.self.now.at (g.A.BuilderArena.view c.args.self.now.arena.now) (g.A.BuilderArena.view c.copy_value.new.arena)) c.args.lim.now c.copy_value.new.lim) old refl (pruned_itself old.words) null made)
+    if_ok_so c.copy_value.result _ _ (rw (c.pointer-value.ensures.source, c.pointer-value.ensures.place, c.pointer-value.ensures.nesting) at c.copy_value.ensures.copied) (λ x made. put_copied (change (form_of c.args.canonicalize) (call_at c.args.self.now.segment c.args.self.now.at (g.A.BuilderArena.view c.args.self.now.arena.now) (g.A.BuilderArena.view c.copy_value.new.arena)) c.args.lim.now c.copy_value.new.lim) old refl (pruned_itself old.words) null made)
 
 pub returns-then-is_null-clause-refused : goal.returns-then-is_null-clause-refused
 returns-then-is_null-clause-refused g c =
@@ -34,7 +34,7 @@ returns-then-is_null-clause-refused g c =
     let p = c.args.self.now.at in
     let zero : word_at old.words s p ≡ 0 = c.is_null.ensures.0 (search rules) in
     let null = null_replaced old.words old.words s p Null c.requires.place zero (unchanged old.words s p Null (null_stored old.words s p c.requires.place zero)) in
-    err_so c.copy_value.result _ _ (rw (c.pointer-value.ensures.source, c.pointer-value.ensures.place, c.pointer-value.ensures.nesting) at c.copy_value.ensures.refused) (λ k stop. put_stopped (change (form_of c.args.canonicalize) (call_at c.args.self.now.segment c.args.self.now.at (g.A.BuilderArena.view c.args.self.now.arena.now) (g.A.BuilderArena.view c.copy_value.new.arena)) c.args.lim.now c.copy_value.new.lim) old refl (pruned_itself old.words) null stop)
+    if_err_so c.copy_value.result _ _ (rw (c.pointer-value.ensures.source, c.pointer-value.ensures.place, c.pointer-value.ensures.nesting) at c.copy_value.ensures.refused) (λ k stop. put_stopped (change (form_of c.args.canonicalize) (call_at c.args.self.now.segment c.args.self.now.at (g.A.BuilderArena.view c.args.self.now.arena.now) (g.A.BuilderArena.view c.copy_value.new.arena)) c.args.lim.now c.copy_value.new.lim) old refl (pruned_itself old.words) null stop)
 
 pub returns-then-is_null-clause-fresh : goal.returns-then-is_null-clause-fresh
 returns-then-is_null-clause-fresh g c = λ only. fresh_copied c.copy_value.result (read_by g.B.ReaderArena c.args.from) (change (form_of c.args.canonicalize) (call_at c.args.self.now.segment c.args.self.now.at (g.A.BuilderArena.view c.args.self.now.arena.now) (g.A.BuilderArena.view c.copy_value.new.arena)) c.args.lim.now c.copy_value.new.lim) c.requires.place only (rw (c.pointer-value.ensures.source, c.pointer-value.ensures.place, c.pointer-value.ensures.nesting) at c.copy_value.ensures.copied)
@@ -53,13 +53,13 @@ returns-then-is_null-clause-stays g c = record { builder = search rules; there =
 
 pub returns-clause-copied : goal.returns-clause-copied
 returns-clause-copied g c =
-    ok_so c.copy_value-2.result _ _ (rw (c.pointer-value.ensures.source, c.pointer-value.ensures.place, c.pointer-value.ensures.nesting) at c.copy_value-2.ensures.copied)
+    if_ok_so c.copy_value-2.result _ _ (rw (c.pointer-value.ensures.source, c.pointer-value.ensures.place, c.pointer-value.ensures.nesting) at c.copy_value-2.ensures.copied)
     (λ x made. put_copied (change (form_of c.args.canonicalize) (call_at c.args.self.now.segment c.args.self.now.at (g.A.BuilderArena.view c.args.self.now.arena.now) (g.A.BuilderArena.view c.copy_value-2.new.arena)) c.args.lim.now c.copy_value-2.new.lim)
     (g.A.BuilderArena.view c.clear.new.arena) c.clear.ensures.limits c.clear.ensures.only c.clear.ensures.cleared made)
 
 pub returns-clause-refused : goal.returns-clause-refused
 returns-clause-refused g c =
-    err_so c.copy_value-2.result _ _ (rw (c.pointer-value.ensures.source, c.pointer-value.ensures.place, c.pointer-value.ensures.nesting) at c.copy_value-2.ensures.refused)
+    if_err_so c.copy_value-2.result _ _ (rw (c.pointer-value.ensures.source, c.pointer-value.ensures.place, c.pointer-value.ensures.nesting) at c.copy_value-2.ensures.refused)
     (λ k stop. put_stopped (change (form_of c.args.canonicalize) (call_at c.args.self.now.segment c.args.self.now.at (g.A.BuilderArena.view c.args.self.now.arena.now) (g.A.BuilderArena.view c.copy_value-2.new.arena)) c.args.lim.now c.copy_value-2.new.lim)
     (g.A.BuilderArena.view c.clear.new.arena) c.clear.ensures.limits c.clear.ensures.only c.clear.ensures.cleared stop)
 

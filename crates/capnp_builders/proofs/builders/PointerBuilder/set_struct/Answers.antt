@@ -3,7 +3,7 @@ use Rattle.capnp_readers.specs.Sizes.{pointers_read}
 use Rattle.capnp_copies.specs.Changes.{change}
 use Rattle.capnp_copies.specs.Forms.{form_of}
 use Rattle.capnp_value_copies.specs.StructValues.{data_of, struct_read}
-use Rattle.capnp_copies.proofs.FlatRead.{ok_so, err_so}
+use Rattle.capnp_making.proofs.Outcomes.{if_ok_so, if_err_so}
 use Rattle.capnp_copies.proofs.Growth.{none_itself, none_pruned, taken_so, sections_within, sections_until_within}
 use Rattle.capnp_contents.proofs.Growing.{grows_again, pruned_grows}
 use Rattle.capnp_builders.proofs.CopiesHeld.{put_copied, put_stopped, can_later, copy_grows}
@@ -14,13 +14,13 @@ use Rattle.capnp_making.specs.Makes.{call_at}
 
 pub returns-clause-copied : goal.returns-clause-copied
 returns-clause-copied g c =
-    ok_so c.copy_struct_value.result _ _ c.copy_struct_value.ensures.copied
+    if_ok_so c.copy_struct_value.result _ _ c.copy_struct_value.ensures.copied
     (λ x made. put_copied (change (form_of c.args.canonicalize) (call_at c.args.self.now.segment c.args.self.now.at (g.A.BuilderArena.view c.args.self.now.arena.now) (g.A.BuilderArena.view c.copy_struct_value.new.arena)) c.args.lim.now c.copy_struct_value.new.lim)
     (g.A.BuilderArena.view c.clear.new.arena) c.clear.ensures.limits c.clear.ensures.only c.clear.ensures.cleared made)
 
 pub returns-clause-refused : goal.returns-clause-refused
 returns-clause-refused g c =
-    err_so c.copy_struct_value.result _ _ c.copy_struct_value.ensures.refused
+    if_err_so c.copy_struct_value.result _ _ c.copy_struct_value.ensures.refused
     (λ k stop. put_stopped (change (form_of c.args.canonicalize) (call_at c.args.self.now.segment c.args.self.now.at (g.A.BuilderArena.view c.args.self.now.arena.now) (g.A.BuilderArena.view c.copy_struct_value.new.arena)) c.args.lim.now c.copy_struct_value.new.lim)
     (g.A.BuilderArena.view c.clear.new.arena) c.clear.ensures.limits c.clear.ensures.only c.clear.ensures.cleared stop)
 

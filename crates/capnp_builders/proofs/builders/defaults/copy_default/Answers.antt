@@ -7,7 +7,7 @@ use Rattle.capnp_objects.specs.Wanted.{of_default}
 use Rattle.capnp_copies.specs.Changes.{change, MakesCopy, StopsCopy}
 use Rattle.capnp_copies.specs.Growth.{TakesAtMost}
 use Rattle.capnp_copies.specs.Originals.{value_original}
-use Rattle.capnp_copies.proofs.FlatRead.{err_so}
+use Rattle.capnp_making.proofs.Outcomes.{if_err_so}
 use Rattle.capnp_builders.specs.Defaults.{default_root}
 use Rattle.capnp_builders.proofs.CopiesHeld.{on_ok}
 use Rattle.capnp_builders.proofs.DefaultCopies.{default_copy, nothing_spent, puts_default, drops_default}
@@ -37,6 +37,6 @@ returns g c =
       dropped = drops_default c.copy_in_form.result bytes c.args.id c.args.at old new refused (rw same at taken);
       memory = record {
         granted = on_ok c.copy_in_form.result _ _ copied (λ made. made.memory);
-        refused = err_so c.copy_in_form.result _ _ refused (λ k stop. stop.memory);
+        refused = if_err_so c.copy_in_form.result _ _ refused (λ k stop. stop.memory);
       };
     }

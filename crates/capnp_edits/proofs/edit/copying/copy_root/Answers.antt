@@ -1,6 +1,6 @@
 use Rattle.std.proofs.Common.{◌≡◌, inl, true, false, refl}
 use Rattle.std.proofs.lemmas.Result.{err_from_is_err_and}
-use Rattle.capnp_copies.proofs.FlatRead.{err_so}
+use Rattle.capnp_making.proofs.Outcomes.{if_err_so}
 use Rattle.capnp_builders.proofs.CopiesHeld.{on_ok, on_err}
 use Rattle.capnp_edits.specs.Edits.{place_of}
 use Rattle.capnp_edits.proofs.Copied.{Tried, root_unread, tried_done, copy_counted, tried_taken, tried_fits, value_tried, struct_copied, list_copied, unread_counted, struct_unread, list_unread, struct_found, list_found}
@@ -26,7 +26,7 @@ pub returns-in-Value-clause-done : goal.returns-in-Value-clause-done
 returns-in-Value-clause-done g c = tried_done c.copy_from.result c.args.copying _ _ _ (value_at g c) (on_err c.copy_from.result _ _ c.copy_from.ensures.refused (λ k x. x.cleared))
 
 pub returns-in-Value-clause-counted : goal.returns-in-Value-clause-counted
-returns-in-Value-clause-counted g c = copy_counted c.copy_from.result _ _ (on_ok c.copy_from.result _ _ c.copy_from.ensures.copied (λ x. x.memory)) (err_so c.copy_from.result _ _ c.copy_from.ensures.refused (λ k x. x.memory))
+returns-in-Value-clause-counted g c = copy_counted c.copy_from.result _ _ (on_ok c.copy_from.result _ _ c.copy_from.ensures.copied (λ x. x.memory)) (if_err_so c.copy_from.result _ _ c.copy_from.ensures.refused (λ k x. x.memory))
 
 pub returns-in-Value-clause-taken : goal.returns-in-Value-clause-taken
 returns-in-Value-clause-taken g c = tried_taken c.copy_from.result c.args.copying _ _ _ (value_at g c)
@@ -43,7 +43,7 @@ pub returns-in_ok-value-in-Struct-clause-done : goal.returns-in_ok-value-in-Stru
 returns-in_ok-value-in-Struct-clause-done g c = tried_done c.set_struct.result c.args.copying _ _ _ (struct_there g c) (on_err c.set_struct.result _ _ c.set_struct.ensures.refused (λ k x. x.cleared))
 
 pub returns-in_ok-value-in-Struct-clause-counted : goal.returns-in_ok-value-in-Struct-clause-counted
-returns-in_ok-value-in-Struct-clause-counted g c = copy_counted c.set_struct.result _ _ (on_ok c.set_struct.result _ _ c.set_struct.ensures.copied (λ x. x.memory)) (err_so c.set_struct.result _ _ c.set_struct.ensures.refused (λ k x. x.memory))
+returns-in_ok-value-in-Struct-clause-counted g c = copy_counted c.set_struct.result _ _ (on_ok c.set_struct.result _ _ c.set_struct.ensures.copied (λ x. x.memory)) (if_err_so c.set_struct.result _ _ c.set_struct.ensures.refused (λ k x. x.memory))
 
 pub returns-in_ok-value-in-Struct-clause-taken : goal.returns-in_ok-value-in-Struct-clause-taken
 returns-in_ok-value-in-Struct-clause-taken g c = tried_taken c.set_struct.result c.args.copying _ _ _ (struct_there g c)
@@ -79,7 +79,7 @@ pub returns-in_ok-list-in-List-clause-done : goal.returns-in_ok-list-in-List-cla
 returns-in_ok-list-in-List-clause-done g c = tried_done c.set_list.result c.args.copying _ _ _ (list_there g c) (on_err c.set_list.result _ _ c.set_list.ensures.refused (λ k x. x.cleared))
 
 pub returns-in_ok-list-in-List-clause-counted : goal.returns-in_ok-list-in-List-clause-counted
-returns-in_ok-list-in-List-clause-counted g c = copy_counted c.set_list.result _ _ (on_ok c.set_list.result _ _ c.set_list.ensures.copied (λ x. x.memory)) (err_so c.set_list.result _ _ c.set_list.ensures.refused (λ k x. x.memory))
+returns-in_ok-list-in-List-clause-counted g c = copy_counted c.set_list.result _ _ (on_ok c.set_list.result _ _ c.set_list.ensures.copied (λ x. x.memory)) (if_err_so c.set_list.result _ _ c.set_list.ensures.refused (λ k x. x.memory))
 
 pub returns-in_ok-list-in-List-clause-taken : goal.returns-in_ok-list-in-List-clause-taken
 returns-in_ok-list-in-List-clause-taken g c = tried_taken c.set_list.result c.args.copying _ _ _ (list_there g c)

@@ -1,12 +1,12 @@
 use Rattle.std.proofs.Common.{◌≡◌, ◌∙◌, true, rules, sym}
 use Rattle.capnp_arena_traits.proofs.MessageLemmas.{length-message}
-use Rattle.capnp_messages.specs.Copies.{wants_room}
+use Rattle.capnp_words.specs.Names.{is_allocation_name}
 use Rattle.capnp_messages.proofs.CanonLemmas.{refused_spread, refused_try}
 use Rattle.capnp_messages.proofs.messages.canonical_copy.copy_to_segment.Goals as goal
 
 pub returns-then-is_want_of_room-clause-refused : goal.returns-then-is_want_of_room-clause-refused
 returns-then-is_want_of_room-clause-refused g c =
-    let want : wants_room c.in-Err.kind ≡ true = search rules in
+    let want : is_allocation_name c.in-Err.kind ≡ true = search rules in
     refused_try _ c.args.room c.requires.room want c.in-Err.ensures.refused
 
 pub returns-then-len-eq1-clause-copied : goal.returns-then-len-eq1-clause-copied

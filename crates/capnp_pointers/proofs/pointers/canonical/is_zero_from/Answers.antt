@@ -5,7 +5,7 @@ use Rattle.std.proofs.lemmas.List.Elements.{All-nil, All-cons, All-head, All-tai
 use Rattle.std.proofs.Math.Nat.{div-le_self}
 use Rattle.std.proofs.lemmas.Nat.{from_le_bytes-to_le_bytes_8}
 use Rattle.capnp_format.specs.Numbers.{from_digits}
-use Rattle.capnp_words.proofs.LittleEndian.{eight_bytes}
+use Rattle.capnp_format.proofs.BytesLemmas.{eight_bytes}
 use Rattle.capnp_pointers.proofs.pointers.canonical.is_zero_from.Goals as goal
 
 abbrev IsZeroByte : ℕ → Type 0

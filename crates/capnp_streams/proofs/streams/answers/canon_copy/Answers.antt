@@ -5,7 +5,8 @@ use Rattle.capnp_format.proofs.WordsOf.{words}
 use Rattle.capnp_arena_traits.specs.Allocations.{max_segment_words}
 use Rattle.capnp_messages.specs.declared.messages.command.Command.TheVariants.{Canon}
 use Rattle.capnp_streams.specs.Streams.{written_words}
-use Rattle.capnp_streams.proofs.AnsweredLemmas.{answer_refuses, answer_written, copy_refused}
+use Rattle.capnp_streams.proofs.AnsweredLemmas.{answer_refuses, answer_written}
+use Rattle.capnp_messages.proofs.CanonLemmas.{or_memory}
 use Rattle.capnp_streams.proofs.CountingLemmas.{copy_counted, memory_counted, written_uncounted}
 use Rattle.capnp_streams.proofs.streams.answers.canon_copy.Goals as goal
 
@@ -25,7 +26,7 @@ returns-in-Ok-clause-memory g c =
     (written_uncounted (Canon c.args.form) _ _ _ c.if_written.ensures.written c.if_written.ensures.failed)
 
 pub returns-in-Err-clause-answer : goal.returns-in-Err-clause-answer
-returns-in-Err-clause-answer g c = answer_refuses _ _ _ _ (copy_refused c.in-Err.ensures.refused)
+returns-in-Err-clause-answer g c = answer_refuses _ _ _ _ (or_memory c.in-Err.ensures.refused)
 
 pub returns-in-Err-clause-memory : goal.returns-in-Err-clause-memory
 returns-in-Err-clause-memory g c =

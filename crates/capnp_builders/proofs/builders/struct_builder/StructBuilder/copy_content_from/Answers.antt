@@ -9,7 +9,7 @@ use Rattle.capnp_making.specs.Zeroed.{IsPruned}
 use Rattle.capnp_readers.specs.declared.readers.struct_reader.StructPlace.{StructPlace}
 use Rattle.capnp_builders.specs.Content.{with_content, AreCleared, TakesData}
 use Rattle.capnp_copies.specs.Growth.{TakesNone}
-use Rattle.capnp_copies.proofs.FlatRead.{err_so}
+use Rattle.capnp_making.proofs.Outcomes.{if_err_so}
 use Rattle.capnp_copies.proofs.Growth.{none_itself, none_both, none_pruned, taken_so, all_within, among_within}
 use Rattle.capnp_making.proofs.Taken.{ends_after}
 use Rattle.capnp_builders.proofs.ContentWritten.{content_long, content_many, each_grows, content_grows}
@@ -81,7 +81,7 @@ returns-clause-refused g c =
       null = c.clear_pointers.ensures.null;
       limits = c.clear_pointers.ensures.limits ∙ ap (λ (v : View). record v { words = mid.words }) c.write_content.ensures;
     } in
-    err_so c.copy_each.result _ _ (rw (nl, c.from-count.ensures, c.min.ensures) at c.copy_each.ensures.refused) (λ k stops. (mid, taking, stops))
+    if_err_so c.copy_each.result _ _ (rw (nl, c.from-count.ensures, c.min.ensures) at c.copy_each.ensures.refused) (λ k stops. (mid, taking, stops))
 
 pub returns-clause-fits : goal.returns-clause-fits
 returns-clause-fits g c = λ fits.
