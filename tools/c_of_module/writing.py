@@ -67,7 +67,7 @@ class Writer:
         if it.name not in self.module.exported:
             raise Unknown('an exported function that the header does not declare')
         result, words = self.module.exported[it.name]
-        given = [] if words == 'void' else [re.search(r'\w+$', word.strip())[0] for word in words.split(',')]
+        given = [] if words == 'void' else [re.search(r'(\w+)(?:\[\d+\])?$', word.strip())[1] for word in words.split(',')]
         if len(given) != len(it.parameters):
             raise Unknown('the header gives other parameters')
         for name in given:
