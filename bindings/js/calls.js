@@ -64,6 +64,17 @@ function copied(lib, name, given, limits) {
   }
 }
 
+/** The number of bytes of a SHA-256. */
+const DIGEST = 32;
+
+function digested(lib, name, given, limits) {
+  if (!given) throw noMemory();
+  const { base } = lib;
+  const answer = lib.calls[name](given.first, given.second, limits.nesting, limits.words, base) >>> 0;
+  if (answer !== 0) throw new Refused(answer);
+  return seen(lib).bytes.slice(base, base + DIGEST);
+}
+
 /** The fault, or null. */
 function checked(lib, name, given, limits) {
   if (!given) throw noMemory();
@@ -128,6 +139,11 @@ export function canonicalizeFlat(frame, limits) {
   return answered((lib) => copied(lib, 'copy_flat', lendFrame(lib, bytes, within.words), within), bytes);
 }
 
+export function digest(frame, limits) {
+  const bytes = bytesOf(frame, 'a frame'), within = limitsOf(limits);
+  return answered((lib) => digested(lib, 'digest', lendFrame(lib, bytes, within.words), within), bytes);
+}
+
 export function check(frame, limits) {
   const bytes = bytesOf(frame, 'a frame'), within = limitsOf(limits);
   return answered((lib) => checked(lib, 'check', lendFrame(lib, bytes, within.words), within), bytes);
@@ -164,6 +180,10 @@ export const segments = Object.freeze({
     const parts = partsOf(list), within = limitsOf(limits);
     return answered((lib) => copied(lib, 'segments_copy_flat', lendSegments(lib, parts), within));
   },
+  digest(list, limits) {
+    const parts = partsOf(list), within = limitsOf(limits);
+    return answered((lib) => digested(lib, 'segments_digest', lendSegments(lib, parts), within));
+  },
   check(list, limits) {
     const parts = partsOf(list), within = limitsOf(limits);
     return answered((lib) => checked(lib, 'segments_check', lendSegments(lib, parts), within));
@@ -182,6 +202,10 @@ export const words = Object.freeze({
   canonicalize(message, limits) {
     const bytes = bytesOf(message, 'a message'), within = limitsOf(limits);
     return answered((lib) => copied(lib, 'words_copy', lend(lib, bytes), within));
+  },
+  digest(message, limits) {
+    const bytes = bytesOf(message, 'a message'), within = limitsOf(limits);
+    return answered((lib) => digested(lib, 'words_digest', lend(lib, bytes), within));
   },
   check(message, limits) {
     const bytes = bytesOf(message, 'a message'), within = limitsOf(limits);

@@ -1,8 +1,8 @@
 /**
  * Canonical form of Cap'n Proto messages, over the library capnp_canonical compiled to WebAssembly.
  *
- *     import { canonicalizeFlat } from 'capnp_canonical';
- *     const digest = createHash('sha256').update(canonicalizeFlat(frame)).digest('hex');
+ *     import { digest } from 'capnp_canonical';
+ *     const name = Buffer.from(digest(frame)).toString('hex');  // the SHA-256 of the canonical words
  *
  * You pass a message as a frame, which is what `capnp encode`, capnp::writeMessage and pycapnp's `to_bytes` write, as its segments
  * (`segments`), or as its raw words (`words`). Bytes after a frame are ignored. Unpack packed bytes first, with `unpack`.
@@ -110,6 +110,12 @@ export function canonicalize(frame: Bytes, limits?: Limits): Uint8Array;
 export function canonicalizeFlat(frame: Bytes, limits?: Limits): Uint8Array;
 
 /**
+ * Returns the SHA-256 of the canonical words of the message: of the bytes that `canonicalizeFlat` returns. It names the value:
+ * messages with equal values have the same.
+ */
+export function digest(frame: Bytes, limits?: Limits): Uint8Array;
+
+/**
  * Returns null if the message is canonical: one segment, which holds the canonical words of a value and nothing else. Otherwise
  * returns why and where it isn't. For a yes or no, call `isCanonical`.
  */
@@ -125,6 +131,7 @@ export function size(frame: Bytes, limits?: Limits): Size;
 export const segments: {
   canonicalize(list: Iterable<Bytes>, limits?: Limits): Uint8Array;
   canonicalizeFlat(list: Iterable<Bytes>, limits?: Limits): Uint8Array;
+  digest(list: Iterable<Bytes>, limits?: Limits): Uint8Array;
   check(list: Iterable<Bytes>, limits?: Limits): Fault | null;
   isCanonical(list: Iterable<Bytes>, limits?: Limits): boolean;
   size(list: Iterable<Bytes>, limits?: Limits): Size;
@@ -133,6 +140,7 @@ export const segments: {
 /** The same calls for a message given as its raw words. The copy is raw words too. */
 export const words: {
   canonicalize(message: Bytes, limits?: Limits): Uint8Array;
+  digest(message: Bytes, limits?: Limits): Uint8Array;
   check(message: Bytes, limits?: Limits): Fault | null;
   isCanonical(message: Bytes, limits?: Limits): boolean;
   size(message: Bytes, limits?: Limits): Size;

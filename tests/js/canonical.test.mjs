@@ -14,7 +14,7 @@ const faultOf = (fault) => (fault ? `${fault.reason},${fault.segment},${fault.wo
 
 test('messages', () => {
   let count = 0;
-  for (const [name, frame, copy, flat, check, size] of rowsOf('library/messages.txt')) {
+  for (const [name, frame, copy, flat, check, size, digest] of rowsOf('library/messages.txt')) {
     const bytes = hex(frame), isCopied = copy === 'Done';
     const segments = [];
     for (let number = 0, table = bytes.length >= 8 ? new DataView(bytes.buffer) : undefined, at = 0; table && number <= table.getUint32(0, true) && number < 512; number++) {
@@ -23,12 +23,15 @@ test('messages', () => {
     }
     assert.equal(said(() => hexOf(capnp.canonicalize(bytes))), isCopied ? hexOf(framed([hex(flat)])) : `!${copy}`, name);
     assert.equal(said(() => hexOf(capnp.canonicalizeFlat(bytes))), isCopied ? flat : `!${copy}`, name);
+    assert.equal(said(() => hexOf(capnp.digest(bytes))), isCopied ? digest : `!${copy}`, name);
     assert.equal(said(() => faultOf(capnp.check(bytes))), refusal(check), name);
     assert.equal(said(() => Object.values(capnp.size(bytes)).join()), refusal(size), name);
     assert.equal(capnp.isCanonical(bytes), check === 'yes', name);
     if (isCopied) {
       assert.equal(hexOf(capnp.segments.canonicalize(segments)), hexOf(framed([hex(flat)])), name);
       assert.equal(hexOf(capnp.segments.canonicalizeFlat(segments)), flat, name);
+      assert.equal(hexOf(capnp.segments.digest(segments)), digest, name);
+      assert.equal(hexOf(capnp.words.digest(hex(flat))), digest, name);
       assert.equal(capnp.segments.isCanonical(segments), check === 'yes', name);
       assert.equal(hexOf(capnp.words.canonicalize(hex(flat))), flat, name);
       assert.ok(capnp.words.isCanonical(hex(flat)), name);

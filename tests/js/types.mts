@@ -7,6 +7,7 @@ export async function all(frame: Uint8Array, buffer: ArrayBuffer, pieces: AsyncI
   const limits: Limits = { nesting: MAX_NESTING, words: 2n ** 40n };
   const copy: Uint8Array = capnp.canonicalize(frame, limits);
   const flat: Uint8Array = capnp.canonicalizeFlat(buffer);
+  const digest: Uint8Array = capnp.digest(buffer, limits);
   const fault: Fault | null = capnp.check(copy, { words: Infinity });
   const isCanonical: boolean = capnp.isCanonical(copy) && capnp.words.isCanonical(flat) && capnp.segments.isCanonical([flat]);
   const { words, capabilities }: Size = capnp.size(frame);
@@ -15,6 +16,7 @@ export async function all(frame: Uint8Array, buffer: ArrayBuffer, pieces: AsyncI
   for (const it of capnp.frames(capnp.unpack(frame))) text += it.length;
   for await (const it of capnp.framesFrom(pieces, limits)) text += it.byteLength;
   text += capnp.segments.canonicalize([frame, buffer]).length + capnp.segments.canonicalizeFlat(new Set([frame])).length + capnp.segments.size([]).words;
+  text += `${digest.length} ${capnp.segments.digest([frame]).length} ${capnp.words.digest(flat).length}`;
   text += `${capnp.segments.check([])} ${capnp.words.check(flat)} ${capnp.words.size(flat).words} ${capnp.words.canonicalize(flat).length}`;
   use(new WebAssembly.Module(buffer));
   try {
