@@ -609,10 +609,10 @@ static void capnp_streams_seen_WatchedRead_read_23337c5e355f5d70(u8 *a_1, u8 *a_
 static void capnp_packing_packing_unpacking_unpack_words(u8 *a_1, u8 *a_2, u64 a_3, u8 *a_4, u64 a_5);
 static void capnp_packing_packing_place_step(u8 *a_1, u8 *a_2, u8 a_3);
 static void capnp_packing_packing_place_within_word(u8 *a_1, u8 a_2, u8 a_3);
-static NEVER COLD u8 std_alloc_vec_Vec_grow_amortized_f97a4e84336ded28(u8 *a_1);
+static NEVER COLD u8 std_alloc_vec_Vec_grow_amortized_5e63141f0e39c5e0(u8 *a_1);
 static NEVER COLD u8 std_alloc_vec_Vec_grow_amortized_ffd95af9aab10bcd(u8 *a_1, u64 a_2);
 static NEVER COLD void capnp_framing_framing_reading_make_some_room_3691078bae5dd839(u8 *a_1, u8 *a_2, u8 *a_3);
-static NEVER COLD u8 std_alloc_vec_Vec_grow_amortized_044c3d3b74b9c55e(u8 *a_1, u64 a_2);
+static NEVER COLD u8 std_alloc_vec_Vec_grow_amortized_5400d4f5161e8cc6(u8 *a_1);
 static void capnp_streams_streams_answers_answer_2ca163b27a3fb3b6(u8 *a_1, u8 *a_2, u8 *a_3, u8 *a_4);
 static void capnp_messages_messages_message_fault_canonical_fault__490a0445(u8 *a_1, u8 *a_2, u8 *a_3);
 static NEVER void capnp_objects_source_follow_far_5ccc1be374b2e488(u8 *a_1, u8 *a_2, u64 a_3, u8 *a_4);
@@ -620,6 +620,7 @@ static struct s_i8_i32 capnp_pointers_pointers_canonical_test_children_5ccc1b_aa
 static NEVER struct s_i8_i32 capnp_pointers_pointers_canonical_test_list_5ccc1be374b2e488(u8 *a_1, u32 a_2, u64 a_3, u32 a_4, u32 a_5, u8 *a_6);
 static struct s_i8_i32 capnp_pointers_pointers_canonical_test_rows_5ccc1be374b2e488(u8 *a_1, u32 a_2, u16 a_3, u16 a_4, u32 a_5, u32 a_6, u8 *a_7);
 static void capnp_messages_messages_whole_canonical_from_ad42fe8b34616de5(u8 *a_1, u8 *a_2, u8 *a_3, u8 *a_4);
+static NEVER COLD u8 std_alloc_vec_Vec_grow_amortized_044c3d3b74b9c55e(u8 *a_1, u64 a_2);
 static NEVER COLD void capnp_messages_messages_copy_memory_CopySegment_zero_up_to(u8 *a_1, u64 a_2);
 static NEVER COLD struct s_i8_i32 capnp_arena_arena_rows_allocate_in_4426f83c3c99ca57(u8 *a_1, u64 a_2, u32 a_3);
 static NEVER COLD u32 capnp_arena_arena_rows_take_in_4426f83c3c99ca57(u8 *a_1, u64 a_2, u32 a_3);
@@ -16089,8 +16090,8 @@ l_join_mh:;
 l_join_rl:;
     r_5q_3 = (r_rx + (u64)ld32((r_lz_2 + (i64)((u64)(r_wy << 2ull)))));
     if (!(ld64(r_t9_1) == r_l5)) { r_le = r_l5; goto l_std_28; }
-    u8 r_0o = std_alloc_vec_Vec_grow_amortized_f97a4e84336ded28(r_xm);
-    if (!r_0o) goto l_arm_is;
+    u8 r_db = std_alloc_vec_Vec_grow_amortized_5e63141f0e39c5e0(r_xm);
+    if (!r_db) goto l_arm_is;
     r_le = ld64(r_su);
 l_std_28:;
     st64((ldp(r_xm) + (i64)((u64)(r_le << 3ull))), r_5q_3);
@@ -16883,8 +16884,8 @@ l_join_yh:;
     goto l_common_a2;
 }
 
-/* std_alloc::vec::Vec::grow_amortized::<#f97a4e84336ded28> */
-static NEVER COLD u8 std_alloc_vec_Vec_grow_amortized_f97a4e84336ded28(u8 *a_1)
+/* std_alloc::vec::Vec::grow_amortized::<#5e63141f0e39c5e0> */
+static NEVER COLD u8 std_alloc_vec_Vec_grow_amortized_5e63141f0e39c5e0(u8 *a_1)
 {
     u64 r_52;
     u8 common_p7;
@@ -16966,17 +16967,19 @@ l_arm_m7:;
 /* capnp_framing::framing::reading::make_some_room::<#3691078bae5dd839> */
 static NEVER COLD void capnp_framing_framing_reading_make_some_room_3691078bae5dd839(u8 *a_1, u8 *a_2, u8 *a_3)
 {
+    u8 *r_xz;
     u8 *r_08;
     u8 *r_rq;
     u64 r_vp;
     u64 r_7n;
     u64 r_52_2;
+    r_xz = away(a_2, 24ull);
     r_08 = away(a_3, 16ull);
     r_rq = away(a_3, 8ull);
     u64 r_52 = ld64(r_rq);
     if (!(ld64(r_08) == r_52)) { r_vp = r_52; goto l_std_bs; }
-    u8 r_l2 = std_alloc_vec_Vec_grow_amortized_044c3d3b74b9c55e(a_3, 1ull);
-    if (!r_l2) goto l_arm_5h;
+    u8 r_le = std_alloc_vec_Vec_grow_amortized_5400d4f5161e8cc6(a_3);
+    if (!r_le) goto l_arm_k7;
     r_vp = ld64(r_rq);
 l_std_bs:;
     st8((ldp(a_3) + (i64)(r_vp)), 0u);
@@ -16985,8 +16988,7 @@ l_std_bs:;
     r_52_2 = ld64(r_08);
     if (r_52_2 > r_7n) goto l_join_re;
     goto l_then_z5;
-l_arm_5h:;
-    u8 *r_xz = away(a_2, 24ull);
+l_arm_k7:;
     st64(r_xz, uadd_sat64(ld64(r_xz), 1ull));
     st8(a_1, 1u);
     st64(away(a_1, 8ull), 6ull);
@@ -17009,8 +17011,8 @@ l_std_k2:;
     goto l_common_68;
 }
 
-/* std_alloc::vec::Vec::grow_amortized::<#044c3d3b74b9c55e> */
-static NEVER COLD u8 std_alloc_vec_Vec_grow_amortized_044c3d3b74b9c55e(u8 *a_1, u64 a_2)
+/* std_alloc::vec::Vec::grow_amortized::<#5400d4f5161e8cc6> */
+static NEVER COLD u8 std_alloc_vec_Vec_grow_amortized_5400d4f5161e8cc6(u8 *a_1)
 {
     u64 r_52;
     u8 common_p7;
@@ -17020,16 +17022,16 @@ static NEVER COLD u8 std_alloc_vec_Vec_grow_amortized_044c3d3b74b9c55e(u8 *a_1, 
     u64 common_za;
     struct s_i64_i64 r_q0;
     r_52 = ld64(away(a_1, 8ull));
-    if (a_2 > (r_52 ^ 0xffffffffffffffffull)) { common_p7 = 0u; goto l_common_57; }
-    goto l_join_4f;
+    if (r_52 == 0xffffffffffffffffull) { common_p7 = 0u; goto l_common_57; }
+    goto l_join_11;
 l_common_57:;
     return common_p7;
-l_join_4f:;
+l_join_11:;
     r_08 = away(a_1, 16ull);
     r_52_1 = ld64(r_08);
-    u64 a_by = umax64((r_52 + a_2), 8ull);
-    t_e0 = umax64(a_by, (u64)(r_52_1 << 1ull));
-    common_za = ((r_52_1 < 0x4000000000000000ull) ? t_e0 : a_by);
+    u64 a_pn = (umax64(r_52, 7ull) + 1ull);
+    t_e0 = umax64(a_pn, (u64)(r_52_1 << 1ull));
+    common_za = ((r_52_1 < 0x4000000000000000ull) ? t_e0 : a_pn);
     if (!((i64)common_za > (i64)0xffffffffffffffffull)) { common_p7 = 0u; goto l_common_57; }
     if (r_52_1 == 0ull) goto l_std_aw;
     struct s_i64_i64 r_fk = rattle_realloc(ldp(a_1), r_52, common_za, 1ull);
@@ -18339,11 +18341,11 @@ static NEVER struct s_i8_i32 capnp_pointers_pointers_canonical_test_list_5ccc1be
     u64 r_lc;
     u64 r_nb;
     u64 r_yz;
-    u32 r_ag;
-    u64 r_38_2;
-    u64 r_7w;
-    u64 r_un;
-    u8 *r_o2;
+    u32 r_nz;
+    u64 r_tc;
+    u64 r_l8;
+    u64 r_3g;
+    u8 *r_n9;
     u64 r_ep;
     u64 r_y6;
     u64 r_lc_1;
@@ -18374,17 +18376,19 @@ static NEVER struct s_i8_i32 capnp_pointers_pointers_canonical_test_list_5ccc1be
     u64 r_52_5;
     u8 *r_rq_5;
     u64 r_52_6;
-    u64 r_hn;
+    u64 r_7e;
     u64 r_c6;
     u8 *r_rq_6;
     u64 r_52_7;
     u64 r_2g;
-    u64 r_dd;
-    u64 r_5l;
-    u8 r_xq_1;
-    u64 r_xq;
-    u32 r_5e;
-    u8 r_ty;
+    u64 r_gm;
+    u64 r_dv;
+    u8 r_yl;
+    u8 r_xq;
+    u32 r_mr;
+    u64 r_2n;
+    u32 r_id;
+    u8 r_ru;
     u8 *r_xz_3;
     u32 r_eh_1;
     u64 r_4i;
@@ -18403,16 +18407,16 @@ static NEVER struct s_i8_i32 capnp_pointers_pointers_canonical_test_list_5ccc1be
     if (!(r_gw > r_7l)) goto l_arm_um;
     r_qw = ld64((r_xw + (i64)((u64)(r_7l << 3ull))));
     if (r_qw == 0ull) goto l_arm_um;
+    memset(slot_1, 0u, 56);
     t_pa = (r_y8 != 0u);
-    if (t_pa) goto l_capnp_0h;
+    if (t_pa) goto l_capnp_sm;
     u8 *r_08 = away(a_6, 16ull);
     st64(r_08, uadd_sat64(ld64(r_08), 1ull));
     if ((r_qw & 3ull) == 2ull) goto l_capnp_bt;
     goto l_join_bd;
-l_capnp_0h:;
+l_capnp_sm:;
     if (!((r_qw & 3ull) == 2ull)) goto l_join_bd;
     st32((slot_1 + 8), 32u);
-    st32((slot_1 + 12), 0u);
     r_2g = ld64((slot_1 + 8));
     goto l_capnp_8g;
 l_join_bd:;
@@ -18428,79 +18432,77 @@ l_else_70:;
     if ((r_lc < 0x40000000ull) ? 1u : (r_3o > r_nb)) { r_2g = 23ull; goto l_capnp_8g; }
     r_yz = r_3o;
 l_capnp_i5:;
-    r_ag = (u32)r_yz;
-    r_38_2 = r_52;
-    r_7w = r_qw;
-    r_un = r_38;
-    r_o2 = r_xw;
-    goto l_arm_gc;
+    r_nz = (u32)r_yz;
+    r_tc = r_52;
+    r_l8 = r_qw;
+    r_3g = r_38;
+    r_n9 = r_xw;
+    goto l_arm_s6;
 l_capnp_bt:;
     capnp_objects_source_follow_far_5ccc1be374b2e488(slot_1, r_xw_1, r_qw, a_6);
-    u64 r_38_3 = ld64((slot_1 + 16));
-    u64 r_38_5 = ld64((slot_1 + 8));
-    if (ld8(slot_1) == 0u) { r_ag = ld32((slot_1 + 40)); r_38_2 = r_38_3; r_7w = r_38_5; r_un = ld64((slot_1 + 32)); r_o2 = ((u8 *)(uptr)ld64((slot_1 + 24))); goto l_arm_gc; }
-    r_dd = r_38_3;
-    r_5l = r_38_5;
-    goto l_capnp_1c;
-l_arm_gc:;
-    switch ((u8)((u8)r_7w & 3u)) {
-    case 0u: goto l_arm_4l;
+    u64 r_38_2 = ld64((slot_1 + 16));
+    u64 r_38_4 = ld64((slot_1 + 8));
+    if (ld8(slot_1) == 0u) { r_nz = ld32((slot_1 + 40)); r_tc = r_38_2; r_l8 = r_38_4; r_3g = ld64((slot_1 + 32)); r_n9 = ((u8 *)(uptr)ld64((slot_1 + 24))); goto l_arm_s6; }
+    r_gm = r_38_2;
+    r_dv = r_38_4;
+    goto l_capnp_up;
+l_arm_s6:;
+    switch ((u8)((u8)r_l8 & 3u)) {
+    case 0u: goto l_arm_62;
     case 1u: goto l_arm_z2;
-    case 2u: { r_xq = 0ull; r_5e = 0u; r_ty = 13u; goto l_arm_jn; }
-    case 3u: goto l_capnp_ah;
+    case 2u: { r_yl = 13u; goto l_capnp_ji; }
+    case 3u: goto l_capnp_f9;
     default: goto l_default_e1;
     }
-l_arm_4l:;
-    r_ep = (u64)(r_7w >> 32ull);
-    r_y6 = (u64)(r_7w >> 48ull);
-    if ((i32)a_4 < (i32)1u) { r_xq = 0ull; r_5e = 0u; r_ty = 26u; goto l_arm_jn; }
+l_arm_62:;
+    r_ep = (u64)(r_l8 >> 32ull);
+    r_y6 = (u64)(r_l8 >> 48ull);
+    if ((i32)a_4 < (i32)1u) { r_yl = 26u; goto l_capnp_ji; }
     r_lc_1 = ((r_ep & 65535ull) + r_y6);
-    if (((u64)(r_un >> 3ull) & 0xffffffffull) < (r_lc_1 + (u64)r_ag)) { r_xq = 0ull; r_5e = 0u; r_ty = 23u; goto l_arm_jn; }
+    if (((u64)(r_3g >> 3ull) & 0xffffffffull) < (r_lc_1 + (u64)r_nz)) { r_yl = 23u; goto l_capnp_ji; }
     if (t_pa) goto l_arm_7c;
     if (!(ld8(a_6) == 1u)) goto l_arm_7c;
     r_rq_1 = away(a_6, 8ull);
     r_52_2 = ld64(r_rq_1);
-    if (r_52_2 < r_lc_1) { r_xq = 0ull; r_5e = 0u; r_ty = 30u; goto l_arm_jn; }
+    if (r_52_2 < r_lc_1) { r_yl = 30u; goto l_capnp_ji; }
     st64(a_6, 1ull);
     st64(r_rq_1, (r_52_2 - r_lc_1));
 l_arm_7c:;
     if ((((u32)r_ep & 65535u) | (u32)r_y6) == 0u) goto l_then_s2;
     goto l_join_s2;
 l_arm_z2:;
-    switch_wl = (u8)((u8)(u64)(r_7w >> 32ull) & 7u);
-    r_ij = (u64)(r_7w >> 35ull);
+    switch_wl = (u8)((u8)(u64)(r_l8 >> 32ull) & 7u);
+    r_ij = (u64)(r_l8 >> 35ull);
     switch (switch_wl) {
-    case 7u: goto l_arm_ot;
-    case 6u: goto l_arm_3a;
-    case 0u: goto l_arm_ot_1;
+    case 7u: goto l_arm_gg;
+    case 6u: goto l_arm_0w;
+    case 0u: goto l_arm_gg_1;
     case 5u: goto l_arm_h9;
     case 4u: goto l_arm_h9_1;
     case 3u: goto l_arm_h9_2;
-    case 1u: { r_hn = 1ull; goto l_capnp_ot; }
+    case 1u: { r_7e = 1ull; goto l_capnp_gg; }
     case 2u: goto l_arm_h9_3;
     default: goto l_default_e1;
     }
-l_arm_ot:;
-    if ((i32)a_4 < (i32)1u) { r_xq = 0ull; r_5e = 0u; r_ty = 26u; goto l_arm_jn; }
+l_arm_gg:;
+    if ((i32)a_4 < (i32)1u) { r_yl = 26u; goto l_capnp_ji; }
     r_c4_1 = (r_ij + 1ull);
-    r_24_1 = (u64)r_ag;
-    r_gw_2 = (u64)(r_un >> 3ull);
-    if ((r_gw_2 & 0xffffffffull) < (r_c4_1 + r_24_1)) { r_xq = 0ull; r_5e = 0u; r_ty = 23u; goto l_arm_jn; }
+    r_24_1 = (u64)r_nz;
+    r_gw_2 = (u64)(r_3g >> 3ull);
+    if ((r_gw_2 & 0xffffffffull) < (r_c4_1 + r_24_1)) { r_yl = 23u; goto l_capnp_ji; }
     if (t_pa) goto l_arm_ga;
     if (!(ld8(a_6) == 1u)) goto l_arm_ga;
     r_rq_2 = away(a_6, 8ull);
     r_52_3 = ld64(r_rq_2);
-    if (!(r_52_3 > r_ij)) { r_xq = 0ull; r_5e = 0u; r_ty = 30u; goto l_arm_jn; }
+    if (!(r_52_3 > r_ij)) { r_yl = 30u; goto l_capnp_ji; }
     st64(a_6, 1ull);
     st64(r_rq_2, (r_52_3 - r_c4_1));
 l_arm_ga:;
     if (!(r_gw_2 > r_24_1)) { r_eh = 0ull; goto l_join_qm; }
-    u64 r_qw_1 = ld64((r_o2 + (i64)((u64)(r_24_1 << 3ull))));
+    u64 r_qw_1 = ld64((r_n9 + (i64)((u64)(r_24_1 << 3ull))));
     if ((r_qw_1 & 3ull) == 0ull) { r_eh = r_qw_1; goto l_join_qm; }
-    r_xq = 0ull;
-    r_5e = 0u;
-    r_ty = 11u;
-    goto l_arm_jn;
+    r_yl = 11u;
+    goto l_capnp_ji;
 l_join_qm:;
     t_c8 = (u32)((u32)r_eh >> 2u);
     r_ep_2 = (u64)(r_eh >> 32ull);
@@ -18509,102 +18511,111 @@ l_join_qm:;
     r_az_1 = ((u32)r_ep_2 & 65535u);
     r_68 = (r_az_1 + r_12_1);
     r_c0 = (u64)t_c8;
-    if (r_ij < ((u64)r_68 * r_c0)) { r_xq = 0ull; r_5e = 0u; r_ty = 10u; goto l_arm_jn; }
+    if (r_ij < ((u64)r_68 * r_c0)) { r_yl = 10u; goto l_capnp_ji; }
     if ((u8)((u8)t_pa | (u8)(r_68 != 0u))) goto l_arm_67;
     if (!(ld8(a_6) == 1u)) goto l_arm_67;
     r_rq_3 = away(a_6, 8ull);
     r_52_4 = ld64(r_rq_3);
-    if (r_52_4 < r_c0) { r_xq = 0ull; r_5e = 0u; r_ty = 30u; goto l_arm_jn; }
+    if (r_52_4 < r_c0) { r_yl = 30u; goto l_capnp_ji; }
     st64(a_6, 1ull);
     st64(r_rq_3, (r_52_4 - r_c0));
 l_arm_67:;
-    r_ll = (r_ag + 1u);
+    r_ll = (r_nz + 1u);
     t_xg = (u16)r_ep_2;
     r_py = (u16)r_y6_1;
     if (((u64)a_5 + 1ull) == (u64)r_ll) goto l_arm_bb;
     goto l_then_um;
-l_arm_3a:;
+l_arm_0w:;
     r_12_2 = (u32)r_ij;
-    if ((i32)a_4 < (i32)1u) { r_xq = 0ull; r_5e = 0u; r_ty = 26u; goto l_arm_jn; }
-    if (((u64)(r_un >> 3ull) & 0xffffffffull) < (r_ij + (u64)r_ag)) { r_xq = 0ull; r_5e = 0u; r_ty = 23u; goto l_arm_jn; }
+    if ((i32)a_4 < (i32)1u) { r_yl = 26u; goto l_capnp_ji; }
+    if (((u64)(r_3g >> 3ull) & 0xffffffffull) < (r_ij + (u64)r_nz)) { r_yl = 23u; goto l_capnp_ji; }
     if (t_pa) goto l_capnp_s2;
     if (!(ld8(a_6) == 1u)) goto l_capnp_s2;
     r_rq_4 = away(a_6, 8ull);
     r_52_5 = ld64(r_rq_4);
-    if (r_52_5 < r_ij) { r_xq = 0ull; r_5e = 0u; r_ty = 30u; goto l_arm_jn; }
+    if (r_52_5 < r_ij) { r_yl = 30u; goto l_capnp_ji; }
     st64(a_6, 1ull);
     st64(r_rq_4, (r_52_5 - r_ij));
     goto l_capnp_s2;
-l_arm_ot_1:;
-    if ((i32)a_4 < (i32)1u) { r_xq = 0ull; r_5e = 0u; r_ty = 26u; goto l_arm_jn; }
-    if (((u64)(r_un >> 3ull) & 0xffffffffull) < (u64)r_ag) { r_xq = 0ull; r_5e = 0u; r_ty = 23u; goto l_arm_jn; }
-    if (t_pa) { r_xq_1 = 0u; goto l_arm_s2; }
-    if (!(ld8(a_6) == 1u)) { r_xq_1 = 0u; goto l_arm_s2; }
+l_arm_gg_1:;
+    if ((i32)a_4 < (i32)1u) { r_yl = 26u; goto l_capnp_ji; }
+    if (((u64)(r_3g >> 3ull) & 0xffffffffull) < (u64)r_nz) { r_yl = 23u; goto l_capnp_ji; }
+    if (t_pa) { r_xq = 0u; goto l_arm_s2; }
+    if (!(ld8(a_6) == 1u)) { r_xq = 0u; goto l_arm_s2; }
     st64(a_6, 1ull);
     r_rq_5 = away(a_6, 8ull);
     r_52_6 = ld64(r_rq_5);
-    if (r_52_6 < r_ij) { r_xq = 0ull; r_5e = 0u; r_ty = 30u; goto l_arm_jn; }
+    if (r_52_6 < r_ij) { r_yl = 30u; goto l_capnp_ji; }
     st64(r_rq_5, (r_52_6 - r_ij));
-    r_xq_1 = 0u;
+    r_xq = 0u;
     goto l_arm_s2;
 l_arm_h9_3:;
-    r_hn = 8ull;
-    goto l_capnp_ot;
+    r_7e = 8ull;
+    goto l_capnp_gg;
 l_arm_h9_2:;
-    r_hn = 16ull;
-    goto l_capnp_ot;
+    r_7e = 16ull;
+    goto l_capnp_gg;
 l_arm_h9_1:;
-    r_hn = 32ull;
-    goto l_capnp_ot;
+    r_7e = 32ull;
+    goto l_capnp_gg;
 l_arm_h9:;
-    r_hn = 64ull;
-l_capnp_ot:;
-    if ((i32)a_4 < (i32)1u) { r_xq = 0ull; r_5e = 0u; r_ty = 26u; goto l_arm_jn; }
-    r_c6 = (u64)(((r_hn * r_ij) + 63ull) >> 6ull);
-    if (((u64)(r_un >> 3ull) & 0xffffffffull) < (r_c6 + (u64)r_ag)) { r_xq = 0ull; r_5e = 0u; r_ty = 23u; goto l_arm_jn; }
-    if (t_pa) { r_xq_1 = switch_wl; goto l_arm_s2; }
-    if (!(ld8(a_6) == 1u)) { r_xq_1 = switch_wl; goto l_arm_s2; }
+    r_7e = 64ull;
+l_capnp_gg:;
+    if ((i32)a_4 < (i32)1u) { r_yl = 26u; goto l_capnp_ji; }
+    r_c6 = (u64)(((r_7e * r_ij) + 63ull) >> 6ull);
+    if (((u64)(r_3g >> 3ull) & 0xffffffffull) < (r_c6 + (u64)r_nz)) { r_yl = 23u; goto l_capnp_ji; }
+    if (t_pa) { r_xq = switch_wl; goto l_arm_s2; }
+    if (!(ld8(a_6) == 1u)) { r_xq = switch_wl; goto l_arm_s2; }
     r_rq_6 = away(a_6, 8ull);
     r_52_7 = ld64(r_rq_6);
-    if (r_52_7 < r_c6) { r_xq = 0ull; r_5e = 0u; r_ty = 30u; goto l_arm_jn; }
+    if (r_52_7 < r_c6) { r_yl = 30u; goto l_capnp_ji; }
     st64(a_6, 1ull);
     st64(r_rq_6, (r_52_7 - r_c6));
-    r_xq_1 = switch_wl;
+    r_xq = switch_wl;
     goto l_arm_s2;
 l_default_e1:;
     UNREACHABLE();
 l_capnp_8g:;
-    r_dd = 0ull;
-    r_5l = r_2g;
-l_capnp_1c:;
-    r_xq = r_dd;
-    r_5e = (u32)(u64)(r_5l >> 32ull);
-    r_ty = (u8)r_5l;
-    goto l_arm_jn;
-l_capnp_ah:;
-    if ((r_7w & 0xffffffffull) == 3ull) goto l_then_um;
-    r_xq = 0ull;
-    r_5e = 0u;
-    r_ty = 34u;
-    goto l_arm_jn;
+    r_gm = 0ull;
+    r_dv = r_2g;
+l_capnp_up:;
+    r_mr = ((u32)r_dv & 255u);
+    r_2n = r_gm;
+    r_id = (u32)(u64)(r_dv >> 32ull);
+    r_ru = (u8)r_dv;
+    goto l_arm_ud;
+l_capnp_ji:;
+    r_mr = (u32)r_yl;
+    r_2n = 0ull;
+    r_id = 0u;
+    r_ru = r_yl;
+    goto l_arm_ud;
+l_capnp_f9:;
+    u8 r_e6 = ((r_l8 & 0xffffffffull) == 3ull);
+    if (r_e6) goto l_then_um;
+    r_mr = (r_e6 ? 1u : 34u);
+    r_2n = 0ull;
+    r_id = 0u;
+    r_ru = 34u;
+    goto l_arm_ud;
 l_arm_s2:;
-    if (r_ag == a_5) goto l_arm_ei;
+    if (r_nz == a_5) goto l_arm_ei;
     goto l_then_um;
 l_then_s2:;
-    if (r_ag == a_2) goto l_arm_um;
+    if (r_nz == a_2) goto l_arm_um;
     goto l_then_um;
 l_join_s2:;
-    if (r_ag == a_5) goto l_arm_um;
+    if (r_nz == a_5) goto l_arm_um;
     goto l_then_um;
 l_capnp_s2:;
-    if (r_ag == a_5) goto l_arm_mp;
+    if (r_nz == a_5) goto l_arm_mp;
     goto l_then_um;
-l_arm_jn:;
-    u8 or_i7 = (u8)((u8)((a_3 & 3ull) == 1ull) & (u8)(r_ty == 26u));
+l_arm_ud:;
+    u8 or_i7 = (u8)((u8)((a_3 & 3ull) == 1ull) & (u8)(r_ru == 26u));
     st64(away(a_6, 24ull), 1ull);
-    st32(away(a_6, 32ull), (or_i7 ? 28u : (u32)r_ty));
-    st32(away(a_6, 36ull), (or_i7 ? 0u : r_5e));
-    st64(away(a_6, 40ull), (or_i7 ? 0ull : r_xq));
+    st32(away(a_6, 32ull), (or_i7 ? 28u : r_mr));
+    st32(away(a_6, 36ull), (or_i7 ? 0u : r_id));
+    st64(away(a_6, 40ull), (or_i7 ? 0ull : r_2n));
     r_us = 0u;
     r_1x = 1u;
     goto l_return_pr;
@@ -18620,13 +18631,13 @@ l_then_um:;
     goto l_return_pr;
 l_arm_ei:;
     r_xz_3 = away(a_6, 24ull);
-    u64 r_1q = (ld64((((u8 *)switch_table_capnp_pointers_pointers_canonical_test_li_c3e4b247) + (i64)(8 * (u64)r_xq_1))) * r_ij);
+    u64 r_1q = (ld64((((u8 *)switch_table_capnp_pointers_pointers_canonical_test_li_c3e4b247) + (i64)(8 * (u64)r_xq))) * r_ij);
     r_eh_1 = (a_5 + (u32)(u64)(r_1q >> 6ull));
     r_4i = (r_1q & 63ull);
     if (r_4i == 0ull) { r_us = r_eh_1; r_1x = 0u; goto l_return_pr; }
-    if (any8(v8_of((u64)(ld64((r_o2 + (i64)((u64)((u64)r_eh_1 << 3ull)))) >> (r_4i & 63u)))) == 0u) { r_us = (r_eh_1 + 1u); r_1x = 0u; goto l_return_pr; }
+    if (any8(v8_of((u64)(ld64((r_n9 + (i64)((u64)((u64)r_eh_1 << 3ull)))) >> (r_4i & 63u)))) == 0u) { r_us = (r_eh_1 + 1u); r_1x = 0u; goto l_return_pr; }
     st64(r_xz_3, 0ull);
-    st64(away(a_6, 32ull), r_38_2);
+    st64(away(a_6, 32ull), r_tc);
     st32(away(a_6, 40ull), r_eh_1);
     st8(away(a_6, 44ull), 7u);
     memset(away(a_6, 45ull), 0u, 3);
@@ -18645,7 +18656,7 @@ l_arm_bb:;
     u64 r_qw_4 = ld64(r_xz);
     st64(away(a_6, 24ull), 0ull);
     st64(away(a_6, 32ull), r_qw_4);
-    st32(away(a_6, 40ull), r_ag);
+    st32(away(a_6, 40ull), r_nz);
     st8(away(a_6, 44ull), 10u);
     memset(away(a_6, 45ull), 0u, 3);
     r_us = 0u;
@@ -19379,6 +19390,46 @@ l_join_6f:;
     return;
 }
 
+/* std_alloc::vec::Vec::grow_amortized::<#044c3d3b74b9c55e> */
+static NEVER COLD u8 std_alloc_vec_Vec_grow_amortized_044c3d3b74b9c55e(u8 *a_1, u64 a_2)
+{
+    u64 r_52;
+    u8 common_p7;
+    u8 *r_08;
+    u64 r_52_1;
+    u64 t_e0;
+    u64 common_za;
+    struct s_i64_i64 r_q0;
+    r_52 = ld64(away(a_1, 8ull));
+    if (a_2 > (r_52 ^ 0xffffffffffffffffull)) { common_p7 = 0u; goto l_common_57; }
+    goto l_join_4f;
+l_common_57:;
+    return common_p7;
+l_join_4f:;
+    r_08 = away(a_1, 16ull);
+    r_52_1 = ld64(r_08);
+    u64 a_by = umax64((r_52 + a_2), 8ull);
+    t_e0 = umax64(a_by, (u64)(r_52_1 << 1ull));
+    common_za = ((r_52_1 < 0x4000000000000000ull) ? t_e0 : a_by);
+    if (!((i64)common_za > (i64)0xffffffffffffffffull)) { common_p7 = 0u; goto l_common_57; }
+    if (r_52_1 == 0ull) goto l_std_aw;
+    struct s_i64_i64 r_fk = rattle_realloc(ldp(a_1), r_52, common_za, 1ull);
+    if ((u8)(r_fk.f0 & 1)) { r_q0 = r_fk; goto l_arm_m7; }
+    common_p7 = 0u;
+    goto l_common_57;
+l_std_aw:;
+    struct s_i64_i64 r_q1 = rattle_alloc(t_e0, 1ull);
+    struct s_i64_i64 r_1y = r_q1;
+    if ((u8)(r_1y.f0 & 1)) { r_q0 = r_1y; goto l_arm_m7; }
+    common_p7 = 0u;
+    goto l_common_57;
+l_arm_m7:;
+    stp(a_1, ((u8 *)(uptr)r_q0.f1));
+    st64(r_08, common_za);
+    common_p7 = 1u;
+    goto l_common_57;
+}
+
 /* capnp_messages::messages::copy_memory::CopySegment::zero_up_to */
 static NEVER COLD void capnp_messages_messages_copy_memory_CopySegment_zero_up_to(u8 *a_1, u64 a_2)
 {
@@ -19480,8 +19531,8 @@ static NEVER void capnp_copies_copy_copy_object_f91b20a4a575fbcb(u8 *a_1, u8 *a_
     u64 r_24;
     u64 r_gw;
     u64 r_qw_3;
-    u8 t_pa;
     u64 t_al;
+    u8 t_pa;
     u64 r_lc;
     u64 r_nb;
     u64 r_yz;
@@ -19531,16 +19582,16 @@ static NEVER void capnp_copies_copy_copy_object_f91b20a4a575fbcb(u8 *a_1, u8 *a_
     u8 *r_rq_6;
     u64 r_52_6;
     u64 r_2g;
-    u64 r_8y;
-    u64 r_f8;
+    u64 r_jg;
+    u64 r_6e;
     u8 *t_f6_3;
     u32 r_4w_2;
     u8 *r_xm_1;
     u8 r_sz;
-    u8 r_55;
-    u8 r_am;
-    u32 r_10;
-    u64 r_i9;
+    u8 r_10;
+    u32 r_kb;
+    u32 r_n4;
+    u64 r_yp;
     u64 r_q7_1;
     u64 r_lc_6;
     u64 r_z6_3;
@@ -19569,12 +19620,12 @@ static NEVER void capnp_copies_copy_copy_object_f91b20a4a575fbcb(u8 *a_1, u8 *a_
     u32 r_re;
     struct s_i8_i32 r_jz;
     u64 r_39;
-    u32 r_wt_1;
+    u32 r_wt_2;
     u32 r_4r_4;
-    u8 r_w3;
-    u8 r_fz;
-    u32 r_4q;
-    u64 r_lr;
+    u8 r_t8;
+    u8 r_hg;
+    u32 r_lc_8;
+    u64 r_nj;
     u8 *t_f6_5;
     u64 r_yo;
     u8 r_tw;
@@ -19610,8 +19661,8 @@ static NEVER void capnp_copies_copy_copy_object_f91b20a4a575fbcb(u8 *a_1, u8 *a_
     struct s_i8_i32 r_jz_2;
     u32 r_xo_2;
     u64 r_bq;
-    u32 r_k0_4;
-    u32 r_un;
+    u32 r_es_5;
+    u32 r_0i;
     u64 r_gw_9;
     u8 *r_x5_10;
     u8 *r_zd_5;
@@ -19625,12 +19676,12 @@ static NEVER void capnp_copies_copy_copy_object_f91b20a4a575fbcb(u8 *a_1, u8 *a_
     u8 r_sg;
     u8 *r_rq_8;
     u8 *r_x5_11;
-    u8 *r_k0_5;
+    u8 *r_k0_3;
     u8 *r_zd_6;
     u32 r_s1;
     u8 t_q5_2;
     u8 *r_x5_12;
-    u8 *r_k0_6;
+    u8 *r_k0_4;
     u8 *r_zd_7;
     u8 *r_ix_3;
     u8 *r_x5_13;
@@ -19642,7 +19693,7 @@ static NEVER void capnp_copies_copy_copy_object_f91b20a4a575fbcb(u8 *a_1, u8 *a_
     u8 *r_bk_1;
     u8 *r_6c_2;
     u8 *r_x5_14;
-    u8 *r_k0_7;
+    u8 *r_k0_5;
     u8 *r_zd_9;
     u8 t_0c_4;
     u8 r_2p_2;
@@ -19652,7 +19703,7 @@ static NEVER void capnp_copies_copy_copy_object_f91b20a4a575fbcb(u8 *a_1, u8 *a_
     u8 *r_su_4;
     u8 *r_r2_4;
     u8 *r_x5_15;
-    u8 *r_k0_8;
+    u8 *r_k0_6;
     u8 *r_zd_10;
     u8 *r_ix_4;
     u8 *t_6c_1;
@@ -19665,7 +19716,7 @@ static NEVER void capnp_copies_copy_copy_object_f91b20a4a575fbcb(u8 *a_1, u8 *a_
     u64 r_ep_5;
     u64 r_ij_1;
     u64 r_c6_5;
-    u64 r_lc_10;
+    u64 r_lc_11;
     u64 r_gk;
     u64 r_52_14;
     u64 r_z6_32;
@@ -19684,8 +19735,8 @@ static NEVER void capnp_copies_copy_copy_object_f91b20a4a575fbcb(u8 *a_1, u8 *a_
     u64 r_4i_1;
     u64 r_y6_2;
     u64 r_q7_2;
-    u64 r_lc_13;
-    u64 r_lc_14;
+    u64 r_lc_15;
+    u64 r_lc_16;
     u64 r_jm;
     u32 r_4r_5;
     u8 r_8u_7;
@@ -19703,19 +19754,19 @@ static NEVER void capnp_copies_copy_copy_object_f91b20a4a575fbcb(u8 *a_1, u8 *a_
     u8 r_qh;
     u32 r_ip;
     u64 r_wq;
-    u8 r_w3_2;
-    u8 r_w3_1;
-    u32 r_fz_1;
-    u64 r_4q_1;
-    u64 t_mj;
-    u32 t_y5;
-    u8 r_nu;
-    u8 t_g2;
+    u8 r_t8_2;
+    u8 r_t8_1;
+    u32 r_hg_1;
+    u64 r_lc_12;
+    u64 t_pz;
+    u32 t_fy;
+    u8 r_1l;
+    u8 t_ry;
     u64 r_q7_3;
     u32 r_i4;
     u64 r_pi;
     u16 r_jc;
-    u16 r_qp;
+    u16 r_qp_1;
     u64 r_u7_1;
     u64 r_z6_37;
     u8 *r_c0_11;
@@ -19729,7 +19780,7 @@ static NEVER void capnp_copies_copy_copy_object_f91b20a4a575fbcb(u8 *a_1, u8 *a_
     u8 *r_c0_12;
     u64 r_nm_7;
     u64 r_nm_8;
-    u64 r_a3_1;
+    u64 r_a3;
     u16 r_rn;
     u16 r_rp;
     u32 r_00;
@@ -19777,7 +19828,7 @@ static NEVER void capnp_copies_copy_copy_object_f91b20a4a575fbcb(u8 *a_1, u8 *a_
     u8 r_sg_1;
     u8 *r_rq_9;
     u8 *r_x5_19;
-    u8 *r_k0_10;
+    u8 *r_k0_8;
     u8 *r_zd_13;
     u32 r_s1_1;
     u8 r_2p_8;
@@ -19788,7 +19839,7 @@ static NEVER void capnp_copies_copy_copy_object_f91b20a4a575fbcb(u8 *a_1, u8 *a_
     u8 *r_su_6;
     u8 *r_r2_6;
     u8 *r_x5_20;
-    u8 *r_k0_11;
+    u8 *r_k0_9;
     u8 *r_zd_14;
     u8 *r_ix_6;
     u8 *r_x5_21;
@@ -19800,11 +19851,11 @@ static NEVER void capnp_copies_copy_copy_object_f91b20a4a575fbcb(u8 *a_1, u8 *a_
     u8 *r_bk_2;
     u8 *r_6c_4;
     u8 *r_x5_22;
-    u8 *r_k0_12;
+    u8 *r_k0_10;
     u8 *r_zd_16;
     u8 t_0c_8;
     u8 *r_x5_23;
-    u8 *r_k0_13;
+    u8 *r_k0_11;
     u8 *r_zd_17;
     u8 *r_ix_7;
     u64 wide_u7;
@@ -19824,7 +19875,7 @@ static NEVER void capnp_copies_copy_copy_object_f91b20a4a575fbcb(u8 *a_1, u8 *a_
     u64 r_ep_6;
     u64 r_ij_2;
     u64 r_c6_8;
-    u64 r_lc_18;
+    u64 r_lc_20;
     u64 r_gk_1;
     u64 r_52_22;
     u64 r_z6_50;
@@ -19849,14 +19900,14 @@ static NEVER void capnp_copies_copy_copy_object_f91b20a4a575fbcb(u8 *a_1, u8 *a_
     u64 r_a5_2;
     u64 r_y6_3;
     u64 r_q7_4;
-    u64 r_lc_21;
-    u64 r_lc_22;
+    u64 r_lc_24;
+    u64 r_lc_25;
     u64 r_jm_1;
     u32 r_4r_6;
     u8 r_8u_9;
     u64 r_52_26;
     u32 r_5b_1;
-    u64 r_lc_24;
+    u64 r_lc_27;
     u64 r_z6_56;
     u8 *r_c0_15;
     u64 r_nm_10;
@@ -19882,20 +19933,24 @@ static NEVER void capnp_copies_copy_copy_object_f91b20a4a575fbcb(u8 *a_1, u8 *a_
     u32 r_xo_7;
     u64 r_a7_40;
     u64 r_39_1;
-    u32 r_wt_4;
+    u32 r_wt_5;
     u32 r_4r_7;
     u8 r_2b_1;
     u8 r_qh_1;
     u32 r_ip_1;
     u64 r_wq_1;
-    u8 r_w3_4;
-    u8 r_w3_3;
-    u32 r_fz_2;
-    u64 r_4q_2;
-    u64 t_mj_1;
-    u32 t_y5_1;
-    u8 r_nu_1;
-    u8 t_g2_1;
+    u8 r_t8_4;
+    u8 r_t8_3;
+    u32 r_hg_2;
+    u64 r_lc_21;
+    u64 t_pz_1;
+    u32 t_fy_1;
+    u8 r_1l_1;
+    u8 t_ry_1;
+    u8 r_5k_2;
+    u8 r_qp;
+    u32 r_7u;
+    u64 r_pz;
     r_dh = ld8(a_5);
     r_eg = (u64)r_dh;
     r_rv = ldp(away(a_5, 8ull));
@@ -19906,24 +19961,23 @@ static NEVER void capnp_copies_copy_copy_object_f91b20a4a575fbcb(u8 *a_1, u8 *a_
     r_5k = ld32(away(a_5, 56ull));
     r_24 = (u64)ld32(away(a_5, 48ull));
     r_gw = (u64)(r_qw_2 >> 3ull);
-    if (!(r_gw > r_24)) { r_55 = 0u; r_am = 0u; r_10 = 0u; r_i9 = 0ull; goto l_common_43; }
+    if (!(r_gw > r_24)) { r_5k_2 = 0u; r_qp = 0u; r_7u = 0u; r_pz = 0ull; goto l_join_1g; }
     r_qw_3 = ld64((r_rv_1 + (i64)((u64)(r_24 << 3ull))));
-    if (r_qw_3 == 0ull) { r_55 = 0u; r_am = 0u; r_10 = 0u; r_i9 = 0ull; goto l_common_43; }
+    if (r_qw_3 == 0ull) { r_5k_2 = 0u; r_qp = 0u; r_7u = 0u; r_pz = 0ull; goto l_join_1g; }
+    t_al = (u64)(uptr)r_rv_1;
+    memset(slot_1, 0u, 56);
     t_pa = (r_dh != 0u);
-    if (t_pa) goto l_capnp_s7;
+    if (t_pa) goto l_capnp_sm;
     u8 *r_08_1 = away(a_6, 16ull);
     st64(r_08_1, uadd_sat64(ld64(r_08_1), 1ull));
     if ((r_qw_3 & 3ull) == 2ull) goto l_capnp_bt;
-    goto l_join_c5;
-l_capnp_s7:;
-    memset((slot_1 + 24), 0u, 32);
-    if (!((r_qw_3 & 3ull) == 2ull)) goto l_join_c5;
+    goto l_join_bd;
+l_capnp_sm:;
+    if (!((r_qw_3 & 3ull) == 2ull)) goto l_join_bd;
     st32((slot_1 + 8), 32u);
-    st32((slot_1 + 12), 0u);
     r_2g = ld64((slot_1 + 8));
     goto l_capnp_8g;
-l_join_c5:;
-    t_al = (u64)(uptr)r_rv_1;
+l_join_bd:;
     u64 r_m6 = ((u64)(r_qw_3 >> 2ull) & 0x3fffffffull);
     r_lc = ((r_24 + 1ull) + r_m6);
     r_nb = (r_gw & 0xffffffffull);
@@ -19947,28 +20001,28 @@ l_capnp_bt:;
     u64 r_38_1 = ld64((slot_1 + 16));
     u64 r_38_2 = ld64((slot_1 + 8));
     if (ld8(slot_1) == 0u) { r_gx = ld32((slot_1 + 40)); r_qd = r_38_1; r_d4 = r_38_2; r_9h = ld64((slot_1 + 32)); r_27 = ld64((slot_1 + 24)); goto l_arm_wn; }
-    r_8y = r_38_1;
-    r_f8 = r_38_2;
-    goto l_capnp_v0;
+    r_jg = r_38_1;
+    r_6e = r_38_2;
+    goto l_capnp_qu;
 l_arm_wn:;
     switch ((u8)((u8)r_d4 & 3u)) {
     case 0u: goto l_arm_sz;
     case 1u: goto l_arm_z2;
-    case 2u: { r_55 = 13u; r_am = 1u; r_10 = 0u; r_i9 = 0ull; goto l_common_43; }
-    case 3u: goto l_capnp_30;
+    case 2u: { r_10 = 1u; r_kb = 13u; r_n4 = 0u; r_yp = 0ull; goto l_common_9c; }
+    case 3u: goto l_capnp_a6;
     default: goto l_default_e1;
     }
 l_arm_sz:;
     r_ep = (u64)(r_d4 >> 32ull);
     r_y6 = (u64)(r_d4 >> 48ull);
-    if ((i32)r_5k < (i32)1u) { r_55 = 26u; r_am = 1u; r_10 = 0u; r_i9 = 0ull; goto l_common_43; }
+    if ((i32)r_5k < (i32)1u) { r_10 = 1u; r_kb = 26u; r_n4 = 0u; r_yp = 0ull; goto l_common_9c; }
     r_lc_1 = ((r_ep & 65535ull) + r_y6);
-    if (((u64)(r_9h >> 3ull) & 0xffffffffull) < (r_lc_1 + (u64)r_gx)) { r_55 = 23u; r_am = 1u; r_10 = 0u; r_i9 = 0ull; goto l_common_43; }
+    if (((u64)(r_9h >> 3ull) & 0xffffffffull) < (r_lc_1 + (u64)r_gx)) { r_10 = 1u; r_kb = 23u; r_n4 = 0u; r_yp = 0ull; goto l_common_9c; }
     if (t_pa) goto l_arm_gk;
     if (!(ld8(a_6) == 1u)) goto l_arm_gk;
     r_rq_1 = away(a_6, 8ull);
     r_52_1 = ld64(r_rq_1);
-    if (r_52_1 < r_lc_1) { r_55 = 30u; r_am = 1u; r_10 = 0u; r_i9 = 0ull; goto l_common_43; }
+    if (r_52_1 < r_lc_1) { r_10 = 1u; r_kb = 30u; r_n4 = 0u; r_yp = 0ull; goto l_common_9c; }
     st64(a_6, 1ull);
     st64(r_rq_1, (r_52_1 - r_lc_1));
 l_arm_gk:;
@@ -19992,27 +20046,27 @@ l_arm_z2:;
     default: goto l_default_e1;
     }
 l_arm_gv:;
-    if ((i32)r_5k < (i32)1u) { r_55 = 26u; r_am = 1u; r_10 = 0u; r_i9 = 0ull; goto l_common_43; }
+    if ((i32)r_5k < (i32)1u) { r_10 = 1u; r_kb = 26u; r_n4 = 0u; r_yp = 0ull; goto l_common_9c; }
     r_c4_1 = (r_ij + 1ull);
     r_24_2 = (u64)r_gx;
     r_gw_2 = (u64)(r_9h >> 3ull);
-    if ((r_gw_2 & 0xffffffffull) < (r_c4_1 + r_24_2)) { r_55 = 23u; r_am = 1u; r_10 = 0u; r_i9 = 0ull; goto l_common_43; }
+    if ((r_gw_2 & 0xffffffffull) < (r_c4_1 + r_24_2)) { r_10 = 1u; r_kb = 23u; r_n4 = 0u; r_yp = 0ull; goto l_common_9c; }
     if (t_pa) goto l_arm_ga;
     if (!(ld8(a_6) == 1u)) goto l_arm_ga;
     r_rq_2 = away(a_6, 8ull);
     r_52_2 = ld64(r_rq_2);
-    if (!(r_52_2 > r_ij)) { r_55 = 30u; r_am = 1u; r_10 = 0u; r_i9 = 0ull; goto l_common_43; }
+    if (!(r_52_2 > r_ij)) { r_10 = 1u; r_kb = 30u; r_n4 = 0u; r_yp = 0ull; goto l_common_9c; }
     st64(a_6, 1ull);
     st64(r_rq_2, (r_52_2 - r_c4_1));
 l_arm_ga:;
     if (!(r_gw_2 > r_24_2)) { r_eh = 0ull; goto l_join_qm; }
     u64 r_qw_4 = ld64((((u8 *)(uptr)r_27) + (i64)((u64)(r_24_2 << 3ull))));
     if ((r_qw_4 & 3ull) == 0ull) { r_eh = r_qw_4; goto l_join_qm; }
-    r_55 = 11u;
-    r_am = 1u;
-    r_10 = 0u;
-    r_i9 = 0ull;
-    goto l_common_43;
+    r_10 = 1u;
+    r_kb = 11u;
+    r_n4 = 0u;
+    r_yp = 0ull;
+    goto l_common_9c;
 l_join_qm:;
     t_c8 = (u32)((u32)r_eh >> 2u);
     r_ep_2 = (u64)(r_eh >> 32ull);
@@ -20021,12 +20075,12 @@ l_join_qm:;
     r_az_1 = ((u32)r_ep_2 & 65535u);
     r_68 = (r_az_1 + r_12);
     r_c0 = (u64)t_c8;
-    if (r_ij < ((u64)r_68 * r_c0)) { r_55 = 10u; r_am = 1u; r_10 = 0u; r_i9 = 0ull; goto l_common_43; }
+    if (r_ij < ((u64)r_68 * r_c0)) { r_10 = 1u; r_kb = 10u; r_n4 = 0u; r_yp = 0ull; goto l_common_9c; }
     if ((u8)((u8)t_pa | (u8)(r_68 != 0u))) goto l_arm_ae;
     if (!(ld8(a_6) == 1u)) goto l_arm_ae;
     r_rq_3 = away(a_6, 8ull);
     r_52_3 = ld64(r_rq_3);
-    if (r_52_3 < r_c0) { r_55 = 30u; r_am = 1u; r_10 = 0u; r_i9 = 0ull; goto l_common_43; }
+    if (r_52_3 < r_c0) { r_10 = 1u; r_kb = 30u; r_n4 = 0u; r_yp = 0ull; goto l_common_9c; }
     st64(a_6, 1ull);
     st64(r_rq_3, (r_52_3 - r_c0));
 l_arm_ae:;
@@ -20042,25 +20096,25 @@ l_arm_ae:;
     goto l_capnp_4j;
 l_arm_lc:;
     r_12_1 = (u32)r_ij;
-    if ((i32)r_5k < (i32)1u) { r_55 = 26u; r_am = 1u; r_10 = 0u; r_i9 = 0ull; goto l_common_43; }
-    if (((u64)(r_9h >> 3ull) & 0xffffffffull) < (r_ij + (u64)r_gx)) { r_55 = 23u; r_am = 1u; r_10 = 0u; r_i9 = 0ull; goto l_common_43; }
+    if ((i32)r_5k < (i32)1u) { r_10 = 1u; r_kb = 26u; r_n4 = 0u; r_yp = 0ull; goto l_common_9c; }
+    if (((u64)(r_9h >> 3ull) & 0xffffffffull) < (r_ij + (u64)r_gx)) { r_10 = 1u; r_kb = 23u; r_n4 = 0u; r_yp = 0ull; goto l_common_9c; }
     if (t_pa) goto l_arm_57;
     if (!(ld8(a_6) == 1u)) goto l_arm_57;
     r_rq_4 = away(a_6, 8ull);
     r_52_4 = ld64(r_rq_4);
-    if (r_52_4 < r_ij) { r_55 = 30u; r_am = 1u; r_10 = 0u; r_i9 = 0ull; goto l_common_43; }
+    if (r_52_4 < r_ij) { r_10 = 1u; r_kb = 30u; r_n4 = 0u; r_yp = 0ull; goto l_common_9c; }
     st64(a_6, 1ull);
     st64(r_rq_4, (r_52_4 - r_ij));
     goto l_arm_57;
 l_arm_gv_1:;
-    if ((i32)r_5k < (i32)1u) { r_55 = 26u; r_am = 1u; r_10 = 0u; r_i9 = 0ull; goto l_common_43; }
-    if (((u64)(r_9h >> 3ull) & 0xffffffffull) < (u64)r_gx) { r_55 = 23u; r_am = 1u; r_10 = 0u; r_i9 = 0ull; goto l_common_43; }
+    if ((i32)r_5k < (i32)1u) { r_10 = 1u; r_kb = 26u; r_n4 = 0u; r_yp = 0ull; goto l_common_9c; }
+    if (((u64)(r_9h >> 3ull) & 0xffffffffull) < (u64)r_gx) { r_10 = 1u; r_kb = 23u; r_n4 = 0u; r_yp = 0ull; goto l_common_9c; }
     if (t_pa) goto l_arm_kb;
     if (!(ld8(a_6) == 1u)) goto l_arm_kb;
     st64(a_6, 1ull);
     r_rq_5 = away(a_6, 8ull);
     r_52_5 = ld64(r_rq_5);
-    if (r_52_5 < r_ij) { r_55 = 30u; r_am = 1u; r_10 = 0u; r_i9 = 0ull; goto l_common_43; }
+    if (r_52_5 < r_ij) { r_10 = 1u; r_kb = 30u; r_n4 = 0u; r_yp = 0ull; goto l_common_9c; }
     st64(r_rq_5, (r_52_5 - r_ij));
     goto l_arm_kb;
 l_arm_h9_3:;
@@ -20075,35 +20129,36 @@ l_arm_h9_1:;
 l_arm_h9:;
     r_v1 = 64ull;
 l_capnp_gv:;
-    if ((i32)r_5k < (i32)1u) { r_55 = 26u; r_am = 1u; r_10 = 0u; r_i9 = 0ull; goto l_common_43; }
+    if ((i32)r_5k < (i32)1u) { r_10 = 1u; r_kb = 26u; r_n4 = 0u; r_yp = 0ull; goto l_common_9c; }
     r_c6 = (u64)(((r_v1 * r_ij) + 63ull) >> 6ull);
-    if (((u64)(r_9h >> 3ull) & 0xffffffffull) < (r_c6 + (u64)r_gx)) { r_55 = 23u; r_am = 1u; r_10 = 0u; r_i9 = 0ull; goto l_common_43; }
+    if (((u64)(r_9h >> 3ull) & 0xffffffffull) < (r_c6 + (u64)r_gx)) { r_10 = 1u; r_kb = 23u; r_n4 = 0u; r_yp = 0ull; goto l_common_9c; }
     if (t_pa) goto l_arm_gk_1;
     if (!(ld8(a_6) == 1u)) goto l_arm_gk_1;
     r_rq_6 = away(a_6, 8ull);
     r_52_6 = ld64(r_rq_6);
-    if (r_52_6 < r_c6) { r_55 = 30u; r_am = 1u; r_10 = 0u; r_i9 = 0ull; goto l_common_43; }
+    if (r_52_6 < r_c6) { r_10 = 1u; r_kb = 30u; r_n4 = 0u; r_yp = 0ull; goto l_common_9c; }
     st64(a_6, 1ull);
     st64(r_rq_6, (r_52_6 - r_c6));
     goto l_arm_gk_1;
 l_default_e1:;
     UNREACHABLE();
 l_capnp_8g:;
-    r_8y = 0ull;
-    r_f8 = r_2g;
-l_capnp_v0:;
-    r_55 = (u8)r_f8;
-    r_am = 1u;
-    r_10 = (u32)(u64)(r_f8 >> 32ull);
-    r_i9 = r_8y;
-    goto l_common_43;
-l_capnp_30:;
-    if ((r_d4 & 0xffffffffull) == 3ull) goto l_arm_01;
-    r_55 = 34u;
-    r_am = 1u;
-    r_10 = 0u;
-    r_i9 = 0ull;
-    goto l_common_43;
+    r_jg = 0ull;
+    r_6e = r_2g;
+l_capnp_qu:;
+    r_10 = 1u;
+    r_kb = ((u32)r_6e & 255u);
+    r_n4 = (u32)(u64)(r_6e >> 32ull);
+    r_yp = r_jg;
+    goto l_common_9c;
+l_capnp_a6:;
+    u8 r_e6 = ((r_d4 & 0xffffffffull) == 3ull);
+    if (r_e6) goto l_arm_gt;
+    r_10 = 1u;
+    r_kb = (r_e6 ? 1u : 34u);
+    r_n4 = 0u;
+    r_yp = 0ull;
+    goto l_common_9c;
 l_arm_57:;
     t_f6_3 = ((u8 *)(uptr)r_27);
     r_4w_2 = (r_5k + 0xffffffffu);
@@ -20111,40 +20166,40 @@ l_arm_57:;
     r_sz = (a_3 == 0u);
     if (r_sz) goto l_then_1r;
     goto l_else_6q;
-l_arm_01:;
+l_arm_gt:;
     switch (a_7) {
     case 0u: goto l_arm_n7;
-    case 1u: { r_55 = a_7; r_am = a_7; r_10 = 0u; r_i9 = 0ull; goto l_common_43; }
-    case 2u: goto l_arm_wm;
+    case 1u: { r_5k_2 = a_7; r_qp = a_7; r_7u = 0u; r_pz = 0ull; goto l_join_1g; }
+    case 2u: goto l_arm_qu;
     default: goto l_noarm_e1;
     }
-l_common_43:;
-    st8(a_1, r_am);
-    st32(away(a_1, 8ull), (u32)r_55);
-    st32(away(a_1, 12ull), r_10);
-    st64(away(a_1, 16ull), r_i9);
+l_common_9c:;
+    st8(a_1, r_10);
+    st32(away(a_1, 8ull), r_kb);
+    st32(away(a_1, 12ull), r_n4);
+    st64(away(a_1, 16ull), r_yp);
     return;
 l_arm_n7:;
     if (!(a_3 == 0u)) goto l_else_6q_1;
     st64((ldp(away(a_2, 32ull)) + (i64)((u64)((u64)a_4 << 3ull))), r_d4);
-    r_55 = 0u;
-    r_am = 0u;
-    r_10 = 0u;
-    r_i9 = 0ull;
-    goto l_common_43;
+    r_5k_2 = 0u;
+    r_qp = 0u;
+    r_7u = 0u;
+    r_pz = 0ull;
+    goto l_join_1g;
 l_else_6q_1:;
     capnp_arena_arena_rows_set_word_in_4426f83c3c99ca57(ldp(away(a_2, 80ull)), ((u64)a_3 + 0xffffffffffffffffull), a_4, r_d4);
-    r_55 = 0u;
-    r_am = 0u;
-    r_10 = 0u;
-    r_i9 = 0ull;
-    goto l_common_43;
-l_arm_wm:;
-    r_55 = 34u;
-    r_am = 1u;
-    r_10 = 0u;
-    r_i9 = 0ull;
-    goto l_common_43;
+    r_5k_2 = 0u;
+    r_qp = 0u;
+    r_7u = 0u;
+    r_pz = 0ull;
+    goto l_join_1g;
+l_arm_qu:;
+    r_5k_2 = 1u;
+    r_qp = 34u;
+    r_7u = 0u;
+    r_pz = 0ull;
+    goto l_join_1g;
 l_noarm_e1:;
     UNREACHABLE();
 l_arm_e4:;
@@ -20255,14 +20310,14 @@ l_arm_ua:;
     capnp_arena_arena_builder_arena_impl_BuilderArenaImplB_658a37ea(a_2, a_3, a_4, (((u64)((u64)r_yf_4 << 32ull) | (u64)((u64)r_e3 << 3ull)) | 2ull));
     r_39 = ((u64)((u64)(r_e3 + 1u) << 32ull) | (u64)r_yf_4);
 l_arm_6m:;
-    r_wt_1 = (u32)r_39;
+    r_wt_2 = (u32)r_39;
     r_4r_4 = (u32)(u64)(r_39 >> 32ull);
     if ((r_ib & 65535ull) == 0ull) goto l_capnp_am;
-    capnp_arena_arena_builder_arena_impl_BuilderArenaImplB_310b59c4(a_2, r_wt_1, r_4r_4, away(t_f6, (u64)((u64)r_gx << 3ull)), ((u64)(r_ib << 3ull) & 0x7fff8ull));
+    capnp_arena_arena_builder_arena_impl_BuilderArenaImplB_310b59c4(a_2, r_wt_2, r_4r_4, away(t_f6, (u64)((u64)r_gx << 3ull)), ((u64)(r_ib << 3ull) & 0x7fff8ull));
 l_capnp_am:;
     memset(slot_1, 0u, 24);
     st64((slot_2 + 56), 0ull);
-    if (r_py_1 == 0u) { r_w3 = 0u; r_fz = 0u; r_4q = 0u; r_lr = 0ull; goto l_capnp_zr; }
+    if (r_py_1 == 0u) { r_t8 = 0u; r_hg = 0u; r_lc_8 = 0u; r_nj = 0ull; goto l_capnp_mp; }
     st64(slot_2, r_eg);
     stp((slot_2 + 8), r_rv);
     st64((slot_2 + 16), r_qw);
@@ -20272,23 +20327,23 @@ l_capnp_am:;
     st32((slot_2 + 48), (r_az + r_gx));
     st32((slot_2 + 52), 0u);
     st32((slot_2 + 56), r_4w);
-    capnp_copies_copy_children_copy_row_f91b20a4a575fbcb(slot_1, a_2, r_wt_1, (r_29 + r_4r_4), slot_2, r_py_1, a_6, a_7);
-    r_w3 = ld8(slot_1);
-    r_fz = ld8((slot_1 + 8));
-    r_4q = ld32((slot_1 + 12));
-    r_lr = ld64((slot_1 + 16));
-l_capnp_zr:;
-    r_55 = r_fz;
-    r_am = r_w3;
-    r_10 = r_4q;
-    r_i9 = r_lr;
-    goto l_common_43;
+    capnp_copies_copy_children_copy_row_f91b20a4a575fbcb(slot_1, a_2, r_wt_2, (r_29 + r_4r_4), slot_2, r_py_1, a_6, a_7);
+    r_t8 = ld8(slot_1);
+    r_hg = ld8((slot_1 + 8));
+    r_lc_8 = ld32((slot_1 + 12));
+    r_nj = ld64((slot_1 + 16));
+l_capnp_mp:;
+    r_5k_2 = r_t8;
+    r_qp = r_hg;
+    r_7u = r_lc_8;
+    r_pz = r_nj;
+    goto l_join_1g;
 l_arm_x3:;
-    r_55 = ld8((slot_1 + 8));
-    r_am = 1u;
-    r_10 = ld32((slot_1 + 12));
-    r_i9 = ld64((slot_1 + 16));
-    goto l_common_43;
+    r_5k_2 = 1u;
+    r_qp = ld8((slot_1 + 8));
+    r_7u = ld32((slot_1 + 12));
+    r_pz = ld64((slot_1 + 16));
+    goto l_join_1g;
 l_arm_kb:;
     r_yo = 0ull;
     r_tw = 0u;
@@ -20409,19 +20464,19 @@ l_switch_h7:;
     u64 r_1q = (ld64((((u8 *)switch_table_capnp_copies_copy_copy_object_f91b20a4a575fbcb) + (i64)(8 * r_yo))) * r_ij);
     capnp_arena_arena_builder_arena_impl_BuilderArenaImplB_310b59c4(a_2, r_so, r_dk, r_l2, r_nm_4);
     r_4i = (r_1q & 63ull);
-    if (r_4i == 0ull) { r_55 = 0u; r_am = 0u; r_10 = 0u; r_i9 = 0ull; goto l_common_43; }
+    if (r_4i == 0ull) { r_5k_2 = 0u; r_qp = 0u; r_7u = 0u; r_pz = 0ull; goto l_join_1g; }
     capnp_arena_arena_builder_arena_impl_BuilderArenaImplB_658a37ea(a_2, r_so, (r_dk + (u32)t_0f), (ld64((r_l2 + (i64)((u64)(t_0f << 3ull)))) & ((u64)(0xffffffffffffffffull << (r_4i & 63u)) ^ 0xffffffffffffffffull)));
-    r_55 = 0u;
-    r_am = 0u;
-    r_10 = 0u;
-    r_i9 = 0ull;
-    goto l_common_43;
+    r_5k_2 = 0u;
+    r_qp = 0u;
+    r_7u = 0u;
+    r_pz = 0ull;
+    goto l_join_1g;
 l_arm_x3_1:;
-    r_55 = ld8((slot_1 + 8));
-    r_am = 1u;
-    r_10 = ld32((slot_1 + 12));
-    r_i9 = ld64((slot_1 + 16));
-    goto l_common_43;
+    r_5k_2 = 1u;
+    r_qp = ld8((slot_1 + 8));
+    r_7u = ld32((slot_1 + 12));
+    r_pz = ld64((slot_1 + 16));
+    goto l_join_1g;
 l_then_1r:;
     r_h6_2 = away(a_2, 64ull);
     r_yf_9 = ld32(r_h6_2);
@@ -20451,14 +20506,14 @@ l_capnp_c2_2:;
     r_bq = (((r_d4 & 0xfffffff800000000ull) | (u64)(u32)((r_xo_2 + (a_4 ^ 0xffffffffu)) << 2u)) | 0x600000001ull);
     if (!r_sz) goto l_else_6q_6;
     st64((ldp(r_xm_1) + (i64)((u64)((u64)a_4 << 3ull))), r_bq);
-    r_k0_4 = r_xo_2;
-    r_un = 0u;
-    goto l_arm_ss;
+    r_es_5 = r_xo_2;
+    r_0i = 0u;
+    goto l_arm_3e;
 l_else_6q_6:;
     capnp_arena_arena_rows_set_word_in_4426f83c3c99ca57(ldp(away(a_2, 80ull)), ((u64)a_3 + 0xffffffffffffffffull), a_4, r_bq);
-    r_k0_4 = r_xo_2;
-    r_un = a_3;
-    goto l_arm_ss;
+    r_es_5 = r_xo_2;
+    r_0i = a_3;
+    goto l_arm_3e;
 l_arm_ua_2:;
     capnp_arena_arena_builder_arena_impl_BuilderArenaImplB_7b1ceaa0(slot_1, a_2, (r_12_1 + 1u));
     if (!(ld8(slot_1) == 0u)) goto l_arm_x3_2;
@@ -20466,10 +20521,10 @@ l_arm_ua_2:;
     u32 r_e3_2 = ld32((slot_1 + 8));
     capnp_arena_arena_builder_arena_impl_BuilderArenaImplB_658a37ea(a_2, r_yf_12, r_e3_2, ((r_d4 & 0xfffffff800000000ull) | 0x600000001ull));
     capnp_arena_arena_builder_arena_impl_BuilderArenaImplB_658a37ea(a_2, a_3, a_4, (((u64)((u64)r_yf_12 << 32ull) | (u64)((u64)r_e3_2 << 3ull)) | 2ull));
-    r_k0_4 = (r_e3_2 + 1u);
-    r_un = r_yf_12;
-l_arm_ss:;
-    if (r_ij == 0ull) { r_55 = 0u; r_am = 0u; r_10 = 0u; r_i9 = 0ull; goto l_common_43; }
+    r_es_5 = (r_e3_2 + 1u);
+    r_0i = r_yf_12;
+l_arm_3e:;
+    if (r_ij == 0ull) { r_5k_2 = 0u; r_qp = 0u; r_7u = 0u; r_pz = 0ull; goto l_join_1g; }
     r_gw_9 = (u64)(r_9h >> 3ull);
     r_x5_10 = (slot_4 + 8);
     r_zd_5 = (slot_4 + 16);
@@ -20483,12 +20538,12 @@ l_arm_ss:;
     r_sg = (r_5k == 1u);
     r_rq_8 = away(a_6, 8ull);
     r_x5_11 = (slot_3 + 8);
-    r_k0_5 = (slot_3 + 12);
+    r_k0_3 = (slot_3 + 12);
     r_zd_6 = (slot_3 + 16);
     r_s1 = (r_5k + 0xfffffffeu);
     t_q5_2 = (a_7 == 1u);
     r_x5_12 = (slot_1 + 8);
-    r_k0_6 = (slot_1 + 12);
+    r_k0_4 = (slot_1 + 12);
     r_zd_7 = (slot_1 + 16);
     r_ix_3 = (slot_1 + 4);
     r_x5_13 = (slot_2 + 8);
@@ -20500,30 +20555,30 @@ l_arm_ss:;
     r_bk_1 = (slot_2 + 52);
     r_6c_2 = (slot_2 + 56);
     r_x5_14 = (slot_1 + 8);
-    r_k0_7 = (slot_1 + 12);
+    r_k0_5 = (slot_1 + 12);
     r_zd_9 = (slot_1 + 16);
     t_0c_4 = (r_dh == 0u);
-    r_2p_2 = (r_un == 0u);
+    r_2p_2 = (r_0i == 0u);
     r_yf_13 = away(a_2, 80ull);
-    r_0f_11 = ((u64)r_un + 0xffffffffffffffffull);
+    r_0f_11 = ((u64)r_0i + 0xffffffffffffffffull);
     r_h6_3 = away(a_2, 64ull);
     r_su_4 = away(a_2, 40ull);
     r_r2_4 = away(a_2, 56ull);
     r_x5_15 = (slot_1 + 8);
-    r_k0_8 = (slot_1 + 12);
+    r_k0_6 = (slot_1 + 12);
     r_zd_10 = (slot_1 + 16);
     r_ix_4 = (slot_1 + 4);
     t_6c_1 = (slot_4 + 56);
     t_6c_2 = (slot_2 + 56);
     indvars_eg = 0ull;
     goto l_join_1e;
-l_loop_d6:;
+l_loop_qw:;
     u64 indvars_r7 = (indvars_eg + 1ull);
-    if (indvars_r7 == r_ij) { r_55 = 0u; r_am = 0u; r_10 = 0u; r_i9 = 0ull; goto l_common_43; }
+    if (indvars_r7 == r_ij) { r_5k_2 = 0u; r_qp = 0u; r_7u = 0u; r_pz = 0ull; goto l_join_1g; }
     indvars_eg = indvars_r7;
 l_join_1e:;
     u32 t_s7 = (u32)indvars_eg;
-    r_sr_3 = (r_k0_4 + t_s7);
+    r_sr_3 = (r_es_5 + t_s7);
     r_24_30 = (u64)(r_gx + t_s7);
     memset(slot_3, 0u, 24);
     st64(t_6c_1, 0ull);
@@ -20535,26 +20590,26 @@ l_join_1e:;
     if (!((switch_f9_3 == 1ull) ? ((u8)((u8)((u8)r_ep_5 & 7u) + 255u) < 5u) : 0u)) goto l_join_br;
     r_ij_1 = (u64)(r_qw_12 >> 35ull);
     r_c6_5 = (u64)(((ld64(away(away(((u8 *)switch_table_capnp_pointers_pointers_sizes_add_pointer_917c2253), 8 * (r_ep_5 & 7ull)), 0xfffffffffffffff8ull)) * r_ij_1) + 63ull) >> 6ull);
-    if (!t_0c_4) goto l_join_bd;
+    if (!t_0c_4) goto l_join_bd_1;
     st64(r_08_3, uadd_sat64(ld64(r_08_3), 1ull));
-l_join_bd:;
+l_join_bd_1:;
     u64 r_m6_1 = ((u64)(r_qw_12 >> 2ull) & 0x3fffffffull);
-    r_lc_10 = ((r_24_30 + 1ull) + r_m6_1);
+    r_lc_11 = ((r_24_30 + 1ull) + r_m6_1);
     if (!(r_m6_1 < 0x20000000ull)) goto l_else_70_1;
-    if (r_lc_10 > r_nb_7) { r_w3_1 = 23u; r_fz_1 = 0u; r_4q_1 = 0ull; goto l_capnp_zr_1; }
-    r_gk = r_lc_10;
+    if (r_lc_11 > r_nb_7) { r_t8_1 = 23u; r_hg_1 = 0u; r_lc_12 = 0ull; goto l_capnp_mp_1; }
+    r_gk = r_lc_11;
     goto l_arm_vo;
 l_else_70_1:;
-    u64 r_3o_1 = (r_lc_10 + 0xffffffffc0000000ull);
-    if ((r_lc_10 < 0x40000000ull) ? 1u : (r_3o_1 > r_nb_7)) { r_w3_1 = 23u; r_fz_1 = 0u; r_4q_1 = 0ull; goto l_capnp_zr_1; }
+    u64 r_3o_1 = (r_lc_11 + 0xffffffffc0000000ull);
+    if ((r_lc_11 < 0x40000000ull) ? 1u : (r_3o_1 > r_nb_7)) { r_t8_1 = 23u; r_hg_1 = 0u; r_lc_12 = 0ull; goto l_capnp_mp_1; }
     r_gk = r_3o_1;
 l_arm_vo:;
-    if (r_sg) { r_w3_1 = 26u; r_fz_1 = 0u; r_4q_1 = 0ull; goto l_capnp_zr_1; }
-    if (r_nb_7 < (r_gk + r_c6_5)) { r_w3_1 = 23u; r_fz_1 = 0u; r_4q_1 = 0ull; goto l_capnp_zr_1; }
+    if (r_sg) { r_t8_1 = 26u; r_hg_1 = 0u; r_lc_12 = 0ull; goto l_capnp_mp_1; }
+    if (r_nb_7 < (r_gk + r_c6_5)) { r_t8_1 = 23u; r_hg_1 = 0u; r_lc_12 = 0ull; goto l_capnp_mp_1; }
     if (!t_0c_4) goto l_arm_p5;
     if (!(ld8(a_6) == 1u)) goto l_arm_p5;
     r_52_14 = ld64(r_rq_8);
-    if (r_52_14 < r_c6_5) { r_w3_1 = 30u; r_fz_1 = 0u; r_4q_1 = 0ull; goto l_capnp_zr_1; }
+    if (r_52_14 < r_c6_5) { r_t8_1 = 30u; r_hg_1 = 0u; r_lc_12 = 0ull; goto l_capnp_mp_1; }
     st64(a_6, 1ull);
     st64(r_rq_8, (r_52_14 - r_c6_5));
 l_arm_p5:;
@@ -20587,9 +20642,9 @@ l_else_xr:;
 l_capnp_h1:;
     if (!(r_pp.f0 == 1u)) goto l_arm_ua_3;
     u32 r_xo_3 = r_pp.f1;
-    capnp_arena_arena_builder_arena_impl_BuilderArenaImplB_658a37ea(a_2, r_un, r_sr_3, ((r_qw_12 & 0xffffffff00000001ull) | (u64)(u32)((r_xo_3 + (r_sr_3 ^ 0xffffffffu)) << 2u)));
+    capnp_arena_arena_builder_arena_impl_BuilderArenaImplB_658a37ea(a_2, r_0i, r_sr_3, ((r_qw_12 & 0xffffffff00000001ull) | (u64)(u32)((r_xo_3 + (r_sr_3 ^ 0xffffffffu)) << 2u)));
     r_wf_2 = r_xo_3;
-    r_8w = r_un;
+    r_8w = r_0i;
     goto l_arm_lz;
 l_arm_ua_3:;
     capnp_arena_arena_builder_arena_impl_BuilderArenaImplB_7b1ceaa0(slot_1, a_2, (r_12_4 + 1u));
@@ -20597,7 +20652,7 @@ l_arm_ua_3:;
     u32 r_yf_15 = ld32(r_ix_4);
     u32 r_e3_3 = ld32(r_x5_15);
     capnp_arena_arena_builder_arena_impl_BuilderArenaImplB_658a37ea(a_2, r_yf_15, r_e3_3, (r_qw_12 & 0xffffffff00000001ull));
-    capnp_arena_arena_builder_arena_impl_BuilderArenaImplB_658a37ea(a_2, r_un, r_sr_3, (((u64)((u64)r_yf_15 << 32ull) | (u64)((u64)r_e3_3 << 3ull)) | 2ull));
+    capnp_arena_arena_builder_arena_impl_BuilderArenaImplB_658a37ea(a_2, r_0i, r_sr_3, (((u64)((u64)r_yf_15 << 32ull) | (u64)((u64)r_e3_3 << 3ull)) | 2ull));
     r_wf_2 = (r_e3_3 + 1u);
     r_8w = r_yf_15;
 l_arm_lz:;
@@ -20609,42 +20664,42 @@ l_arm_lz:;
     capnp_arena_arena_builder_arena_impl_BuilderArenaImplB_658a37ea(a_2, r_8w, (r_wf_2 + (u32)r_0f_12), (ld64((r_8a + (i64)((u64)(r_0f_12 << 3ull)))) & ((u64)(0xffffffffffffffffull << (r_4i_1 & 63u)) ^ 0xffffffffffffffffull)));
     goto l_capnp_v7;
 l_arm_vh:;
-    r_w3_1 = ld8(r_x5_15);
-    r_fz_1 = ld32(r_k0_8);
-    r_4q_1 = ld64(r_zd_10);
-    goto l_capnp_zr_1;
+    r_t8_1 = ld8(r_x5_15);
+    r_hg_1 = ld32(r_k0_6);
+    r_lc_12 = ld64(r_zd_10);
+    goto l_capnp_mp_1;
 l_join_br:;
     if (!(switch_f9_3 == 0ull)) goto l_else_4r;
     r_y6_2 = (u64)(r_qw_12 >> 48ull);
     r_q7_2 = (r_ep_5 & 65535ull);
-    r_lc_13 = (r_q7_2 + r_y6_2);
+    r_lc_15 = (r_q7_2 + r_y6_2);
     if (t_pa) goto l_join_o1;
     st64(r_08_3, uadd_sat64(ld64(r_08_3), 1ull));
 l_join_o1:;
     u64 r_m6_2 = ((u64)(r_qw_12 >> 2ull) & 0x3fffffffull);
-    r_lc_14 = ((r_24_30 + 1ull) + r_m6_2);
+    r_lc_16 = ((r_24_30 + 1ull) + r_m6_2);
     if (!(r_m6_2 < 0x20000000ull)) goto l_else_70_2;
-    if (r_lc_14 > r_nb_7) { r_w3_2 = 23u; goto l_capnp_zr_2; }
-    r_jm = r_lc_14;
+    if (r_lc_16 > r_nb_7) { r_t8_2 = 23u; goto l_capnp_mp_2; }
+    r_jm = r_lc_16;
     goto l_arm_h8;
 l_else_70_2:;
-    u64 r_3o_2 = (r_lc_14 + 0xffffffffc0000000ull);
-    if ((r_lc_14 < 0x40000000ull) ? 1u : (r_3o_2 > r_nb_7)) { r_w3_2 = 23u; goto l_capnp_zr_2; }
+    u64 r_3o_2 = (r_lc_16 + 0xffffffffc0000000ull);
+    if ((r_lc_16 < 0x40000000ull) ? 1u : (r_3o_2 > r_nb_7)) { r_t8_2 = 23u; goto l_capnp_mp_2; }
     r_jm = r_3o_2;
 l_arm_h8:;
     r_4r_5 = (u32)r_jm;
-    if (r_sg) { r_w3_2 = 26u; goto l_capnp_zr_2; }
-    r_8u_7 = (r_nb_7 < (r_jm + r_lc_13));
+    if (r_sg) { r_t8_2 = 26u; goto l_capnp_mp_2; }
+    r_8u_7 = (r_nb_7 < (r_jm + r_lc_15));
     if ((u8)((u8)t_pa | (u8)r_8u_7)) goto l_capnp_li;
     if (!(ld8(a_6) == 1u)) { r_5b = r_4r_5; goto l_arm_7a; }
     r_52_18 = ld64(r_rq_8);
-    if (r_52_18 < r_lc_13) { r_w3_2 = 30u; goto l_capnp_zr_2; }
+    if (r_52_18 < r_lc_15) { r_t8_2 = 30u; goto l_capnp_mp_2; }
     st64(a_6, 1ull);
-    st64(r_rq_8, (r_52_18 - r_lc_13));
+    st64(r_rq_8, (r_52_18 - r_lc_15));
     r_5b = r_4r_5;
     goto l_arm_7a;
 l_capnp_li:;
-    if (r_8u_7) { r_w3_2 = 23u; goto l_capnp_zr_2; }
+    if (r_8u_7) { r_t8_2 = 23u; goto l_capnp_mp_2; }
     r_5b = (r_8u_7 ? 0u : r_4r_5);
 l_arm_7a:;
     if (!t_q5_2) { r_6o = r_ep_5; r_a1 = r_y6_2; goto l_capnp_dw; }
@@ -20658,17 +20713,17 @@ l_capnp_dw:;
     r_az_2 = ((u32)r_a1 & 65535u);
     r_68_2 = (r_az_2 + r_29_1);
     if (!(r_68_2 == 0u)) goto l_join_av;
-    capnp_arena_arena_builder_arena_impl_BuilderArenaImplB_658a37ea(a_2, r_un, r_sr_3, 0xfffffffcull);
+    capnp_arena_arena_builder_arena_impl_BuilderArenaImplB_658a37ea(a_2, r_0i, r_sr_3, 0xfffffffcull);
     r_z2 = r_sr_3;
-    sink_1r = r_un;
+    sink_1r = r_0i;
     goto l_arm_de;
 l_join_av:;
-    r_fd = capnp_arena_arena_builder_arena_impl_BuilderArenaImplB_87b91857(a_2, r_un, r_68_2);
+    r_fd = capnp_arena_arena_builder_arena_impl_BuilderArenaImplB_87b91857(a_2, r_0i, r_68_2);
     if (!(r_fd.f0 == 1u)) goto l_arm_ua_4;
     u32 r_xo_4 = r_fd.f1;
-    capnp_arena_arena_builder_arena_impl_BuilderArenaImplB_658a37ea(a_2, r_un, r_sr_3, ((((u64)(r_6o << 32ull) & 0xffff00000000ull) | (u64)(r_a1 << 48ull)) | (u64)(u32)((r_xo_4 + (r_sr_3 ^ 0xffffffffu)) << 2u)));
+    capnp_arena_arena_builder_arena_impl_BuilderArenaImplB_658a37ea(a_2, r_0i, r_sr_3, ((((u64)(r_6o << 32ull) & 0xffff00000000ull) | (u64)(r_a1 << 48ull)) | (u64)(u32)((r_xo_4 + (r_sr_3 ^ 0xffffffffu)) << 2u)));
     r_z2 = r_xo_4;
-    sink_1r = r_un;
+    sink_1r = r_0i;
     goto l_arm_de;
 l_arm_ua_4:;
     capnp_arena_arena_builder_arena_impl_BuilderArenaImplB_7b1ceaa0(slot_1, a_2, (r_68_2 + 1u));
@@ -20676,7 +20731,7 @@ l_arm_ua_4:;
     u32 r_yf_16 = ld32(r_ix_3);
     u32 r_e3_4 = ld32(r_x5_12);
     capnp_arena_arena_builder_arena_impl_BuilderArenaImplB_658a37ea(a_2, r_yf_16, r_e3_4, (((u64)(r_6o << 32ull) & 0xffff00000000ull) | (u64)(r_a1 << 48ull)));
-    capnp_arena_arena_builder_arena_impl_BuilderArenaImplB_658a37ea(a_2, r_un, r_sr_3, (((u64)((u64)r_yf_16 << 32ull) | (u64)((u64)r_e3_4 << 3ull)) | 2ull));
+    capnp_arena_arena_builder_arena_impl_BuilderArenaImplB_658a37ea(a_2, r_0i, r_sr_3, (((u64)((u64)r_yf_16 << 32ull) | (u64)((u64)r_e3_4 << 3ull)) | 2ull));
     r_z2 = (r_e3_4 + 1u);
     sink_1r = r_yf_16;
 l_arm_de:;
@@ -20698,26 +20753,26 @@ l_capnp_5c:;
     capnp_copies_copy_children_copy_row_f91b20a4a575fbcb(slot_1, a_2, sink_1r, (r_29_1 + r_z2), slot_2, r_az_2, a_6, a_7);
     r_2b = ld8(slot_1);
     r_qh = ld8(r_x5_14);
-    r_ip = ld32(r_k0_7);
+    r_ip = ld32(r_k0_5);
     r_wq = ld64(r_zd_9);
 l_capnp_no:;
-    t_mj = r_wq;
-    t_y5 = r_ip;
-    r_nu = r_qh;
-    t_g2 = r_2b;
-    goto l_capnp_hf;
+    t_pz = r_wq;
+    t_fy = r_ip;
+    r_1l = r_qh;
+    t_ry = r_2b;
+    goto l_capnp_rz;
 l_arm_vh_1:;
-    t_mj = ld64(r_zd_7);
-    t_y5 = ld32(r_k0_6);
-    r_nu = ld8(r_x5_12);
-    t_g2 = 1u;
-    goto l_capnp_hf;
-l_capnp_zr_2:;
-    r_55 = r_w3_2;
-    r_am = 1u;
-    r_10 = 0u;
-    r_i9 = 0ull;
-    goto l_common_43;
+    t_pz = ld64(r_zd_7);
+    t_fy = ld32(r_k0_4);
+    r_1l = ld8(r_x5_12);
+    t_ry = 1u;
+    goto l_capnp_rz;
+l_capnp_mp_2:;
+    r_5k_2 = 1u;
+    r_qp = r_t8_2;
+    r_7u = 0u;
+    r_pz = 0ull;
+    goto l_join_1g;
 l_else_4r:;
     st64(slot_4, r_eg);
     stp(r_x5_10, r_rv);
@@ -20727,45 +20782,45 @@ l_else_4r:;
     st64(r_a8_2, r_9h);
     st64(r_c4_3, r_24_30);
     st32(r_6c_1, r_4w_2);
-    capnp_copies_copy_copy_object_f91b20a4a575fbcb(slot_3, a_2, r_un, r_sr_3, slot_4, a_6, a_7);
-    t_mj = ld64(r_zd_6);
-    t_y5 = ld32(r_k0_5);
-    r_nu = ld8(r_x5_11);
-    t_g2 = ld8(slot_3);
-    goto l_capnp_hf;
+    capnp_copies_copy_copy_object_f91b20a4a575fbcb(slot_3, a_2, r_0i, r_sr_3, slot_4, a_6, a_7);
+    t_pz = ld64(r_zd_6);
+    t_fy = ld32(r_k0_3);
+    r_1l = ld8(r_x5_11);
+    t_ry = ld8(slot_3);
+    goto l_capnp_rz;
 l_capnp_v7:;
-    goto l_loop_d6;
-l_capnp_zr_1:;
-    r_55 = r_w3_1;
-    r_am = 1u;
-    r_10 = r_fz_1;
-    r_i9 = r_4q_1;
-    goto l_common_43;
-l_capnp_hf:;
-    if (t_g2 == 0u) goto l_loop_d6;
-    r_55 = r_nu;
-    r_am = 1u;
-    r_10 = t_y5;
-    r_i9 = t_mj;
-    goto l_common_43;
+    goto l_loop_qw;
+l_capnp_mp_1:;
+    r_5k_2 = 1u;
+    r_qp = r_t8_1;
+    r_7u = r_hg_1;
+    r_pz = r_lc_12;
+    goto l_join_1g;
+l_capnp_rz:;
+    if (t_ry == 0u) goto l_loop_qw;
+    r_5k_2 = 1u;
+    r_qp = r_1l;
+    r_7u = t_fy;
+    r_pz = t_pz;
+    goto l_join_1g;
 l_arm_x3_2:;
-    r_55 = ld8((slot_1 + 8));
-    r_am = 1u;
-    r_10 = ld32((slot_1 + 12));
-    r_i9 = ld64((slot_1 + 16));
-    goto l_common_43;
+    r_5k_2 = 1u;
+    r_qp = ld8((slot_1 + 8));
+    r_7u = ld32((slot_1 + 12));
+    r_pz = ld64((slot_1 + 16));
+    goto l_join_1g;
 l_arm_q5:;
     if ((u8)((u8)(t_c8 == 0u) | (u8)((u16)(r_py | r_xg) == 0u))) { r_rn = 0u; r_rp = 0u; goto l_capnp_4j; }
     r_q7_3 = (r_ep_2 & 65535ull);
     r_i4 = 0u;
     r_pi = (u64)r_ll;
     r_jc = 0u;
-    r_qp = 0u;
+    r_qp_1 = 0u;
 l_join_20:;
-    u16 r_to = (u16)(r_xg - r_qp);
+    u16 r_to = (u16)(r_xg - r_qp_1);
     r_u7_1 = (u64)r_to;
     r_z6_37 = (u64)(r_u7_1 << 3ull);
-    r_c0_11 = away(t_f6_2, (u64)((r_pi + (u64)r_qp) << 3ull));
+    r_c0_11 = away(t_f6_2, (u64)((r_pi + (u64)r_qp_1) << 3ull));
     if (r_to < 32u) { r_nm_5 = r_u7_1; goto l_loop_jc_4; }
     goto l_else_wj_2;
 l_loop_jc_4:;
@@ -20784,7 +20839,7 @@ l_loop_jc_5:;
     if (ld64((r_c0_11 + (i64)((u64)(r_0f_14 << 3ull)))) == 0ull) { r_nm_6 = r_0f_14; goto l_loop_jc_5; }
     r_xk = r_nm_6;
 l_capnp_k4:;
-    r_5f = (u16)(r_qp + (u16)r_xk);
+    r_5f = (u16)(r_qp_1 + (u16)r_xk);
     r_5q_5 = (r_pi + r_q7_3);
     u16 r_to_1 = (u16)(r_py - r_jc);
     r_u7_3 = (u64)r_to_1;
@@ -20793,28 +20848,28 @@ l_capnp_k4:;
     if (r_to_1 < 32u) { r_nm_7 = r_u7_3; goto l_loop_jc_6; }
     goto l_else_wj_3;
 l_loop_jc_6:;
-    if (r_nm_7 == 0ull) { r_a3_1 = 0ull; goto l_capnp_8b; }
+    if (r_nm_7 == 0ull) { r_a3 = 0ull; goto l_capnp_8b; }
     u64 r_0f_15 = (r_nm_7 + 0xffffffffffffffffull);
     if (ld64((r_c0_12 + (i64)((u64)(r_0f_15 << 3ull)))) == 0ull) { r_nm_7 = r_0f_15; goto l_loop_jc_6; }
-    r_a3_1 = r_nm_7;
+    r_a3 = r_nm_7;
     goto l_capnp_8b;
 l_else_wj_3:;
-    if (!(ld64(away(away(r_c0_12, r_z6_39), 0xfffffffffffffff8ull)) == 0ull)) { r_a3_1 = r_u7_3; goto l_capnp_8b; }
+    if (!(ld64(away(away(r_c0_12, r_z6_39), 0xfffffffffffffff8ull)) == 0ull)) { r_a3 = r_u7_3; goto l_capnp_8b; }
     u64 r_86_3 = capnp_words_lanes_end_of_blocks(r_c0_12, r_z6_39);
     r_nm_8 = r_86_3;
 l_loop_jc_7:;
-    if (r_nm_8 == 0ull) { r_a3_1 = 0ull; goto l_capnp_8b; }
+    if (r_nm_8 == 0ull) { r_a3 = 0ull; goto l_capnp_8b; }
     u64 r_0f_16 = (r_nm_8 + 0xffffffffffffffffull);
     if (ld64((r_c0_12 + (i64)((u64)(r_0f_16 << 3ull)))) == 0ull) { r_nm_8 = r_0f_16; goto l_loop_jc_7; }
-    r_a3_1 = r_nm_8;
+    r_a3 = r_nm_8;
 l_capnp_8b:;
-    u16 r_5f_1 = (u16)(r_jc + (u16)r_a3_1);
+    u16 r_5f_1 = (u16)(r_jc + (u16)r_a3);
     u32 r_ff_5 = (r_i4 + 1u);
     if (r_ff_5 == t_c8) { r_rn = r_5f; r_rp = r_5f_1; goto l_capnp_4j; }
     r_i4 = r_ff_5;
     r_pi = (r_5q_5 + r_y6_1);
     r_jc = r_5f_1;
-    r_qp = r_5f;
+    r_qp_1 = r_5f;
     goto l_join_20;
 l_capnp_4j:;
     r_00 = (u32)r_rn;
@@ -20898,7 +20953,7 @@ l_else_kj_1:;
 l_arm_5k:;
     r_ll_8 = (r_zf + 1u);
     r_68_4 = (r_az_1 + r_12);
-    if ((u8)((u8)(r_68_3 == 0u) | (u8)(t_c8 == 0u))) { r_55 = 0u; r_am = 0u; r_10 = 0u; r_i9 = 0ull; goto l_common_43; }
+    if ((u8)((u8)(r_68_3 == 0u) | (u8)(t_c8 == 0u))) { r_5k_2 = 0u; r_qp = 0u; r_7u = 0u; r_pz = 0ull; goto l_join_1g; }
     r_hi = (r_rn == 0u);
     r_z6_47 = (u64)(r_u7_4 << 3ull);
     r_hi_1 = (r_rp == 0u);
@@ -20915,7 +20970,7 @@ l_arm_5k:;
     r_sg_1 = (r_5k == 1u);
     r_rq_9 = away(a_6, 8ull);
     r_x5_19 = (slot_3 + 8);
-    r_k0_10 = (slot_3 + 12);
+    r_k0_8 = (slot_3 + 12);
     r_zd_13 = (slot_3 + 16);
     r_s1_1 = (r_5k + 0xfffffffeu);
     r_2p_8 = (r_21 == 0u);
@@ -20926,7 +20981,7 @@ l_arm_5k:;
     r_su_6 = away(a_2, 40ull);
     r_r2_6 = away(a_2, 56ull);
     r_x5_20 = (slot_1 + 8);
-    r_k0_11 = (slot_1 + 12);
+    r_k0_9 = (slot_1 + 12);
     r_zd_14 = (slot_1 + 16);
     r_ix_6 = (slot_1 + 4);
     r_x5_21 = (slot_2 + 8);
@@ -20938,11 +20993,11 @@ l_arm_5k:;
     r_bk_2 = (slot_2 + 52);
     r_6c_4 = (slot_2 + 56);
     r_x5_22 = (slot_1 + 8);
-    r_k0_12 = (slot_1 + 12);
+    r_k0_10 = (slot_1 + 12);
     r_zd_16 = (slot_1 + 16);
     t_0c_8 = (r_dh == 0u);
     r_x5_23 = (slot_1 + 8);
-    r_k0_13 = (slot_1 + 12);
+    r_k0_11 = (slot_1 + 12);
     r_zd_17 = (slot_1 + 16);
     r_ix_7 = (slot_1 + 4);
     wide_u7 = (u64)r_rp;
@@ -20951,9 +21006,9 @@ l_arm_5k:;
     t_6c_4 = (slot_2 + 56);
     indvars_ff = 0ull;
     goto l_join_hy;
-l_loop_d6_1:;
+l_loop_qw_1:;
     u64 indvars_r7_1 = (indvars_ff + 1ull);
-    if (indvars_r7_1 == r_c0_13) { r_55 = 0u; r_am = 0u; r_10 = 0u; r_i9 = 0ull; goto l_common_43; }
+    if (indvars_r7_1 == r_c0_13) { r_5k_2 = 0u; r_qp = 0u; r_7u = 0u; r_pz = 0ull; goto l_join_1g; }
     indvars_ff = indvars_r7_1;
 l_join_hy:;
     u32 t_nk = (u32)indvars_ff;
@@ -20964,12 +21019,12 @@ l_join_hy:;
 l_capnp_j9:;
     r_w0_13 = (r_w0_11 + r_az_1);
     r_w0_14 = (r_w0_12 + r_00);
-    if (r_hi_1) goto l_loop_d6_1;
+    if (r_hi_1) goto l_loop_qw_1;
     indvars_vm = 0ull;
     goto l_join_iw;
 l_loop_w2:;
     u64 indvars_r7_2 = (indvars_vm + 1ull);
-    if (indvars_r7_2 == wide_u7) goto l_loop_d6_1;
+    if (indvars_r7_2 == wide_u7) goto l_loop_qw_1;
     indvars_vm = indvars_r7_2;
 l_join_iw:;
     u32 t_nk_1 = (u32)indvars_vm;
@@ -20985,26 +21040,26 @@ l_join_iw:;
     if (!((switch_f9_4 == 1ull) ? ((u8)((u8)((u8)r_ep_6 & 7u) + 255u) < 5u) : 0u)) goto l_join_br_1;
     r_ij_2 = (u64)(r_qw_20 >> 35ull);
     r_c6_8 = (u64)(((ld64(away(away(((u8 *)switch_table_capnp_pointers_pointers_sizes_add_pointer_917c2253), 8 * (r_ep_6 & 7ull)), 0xfffffffffffffff8ull)) * r_ij_2) + 63ull) >> 6ull);
-    if (!t_0c_8) goto l_join_bd_1;
+    if (!t_0c_8) goto l_join_bd_2;
     st64(r_08_4, uadd_sat64(ld64(r_08_4), 1ull));
-l_join_bd_1:;
+l_join_bd_2:;
     u64 r_m6_3 = ((u64)(r_qw_20 >> 2ull) & 0x3fffffffull);
-    r_lc_18 = ((r_24_52 + 1ull) + r_m6_3);
+    r_lc_20 = ((r_24_52 + 1ull) + r_m6_3);
     if (!(r_m6_3 < 0x20000000ull)) goto l_else_70_3;
-    if (r_lc_18 > r_nb_8) { r_w3_3 = 23u; r_fz_2 = 0u; r_4q_2 = 0ull; goto l_capnp_zr_3; }
-    r_gk_1 = r_lc_18;
+    if (r_lc_20 > r_nb_8) { r_t8_3 = 23u; r_hg_2 = 0u; r_lc_21 = 0ull; goto l_capnp_mp_3; }
+    r_gk_1 = r_lc_20;
     goto l_arm_vo_1;
 l_else_70_3:;
-    u64 r_3o_3 = (r_lc_18 + 0xffffffffc0000000ull);
-    if ((r_lc_18 < 0x40000000ull) ? 1u : (r_3o_3 > r_nb_8)) { r_w3_3 = 23u; r_fz_2 = 0u; r_4q_2 = 0ull; goto l_capnp_zr_3; }
+    u64 r_3o_3 = (r_lc_20 + 0xffffffffc0000000ull);
+    if ((r_lc_20 < 0x40000000ull) ? 1u : (r_3o_3 > r_nb_8)) { r_t8_3 = 23u; r_hg_2 = 0u; r_lc_21 = 0ull; goto l_capnp_mp_3; }
     r_gk_1 = r_3o_3;
 l_arm_vo_1:;
-    if (r_sg_1) { r_w3_3 = 26u; r_fz_2 = 0u; r_4q_2 = 0ull; goto l_capnp_zr_3; }
-    if (r_nb_8 < (r_gk_1 + r_c6_8)) { r_w3_3 = 23u; r_fz_2 = 0u; r_4q_2 = 0ull; goto l_capnp_zr_3; }
+    if (r_sg_1) { r_t8_3 = 26u; r_hg_2 = 0u; r_lc_21 = 0ull; goto l_capnp_mp_3; }
+    if (r_nb_8 < (r_gk_1 + r_c6_8)) { r_t8_3 = 23u; r_hg_2 = 0u; r_lc_21 = 0ull; goto l_capnp_mp_3; }
     if (!t_0c_8) goto l_arm_p5_1;
     if (!(ld8(a_6) == 1u)) goto l_arm_p5_1;
     r_52_22 = ld64(r_rq_9);
-    if (r_52_22 < r_c6_8) { r_w3_3 = 30u; r_fz_2 = 0u; r_4q_2 = 0ull; goto l_capnp_zr_3; }
+    if (r_52_22 < r_c6_8) { r_t8_3 = 30u; r_hg_2 = 0u; r_lc_21 = 0ull; goto l_capnp_mp_3; }
     st64(a_6, 1ull);
     st64(r_rq_9, (r_52_22 - r_c6_8));
 l_arm_p5_1:;
@@ -21078,47 +21133,47 @@ l_else_ia_1:;
     capnp_arena_arena_rows_set_word_in_4426f83c3c99ca57(ldp(r_yf_24), ((u64)r_8w_1 + 0xffffffffffffffffull), r_w0_16, r_a5_2);
     goto l_capnp_v7_1;
 l_arm_vh_2:;
-    r_w3_3 = ld8(r_x5_23);
-    r_fz_2 = ld32(r_k0_13);
-    r_4q_2 = ld64(r_zd_17);
-    goto l_capnp_zr_3;
+    r_t8_3 = ld8(r_x5_23);
+    r_hg_2 = ld32(r_k0_11);
+    r_lc_21 = ld64(r_zd_17);
+    goto l_capnp_mp_3;
 l_join_br_1:;
     if (!(switch_f9_4 == 0ull)) goto l_else_4r_1;
     r_y6_3 = (u64)(r_qw_20 >> 48ull);
     r_q7_4 = (r_ep_6 & 65535ull);
-    r_lc_21 = (r_q7_4 + r_y6_3);
+    r_lc_24 = (r_q7_4 + r_y6_3);
     if (t_pa) goto l_join_o1_1;
     st64(r_08_4, uadd_sat64(ld64(r_08_4), 1ull));
 l_join_o1_1:;
     u64 r_m6_4 = ((u64)(r_qw_20 >> 2ull) & 0x3fffffffull);
-    r_lc_22 = ((r_24_52 + 1ull) + r_m6_4);
+    r_lc_25 = ((r_24_52 + 1ull) + r_m6_4);
     if (!(r_m6_4 < 0x20000000ull)) goto l_else_70_4;
-    if (r_lc_22 > r_nb_8) { r_w3_4 = 23u; goto l_capnp_zr_4; }
-    r_jm_1 = r_lc_22;
+    if (r_lc_25 > r_nb_8) { r_t8_4 = 23u; goto l_capnp_mp_4; }
+    r_jm_1 = r_lc_25;
     goto l_arm_h8_1;
 l_else_70_4:;
-    u64 r_3o_4 = (r_lc_22 + 0xffffffffc0000000ull);
-    if ((r_lc_22 < 0x40000000ull) ? 1u : (r_3o_4 > r_nb_8)) { r_w3_4 = 23u; goto l_capnp_zr_4; }
+    u64 r_3o_4 = (r_lc_25 + 0xffffffffc0000000ull);
+    if ((r_lc_25 < 0x40000000ull) ? 1u : (r_3o_4 > r_nb_8)) { r_t8_4 = 23u; goto l_capnp_mp_4; }
     r_jm_1 = r_3o_4;
 l_arm_h8_1:;
     r_4r_6 = (u32)r_jm_1;
-    if (r_sg_1) { r_w3_4 = 26u; goto l_capnp_zr_4; }
-    r_8u_9 = (r_nb_8 < (r_jm_1 + r_lc_21));
+    if (r_sg_1) { r_t8_4 = 26u; goto l_capnp_mp_4; }
+    r_8u_9 = (r_nb_8 < (r_jm_1 + r_lc_24));
     if ((u8)((u8)t_pa | (u8)r_8u_9)) goto l_capnp_li_1;
     if (!(ld8(a_6) == 1u)) { r_5b_1 = r_4r_6; goto l_arm_7a_1; }
     r_52_26 = ld64(r_rq_9);
-    if (r_52_26 < r_lc_21) { r_w3_4 = 30u; goto l_capnp_zr_4; }
+    if (r_52_26 < r_lc_24) { r_t8_4 = 30u; goto l_capnp_mp_4; }
     st64(a_6, 1ull);
-    st64(r_rq_9, (r_52_26 - r_lc_21));
+    st64(r_rq_9, (r_52_26 - r_lc_24));
     r_5b_1 = r_4r_6;
     goto l_arm_7a_1;
 l_capnp_li_1:;
-    if (r_8u_9) { r_w3_4 = 23u; goto l_capnp_zr_4; }
+    if (r_8u_9) { r_t8_4 = 23u; goto l_capnp_mp_4; }
     r_5b_1 = (r_8u_9 ? 0u : r_4r_6);
 l_arm_7a_1:;
     if (!t_q5_1) { r_6o_1 = r_ep_6; r_a1_1 = r_y6_3; goto l_capnp_dw_1; }
     u64 r_24_61 = (u64)r_5b_1;
-    r_lc_24 = (r_q7_4 + r_24_61);
+    r_lc_27 = (r_q7_4 + r_24_61);
     r_z6_56 = (u64)(r_q7_4 << 3ull);
     r_c0_15 = away(t_f6_2, (u64)(r_24_61 << 3ull));
     if (r_q7_4 < 32ull) { r_nm_10 = r_q7_4; goto l_loop_jc_8; }
@@ -21140,7 +21195,7 @@ l_loop_jc_9:;
     r_ev_1 = r_nm_11;
 l_capnp_fc_1:;
     r_z6_59 = (u64)(r_y6_3 << 3ull);
-    r_c0_16 = away(t_f6_2, (u64)(r_lc_24 << 3ull));
+    r_c0_16 = away(t_f6_2, (u64)(r_lc_27 << 3ull));
     if (r_qw_20 < 0x20000000000000ull) { r_nm_12 = r_y6_3; goto l_loop_jc_10; }
     goto l_else_wj_5;
 l_loop_jc_10:;
@@ -21221,10 +21276,10 @@ l_arm_ua_6:;
 l_capnp_qg:;
     r_39_1 = ((u64)((u64)r_xo_7 << 32ull) | r_24_50);
 l_arm_6m_1:;
-    r_wt_4 = (u32)r_39_1;
+    r_wt_5 = (u32)r_39_1;
     r_4r_7 = (u32)(u64)(r_39_1 >> 32ull);
     if ((r_6o_1 & 65535ull) == 0ull) goto l_capnp_5c_1;
-    capnp_arena_arena_builder_arena_impl_BuilderArenaImplB_310b59c4(a_2, r_wt_4, r_4r_7, away(t_f6_2, (u64)((u64)r_5b_1 << 3ull)), ((u64)(r_6o_1 << 3ull) & 0x7fff8ull));
+    capnp_arena_arena_builder_arena_impl_BuilderArenaImplB_310b59c4(a_2, r_wt_5, r_4r_7, away(t_f6_2, (u64)((u64)r_5b_1 << 3ull)), ((u64)(r_6o_1 << 3ull) & 0x7fff8ull));
 l_capnp_5c_1:;
     memset(slot_1, 0u, 24);
     st64(t_6c_4, 0ull);
@@ -21238,29 +21293,29 @@ l_capnp_5c_1:;
     st32(r_c4_8, (r_5b_1 + ((u32)r_ep_6 & 65535u)));
     st32(r_bk_2, 0u);
     st32(r_6c_4, r_s1_1);
-    capnp_copies_copy_children_copy_row_f91b20a4a575fbcb(slot_1, a_2, r_wt_4, (r_29_3 + r_4r_7), slot_2, r_az_3, a_6, a_7);
+    capnp_copies_copy_children_copy_row_f91b20a4a575fbcb(slot_1, a_2, r_wt_5, (r_29_3 + r_4r_7), slot_2, r_az_3, a_6, a_7);
     r_2b_1 = ld8(slot_1);
     r_qh_1 = ld8(r_x5_22);
-    r_ip_1 = ld32(r_k0_12);
+    r_ip_1 = ld32(r_k0_10);
     r_wq_1 = ld64(r_zd_16);
 l_capnp_no_1:;
-    t_mj_1 = r_wq_1;
-    t_y5_1 = r_ip_1;
-    r_nu_1 = r_qh_1;
-    t_g2_1 = r_2b_1;
-    goto l_capnp_hf_1;
+    t_pz_1 = r_wq_1;
+    t_fy_1 = r_ip_1;
+    r_1l_1 = r_qh_1;
+    t_ry_1 = r_2b_1;
+    goto l_capnp_rz_1;
 l_arm_vh_3:;
-    t_mj_1 = ld64(r_zd_14);
-    t_y5_1 = ld32(r_k0_11);
-    r_nu_1 = ld8(r_x5_20);
-    t_g2_1 = 1u;
-    goto l_capnp_hf_1;
-l_capnp_zr_4:;
-    r_55 = r_w3_4;
-    r_am = 1u;
-    r_10 = 0u;
-    r_i9 = 0ull;
-    goto l_common_43;
+    t_pz_1 = ld64(r_zd_14);
+    t_fy_1 = ld32(r_k0_9);
+    r_1l_1 = ld8(r_x5_20);
+    t_ry_1 = 1u;
+    goto l_capnp_rz_1;
+l_capnp_mp_4:;
+    r_5k_2 = 1u;
+    r_qp = r_t8_4;
+    r_7u = 0u;
+    r_pz = 0ull;
+    goto l_join_1g;
 l_else_4r_1:;
     st64(slot_4, r_eg);
     stp(r_x5_18, r_rv);
@@ -21271,32 +21326,37 @@ l_else_4r_1:;
     st64(r_c4_7, r_24_52);
     st32(r_6c_3, r_4w_1);
     capnp_copies_copy_copy_object_f91b20a4a575fbcb(slot_3, a_2, r_21, r_sr_8, slot_4, a_6, a_7);
-    t_mj_1 = ld64(r_zd_13);
-    t_y5_1 = ld32(r_k0_10);
-    r_nu_1 = ld8(r_x5_19);
-    t_g2_1 = ld8(slot_3);
-    goto l_capnp_hf_1;
+    t_pz_1 = ld64(r_zd_13);
+    t_fy_1 = ld32(r_k0_8);
+    r_1l_1 = ld8(r_x5_19);
+    t_ry_1 = ld8(slot_3);
+    goto l_capnp_rz_1;
 l_capnp_v7_1:;
     goto l_loop_w2;
-l_capnp_zr_3:;
-    r_55 = r_w3_3;
-    r_am = 1u;
-    r_10 = r_fz_2;
-    r_i9 = r_4q_2;
-    goto l_common_43;
-l_capnp_hf_1:;
-    if (t_g2_1 == 0u) goto l_loop_w2;
-    r_55 = r_nu_1;
-    r_am = 1u;
-    r_10 = t_y5_1;
-    r_i9 = t_mj_1;
-    goto l_common_43;
+l_capnp_mp_3:;
+    r_5k_2 = 1u;
+    r_qp = r_t8_3;
+    r_7u = r_hg_2;
+    r_pz = r_lc_21;
+    goto l_join_1g;
+l_capnp_rz_1:;
+    if (t_ry_1 == 0u) goto l_loop_w2;
+    r_5k_2 = 1u;
+    r_qp = r_1l_1;
+    r_7u = t_fy_1;
+    r_pz = t_pz_1;
+    goto l_join_1g;
 l_arm_x3_3:;
-    r_55 = ld8((slot_1 + 8));
-    r_am = 1u;
-    r_10 = ld32((slot_1 + 12));
-    r_i9 = ld64((slot_1 + 16));
-    goto l_common_43;
+    r_5k_2 = 1u;
+    r_qp = ld8((slot_1 + 8));
+    r_7u = ld32((slot_1 + 12));
+    r_pz = ld64((slot_1 + 16));
+l_join_1g:;
+    r_10 = r_5k_2;
+    r_kb = (u32)r_qp;
+    r_n4 = r_7u;
+    r_yp = r_pz;
+    goto l_common_9c;
 }
 
 /* capnp_arena::arena::builder_arena_impl::BuilderArenaImplBuilderArena::set_word::<#c2545ee4585402c2> */
@@ -23797,8 +23857,8 @@ static NEVER void capnp_objects_source_Source_measure_object_5ccc1be374b2e488(u8
     u64 r_24;
     u64 r_gw;
     u64 r_qw_1;
-    u8 t_0c;
     u64 t_al;
+    u8 t_0c;
     u64 r_lc;
     u64 r_nb;
     u64 r_yz;
@@ -23811,7 +23871,7 @@ static NEVER void capnp_objects_source_Source_measure_object_5ccc1be374b2e488(u8
     u64 r_ep;
     u64 r_y6;
     u64 r_lc_1;
-    u8 *r_rq_2;
+    u8 *r_rq_1;
     u64 r_52_1;
     u64 r_ep_1;
     u8 switch_wl;
@@ -23819,18 +23879,18 @@ static NEVER void capnp_objects_source_Source_measure_object_5ccc1be374b2e488(u8
     u64 r_c4_1;
     u64 r_24_2;
     u64 r_gw_2;
-    u8 *r_rq_3;
+    u8 *r_rq_2;
     u64 r_52_2;
     u64 r_o0;
     u32 t_c8;
     u64 r_ep_2;
     u64 r_y6_1;
     u32 r_12_2;
-    u8 *r_rq_4;
+    u8 *r_rq_3;
     u64 r_52_3;
     u32 r_12_4;
     u64 r_c6;
-    u8 *r_rq_5;
+    u8 *r_rq_4;
     u64 r_52_4;
     u64 r_r4;
     u64 r_9r;
@@ -23840,9 +23900,9 @@ static NEVER void capnp_objects_source_Source_measure_object_5ccc1be374b2e488(u8
     u32 r_rk;
     u32 r_7q;
     u64 r_yr;
-    u32 r_c1;
+    u64 r_c1;
     u32 r_g3;
-    u64 r_vx;
+    u32 r_vx;
     u32 r_7j;
     u32 r_p8;
     r_dh = ld8(a_2);
@@ -23852,36 +23912,24 @@ static NEVER void capnp_objects_source_Source_measure_object_5ccc1be374b2e488(u8
     r_qw = ld64((a_3 + 16));
     r_24 = (u64)ld32((a_3 + 24));
     r_gw = (u64)(r_qw >> 3ull);
-    if (!(r_gw > r_24)) goto l_then_fj;
+    if (!(r_gw > r_24)) { r_6f = 0ull; r_3l = 0ull; r_rk = 0u; r_7q = 0u; r_yr = 0ull; r_c1 = 0ull; r_g3 = 0u; r_vx = 0u; r_7j = 0u; r_p8 = 0u; goto l_capnp_6f; }
     r_qw_1 = ld64((r_rv_1 + (i64)((u64)(r_24 << 3ull))));
-    if (r_qw_1 == 0ull) goto l_then_fj;
-    goto l_join_qt;
-l_common_68:;
-    return;
-l_then_fj:;
-    memset(a_1, 0u, 56);
-    goto l_common_68;
-l_join_qt:;
-    if (!((i32)a_4 < (i32)1u)) goto l_join_pn;
-    st64(a_1, 1ull);
-    st32(away(a_1, 8ull), 25u);
-    memset(away(a_1, 12ull), 0u, 44);
-    goto l_common_68;
-l_join_pn:;
+    if (r_qw_1 == 0ull) { r_6f = 0ull; r_3l = 0ull; r_rk = 0u; r_7q = 0u; r_yr = 0ull; r_c1 = 0ull; r_g3 = 0u; r_vx = 0u; r_7j = 0u; r_p8 = 0u; goto l_capnp_6f; }
+    if ((i32)a_4 < (i32)1u) { r_6f = 0ull; r_3l = 0ull; r_rk = 0u; r_7q = 0u; r_yr = 0ull; r_c1 = 1ull; r_g3 = 25u; r_vx = 0u; r_7j = 0u; r_p8 = 0u; goto l_capnp_6f; }
+    t_al = (u64)(uptr)r_rv_1;
+    memset(slot_1, 0u, 56);
     t_0c = (r_dh == 0u);
-    if (!t_0c) goto l_capnp_0h;
+    if (!t_0c) goto l_capnp_sm;
     u8 *r_08 = away(a_5, 16ull);
     st64(r_08, uadd_sat64(ld64(r_08), 1ull));
     if ((r_qw_1 & 3ull) == 2ull) goto l_capnp_bt;
-    goto l_join_c5;
-l_capnp_0h:;
-    if (!((r_qw_1 & 3ull) == 2ull)) goto l_join_c5;
+    goto l_join_bd;
+l_capnp_sm:;
+    if (!((r_qw_1 & 3ull) == 2ull)) goto l_join_bd;
     st32((slot_1 + 8), 32u);
-    st32((slot_1 + 12), 0u);
     r_r4 = ld64((slot_1 + 8));
     goto l_arm_5s;
-l_join_c5:;
-    t_al = (u64)(uptr)r_rv_1;
+l_join_bd:;
     u64 r_m6 = ((u64)(r_qw_1 >> 2ull) & 0x3fffffffull);
     r_lc = ((r_24 + 1ull) + r_m6);
     r_nb = (r_gw & 0xffffffffull);
@@ -23913,7 +23961,7 @@ l_arm_xs:;
     switch ((u8)((u8)r_at & 3u)) {
     case 0u: goto l_join_yh;
     case 1u: goto l_arm_z2;
-    case 2u: { r_6f = 0ull; r_3l = 0ull; r_rk = 0u; r_7q = 0u; r_yr = 1ull; r_c1 = 13u; r_g3 = 0u; r_vx = 0ull; r_7j = 0u; r_p8 = 0u; goto l_capnp_6f; }
+    case 2u: { r_6f = 0ull; r_3l = 0ull; r_rk = 0u; r_7q = 0u; r_yr = 0ull; r_c1 = 1ull; r_g3 = 13u; r_vx = 0u; r_7j = 0u; r_p8 = 0u; goto l_capnp_6f; }
     case 3u: goto l_arm_37;
     default: goto l_default_e1;
     }
@@ -23921,23 +23969,23 @@ l_join_yh:;
     r_ep = (u64)(r_at >> 32ull);
     r_y6 = (u64)(r_at >> 48ull);
     r_lc_1 = ((r_ep & 65535ull) + r_y6);
-    if (((u64)(r_nl >> 3ull) & 0xffffffffull) < (r_lc_1 + (u64)r_qj)) { r_6f = 0ull; r_3l = 0ull; r_rk = 0u; r_7q = 0u; r_yr = 1ull; r_c1 = 23u; r_g3 = 0u; r_vx = 0ull; r_7j = 0u; r_p8 = 0u; goto l_capnp_6f; }
+    if (((u64)(r_nl >> 3ull) & 0xffffffffull) < (r_lc_1 + (u64)r_qj)) { r_6f = 0ull; r_3l = 0ull; r_rk = 0u; r_7q = 0u; r_yr = 0ull; r_c1 = 1ull; r_g3 = 23u; r_vx = 0u; r_7j = 0u; r_p8 = 0u; goto l_capnp_6f; }
     if (!t_0c) goto l_arm_mf;
     if (!(ld8(a_5) == 1u)) goto l_arm_mf;
-    r_rq_2 = away(a_5, 8ull);
-    r_52_1 = ld64(r_rq_2);
-    if (r_52_1 < r_lc_1) { r_6f = 0ull; r_3l = 0ull; r_rk = 0u; r_7q = 0u; r_yr = 1ull; r_c1 = 30u; r_g3 = 0u; r_vx = 0ull; r_7j = 0u; r_p8 = 0u; goto l_capnp_6f; }
+    r_rq_1 = away(a_5, 8ull);
+    r_52_1 = ld64(r_rq_1);
+    if (r_52_1 < r_lc_1) { r_6f = 0ull; r_3l = 0ull; r_rk = 0u; r_7q = 0u; r_yr = 0ull; r_c1 = 1ull; r_g3 = 30u; r_vx = 0u; r_7j = 0u; r_p8 = 0u; goto l_capnp_6f; }
     st64(a_5, 1ull);
-    st64(r_rq_2, (r_52_1 - r_lc_1));
+    st64(r_rq_1, (r_52_1 - r_lc_1));
 l_arm_mf:;
     r_6f = r_b2;
     r_3l = r_nl;
     r_rk = r_qj;
     r_7q = r_mk;
-    r_yr = 0ull;
-    r_c1 = 2u;
-    r_g3 = 0u;
-    r_vx = r_vj;
+    r_yr = r_vj;
+    r_c1 = 0ull;
+    r_g3 = 2u;
+    r_vx = 0u;
     r_7j = ((u32)((u32)r_y6 << 16u) | ((u32)r_ep & 65535u));
     r_p8 = 0u;
     goto l_capnp_6f;
@@ -23960,14 +24008,14 @@ l_join_vn:;
     r_c4_1 = (r_ij + 1ull);
     r_24_2 = (u64)r_qj;
     r_gw_2 = (u64)(r_nl >> 3ull);
-    if ((r_gw_2 & 0xffffffffull) < (r_c4_1 + r_24_2)) { r_6f = 0ull; r_3l = 0ull; r_rk = 0u; r_7q = 0u; r_yr = 1ull; r_c1 = 23u; r_g3 = 0u; r_vx = 0ull; r_7j = 0u; r_p8 = 0u; goto l_capnp_6f; }
+    if ((r_gw_2 & 0xffffffffull) < (r_c4_1 + r_24_2)) { r_6f = 0ull; r_3l = 0ull; r_rk = 0u; r_7q = 0u; r_yr = 0ull; r_c1 = 1ull; r_g3 = 23u; r_vx = 0u; r_7j = 0u; r_p8 = 0u; goto l_capnp_6f; }
     if (!t_0c) goto l_arm_ga;
     if (!(ld8(a_5) == 1u)) goto l_arm_ga;
-    r_rq_3 = away(a_5, 8ull);
-    r_52_2 = ld64(r_rq_3);
-    if (!(r_52_2 > r_ij)) { r_6f = 0ull; r_3l = 0ull; r_rk = 0u; r_7q = 0u; r_yr = 1ull; r_c1 = 30u; r_g3 = 0u; r_vx = 0ull; r_7j = 0u; r_p8 = 0u; goto l_capnp_6f; }
+    r_rq_2 = away(a_5, 8ull);
+    r_52_2 = ld64(r_rq_2);
+    if (!(r_52_2 > r_ij)) { r_6f = 0ull; r_3l = 0ull; r_rk = 0u; r_7q = 0u; r_yr = 0ull; r_c1 = 1ull; r_g3 = 30u; r_vx = 0u; r_7j = 0u; r_p8 = 0u; goto l_capnp_6f; }
     st64(a_5, 1ull);
-    st64(r_rq_3, (r_52_2 - r_c4_1));
+    st64(r_rq_2, (r_52_2 - r_c4_1));
 l_arm_ga:;
     if (!(r_gw_2 > r_24_2)) { r_o0 = 0ull; goto l_join_8m; }
     u64 r_qw_2 = ld64((((u8 *)(uptr)r_b2) + (i64)((u64)(r_24_2 << 3ull))));
@@ -23976,10 +24024,10 @@ l_arm_ga:;
     r_3l = 0ull;
     r_rk = 0u;
     r_7q = 0u;
-    r_yr = 1ull;
-    r_c1 = 2u;
-    r_g3 = 0u;
-    r_vx = 0ull;
+    r_yr = 0ull;
+    r_c1 = 1ull;
+    r_g3 = 2u;
+    r_vx = 0u;
     r_7j = 0u;
     r_p8 = 0u;
     goto l_capnp_6f;
@@ -23987,36 +24035,36 @@ l_join_8m:;
     t_c8 = (u32)((u32)r_o0 >> 2u);
     r_ep_2 = (u64)(r_o0 >> 32ull);
     r_y6_1 = (u64)(r_o0 >> 48ull);
-    if (r_ij < (((r_ep_2 & 65535ull) + r_y6_1) * (u64)t_c8)) { r_6f = 0ull; r_3l = 0ull; r_rk = 0u; r_7q = 0u; r_yr = 1ull; r_c1 = 10u; r_g3 = 0u; r_vx = 0ull; r_7j = 0u; r_p8 = 0u; goto l_capnp_6f; }
+    if (r_ij < (((r_ep_2 & 65535ull) + r_y6_1) * (u64)t_c8)) { r_6f = 0ull; r_3l = 0ull; r_rk = 0u; r_7q = 0u; r_yr = 0ull; r_c1 = 1ull; r_g3 = 10u; r_vx = 0u; r_7j = 0u; r_p8 = 0u; goto l_capnp_6f; }
     r_6f = r_b2;
     r_3l = r_nl;
     r_rk = (r_qj + 1u);
     r_7q = 0u;
-    r_yr = 0ull;
-    r_c1 = 5u;
-    r_g3 = 0u;
-    r_vx = r_vj;
+    r_yr = r_vj;
+    r_c1 = 0ull;
+    r_g3 = 5u;
+    r_vx = 0u;
     r_7j = ((u32)((u32)r_y6_1 << 16u) | ((u32)r_ep_2 & 65535u));
     r_p8 = t_c8;
     goto l_capnp_6f;
 l_join_10:;
     r_12_2 = (u32)r_ij;
-    if (((u64)(r_nl >> 3ull) & 0xffffffffull) < (r_ij + (u64)r_qj)) { r_6f = 0ull; r_3l = 0ull; r_rk = 0u; r_7q = 0u; r_yr = 1ull; r_c1 = 23u; r_g3 = 0u; r_vx = 0ull; r_7j = 0u; r_p8 = 0u; goto l_capnp_6f; }
-    if (!t_0c) { r_6f = r_b2; r_3l = r_nl; r_rk = r_qj; r_7q = r_mk; r_yr = 0ull; r_c1 = 4u; r_g3 = 0u; r_vx = r_vj; r_7j = r_12_2; r_p8 = 0u; goto l_capnp_6f; }
-    if (!(ld8(a_5) == 1u)) { r_6f = r_b2; r_3l = r_nl; r_rk = r_qj; r_7q = r_mk; r_yr = 0ull; r_c1 = 4u; r_g3 = 0u; r_vx = r_vj; r_7j = r_12_2; r_p8 = 0u; goto l_capnp_6f; }
-    r_rq_4 = away(a_5, 8ull);
-    r_52_3 = ld64(r_rq_4);
-    if (r_52_3 < r_ij) { r_6f = 0ull; r_3l = 0ull; r_rk = 0u; r_7q = 0u; r_yr = 1ull; r_c1 = 30u; r_g3 = 0u; r_vx = 0ull; r_7j = 0u; r_p8 = 0u; goto l_capnp_6f; }
+    if (((u64)(r_nl >> 3ull) & 0xffffffffull) < (r_ij + (u64)r_qj)) { r_6f = 0ull; r_3l = 0ull; r_rk = 0u; r_7q = 0u; r_yr = 0ull; r_c1 = 1ull; r_g3 = 23u; r_vx = 0u; r_7j = 0u; r_p8 = 0u; goto l_capnp_6f; }
+    if (!t_0c) { r_6f = r_b2; r_3l = r_nl; r_rk = r_qj; r_7q = r_mk; r_yr = r_vj; r_c1 = 0ull; r_g3 = 4u; r_vx = 0u; r_7j = r_12_2; r_p8 = 0u; goto l_capnp_6f; }
+    if (!(ld8(a_5) == 1u)) { r_6f = r_b2; r_3l = r_nl; r_rk = r_qj; r_7q = r_mk; r_yr = r_vj; r_c1 = 0ull; r_g3 = 4u; r_vx = 0u; r_7j = r_12_2; r_p8 = 0u; goto l_capnp_6f; }
+    r_rq_3 = away(a_5, 8ull);
+    r_52_3 = ld64(r_rq_3);
+    if (r_52_3 < r_ij) { r_6f = 0ull; r_3l = 0ull; r_rk = 0u; r_7q = 0u; r_yr = 0ull; r_c1 = 1ull; r_g3 = 30u; r_vx = 0u; r_7j = 0u; r_p8 = 0u; goto l_capnp_6f; }
     st64(a_5, 1ull);
-    st64(r_rq_4, (r_52_3 - r_ij));
+    st64(r_rq_3, (r_52_3 - r_ij));
     r_6f = r_b2;
     r_3l = r_nl;
     r_rk = r_qj;
     r_7q = r_mk;
-    r_yr = 0ull;
-    r_c1 = 4u;
-    r_g3 = 0u;
-    r_vx = r_vj;
+    r_yr = r_vj;
+    r_c1 = 0ull;
+    r_g3 = 4u;
+    r_vx = 0u;
     r_7j = r_12_2;
     r_p8 = 0u;
     goto l_capnp_6f;
@@ -24025,33 +24073,33 @@ l_arm_ps:;
     r_3l = r_nl;
     r_rk = r_qj;
     r_7q = r_mk;
-    r_yr = 0ull;
-    r_c1 = 3u;
-    r_g3 = 0u;
-    r_vx = r_vj;
+    r_yr = r_vj;
+    r_c1 = 0ull;
+    r_g3 = 3u;
+    r_vx = 0u;
     r_7j = 0u;
     r_p8 = (u32)r_ij;
     goto l_capnp_6f;
 l_arm_jz:;
     r_12_4 = (u32)r_ij;
     r_c6 = (u64)(((ld64(away(away(((u8 *)switch_table_capnp_pointers_pointers_sizes_add_pointer_917c2253), 8 * (r_ep_1 & 7ull)), 0xfffffffffffffff8ull)) * r_ij) + 63ull) >> 6ull);
-    if (((u64)(r_nl >> 3ull) & 0xffffffffull) < (r_c6 + (u64)r_qj)) { r_6f = 0ull; r_3l = 0ull; r_rk = 0u; r_7q = 0u; r_yr = 1ull; r_c1 = 23u; r_g3 = 0u; r_vx = 0ull; r_7j = 0u; r_p8 = 0u; goto l_capnp_6f; }
+    if (((u64)(r_nl >> 3ull) & 0xffffffffull) < (r_c6 + (u64)r_qj)) { r_6f = 0ull; r_3l = 0ull; r_rk = 0u; r_7q = 0u; r_yr = 0ull; r_c1 = 1ull; r_g3 = 23u; r_vx = 0u; r_7j = 0u; r_p8 = 0u; goto l_capnp_6f; }
     if (!t_0c) goto l_arm_zg;
     if (!(ld8(a_5) == 1u)) goto l_arm_zg;
-    r_rq_5 = away(a_5, 8ull);
-    r_52_4 = ld64(r_rq_5);
-    if (r_52_4 < r_c6) { r_6f = 0ull; r_3l = 0ull; r_rk = 0u; r_7q = 0u; r_yr = 1ull; r_c1 = 30u; r_g3 = 0u; r_vx = 0ull; r_7j = 0u; r_p8 = 0u; goto l_capnp_6f; }
+    r_rq_4 = away(a_5, 8ull);
+    r_52_4 = ld64(r_rq_4);
+    if (r_52_4 < r_c6) { r_6f = 0ull; r_3l = 0ull; r_rk = 0u; r_7q = 0u; r_yr = 0ull; r_c1 = 1ull; r_g3 = 30u; r_vx = 0u; r_7j = 0u; r_p8 = 0u; goto l_capnp_6f; }
     st64(a_5, 1ull);
-    st64(r_rq_5, (r_52_4 - r_c6));
+    st64(r_rq_4, (r_52_4 - r_c6));
 l_arm_zg:;
     r_6f = r_b2;
     r_3l = r_nl;
     r_rk = r_qj;
     r_7q = r_mk;
-    r_yr = 0ull;
-    r_c1 = 3u;
-    r_g3 = 0u;
-    r_vx = r_vj;
+    r_yr = r_vj;
+    r_c1 = 0ull;
+    r_g3 = 3u;
+    r_vx = 0u;
     r_7j = (u32)switch_wl;
     r_p8 = r_12_4;
     goto l_capnp_6f;
@@ -24061,10 +24109,10 @@ l_arm_37:;
     r_3l = 0ull;
     r_rk = 0u;
     r_7q = 0u;
-    r_yr = (u64)r_ml;
-    r_c1 = (r_ml ? 34u : 1u);
-    r_g3 = (r_ml ? 0u : (u32)(u64)(r_at >> 32ull));
-    r_vx = 0ull;
+    r_yr = 0ull;
+    r_c1 = (u64)r_ml;
+    r_g3 = (r_ml ? 34u : 1u);
+    r_vx = (r_ml ? 0u : (u32)(u64)(r_at >> 32ull));
     r_7j = 0u;
     r_p8 = 0u;
     goto l_capnp_6f;
@@ -24078,24 +24126,24 @@ l_arm_i4:;
     r_3l = 0ull;
     r_rk = 0u;
     r_7q = 0u;
-    r_yr = 1ull;
-    r_c1 = ((u32)r_xy & 255u);
-    r_g3 = (u32)(u64)(r_xy >> 32ull);
-    r_vx = r_9r;
+    r_yr = r_9r;
+    r_c1 = 1ull;
+    r_g3 = ((u32)r_xy & 255u);
+    r_vx = (u32)(u64)(r_xy >> 32ull);
     r_7j = 0u;
     r_p8 = 0u;
 l_capnp_6f:;
-    st64(a_1, r_yr);
-    st32(away(a_1, 8ull), r_c1);
-    st32(away(a_1, 12ull), r_g3);
-    st64(away(a_1, 16ull), r_vx);
+    st64(a_1, r_c1);
+    st32(away(a_1, 8ull), r_g3);
+    st32(away(a_1, 12ull), r_vx);
+    st64(away(a_1, 16ull), r_yr);
     st64(away(a_1, 24ull), r_6f);
     st64(away(a_1, 32ull), r_3l);
     st32(away(a_1, 40ull), r_rk);
     st32(away(a_1, 44ull), r_7q);
     st32(away(a_1, 48ull), r_7j);
     st32(away(a_1, 52ull), r_p8);
-    goto l_common_68;
+    return;
 }
 
 /* capnp_pointers::pointers::sizes::add_pointers::<#5ccc1be374b2e488> */
@@ -24428,6 +24476,7 @@ static void capnp_framing_framing_segment_tell_only_3691078bae5dd839(u8 *a_1, u8
     u8 r_47;
     u64 r_af;
     u64 r_7l;
+    u8 *r_xz;
     u64 r_q1;
     r_rq = away(a_4, 8ull);
     if (ld64(r_rq) == 0ull) goto l_std_7d;
@@ -24445,8 +24494,8 @@ l_std_wc:;
 l_join_ye:;
     r_47 = ld8(away(slot_1, r_cg));
     if (!(ld64(r_08) == r_hh)) { r_af = r_hh; goto l_std_5v; }
-    u8 r_l2 = std_alloc_vec_Vec_grow_amortized_044c3d3b74b9c55e(a_4, 1ull);
-    if (!r_l2) goto l_arm_5h;
+    u8 r_le = std_alloc_vec_Vec_grow_amortized_5400d4f5161e8cc6(a_4);
+    if (!r_le) goto l_arm_5h;
     r_af = ld64(r_rq);
 l_std_5v:;
     st8((ldp(a_4) + (i64)(r_af)), r_47);
@@ -24455,10 +24504,11 @@ l_std_5v:;
     u64 r_c4 = (r_cg + 1ull);
     if (!(r_c4 == 4ull)) { r_hh = r_7n; r_cg = r_c4; goto l_join_ye; }
     r_7l = (u64)a_3;
+    r_xz = away(a_2, 24ull);
     u64 r_52_3 = ld64(r_rq_1);
     if (!(ld64(away(a_5, 16ull)) == r_52_3)) { r_q1 = r_52_3; goto l_std_6g; }
-    u8 r_qs = std_alloc_vec_Vec_grow_amortized_f97a4e84336ded28(a_5);
-    if (!r_qs) goto l_arm_5h_1;
+    u8 r_us = std_alloc_vec_Vec_grow_amortized_5e63141f0e39c5e0(a_5);
+    if (!r_us) goto l_arm_k7;
     r_q1 = ld64(r_rq_1);
 l_std_6g:;
     st64((ldp(a_5) + (i64)((u64)(r_q1 << 3ull))), r_7l);
@@ -24466,8 +24516,7 @@ l_std_6g:;
     st8(a_1, 0u);
     memset(away(a_1, 8ull), 0u, 16);
     goto l_common_68;
-l_arm_5h_1:;
-    u8 *r_xz = away(a_2, 24ull);
+l_arm_k7:;
     st64(r_xz, uadd_sat64(ld64(r_xz), 1ull));
     st8(a_1, 1u);
     st64(away(a_1, 8ull), 6ull);
@@ -24675,8 +24724,8 @@ l_join_mh:;
 l_join_rl:;
     r_5q_3 = (r_rx + (u64)ld32((r_lz_2 + (i64)((u64)(r_wy << 2ull)))));
     if (!(ld64(r_t9_1) == r_l5)) { r_le = r_l5; goto l_std_28; }
-    u8 r_0o = std_alloc_vec_Vec_grow_amortized_f97a4e84336ded28(r_xm);
-    if (!r_0o) goto l_arm_is;
+    u8 r_db = std_alloc_vec_Vec_grow_amortized_5e63141f0e39c5e0(r_xm);
+    if (!r_db) goto l_arm_is;
     r_le = ld64(r_su);
 l_std_28:;
     st64((ldp(r_xm) + (i64)((u64)(r_le << 3ull))), r_5q_3);
@@ -28122,8 +28171,8 @@ l_join_mh:;
 l_join_rl:;
     r_5q_3 = (r_rx + (u64)ld32((r_lz_2 + (i64)((u64)(r_wy << 2ull)))));
     if (!(ld64(r_t9_1) == r_l5)) { r_le = r_l5; goto l_std_28; }
-    u8 r_0o = std_alloc_vec_Vec_grow_amortized_f97a4e84336ded28(r_xm);
-    if (!r_0o) goto l_arm_is;
+    u8 r_db = std_alloc_vec_Vec_grow_amortized_5e63141f0e39c5e0(r_xm);
+    if (!r_db) goto l_arm_is;
     r_le = ld64(r_su);
 l_std_28:;
     st64((ldp(r_xm) + (i64)((u64)(r_le << 3ull))), r_5q_3);
@@ -28915,8 +28964,8 @@ l_join_mh:;
 l_join_rl:;
     r_5q_3 = (r_rx + (u64)ld32((r_lz_2 + (i64)((u64)(r_wy << 2ull)))));
     if (!(ld64(r_t9_1) == r_l5)) { r_le = r_l5; goto l_std_28; }
-    u8 r_0o = std_alloc_vec_Vec_grow_amortized_f97a4e84336ded28(r_xm);
-    if (!r_0o) goto l_arm_is;
+    u8 r_db = std_alloc_vec_Vec_grow_amortized_5e63141f0e39c5e0(r_xm);
+    if (!r_db) goto l_arm_is;
     r_le = ld64(r_su);
 l_std_28:;
     st64((ldp(r_xm) + (i64)((u64)(r_le << 3ull))), r_5q_3);
