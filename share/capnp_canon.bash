@@ -8,7 +8,7 @@ _capnp_canon() {
     esac
     for ((at = 1; at < COMP_CWORD; at++)); do
         case ${COMP_WORDS[at]} in
-        canon | check | size) command=${command:-${COMP_WORDS[at]}} ;;
+        canon | check | size | digest) command=${command:-${COMP_WORDS[at]}} ;;
         --) ended=yes ;;
         esac
     done
@@ -17,7 +17,8 @@ _capnp_canon() {
     canon) options="--flat --pack --hex $options" ;;
     check) options="--quiet --flat $options" ;;
     size) options="--flat $options" ;;
-    *) options="--flat --pack --hex --quiet $options" ;;
+    digest) options="--check --quiet --flat $options" ;;
+    *) options="--flat --pack --hex --quiet --check $options" ;;
     esac
     if [[ $word == -* && ! $ended ]]; then
         COMPREPLY=($(compgen -W "$options" -- "$word"))
@@ -26,7 +27,7 @@ _capnp_canon() {
         local IFS=$'\n'
         COMPREPLY=($(compgen -f -- "$word"))
     else
-        COMPREPLY=($(compgen -W 'canon check size' -- "$word"))
+        COMPREPLY=($(compgen -W 'canon check size digest' -- "$word"))
     fi
 }
 complete -F _capnp_canon capnp_canon

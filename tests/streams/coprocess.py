@@ -64,12 +64,19 @@ def whole(got):
     return words if is_whole else b''
 
 
+def lines_of(form):
+    """The answers to the messages on standard input: to those of `digest`, the program adds a name and a number."""
+    if form != 'digest':
+        return WANTED[form]
+    return [b'%s  -:%d\n' % (it.rstrip(b'\n'), number) for number, it in enumerate(WANTED[form], 1)]
+
+
 def answered(program, counts):
     for form in FORMS:
-        args = form.split(',')
+        args, wanted = form.split(','), lines_of(form)
         for asked in parts(MESSAGES):
-            conversation(program, counts, args, asked, WANTED[form])
-        conversation(program, counts, [*args, '--packed'], [packed(it) for it in MESSAGES], WANTED[form])
+            conversation(program, counts, args, asked, wanted)
+        conversation(program, counts, [*args, '--packed'], [packed(it) for it in MESSAGES], wanted)
     conversation(program, counts, ['canon', '--pack'], MESSAGES, WANTED['canon'], whole)
     digits = [it.hex().encode() + b'\n' for it in WANTED['canon,--flat']]
     conversation(program, counts, ['canon', '--hex'], MESSAGES, digits)

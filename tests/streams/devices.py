@@ -10,7 +10,7 @@ import tempfile
 # 1,000 messages with a null root. Each takes 16 bytes, and so does its answer.
 NULL = bytes.fromhex('0000000001000000') + bytes(8)
 MANY = NULL * 1000
-FORMS = ['canon'], ['canon', '--flat'], ['canon', '--pack'], ['canon', '--hex'], ['check'], ['size']
+FORMS = ['canon'], ['canon', '--flat'], ['canon', '--pack'], ['canon', '--hex'], ['check'], ['size'], ['digest']
 FULL = 2, 'capnp_canon: write error: No space left on device\n'
 # After a closed pipe nothing is printed: the reader closed it.
 LEFT = 2, ''
@@ -164,7 +164,7 @@ def table(*lengths):
 
 def bounded(program, counts):
     """Checks how much more memory a run takes than one on a message of one word. It may take at most twice the bytes that came;
-    for `canon`, at most four times. What the table of a frame announces must not matter."""
+    for `canon` and `digest`, at most four times. What the table of a frame announces must not matter."""
     announced = {'64 MiB': table((1 << 23) - 1), '512 segments': table(*[1 << 14] * 511, (1 << 14) - 1)}
     for form in FORMS:
         base = least(program, form, NULL)
@@ -178,6 +178,6 @@ def bounded(program, counts):
         used = (1 | 2 << 32 | 8 * WORDS << 35).to_bytes(8, 'little') + b'\x11' * 8 * WORDS
         for name, body in ('a list of bytes', used), ('words that nothing leads to', bytes(8) + used[8:]):
             data = table(WORDS + 1) + body
-            most = (4 if form[0] == 'canon' else 2) * len(data) + ROOM
+            most = (4 if form[0] in ('canon', 'digest') else 2) * len(data) + ROOM
             want = least(program, form, data)
             counts.told(want <= base + most, name, form, want - base, 'for', len(data))

@@ -6,6 +6,7 @@ The expected answers to the six messages were worked out by hand. The expected a
 program answers to a stream of this message only. tests/hostile/frames.py finds the frames of an altered stream, and
 packing.py unpacks packed bytes."""
 import collections
+import hashlib
 import re
 
 from frames import framed, refusal, table_of
@@ -31,7 +32,7 @@ SIX = (
     # a struct of a word and nine bits
     ('0000000001000100ffffffffffffffff0100000049000000ff01000000000000', '0000000001000100ffffffffffffffff0100000049000000ff01000000000000', 3),
 )
-FORMS = 'canon', 'canon,--flat', 'check', 'size'
+FORMS = 'canon', 'canon,--flat', 'check', 'size', 'digest'
 ALL = 'none,none'
 ANSWER = re.compile(r'(?:(done|stopped) (\d+) (\w+)|(unflushed)) -([0-9a-f]*)')
 Answer = collections.namedtuple('Answer', 'how number word written')
@@ -48,6 +49,8 @@ def wanted(form, row):
         return b'canonical\n' if segments == words else b'not canonical\n'
     if form == 'size':
         return f'words {size} caps 0\n'.encode()
+    if form == 'digest':
+        return hashlib.sha256(bytes.fromhex(words)).hexdigest().encode() + b'\n'
     return bytes.fromhex(words if form == 'canon,--flat' else framed([bytes.fromhex(words)]))
 
 

@@ -4,11 +4,12 @@
 ghost use Rattle.std.specs.Prelude.{◌≡◌, false};
 
 use crate::BUFFER;
+use crate::lists::verify_all;
 use crate::texts::NO_MEMORY;
 use capnp_framing::devices::Output;
 use capnp_framing::framing::FrameError;
 use capnp_packing::buffered::{BufferedInput, BufferedOutput};
-use capnp_streams::devices::{BufReaderInput, NamedLines};
+use capnp_streams::devices::{BufReaderInput, NamedLines, NumberedLines};
 use capnp_streams::looks::looks_like;
 use capnp_streams::seen::{Seen, Watched};
 use capnp_streams::streams::{self, Command, Fault, Stop, Summary, Task};
@@ -29,13 +30,21 @@ pub enum Unanswered {
 /// Returns `false` if the command is `check` and one of the messages isn't canonical; otherwise
 /// `true`. Ends with an error at the first file that can't be opened or isn't answered to its end.
 ///
-/// If there are several files, each line of `check` and `size` begins with the file's name.
+/// If there are several files, each line of `check` and `size` begins with the file's name. Each line
+/// of `digest` ends with the file's name, `-` for standard input, and the number of the message. If
+/// the files are lists of such lines, verifies them, and returns whether all messages are as listed.
 pub fn answer_all<W: BufferedOutput>(
     rt: &HostRuntime,
     task: Task,
     files: &[String],
     output: &mut W,
 ) -> Result<bool, Unanswered> {
+    if task.lists {
+        return verify_all(rt, task, files, output);
+    }
+    if matches!(task.command, Command::Digest) {
+        return digest_all(rt, task, files, output);
+    }
     if files.is_empty() {
         return answer(rt, task, None, rt.reader(), output);
     }
@@ -53,9 +62,32 @@ pub fn answer_all<W: BufferedOutput>(
     Ok(holds)
 }
 
+/// Does the task of `digest`, like `answer_all`.
+fn digest_all<W: BufferedOutput>(
+    rt: &HostRuntime,
+    task: Task,
+    files: &[String],
+    output: &mut W,
+) -> Result<bool, Unanswered> {
+    if files.is_empty() {
+        return answer(
+            rt,
+            task,
+            None,
+            rt.reader(),
+            &mut NumberedLines::new("-", output),
+        );
+    }
+    for file in files {
+        let name = file.as_str();
+        answer_file(rt, task, name, &mut NumberedLines::new(name, output))?;
+    }
+    Ok(true)
+}
+
 /// Does `task` with the file `name`, or with standard input if `name` is `-`. Returns what
 /// `answer_all` returns.
-fn answer_file<W: BufferedOutput>(
+pub fn answer_file<W: BufferedOutput>(
     rt: &HostRuntime,
     task: Task,
     name: &str,
@@ -78,7 +110,7 @@ fn answer_file<W: BufferedOutput>(
 }
 
 /// Flushes the output.
-fn pass_on<W: BufferedOutput>(output: &mut W) -> Result<(), Unanswered> {
+pub fn pass_on<W: BufferedOutput>(output: &mut W) -> Result<(), Unanswered> {
     match output.pass_on() {
         Ok(()) => Ok(()),
         Err(_) => Err(Unanswered::WriteFailed),

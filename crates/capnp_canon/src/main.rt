@@ -4,6 +4,7 @@
 #![tactic(auto)]
 
 mod inputs;
+mod lists;
 mod texts;
 
 use capnp_packing::buffered::BufferedOutput;
@@ -109,6 +110,10 @@ fn misunderstood(rt: &HostRuntime, args: &[String], wrong: WrongArgument) -> Exi
             let (first, second) = (first.text(), second.text());
             eprintln!(rt; "capnp_canon: '{first}' can't be combined with '{second}'")
         }
+        ArgumentFault::Needs(first, second) => {
+            let (first, second) = (first.text(), second.text());
+            eprintln!(rt; "capnp_canon: option '{first}' needs '{second}'")
+        }
     };
     complain(rt, HINT)
 }
@@ -122,7 +127,7 @@ fn run(rt: &HostRuntime, task: Task, files: &[String]) -> ExitCode {
         return complain(rt, NO_MEMORY);
     };
     let mut output = BufWriterOutput::new(writer);
-    if task.quiet {
+    if task.quiet && !task.lists {
         return run_to(rt, task, files, &mut NoOutput, &seen);
     }
     if !task.pack {

@@ -9,6 +9,9 @@ pub const HINT: &str = "Try 'capnp_canon --help' for more information.";
 /// Printed if an argument isn't UTF-8 text.
 pub const NO_TEXT: &str = "capnp_canon: an argument isn't UTF-8";
 
+/// Printed after the name of a list that isn't UTF-8 text.
+pub const NO_UTF8: &str = "the list isn't UTF-8";
+
 /// Printed if there is no memory for the arguments or a buffer.
 pub const NO_MEMORY: &str = "capnp_canon: memory exhausted";
 
@@ -19,6 +22,7 @@ pub const WRITE_ERROR: &str = "capnp_canon: write error";
 pub const HELP: &str = "Usage: capnp_canon canon [--flat] [--pack] [--hex] [OPTION]... [FILE]...
   or:  capnp_canon check [--quiet] [OPTION]... [FILE]...
   or:  capnp_canon size [OPTION]... [FILE]...
+  or:  capnp_canon digest [--check [--quiet]] [OPTION]... [FILE]...
   or:  capnp_canon --help | --version
 Reads framed Cap'n Proto messages from files or standard input, one after the other, and answers
 each one.
@@ -31,10 +35,15 @@ check        writes a line for each message: `canonical`, or
              `not canonical: REASON at segment S, word W` (W counts words of 8 bytes, from 0)
   --quiet    writes nothing; only the exit status answers
 size         writes a line for each message: `words N caps M`, without landing pads
+digest       writes a line for each message, like sha256sum: `HASH  FILE:N`. HASH is the SHA-256 of
+             what canon --flat writes, and N the number of the message in FILE, counted from 1
+  -c, --check  reads such lines from each file, and writes for each `FILE:N: OK`, or if message N of
+             FILE doesn't have this hash any more, `FILE:N: FAILED`
+  --quiet    with --check, writes only those that failed
 
   --packed      the input is packed
-  --from-flat   the input is the raw words of one message; check and size also accept --flat as a
-                name for this option
+  --from-flat   the input is the raw words of one message; check, size and digest also accept --flat
+                as a name for this option
   --nesting N   the nesting limit: at most N structs and lists inside one another (default 64)
   --words N     the traversal limit of each message, and the most words of 8 bytes that its frame
                 may have (default 8388608, which is 64 MiB); none for no limit
@@ -52,5 +61,5 @@ message that is refused; the answers before it are written. Standard error then 
 is a position in the unpacked stream. If files are named, `FILE: ` comes before `message`.
 
 Exit status: 0 if every message is answered and, with check, canonical; 1 if check found one that
-isn't; 2 if a message is refused, a file can't be opened, the arguments are wrong, or reading or
-writing failed.";
+isn't, or digest --check one that failed or a list without lines; 2 if a message is refused, a file
+can't be opened, the arguments are wrong, or reading or writing failed.";

@@ -18,7 +18,7 @@ use Rattle.capnp_messages.specs.Copies.{LacksMemoryOr}
 use Rattle.capnp_messages.specs.Messages.{HasCanonicalCopy, HasSizeWithin, IsReadable, IsValueOf, RefusesCanon}
 use Rattle.capnp_messages.specs.Messages.{RefusesCheck, RefusesSize}
 use Rattle.capnp_messages.specs.declared.messages.command.Command.{Command}
-use Rattle.capnp_messages.specs.declared.messages.command.Command.TheVariants.{Canon, Check, Size}
+use Rattle.capnp_messages.specs.declared.messages.command.Command.TheVariants.{Canon, Check, Size, Digest}
 use Rattle.capnp_messages.proofs.CanonLemmas.{covers_rest}
 use Rattle.capnp_messages.proofs.TestLemmas.{never_stops}
 
@@ -64,3 +64,6 @@ answer_refused (Canon form) limits S (t, value, fits) (inr refused) =
     absurd (canon_refused S limits t value fits refused)
 answer_refused Check limits S can refused = absurd (check_refused S limits (can refused.0) refused)
 answer_refused Size limits S has refused = absurd (size_refused S limits has refused)
+answer_refused Digest limits S (t, value, fits) (inl memory) = memory
+answer_refused Digest limits S (t, value, fits) (inr refused) =
+    absurd (canon_refused S limits t value fits refused)

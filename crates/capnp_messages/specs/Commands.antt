@@ -7,7 +7,7 @@ use Rattle.capnp_arena.specs.declared.arena.reader_arena_impl.ReaderOptions.{Rea
 use Rattle.capnp_framing.specs.Frames.{bytes_of_words, frame}
 use Rattle.capnp_messages.specs.Messages.{HasCanonicalCopy, HasSizeWithin, IsReadable, RefusesCanon, RefusesCheck, RefusesSize}
 use Rattle.capnp_messages.specs.declared.messages.command.Command.{Command}
-use Rattle.capnp_messages.specs.declared.messages.command.Command.TheVariants.{Canon, Check, Size}
+use Rattle.capnp_messages.specs.declared.messages.command.Command.TheVariants.{Canon, Check, Size, Digest}
 use Rattle.capnp_messages.specs.declared.messages.command.Form.{Form}
 use Rattle.capnp_messages.specs.declared.messages.command.Form.TheVariants.{Framed, Flat}
 
@@ -21,10 +21,12 @@ abbrev pub RefusesAnswer : Command → ReaderOptions → Segments → ErrorKind 
 RefusesAnswer (Canon form) limits S k = (k ≡ AllocationFailed) ⊎ RefusesCanon S limits k
 RefusesAnswer Check limits S k = RefusesCheck S limits k
 RefusesAnswer Size limits S k = RefusesSize S limits k
+RefusesAnswer Digest limits S k = (k ≡ AllocationFailed) ⊎ RefusesCanon S limits k
 
--- A command on S, within these limits, has an answer if this holds. `Canon`: S has a canonical
--- copy. `Check`: S doesn't have exactly one segment, or it means a value. `Size`: S has a size.
+-- A command on S, within these limits, has an answer if this holds. `Canon`, `Digest`: S has a
+-- canonical copy. `Check`: S doesn't have exactly one segment, or it means a value. `Size`: S has a size.
 abbrev pub HasAnswerWithin : Command → ReaderOptions → Segments → Type 0
 HasAnswerWithin (Canon form) limits S = HasCanonicalCopy S limits
 HasAnswerWithin Check limits S = length S ≡ 1 → IsReadable S limits
 HasAnswerWithin Size limits S = HasSizeWithin S limits
+HasAnswerWithin Digest limits S = HasCanonicalCopy S limits

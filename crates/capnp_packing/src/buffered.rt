@@ -4,7 +4,7 @@
 ghost use Rattle.std.specs.Prelude.{◌≡◌, ◌⊎◌, false, true, ℕ, IsTrue, OnOk, OnErr};
 ghost use Rattle.std.specs.Io.KnownBytes.{Keeps};
 
-use capnp_framing::devices::{DeviceFault, Input, Output};
+use capnp_framing::devices::{DeviceFault, Input, MemoryOutput, Output};
 
 /// An input that reads ahead.
 pub trait BufferedInput: Input {
@@ -28,6 +28,14 @@ pub trait BufferedOutput: Output {
         ensures none { OnOk result (kept self.new ≡ 0) }
         ensures works { OnOk result (Self.has_failed self.new ≡ Self.has_failed self.old) }
         ensures fails { OnErr result (Self.has_failed self.new ≡ true) };
+}
+
+impl BufferedOutput for MemoryOutput {
+    ghost kept = { λ _. 0 };
+
+    fn pass_on(&mut self) -> Result<(), DeviceFault> {
+        Ok(())
+    }
 }
 
 /// Flushes the output, unless `is_ahead` of the input is `true`.

@@ -8,22 +8,23 @@ use Rattle.std.specs.Option.{option_map, option_or}
 use Rattle.std.specs.Str.{all_ascii_digits, bytes_eq}
 use Rattle.std.specs.Str.Parse.{digits_value, starts_with_minus}
 use Rattle.capnp_messages.specs.declared.messages.command.Command.{Command}
-use Rattle.capnp_messages.specs.declared.messages.command.Command.TheVariants.{Canon, Check, Size}
+use Rattle.capnp_messages.specs.declared.messages.command.Command.TheVariants.{Canon, Check, Size, Digest}
 use Rattle.capnp_messages.specs.declared.messages.command.Form.TheVariants.{Framed, Flat}
 use Rattle.capnp_streams.specs.declared.streams.arguments.ArgumentFault.{ArgumentFault}
 use Rattle.capnp_streams.specs.declared.streams.arguments.ArgumentFault.TheVariants.{MissingCommand, UnknownCommand, UnknownOption}
 use Rattle.capnp_streams.specs.declared.streams.arguments.ArgumentFault.TheVariants.{MissingValue, InvalidValue, InvalidSetting, UnwantedValue}
-use Rattle.capnp_streams.specs.declared.streams.arguments.ArgumentFault.TheVariants.{NotOfCommand, Excluded}
+use Rattle.capnp_streams.specs.declared.streams.arguments.ArgumentFault.TheVariants.{NotOfCommand, Excluded, Needs}
 use Rattle.capnp_streams.specs.declared.streams.arguments.Line.{Line}
 use Rattle.capnp_streams.specs.declared.streams.arguments.OptionName.{OptionName}
 use Rattle.capnp_streams.specs.declared.streams.arguments.OptionName.TheVariants.{Help, HelpLetter, Version, VersionLetter, End}
 use Rattle.capnp_streams.specs.declared.streams.arguments.OptionName.TheVariants.{Packed, Pack, Flat as FlatName, FromFlat, Hex, Quiet, Nesting, Words}
+use Rattle.capnp_streams.specs.declared.streams.arguments.OptionName.TheVariants.{Check as CheckName, CheckLetter}
 use Rattle.capnp_streams.specs.declared.streams.arguments.Setting.{Setting}
 use Rattle.capnp_streams.specs.declared.streams.arguments.Setting.TheVariants.{Nesting as SetNesting, Words as SetWords}
 use Rattle.capnp_streams.specs.declared.streams.arguments.ArgumentStep.{ArgumentStep}
 use Rattle.capnp_streams.specs.declared.streams.arguments.ArgumentStep.TheVariants.{Goes, File, Stops}
 use Rattle.capnp_streams.specs.declared.streams.arguments.Verb.{Verb}
-use Rattle.capnp_streams.specs.declared.streams.arguments.Verb.TheVariants.{Canon as ToCanon, Check as ToCheck, Size as ToSize}
+use Rattle.capnp_streams.specs.declared.streams.arguments.Verb.TheVariants.{Canon as ToCanon, Check as ToCheck, Size as ToSize, Digest as ToDigest}
 use Rattle.capnp_streams.specs.declared.streams.task.Request.{Request}
 use Rattle.capnp_streams.specs.declared.streams.task.Request.TheVariants.{Help as AskHelp, Version as AskVersion, Run}
 use Rattle.capnp_streams.specs.declared.streams.task.Task.{Task}
@@ -44,10 +45,13 @@ option_text Hex = codes "--hex"
 option_text Quiet = codes "--quiet"
 option_text Nesting = codes "--nesting"
 option_text Words = codes "--words"
+option_text CheckName = codes "--check"
+option_text CheckLetter = codes "-c"
 
 abbrev pub all_options : List OptionName
 all_options =
-    Help ∷ HelpLetter ∷ Version ∷ VersionLetter ∷ End ∷ Packed ∷ Pack ∷ FlatName ∷ FromFlat ∷ Hex ∷ Quiet ∷ Nesting ∷ Words ∷ []
+    Help ∷ HelpLetter ∷ Version ∷ VersionLetter ∷ End ∷ Packed ∷ Pack ∷ FlatName ∷ FromFlat ∷ Hex ∷ Quiet ∷ Nesting ∷ Words
+    ∷ CheckName ∷ CheckLetter ∷ []
 
 -- The option among `options` that has this text.
 abbrev pub option_among : List OptionName → List ℕ → Option OptionName
@@ -62,13 +66,15 @@ abbrev pub verb_text : Verb → List ℕ
 verb_text ToCanon = codes "canon"
 verb_text ToCheck = codes "check"
 verb_text ToSize = codes "size"
+verb_text ToDigest = codes "digest"
 
 -- The command that has this text.
 abbrev pub verb_named : List ℕ → Option Verb
 verb_named text =
     if bytes_eq text (verb_text ToCanon) then Some ToCanon else
     if bytes_eq text (verb_text ToCheck) then Some ToCheck else
-    if bytes_eq text (verb_text ToSize) then Some ToSize else None
+    if bytes_eq text (verb_text ToSize) then Some ToSize else
+    if bytes_eq text (verb_text ToDigest) then Some ToDigest else None
 
 -- The text of an option with a value.
 abbrev pub setting_text : Setting → List ℕ
@@ -111,33 +117,42 @@ plain_line = record {
   from_flat = false;
   hex = false;
   quiet = false;
+  lists = false;
   expects = None;
   ended = false;
 }
 
--- Whether the input is one message's raw words: `--from-flat` says so, and for `check` and `size`
--- also `--flat`.
+-- Whether the input is one message's raw words: `--from-flat` says so, and for all commands but
+-- `canon` also `--flat`.
 abbrev pub verb_reads_flat : Option Verb → Bool → Bool → Bool
 verb_reads_flat None flat from_flat = from_flat
 verb_reads_flat (Some ToCanon) flat from_flat = from_flat
 verb_reads_flat (Some ToCheck) flat from_flat = flat || from_flat
 verb_reads_flat (Some ToSize) flat from_flat = flat || from_flat
+verb_reads_flat (Some ToDigest) flat from_flat = flat || from_flat
 
 abbrev pub line_reads_flat : Line → Bool
 line_reads_flat line = verb_reads_flat line.verb line.flat line.from_flat
 
 -- An option of the line that its command doesn't have. Only `canon` has options for what it writes,
--- and only `check` has one for writing nothing; `--flat` is for all three.
+-- and only `digest` one for its lists, which `--quiet` needs there; `--flat` is for all of them.
 abbrev pub verb_exclusion : Option Verb → Line → Option ArgumentFault
 verb_exclusion None line = None
-verb_exclusion (Some ToCanon) line = if line.quiet then Some (NotOfCommand ToCanon Quiet) else None
+verb_exclusion (Some ToCanon) line =
+    if line.quiet then Some (NotOfCommand ToCanon Quiet) else
+    if line.lists then Some (NotOfCommand ToCanon CheckName) else None
 verb_exclusion (Some ToCheck) line =
     if line.pack then Some (NotOfCommand ToCheck Pack) else
-    if line.hex then Some (NotOfCommand ToCheck Hex) else None
+    if line.hex then Some (NotOfCommand ToCheck Hex) else
+    if line.lists then Some (NotOfCommand ToCheck CheckName) else None
 verb_exclusion (Some ToSize) line =
     if line.pack then Some (NotOfCommand ToSize Pack) else
     if line.hex then Some (NotOfCommand ToSize Hex) else
-    if line.quiet then Some (NotOfCommand ToSize Quiet) else None
+    if line.quiet then Some (NotOfCommand ToSize Quiet) else
+    if line.lists then Some (NotOfCommand ToSize CheckName) else None
+verb_exclusion (Some ToDigest) line =
+    if line.pack then Some (NotOfCommand ToDigest Pack) else
+    if line.hex then Some (NotOfCommand ToDigest Hex) else None
 
 -- Two options of the line that exclude each other: hex digits are written neither as raw words nor
 -- packed, and raw words aren't unpacked.
@@ -188,6 +203,8 @@ option_step FlatName line = step_if_allowed (record line { flat = true })
 option_step FromFlat line = step_if_allowed (record line { from_flat = true })
 option_step Hex line = step_if_allowed (record line { hex = true })
 option_step Quiet line = step_if_allowed (record line { quiet = true })
+option_step CheckName line = step_if_allowed (record line { lists = true })
+option_step CheckLetter line = step_if_allowed (record line { lists = true })
 option_step Nesting line = Ok (Goes (record line { expects = Some SetNesting }))
 option_step Words line = Ok (Goes (record line { expects = Some SetWords }))
 
@@ -245,6 +262,7 @@ abbrev pub command_of : Verb → Bool → Command
 command_of ToCanon flat = Canon (if flat then Flat else Framed)
 command_of ToCheck flat = Check
 command_of ToSize flat = Size
+command_of ToDigest flat = Digest
 
 -- The task that a line with this command requests.
 abbrev pub line_task : Verb → Line → Task
@@ -256,12 +274,20 @@ line_task verb line = record {
   pack = line.pack;
   hex = line.hex;
   quiet = line.quiet;
+  lists = line.lists;
 }
+
+-- Whether `digest` has `--quiet` without `--check`.
+abbrev pub lacks_check : Verb → Line → Bool
+lacks_check ToDigest line = line.quiet && not line.lists
+lacks_check ToCanon line = false
+lacks_check ToCheck line = false
+lacks_check ToSize line = false
 
 abbrev pub end_by : Option Setting → Option Verb → Line → Result Request ArgumentFault
 end_by (Some setting) verb line = Err (MissingValue setting)
 end_by None None line = Err MissingCommand
-end_by None (Some verb) line = Ok (Run (line_task verb line))
+end_by None (Some verb) line = if lacks_check verb line then Err (Needs Quiet CheckName) else Ok (Run (line_task verb line))
 
 -- What a line requests if no argument follows.
 abbrev pub end_of : Line → Result Request ArgumentFault

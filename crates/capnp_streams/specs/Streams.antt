@@ -28,13 +28,14 @@ use Rattle.capnp_pointers.specs.Faults.{fault_reason_text}
 use Rattle.capnp_pointers.specs.declared.pointers.canonical_fault.CanonicalFault.{CanonicalFault}
 use Rattle.capnp_messages.specs.Text.{check_line, size_line}
 use Rattle.capnp_messages.specs.CanonicalMessages.{IsCanonicalMessage}
+use Rattle.capnp_messages.specs.Digests.{IsDigestOf}
 use Rattle.capnp_messages.specs.Messages.{HasSizeOf, IsCanonicalWithin, IsFaultOf, IsValueOf}
 use Rattle.capnp_streams.specs.declared.streams.fault.Fault.{Fault}
 use Rattle.capnp_streams.specs.declared.streams.fault.Fault.TheVariants.{Frame, Layout, TooManyMessages}
 use Rattle.capnp_streams.specs.declared.streams.runs.Stop.{Stop}
 use Rattle.capnp_streams.specs.declared.streams.runs.Summary.{Summary}
 use Rattle.capnp_messages.specs.declared.messages.command.Command.{Command}
-use Rattle.capnp_messages.specs.declared.messages.command.Command.TheVariants.{Canon, Check, Size}
+use Rattle.capnp_messages.specs.declared.messages.command.Command.TheVariants.{Canon, Check, Size, Digest}
 use Rattle.capnp_messages.specs.declared.messages.command.Form.{Form}
 use Rattle.capnp_streams.specs.declared.streams.task.Task.{Task}
 use Rattle.capnp_messages.specs.Commands.{HasAnswerWithin, RefusesAnswer, form_bytes}
@@ -62,10 +63,13 @@ word_text word = codes ", word " ++ decimal word ++ 10 ∷ []
 abbrev pub fault_line : CanonicalFault → List ℕ
 fault_line f = no_text ++ fault_reason_text f.reason ++ segment_text f.segment ++ word_text f.word
 
--- The bytes that are written of canonical words: a line of lower case hex digits, two for each byte
--- in order, or the bytes in a form.
+-- The line of lower case hex digits, two for each byte in order.
+abbrev pub hex_line : List ℕ → List ℕ
+hex_line bytes = encode_lower bytes ++ 10 ∷ []
+
+-- The bytes that are written of canonical words: a line of hex digits, or the bytes in a form.
 abbrev pub written_words : Bool → Form → List ℕ → List ℕ
-written_words true form words = encode_lower (bytes_of_words words) ++ 10 ∷ []
+written_words true form words = hex_line (bytes_of_words words)
 written_words false form words = form_bytes form words
 
 -- What a command answers to S, with the other settings of a task: `holds` is yes or no, and `bytes`
@@ -84,6 +88,9 @@ AnswerIs Check task S false bytes =
 AnswerIs Size task S holds bytes =
     (holds ≡ true) × ((words : ℕ) × (caps : ℕ) × HasSizeOf S task.limits words caps ×
     (bytes ≡ size_line words caps))
+AnswerIs Digest task S holds bytes =
+    (holds ≡ true)
+    × ((digest : List ℕ) × IsDigestOf S task.limits digest × (bytes ≡ hex_line digest))
 
 -- The fault says why a command has no answer to S.
 abbrev pub RefusesBy : Command → ReaderOptions → Segments → Fault → Type 0
@@ -91,13 +98,14 @@ RefusesBy command limits S (Layout k) = RefusesAnswer command limits S k
 RefusesBy command limits S _ = ⊥
 
 -- How often memory was refused after a fault, if it was n times before: one more if there was none
--- for the frame that is read, or for a canonical copy; otherwise n.
+-- for the frame that is read, or for a canonical copy or its digest; otherwise n.
 abbrev pub refusals_behind : Command → Fault → ℕ → ℕ
 refusals_behind command (Frame e) n = frame_refusals e n
 refusals_behind command TooManyMessages n = n
 refusals_behind (Canon form) (Layout k) n = refusals_for k n
 refusals_behind Check (Layout k) n = n
 refusals_behind Size (Layout k) n = n
+refusals_behind Digest (Layout k) n = refusals_for k n
 
 -- The allocator is there after a command, and has counted one more refusal if there was no memory,
 -- and otherwise none.

@@ -1,6 +1,7 @@
 //! An input that reads ahead from a reader; an output that buffers bytes for a writer; an output
-//! that drops all bytes; and an output that puts a name before each line.
-ghost use Rattle.std.specs.Prelude.{◌≡◌, ◌<◌, ◌≤◌, ◌^◌, ◌-◌, length, false, true, None, Some, IfOk, IsErr};
+//! that drops all bytes; and outputs that put a name before each line, or a name and a number at its
+//! end.
+ghost use Rattle.std.specs.Prelude.{◌≡◌, ◌<◌, ◌≤◌, ◌^◌, ◌-◌, length, false, true, None, Some, IfOk, IsErr, OnOk};
 ghost use Rattle.std.specs.Io.Buffered.{reader_buffer, reader_remaining, writer_buffer, writer_contents};
 ghost use Rattle.capnp_format.specs.Segments.{Segments};
 ghost use Rattle.capnp_framing.specs.Devices.{ReadGives};
@@ -8,6 +9,7 @@ ghost use Rattle.capnp_framing.specs.Flat.{BeginsWithFrame};
 
 use capnp_framing::devices::{DeviceFault, Input, Output, write_all};
 use capnp_framing::framing::read_from_flat_slice;
+use capnp_messages::text::write_number;
 use capnp_packing::buffered::{BufferedInput, BufferedOutput};
 use std::io::{BufReader, BufWriter, Read, Write};
 
@@ -234,6 +236,160 @@ impl<W: Output> Output for NamedLines<'_, '_, W> {
 }
 
 impl<W: BufferedOutput> BufferedOutput for NamedLines<'_, '_, W> {
+    ghost kept = { λ n. W.kept n.output.now };
+
+    fn pass_on(&mut self) -> Result<(), DeviceFault> {
+        if self.output.pass_on().is_err() {
+            self.failed = true;
+            return Err(DeviceFault);
+        }
+        Ok(())
+    }
+}
+
+/// An output that writes to `output`, with two spaces, `name`, `:` and the number of the line at the
+/// end of each line: the lines of `sha256sum`, for messages of a file. Like `sha256sum`, writes `\\`,
+/// `\n` and `\r` for a backslash, a line feed and a carriage return in `name`, and then a backslash
+/// before each line. Its contract doesn't state what bytes a write adds to `output`.
+#[derive(Drop)]
+pub struct NumberedLines<'n, 'w, W> {
+    name: &'n str,
+    output: &'w mut W,
+    // The number of the line, counted from 1.
+    number: u64,
+    // Whether the next byte begins a line.
+    begins: bool,
+    failed: bool,
+}
+
+impl<'n, 'w, W: Output> NumberedLines<'n, 'w, W> {
+    /// Makes an output that writes lines to `output`, each with `name` and its number after it.
+    pub fn new(name: &'n str, output: &'w mut W) -> Self
+        ensures works { result.failed ≡ false }
+    {
+        NumberedLines {
+            name,
+            output,
+            number: 1,
+            begins: true,
+            failed: false,
+        }
+    }
+
+    /// Writes the name and the number of the line, and ends the line.
+    fn write_end(&mut self) -> Result<(), DeviceFault>
+        ensures failed { self.new.failed ≡ self.old.failed }
+    {
+        if self.output.failed() {
+            return Err(DeviceFault);
+        }
+        write_all(self.output, b"  ")?;
+        write_place(self.output, self.name, self.number)?;
+        write_all(self.output, b"\n")?;
+        self.number = self.number.saturating_add(1);
+        self.begins = true;
+        Ok(())
+    }
+
+    /// Writes bytes of `from`, at most up to the end of the line, and what comes before or at the end
+    /// of the line. Returns the number of bytes of `from` that it wrote. Precondition: `from` isn't
+    /// empty.
+    fn write_line(&mut self, from: &[u8]) -> Result<usize, DeviceFault>
+        requires { 0 < length from.now }
+        ensures some { IfOk result (λ n. 0 < n) }
+        ensures bound { IfOk result (λ n. n ≤ length from.now) }
+        ensures failed { self.new.failed ≡ self.old.failed }
+    {
+        if from[0] == b'\n' {
+            self.write_end()?;
+            return Ok(1);
+        }
+        if self.output.failed() {
+            return Err(DeviceFault);
+        }
+        if self.begins {
+            write_mark(self.output, self.name)?;
+            self.begins = false;
+        }
+        self.output.write(&from[..text_end(from)])
+    }
+}
+
+/// Whether `sha256sum` writes this byte of a file's name as a backslash and a letter or a backslash.
+fn is_escaped(byte: u8) -> bool {
+    matches!(byte, b'\\' | b'\n' | b'\r')
+}
+
+/// Writes the backslash with which `sha256sum` begins a line if `name` has a byte that it escapes.
+pub fn write_mark<W: Output>(output: &mut W, name: &str) -> Result<(), DeviceFault>
+    requires { W.has_failed output.old ≡ false }
+    ensures { OnOk result (W.has_failed output.new ≡ false) }
+{
+    if name.as_bytes().iter().any(|byte| is_escaped(*byte)) {
+        write_all(output, b"\\")?;
+    }
+    Ok(())
+}
+
+/// Writes `name` with the escapes of `sha256sum`, a `:`, and `number`.
+pub fn write_place<W: Output>(output: &mut W, name: &str, number: u64) -> Result<(), DeviceFault>
+    requires { W.has_failed output.old ≡ false }
+    ensures { OnOk result (W.has_failed output.new ≡ false) }
+{
+    for byte in name.as_bytes() {
+        if output.failed() {
+            return Err(DeviceFault);
+        }
+        match *byte {
+            b'\\' => write_all(output, b"\\\\")?,
+            b'\n' => write_all(output, b"\\n")?,
+            b'\r' => write_all(output, b"\\r")?,
+            other => write_all(output, &[other])?,
+        }
+    }
+    if output.failed() {
+        return Err(DeviceFault);
+    }
+    write_all(output, b":")?;
+    write_number(output, number)
+}
+
+/// The position of the first line feed in `bytes`; the end of `bytes` if they have none, or begin
+/// with one.
+fn text_end(bytes: &[u8]) -> usize
+    ensures some { 0 < length bytes.now → 0 < result }
+    ensures within { result ≤ length bytes.now }
+{
+    match bytes.iter().position(|byte| *byte == b'\n') {
+        Some(at) if 0 < at => at,
+        _ => bytes.len(),
+    }
+}
+
+impl<W: Output> Output for NumberedLines<'_, '_, W> {
+    ghost contents = { λ _. None };
+
+    ghost has_failed = { λ n. n.failed };
+
+    fn write(&mut self, from: &[u8]) -> Result<usize, DeviceFault> {
+        if from.is_empty() {
+            return Ok(0);
+        }
+        match self.write_line(from) {
+            Ok(n) => Ok(n),
+            Err(DeviceFault) => {
+                self.failed = true;
+                Err(DeviceFault)
+            }
+        }
+    }
+
+    fn failed(&self) -> bool {
+        self.failed
+    }
+}
+
+impl<W: BufferedOutput> BufferedOutput for NumberedLines<'_, '_, W> {
     ghost kept = { λ n. W.kept n.output.now };
 
     fn pass_on(&mut self) -> Result<(), DeviceFault> {

@@ -18,4 +18,6 @@ pub enum Command {
     Check,
     /// Count the message's words and capabilities, without landing pads.
     Size,
+    /// Write the SHA-256 of the message's canonical words.
+    Digest,
 }

@@ -6,12 +6,13 @@ ghost use Rattle.capnp_streams.specs.Streams.{Answers, CountsRefusals, question_
 
 use super::fault::Fault;
 use super::task::Task;
-use super::writing::{write_canonical, write_canonical_words, write_fault};
+use super::writing::{write_canonical, write_canonical_words, write_fault, write_hex_line};
 use capnp_arena::arena::{Allocator, ReaderArena, ReaderArenaImpl, ReaderSegments};
 use capnp_framing::devices::{DeviceFault, Output};
 use capnp_framing::framing::FrameError;
 use capnp_messages::messages::{
-    Command, Form, canonical_bytes, canonical_fault_of, canonical_from, canonical_segment, size_of,
+    Command, Form, canonical_bytes, canonical_fault_of, canonical_from, canonical_segment,
+    digest_with, size_of,
 };
 use capnp_messages::text::write_size;
 use std::alloc::Global;
@@ -139,6 +140,33 @@ fn canon<A: Allocator, S: ReaderSegments + Drop, W: Output>(
     canon_copy(memory, form, task, &source, output)
 }
 
+/// Writes the SHA-256 of the message's canonical words as a line of hex digits. Returns `true` if
+/// the line is written.
+fn digest<A: Allocator, S: ReaderSegments + Drop, W: Output>(
+    memory: &mut Memory<A>,
+    task: Task,
+    segments: S,
+    output: &mut W,
+) -> Result<bool, Fault>
+    requires there { IsSome memory.old.allocator }
+    requires small { IsSmall (S.segments segments) }
+    requires works { W.has_failed output.old ≡ false }
+    ensures answer { Answers W.Output output.old output.new
+        (question_on Command.Digest task (S.segments segments)) result }
+    ensures memory { CountsRefusals A.refusals memory.old.allocator memory.new.allocator
+        Command.Digest result }
+{
+    let Some(allocator) = memory.allocator.take() else {
+        unreachable!()
+    };
+    let (digest, allocator) = digest_with(memory.alloc, allocator, segments, task.limits);
+    memory.allocator = Some(allocator);
+    match digest {
+        Ok(digest) => if_written(write_hex_line(output, &digest), true),
+        Err(kind) => Err(Fault::Layout(kind)),
+    }
+}
+
 /// Answers one message: writes what `task` asks for. Returns `false` if the command is `Check` and
 /// the message isn't canonical; returns `true` after any other answer.
 pub(super) fn answer<A: Allocator, S: ReaderSegments + Drop, W: Output>(
@@ -166,5 +194,6 @@ pub(super) fn answer<A: Allocator, S: ReaderSegments + Drop, W: Output>(
             Ok(size) => if_written(write_size(output, size), true),
             Err(kind) => Err(Fault::Layout(kind)),
         },
+        Command::Digest => digest(memory, task, segments, output),
     }
 }

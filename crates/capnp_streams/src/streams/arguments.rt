@@ -1,7 +1,7 @@
 //! Parses the arguments, one by one.
 ghost use Rattle.std.specs.Prelude.{◌≡◌, ◌<◌, MatchOption, length};
 ghost use Rattle.std.specs.List.{after_first, before_first, position_or_len};
-ghost use Rattle.capnp_streams.specs.Arguments.{assigned_step, budget_of, command_step, end_of, exclusion_of, form_exclusion, has_option_form, is_equals, line_reads_flat, line_with_value, named_step, nesting_of, operand_step, option_named, option_step, option_text, parted_step, plain_line, setting_text, step_if_allowed, argument_step, step_or, line_task, verb_exclusion, verb_named, verb_text};
+ghost use Rattle.capnp_streams.specs.Arguments.{assigned_step, budget_of, command_step, end_of, exclusion_of, form_exclusion, has_option_form, is_equals, lacks_check, line_reads_flat, line_with_value, named_step, nesting_of, operand_step, option_named, option_step, option_text, parted_step, plain_line, setting_text, step_if_allowed, argument_step, step_or, line_task, verb_exclusion, verb_named, verb_text};
 
 use super::task::{Request, Task};
 use capnp_arena::arena::ReaderOptions;
@@ -14,6 +14,7 @@ pub enum Verb {
     Canon,
     Check,
     Size,
+    Digest,
 }
 
 impl Verb {
@@ -25,6 +26,7 @@ impl Verb {
             Verb::Canon => "canon",
             Verb::Check => "check",
             Verb::Size => "size",
+            Verb::Digest => "digest",
         }
     }
 }
@@ -45,10 +47,12 @@ pub enum OptionName {
     Quiet,
     Nesting,
     Words,
+    Check,
+    CheckLetter,
 }
 
 /// All options.
-const OPTIONS: [OptionName; 13] = [
+const OPTIONS: [OptionName; 15] = [
     OptionName::Help,
     OptionName::HelpLetter,
     OptionName::Version,
@@ -62,6 +66,8 @@ const OPTIONS: [OptionName; 13] = [
     OptionName::Quiet,
     OptionName::Nesting,
     OptionName::Words,
+    OptionName::Check,
+    OptionName::CheckLetter,
 ];
 
 impl OptionName {
@@ -83,6 +89,8 @@ impl OptionName {
             OptionName::Quiet => "--quiet",
             OptionName::Nesting => "--nesting",
             OptionName::Words => "--words",
+            OptionName::Check => "--check",
+            OptionName::CheckLetter => "-c",
         }
     }
 }
@@ -127,6 +135,8 @@ pub enum ArgumentFault {
     NotOfCommand(Verb, OptionName),
     /// The two options can't be used together.
     Excluded(OptionName, OptionName),
+    /// The command has the first option only together with the second.
+    Needs(OptionName, OptionName),
 }
 
 /// What the arguments so far ask for.
@@ -140,6 +150,8 @@ pub(super) struct Line {
     from_flat: bool,
     hex: bool,
     quiet: bool,
+    /// Whether the files are lists of digests.
+    lists: bool,
     /// The option whose value comes next.
     expects: Option<Setting>,
     /// Whether `--` came, after which no argument is an option.
@@ -171,6 +183,7 @@ impl Line {
             from_flat: false,
             hex: false,
             quiet: false,
+            lists: false,
             expects: None,
             ended: false,
         }
@@ -181,7 +194,7 @@ impl Line {
         ensures { result ≡ line_reads_flat self.now }
     {
         match self.verb {
-            Some(Verb::Check | Verb::Size) => self.flat || self.from_flat,
+            Some(Verb::Check | Verb::Size | Verb::Digest) => self.flat || self.from_flat,
             Some(Verb::Canon) | None => self.from_flat,
         }
     }
@@ -194,14 +207,20 @@ impl Line {
         let (verb, option) = match self.verb {
             None => return None,
             Some(Verb::Canon) if self.quiet => (Verb::Canon, OptionName::Quiet),
+            Some(Verb::Canon) if self.lists => (Verb::Canon, OptionName::Check),
             Some(Verb::Canon) => return None,
             Some(Verb::Check) if self.pack => (Verb::Check, OptionName::Pack),
             Some(Verb::Check) if self.hex => (Verb::Check, OptionName::Hex),
+            Some(Verb::Check) if self.lists => (Verb::Check, OptionName::Check),
             Some(Verb::Check) => return None,
             Some(Verb::Size) if self.pack => (Verb::Size, OptionName::Pack),
             Some(Verb::Size) if self.hex => (Verb::Size, OptionName::Hex),
             Some(Verb::Size) if self.quiet => (Verb::Size, OptionName::Quiet),
+            Some(Verb::Size) if self.lists => (Verb::Size, OptionName::Check),
             Some(Verb::Size) => return None,
+            Some(Verb::Digest) if self.pack => (Verb::Digest, OptionName::Pack),
+            Some(Verb::Digest) if self.hex => (Verb::Digest, OptionName::Hex),
+            Some(Verb::Digest) => return None,
         };
         Some(ArgumentFault::NotOfCommand(verb, option))
     }
@@ -273,6 +292,11 @@ impl Line {
             OptionName::Hex => Line { hex: true, ..self }.if_allowed(),
             OptionName::Quiet => Line {
                 quiet: true,
+                ..self
+            }
+            .if_allowed(),
+            OptionName::Check | OptionName::CheckLetter => Line {
+                lists: true,
                 ..self
             }
             .if_allowed(),
@@ -429,8 +453,24 @@ impl Line {
             return Err(ArgumentFault::MissingValue(setting));
         }
         match self.verb {
-            Some(verb) => Ok(Request::Run(self.task(verb))),
+            Some(verb) => {
+                if self.lacks_check(verb) {
+                    Err(ArgumentFault::Needs(OptionName::Quiet, OptionName::Check))
+                } else {
+                    Ok(Request::Run(self.task(verb)))
+                }
+            }
             None => Err(ArgumentFault::MissingCommand),
+        }
+    }
+
+    /// Whether the command is `digest`, with `--quiet` and without `--check`.
+    fn lacks_check(self, verb: Verb) -> bool
+        ensures { result ≡ lacks_check verb self }
+    {
+        match verb {
+            Verb::Digest => self.quiet && !self.lists,
+            Verb::Canon | Verb::Check | Verb::Size => false,
         }
     }
 
@@ -442,6 +482,7 @@ impl Line {
             Verb::Canon => Command::Canon(if self.flat { Form::Flat } else { Form::Framed }),
             Verb::Check => Command::Check,
             Verb::Size => Command::Size,
+            Verb::Digest => Command::Digest,
         };
         Task {
             command,
@@ -451,6 +492,7 @@ impl Line {
             pack: self.pack,
             hex: self.hex,
             quiet: self.quiet,
+            lists: self.lists,
         }
     }
 }
@@ -487,6 +529,8 @@ fn verb_of(text: &str) -> Option<Verb>
         Some(Verb::Check)
     } else if text == "size" {
         Some(Verb::Size)
+    } else if text == "digest" {
+        Some(Verb::Digest)
     } else {
         None
     }

@@ -1,11 +1,11 @@
 //! Writes the answers about one message.
-ghost use Rattle.std.specs.Prelude.{◌≡◌, ◌≤◌, ◌<◌, ◌^◌, ◌++◌, ◌∷◌, [], false, true, length};
+ghost use Rattle.std.specs.Prelude.{◌≡◌, ◌≤◌, ◌<◌, ◌^◌, false, true, length};
 ghost use Rattle.hex.specs.Hex.{encode_lower};
 ghost use Rattle.capnp_format.specs.Bytes.{words_of};
 ghost use Rattle.capnp_framing.specs.Frames.{bytes_of_words};
 ghost use Rattle.capnp_framing.specs.Writing.{Writes};
 ghost use Rattle.capnp_messages.specs.Text.{check_line};
-ghost use Rattle.capnp_streams.specs.Streams.{fault_line, no_text, segment_text, word_text, written_words};
+ghost use Rattle.capnp_streams.specs.Streams.{fault_line, hex_line, no_text, segment_text, word_text, written_words};
 
 use capnp_framing::devices::{DeviceFault, Output, write_all};
 use capnp_messages::messages::{Form, write_words};
@@ -83,10 +83,9 @@ fn write_digits<W: Output>(output: &mut W, bytes: &[u8]) -> Result<(), DeviceFau
 }
 
 /// Writes bytes as a line of lower case hex digits, two a byte.
-fn write_hex_line<W: Output>(output: &mut W, bytes: &[u8]) -> Result<(), DeviceFault>
+pub(super) fn write_hex_line<W: Output>(output: &mut W, bytes: &[u8]) -> Result<(), DeviceFault>
     requires { W.has_failed output.old ≡ false }
-    ensures { Writes W.Output result output.old output.new
-        (encode_lower bytes.now ++ 10 ∷ []) }
+    ensures { Writes W.Output result output.old output.new (hex_line bytes.now) }
 {
     let mut rest = bytes;
     while !rest.is_empty() {

@@ -1,0 +1,336 @@
+//! Verifies lists that `digest` has written: whether the messages that they name still have the
+//! digests that they state.
+
+use crate::inputs::{Unanswered, answer_file, pass_on, said};
+use crate::texts::{NO_MEMORY, NO_UTF8};
+use capnp_framing::devices::{DeviceFault, MemoryOutput, Output, write_all};
+use capnp_packing::buffered::BufferedOutput;
+use capnp_streams::devices::{write_mark, write_place};
+use capnp_streams::streams::Task;
+use std::alloc::{AllocError, Global};
+use std::fs::File;
+use std::io::{self, Read};
+
+/// The number of hex digits of a digest.
+const DIGITS: usize = 64;
+
+/// The number of bytes of a line that `digest` writes of a message, without its name: the digits, and
+/// a line feed.
+const LINE: usize = DIGITS + 1;
+
+/// What a line of a list says: the digest of message `number` of the file `name` has these hex
+/// digits.
+#[derive(Drop)]
+struct Entry<'a> {
+    digits: &'a str,
+    name: String,
+    number: u64,
+}
+
+/// What verifying has found so far.
+#[derive(Clone, Copy)]
+struct Verified {
+    /// The number of messages that are missing or have another digest.
+    failed: u64,
+    /// Whether a list names no message.
+    is_empty: bool,
+    /// Whether a list or a message couldn't be read. The reason is written to standard error.
+    is_unread: bool,
+}
+
+/// Verifies the lists in turn, or the one in standard input if there are no names. Writes for each
+/// line of a list whether the message has the digest; if the task is quiet, only if it hasn't.
+/// Returns whether all have. Ends with an error after the last list if something couldn't be read.
+pub fn verify_all<W: BufferedOutput>(
+    rt: &HostRuntime,
+    task: Task,
+    lists: &[String],
+    output: &mut W,
+) -> Result<bool, Unanswered> {
+    let mut found = Verified {
+        failed: 0,
+        is_empty: false,
+        is_unread: false,
+    };
+    if lists.is_empty() {
+        verify(rt, task, "-", output, &mut found)?;
+    }
+    for list in lists {
+        verify(rt, task, list.as_str(), output, &mut found)?;
+    }
+    if 0 < found.failed {
+        pass_on(output)?;
+        let _ = match found.failed {
+            1 => rt.eprintln("capnp_canon: 1 listed message is missing or differs"),
+            n => eprintln!(rt; "capnp_canon: {n} listed messages are missing or differ"),
+        };
+    }
+    if found.is_unread {
+        return Err(Unanswered::Said);
+    }
+    Ok(found.failed == 0 && !found.is_empty)
+}
+
+/// Verifies the list in the file `name`, or in standard input if `name` is `-`.
+fn verify<W: BufferedOutput>(
+    rt: &HostRuntime,
+    task: Task,
+    name: &str,
+    output: &mut W,
+    found: &mut Verified,
+) -> Result<(), Unanswered> {
+    let mut bytes = Vec::new(rt.alloc());
+    if let Err(error) = read_list(rt, name, &mut bytes) {
+        pass_on(output)?;
+        let _ = match said(rt.alloc(), &error) {
+            Ok(why) => eprintln!(rt; "capnp_canon: {name}: {why}"),
+            Err(AllocError) => eprintln!(rt; "capnp_canon: {name}: {error}"),
+        };
+        found.is_unread = true;
+        return Ok(());
+    }
+    let Ok(text) = str::from_utf8(bytes.as_slice()) else {
+        pass_on(output)?;
+        let _ = eprintln!(rt; "capnp_canon: {name}: {NO_UTF8}");
+        found.is_unread = true;
+        return Ok(());
+    };
+    match verify_lines(rt, task, name, text, output, found) {
+        Ok(done) => done,
+        Err(AllocError) => {
+            pass_on(output)?;
+            let _ = rt.eprintln(NO_MEMORY);
+            Err(Unanswered::Said)
+        }
+    }
+}
+
+/// Appends to `bytes` what the file `name` holds, or standard input if `name` is `-`.
+fn read_list(rt: &HostRuntime, name: &str, bytes: &mut Vec<u8>) -> io::Result<()> {
+    if name == "-" {
+        rt.reader().read_to_end(bytes)?;
+    } else {
+        File::open(rt, name)?.read_to_end(bytes)?;
+    }
+    Ok(())
+}
+
+/// Verifies the lines of the list `list`. Fails if there is no memory for what a line says.
+fn verify_lines<W: BufferedOutput>(
+    rt: &HostRuntime,
+    task: Task,
+    list: &str,
+    text: &str,
+    output: &mut W,
+    found: &mut Verified,
+) -> Result<Result<(), Unanswered>, AllocError> {
+    let mut file = String::new(rt.alloc());
+    let mut digests: Option<MemoryOutput> = None;
+    let mut number = 0u64;
+    let mut entries = 0u64;
+    let mut others = 0u64;
+    let mut first = 0u64;
+    for line in text.split('\n') {
+        number = number.saturating_add(1);
+        if line.is_empty() {
+            continue;
+        }
+        let Some(entry) = entry_of(rt.alloc(), line)? else {
+            if others == 0 {
+                first = number;
+            }
+            others = others.saturating_add(1);
+            continue;
+        };
+        entries = entries.saturating_add(1);
+        let is_known = digests.is_some() && file.as_str() == entry.name.as_str();
+        if !is_known {
+            file = String::from_str(rt.alloc(), entry.name.as_str())?;
+            match digests_of(rt, task, file.as_str(), output, found) {
+                Ok(read) => digests = Some(read),
+                Err(unanswered) => return Ok(Err(unanswered)),
+            }
+        }
+        let holds = match &digests {
+            Some(read) => has_digest(read.bytes(), &entry),
+            None => false,
+        };
+        if tell_verified(task, output, &entry, holds, found).is_err() {
+            return Ok(Err(Unanswered::WriteFailed));
+        }
+    }
+    if 0 < others || entries == 0 {
+        if let Err(unanswered) = pass_on(output) {
+            return Ok(Err(unanswered));
+        }
+        tell_others(rt, list, first, others);
+        found.is_unread |= 0 < others;
+        found.is_empty |= others == 0;
+    }
+    Ok(Ok(()))
+}
+
+/// Reports that lines of a list aren't those of `digest`, or that none is.
+fn tell_others(rt: &HostRuntime, list: &str, first: u64, others: u64) {
+    let _ = match others {
+        0 => eprintln!(rt; "capnp_canon: {list}: no line names a message"),
+        1 => eprintln!(rt; "capnp_canon: {list}: line {first} is not as `digest` writes it"),
+        _ => {
+            let more = others - 1;
+            eprintln!(rt;
+                "capnp_canon: {list}: line {first} and {more} more are not as `digest` writes them"
+            )
+        }
+    };
+}
+
+/// Returns the digests of the messages of a file, as far as they are answered: `LINE` bytes for each.
+fn digests_of<W: BufferedOutput>(
+    rt: &HostRuntime,
+    task: Task,
+    name: &str,
+    output: &mut W,
+    found: &mut Verified,
+) -> Result<MemoryOutput, Unanswered> {
+    pass_on(output)?;
+    let mut digests = MemoryOutput::new(rt.alloc());
+    match answer_file(rt, task, name, &mut digests) {
+        Ok(_) => {}
+        Err(Unanswered::Said) => found.is_unread = true,
+        Err(Unanswered::WriteFailed) => {
+            let _ = rt.eprintln(NO_MEMORY);
+            found.is_unread = true;
+        }
+    }
+    Ok(digests)
+}
+
+/// Whether the digest of the entry is that of its message. `digests` has `LINE` bytes for each
+/// message of the file.
+fn has_digest(digests: &[u8], entry: &Entry<'_>) -> bool {
+    let Some(at) = entry.number.checked_sub(1) else {
+        return false;
+    };
+    let Some(start) = (at as usize).checked_mul(LINE) else {
+        return false;
+    };
+    if digests.len() <= start || digests.len() - start < LINE {
+        return false;
+    }
+    digests[start..start + DIGITS].eq_ignore_ascii_case(entry.digits.as_bytes())
+}
+
+/// Counts an entry whose message hasn't the digest, and writes the line about the entry; if the task
+/// is quiet, only if its message hasn't the digest.
+fn tell_verified<W: BufferedOutput>(
+    task: Task,
+    output: &mut W,
+    entry: &Entry<'_>,
+    holds: bool,
+    found: &mut Verified,
+) -> Result<(), DeviceFault> {
+    if !holds {
+        found.failed = found.failed.saturating_add(1);
+    }
+    if holds && task.quiet {
+        return Ok(());
+    }
+    write_verified(output, entry, holds)
+}
+
+/// Writes the line about an entry: whether its message has the digest.
+fn write_verified<W: BufferedOutput>(
+    output: &mut W,
+    entry: &Entry<'_>,
+    holds: bool,
+) -> Result<(), DeviceFault> {
+    if output.failed() {
+        return Err(DeviceFault);
+    }
+    let name = entry.name.as_str();
+    write_mark(output, name)?;
+    write_place(output, name, entry.number)?;
+    if holds {
+        write_all(output, b": OK\n")
+    } else {
+        write_all(output, b": FAILED\n")
+    }
+}
+
+/// Returns what the line says; `None` if it isn't as `digest` writes it.
+fn entry_of(alloc: Global, line: &str) -> Result<Option<Entry<'_>>, AllocError> {
+    let (is_escaped, rest) = match line.strip_prefix('\\') {
+        Some(rest) => (true, rest),
+        None => (false, line),
+    };
+    let Some((front, number)) = rest.rsplit_once(':') else {
+        return Ok(None);
+    };
+    let (Some((digits, name)), Some(number)) = (parted(front), number_of(number)) else {
+        return Ok(None);
+    };
+    let name = if is_escaped {
+        unescaped(alloc, name)?
+    } else {
+        String::from_str(alloc, name)?
+    };
+    Ok(Some(Entry {
+        digits,
+        name,
+        number,
+    }))
+}
+
+/// Returns the hex digits and the name in `front`, which are parted by two spaces, or by a space and
+/// a `*`.
+fn parted(front: &str) -> Option<(&str, &str)> {
+    let (digits, rest) = front.split_at_checked(DIGITS)?;
+    if !digits
+        .as_bytes()
+        .iter()
+        .all(|byte| byte.is_ascii_hexdigit())
+    {
+        return None;
+    }
+    let name = match rest.strip_prefix("  ") {
+        Some(name) => name,
+        None => rest.strip_prefix(" *")?,
+    };
+    Some((digits, name))
+}
+
+/// Returns the number that `text` states in decimal digits, the first of which isn't 0.
+fn number_of(text: &str) -> Option<u64> {
+    if text.starts_with('0') || !text.as_bytes().iter().all(|byte| byte.is_ascii_digit()) {
+        return None;
+    }
+    text.parse::<u64>().ok()
+}
+
+/// Returns `name` without the escapes of `sha256sum`.
+fn unescaped(alloc: Global, name: &str) -> Result<String, AllocError> {
+    let mut plain = String::new(alloc);
+    let mut is_escaped = false;
+    for letter in name.chars() {
+        if is_escaped {
+            is_escaped = false;
+            match letter {
+                '\\' => plain.push('\\')?,
+                'n' => plain.push('\n')?,
+                'r' => plain.push('\r')?,
+                other => {
+                    plain.push('\\')?;
+                    plain.push(other)?;
+                }
+            }
+        } else if letter == '\\' {
+            is_escaped = true;
+        } else {
+            plain.push(letter)?;
+        }
+    }
+    if is_escaped {
+        plain.push('\\')?;
+    }
+    Ok(plain)
+}
