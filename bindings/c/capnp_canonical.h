@@ -197,6 +197,14 @@ uint32_t capnp_canonical_size(const uint8_t *frame, size_t frame_size, int32_t n
  * Reads only the segment table, not the message. After a refusal `*bytes` is 0. */
 uint32_t capnp_canonical_frame_size(const uint8_t *frame, size_t size, uint64_t words, size_t *bytes);
 
+/* Writes to `*bytes` how many bytes of a stream to have, from the start of a frame on, before capnp_canonical_frame_size
+ * finds the frame whole. `prefix` has the first `size` of them. If they contain the segment table, that is the size of the
+ * frame. Otherwise it is the size of the table as far as they tell it, which is more than `size`: read until as many bytes
+ * are there, and ask again. No byte after the frame is ever requested. Refuses a frame of too many segments, or of more
+ * than `words` words, as soon as its first bytes tell this; `*bytes` is then 0. A frame of many words may be announced by
+ * eight bytes, so make room for what has arrived, not for what is announced. */
+uint32_t capnp_canonical_frame_size_from_prefix(const uint8_t *prefix, size_t size, uint64_t words, size_t *bytes);
+
 /* copy, copy_flat, digest, check and size, for a message of `count` segments. There may be more segments than a frame can
  * have. If there are none there is no root, and the call is refused with CAPNP_CANONICAL_INVALID_SEGMENT_ID. */
 uint32_t capnp_canonical_segments_copy(const struct capnp_canonical_segment *segments, size_t count, int32_t nesting, uint64_t words, uint8_t *to, size_t room, size_t *written);

@@ -275,6 +275,16 @@ inline std::size_t frame_size(Bytes stream, std::uint64_t words = CAPNP_CANONICA
     throw Error(answer, stream.place(), 0, capnp_canonical_looks_like(stream.data(), stream.size()));
 }
 
+// How many bytes of a stream to have, from the start of a frame on, before frame_size finds the frame whole: the size of
+// the frame if `prefix`, its first bytes, contains its segment table; otherwise the size of the table as far as they tell
+// it, which is more than `prefix` has.
+inline std::size_t frame_size_from_prefix(Bytes prefix, std::uint64_t words = CAPNP_CANONICAL_WORDS) {
+    std::size_t size = 0;
+    std::uint32_t answer = capnp_canonical_frame_size_from_prefix(prefix.data(), prefix.size(), words, &size);
+    if (answer == CAPNP_CANONICAL_DONE) return size;
+    throw Error(answer, prefix.place(), 0, capnp_canonical_looks_like(prefix.data(), prefix.size()));
+}
+
 namespace detail {
 
 // Whether there is a byte in both of two ranges.
@@ -631,6 +641,56 @@ private:
     Bytes stream_;
     std::uint64_t words_;
     std::shared_ptr<const void> kept_;
+};
+
+// The frames of a stream that is read as it comes, such as a socket or a pipe. Reads no byte after the frame that it
+// returns, and makes room for at most as many bytes as have come, or for 256 KiB.
+//
+//     capnp_canonical::FrameReader frames([&](std::uint8_t* to, std::size_t size) {
+//         in.read(reinterpret_cast<char*>(to), static_cast<std::streamsize>(size));
+//         return static_cast<std::size_t>(in.gcount());
+//     });
+//     while (std::optional<capnp_canonical::Bytes> frame = frames.next()) ..
+//
+// `read` waits for bytes, puts at most `size` of them at `to`, and returns how many; 0 at the end of the stream. What it
+// throws passes through `next`, after which the reader is at no frame's start any more.
+template <typename Read>
+class FrameReader {
+public:
+    explicit FrameReader(Read read, std::uint64_t words = CAPNP_CANONICAL_WORDS)
+        : read_(std::move(read)), words_(words) {}
+
+    // The next frame, whose bytes stay as they are until the next call or the end of the reader; nothing at the end of
+    // the stream. Throws Error if the next bytes aren't a frame of at most as many words, or the stream ends within one.
+    std::optional<Bytes> next() CAPNP_CANONICAL_LIFETIMEBOUND {
+        const Place here = {place_.message + 1, place_.byte};
+        std::size_t held = 0;
+        for (std::size_t wanted = smallest; held < wanted;) {
+            const std::size_t room = std::min(wanted, held + std::max(held, piece));
+            if (buffer_.size() < room) buffer_.resize(room);
+            const std::size_t came = read_(buffer_.data() + held, room - held);
+            if (came == 0 && held == 0) return std::nullopt;
+            if (came == 0) {
+                const char* like = capnp_canonical_looks_like(buffer_.data(), held);
+                throw Error(CAPNP_CANONICAL_TRUNCATED, here, wanted, like);
+            }
+            held += came;
+            if (held == wanted) wanted = frame_size_from_prefix({buffer_.data(), held, here}, words_);
+        }
+        place_ = {here.message, here.byte + held};
+        return Bytes(buffer_.data(), held, here);
+    }
+
+private:
+    // The size of the smallest segment table.
+    static constexpr std::size_t smallest = 8;
+    static constexpr std::size_t piece = std::size_t{1} << 18;
+
+    Read read_;
+    std::uint64_t words_;
+    std::vector<std::uint8_t> buffer_;
+    // The number of the last frame, and the byte after it.
+    Place place_;
 };
 
 // The version of the linked library: major * 10000 + minor * 100 + patch.

@@ -11,6 +11,7 @@
 #include <ctime>
 #include <fstream>
 #include <functional>
+#include <optional>
 #include <sstream>
 #include <stdexcept>
 #include <string>
@@ -336,6 +337,45 @@ void test_temporaries() {
     require(capnp_canonical::Frames(std::move(stream), 4).begin() == capnp_canonical::Frames(ZERO_WORD).begin(), "a limit");
 }
 
+// A stream that is read as it comes, at most `most` bytes at a time, and no byte after the frame that is wanted.
+void test_frame_reader() {
+    const Vector stream = bytes_of(digits_of(ZERO_WORD) + digits_of(SHARED));
+    for (std::size_t most = 1; most <= stream.size(); most++) {
+        for (std::size_t end = 0; end <= stream.size(); end++) {
+            std::size_t at = 0, count = 0;
+            capnp_canonical::FrameReader frames([&](std::uint8_t* to, std::size_t size) {
+                std::size_t came = std::min({most, size, end - at});
+                std::copy_n(stream.data() + at, came, to);
+                at += came;
+                return came;
+            });
+            std::string refused;
+            try {
+                while (std::optional<Bytes> frame = frames.next()) {
+                    const Vector& wanted = count++ ? SHARED : ZERO_WORD;
+                    require(digits_of(*frame) == digits_of(wanted), "a frame of a reader");
+                    require(frame->place().byte == (count == 1 ? 0 : 40) && frame->place().message == count, "its place");
+                    require(at == frame->place().byte + wanted.size(), "bytes after a frame");
+                }
+            } catch (const Error& error) {
+                refused = error.name();
+                require(error.place().message == count + 1, "which frame is refused");
+            }
+            require(count == (end == stream.size() ? 2 : end >= 40 ? 1 : 0), "the number of frames");
+            require_same("a stream cut short", refused, end == 0 || end == 40 || end == stream.size() ? "" : "Truncated");
+        }
+    }
+    const Vector table = bytes_of("0000000005000000");
+    std::size_t at = 0;
+    capnp_canonical::FrameReader frames([&](std::uint8_t* to, std::size_t size) {
+        std::size_t came = std::min(size, table.size() - at);
+        std::copy_n(table.data() + at, came, to);
+        at += came;
+        return came;
+    }, 4);
+    require_same("a long frame", answer([&] { return frames.next() ? "a frame" : "nothing"; }), "MessageTooLong");
+}
+
 // Bytes behind the frame at the front cost nothing: 2,000 copies of a message in front of 64 MiB.
 void test_bytes_behind() {
     Vector stream(std::size_t(64) << 20);
@@ -450,6 +490,7 @@ int main(int count, char** words) {
     test("bytes behind a frame", test_bytes_behind);
     test("faults", test_faults);
     test("frames of a stream", test_frames);
+    test("frames of a reader", test_frame_reader);
     test("errors", test_errors);
     test("version", [] { require(capnp_canonical::version() == CAPNP_CANONICAL_VERSION, "another than the header's"); });
     return failed ? 1 : 0;

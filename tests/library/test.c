@@ -199,6 +199,19 @@ static void test_frame_size(const struct message *of) {
     free(more.at);
 }
 
+/* The bytes at the front of the frame tell its size: never more than it, more than there is of it, and all of it if the
+ * segment table is there. The table has four bytes for the number of segments less one, and four for each size. */
+static void test_frame_size_from_prefix(struct bytes frame) {
+    size_t table = (size_t)((frame.at[0] | frame.at[1] << 8) + 1) / 2 * 8 + 8;
+    for (size_t size = 0; size <= frame.size; size++) {
+        struct bytes prefix = copy_of(frame.at, size);
+        size_t bytes = 0;
+        expect(capnp_canonical_frame_size_from_prefix(prefix.at, size, frame.size / 8, &bytes) == CAPNP_CANONICAL_DONE, "a part of a frame has a size");
+        expect(size < table ? size < bytes && bytes <= table : bytes == frame.size, "the size that a part of a frame tells");
+        free(prefix.at);
+    }
+}
+
 /* Each of the calls on a frame that is cut short anywhere. */
 static void test_cuts(struct bytes frame) {
     for (size_t size = 0; size < frame.size; size++) {
@@ -395,6 +408,7 @@ static void test_message(const struct message *of) {
     test_size(of, NULL);
     if (strcmp(of->copy, "Truncated") == 0 || of->frame.size == 0) return;
     test_frame_size(of);
+    test_frame_size_from_prefix(of->frame);
     for (int odd = 0; odd < 2; odd++) {
         take_apart(of->frame, &parts, odd);
         test_copies(of, &parts);
@@ -458,6 +472,11 @@ static void test_limits(void) {
     expect(copied(&empty, no_bytes, &size) == CAPNP_CANONICAL_INVALID_SEGMENT_ID, "no segments");
     expect(capnp_canonical_segments_copy(NULL, 0, NESTING, WORDS, NULL, 0, &size) == CAPNP_CANONICAL_INVALID_SEGMENT_ID, "no array");
     expect(capnp_canonical_frame_size(frame.at, frame.size, 1, &size) == CAPNP_CANONICAL_MESSAGE_TOO_LONG && !size, "a frame beyond the limit");
+    size = SIZE_MAX;
+    expect(capnp_canonical_frame_size_from_prefix(frame.at, 8, 1, &size) == CAPNP_CANONICAL_MESSAGE_TOO_LONG && !size, "a table beyond the limit");
+    size = SIZE_MAX;
+    static const uint8_t many[4] = {0, 2, 0, 0};
+    expect(capnp_canonical_frame_size_from_prefix(many, 4, 1, &size) == CAPNP_CANONICAL_TOO_MANY_SEGMENTS && !size, "a table of 513 segments");
     expect(capnp_canonical_copy(frame.at, frame.size, 0, WORDS, NULL, 0, &size) == CAPNP_CANONICAL_MESSAGE_IS_TOO_DEEPLY_NESTED_OR_CONTAINS_CYCLES, "no level");
     expect(capnp_canonical_copy(frame.at, frame.size, -1, WORDS, NULL, 0, &size) == CAPNP_CANONICAL_MESSAGE_IS_TOO_DEEPLY_NESTED_OR_CONTAINS_CYCLES, "less than no level");
     expect(capnp_canonical_copy(frame.at, frame.size, 1, 2, NULL, 0, &size) == CAPNP_CANONICAL_NO_ROOM && size == 24, "limits that are enough");

@@ -280,13 +280,9 @@ def words_size(words: ReadableBuffer, limits: Limits = LIMITS) -> Size:
 
 def bytes_wanted(held: bytes) -> int:
     """The size in bytes of a frame that isn't whole, or of its table, as far as its first bytes tell."""
-    if len(held) < 4:
-        return 8
-    count = int.from_bytes(held[:4], 'little') + 1
-    table = (4 + 4 * count + 7) // 8 * 8
-    if len(held) < table:
-        return table
-    return table + 8 * sum(int.from_bytes(held[4 + 4 * it:8 + 4 * it], 'little') for it in range(count))
+    size = ctypes.c_size_t()
+    library.capnp_canonical_frame_size_from_prefix(held, len(held), 2**64 - 1, size)
+    return size.value
 
 
 def frame_size(stream: ReadableBuffer, words: int = LIMITS.words) -> int:

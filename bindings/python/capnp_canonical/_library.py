@@ -98,6 +98,7 @@ def _load() -> ctypes.CDLL:
             function.argtypes, function.restype = [first, size, *limits, *outputs], u32
     others: Any = (
         ('frame_size', [at, size, u64, pointer(size)], u32),
+        ('frame_size_from_prefix', [ctypes.c_char_p, size, u64, pointer(size)], u32),
         ('name', [u32, ctypes.c_char_p, size], size),
         ('reason_text', [u32, ctypes.c_char_p, size], size),
         ('unpack', [at, size, at, size, pointer(size)], u32),

@@ -9,8 +9,8 @@
 //! frame may **succeed** on raw words, and then reads **another** value, because the pointer to a root without
 //! pointers is also the table of a frame.
 //!
-//! The crate is `no_std` with `alloc`. The feature `std`, on by default, lets you turn an `Error` into an
-//! `std::io::Error`.
+//! The crate is `no_std` with `alloc`. The feature `std`, on by default, has `FrameReader` for files and sockets, and lets
+//! you turn an `Error` into an `std::io::Error`.
 //!
 //! ```
 //! use capnp_canonical::{canonical_words, check, is_canonical, Limits};
@@ -42,6 +42,8 @@ mod answers;
 mod ffi;
 mod looks;
 mod packed;
+#[cfg(feature = "std")]
+mod reader;
 pub mod segments;
 mod stream;
 mod texts;
@@ -52,6 +54,8 @@ use answers::{append, digest_of, done, fault_of, size_of};
 pub use answers::{Error, Fault, Reason, Size};
 pub use looks::looks_like;
 pub use packed::{unpack, unpack_into};
+#[cfg(feature = "std")]
+pub use reader::FrameReader;
 pub use stream::{frames, Frame, Frames, StreamError};
 
 /// The limits for reading a message. The defaults are those of `capnp::message::ReaderOptions`.
@@ -208,6 +212,24 @@ pub fn frame_size(stream: impl AsRef<[u8]>, words: u64) -> Result<usize, Error> 
     // SAFETY: the slice is a pointer and its length.
     done(unsafe {
         ffi::capnp_canonical_frame_size(stream.as_ptr(), stream.len(), words, &mut size)
+    })?;
+    Ok(size)
+}
+
+/// How many bytes of a stream to have, from the start of a frame on, before [`frame_size`] finds the frame whole: the
+/// size of the frame if `prefix`, its first bytes, contains its segment table; otherwise the size of the table as far as
+/// they tell it, which is more than `prefix` has.
+pub fn frame_size_from_prefix(prefix: impl AsRef<[u8]>, words: u64) -> Result<usize, Error> {
+    let prefix = prefix.as_ref();
+    let mut size = 0;
+    // SAFETY: the slice is a pointer and its length.
+    done(unsafe {
+        ffi::capnp_canonical_frame_size_from_prefix(
+            prefix.as_ptr(),
+            prefix.len(),
+            words,
+            &mut size,
+        )
     })?;
     Ok(size)
 }

@@ -2,7 +2,7 @@
 use capnp_canonical::{
     canonical_copy, canonical_words, canonical_words_into, check, digest, frame_size, frames,
     is_canonical, looks_like, segments, size, unpack, unpack_into, version, words, Error, Fault,
-    Limits, Reason, Size,
+    FrameReader, Limits, Reason, Size,
 };
 use std::fs;
 
@@ -256,6 +256,50 @@ fn frames_of_a_stream() {
         .map(|frame| frame.map(|it| it.len()))
         .collect();
     assert_eq!(found, [Ok(40), Err(Error::TRUNCATED.at(2, 40))]);
+}
+
+/// A reader that gives at most `most` bytes at a time.
+struct Slowly<'a> {
+    bytes: &'a [u8],
+    most: usize,
+}
+
+impl std::io::Read for Slowly<'_> {
+    fn read(&mut self, to: &mut [u8]) -> std::io::Result<usize> {
+        let count = self.most.min(to.len());
+        std::io::Read::read(&mut self.bytes, &mut to[..count])
+    }
+}
+
+#[test]
+fn frames_of_a_reader() -> std::io::Result<()> {
+    let stream = [bytes_of(ZERO_WORD), bytes_of(SHARED)].concat();
+    for most in 1..=stream.len() {
+        let bytes = stream.as_slice();
+        let mut frames = FrameReader::new(Slowly { bytes, most }, Limits::default().words);
+        for (message, byte, size) in [(1, 0, 40), (2, 40, 48)] {
+            let frame = frames.next_frame()?.expect("a frame");
+            assert_eq!((frame.message, frame.byte), (message, byte));
+            assert_eq!(*frame, stream[byte as usize..][..size]);
+        }
+        assert_eq!(frames.next_frame()?, None);
+    }
+    for end in 1..stream.len() {
+        let mut frames = FrameReader::new(&stream[..end], Limits::default().words);
+        if end > 40 {
+            frames.next_frame()?;
+        }
+        match frames.next_frame() {
+            Ok(found) => assert!(end == 40 && found.is_some()),
+            Err(error) => assert!(error.to_string().contains("Truncated")),
+        }
+    }
+    let table = [0, 0, 0, 0, 5, 0, 0, 0];
+    let refused = FrameReader::new(&table[..], 4).next_frame().unwrap_err();
+    assert!(refused
+        .to_string()
+        .starts_with("message 1 at byte 0: MessageTooLong"));
+    Ok(())
 }
 
 #[test]

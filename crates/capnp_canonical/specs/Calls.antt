@@ -1,6 +1,6 @@
 -- What a call returns, and why it is refused.
 use Rattle.std.specs.Prelude.{◌≡◌, ◌≢◌, ◌⊎◌, ℕ, ℤ, ◌-◌, ◌/◌, ◌%◌, ◌^◌, ◌<◌, ◌≤◌, List, [], ◌∷◌, All, Bool, true, false}
-use Rattle.std.specs.Prelude.{length, map, take, drop, Option, Some, None, Result, IfOk, OnErr}
+use Rattle.std.specs.Prelude.{length, map, take, drop, Option, Some, None, Result, Err, IfOk, OnErr}
 use Rattle.std.specs.Borrow.{Bor}
 use Rattle.capnp_words.specs.declared.error.ErrorKind.{ErrorKind}
 use Rattle.capnp_words.specs.declared.error.ErrorKind.TheVariants.{MessageTooLarge}
@@ -12,6 +12,7 @@ use Rattle.capnp_arena_traits.specs.Allocations.{max_segment_words}
 use Rattle.capnp_arena_traits.specs.Limits.{AreSmall}
 use Rattle.capnp_arena.specs.declared.arena.reader_arena_impl.ReaderOptions.{ReaderOptions}
 use Rattle.capnp_framing.specs.Flat.{BeginsWithFrame}
+use Rattle.capnp_framing.specs.Prefix.{size_from_prefix}
 use Rattle.capnp_framing.specs.Reading.{NoFrame}
 use Rattle.capnp_framing.specs.declared.framing.frame_error.FrameError.{FrameError}
 use Rattle.capnp_framing.specs.declared.framing.frame_error.FrameError.TheVariants.{Truncated}
@@ -56,6 +57,11 @@ InSegments segments P = AreWholeWords segments × AreSmall segments × P (messag
 abbrev pub RefusesBytes : List ℕ → ℕ → Refusal → Type 0
 RefusesBytes bytes words r =
     ((r ≡ NoMessage) × (bytes ≡ [])) ⊎ ((e : FrameError) × (r ≡ Frame e) × NoFrame bytes words e)
+
+-- The bytes tell that the frame at whose front they are has too many segments or words.
+abbrev pub RefusesPrefix : List ℕ → ℕ → Refusal → Type 0
+RefusesPrefix prefix words r =
+    (e : FrameError) × (r ≡ Frame e) × (size_from_prefix prefix words ≡ Err e)
 
 -- The segments aren't those of a message: one isn't whole words, or they are beyond the limits of a
 -- reader.

@@ -1,22 +1,23 @@
 //! Copies, tests, measures and hashes the message whose frame is at the front of a buffer (encoding
 //! specification, "Serialization Over a Stream").
-ghost use Rattle.std.specs.Prelude.{◌≡◌, ◌⊎◌, ◌≤◌, length, take, drop, IfOk, IfErr, OnErr};
+ghost use Rattle.std.specs.Prelude.{◌≡◌, ◌⊎◌, ◌≤◌, length, take, drop, Ok, IfOk, IfErr, OnErr};
 ghost use Rattle.capnp_format.specs.Bytes.{message};
 ghost use Rattle.capnp_arena_traits.specs.Limits.{IsSmall};
 ghost use Rattle.capnp_framing.specs.Flat.{BeginsWithFrame};
 ghost use Rattle.capnp_framing.specs.Frames.{frame};
+ghost use Rattle.capnp_framing.specs.Prefix.{size_from_prefix};
 ghost use Rattle.capnp_messages.specs.CanonicalMessages.{IsCanonicalMessage};
 ghost use Rattle.capnp_messages.specs.Messages.{HasSizeOf};
 ghost use Rattle.capnp_messages.specs.Digests.{IsDigestOf};
 ghost use Rattle.capnp_messages.specs.declared.messages.command.Command.{Command};
 ghost use Rattle.capnp_messages.specs.declared.messages.command.Form.{Form};
-ghost use Rattle.capnp_canonical.specs.Calls.{Fills, InFrame, IsCopyOf, RefusesBytes, RefusesMeaning, RefusesRoom, TestFinds, limits_of};
+ghost use Rattle.capnp_canonical.specs.Calls.{Fills, InFrame, IsCopyOf, RefusesBytes, RefusesMeaning, RefusesPrefix, RefusesRoom, TestFinds, limits_of};
 
 use crate::calls::{Limits, copy};
 use crate::digest::digest;
 use crate::refusal::Refusal;
 use capnp_arena::arena::ReaderSegments;
-use capnp_framing::framing::{FrameSegments, read_from_flat_slice};
+use capnp_framing::framing::{FrameSegments, read_from_flat_slice, size_from_prefix};
 use capnp_messages::messages::{Form, canonical_fault_of, size_of};
 use capnp_pointers::pointers::{CanonicalFault, MessageSize};
 use std::alloc::Global;
@@ -90,6 +91,19 @@ pub fn frame_size(bytes: &[u8], words: u64) -> Result<usize, Refusal>
     ensures refused { IfErr result (RefusesBytes bytes.now words) }
 {
     Ok(message_in(bytes, words)?.size_in_bytes())
+}
+
+/// Returns how many bytes of a stream to have, from the start of a frame on, before `frame_size`
+/// finds the frame whole, as far as the bytes in `prefix` tell. Refuses what tells that the frame
+/// has too many segments, or more than `words` words.
+pub fn frame_size_from_prefix(prefix: &[u8], words: u64) -> Result<usize, Refusal>
+    ensures size { IfOk result (λ n. size_from_prefix prefix.now words ≡ Ok n) }
+    ensures refused { IfErr result (RefusesPrefix prefix.now words) }
+{
+    match size_from_prefix(prefix, words) {
+        Ok(size) => Ok(size),
+        Err(error) => Err(Refusal::Frame(error)),
+    }
 }
 
 /// Returns the SHA-256 of the canonical words of the message whose frame is at the front of

@@ -7,9 +7,10 @@
 //! never refused; they return a length or the version.
 #![tactic(auto)]
 
-ghost use Rattle.std.specs.Prelude.{◌≡◌, ◌≢◌, ◌⊎◌, ◌≤◌, ⊤, ◌+◌, ◌*◌, ◌++◌, ℕ, List, codes, false, length, replicate, take, drop};
+ghost use Rattle.std.specs.Prelude.{◌≡◌, ◌≢◌, ◌⊎◌, ◌≤◌, ⊤, ◌+◌, ◌*◌, ◌++◌, ℕ, List, Ok, codes, false, length, replicate, take, drop};
 ghost use Rattle.capnp_format.specs.Segments.{Segments};
 ghost use Rattle.capnp_framing.specs.Frames.{IsFrameOf};
+ghost use Rattle.capnp_framing.specs.Prefix.{size_from_prefix};
 ghost use Rattle.capnp_framing.specs.Reading.{total};
 ghost use Rattle.capnp_messages.specs.Digests.{IsDigestOf};
 ghost use Rattle.capnp_messages.specs.Messages.{HasSizeOf};
@@ -17,7 +18,7 @@ ghost use Rattle.capnp_messages.specs.Commands.{HasAnswerWithin};
 ghost use Rattle.capnp_messages.specs.declared.messages.command.Command.{Command};
 ghost use Rattle.capnp_messages.specs.declared.messages.command.Form.{Form};
 ghost use Rattle.capnp_packing.specs.Packing.{IsWhole, Packs, unpacked_bytes};
-ghost use Rattle.capnp_canonical.specs.Calls.{FillsByNumber, InFrame, InSegments, InWords, IsCopyOf, IsGranted, IsNumberWhere, RefusesBytes, RefusesMeaning, RefusesPacked, RefusesRoom, RefusesSegments, RefusesSegment, TestIs, limits_of, no_fault};
+ghost use Rattle.capnp_canonical.specs.Calls.{FillsByNumber, InFrame, InSegments, InWords, IsCopyOf, IsGranted, IsNumberWhere, RefusesBytes, RefusesMeaning, RefusesPacked, RefusesPrefix, RefusesRoom, RefusesSegments, RefusesSegment, TestIs, limits_of, no_fault};
 ghost use Rattle.capnp_pointers.specs.Faults.{fault_reason_text};
 ghost use Rattle.capnp_canonical.specs.Numbers.{answer_name, answer_number, reason_number, wanted_room};
 ghost use Rattle.capnp_canonical.specs.Texts.{PutsText, IsTextOf};
@@ -36,7 +37,9 @@ use calls::Limits;
 use capnp_messages::messages::Form;
 use capnp_packing::packing::Place;
 use fault::{Fault, NO_FAULT};
-use frames::{check_frame, copy_frame, digest_frame, frame_size, size_frame};
+use frames::{
+    check_frame, copy_frame, digest_frame, frame_size, frame_size_from_prefix, size_frame,
+};
 use names::{name_of_number, put_text, text_of_reason};
 use packed::unpack;
 use segments::{check_segments, copy_segments, digest_segments, size_segments};
@@ -235,6 +238,36 @@ pub extern "C" fn capnp_canonical_frame_size(frame: &[u8], words: u64, bytes: &m
     ensures granted { InFrame frame.now words (λ _. ⊤) → result ≡ 0 }
 {
     match frame_size(frame, words) {
+        Ok(size) => {
+            *bytes = size;
+            0
+        }
+        Err(refusal) => {
+            *bytes = 0;
+            refusal.number()
+        }
+    }
+}
+
+/// Stores in `bytes` how many bytes of a stream to have, from the start of a frame on, before
+/// `capnp_canonical_frame_size` finds the frame whole: its size if `prefix`, the bytes that are
+/// there, contains its segment table; otherwise the size of the table as far as `prefix` tells it,
+/// which is more than `prefix` has. So read until as many bytes are there, and if `prefix` was
+/// shorter than the table, ask again.
+///
+/// Refuses a frame of too many segments, or of more than `words` words, as soon as `prefix` tells
+/// this. `bytes` is then 0.
+#[unsafe(no_mangle)]
+pub extern "C" fn capnp_canonical_frame_size_from_prefix(
+    prefix: &[u8],
+    words: u64,
+    bytes: &mut usize,
+) -> u32
+    ensures done { result ≡ 0 → size_from_prefix prefix.now words ≡ Ok bytes.new }
+    ensures refused { result ≢ 0 → (bytes.new ≡ 0)
+        × IsNumberWhere result (RefusesPrefix prefix.now words) }
+{
+    match frame_size_from_prefix(prefix, words) {
         Ok(size) => {
             *bytes = size;
             0

@@ -3,6 +3,7 @@ pub mod CountLemmas
 pub mod FlatLemmas
 pub mod FrameLemmas
 pub mod OwnedLemmas
+pub mod PrefixLemmas
 pub mod ReadingLemmas
 pub mod TableLemmas
 pub mod UnreadLemmas

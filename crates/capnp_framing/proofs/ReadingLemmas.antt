@@ -94,7 +94,7 @@ below_drop : (n : ℕ) (bs : List ℕ) → ((i : ℕ) → get_or bs i 0 < 256) �
 below_drop n bs l i = omega (arith, get_or-drop n bs i 0, l (n + i))
 
 -- only the lengths themselves are read
-told_front : (n : ℕ) (xs ys zs : List ℕ) → 4 * n ≤ length xs → words_told n (xs ++ ys) ≡ words_told n (xs ++ zs)
+pub told_front : (n : ℕ) (xs ys zs : List ℕ) → 4 * n ≤ length xs → words_told n (xs ++ ys) ≡ words_told n (xs ++ zs)
 told_front zero xs ys zs h = refl
 told_front (suc n) xs ys zs h =
     ap₂ (λ us k. from_le_bytes w32 us + k)
@@ -206,8 +206,14 @@ frames_as_long S bytes f =
     ∙ length-frame_with f.padding S f.padded
     ∙ sym (length-frame_with (replicate (padding_size (length S)) 0) S (length-replicate (padding_size (length S)) 0))
 
-pub frame_is_read : (S : Segments) (bytes rest : List ℕ) (most : ℕ) (e : FrameError) → IsFrameOf S bytes → total S ≤ most → NoFrame (bytes ++ rest) most e → ⊥
-frame_is_read S bytes rest most e f small wrong =
+-- what a frame tells, with any bytes behind it
+pub record ToldByFrame (S : Segments) (xs : List ℕ) (behind : ℕ) : Type 0 where
+  pub segments : segments_told xs ≡ length S
+  pub words : words_in_table xs ≡ total S
+  pub long : length xs ≡ table_size (length S) + 8 * total S + behind
+
+pub told_by_frame : (S : Segments) (bytes rest : List ℕ) → IsFrameOf S bytes → ToldByFrame S (bytes ++ rest) (length rest)
+told_by_frame S bytes rest f =
     let n : ℕ = length S in
     let first : List ℕ = to_le_bytes w32 (n - 1) in
     let tab : List ℕ = lengths S ++ f.padding in
@@ -224,18 +230,20 @@ frame_is_read S bytes rest most e f small wrong =
     ap (λ (xs : List ℕ). xs ++ rest) f.is
     ∙ append_assoc first (lengths S ++ (f.padding ++ contents S)) rest
     ∙ ap (λ (xs : List ℕ). first ++ xs) (append_assoc (lengths S) (f.padding ++ contents S) rest ∙ ap (λ (xs : List ℕ). lengths S ++ xs) (append_assoc f.padding (contents S) rest) ∙ sym (append_assoc (lengths S) f.padding behind)) in
-    let told : segments_told (first ++ (tab ++ behind)) ≡ n = table_told behind h in
-    let words : words_in_table (first ++ (tab ++ behind)) ≡ total S =
-    table_words behind [] h ∙ ap (words_told n) (append_nil tab) ∙ lengths_told S f.padding f.message.short in
-    let long : length (first ++ (tab ++ behind)) ≡ 4 + (4 * n + padding_size n) + (8 * total S + length rest) =
+    let long : length (first ++ (tab ++ behind)) ≡ table_size n + 8 * total S + length rest =
     omega (arith, length-append first (tab ++ behind), length-append tab behind, length-append (contents S) rest, contents-length S, h.four, h.size) in
-    let whole : table_size (segments_told (first ++ (tab ++ behind))) ≡ 4 + 4 * n + padding_size n = ap table_size told in
-    refused (subst (λ (xs : List ℕ). NoFrame xs most e) shape wrong) told words long whole
-  where
-    append_nil : (xs : List ℕ) → xs ++ [] ≡ xs
-    append_nil xs = append-nil xs
+    record {
+      segments = ap segments_told shape ∙ table_told behind h;
+      words = ap words_in_table shape ∙ table_words behind [] h ∙ ap (words_told n) (append-nil tab) ∙ lengths_told S f.padding f.message.short;
+      long = ap length shape ∙ long;
+    }
 
-    refused : {xs : List ℕ} → NoFrame xs most e → segments_told xs ≡ length S → words_in_table xs ≡ total S → length xs ≡ 4 + (4 * length S + padding_size (length S)) + (8 * total S + length rest) → table_size (segments_told xs) ≡ 4 + 4 * length S + padding_size (length S) → ⊥
+pub frame_is_read : (S : Segments) (bytes rest : List ℕ) (most : ℕ) (e : FrameError) → IsFrameOf S bytes → total S ≤ most → NoFrame (bytes ++ rest) most e → ⊥
+frame_is_read S bytes rest most e f small wrong =
+    let t = told_by_frame S bytes rest f in
+    refused wrong t.segments t.words t.long (ap table_size t.segments)
+  where
+    refused : {xs : List ℕ} → NoFrame xs most e → segments_told xs ≡ length S → words_in_table xs ≡ total S → length xs ≡ table_size (length S) + 8 * total S + length rest → table_size (segments_told xs) ≡ table_size (length S) → ⊥
     refused (count_cut some less k) told words long whole = omega (arith, long, less)
     refused (too_many there more k) told words long whole = let few = f.message.few in omega (arith, told, more, few)
     refused (table_cut there few less k) told words long whole = omega (arith, long, less, whole)

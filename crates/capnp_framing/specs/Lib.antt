@@ -4,6 +4,7 @@ pub mod Flat
 pub mod Frames
 pub mod Memory
 pub mod Names
+pub mod Prefix
 pub mod Reading
 pub mod Writing
 pub mod Wholeness

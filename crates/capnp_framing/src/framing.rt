@@ -4,6 +4,7 @@
 mod flat;
 mod frame_error;
 mod owned_segments;
+mod prefix;
 mod reading;
 mod segment;
 mod writing;
@@ -11,6 +12,7 @@ mod writing;
 pub use flat::{FrameSegments, read_from_flat_slice};
 pub use frame_error::FrameError;
 pub use owned_segments::OwnedSegments;
+pub use prefix::size_from_prefix;
 pub use reading::{read, read_into, read_into_with};
 pub use segment::{read_segment_into, read_segment_into_with};
 pub use writing::write;

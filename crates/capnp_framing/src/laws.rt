@@ -6,6 +6,7 @@ ghost use Rattle.capnp_format.specs.Bytes.{message};
 ghost use Rattle.capnp_format.specs.Segments.{Segments};
 ghost use Rattle.capnp_framing.specs.Bare.{AreBareWords, NoBareWords, most_bare};
 ghost use Rattle.capnp_framing.specs.Frames.{AreSegmentWords, CanBeFramed, IsFrameOf, bytes_of_words, frame};
+ghost use Rattle.capnp_framing.specs.Prefix.{TellsSize};
 ghost use Rattle.capnp_framing.specs.Reading.{NoFrame, total};
 ghost use Rattle.capnp_framing.specs.declared.framing.frame_error.FrameError.{FrameError};
 
@@ -42,4 +43,11 @@ pub fn bare_words()
         → AreBareWords (bytes_of_words ws) most × (message (bytes_of_words ws ∷ []) ≡ ws ∷ []) }
     ensures read { (bytes : List ℕ) (most : ℕ) (e : FrameError) → AreBareWords bytes most
         → NoBareWords bytes most e → ⊥ }
+{}
+
+/// Whatever part of a frame is at the front of a stream, `size_from_prefix` doesn't refuse it, and
+/// returns at most the size of the frame; if so many bytes are there, exactly its size.
+pub fn sizes_from_prefixes()
+    ensures { (S : Segments) (bytes behind prefix rest : List ℕ) (most : ℕ) → IsFrameOf S bytes
+        → total S ≤ most → bytes ++ behind ≡ prefix ++ rest → TellsSize prefix most (length bytes) }
 {}

@@ -1,0 +1,37 @@
+//! The size of a frame, from the bytes at its front (encoding specification, "Serialization Over a
+//! Stream").
+ghost use Rattle.std.specs.Prelude.{◌≡◌};
+ghost use Rattle.capnp_framing.specs.Prefix.{size_from_prefix};
+
+use super::MAX_SEGMENTS;
+use super::frame_error::FrameError;
+use super::reading::{number_at, words_between};
+
+/// Returns how many bytes of a stream to have, from the start of a frame on, before reading the
+/// frame from memory. `prefix` is what is there of them. If it contains the segment table, that is
+/// the size of the frame; otherwise the size of the table as far as `prefix` tells it, which is more
+/// than `prefix` has. So with as many bytes in `prefix` as the call returns, the frame is whole.
+///
+/// Refuses a frame of too many segments, or of more than `max_words` words, as
+/// `read_from_flat_slice` does, as soon as `prefix` tells this.
+pub fn size_from_prefix(prefix: &[u8], max_words: u64) -> Result<usize, FrameError>
+    ensures { result ≡ size_from_prefix prefix.now max_words }
+{
+    if prefix.len() < 4 {
+        return Ok(8);
+    }
+    let told = u64::from(number_at(prefix, 0)) + 1;
+    if told > MAX_SEGMENTS as u64 {
+        return Err(FrameError::TooManySegments(told));
+    }
+    let count = told as usize;
+    let table = 4 + 4 * count + 4 * ((count + 1) % 2);
+    if prefix.len() < table {
+        return Ok(table);
+    }
+    let words = words_between(&prefix[4..], 0, count);
+    if words > max_words {
+        return Err(FrameError::MessageTooLong(words));
+    }
+    Ok(table + 8 * words as usize)
+}
