@@ -199,10 +199,10 @@ uint32_t capnp_canonical_frame_size(const uint8_t *frame, size_t size, uint64_t 
 
 /* Writes to `*bytes` how many bytes of a stream to have, from the start of a frame on, before capnp_canonical_frame_size
  * finds the frame whole. `prefix` has the first `size` of them. If they contain the segment table, that is the size of the
- * frame. Otherwise it is the size of the table as far as they tell it, which is more than `size`: read until as many bytes
- * are there, and ask again. No byte after the frame is ever requested. Refuses a frame of too many segments, or of more
- * than `words` words, as soon as its first bytes tell this; `*bytes` is then 0. A frame of many words may be announced by
- * eight bytes, so make room for what has arrived, not for what is announced. */
+ * frame. Otherwise it is the size of the table, or of the smallest table, and more than `size`: read until that many bytes
+ * are there, and ask again. No byte after the frame is ever requested. Refuses the frame if they tell that it has too many
+ * segments, or more than `words` words; `*bytes` is then 0. Eight bytes can announce a frame of many words, so make room
+ * for what has arrived, not for what is announced. */
 uint32_t capnp_canonical_frame_size_from_prefix(const uint8_t *prefix, size_t size, uint64_t words, size_t *bytes);
 
 /* copy, copy_flat, digest, check and size, for a message of `count` segments. There may be more segments than a frame can

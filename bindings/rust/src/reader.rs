@@ -87,7 +87,7 @@ impl<R: Read> FrameReader<R> {
         self.reader
     }
 
-    /// The error of the frame of which `held` bytes have come.
+    /// The error for a frame that has sent `held` bytes so far.
     fn refused(&self, error: Error, held: usize) -> io::Error {
         let mut error = error.at(self.message, self.byte);
         error.looks_like = looks_like(&self.buffer[..held]);

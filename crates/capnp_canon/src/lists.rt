@@ -184,7 +184,7 @@ fn tell_others(rt: &HostRuntime, list: &str, first: u64, others: u64) {
     };
 }
 
-/// Returns the digests of the messages of a file, as far as they are answered: `LINE` bytes for each.
+/// Returns the digests of the messages of a file, up to the first refused one: `LINE` bytes for each.
 fn digests_of<W: BufferedOutput>(
     rt: &HostRuntime,
     task: Task,
@@ -299,7 +299,8 @@ fn parted(front: &str) -> Option<(&str, &str)> {
     Some((digits, name))
 }
 
-/// Returns the number that `text` states in decimal digits, the first of which isn't 0.
+/// Returns the number that `text` states in decimal digits; `None` if there are other characters, a
+/// leading 0, or too many digits.
 fn number_of(text: &str) -> Option<u64> {
     if text.starts_with('0') || !text.as_bytes().iter().all(|byte| byte.is_ascii_digit()) {
         return None;

@@ -94,8 +94,8 @@ pub fn frame_size(bytes: &[u8], words: u64) -> Result<usize, Refusal>
 }
 
 /// Returns how many bytes of a stream to have, from the start of a frame on, before `frame_size`
-/// finds the frame whole, as far as the bytes in `prefix` tell. Refuses what tells that the frame
-/// has too many segments, or more than `words` words.
+/// finds the frame whole. Goes by the bytes in `prefix`. Refuses the frame if they tell that it has
+/// too many segments, or more than `words` words.
 pub fn frame_size_from_prefix(prefix: &[u8], words: u64) -> Result<usize, Refusal>
     ensures size { IfOk result (λ n. size_from_prefix prefix.now words ≡ Ok n) }
     ensures refused { IfErr result (RefusesPrefix prefix.now words) }

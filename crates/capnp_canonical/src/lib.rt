@@ -255,8 +255,8 @@ pub extern "C" fn capnp_canonical_frame_size(frame: &[u8], words: u64, bytes: &m
 /// which is more than `prefix` has. So read until as many bytes are there, and if `prefix` was
 /// shorter than the table, ask again.
 ///
-/// Refuses a frame of too many segments, or of more than `words` words, as soon as `prefix` tells
-/// this. `bytes` is then 0.
+/// Refuses the frame if `prefix` tells that it has too many segments, or more than `words` words.
+/// `bytes` is then 0.
 #[unsafe(no_mangle)]
 pub extern "C" fn capnp_canonical_frame_size_from_prefix(
     prefix: &[u8],

@@ -6,8 +6,8 @@ use Rattle.capnp_framing.specs.declared.framing.frame_error.FrameError.{FrameErr
 use Rattle.capnp_framing.specs.declared.framing.frame_error.FrameError.TheVariants.{MessageTooLong}
 use Rattle.capnp_framing.specs.declared.framing.frame_error.FrameError.TheVariants.{TooManySegments}
 
--- The size in bytes of a frame of at most `most` words that begins with these bytes, as far as they
--- tell it: the size of the frame if its table is there; the size of the table if only the number of
+-- What these bytes tell of the size in bytes of a frame of at most `most` words that begins with
+-- them: the size of the frame if its table is there; the size of the table if only the number of
 -- segments is; and otherwise the size of the smallest table.
 abbrev pub size_from_prefix : List ℕ → ℕ → Result ℕ FrameError
 size_from_prefix prefix most =

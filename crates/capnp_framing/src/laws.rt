@@ -45,7 +45,7 @@ pub fn bare_words()
         → NoBareWords bytes most e → ⊥ }
 {}
 
-/// Whatever part of a frame is at the front of a stream, `size_from_prefix` doesn't refuse it, and
+/// `size_from_prefix` doesn't refuse any part of a frame that is at the front of a stream, and
 /// returns at most the size of the frame; if so many bytes are there, exactly its size.
 pub fn sizes_from_prefixes()
     ensures { (S : Segments) (bytes behind prefix rest : List ℕ) (most : ℕ) → IsFrameOf S bytes

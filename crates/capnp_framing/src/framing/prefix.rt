@@ -12,8 +12,8 @@ use super::reading::{number_at, words_between};
 /// the size of the frame; otherwise the size of the table as far as `prefix` tells it, which is more
 /// than `prefix` has. So with as many bytes in `prefix` as the call returns, the frame is whole.
 ///
-/// Refuses a frame of too many segments, or of more than `max_words` words, as
-/// `read_from_flat_slice` does, as soon as `prefix` tells this.
+/// Refuses the frame if `prefix` tells that it has too many segments, or more than `max_words` words.
+/// The errors are those of `read_from_flat_slice`.
 pub fn size_from_prefix(prefix: &[u8], max_words: u64) -> Result<usize, FrameError>
     ensures { result ≡ size_from_prefix prefix.now max_words }
 {
