@@ -12,6 +12,7 @@ mod elements;
 mod memory;
 mod output;
 mod parse;
+mod readers;
 mod reading;
 mod reads;
 mod source;

@@ -8,6 +8,7 @@ use crate::calls::Values;
 use crate::elements::{Reader, low_data_at, number_at, own_struct_at, pointer_at, struct_at};
 use crate::output::Output;
 use crate::parse::Fault;
+use crate::readers;
 use crate::types::{ElementType, NumberType, flag_of, mask_of};
 use capnp_arena::arena::ReaderArena;
 use capnp_readers::readers::{
@@ -98,7 +99,7 @@ impl Reading {
         }
         let reader = match call.op {
             Op::Root => {
-                let root = PointerReader::get_root_from_arena(arena, &mut self.limiter)?;
+                let root = readers::root(arena, &mut self.limiter)?;
                 Reader::Pointer(root)
             }
             Op::At => Reader::Pointer(reader_at(arena, &call.values)?),
@@ -133,15 +134,15 @@ impl Reading {
         let default = default_of(call)?;
         match call.op {
             Op::Struct => {
-                let found = from.get_struct(&mut self.limiter, default)?;
+                let found = readers::structure(from, &mut self.limiter, default)?;
                 Ok(Some(Reader::Struct(found)))
             }
             Op::List => {
-                let found = from.get_list(&mut self.limiter, call.values.size, default)?;
+                let found = readers::list(from, &mut self.limiter, call.values.size, default)?;
                 Ok(Some(Reader::List(found)))
             }
             Op::Next => {
-                let target = from.next(&mut self.limiter)?;
+                let target = readers::next(from, &mut self.limiter)?;
                 Ok(self.target(target))
             }
             op => {
@@ -185,20 +186,20 @@ impl Reading {
         match op {
             Op::IsNull => self.out.flag(from.is_null()),
             Op::Type => {
-                let found = from.get_pointer_type(&mut self.limiter)?;
+                let found = readers::pointer_type(from, &mut self.limiter)?;
                 self.out.pointer_type(found);
             }
-            Op::Capability => self.out.put(from.get_capability()?),
+            Op::Capability => self.out.put(readers::capability(from)?),
             Op::Text => {
-                let bytes = from.get_text(&mut self.limiter, default)?;
+                let bytes = readers::text(from, &mut self.limiter, default)?;
                 self.out.hex_or_dash(bytes);
             }
             Op::Data => {
-                let bytes = from.get_data(&mut self.limiter, default)?;
+                let bytes = readers::data(from, &mut self.limiter, default)?;
                 self.out.hex_or_dash(bytes);
             }
             Op::Size => {
-                let size = from.total_size(&mut self.limiter)?;
+                let size = readers::pointer_size(from, &mut self.limiter)?;
                 self.size(size);
             }
             Op::Canonical => self.canonical(from, head),
@@ -214,7 +215,7 @@ impl Reading {
     ) -> Result<Option<Reader<'a, A>>, Fault> {
         match call.op {
             Op::Pointer => {
-                let pointer = from.get_pointer_field(call.values.index);
+                let pointer = readers::pointer_field(from, call.values.index);
                 Ok(Some(Reader::Pointer(pointer)))
             }
             Op::Section => Ok(Some(Reader::List(from.get_pointer_section_as_list()))),
@@ -233,12 +234,12 @@ impl Reading {
         values: &Values<'_>,
     ) -> Result<(), Fault> {
         match op {
-            Op::IsPointerNull => self.out.flag(from.is_pointer_field_null(values.index)),
+            Op::IsPointerNull => self.out.flag(readers::is_field_null(from, values.index)),
             Op::Bool => self.bool_field(from, values)?,
             Op::Number(of) => self.number(of, Reader::Struct(from), values)?,
-            Op::Bytes => self.out.hex_or_dash(from.data_bytes()),
+            Op::Bytes => self.out.hex_or_dash(readers::data_bytes(from)),
             Op::Size => {
-                let size = from.total_size(&mut self.limiter)?;
+                let size = readers::struct_size(from, &mut self.limiter)?;
                 self.size(size);
             }
             Op::CanonicalStruct => self.canonical_struct(from, values),
@@ -254,8 +255,8 @@ impl Reading {
         values: &Values<'_>,
     ) -> Result<(), Fault> {
         let value = match flag_of(values.mask)? {
-            Some(mask) => from.get_bool_field_mask(values.index, mask),
-            None => from.get_bool_field(values.index),
+            Some(mask) => readers::bool_field_mask(from, values.index, mask),
+            None => readers::bool_field(from, values.index),
         };
         self.out.flag(value);
         Ok(())
@@ -398,8 +399,8 @@ impl Reading {
         let number: T = match from {
             Reader::Pointer(_) => return Err(Fault::Unfit),
             Reader::Struct(from) => match mask_of::<T>(values.mask)? {
-                Some(mask) => from.get_data_field_mask::<T>(values.index, mask),
-                None => from.get_data_field::<T>(values.index),
+                Some(mask) => readers::data_field_mask::<T, A>(from, values.index, mask),
+                None => readers::data_field::<T, A>(from, values.index),
             },
             Reader::List(from) => number_at::<T, A>(&from, values.count)?,
         };
@@ -422,7 +423,7 @@ impl Reading {
     fn show_struct<A: ReaderArena>(&mut self, found: StructReader<'_, A>) {
         self.source(found.source);
         self.out.text("/");
-        self.out.hex_or_dash(found.data_bytes());
+        self.out.hex_or_dash(readers::data_bytes(found));
         self.out.slash(found.pointer_count());
         self.out.slash(found.nesting_limit);
     }

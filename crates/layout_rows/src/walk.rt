@@ -4,6 +4,7 @@ ghost use Rattle.std.specs.Prelude.{◌<◌, ◌/◌, ◌^◌, length};
 
 use crate::elements::{number_at, pointer_at, struct_at};
 use crate::output::Output;
+use crate::readers;
 use capnp_arena::arena::ReaderArena;
 use capnp_readers::readers::{ListReader, MessageSize, PointerReader, StructReader};
 use capnp_words::error::ErrorKind;
@@ -82,7 +83,7 @@ impl Walk {
     /// Reads the root pointer and what it leads to. Adds the number of words that the limiter has
     /// left.
     fn message<A: ReaderArena>(&mut self, arena: &A) {
-        match PointerReader::get_root_from_arena(arena, &mut self.limiter) {
+        match readers::root(arena, &mut self.limiter) {
             Ok(root) => {
                 self.pointer(root, LEVELS);
                 self.out.text("left ");
@@ -115,7 +116,7 @@ impl Walk {
     /// its first elements, down to `below` levels.
     #[cycle(levels)]
     fn list<A: ReaderArena>(&mut self, from: PointerReader<'_, A>, size: ElementSize, below: u32) {
-        match from.get_list(&mut self.limiter, size, None) {
+        match readers::list(from, &mut self.limiter, size, None) {
             Ok(list) => {
                 self.elements(&list, size);
                 if below > 0 {
@@ -143,7 +144,7 @@ impl Walk {
     /// Reads the struct that a pointer leads to, and its first pointers, down to `below` levels.
     #[cycle(levels)]
     fn structure<A: ReaderArena>(&mut self, from: PointerReader<'_, A>, below: u32) {
-        match from.get_struct(&mut self.limiter, None) {
+        match readers::structure(from, &mut self.limiter, None) {
             Ok(found) => {
                 self.fields(found);
                 if below > 0 {
@@ -157,7 +158,7 @@ impl Walk {
     #[cycle(levels)]
     fn pointers<A: ReaderArena>(&mut self, found: StructReader<'_, A>, below: u32) {
         for index in 0..FEW {
-            self.pointer(found.get_pointer_field(index as usize), below);
+            self.pointer(readers::pointer_field(found, index as usize), below);
         }
     }
 
@@ -207,14 +208,14 @@ impl Walk {
 
     /// Makes the calls that return no reader, on a pointer, and adds their answers.
     fn plain<A: ReaderArena>(&mut self, from: PointerReader<'_, A>) {
-        let found = from.get_pointer_type(&mut self.limiter);
+        let found = readers::pointer_type(from, &mut self.limiter);
         self.pointer_type(found);
-        self.capability(from.get_capability());
-        let text = from.get_text(&mut self.limiter, None);
+        self.capability(readers::capability(from));
+        let text = readers::text(from, &mut self.limiter, None);
         self.bytes(text);
-        let data = from.get_data(&mut self.limiter, None);
+        let data = readers::data(from, &mut self.limiter, None);
         self.bytes(data);
-        let size = from.total_size(&mut self.limiter);
+        let size = readers::pointer_size(from, &mut self.limiter);
         self.size(size);
     }
 
@@ -229,16 +230,16 @@ impl Walk {
     fn default<'a, A: ReaderArena>(&mut self, from: PointerReader<'a, A>, default: &'a [u8])
         requires { length default.now / 8 < 2 ^ 32 }
     {
-        let text = from.get_text(&mut self.limiter, Some(default));
+        let text = readers::text(from, &mut self.limiter, Some(default));
         self.bytes(text);
-        let data = from.get_data(&mut self.limiter, Some(default));
+        let data = readers::data(from, &mut self.limiter, Some(default));
         self.bytes(data);
-        match from.get_struct(&mut self.limiter, Some(default)) {
+        match readers::structure(from, &mut self.limiter, Some(default)) {
             Ok(found) => self.default_struct(found),
             Err(kind) => self.refusal(kind),
         }
         for size in SIZES {
-            match from.get_list(&mut self.limiter, size, Some(default)) {
+            match readers::list(from, &mut self.limiter, size, Some(default)) {
                 Ok(list) => self.default_list(&list, size),
                 Err(kind) => self.refusal(kind),
             }
@@ -248,9 +249,10 @@ impl Walk {
     /// Adds the struct that was read from a default.
     fn default_struct<A: ReaderArena>(&mut self, found: StructReader<'_, A>) {
         self.sections(found);
-        let text = found.get_pointer_field(0).get_text(&mut self.limiter, None);
+        let first = readers::pointer_field(found, 0);
+        let text = readers::text(first, &mut self.limiter, None);
         self.bytes(text);
-        let size = found.total_size(&mut self.limiter);
+        let size = readers::struct_size(found, &mut self.limiter);
         self.size(size);
         self.out.text(";");
     }
@@ -302,7 +304,7 @@ impl Walk {
 
     fn struct_element<A: ReaderArena>(&mut self, found: StructReader<'_, A>) {
         self.sections(found);
-        let size = found.total_size(&mut self.limiter);
+        let size = readers::struct_size(found, &mut self.limiter);
         self.size(size);
     }
 
@@ -335,7 +337,7 @@ impl Walk {
 
     /// Adds the data of a struct, and its number of pointers.
     fn sections<A: ReaderArena>(&mut self, found: StructReader<'_, A>) {
-        self.out.hex(found.data_bytes());
+        self.out.hex(readers::data_bytes(found));
         self.out.slash(found.pointer_count());
     }
 
@@ -345,7 +347,7 @@ impl Walk {
         self.fields_at(found, 0);
         self.fields_at(found, 1);
         self.fields_at(found, 2);
-        let size = found.total_size(&mut self.limiter);
+        let size = readers::struct_size(found, &mut self.limiter);
         self.size(size);
         self.out.text(";");
     }
@@ -353,17 +355,19 @@ impl Walk {
     fn fields_at<A: ReaderArena>(&mut self, found: StructReader<'_, A>, step: u8) {
         let i = usize::from(step);
         self.out.text(" ");
-        self.out.put(found.get_data_field::<u8>(7 * i));
+        self.out.put(readers::data_field::<u8, A>(found, 7 * i));
         self.out.text(" ");
-        self.out.put(found.get_data_field_mask::<i16>(3 * i, -2));
+        self.out
+            .put(readers::data_field_mask::<i16, A>(found, 3 * i, -2));
         self.out.text(" ");
-        self.out.put(found.get_data_field::<u32>(i));
+        self.out.put(readers::data_field::<u32, A>(found, i));
         self.out.text(" ");
-        self.out.put(found.get_data_field::<i64>(i));
+        self.out.put(readers::data_field::<i64, A>(found, i));
         self.out.text(" ");
-        self.out.flag(found.get_bool_field_mask(63 * i, i == 1));
+        self.out
+            .flag(readers::bool_field_mask(found, 63 * i, i == 1));
         self.out.text(" ");
-        self.out.flag(found.is_pointer_field_null(i));
+        self.out.flag(readers::is_field_null(found, i));
     }
 }
 
@@ -378,7 +382,7 @@ fn child_of<'a, A: ReaderArena>(
     match size {
         ElementSize::Pointer => pointer_at(list, index).ok(),
         ElementSize::InlineComposite => match struct_at(list, index) {
-            Ok(found) => Some(found.get_pointer_field(0)),
+            Ok(found) => Some(readers::pointer_field(found, 0)),
             Err(_) => None,
         },
         _ => None,
