@@ -11,6 +11,10 @@ pub mod Checks
 pub mod Falls
 pub mod Fails
 pub mod Measured
+pub mod Validated
+pub mod Extents
+pub mod ExtentBounds
+pub mod Unexpected
 pub mod Tested
 mod Worked
 pub mod Counted

@@ -5,12 +5,15 @@ use Rattle.std.proofs.lemmas.Int.{ints, to_z-of_z}
 use mir.Syntax.{w32}
 use mir.Val.{SFits, to_z, of_z}
 use lib.IntN.{ℤ, pos, negsuc, ◌-ℤ◌}
-use Rattle.capnp_format.specs.Segments.{segment}
+use Rattle.capnp_format.specs.Means.{Claims}
+use Rattle.capnp_format.specs.Segments.{Segments, segment, Target}
 use Rattle.capnp_words.specs.declared.wire_pointer.StructSize.{StructSize}
 use Rattle.capnp_objects.specs.declared.object.Place.{Place}
 use Rattle.capnp_objects.specs.declared.object.Object.{Object}
 use Rattle.capnp_objects.specs.declared.object.Object.TheVariants.{Null as ObjectNull, Capability as ObjectCapability, Struct as ObjectStruct, Flat as ObjectFlat, Pointers as ObjectPointers, Structs as ObjectStructs}
-use Rattle.capnp_objects.specs.declared.object.Purpose.TheVariants.{Size}
+use Rattle.capnp_objects.specs.declared.object.Purpose.{Purpose}
+use Rattle.capnp_objects.specs.declared.object.Purpose.TheVariants.{Size, Value}
+use Rattle.capnp_objects.specs.Demands.{claim, IsVoidList, LiesThere}
 use Rattle.capnp_objects.specs.Objects.{IsObject}
 use Rattle.capnp_objects.proofs.Parts.{claim_struct, claim_list}
 use Rattle.capnp_objects.specs.Reading.{Reading, segment_read}
@@ -63,39 +66,44 @@ pub on_ok_so : {A E : Type 0} (r : Result A E) {X Y : Type 0} → OnOk r X → (
 on_ok_so (Ok x) h f = f h
 on_ok_so (Err k) h f = tt
 
--- An object is measured that has pointers, those of these rows.
-pub record Opened (r : Reading) (m m' : Meter) (x : Object) (rows : MeasuredRows) : Type 0 where
-  pub is_measured : IsObject Size r m m' x
+-- The words that an object claims are inside its segment, unless it is a list of void.
+claims_there : (purpose : Purpose) (S : Segments) (a : Target) → LiesThere purpose S a → (IsVoidList a.word → ⊥) → Claims S a (claim a.word)
+claims_there Value S a lies some = lies
+claims_there Size S a lies some = lies some
+
+-- An object is read that has pointers, those of these rows.
+pub record Opened (purpose : Purpose) (r : Reading) (m m' : Meter) (x : Object) (rows : MeasuredRows) : Type 0 where
+  pub is_read : IsObject purpose r m m' x
   pub has : HasRows x rows
 
 -- There is a level for its pointers, and they are inside their segment.
-pub object_level : {r : Reading} {m m' : Meter} {rows : MeasuredRows} (x : Object) → Opened r m m' x rows → 0 < r.levels
-object_level (ObjectStruct start size) o = o.is_measured.1.meets.levels
-object_level (ObjectPointers start i) o = o.is_measured.1.meets.levels
-object_level (ObjectStructs start size i) o = o.is_measured.1.meets.levels
+pub object_level : {purpose : Purpose} {r : Reading} {m m' : Meter} {rows : MeasuredRows} (x : Object) → Opened purpose r m m' x rows → 0 < r.levels
+object_level (ObjectStruct start size) o = o.is_read.1.meets.levels
+object_level (ObjectPointers start i) o = o.is_read.1.meets.levels
+object_level (ObjectStructs start size i) o = o.is_read.1.meets.levels
 object_level ObjectNull o = absurd o.has
 object_level (ObjectCapability i) o = absurd o.has
 object_level (ObjectFlat start size i) o = absurd o.has
 
-inside_struct : {r : Reading} {m m' : Meter} (start : Place) (size : StructSize) → IsObject Size r m m' (ObjectStruct start size) → start.at + 1 * (size.data_words + size.pointers) ≤ length (segment r.segments start.segment)
-inside_struct start size (a, o, z, (held, seg, at), wide, many) =
-    let room = o.meets.claims (λ v. omega (arith, v.0, z)) in
+inside_struct : (purpose : Purpose) {r : Reading} {m m' : Meter} (start : Place) (size : StructSize) → IsObject purpose r m m' (ObjectStruct start size) → start.at + 1 * (size.data_words + size.pointers) ≤ length (segment r.segments start.segment)
+inside_struct purpose {r} start size (a, o, z, (held, seg, at), wide, many) =
+    let room = claims_there purpose r.segments a o.meets.claims (λ v. omega (arith, v.0, z)) in
     rw (seg, wide, many) (omega (arith, room, at, claim_struct a.word z))
 
-inside_pointers : {r : Reading} {m m' : Meter} (start : Place) (i : ℕ) → IsObject Size r m m' (ObjectPointers start i) → start.at + 1 * (0 + i) ≤ length (segment r.segments start.segment)
-inside_pointers start i (a, o, z, six, (held, seg, at), many) =
-    let room = o.meets.claims (λ v. omega (arith, v.1, six)) in
+inside_pointers : (purpose : Purpose) {r : Reading} {m m' : Meter} (start : Place) (i : ℕ) → IsObject purpose r m m' (ObjectPointers start i) → start.at + 1 * (0 + i) ≤ length (segment r.segments start.segment)
+inside_pointers purpose {r} start i (a, o, z, six, (held, seg, at), many) =
+    let room = claims_there purpose r.segments a o.meets.claims (λ v. omega (arith, v.1, six)) in
     rw seg (omega (arith, room, at, many, claim_list a.word 6 z six))
 
-inside_structs : {r : Reading} {m m' : Meter} (start : Place) (size : StructSize) (i : ℕ) → IsObject Size r m m' (ObjectStructs start size i) → start.at + i * (size.data_words + size.pointers) ≤ length (segment r.segments start.segment)
-inside_structs start size i (a, o, z, seven, (held, seg, at), len, wide, many) =
-    let room = o.meets.claims (λ v. omega (arith, v.1, seven)) in
+inside_structs : (purpose : Purpose) {r : Reading} {m m' : Meter} (start : Place) (size : StructSize) (i : ℕ) → IsObject purpose r m m' (ObjectStructs start size i) → start.at + i * (size.data_words + size.pointers) ≤ length (segment r.segments start.segment)
+inside_structs purpose {r} start size i (a, o, z, seven, (held, seg, at), len, wide, many) =
+    let room = claims_there purpose r.segments a o.meets.claims (λ v. omega (arith, v.1, seven)) in
     rw (seg, len, wide, many) (omega (arith, room, at, claim_list a.word 7 z seven, (o.meets.tagged (z, seven)).1))
 
-pub object_inside : {r : Reading} {m m' : Meter} {rows : MeasuredRows} (x : Object) → Opened r m m' x rows → rows.start.at + rows.count * (rows.data_words + rows.pointers) ≤ length (segment_read (beginning r rows.start))
-object_inside {r} {m} {m'} (ObjectStruct start size) o = rw (o.has.0, o.has.1, o.has.2, o.has.3) (inside_struct {r = r} {m = m} {m' = m'} start size o.is_measured)
-object_inside {r} {m} {m'} (ObjectPointers start i) o = rw (o.has.0, o.has.1, o.has.2, o.has.3) (inside_pointers {r = r} {m = m} {m' = m'} start i o.is_measured)
-object_inside {r} {m} {m'} (ObjectStructs start size i) o = rw (o.has.0, o.has.1, o.has.2, o.has.3) (inside_structs {r = r} {m = m} {m' = m'} start size i o.is_measured)
+pub object_inside : {purpose : Purpose} {r : Reading} {m m' : Meter} {rows : MeasuredRows} (x : Object) → Opened purpose r m m' x rows → rows.start.at + rows.count * (rows.data_words + rows.pointers) ≤ length (segment_read (beginning r rows.start))
+object_inside {purpose} {r} {m} {m'} (ObjectStruct start size) o = rw (o.has.0, o.has.1, o.has.2, o.has.3) (inside_struct purpose {r = r} {m = m} {m' = m'} start size o.is_read)
+object_inside {purpose} {r} {m} {m'} (ObjectPointers start i) o = rw (o.has.0, o.has.1, o.has.2, o.has.3) (inside_pointers purpose {r = r} {m = m} {m' = m'} start i o.is_read)
+object_inside {purpose} {r} {m} {m'} (ObjectStructs start size i) o = rw (o.has.0, o.has.1, o.has.2, o.has.3) (inside_structs purpose {r = r} {m = m} {m' = m'} start size i o.is_read)
 object_inside ObjectNull o = absurd o.has
 object_inside (ObjectCapability i) o = absurd o.has
 object_inside (ObjectFlat start size i) o = absurd o.has

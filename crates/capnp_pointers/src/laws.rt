@@ -1,17 +1,22 @@
-//! Laws of sizes and of the test for canonical form. Each function does nothing: its contract is the
-//! law, proved for all messages and limits.
+//! Laws of sizes, of the test for canonical form, and of values that can be read. Each function does
+//! nothing: its contract is the law, proved for all messages and limits.
 
-ghost use Rattle.std.specs.Prelude.{◌≡◌, ◌<◌, ◌≤◌, ℕ, Ok, Err};
+ghost use Rattle.std.specs.Prelude.{◌≡◌, ◌<◌, ◌≤◌, ◌+◌, ℕ, true, Some, Ok, Err};
 ghost use Rattle.capnp_words.specs.declared.error.ErrorKind.{ErrorKind};
 ghost use Rattle.capnp_words.specs.Meter.{Affords, Meter};
 ghost use Rattle.capnp_format.specs.Canonical.{trim, word_count};
 ghost use Rattle.capnp_format.specs.Segments.{AreWords};
 ghost use Rattle.capnp_format.specs.Tree.{Tree, capabilities, depth};
+ghost use Rattle.capnp_objects.specs.declared.object.Expected.{Expected};
+ghost use Rattle.capnp_objects.specs.Expected.{expectation};
 ghost use Rattle.capnp_objects.specs.Outcomes.{MeansThere};
 ghost use Rattle.capnp_objects.specs.Reading.{Reading};
 ghost use Rattle.capnp_objects.specs.Spending.{after, pointers_in};
+ghost use Rattle.capnp_objects.specs.Values.{expect, value};
+ghost use Rattle.capnp_objects.specs.Wanted.{plain};
 ghost use Rattle.capnp_pointers.specs.Measure.{FitSize, measure, only_words};
 ghost use Rattle.capnp_pointers.specs.Testing.{test_value, test_values};
+ghost use Rattle.capnp_pointers.specs.Unexpected.{LeadsToOther};
 ghost use Rattle.capnp_pointers.specs.ValueSize.{value_size};
 ghost use Rattle.capnp_pointers.specs.declared.pointers.canonical_fault.CanonicalFault.{CanonicalFault};
 ghost use Rattle.capnp_pointers.specs.declared.pointers.sizes.MessageSize.{MessageSize};
@@ -61,4 +66,21 @@ pub fn one_verdict()
     ensures pointers { (i : ℕ) (r : Reading) (head : ℕ) (m m' m'' : Meter) (k l : ErrorKind)
         → test_values i r head m ≡ (Err k, m') → test_values i r head m ≡ (Err l, m'')
         → (k ≡ l) × (m' ≡ m'') }
+{}
+
+/// The extent of a value that is read within a traversal limit is exact: the value has at most as
+/// many words as the limit, and at most one capability more. Its depth is at most the nesting limit.
+pub fn extents_within_limits()
+    ensures { (r : Reading) (m m' : Meter) (t : Tree) (x : ℕ) → r.charging ≡ true → m.left ≡ Some x
+        → value plain r m ≡ (Ok t, m')
+        → (depth t ≤ r.levels) × (word_count t ≤ x) × (capabilities t ≤ x + 1) }
+{}
+
+/// If a place means a value, the traversal limit covers its cost, and a level is left, then a call
+/// that expects an object of some kind there is refused only if the object is of another kind, or
+/// isn't as expected: a text doesn't end in a zero byte, or the elements of a list are too narrow.
+pub fn refused_as_unexpected()
+    ensures { (e : Expected) (r : Reading) (m m' : Meter) (t : Tree) (c : ℕ) (k : ErrorKind)
+        → MeansThere r t c → 0 < r.levels → Affords r.charging m c
+        → expect (expectation e) r m ≡ (Err k, m') → LeadsToOther (expectation e) r k }
 {}

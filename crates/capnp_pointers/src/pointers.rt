@@ -13,6 +13,7 @@ mod canonical;
 mod canonical_answer;
 mod canonical_fault;
 mod sizes;
+mod validate;
 mod walk;
 
 pub use canonical::ends_used;
@@ -24,6 +25,7 @@ use capnp_words::error::ErrorKind;
 use capnp_words::read_limiter::ReadLimiter;
 pub use sizes::MessageSize;
 use std::alloc::AllocError;
+pub use validate::Extent;
 
 /// The place of a pointer in an arena.
 #[derive(Clone, Copy, Debug, PartialEq, Eq)]

@@ -624,7 +624,7 @@ pub fn ends_used(place: Place, at: u32, count: u32) -> bool
 }
 
 /// The nesting limit with one level less.
-fn less(nesting_limit: i32) -> i32
+pub(crate) fn less(nesting_limit: i32) -> i32
     ensures { levels result ≡ pred (levels nesting_limit) }
 {
     nesting_limit.saturating_sub(1)

@@ -95,15 +95,15 @@ impl<'a, A: ReaderArena> Pointer<'a, A> {
 // The pointers of an object, in elements of equal size: a struct and a list of pointers are one
 // element, so that one loop handles all pointers.
 #[derive(Clone, Copy)]
-struct MeasuredRows<'a> {
+pub(crate) struct MeasuredRows<'a> {
     // The first word of the first element.
-    start: Place<'a>,
+    pub(crate) start: Place<'a>,
     // The number of words before the pointers of an element.
-    data_words: u32,
+    pub(crate) data_words: u32,
     // The number of pointers of an element.
-    pointers: u32,
+    pub(crate) pointers: u32,
     // The number of elements.
-    count: u32,
+    pub(crate) count: u32,
 }
 
 // Adds the sizes of `count` consecutive pointers from position `at` on. Enters a struct in the same
@@ -319,7 +319,7 @@ fn words_of_object(object: Object) -> u64
 }
 
 // The pointers of an object; a null, a capability, and a list of bits have none.
-fn rows_of_object(object: Object) -> Option<MeasuredRows>
+pub(crate) fn rows_of_object(object: Object) -> Option<MeasuredRows>
     ensures { MatchOption result ((rows : MeasuredRows) → HasRows object.entry rows → ⊥)
         (HasRows object.entry) }
 {

@@ -46,7 +46,7 @@ add_object-returns-in_default-rows_of_object g t c =
 pub add_object-add_rows-requires : goal.add_object-add_rows-requires
 add_object-add_rows-requires g t c =
     let r : Reading = reading_on g.A.ReaderArena c.args.from.now c.args.at c.args.nesting_limit in
-    let opened : Opened r c.args.walk.now.lim c.measure_object.new.lim c.in-Ok.object c.in-Some.rows = record { is_measured = rw (to_z-of_z w32 c.args.nesting_limit c.ranges.nesting_limit) at c.in-Ok.ensures.object; has = c.in-Some.ensures } in
+    let opened : Opened Size r c.args.walk.now.lim c.measure_object.new.lim c.in-Ok.object c.in-Some.rows = record { is_read = rw (to_z-of_z w32 c.args.nesting_limit c.ranges.nesting_limit) at c.in-Ok.ensures.object; has = c.in-Some.ensures } in
     let level = object_level c.in-Ok.object opened in
     let less = one_level_in c.args.nesting_limit c.ranges.nesting_limit level in
     let inside = object_inside c.in-Ok.object opened in
@@ -58,7 +58,7 @@ pub add_object-returns : goal.add_object-returns
 add_object-returns g t c =
     let r : Reading = reading_on g.A.ReaderArena c.args.from.now c.args.at c.args.nesting_limit in
     let nl = to_z-of_z w32 c.args.nesting_limit c.ranges.nesting_limit in
-    let opened : Opened r c.args.walk.now.lim c.measure_object.new.lim c.in-Ok.object c.in-Some.rows = record { is_measured = rw nl at c.in-Ok.ensures.object; has = c.in-Some.ensures } in
+    let opened : Opened Size r c.args.walk.now.lim c.measure_object.new.lim c.in-Ok.object c.in-Some.rows = record { is_read = rw nl at c.in-Ok.ensures.object; has = c.in-Some.ensures } in
     let less = one_level_in c.args.nesting_limit c.ranges.nesting_limit (object_level c.in-Ok.object opened) in
     let sum = rw c.words_of_object.ensures at c.in_ok-add_words.ensures.sum in
     object_added r c.args.walk.now.sums.size c.add_words.new.self.size c.args.walk.now.lim _ (object_shape c.in-Ok.object) c.args.walk.now.sums.fits (rw nl at c.in-Ok.ensures.computed) sum.0 (rw (no_capability c.in-Ok.object c.in_default.not-Capability) (sum.1 ∙ sym (add-zero _))) c.add_words.new.self.fits
