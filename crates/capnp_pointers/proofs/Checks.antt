@@ -165,7 +165,7 @@ list_pointers r a = child_at r a (pred r.levels) a.start
 abbrev pub list_elements : Reading → Target → Reading
 list_elements r a = child_at r a (pred r.levels) (a.start + 1)
 
-struct_finds : {r : Reading} {from to : Progress} {m' : Meter} {a : Target} → IsTested r → Entered Value r from.meter m' a → kind a.word ≡ 0 → a.start ≡ from.head → 0 < data_words a.word + pointer_count a.word → SectionsUsed r a →
+pub struct_finds : {r : Reading} {from to : Progress} {m' : Meter} {a : Target} → IsTested r → Entered Value r from.meter m' a → kind a.word ≡ 0 → a.start ≡ from.head → 0 < data_words a.word + pointer_count a.word → SectionsUsed r a →
     AreFound (struct_pointers r a) (pointer_count a.word) (progress (a.start + data_words a.word + pointer_count a.word) m') to → IsFound r from to
 struct_finds {r} {from} {to} {m'} {a} ready o z start some used (ts, len, all) =
     let S : Segments = r.segments in
@@ -191,7 +191,7 @@ struct_finds {r} {from} {to} {m'} {a} ready o z start some used (ts, len, all) =
       },
     )
 
-pointers_find : {r : Reading} {from to : Progress} {m' : Meter} {a : Target} → IsTested r → Entered Value r from.meter m' a → kind a.word ≡ 1 → element_size a.word ≡ 6 → a.start ≡ from.head →
+pub pointers_find : {r : Reading} {from to : Progress} {m' : Meter} {a : Target} → IsTested r → Entered Value r from.meter m' a → kind a.word ≡ 1 → element_size a.word ≡ 6 → a.start ≡ from.head →
     AreFound (list_pointers r a) (list_count a.word) (progress (a.start + list_count a.word) m') to → IsFound r from to
 pointers_find {r} {from} {to} {m'} {a} ready o z six start (ts, len, all) =
     let S : Segments = r.segments in
@@ -212,7 +212,7 @@ pointers_find {r} {from} {to} {m'} {a} ready o z six start (ts, len, all) =
       },
     )
 
-flat_finds : {r : Reading} {from : Progress} {m' : Meter} {a : Target} → IsTested r → Entered Value r from.meter m' a → kind a.word ≡ 1 → element_size a.word ≤ 5 → a.start ≡ from.head →
+pub flat_finds : {r : Reading} {from : Progress} {m' : Meter} {a : Target} → IsTested r → Entered Value r from.meter m' a → kind a.word ≡ 1 → element_size a.word ≤ 5 → a.start ≡ from.head →
     IsPadded r.segments a.segment a.start (element_size a.word) (list_count a.word) → IsFound r from (progress (a.start + words_for (element_size a.word) (list_count a.word)) m')
 flat_finds {r} {from} {m'} {a} ready o z small start padded =
     let S : Segments = r.segments in
@@ -247,7 +247,7 @@ abbrev pub TellsClaimed : Reading → StructSize → ℕ → ℕ → Meter → M
 TellsClaimed r size n claimed m m' (Some e) = (n * (size.data_words + size.pointers) ≡ claimed) × TellsRows r (rows_sized size n) (progress (r.at + claimed) m) m' (Some e)
 TellsClaimed r size n claimed m m' None = n * (size.data_words + size.pointers) ≡ claimed → TellsRows r (rows_sized size n) (progress (r.at + claimed) m) m' None
 
-structs_find : {r : Reading} {from to : Progress} {m' : Meter} {a : Target} → IsTested r → Entered Value r from.meter m' a → kind a.word ≡ 1 → element_size a.word ≡ 7 → a.start ≡ from.head → element_words (tag r.segments a) ≡ list_count a.word →
+pub structs_find : {r : Reading} {from to : Progress} {m' : Meter} {a : Target} → IsTested r → Entered Value r from.meter m' a → kind a.word ≡ 1 → element_size a.word ≡ 7 → a.start ≡ from.head → element_words (tag r.segments a) ≡ list_count a.word →
     AreFoundRows (list_elements r a) (tag_size r.segments a) (offset_bits (tag r.segments a)) (progress (a.start + 1 + list_count a.word) m') to → IsFound r from to
 structs_find {r} {from} {to} {m'} {a} ready o z seven start exact (es, len, dw, pw, all) =
     let S : Segments = r.segments in
@@ -330,7 +330,7 @@ unplaced_never r m m' h (ObjectStructs start size n) ready (a, o, z, seven, (hel
     let (d, q, es, same, f) = structs_found r.segments r.segment r.at h a (list_count a.word) t stands (list_at 7 o z seven) in
     other (omega (arith, at, f.start))
 
-struct_never : {r : Reading} {m m' : Meter} {a : Target} (h : ℕ) → IsTested r → Entered Value r m m' a → kind a.word ≡ 0 → 0 < data_words a.word + pointer_count a.word →
+pub struct_never : {r : Reading} {m m' : Meter} {a : Target} (h : ℕ) → IsTested r → Entered Value r m m' a → kind a.word ≡ 0 → 0 < data_words a.word + pointer_count a.word →
     (SectionsUsed r a × AreCanonicalAt (struct_pointers r a) (pointer_count a.word) (a.start + data_words a.word + pointer_count a.word) → ⊥) → IsCanonicalAt r h → ⊥
 struct_never {r} {a = a} h ready o z some fails (t, stands) =
     let S : Segments = r.segments in
@@ -340,7 +340,7 @@ struct_never {r} {a = a} h ready o z some fails (t, stands) =
     let start = sym f.start in
     fails ((used_at S seg start refl f.data_used, used_at S seg (omega (arith, start)) refl f.pointers_used), (ts, len, all_at S ts seg (omega (arith, start)) (omega (arith, start)) all))
 
-pointers_never : {r : Reading} {m m' : Meter} {a : Target} (h : ℕ) → IsTested r → Entered Value r m m' a → kind a.word ≡ 1 → element_size a.word ≡ 6 →
+pub pointers_never : {r : Reading} {m m' : Meter} {a : Target} (h : ℕ) → IsTested r → Entered Value r m m' a → kind a.word ≡ 1 → element_size a.word ≡ 6 →
     (AreCanonicalAt (list_pointers r a) (list_count a.word) (a.start + list_count a.word) → ⊥) → IsCanonicalAt r h → ⊥
 pointers_never {r} {a = a} h ready o z six fails (t, stands) =
     let S : Segments = r.segments in
@@ -349,7 +349,7 @@ pointers_never {r} {a = a} h ready o z six fails (t, stands) =
     let start = sym f.start in
     fails (ts, len, all_at S ts (sym f.same_segment) start (omega (arith, start)) all)
 
-flat_never : {r : Reading} {m m' : Meter} {a : Target} (h : ℕ) → IsTested r → Entered Value r m m' a → kind a.word ≡ 1 → element_size a.word ≤ 5 →
+pub flat_never : {r : Reading} {m m' : Meter} {a : Target} (h : ℕ) → IsTested r → Entered Value r m m' a → kind a.word ≡ 1 → element_size a.word ≤ 5 →
     (IsPadded r.segments a.segment a.start (element_size a.word) (list_count a.word) → ⊥) → IsCanonicalAt r h → ⊥
 flat_never {r} {a = a} h ready o z small fails (t, stands) =
     let size : ℕ = element_size a.word in
@@ -357,7 +357,7 @@ flat_never {r} {a = a} h ready o z small fails (t, stands) =
     let f = flat_found r.segments r.segment r.at h a size n t stands (list_at size o z refl) small in
     fails (subst (λ x. IsPadded r.segments x a.start size n) (sym f.same_segment) (subst (λ x. IsPadded r.segments r.segment x size n) (sym f.start) f.padded))
 
-structs_never : {r : Reading} {m m' : Meter} {a : Target} (h : ℕ) → IsTested r → Entered Value r m m' a → kind a.word ≡ 1 → element_size a.word ≡ 7 →
+pub structs_never : {r : Reading} {m m' : Meter} {a : Target} (h : ℕ) → IsTested r → Entered Value r m m' a → kind a.word ≡ 1 → element_size a.word ≡ 7 →
     (element_words (tag r.segments a) ≡ list_count a.word →
     ElementsAccept r.segments a.segment (a.start + 1) (data_words (tag r.segments a)) (pointer_count (tag r.segments a)) (a.start + 1 + list_count a.word) (offset_bits (tag r.segments a)) → ⊥) →
     IsCanonicalAt r h → ⊥

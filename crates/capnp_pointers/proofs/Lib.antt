@@ -21,3 +21,7 @@ pub mod Counted
 pub mod Rooms
 pub mod Returned
 pub mod NeverStops
+pub mod ReadsAlong
+pub mod Verdicts
+pub mod ObjectVerdicts
+pub mod Answered

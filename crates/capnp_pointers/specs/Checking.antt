@@ -13,7 +13,7 @@ use Rattle.capnp_words.specs.declared.wire_pointer.ElementSize.{ElementSize}
 use Rattle.capnp_words.specs.Sizes.{size_number, sized}
 use Rattle.capnp_format.specs.Numbers.{words_for}
 use Rattle.capnp_format.specs.Word.{kind, offset_bits, data_words, pointer_count, element_size, list_count}
-use Rattle.capnp_format.specs.Segments.{Target, word_at, IsPlace}
+use Rattle.capnp_format.specs.Segments.{Target, HasSmallWords, word_at, IsPlace}
 use Rattle.capnp_format.specs.Tree.{Tree, Trees, Elements, count, element_count, depth, depth_all}
 use Rattle.capnp_format.specs.Tree.{depth_elements}
 use Rattle.capnp_format.specs.Canonical.{Stands, ForOffset, word_count, word_count_all}
@@ -91,6 +91,10 @@ IsFound r from to = (t : Tree) × Finds r from to t
 
 abbrev pub AreFound : Reading → ℕ → Progress → Progress → Type 0
 AreFound r i from to = (ts : Trees) × (count ts ≡ i) × FindsAll r from to ts
+
+-- Each word of the segment of r has 64 bits.
+abbrev pub HasSmallSegment : Reading → Type 0
+HasSmallSegment r = HasSmallWords r.segments r.segment
 
 -- Canonical words are at the place and the head, with any limits; the same for i pointers.
 abbrev pub IsCanonicalAt : Reading → ℕ → Type 0

@@ -128,6 +128,10 @@ abbrev pub renamed : {A : Type 0} → ℕ → Result A ErrorKind × Meter → Re
 renamed w (Ok x, m) = (Ok x, m)
 renamed w (Err k, m) = (Err (level_refusal_name w k), m)
 
+-- k is the error of the test, if reading is refused with l.
+abbrev pub IsTestName : ErrorKind → ErrorKind → Type 0
+IsTestName l k = (w : ℕ) × (k ≡ level_refusal_name w l)
+
 -- Reads the object of the pointer at the place r, which has to be near, and tests it with f.
 abbrev pub near_tested : (Shape → TestStep) → Reading → TestStep
 near_tested f r =

@@ -1,7 +1,7 @@
 //! Laws of sizes, of the test for canonical form, and of values that can be read. Each function does
 //! nothing: its contract is the law, proved for all messages and limits.
 
-ghost use Rattle.std.specs.Prelude.{◌≡◌, ◌<◌, ◌≤◌, ◌+◌, ℕ, true, Some, Ok, Err};
+ghost use Rattle.std.specs.Prelude.{◌≡◌, ◌<◌, ◌≤◌, ◌+◌, ℕ, true, Some, Ok, Err, ◌↔◌};
 ghost use Rattle.capnp_words.specs.declared.error.ErrorKind.{ErrorKind};
 ghost use Rattle.capnp_words.specs.Meter.{Affords, Meter};
 ghost use Rattle.capnp_format.specs.Canonical.{trim, word_count};
@@ -12,10 +12,11 @@ ghost use Rattle.capnp_objects.specs.Expected.{expectation};
 ghost use Rattle.capnp_objects.specs.Outcomes.{MeansThere};
 ghost use Rattle.capnp_objects.specs.Reading.{Reading};
 ghost use Rattle.capnp_objects.specs.Spending.{after, pointers_in};
-ghost use Rattle.capnp_objects.specs.Values.{expect, value};
+ghost use Rattle.capnp_objects.specs.Values.{expect, value, read_values, value_within};
 ghost use Rattle.capnp_objects.specs.Wanted.{plain};
+ghost use Rattle.capnp_pointers.specs.Checking.{AreCanonicalAt, AreFound, HasSmallSegment, IsCanonicalAt, IsFound, progress};
 ghost use Rattle.capnp_pointers.specs.Measure.{FitSize, measure, only_words};
-ghost use Rattle.capnp_pointers.specs.Testing.{test_value, test_values};
+ghost use Rattle.capnp_pointers.specs.Testing.{test_value, test_values, IsTestName};
 ghost use Rattle.capnp_pointers.specs.Unexpected.{LeadsToOther};
 ghost use Rattle.capnp_pointers.specs.ValueSize.{value_size};
 ghost use Rattle.capnp_pointers.specs.declared.pointers.canonical_fault.CanonicalFault.{CanonicalFault};
@@ -51,6 +52,40 @@ pub fn one_size_refusal()
     ensures { (r : Reading) (z : MessageSize) (m m' m'' : Meter) (k l : ErrorKind)
         → measure r z m ≡ (Err k, m') → measure r z m ≡ (Err l, m'')
         → (k ≡ l) × (m' ≡ m'') }
+{}
+
+/// What a test for canonical form says of a place. If each word of the place's segment has 64 bits,
+/// the test finds words from the head on exactly if they are the canonical words of a value that the
+/// limits allow; then it moves the head past them and charges what reading the value costs
+/// (`found`). If it finds a fault, there are no canonical words, under any limits (`fault`).
+pub fn tests_of_places()
+    ensures found { (r : Reading) (head end : ℕ) (m m' : Meter) → HasSmallSegment r
+        → (test_value r head m ≡ (Ok (Ok end), m'))
+        ↔ IsFound r (progress head m) (progress end m') }
+    ensures fault { (r : Reading) (head : ℕ) (m m' : Meter) (f : CanonicalFault) → HasSmallSegment r
+        → test_value r head m ≡ (Ok (Err f), m') → IsCanonicalAt r head → ⊥ }
+{}
+
+/// The same for a test of `i` consecutive pointers. Without a pointer, the segment doesn't matter.
+pub fn tests_of_pointers()
+    ensures found { (i : ℕ) (r : Reading) (head end : ℕ) (m m' : Meter)
+        → (0 < i → HasSmallSegment r) → test_values i r head m ≡ (Ok (Ok end), m')
+        → AreFound r i (progress head m) (progress end m') }
+    ensures fault { (i : ℕ) (r : Reading) (head : ℕ) (m m' : Meter) (f : CanonicalFault)
+        → (0 < i → HasSmallSegment r) → test_values i r head m ≡ (Ok (Err f), m')
+        → AreCanonicalAt r i head → ⊥ }
+{}
+
+/// If a test for canonical form is refused, reading the plain value of the place is refused too, and
+/// leaves the same limiter. The error is the same, too, except that a test refuses a list without a
+/// level left with `NestingLimitExceeded`. The same holds for a test of consecutive pointers.
+pub fn refused_as_reading()
+    ensures place { (r : Reading) (head : ℕ) (m m' : Meter) (k : ErrorKind)
+        → test_value r head m ≡ (Err k, m')
+        → (l : ErrorKind) × IsTestName l k × (value plain r m ≡ (Err l, m')) }
+    ensures pointers { (i : ℕ) (r : Reading) (head : ℕ) (m m' : Meter) (k : ErrorKind)
+        → test_values i r head m ≡ (Err k, m') → (l : ErrorKind) × IsTestName l k
+        × (read_values (value_within plain r.levels) i r m ≡ (Err l, m')) }
 {}
 
 /// If a test for canonical form finds a fault, only one is possible; if it is refused, only one name
