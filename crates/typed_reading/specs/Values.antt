@@ -1,9 +1,9 @@
 -- What typed code reads of a value. What a struct doesn't have reads as zero bits, or as null.
-use Rattle.std.specs.Prelude.{ℕ}
-use Rattle.capnp_format.specs.Tree.{Tree}
+use Rattle.std.specs.Prelude.{ℕ, List}
+use Rattle.capnp_format.specs.Tree.{Tree, Null}
 use Rattle.capnp_format.specs.Fields.{field_in}
 use Rattle.capnp_format.specs.Path.{Child, next}
-use Rattle.capnp_readers.specs.Values.{struct_data, struct_element}
+use Rattle.capnp_readers.specs.Values.{list_numbers, struct_data, struct_element, text_bytes}
 
 -- The w bits of a struct's data from bit b on, which are in one word.
 abbrev pub bits_in : ℕ → ℕ → Tree → ℕ
@@ -16,3 +16,13 @@ child i t = next t (Child i)
 -- What element i of a list of pointers means.
 abbrev pub pointer_element : ℕ → Tree → Tree
 pointer_element i t = child 0 (struct_element t i)
+
+-- The bytes of a text, without the zero byte at its end; those of the default if there is no text.
+abbrev pub text_or : List ℕ → Tree → List ℕ
+text_or default Null = default
+text_or default t = text_bytes t
+
+-- The bytes of data; those of the default if there is no data.
+abbrev pub data_or : List ℕ → Tree → List ℕ
+data_or default Null = default
+data_or default t = list_numbers t

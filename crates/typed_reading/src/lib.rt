@@ -2,5 +2,6 @@
 //! read, with contracts that speak of the value that the message means.
 #![tactic(auto)]
 
+pub mod error;
 pub mod list;
 pub mod value;

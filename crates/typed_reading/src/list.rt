@@ -9,7 +9,7 @@ ghost use Rattle.capnp_words.specs.declared.wire_pointer.ElementSize.TheVariants
 ghost use Rattle.capnp_objects.specs.Reading.{source_start};
 ghost use Rattle.capnp_objects.specs.Spending.{Paid};
 ghost use Rattle.capnp_readers.specs.Sections.{data_bits};
-ghost use Rattle.capnp_readers.specs.Values.{ShowsListOf, ShowsNumber, ShowsStructOf, StaysIn, FitsElements, FitsSize, HasStructs, IsText, child_cost, element_number, list_length, pointer_cost, struct_element, text_bytes};
+ghost use Rattle.capnp_readers.specs.Values.{ShowsListOf, ShowsNumber, ShowsStructOf, StaysIn, FitsElements, FitsSize, HasStructs, IsBytes, IsText, child_cost, element_number, list_length, list_numbers, pointer_cost, struct_element, text_bytes};
 ghost use Rattle.typed_reading.specs.Values.{child, pointer_element};
 
 use capnp_arena_traits::arena::ReaderArena;
@@ -147,6 +147,99 @@ impl<'a, A: ReaderArena> TextsReader<'a, A> {
     }
 }
 
+/// A list of data that is read.
+pub struct DataListReader<'a, A: ReaderArena> {
+    /// The list.
+    pub reader: ListReader<'a, A>,
+    ghost pointers: { 0 < reader.count → size_number reader.element_size ≢ 6
+        → 0 < reader.struct_size.pointers },
+}
+
+impl<'a, A: ReaderArena> Clone for DataListReader<'a, A> {
+    ghost is_clone = { λ x y. y ≡ x };
+
+    ghost is_infallible = { λ _. ⊤ };
+
+    fn clone(&self) -> Result<Self, AllocError> {
+        Ok(*self)
+    }
+}
+
+impl<'a, A: ReaderArena> Copy for DataListReader<'a, A> {}
+
+impl<'a, A: ReaderArena> DataListReader<'a, A> {
+    /// The number of elements.
+    pub fn len(&self) -> u32
+        ensures count { result ≡ self.now.reader.count }
+        ensures value { (t : Tree) → ShowsListOf A.ReaderArena self.now.reader t
+            → result ≡ list_length t }
+    {
+        self.reader.len()
+    }
+
+    /// Returns the bytes of data `index`; no bytes if the element is null. Precondition: `index` is
+    /// below the number of elements.
+    ///
+    /// Refuses like `PointerReader::get_data`.
+    pub fn get(&self, index: u32, lim: &mut ReadLimiter) -> Result<&'a [u8], ErrorKind>
+        requires { index < self.now.reader.count }
+        ensures value { (t : Tree) → ShowsListOf A.ReaderArena self.now.reader t → HasStructs t
+            → IfOk result (λ bytes. bytes.now ≡ list_numbers (pointer_element index t)) }
+        ensures answered { let start = source_start A.ReaderArena self.now.reader.source in
+            (t : Tree) (shows : ShowsListOf A.ReaderArena self.now.reader t) → HasStructs t
+            → IsBytes (pointer_element index t)
+            → Affords start.charging lim.old (pointer_cost A.ReaderArena shows index)
+            → IsOk result }
+        ensures spent { let start = source_start A.ReaderArena self.now.reader.source in
+            (t : Tree) (shows : ShowsListOf A.ReaderArena self.now.reader t) → HasStructs t
+            → pointer_element index t ≢ Null → OnOk result (Paid start.charging lim.old lim.new
+            (pointer_cost A.ReaderArena shows index) 1) }
+    {
+        self.reader.get_pointer_element(index).get_data(lim, None)
+    }
+}
+
+/// A list of pointers that is read: of lists, of capabilities, or of anything.
+pub struct PointersReader<'a, A: ReaderArena> {
+    /// The list.
+    pub reader: ListReader<'a, A>,
+    ghost whole: { size_number reader.element_size ≢ 1 },
+}
+
+impl<'a, A: ReaderArena> Clone for PointersReader<'a, A> {
+    ghost is_clone = { λ x y. y ≡ x };
+
+    ghost is_infallible = { λ _. ⊤ };
+
+    fn clone(&self) -> Result<Self, AllocError> {
+        Ok(*self)
+    }
+}
+
+impl<'a, A: ReaderArena> Copy for PointersReader<'a, A> {}
+
+impl<'a, A: ReaderArena> PointersReader<'a, A> {
+    /// The number of elements.
+    pub fn len(&self) -> u32
+        ensures count { result ≡ self.now.reader.count }
+        ensures value { (t : Tree) → ShowsListOf A.ReaderArena self.now.reader t
+            → result ≡ list_length t }
+    {
+        self.reader.len()
+    }
+
+    /// Returns element `index` as a struct whose pointer 0 is the element, so that the functions of
+    /// this crate read it. Precondition: `index` is below the number of elements.
+    pub fn get(&self, index: u32) -> StructReader<'a, A>
+        requires { index < self.now.reader.count }
+        ensures value { (t : Tree) → ShowsListOf A.ReaderArena self.now.reader t → HasStructs t
+            → ShowsStructOf A.ReaderArena result (struct_element t index) }
+        ensures source { result.source ≡ self.now.reader.source }
+    {
+        self.reader.element(index)
+    }
+}
+
 // The list that a pointer of a struct leads to; a list without elements if the pointer is null.
 fn get_list<'a, A: ReaderArena>(
     reader: &StructReader<'a, A>,
@@ -221,6 +314,8 @@ pub fn get_numbers<'a, A: ReaderArena, T: PrimitiveElement>(
         → IfOk result (λ list. (inner : ShowsListOf A.ReaderArena list.reader (child index t))
         → Paid start.charging lim.old lim.new
         (child_cost A.ReaderArena shows index - inner.cost) 1) }
+    ensures stays { IfOk result (λ list. StaysIn (source_start A.ReaderArena reader.now.source)
+        (source_start A.ReaderArena list.reader.source)) }
 {
     let reader = get_list(reader, index, T::element_size(), lim)?;
     Ok(NumbersReader {
@@ -249,7 +344,63 @@ pub fn get_texts<'a, A: ReaderArena>(
         → IfOk result (λ list. (inner : ShowsListOf A.ReaderArena list.reader (child index t))
         → Paid start.charging lim.old lim.new
         (child_cost A.ReaderArena shows index - inner.cost) 1) }
+    ensures stays { IfOk result (λ list. StaysIn (source_start A.ReaderArena reader.now.source)
+        (source_start A.ReaderArena list.reader.source)) }
 {
     let reader = get_list(reader, index, ElementSize::Pointer, lim)?;
     Ok(TextsReader { reader })
+}
+
+/// Returns the list of data that a pointer of a struct leads to; a list without elements if the
+/// pointer is null.
+///
+/// Refuses like `PointerReader::get_list`.
+pub fn get_data_list<'a, A: ReaderArena>(
+    reader: &StructReader<'a, A>,
+    index: usize,
+    lim: &mut ReadLimiter,
+) -> Result<DataListReader<'a, A>, ErrorKind>
+    ensures value { (t : Tree) → ShowsStructOf A.ReaderArena reader.now t
+        → IfOk result (λ list. ShowsListOf A.ReaderArena list.reader (child index t)) }
+    ensures answered { let start = source_start A.ReaderArena reader.now.source in
+        (t : Tree) (shows : ShowsStructOf A.ReaderArena reader.now t)
+        → FitsSize Pointer (child index t)
+        → Affords start.charging lim.old (child_cost A.ReaderArena shows index) → IsOk result }
+    ensures spent { let start = source_start A.ReaderArena reader.now.source in
+        (t : Tree) (shows : ShowsStructOf A.ReaderArena reader.now t) → child index t ≢ Null
+        → IfOk result (λ list. (inner : ShowsListOf A.ReaderArena list.reader (child index t))
+        → Paid start.charging lim.old lim.new
+        (child_cost A.ReaderArena shows index - inner.cost) 1) }
+    ensures stays { IfOk result (λ list. StaysIn (source_start A.ReaderArena reader.now.source)
+        (source_start A.ReaderArena list.reader.source)) }
+{
+    let reader = get_list(reader, index, ElementSize::Pointer, lim)?;
+    Ok(DataListReader { reader })
+}
+
+/// Returns the list of pointers that a pointer of a struct leads to; a list without elements if the
+/// pointer is null.
+///
+/// Refuses like `PointerReader::get_list`.
+pub fn get_pointers<'a, A: ReaderArena>(
+    reader: &StructReader<'a, A>,
+    index: usize,
+    lim: &mut ReadLimiter,
+) -> Result<PointersReader<'a, A>, ErrorKind>
+    ensures value { (t : Tree) → ShowsStructOf A.ReaderArena reader.now t
+        → IfOk result (λ list. ShowsListOf A.ReaderArena list.reader (child index t)) }
+    ensures answered { let start = source_start A.ReaderArena reader.now.source in
+        (t : Tree) (shows : ShowsStructOf A.ReaderArena reader.now t)
+        → FitsSize Pointer (child index t)
+        → Affords start.charging lim.old (child_cost A.ReaderArena shows index) → IsOk result }
+    ensures spent { let start = source_start A.ReaderArena reader.now.source in
+        (t : Tree) (shows : ShowsStructOf A.ReaderArena reader.now t) → child index t ≢ Null
+        → IfOk result (λ list. (inner : ShowsListOf A.ReaderArena list.reader (child index t))
+        → Paid start.charging lim.old lim.new
+        (child_cost A.ReaderArena shows index - inner.cost) 1) }
+    ensures stays { IfOk result (λ list. StaysIn (source_start A.ReaderArena reader.now.source)
+        (source_start A.ReaderArena list.reader.source)) }
+{
+    let reader = get_list(reader, index, ElementSize::Pointer, lim)?;
+    Ok(PointersReader { reader })
 }

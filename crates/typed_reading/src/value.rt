@@ -1,16 +1,18 @@
 //! The root of a message, and the fields of a struct that is read.
-ghost use Rattle.std.specs.Prelude.{◌≡◌, ◌≢◌, ◌+◌, ◌-◌, ◌*◌, ◌↔◌, ℕ, bit_xor, IsTrue, IfOk, IsOk, OnOk};
+ghost use Rattle.std.specs.Prelude.{◌≡◌, ◌≢◌, ◌+◌, ◌-◌, ◌*◌, ◌↔◌, ℕ, true, false, bit_xor, IsTrue, IfOk, IsOk, OnOk, Err};
 ghost use Rattle.capnp_format.specs.Bytes.{message};
 ghost use Rattle.capnp_format.specs.Means.{Means};
 ghost use Rattle.capnp_format.specs.Segments.{AreWords};
-ghost use Rattle.capnp_format.specs.Tree.{Tree, Null};
+ghost use Rattle.capnp_format.specs.Tree.{Tree, Capability, Null};
 ghost use Rattle.capnp_words.specs.Meter.{Affords, charged};
 ghost use Rattle.capnp_arena_traits.specs.Checks.{Holds};
+ghost use Rattle.capnp_objects.specs.Outcomes.{MeansThere};
 ghost use Rattle.capnp_objects.specs.Reading.{source_start};
 ghost use Rattle.capnp_objects.specs.Source.{levels};
 ghost use Rattle.capnp_objects.specs.Spending.{Paid};
-ghost use Rattle.capnp_readers.specs.Values.{ShowsNumber, ShowsStructOf, StaysIn, IsBytes, IsStructOrNull, IsText, child_cost, field_of_number, list_numbers, text_bytes};
-ghost use Rattle.typed_reading.specs.Values.{bits_in, child};
+ghost use Rattle.capnp_readers.specs.Readers.{read_by};
+ghost use Rattle.capnp_readers.specs.Values.{HasValue, ShowsNumber, ShowsStructOf, StaysIn, IsBytes, IsStructOrNull, IsText, child_cost, field_of_number, list_numbers, text_bytes};
+ghost use Rattle.typed_reading.specs.Values.{bits_in, child, data_or, text_or};
 
 use capnp_arena_traits::arena::ReaderArena;
 use capnp_objects::source::Source;
@@ -83,12 +85,52 @@ pub fn get_bool<A: ReaderArena>(reader: &StructReader<'_, A>, offset: usize) -> 
     reader.get_bool_field(offset)
 }
 
+/// Returns bit `offset` of a struct's data, like `get_bool`, of a field whose default value is
+/// `default`: the exclusive or of what is stored and the default.
+pub fn get_bool_or<A: ReaderArena>(
+    reader: &StructReader<'_, A>,
+    offset: usize,
+    default: bool,
+) -> bool
+    ensures unset { default ≡ false → (t : Tree) → ShowsStructOf A.ReaderArena reader.now t
+        → (IsTrue result ↔ (bits_in offset 1 t ≡ 1)) }
+    ensures set { default ≡ true → (t : Tree) → ShowsStructOf A.ReaderArena reader.now t
+        → (IsTrue result ↔ (bits_in offset 1 t ≢ 1)) }
+{
+    reader.get_bool_field_mask(offset, default)
+}
+
 /// Returns whether a pointer of a struct is null, or the struct has no such pointer.
 pub fn is_null<A: ReaderArena>(reader: &StructReader<'_, A>, index: usize) -> bool
     ensures { (t : Tree) → ShowsStructOf A.ReaderArena reader.now t
         → (IsTrue result ↔ (child index t ≡ Null)) }
 {
     reader.is_pointer_field_null(index)
+}
+
+/// Returns whether a struct has a pointer that isn't null.
+pub fn has<A: ReaderArena>(reader: &StructReader<'_, A>, index: usize) -> bool
+    ensures { (t : Tree) → ShowsStructOf A.ReaderArena reader.now t
+        → (IsTrue result ↔ (child index t ≢ Null)) }
+{
+    !reader.is_pointer_field_null(index)
+}
+
+/// Returns a pointer of a struct, which can lead to anything; a null pointer that isn't in any
+/// message if the struct has no such pointer. Charges nothing.
+pub fn get_pointer<'a, A: ReaderArena>(
+    reader: &StructReader<'a, A>,
+    index: usize,
+) -> PointerReader<'a, A>
+    ensures value { (t : Tree) → ShowsStructOf A.ReaderArena reader.now t
+        → HasValue (read_by A.ReaderArena result) (child index t) }
+    ensures cost { (t : Tree) (shows : ShowsStructOf A.ReaderArena reader.now t)
+        → MeansThere (read_by A.ReaderArena result) (child index t)
+        (child_cost A.ReaderArena shows index) }
+    ensures stays { StaysIn (source_start A.ReaderArena reader.now.source)
+        (read_by A.ReaderArena result) }
+{
+    reader.get_pointer_field(index)
 }
 
 /// Returns the bytes of the text that a pointer of a struct leads to, without the zero byte at its
@@ -114,6 +156,31 @@ pub fn get_text<'a, A: ReaderArena>(
     reader.get_pointer_field(index).get_text(lim, None)
 }
 
+/// Returns the bytes of the text that a pointer of a struct leads to, like `get_text`; the bytes of
+/// `default` if the pointer is null.
+pub fn get_text_or<'a, A: ReaderArena>(
+    reader: &StructReader<'a, A>,
+    index: usize,
+    default: &'a [u8],
+    lim: &mut ReadLimiter,
+) -> Result<&'a [u8], ErrorKind>
+    ensures value { (t : Tree) → ShowsStructOf A.ReaderArena reader.now t
+        → IfOk result (λ text. text.now ≡ text_or default.now (child index t)) }
+    ensures answered { let start = source_start A.ReaderArena reader.now.source in
+        (t : Tree) (shows : ShowsStructOf A.ReaderArena reader.now t)
+        → AreWords start.segments → IsText (child index t)
+        → Affords start.charging lim.old (child_cost A.ReaderArena shows index) → IsOk result }
+    ensures spent { let start = source_start A.ReaderArena reader.now.source in
+        (t : Tree) (shows : ShowsStructOf A.ReaderArena reader.now t) → child index t ≢ Null
+        → OnOk result (Paid start.charging lim.old lim.new
+        (child_cost A.ReaderArena shows index) 1) }
+{
+    if is_null(reader, index) {
+        return Ok(default);
+    }
+    get_text(reader, index, lim)
+}
+
 /// Returns the bytes of the data that a pointer of a struct leads to; no bytes if the pointer is
 /// null.
 ///
@@ -134,6 +201,30 @@ pub fn get_data<'a, A: ReaderArena>(
         (child_cost A.ReaderArena shows index) 1) }
 {
     reader.get_pointer_field(index).get_data(lim, None)
+}
+
+/// Returns the bytes of the data that a pointer of a struct leads to, like `get_data`; the bytes of
+/// `default` if the pointer is null.
+pub fn get_data_or<'a, A: ReaderArena>(
+    reader: &StructReader<'a, A>,
+    index: usize,
+    default: &'a [u8],
+    lim: &mut ReadLimiter,
+) -> Result<&'a [u8], ErrorKind>
+    ensures value { (t : Tree) → ShowsStructOf A.ReaderArena reader.now t
+        → IfOk result (λ bytes. bytes.now ≡ data_or default.now (child index t)) }
+    ensures answered { let start = source_start A.ReaderArena reader.now.source in
+        (t : Tree) (shows : ShowsStructOf A.ReaderArena reader.now t) → IsBytes (child index t)
+        → Affords start.charging lim.old (child_cost A.ReaderArena shows index) → IsOk result }
+    ensures spent { let start = source_start A.ReaderArena reader.now.source in
+        (t : Tree) (shows : ShowsStructOf A.ReaderArena reader.now t) → child index t ≢ Null
+        → OnOk result (Paid start.charging lim.old lim.new
+        (child_cost A.ReaderArena shows index) 1) }
+{
+    if is_null(reader, index) {
+        return Ok(default);
+    }
+    get_data(reader, index, lim)
 }
 
 /// Returns the struct that a pointer of a struct leads to; a struct without sections if the pointer
@@ -160,4 +251,20 @@ pub fn get_struct<'a, A: ReaderArena>(
         (source_start A.ReaderArena r.source)) }
 {
     reader.get_pointer_field(index).get_struct(lim, None)
+}
+
+/// Returns the index, in the message's capability table, of the capability that a pointer of a
+/// struct is. Charges nothing.
+///
+/// Refuses like `PointerReader::get_capability`.
+pub fn get_capability<A: ReaderArena>(
+    reader: &StructReader<'_, A>,
+    index: usize,
+) -> Result<u32, ErrorKind>
+    ensures value { (t : Tree) (i : ℕ) → ShowsStructOf A.ReaderArena reader.now t
+        → child index t ≡ Capability i → IfOk result (λ n. n ≡ i) }
+    ensures null { (t : Tree) → ShowsStructOf A.ReaderArena reader.now t
+        → child index t ≡ Null → result ≡ Err ErrorKind.MessageContainsNullCapabilityPointer }
+{
+    reader.get_pointer_field(index).get_capability()
 }
