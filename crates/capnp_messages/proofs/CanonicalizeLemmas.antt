@@ -47,7 +47,7 @@ covered_or_not S None there = inl (record { root = there; covered = tt })
 covered_or_not S (Some zero) there = inr (ReadLimitExceeded, no_budget refl there refl)
 covered_or_not S (Some (suc n)) there = inl (record { root = there; covered = omega arith })
 
-root_or_not : (S : Segments) (budget : Option ℕ) → CoversRoot S budget ⊎ ((k : ErrorKind) × RefusesRoot S budget k)
+pub root_or_not : (S : Segments) (budget : Option ℕ) → CoversRoot S budget ⊎ ((k : ErrorKind) × RefusesRoot S budget k)
 root_or_not S budget = elim (cases_lt 0 (length (segment S 0))) [
   | inl there ↦ covered_or_not S budget there
   | inr none ↦ inr (misplaced S 0 (InvalidSegmentId 0), no_root refl (λ there. omega (arith, there, none)))

@@ -11,3 +11,4 @@ pub mod FramesLemmas
 pub mod AsItStandsLemmas
 pub mod DigestLemmas
 pub mod CanonicalizeLemmas
+pub mod ExtentLemmas

@@ -8,5 +8,6 @@ pub mod CanonicalErrors
 pub mod CanonicalMessages
 pub mod Messages
 pub mod Canonicalize
+pub mod Extents
 pub mod Commands
 pub mod Digests

@@ -12,6 +12,7 @@ pub mod laws;
 mod lent_memory;
 mod message_fault;
 mod root;
+mod validation;
 mod whole;
 mod writing;
 
@@ -25,6 +26,7 @@ pub use digest::{digest_from, digest_with};
 pub use lent_memory::LentMemory;
 pub use message_fault::canonical_fault;
 pub use root::read_root;
+pub use validation::{MessageExtent, validate, validate_of};
 pub use whole::{
     canonical_fault_of, canonical_from, canonical_in_room, canonical_with, is_canonical, size_of,
 };

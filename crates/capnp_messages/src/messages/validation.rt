@@ -1,0 +1,76 @@
+//! Finds out whether the whole value of a message can be read.
+ghost use Rattle.std.specs.Prelude.{◌≡◌, ◌↔◌, IsOk, IfOk};
+ghost use Rattle.capnp_format.specs.Bytes.{message};
+ghost use Rattle.capnp_arena_traits.specs.Limits.{IsSmall};
+ghost use Rattle.capnp_objects.specs.Source.{levels};
+ghost use Rattle.capnp_messages.specs.Extents.{HasExtent, root_extent, validate, words_taken};
+ghost use Rattle.capnp_messages.specs.Messages.{IsReadable};
+
+use super::root::read_root;
+use capnp_arena::arena::{ReaderArena, ReaderArenaImpl, ReaderOptions, ReaderSegments};
+use capnp_pointers::pointers::Extent;
+use capnp_words::error::ErrorKind;
+use capnp_words::read_limiter::ReadLimiter;
+
+/// How deep the value of a message is, how much it holds, and what reading it costs.
+#[derive(Clone, Copy, Debug, PartialEq, Eq)]
+pub struct MessageExtent {
+    /// Depth, words and capabilities of the value that the root pointer leads to.
+    pub value: Extent,
+    /// The number of words that reading the whole value once takes from the traversal limit, with
+    /// one for the root pointer; `None` if there is no limit.
+    pub cost: Option<usize>,
+}
+
+/// Tests whether the whole value of a message can be read, from the root on. Returns how deep the
+/// value is and how much it holds. Takes no memory.
+///
+/// Charges `lim` one word for the root pointer, and then counts, charges and refuses like
+/// `Pointer::validate`. Refusals of the root pointer, which charge nothing: `InvalidSegmentId(0)`
+/// if there are no segments; `MessageContainsOutOfBoundsPointer` if the first segment has no word;
+/// `ReadLimitExceeded` if `lim` has no word left.
+pub fn validate<S: ReaderSegments>(
+    arena: &ReaderArenaImpl<S>,
+    lim: &mut ReadLimiter,
+) -> Result<Extent, ErrorKind>
+    ensures { root_extent (message (⟦<ReaderArenaImpl<S> as ReaderArena>⟧.segments arena.now))
+        (levels arena.now.nesting_limit) lim.old ≡ (result, lim.new) }
+{
+    let root = read_root(arena, lim)?;
+    root.validate(lim)
+}
+
+/// Tests whether a message is sound: whether its root means a value, which may have capabilities,
+/// within `limits`. Returns how deep the value is, how much it holds, and what reading it costs.
+/// Takes no memory.
+///
+/// Refuses like `validate`, with the first fault found.
+pub fn validate_of<S: ReaderSegments + Drop>(
+    segments: S,
+    limits: ReaderOptions,
+) -> Result<MessageExtent, ErrorKind>
+    requires { IsSmall (S.segments segments) }
+    ensures computed { validate (message (S.segments segments)) limits ≡ result }
+    ensures exactly { IsOk result ↔ IsReadable (message (S.segments segments)) limits }
+    ensures extent { IfOk result (HasExtent (message (S.segments segments)) limits) }
+{
+    let arena = ReaderArenaImpl::new(segments, limits);
+    let limit = limits.traversal_limit_in_words;
+    let mut lim = ReadLimiter::new(limit);
+    let value = validate(&arena, &mut lim)?;
+    Ok(MessageExtent {
+        value,
+        cost: words_taken(limit, lim.left()),
+    })
+}
+
+/// The number of words that a reading took from `limit`, if it has left `left`; `None` if there is
+/// no limit.
+fn words_taken(limit: Option<usize>, left: Option<usize>) -> Option<usize>
+    ensures { result ≡ words_taken limit left }
+{
+    match (limit, left) {
+        (Some(limit), Some(left)) => Some(limit.saturating_sub(left)),
+        _ => None,
+    }
+}
