@@ -12,3 +12,6 @@ pub mod AsItStandsLemmas
 pub mod DigestLemmas
 pub mod CanonicalizeLemmas
 pub mod ExtentLemmas
+pub mod PathLemmas
+pub mod PartLemmas
+pub mod MessagePartLemmas

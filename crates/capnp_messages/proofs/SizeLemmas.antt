@@ -15,7 +15,7 @@ use Rattle.capnp_messages.specs.Roots.RefusesRoot.{no_root, no_budget}
 use Rattle.capnp_messages.specs.Messages.{HasSizeOf, HasSizeWithin, RefusesSize, message_size, root_within}
 use Rattle.capnp_messages.proofs.MessageLemmas.{AtRoot}
 
-fits_one : (left : Option ℕ) → FitsIn left 1 → fits left 1 ≡ true
+pub fits_one : (left : Option ℕ) → FitsIn left 1 → fits left 1 ≡ true
 fits_one None h = refl
 fits_one (Some x) h = le-leb 1 x h
 

@@ -11,3 +11,6 @@ pub mod Canonicalize
 pub mod Extents
 pub mod Commands
 pub mod Digests
+pub mod Parts
+pub mod PathEnds
+pub mod MessageParts

@@ -1,6 +1,8 @@
 //! Laws of canonical messages and their copies (encoding specification, "Canonicalization"). Each
 //! function does nothing: its contract is the law, proved for all messages.
 
+mod parts;
+
 ghost use Rattle.std.specs.Prelude.{◌≡◌, ◌↔◌, ◌⊎◌, ◌≤◌, ◌+◌, ℕ, List, Some, Ok, Err};
 ghost use Rattle.capnp_words.specs.declared.error.ErrorKind.{ErrorKind};
 ghost use Rattle.capnp_words.specs.declared.error.ErrorKind.TheVariants.{MessageTooLarge};
@@ -14,6 +16,8 @@ ghost use Rattle.capnp_framing.specs.Frames.{CanBeFramed, frame};
 ghost use Rattle.capnp_messages.specs.CanonicalMessages.{IsCanonicalOf};
 ghost use Rattle.capnp_messages.specs.Canonicalize.{OutgrowsSegment, canonicalize};
 ghost use Rattle.capnp_messages.specs.Messages.{IsValueOf, RefusesCanon};
+
+pub use parts::parts_found;
 
 /// A message is the canonical form of at most one value. Under any nesting limit that is at least
 /// the value's depth, reading the message from its root results in this value, and costs as few

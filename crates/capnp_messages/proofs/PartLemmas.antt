@@ -1,0 +1,304 @@
+-- Where a path leads in a message that has a value.
+use Rattle.std.proofs.Common.{◌≡◌, ◌⊎◌, inl, inr, ℕ, zero, suc, pred, ◌+◌, ◌*◌, ◌%◌, ◌^◌, ◌<◌, ◌≤◌, nat_eq, nat_lt, List, [], ◌∷◌, length, Option, Some, None, Bool, true, false, ◌&&◌, cond, Result, Ok, Err, refl, sym, ap, ap₂, ◌∙◌, subst, arith, lt-ltb}
+use Rattle.std.proofs.lemmas.Bool.{cases_lt, ne_eqb}
+use Rattle.capnp_words.specs.declared.error.ErrorKind.{ErrorKind}
+use Rattle.capnp_words.specs.declared.error.ErrorKind.TheVariants.{NoSuchPlace, ReadLimitExceeded}
+use Rattle.capnp_words.specs.Meter.{Affords, FitsIn, Meter, spent}
+use Rattle.capnp_format.specs.Word.{kind, data_words, pointer_count, element_size, list_count, offset_bits, upper_half}
+use Rattle.capnp_format.specs.Segments.{Segments, Target, segment}
+use Rattle.capnp_format.specs.Tree.{Tree, Null, Capability, Struct, Flat, Pointers, Structs, Trees, no_trees, tree, Elements, no_elements, element, count, element_count}
+use Rattle.capnp_format.specs.Means.{IsTag, Means, MeansAll, MeansElements, count_cost}
+use Rattle.capnp_format.specs.Numbers.{words_for}
+use Rattle.capnp_format.specs.Path.{Child, next, struct_at, tree_at}
+use Rattle.capnp_objects.specs.Demands.{Meets, claim, own, tag}
+use Rattle.capnp_objects.specs.Enter.{Shape, capability, flat, nothing, pointers, read, shape, struct, structs}
+use Rattle.capnp_objects.specs.Faults.{LeadsTo}
+use Rattle.capnp_objects.specs.Metered.{fits, onward, outcome}
+use Rattle.capnp_objects.specs.Outcomes.{MeansThere}
+use Rattle.capnp_objects.specs.Reading.{Reading, behind}
+use Rattle.capnp_objects.specs.Refusals.{Stopped, claim_exceeds, count_exceeds, exceeding, no_target}
+use Rattle.capnp_objects.specs.Spending.{Paid, after}
+use Rattle.capnp_objects.specs.Wanted.{FollowsTo, plain}
+use Rattle.capnp_objects.specs.declared.object.Purpose.TheVariants.{Value}
+use Rattle.capnp_objects.proofs.Budgets.{affords_none, affords_rest}
+use Rattle.capnp_objects.proofs.Computed.{capability_is, entering_is, null_is, pads_are, stopped_is}
+use Rattle.capnp_objects.proofs.Faultless.{one_target}
+use Rattle.capnp_objects.proofs.Followed.{leads_to}
+use Rattle.capnp_objects.proofs.Inverted.{affords_or_not}
+use Rattle.capnp_objects.proofs.Parts.{claim_flat, claim_list, claim_struct, extra_flat, extra_list, extra_struct, is_capability, is_inner, is_null, means_parts}
+use Rattle.capnp_objects.proofs.Refusals.{affords_less}
+use Rattle.capnp_messages.specs.Parts.{part_of, to_pointer, to_element, pointer_in, end_at, end_in, inside, follow_path, part}
+use Rattle.capnp_messages.specs.Roots.{CoversRoot, message_root, read_message_root}
+use Rattle.capnp_messages.proofs.CanonLemmas.{covers_rest}
+use Rattle.capnp_messages.proofs.SizeLemmas.{fits_one}
+
+-- An object that meets its demands is read, or its words exceed the limit.
+pub data Opened (r : Reading) (m : Meter) (o : Shape) (n : ℕ) : Type 0 where
+  opened : (m' : Meter) → Paid r.charging m m' n 1 → read Value r m ≡ (Ok o, m') → Opened r m o n
+  exceeded : (m' : Meter) → (Affords r.charging m n → ⊥) → read Value r m ≡ (Err ReadLimitExceeded, m') → Opened r m o n
+
+stops : {r : Reading} {m m' : Meter} {o : Shape} {n : ℕ} → (Affords r.charging m n → ⊥) → Stopped Value plain r m m' ReadLimitExceeded → Opened r m o n
+stops {r} {m} {m'} short stopped = exceeded m' short (stopped_is Value r m m' ReadLimitExceeded (λ e. absurd (cc e)) stopped)
+
+pads_exceed : {r : Reading} {m : Meter} {a : Target} {o : Shape} {n : ℕ} → FollowsTo r a → a.pads ≤ n → (Affords r.charging m a.pads → ⊥) → Opened r m o n
+pads_exceed {r} {m} {a} {n = n} f least short =
+    stops (λ h. short (affords_less r.charging m a.pads n least h))
+    (no_target (exceeding f.0 (λ h. short (subst (Affords r.charging m) (pads_are r a f.1) h)) (record { covers = affords_none r.charging m; spent = refl }) refl))
+
+pub object_opens : (r : Reading) (m : Meter) (a : Target) → LeadsTo r a → Meets Value r.segments r.levels a → Opened r m (shape r.segments a) (own Value r.segments a)
+object_opens r m a leads meets =
+    let f = leads_to r a leads in
+    elim (affords_or_not r.charging m (own Value r.segments a)) [
+      | inl all ↦ opened (after r.charging m (own Value r.segments a) 1) (record { covers = all; spent = refl }) (entering_is Value r m _ a (record { follows = f; meets = meets; covers = all; spent = refl }))
+      | inr short ↦ elim (affords_or_not r.charging m (a.pads + claim a.word)) [
+        | inl claimed ↦ stops short (count_exceeds a f meets short (record { covers = claimed; spent = refl }) refl)
+        | inr over ↦ elim (affords_or_not r.charging m a.pads) [
+          | inl pads ↦ stops short (claim_exceeds a f meets.levels meets.is_object meets.claims over (record { covers = pads; spent = refl }) refl)
+          | inr none ↦ pads_exceed f (omega arith) none
+        ]
+      ]
+    ]
+
+capability_opens : (r : Reading) (m : Meter) (a : Target) → LeadsTo r a → a.word % 2 ^ 32 ≡ 3 → Opened r m (capability (upper_half a.word)) a.pads
+capability_opens r m a leads low =
+    let f = leads_to r a leads in
+    elim (affords_or_not r.charging m a.pads) [
+      | inl pads ↦ opened (after r.charging m a.pads 1) (record { covers = pads; spent = refl }) (capability_is Value r a m (λ e. absurd (cc e)) f low pads)
+      | inr none ↦ pads_exceed f (omega arith) none
+    ]
+
+-- A child, and its cost, which is part of that of all children.
+child_costs : (S : Segments) (n s p : ℕ) (ts : Trees) (c i : ℕ) → i < count ts → MeansAll S n s p ts c → (k : ℕ) × Means S n s (p + i) (tree_at ts i) k × (k ≤ c)
+child_costs S n s p no_trees c i less h = absurd (omega arith)
+child_costs S n s p (tree t ts) c zero less (a, b, one, rest, g) = (a, subst (λ q. Means S n s q t a) (let e : p ≡ p + 0 = omega arith in e) one, omega arith)
+child_costs S n s p (tree t ts) c (suc i) less (a, b, one, rest, g) =
+    let r = child_costs S n s (p + 1) ts b i (omega arith) rest in
+    (r.0, subst (λ q. Means S n s q (tree_at ts i) r.0) (let e : p + 1 + i ≡ p + suc i = omega arith in e) r.1, omega (arith, r.2))
+
+element_child_costs : (S : Segments) (n s p d q : ℕ) (es : Elements) (c i j : ℕ) → i < element_count es → j < q → MeansElements S n s p d q es c →
+    (k : ℕ) × Means S n s (p + i * (d + q) + d + j) (next (struct_at es i) (Child j)) k × (k ≤ c)
+element_child_costs S n s p d q no_elements c i j l m h = absurd (omega arith)
+element_child_costs S n s p d q (element ws ts es) c zero j l m (a, b, long, len, here, all, rest, g) =
+    let r = child_costs S n s (p + d) ts a j (omega arith) all in
+    (r.0, subst (λ z. Means S n s z (tree_at ts j) r.0) (let e : p + d + j ≡ p + 0 * (d + q) + d + j = omega arith in e) r.1, omega (arith, r.2))
+element_child_costs S n s p d q (element ws ts es) c (suc i) j l m (a, b, long, len, here, all, rest, g) =
+    let r = element_child_costs S n s (p + d + q) d q es b i j (omega arith) m rest in
+    (r.0, subst (λ z. Means S n s z (next (struct_at es i) (Child j)) r.0) (let e : p + d + q + i * (d + q) + d + j ≡ p + suc i * (d + q) + d + j = omega arith in e) r.1, omega (arith, r.2))
+
+-- How a path ends that leads to the value v, if anywhere, where reading all costs c.
+pub data Ends (v : Option Tree) (S : Segments) (charging : Bool) (m : Meter) (c : ℕ) : Result Reading ErrorKind × Meter → Type 0 where
+  found : (x : Reading) (u : Tree) (k : ℕ) (n : Meter) → v ≡ Some u → MeansThere x u k → x.segments ≡ S → x.charging ≡ charging → (Affords charging m c → Affords charging n k) → Ends v S charging m c (Ok x, n)
+  nowhere : (n : Meter) → v ≡ None → Ends v S charging m c (Err NoSuchPlace, n)
+  exceeds : (n : Meter) → (Affords charging m c → ⊥) → Ends v S charging m c (Err ReadLimitExceeded, n)
+
+-- The same for more words, if the others were charged before.
+further : {v : Option Tree} {S : Segments} {charging : Bool} {m m' : Meter} {g i k : ℕ} {x : Result Reading ErrorKind × Meter} (c : ℕ) → Paid charging m m' g i → g + k ≤ c →
+    Ends v S charging m' k x → Ends v S charging m c x
+further {k = k} c paid least (found x u l n is means same charged rest) = found x u l n is means same charged (λ h. rest (affords_rest k c paid least h))
+further c paid least (nowhere n is) = nowhere n is
+further {k = k} c paid least (exceeds n short) = exceeds n (λ h. short (affords_rest k c paid least h))
+
+wider : {v : Option Tree} {S : Segments} {charging : Bool} {m : Meter} {k : ℕ} {x : Result Reading ErrorKind × Meter} (c : ℕ) → k ≤ c → Ends v S charging m k x → Ends v S charging m c x
+wider {charging = charging} {m = m} {k = k} c least (found x u l n is means same charged rest) = found x u l n is means same charged (λ h. rest (affords_less charging m k c least h))
+wider c least (nowhere n is) = nowhere n is
+wider {charging = charging} {m = m} {k = k} c least (exceeds n short) = exceeds n (λ h. short (affords_less charging m k c least h))
+
+not_less : (i n : ℕ) → n ≤ i → nat_lt i n ≡ false
+not_less i n h = grind (arith, h)
+
+-- The shapes of objects.
+struct_shape : (S : Segments) (a : Target) → kind a.word ≡ 0 → shape S a ≡ struct a.segment a.start (data_words a.word) (pointer_count a.word)
+struct_shape S a z = rw z refl
+
+pointers_shape : (S : Segments) (a : Target) → kind a.word ≡ 1 → element_size a.word ≡ 6 → shape S a ≡ pointers a.segment a.start (list_count a.word)
+pointers_shape S a one six = rw (one, six) refl
+
+flat_shape : (S : Segments) (a : Target) (size : ℕ) → size ≤ 5 → kind a.word ≡ 1 → element_size a.word ≡ size → shape S a ≡ flat a.segment a.start size (list_count a.word)
+flat_shape S a size small one is =
+    let other : nat_eq size 7 ≡ false = ne_eqb _ _ (λ e. omega arith) in
+    let another : nat_eq size 6 ≡ false = ne_eqb _ _ (λ e. omega arith) in
+    rw (one, is, other, another) refl
+
+flat_cost : (r : Reading) (a : Target) (size : ℕ) {n c : ℕ} → size ≤ 5 → kind a.word ≡ 1 → element_size a.word ≡ size → list_count a.word ≡ n →
+    c ≡ a.pads + words_for size n + count_cost size n → own Value r.segments a ≤ c
+flat_cost r a size small one is counts g =
+    rw (claim_list a.word size one is, claim_flat size (list_count a.word) small, extra_list Value r.segments a size one is, extra_flat Value r.segments a size small, counts) (omega (arith, g))
+
+structs_shape : (S : Segments) (a : Target) → kind a.word ≡ 1 → element_size a.word ≡ 7 →
+    shape S a ≡ structs a.segment (a.start + 1) (data_words (tag S a)) (pointer_count (tag S a)) (offset_bits (tag S a))
+structs_shape S a one seven = rw (one, seven) refl
+
+same_structs : {g n d q : ℕ} (a : Target) → IsTag g n d q →
+    structs a.segment (a.start + 1) (data_words g) (pointer_count g) (offset_bits g) ≡ structs a.segment (a.start + 1) d q n
+same_structs a t = rw (t.data_of, t.pointers, t.counts) refl
+
+structs_cost : (r : Reading) (a : Target) {n m : ℕ} (d q k : ℕ) {c : ℕ} → kind a.word ≡ 1 → element_size a.word ≡ 7 → IsTag (tag r.segments a) n d q → list_count a.word ≡ m →
+    c ≡ a.pads + (m + 1) + count_cost (d + q) n + k → own Value r.segments a + k ≡ c
+structs_cost r a d q k one seven t counts g =
+    rw (claim_list a.word 7 one seven, extra_list Value r.segments a 7 one seven, t.counts, t.data_of, t.pointers, counts) (omega (arith, g))
+
+-- What follows once an object was opened.
+opened_on : (r : Reading) (m m' : Meter) (o : Shape) (i : ℕ) (path : List ℕ) → read Value r m ≡ (Ok o, m') →
+    follow_path (to_pointer r) (i ∷ path) m ≡ onward (λ e. follow_path e path) (end_in r o i, m')
+opened_on r m m' o i path e = ap (λ x. onward (λ e. follow_path e path) (onward (λ o. outcome (end_in r o i)) x)) e
+
+exceeded_on : (r : Reading) (m m' : Meter) (k : ErrorKind) (i : ℕ) (path : List ℕ) → read Value r m ≡ (Err k, m') →
+    follow_path (to_pointer r) (i ∷ path) m ≡ (Err k, m')
+exceeded_on r m m' k i path e = ap (λ x. onward (λ e. follow_path e path) (onward (λ o. outcome (end_in r o i)) x)) e
+
+-- The rest of a path from an object of n words whose opening is known.
+after_opening : {v : Option Tree} {r : Reading} {m : Meter} {o : Shape} {n : ℕ} (c i : ℕ) (path : List ℕ) → n ≤ c → Opened r m o n →
+    ((m' : Meter) → Paid r.charging m m' n 1 → Ends v r.segments r.charging m c (onward (λ e. follow_path e path) (end_in r o i, m'))) →
+    Ends v r.segments r.charging m c (follow_path (to_pointer r) (i ∷ path) m)
+after_opening {v} {r} {m} {n = n} c i path least (opened m' paid e) rest = subst (Ends v r.segments r.charging m c) (sym (opened_on r m m' _ i path e)) (rest m' paid)
+after_opening {v} {r} {m} {n = n} c i path least (exceeded m' short e) rest = subst (Ends v r.segments r.charging m c) (sym (exceeded_on r m m' _ i path e)) (exceeds m' (λ h. short (affords_less r.charging m n c least h)))
+
+-- The part of an element with n pointers, which mean f.
+abbrev element_part : (ℕ → Tree) → ℕ → List ℕ → Option Tree
+element_part f n [] = None
+element_part f n (j ∷ path) = cond (nat_lt j n) (part_of (f j) path) None
+
+-- The pointers of a run have values.
+abbrev MeanIn : Reading → ℕ → (ℕ → Tree) → ℕ → Type 0
+MeanIn r n f c = (j : ℕ) → j < n → (k : ℕ) × MeansThere (behind r j) (f j) k × (k ≤ c)
+
+-- The pointer at an index of a run, if its first ends are known.
+in_run : {v : Option Tree} {S : Segments} {charging : Bool} {m : Meter} {c : ℕ} (m' : Meter) (r : Reading) (n i : ℕ) (path : List ℕ) →
+    (i < n → Ends v S charging m c (follow_path (to_pointer (behind r i)) path m')) → (n ≤ i → v ≡ None) →
+    Ends v S charging m c (onward (λ e. follow_path e path) (end_at (pointer_in r n i), m'))
+in_run {v} {S} {charging} {m} {c} m' r n i path inside outside = elim (cases_lt i n) [
+  | inl less ↦ let e : nat_lt i n ≡ true = lt-ltb _ _ less in rw e (inside less)
+  | inr most ↦ let e : nat_lt i n ≡ false = not_less i n most in rw e (nowhere m' (outside most))
+]
+
+no_element : (b : Bool) → (let v : Option Tree = None in v) ≡ cond b None None
+no_element true = refl
+no_element false = refl
+
+both_or_none : (b c : Bool) (v : Option Tree) → cond (b && c) v None ≡ cond b (cond c v None) None
+both_or_none true c v = refl
+both_or_none false c v = refl
+
+-- The part of a list of structs.
+part_of_structs : (d q : ℕ) (es : Elements) (i : ℕ) (path : List ℕ) →
+    part_of (Structs d q es) (i ∷ path) ≡ cond (nat_lt i (element_count es)) (element_part (λ j. next (struct_at es i) (Child j)) q path) None
+part_of_structs d q es i [] = no_element (nat_lt i (element_count es))
+part_of_structs d q es i (j ∷ path) = both_or_none (nat_lt i (element_count es)) (nat_lt j q) (part_of (next (struct_at es i) (Child j)) path)
+
+-- An object that the value of a place names meets its demands.
+meets_there : (r : Reading) (t : Tree) (c : ℕ) (a : Target) → MeansThere r t c → LeadsTo r a → kind a.word < 2 → Meets Value r.segments r.levels a
+meets_there r t c a means leads object = elim (means_parts r t c means) [
+  | is_null z ↦ absurd (leads.0 z)
+  | is_capability b l low one g ↦ absurd (let e : kind b.word ≡ kind a.word = ap (λ (x : Target). kind x.word) (one_target r b a l leads) in omega (arith, e, low, object))
+  | is_inner b l inner ↦ subst (Meets Value r.segments r.levels) (one_target r b a l leads) inner.meets
+]
+
+mutual
+  pub pointer_ends : (path : List ℕ) (r : Reading) (t : Tree) (c : ℕ) (m : Meter) → MeansThere r t c → Ends (part_of t path) r.segments r.charging m c (follow_path (to_pointer r) path m)
+  pointer_ends [] r t c m means = found r t c m refl means refl refl (λ h. h)
+  pointer_ends (i ∷ path) r Null c m means = subst (Ends None r.segments r.charging m c) (sym (opened_on r m m nothing i path (null_is Value r m means.0))) (nowhere m refl)
+  pointer_ends (i ∷ path) r (Capability index) c m (a, leads, is, g) =
+      after_opening c i path (omega (arith, g)) (capability_opens r m a leads (omega (arith, is))) (λ m' paid. nowhere m' refl)
+  pointer_ends (i ∷ path) r (Flat size ns) c m (a, some, small, o, claims, e, g) =
+      let meets = meets_there r (Flat size ns) c a (a, some, small, o, claims, e, g) o.leads_to (omega (arith, o.is_list)) in
+      after_opening c i path (flat_cost r a size small o.is_list o.is_size o.counts g)
+      (subst (λ s. Opened r m s (own Value r.segments a)) (flat_shape r.segments a size small o.is_list o.is_size) (object_opens r m a o.leads_to meets))
+      (λ m' paid. nowhere m' refl)
+  pointer_ends (i ∷ path) r (Struct ws ts) c m (a, k, some, o, claims, e, all, g) =
+      let meets = meets_there r (Struct ws ts) c a (a, k, some, o, claims, e, all, g) o.leads_to (omega (arith, o.is_struct)) in
+      let cost : own Value r.segments a + k ≡ c = omega (arith, claim_struct a.word o.is_struct, extra_struct Value r.segments a o.is_struct, o.data_of, o.pointers, g) in
+      let inner : Reading = inside r a.segment (a.start + length ws) in
+      after_opening c i path (omega (arith, cost))
+      (subst (λ s. Opened r m s (own Value r.segments a)) (struct_shape r.segments a o.is_struct ∙ ap₂ (λ d q. struct a.segment a.start d q) o.data_of o.pointers) (object_opens r m a o.leads_to meets))
+      (λ m' paid. in_run m' inner (count ts) i path
+      (λ less.
+      let (l, means, least) = child_costs r.segments (pred r.levels) a.segment (a.start + length ws) ts k i less all in
+      let e : nat_lt i (count ts) ≡ true = lt-ltb _ _ less in
+      rw e (further c paid (omega (arith, cost, least)) (pointer_ends path (behind inner i) (tree_at ts i) l m' means)))
+      (λ most. let e : nat_lt i (count ts) ≡ false = not_less i _ most in rw e refl))
+  pointer_ends (i ∷ path) r (Pointers ts) c m (a, k, some, o, claims, all, g) =
+      let meets = meets_there r (Pointers ts) c a (a, k, some, o, claims, all, g) o.leads_to (omega (arith, o.is_list)) in
+      let cost : own Value r.segments a + k ≡ c = omega (arith, claim_list a.word 6 o.is_list o.is_size, extra_list Value r.segments a 6 o.is_list o.is_size, o.counts, g) in
+      let inner : Reading = inside r a.segment a.start in
+      after_opening c i path (omega (arith, cost))
+      (subst (λ s. Opened r m s (own Value r.segments a)) (pointers_shape r.segments a o.is_list o.is_size ∙ ap (λ n. pointers a.segment a.start n) o.counts) (object_opens r m a o.leads_to meets))
+      (λ m' paid. in_run m' inner (count ts) i path
+      (λ less.
+      let (l, means, least) = child_costs r.segments (pred r.levels) a.segment a.start ts k i less all in
+      let e : nat_lt i (count ts) ≡ true = lt-ltb _ _ less in
+      rw e (further c paid (omega (arith, cost, least)) (pointer_ends path (behind inner i) (tree_at ts i) l m' means)))
+      (λ most. let e : nat_lt i (count ts) ≡ false = not_less i _ most in rw e refl))
+  pointer_ends (i ∷ path) r (Structs d q es) c m (a, n, k, some, o, claims, t, fits, all, g) =
+      let meets = meets_there r (Structs d q es) c a (a, n, k, some, o, claims, t, fits, all, g) o.leads_to (omega (arith, o.is_list)) in
+      let cost : own Value r.segments a + k ≡ c = structs_cost r a d q k o.is_list o.is_size t o.counts (omega (arith, g)) in
+      let first : Reading = inside r a.segment (a.start + 1 + i * (d + q) + d) in
+      after_opening c i path (omega (arith, cost))
+      (subst (λ s. Opened r m s (own Value r.segments a)) (structs_shape r.segments a o.is_list o.is_size ∙ same_structs a t) (object_opens r m a o.leads_to meets))
+      (λ m' paid. elim (cases_lt i (element_count es)) [
+        | inl less ↦
+            let e : nat_lt i (element_count es) ≡ true = lt-ltb _ _ less in
+            let part : part_of (Structs d q es) (i ∷ path) ≡ element_part (λ j. next (struct_at es i) (Child j)) q path = part_of_structs d q es i path ∙ rw e refl in
+            rw (e, part) (further c paid (omega (arith, cost)) (element_ends path first q (λ j. next (struct_at es i) (Child j)) k m'
+            (λ j inside. element_child_costs r.segments (pred r.levels) a.segment (a.start + 1) d q es k i j less inside all)))
+        | inr most ↦
+            let e : nat_lt i (element_count es) ≡ false = not_less i _ most in
+            let part : part_of (Structs d q es) (i ∷ path) ≡ None = part_of_structs d q es i path ∙ rw e refl in
+            rw e (nowhere m' part)
+      ])
+
+  element_ends : (path : List ℕ) (r : Reading) (n : ℕ) (f : ℕ → Tree) (c : ℕ) (m : Meter) → MeanIn r n f c → Ends (element_part f n path) r.segments r.charging m c (follow_path (to_element r n) path m)
+  element_ends [] r n f c m mean = nowhere m refl
+  element_ends (j ∷ path) r n f c m mean =
+      in_run m r n j path
+      (λ less. let (k, means, least) = mean j less in let e : nat_lt j n ≡ true = lt-ltb _ _ less in rw e (wider c least (pointer_ends path (behind r j) (f j) k m means)))
+      (λ most. let e : nat_lt j n ≡ false = not_less j n most in rw e refl)
+
+-- The root pointer is read.
+root_read : (S : Segments) (n : ℕ) (m : Meter) → CoversRoot S m.left → read_message_root S n m ≡ (Ok (message_root S n), spent m 1)
+root_read S n m covers =
+    let there : nat_lt 0 (length (segment S 0)) ≡ true = lt-ltb _ _ covers.root in
+    let covered : fits m.left 1 ≡ true = fits_one m.left covers.covered in
+    rw (there, covered) refl
+
+part_read : (S : Segments) (n : ℕ) (path : List ℕ) (m : Meter) → CoversRoot S m.left → part S n path m ≡ follow_path (to_pointer (message_root S n)) path (spent m 1)
+part_read S n path m covers = ap (onward (λ r. follow_path (to_pointer r) path)) (root_read S n m covers)
+
+-- How the path of a part ends.
+root_ends : (S : Segments) (n c : ℕ) (t : Tree) (path : List ℕ) (m : Meter) → Means S n 0 0 t c → CoversRoot S m.left → Ends (part_of t path) S true (spent m 1) c (part S n path m)
+root_ends S n c t path m means covers =
+    subst (Ends (part_of t path) S true (spent m 1) c) (sym (part_read S n path m covers)) (pointer_ends path (message_root S n) t c (spent m 1) means)
+
+found_there : {v : Option Tree} {S : Segments} {m m' : Meter} {c : ℕ} {r : Reading} (x : Result Reading ErrorKind × Meter) → Ends v S true m c x → x ≡ (Ok r, m') →
+    (u : Tree) × (k : ℕ) × (v ≡ Some u) × MeansThere r u k × (r.segments ≡ S) × (r.charging ≡ true) × (FitsIn m.left c → FitsIn m'.left k)
+found_there {S = S} {m' = m'} {r = r} _ (found x u k n is means same charged rest) e =
+    let place : x ≡ r = (let both = ap (λ p. p.0) e in cc both) in
+    let left : n ≡ m' = ap (λ p. p.1) e in (
+      u,
+      k,
+      is,
+      subst (λ (y : Reading). MeansThere y u k) place means,
+      subst (λ (y : Reading). y.segments ≡ S) place same,
+      subst (λ (y : Reading). y.charging ≡ true) place charged,
+      λ h. subst (λ (y : Meter). FitsIn y.left k) left (rest h),
+    )
+found_there _ (nowhere n is) e = absurd (let wrong = ap (λ p. p.0) e in cc wrong)
+found_there _ (exceeds n short) e = absurd (let wrong = ap (λ p. p.0) e in cc wrong)
+
+refused_there : {v : Option Tree} {S : Segments} {m m' : Meter} {c : ℕ} {k : ErrorKind} (x : Result Reading ErrorKind × Meter) → Ends v S true m c x → x ≡ (Err k, m') →
+    ((k ≡ NoSuchPlace) × (v ≡ None)) ⊎ ((k ≡ ReadLimitExceeded) × (FitsIn m.left c → ⊥))
+refused_there _ (found x u l n is means same charged rest) e = absurd (let wrong = ap (λ p. p.0) e in cc wrong)
+refused_there {k = k} _ (nowhere n is) e = inl (let named : k ≡ NoSuchPlace = (let both = ap (λ p. p.0) e in cc both) in named, is)
+refused_there {k = k} _ (exceeds n short) e = inr (let named : k ≡ ReadLimitExceeded = (let both = ap (λ p. p.0) e in cc both) in named, short)
+
+pub part_found : (S : Segments) (n c : ℕ) (t : Tree) (path : List ℕ) (m m' : Meter) (r : Reading) → Means S n 0 0 t c → CoversRoot S m.left → part S n path m ≡ (Ok r, m') →
+    (u : Tree) × (k : ℕ) × (part_of t path ≡ Some u) × MeansThere r u k × (r.segments ≡ S) × (r.charging ≡ true) × (FitsIn m.left (1 + c) → FitsIn m'.left k)
+part_found S n c t path m m' r means covers e =
+    let (u, k, is, there, same, charged, rest) = found_there _ (root_ends S n c t path m means covers) e in
+    (u, k, is, there, same, charged, λ h. rest (covers_rest m.left c h))
+
+pub part_stops : (S : Segments) (n c : ℕ) (t : Tree) (path : List ℕ) (m m' : Meter) (k : ErrorKind) → Means S n 0 0 t c → CoversRoot S m.left → part S n path m ≡ (Err k, m') →
+    ((k ≡ NoSuchPlace) × (part_of t path ≡ None)) ⊎ ((k ≡ ReadLimitExceeded) × (FitsIn m.left (1 + c) → ⊥))
+part_stops S n c t path m m' k means covers e = elim (refused_there _ (root_ends S n c t path m means covers) e) [
+  | inl none ↦ inl none
+  | inr (named, short) ↦ inr (named, λ h. short (covers_rest m.left c h))
+]

@@ -1,0 +1,164 @@
+//! Follows a path of indexes to a pointer of a message, the root of a part of the message.
+ghost use Rattle.std.specs.Prelude.{◌≡◌, ◌+◌, ◌*◌, ◌<◌, ◌≤◌, length, IfOk};
+ghost use Rattle.capnp_format.specs.Bytes.{message};
+ghost use Rattle.capnp_format.specs.Segments.{segment};
+ghost use Rattle.capnp_objects.specs.declared.object.Purpose.TheVariants.{Value};
+ghost use Rattle.capnp_objects.specs.Enter.{object_shape, read, result_shape, structs};
+ghost use Rattle.capnp_objects.specs.Objects.{IsHeld};
+ghost use Rattle.capnp_objects.specs.Reading.{source_start};
+ghost use Rattle.capnp_objects.specs.Source.{levels};
+ghost use Rattle.capnp_pointers.specs.Pointers.{reading};
+ghost use Rattle.capnp_messages.specs.Parts.{end_at, end_in, follow_path, part, pointer_in, step, to_pointer};
+ghost use Rattle.capnp_messages.specs.PathEnds.{IsObjectRead, end_read, end_result, pointer_result};
+
+use super::pointer_run::PointerRun;
+use super::root::read_root;
+use capnp_arena::arena::{ReaderArena, ReaderArenaImpl, ReaderSegments};
+use capnp_objects::object::{Object, Place};
+use capnp_pointers::pointers::Pointer;
+use capnp_words::error::ErrorKind;
+use capnp_words::read_limiter::ReadLimiter;
+use capnp_words::wire_pointer::StructSize;
+
+/// Reads the object that the pointer `from` leads to, like `Source::read_object`.
+fn read_object<'a, A: ReaderArena>(
+    from: Pointer<'a, A>,
+    lim: &mut ReadLimiter,
+) -> Result<Object<'a>, ErrorKind>
+    ensures computed { read Value (reading A.ReaderArena from.entry) lim.old
+        ≡ (result_shape result, lim.new) }
+    ensures object { IfOk result (IsObjectRead (reading A.ReaderArena from.entry)) }
+{
+    from.source.read_object(from.place, from.nesting_limit, lim)
+}
+
+/// What a path has reached.
+#[derive(Drop)]
+enum Reached<'a, A: ReaderArena> {
+    /// A pointer.
+    Pointer(Pointer<'a, A>),
+    /// An element of a list of structs, by its pointers.
+    Element(PointerRun<'a, A>),
+}
+
+impl<'a, A: ReaderArena> Reached<'a, A> {
+    /// The end of a path at the pointer of `run` with this `index`.
+    fn in_run(run: PointerRun<'a, A>, index: u32) -> Result<Self, ErrorKind>
+        ensures { end_at (pointer_in (reading A.ReaderArena run.entry.first) run.entry.count index)
+            ≡ end_result A.ReaderArena result }
+    {
+        match run.get(index) {
+            Ok(pointer) => Ok(Reached::Pointer(pointer)),
+            Err(kind) => Err(kind),
+        }
+    }
+
+    /// The element at `index` of the list of structs that `from` leads to, which has `count` elements
+    /// from `start` on.
+    fn in_structs(
+        from: Pointer<'a, A>,
+        start: Place<'a>,
+        size: StructSize,
+        count: u32,
+        index: u32,
+    ) -> Result<Self, ErrorKind>
+        requires held { IsHeld (source_start A.ReaderArena from.source).segments start }
+        requires level { 0 < levels from.nesting_limit }
+        requires inside { start.at + count * (size.data_words + size.pointers)
+            ≤ length (segment (source_start A.ReaderArena from.source).segments start.segment) }
+        ensures { end_in (reading A.ReaderArena from.entry)
+            (structs start.entry.segment start.entry.at size.data_words size.pointers count) index
+            ≡ end_result A.ReaderArena result }
+    {
+        if index >= count {
+            return Err(ErrorKind::NoSuchPlace);
+        }
+        let words = index * size.total() + u32::from(size.data_words);
+        let pointers = u32::from(size.pointers);
+        Ok(Reached::Element(PointerRun::inside(from, start, words, pointers)))
+    }
+
+    /// Where `index` leads from `object`, to which the pointer `from` leads. Refuses with
+    /// `NoSuchPlace` if that is nowhere.
+    fn in_object(from: Pointer<'a, A>, object: Object<'a>, index: u32) -> Result<Self, ErrorKind>
+        requires { IsObjectRead (reading A.ReaderArena from) object }
+        ensures { end_in (reading A.ReaderArena from.entry) (object_shape object.entry) index
+            ≡ end_result A.ReaderArena result }
+    {
+        match object {
+            Object::Struct { start, size } => {
+                let words = u32::from(size.data_words);
+                let pointers = u32::from(size.pointers);
+                Reached::in_run(PointerRun::inside(from, start, words, pointers), index)
+            }
+            Object::Pointers { start, count } => {
+                Reached::in_run(PointerRun::inside(from, start, 0, count), index)
+            }
+            Object::Structs { start, size, count } => {
+                Reached::in_structs(from, start, size, count, index)
+            }
+            Object::Null | Object::Capability(_) | Object::Flat { .. } => {
+                Err(ErrorKind::NoSuchPlace)
+            }
+        }
+    }
+
+    /// Where `index` leads from the end of a path. A pointer is read like `Source::read_object`, and
+    /// its object's pointers have a nesting limit that is one less.
+    fn step(self, index: u32, lim: &mut ReadLimiter) -> Result<Self, ErrorKind>
+        ensures { step (end_read A.ReaderArena self.entry) index lim.old
+            ≡ (end_result A.ReaderArena result, lim.new) }
+    {
+        match self {
+            Reached::Pointer(from) => {
+                let object = read_object(from, lim)?;
+                Reached::in_object(from, object, index)
+            }
+            Reached::Element(run) => Reached::in_run(run, index),
+        }
+    }
+}
+
+/// Follows `path` from the pointer `from`, and returns the pointer that it leads to.
+///
+/// From a pointer to a struct, an index leads to a pointer of the struct; from a pointer to a list of
+/// pointers, to an element; from a pointer to a list of structs, to an element, from which the next
+/// index leads to one of its pointers. Each pointer on the way is read and charged like
+/// `Source::read_object`; the last one isn't. Each has a nesting limit that is one less than that of
+/// the one before.
+///
+/// Refuses with `NoSuchPlace` if an index leads nowhere, or if the path ends at an element of a list
+/// of structs, to which no pointer leads. Refuses like `Source::read_object` if a pointer on the way
+/// can't be read. What was charged before stays charged.
+pub fn follow_path<'a, A: ReaderArena>(
+    from: Pointer<'a, A>,
+    path: &[u32],
+    lim: &mut ReadLimiter,
+) -> Result<Pointer<'a, A>, ErrorKind>
+    ensures { follow_path (to_pointer (reading A.ReaderArena from.entry)) path.now lim.old
+        ≡ (pointer_result A.ReaderArena result, lim.new) }
+{
+    let mut end = Reached::Pointer(from);
+    for index in path {
+        end = end.step(*index, lim)?;
+    }
+    match end {
+        Reached::Pointer(pointer) => Ok(pointer),
+        Reached::Element(_) => Err(ErrorKind::NoSuchPlace),
+    }
+}
+
+/// Reads the root pointer of a message like `read_root`, and then follows `path` from there like
+/// `follow_path`.
+pub fn read_part<'a, S: ReaderSegments>(
+    arena: &'a ReaderArenaImpl<S>,
+    path: &[u32],
+    lim: &mut ReadLimiter,
+) -> Result<Pointer<'a, ReaderArenaImpl<S>>, ErrorKind>
+    ensures { part (message (⟦<ReaderArenaImpl<S> as ReaderArena>⟧.segments arena.now))
+        (levels arena.now.nesting_limit) path.now lim.old
+        ≡ (pointer_result ⟦<ReaderArenaImpl<S> as ReaderArena>⟧ result, lim.new) }
+{
+    let root = read_root(arena, lim)?;
+    follow_path(root, path, lim)
+}
