@@ -70,7 +70,7 @@ is_sound S limits h =
     let reads : Reads plain r m (after true m h.cost (pointers_in h.value)) h.value = record { cost = h.cost; means = h.means; takes = λ other. absurd (other refl); covers = covers_rest limits.traversal_limit_in_words h.cost h.covered; spent = refl } in
     subst (λ (x : Result MessageExtent ErrorKind). IsOk x) (sym (at_value S limits _ h.root (reads_is plain r m _ h.value reads))) refl
 
--- What this says of a result.
+-- What it means that a result has this form.
 pub readable_if : (S : Segments) (limits : ReaderOptions) (result : Result MessageExtent ErrorKind) → validate S limits ≡ result → IsOk result ↔ IsReadable S limits
 readable_if S limits result e = (
   λ is. elim (validated S limits) [
