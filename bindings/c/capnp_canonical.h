@@ -104,6 +104,8 @@ enum capnp_canonical_answer {
     CAPNP_CANONICAL_MESSAGE_TOO_LARGE = 59,
     /* The nesting limit is exceeded. From the calls that test, at a list. */
     CAPNP_CANONICAL_NESTING_LIMIT_EXCEEDED = 60,
+    /* The path leads to no pointer. From the calls for a part. */
+    CAPNP_CANONICAL_NO_SUCH_PLACE = 61,
     /* The traversal limit is exceeded. */
     CAPNP_CANONICAL_READ_LIMIT_EXCEEDED = 62,
     /* A pointer is of an unknown kind. */
@@ -192,6 +194,27 @@ uint32_t capnp_canonical_check(const uint8_t *frame, size_t frame_size, int32_t 
  * and writes them to `*word_count` and `*cap_count`. The frame is at the front of `frame_size` bytes. After a refusal
  * both are 0. */
 uint32_t capnp_canonical_size(const uint8_t *frame, size_t frame_size, int32_t nesting, uint64_t words, uint64_t *word_count, uint32_t *cap_count);
+
+/* copy_flat, digest and size for a part of the message: for the value of the pointer at the end of a path. If
+ * `struct Signed { payload @0 :Payload; signature @1 :Data; }` is the root, the path {0} leads to the payload, whose words
+ * can be signed. `path` is `steps` indexes; it may be null if `steps` is 0, which leads to the root pointer. An index
+ * leads from a struct to its pointer with this index, which isn't the field's number: only pointers count, and a schema's
+ * code has their indexes; from a list of pointers to an element; from a list of structs to an element, and the next
+ * index from there to one of its pointers.
+ *
+ * CAPNP_CANONICAL_NO_SUCH_PLACE means that the path leads to no pointer: an index is too large; or a pointer on the way is
+ * null, a capability or a list without pointers; or the path ends at an element of a list of structs. The pointer at the
+ * end may be null; the part then has the words of a null root. But a struct may have fewer pointers than in your schema:
+ * if an older schema wrote it, or in a canonical copy, which ends before the last null pointers. A path to a pointer that
+ * isn't there is refused, not taken as null.
+ *
+ * Reading the path and the part has the limits of the other calls. The rest of the message isn't read, so it needn't be
+ * sound. The words of the part are those that the other calls give for a message with this value at its root. */
+uint32_t capnp_canonical_copy_flat_at(const uint8_t *frame, size_t frame_size, const uint32_t *path, size_t steps, int32_t nesting, uint64_t words, uint8_t *to, size_t room, size_t *written);
+
+uint32_t capnp_canonical_digest_at(const uint8_t *frame, size_t frame_size, const uint32_t *path, size_t steps, int32_t nesting, uint64_t words, uint8_t digest[32]);
+
+uint32_t capnp_canonical_size_at(const uint8_t *frame, size_t frame_size, const uint32_t *path, size_t steps, int32_t nesting, uint64_t words, uint64_t *word_count, uint32_t *cap_count);
 
 /* Writes to `*bytes` the size of the frame at the front of `size` bytes; the next frame of a stream starts after it.
  * Reads only the segment table, not the message. After a refusal `*bytes` is 0. */
@@ -313,6 +336,7 @@ CAPNP_CANONICAL_INLINE const char *capnp_canonical_error_name(uint32_t answer) {
     case CAPNP_CANONICAL_MESSAGE_IS_TOO_DEEPLY_NESTED_OR_CONTAINS_CYCLES: return "MessageIsTooDeeplyNestedOrContainsCycles";
     case CAPNP_CANONICAL_MESSAGE_TOO_LARGE: return "MessageTooLarge";
     case CAPNP_CANONICAL_NESTING_LIMIT_EXCEEDED: return "NestingLimitExceeded";
+    case CAPNP_CANONICAL_NO_SUCH_PLACE: return "NoSuchPlace";
     case CAPNP_CANONICAL_READ_LIMIT_EXCEEDED: return "ReadLimitExceeded";
     case CAPNP_CANONICAL_UNKNOWN_POINTER_TYPE: return "UnknownPointerType";
     default: return "";
@@ -341,6 +365,7 @@ CAPNP_CANONICAL_INLINE const char *capnp_canonical_error_text(uint32_t answer) {
     case CAPNP_CANONICAL_MESSAGE_IS_TOO_DEEPLY_NESTED_OR_CONTAINS_CYCLES: return "the nesting limit is exceeded, perhaps by a cycle of pointers";
     case CAPNP_CANONICAL_MESSAGE_TOO_LARGE: return "the message or its canonical form is larger than the format allows";
     case CAPNP_CANONICAL_NESTING_LIMIT_EXCEEDED: return "the nesting limit is exceeded";
+    case CAPNP_CANONICAL_NO_SUCH_PLACE: return "the path leads to no pointer";
     case CAPNP_CANONICAL_READ_LIMIT_EXCEEDED: return "the traversal limit is exceeded";
     case CAPNP_CANONICAL_UNKNOWN_POINTER_TYPE: return "a pointer is of an unknown kind";
     default: return "a refusal that this header doesn't know";

@@ -103,6 +103,8 @@ for which in static shared; do
     part "test, $which" "$folder/test_$which" "$here/messages.txt"
     part "packed bytes, $which, built" build "unpack_$which" tests/library/unpack.c "$which"
     part "packed bytes, $which" "$folder/unpack_$which" "$here/packed.txt"
+    part "parts of messages, $which, built" build "parts_$which" tests/library/parts.c "$which"
+    part "parts of messages, $which" "$folder/parts_$which" "$here/parts.txt"
 done
 part "test with the address sanitizer, built" build sanitized tests/library/test.c static -fsanitize=address,undefined -fno-sanitize-recover
 part "test with the address sanitizer" "$folder/sanitized" "$here/messages.txt"
@@ -110,6 +112,8 @@ part "functions of the header with the address sanitizer, built" build inline_sa
 part "functions of the header with the address sanitizer" "$folder/inline_sanitized" "$here/messages.txt"
 part "packed bytes with the address sanitizer, built" build unpack_sanitized tests/library/unpack.c static -fsanitize=address,undefined -fno-sanitize-recover
 part "packed bytes with the address sanitizer" "$folder/unpack_sanitized" "$here/packed.txt"
+part "parts of messages with the address sanitizer, built" build parts_sanitized tests/library/parts.c static -fsanitize=address,undefined -fno-sanitize-recover
+part "parts of messages with the address sanitizer" "$folder/parts_sanitized" "$here/parts.txt"
 part "packed bytes where malloc is counted, built" build unpack_counting tests/library/unpack.c static -DWRAP -Wl,--wrap=malloc -Wl,--wrap=realloc
 part "packed bytes where malloc is counted" "$folder/unpack_counting" "$here/packed.txt"
 part "test where malloc refuses, built" build refusing tests/library/test.c static -DWRAP -Wl,--wrap=malloc -Wl,--wrap=realloc

@@ -52,6 +52,7 @@ class Refusal(enum.IntEnum):
     MESSAGE_IS_TOO_DEEPLY_NESTED_OR_CONTAINS_CYCLES = 58
     MESSAGE_TOO_LARGE = 59
     NESTING_LIMIT_EXCEEDED = 60
+    NO_SUCH_PLACE = 61
     READ_LIMIT_EXCEEDED = 62
     UNKNOWN_POINTER_TYPE = 66
 
@@ -75,6 +76,7 @@ _TEXTS = {
     58: 'the nesting limit is exceeded, perhaps by a cycle of pointers',
     59: 'the message or its canonical form is larger than the format allows',
     60: 'the nesting limit is exceeded',
+    61: 'the path leads to no pointer',
     62: 'the traversal limit is exceeded',
     66: 'a pointer is of an unknown kind',
 }

@@ -51,6 +51,8 @@ impl Error {
     pub const MESSAGE_TOO_LARGE: Error = Error(59);
     /// The nesting limit is exceeded. From the calls that test, at a list.
     pub const NESTING_LIMIT_EXCEEDED: Error = Error(60);
+    /// The path leads to no pointer. From the calls for a part.
+    pub const NO_SUCH_PLACE: Error = Error(61);
     /// The traversal limit is exceeded.
     pub const READ_LIMIT_EXCEEDED: Error = Error(62);
     /// A pointer is of an unknown kind.

@@ -496,6 +496,7 @@ fn errors_have_their_names() {
         ),
         (Error::MESSAGE_TOO_LARGE, "MessageTooLarge"),
         (Error::NESTING_LIMIT_EXCEEDED, "NestingLimitExceeded"),
+        (Error::NO_SUCH_PLACE, "NoSuchPlace"),
         (Error::READ_LIMIT_EXCEEDED, "ReadLimitExceeded"),
         (Error::UNKNOWN_POINTER_TYPE, "UnknownPointerType"),
     ] {

@@ -1,3 +1,4 @@
 pub mod FrameLemmas
 pub mod NumberLemmas
 pub mod CallLemmas
+pub mod PartLemmas

@@ -69,7 +69,7 @@ fn put_frame(segment: &[u8], to: &mut [u8]) -> Result<usize, Refusal>
 }
 
 /// Writes `segment` to the front of `to`, and returns the size of `segment` in bytes.
-fn put_flat(segment: &[u8], to: &mut [u8]) -> Result<usize, Refusal>
+pub fn put_flat(segment: &[u8], to: &mut [u8]) -> Result<usize, Refusal>
     ensures put { Fills result to.old to.new (λ bytes. bytes ≡ segment.now) }
     ensures refused { IfErr result (λ r. (r ≡ Refusal.NoRoom (length segment.now))
         × (length to.old < length segment.now)) }

@@ -24,7 +24,7 @@ use std::alloc::Global;
 
 /// Returns the message whose frame is at the front of `bytes`. Refuses a message of more than
 /// `words` words.
-fn message_in(bytes: &[u8], words: u64) -> Result<FrameSegments<'_>, Refusal>
+pub fn message_in(bytes: &[u8], words: u64) -> Result<FrameSegments<'_>, Refusal>
     ensures begins { IfOk result (λ f. BeginsWithFrame bytes.now words
         (message (⟦<FrameSegments<'static> as ReaderSegments>⟧.segments f))) }
     ensures small { IfOk result (λ f.

@@ -1,0 +1,138 @@
+//! Copies, measures and hashes a part of the message whose frame is at the front of a buffer: the value
+//! of the pointer to which a path leads.
+ghost use Rattle.std.specs.Prelude.{◌≡◌, ◌⊎◌, length, IfOk, IfErr};
+ghost use Rattle.capnp_format.specs.Bytes.{message};
+ghost use Rattle.capnp_arena_traits.specs.Limits.{IsSmall};
+ghost use Rattle.capnp_messages.specs.MessageParts.{IsDigestOfPart};
+ghost use Rattle.capnp_canonical.specs.Calls.{Fills, InFrame, RefusesBytes, limits_of};
+ghost use Rattle.capnp_canonical.specs.Parts.{HasPartSize, IsCopyOfPart, RefusesPartOf, RefusesPartRoom, RefusesPartSize};
+
+use crate::calls::{Limits, put_flat};
+use crate::frames::message_in;
+use crate::refusal::Refusal;
+use capnp_arena::arena::{
+    BuilderArenaImpl, HeapAllocator, ReaderArena, ReaderArenaImpl, ReaderOptions, ReaderSegments,
+};
+use capnp_messages::messages::{
+    LentMemory, canonical_bytes, canonical_part_from, canonical_part_in_room, digest_of_part,
+    size_of_part,
+};
+use capnp_pointers::pointers::MessageSize;
+use std::alloc::Global;
+
+/// The size in bytes of the stack memory into which a small part is copied.
+const SMALL: usize = 512;
+
+/// Makes the canonical copy of a part of the message in `source` on the heap, and writes the copy to
+/// the front of `to`, without a frame. Returns the number of bytes written.
+#[inline(never)]
+fn copy_part_on_heap<S: ReaderSegments>(
+    alloc: Global,
+    source: &ReaderArenaImpl<S>,
+    path: &[u32],
+    limits: ReaderOptions,
+    to: &mut [u8],
+) -> Result<usize, Refusal>
+    requires { source.now.nesting_limit ≡ limits.nesting_limit }
+    ensures copied { Fills result to.old to.new (IsCopyOfPart limits path.now
+        (message (⟦<ReaderArenaImpl<S> as ReaderArena>⟧.segments source.now))) }
+    ensures refused { IfErr result (RefusesPartRoom limits path.now (length to.old)
+        (message (⟦<ReaderArenaImpl<S> as ReaderArena>⟧.segments source.now))) }
+{
+    match canonical_part_from(alloc, HeapAllocator::new(alloc, 0), source, path, limits) {
+        Ok(made) => put_flat(canonical_bytes(&made), to),
+        Err((kind, _)) => Err(Refusal::Layout(kind)),
+    }
+}
+
+/// Like `copy_part_on_heap`, but makes the copy in `SMALL` bytes of stack memory if it fits there.
+fn copy_part<S: ReaderSegments>(
+    alloc: Global,
+    source: &ReaderArenaImpl<S>,
+    path: &[u32],
+    limits: ReaderOptions,
+    to: &mut [u8],
+) -> Result<usize, Refusal>
+    requires { source.now.nesting_limit ≡ limits.nesting_limit }
+    ensures copied { Fills result to.old to.new (IsCopyOfPart limits path.now
+        (message (⟦<ReaderArenaImpl<S> as ReaderArena>⟧.segments source.now))) }
+    ensures refused { IfErr result (RefusesPartRoom limits path.now (length to.old)
+        (message (⟦<ReaderArenaImpl<S> as ReaderArena>⟧.segments source.now))) }
+{
+    let mut memory = [0u8; SMALL];
+    let mut made = BuilderArenaImpl::new(alloc, LentMemory::new(memory.as_mut_slice()));
+    match canonical_part_in_room(&mut made, SMALL as u32 / 8, source, path, limits) {
+        Ok(fits) => {
+            if fits {
+                put_flat(canonical_bytes(&made), to)
+            } else {
+                copy_part_on_heap(alloc, source, path, limits, to)
+            }
+        }
+        Err(kind) => Err(Refusal::Layout(kind)),
+    }
+}
+
+/// Makes the canonical copy of the part of the message at the front of `frame` to which `path` leads,
+/// and writes the copy to the front of `to`, without a frame. Returns the number of bytes written.
+///
+/// Takes heap memory only if the copy has more than 64 words.
+pub fn copy_frame_part(
+    alloc: Global,
+    frame: &[u8],
+    path: &[u32],
+    limits: Limits,
+    to: &mut [u8],
+) -> Result<usize, Refusal>
+    ensures copied { Fills result to.old to.new (λ bytes. InFrame frame.now limits.words
+        (λ S. IsCopyOfPart (limits_of limits.nesting limits.words) path.now S bytes)) }
+    ensures refused { IfErr result (λ r. RefusesBytes frame.now limits.words r
+        ⊎ InFrame frame.now limits.words (λ S. RefusesPartRoom
+        (limits_of limits.nesting limits.words) path.now (length to.old) S r)) }
+{
+    let segments = message_in(frame, limits.words)?;
+    let options = limits.options();
+    let source = ReaderArenaImpl::new(segments, options);
+    copy_part(alloc, &source, path, options, to)
+}
+
+/// Returns the SHA-256 of the canonical words of the part of the message at the front of `frame` to
+/// which `path` leads.
+pub fn digest_frame_part(
+    alloc: Global,
+    frame: &[u8],
+    path: &[u32],
+    limits: Limits,
+) -> Result<[u8; 32], Refusal>
+    ensures digest { IfOk result (λ d. InFrame frame.now limits.words
+        (λ S. IsDigestOfPart S (limits_of limits.nesting limits.words) path.now d)) }
+    ensures refused { IfErr result (λ r. RefusesBytes frame.now limits.words r
+        ⊎ InFrame frame.now limits.words
+        (λ S. RefusesPartOf (limits_of limits.nesting limits.words) path.now S r)) }
+{
+    let segments = message_in(frame, limits.words)?;
+    let options = limits.options();
+    let source = ReaderArenaImpl::new(segments, options);
+    let allocator = HeapAllocator::new(alloc, 0);
+    let (digest, _) = digest_of_part(alloc, allocator, &source, path, options);
+    match digest {
+        Ok(digest) => Ok(digest),
+        Err(kind) => Err(Refusal::Layout(kind)),
+    }
+}
+
+/// Counts the words and capabilities of the part of the message at the front of `frame` to which `path`
+/// leads, without landing pads.
+pub fn size_frame_part(frame: &[u8], path: &[u32], limits: Limits) -> Result<MessageSize, Refusal>
+    ensures size { IfOk result (λ z. InFrame frame.now limits.words
+        (λ S. HasPartSize (limits_of limits.nesting limits.words) path.now S
+        z.word_count z.cap_count)) }
+    ensures refused { IfErr result (λ r. RefusesBytes frame.now limits.words r
+        ⊎ InFrame frame.now limits.words
+        (λ S. RefusesPartSize (limits_of limits.nesting limits.words) path.now S r)) }
+{
+    let segments = message_in(frame, limits.words)?;
+    let options = limits.options();
+    let source = ReaderArenaImpl::new(segments, options);
+    Ok(size_of_part(&source, path, options)?)
+}
