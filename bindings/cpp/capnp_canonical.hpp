@@ -193,6 +193,26 @@ private:
     Place place_;
 };
 
+// A view of the path to a part of a message: the indexes of pointers, from the root pointer on. An index is that of a
+// pointer of a struct, or of an element of a list. The indexes have to stay where they are as long as the path is used:
+// pass a list in braces to a call, as in `copy_flat_at(frame, {0})`.
+class CAPNP_CANONICAL_VIEW Path {
+public:
+    Path(std::initializer_list<std::uint32_t> indexes CAPNP_CANONICAL_LIFETIMEBOUND) noexcept
+        : Path(std::data(indexes), indexes.size()) {}
+    Path(const std::vector<std::uint32_t>& indexes CAPNP_CANONICAL_LIFETIMEBOUND) noexcept
+        : Path(indexes.data(), indexes.size()) {}
+    Path(const std::uint32_t* indexes CAPNP_CANONICAL_LIFETIMEBOUND, std::size_t size) noexcept
+        : indexes_(indexes), size_(size) {}
+
+    const std::uint32_t* data() const noexcept { return indexes_; }
+    std::size_t size() const noexcept { return size_; }
+
+private:
+    const std::uint32_t* indexes_;
+    std::size_t size_;
+};
+
 // A view of the segments of a message. The size of each is a multiple of 8 bytes.
 class Segments {
 public:
@@ -327,6 +347,34 @@ public:
 
 private:
     Bytes frame_;
+    Limits limits_;
+};
+
+// A part of the message whose frame is at the front of some bytes. Its copies are raw words.
+class PartSource {
+public:
+    PartSource(Bytes stream, Path path, Limits limits)
+        : frame_(stream.data(), frame_size(stream, limits.words), stream.place()), path_(path), limits_(limits) {}
+
+    std::size_t bytes() const noexcept { return frame_.size(); }
+    Place place() const noexcept { return frame_.place(); }
+
+    std::uint32_t copy(Form, std::uint8_t* to, std::size_t room, std::size_t* written) const noexcept {
+        return capnp_canonical_copy_flat_at(frame_.data(), frame_.size(), path_.data(), path_.size(), limits_.nesting,
+                                            limits_.words, to, room, written);
+    }
+    std::uint32_t digest(std::uint8_t* to) const noexcept {
+        return capnp_canonical_digest_at(frame_.data(), frame_.size(), path_.data(), path_.size(), limits_.nesting,
+                                         limits_.words, to);
+    }
+    std::uint32_t size(std::uint64_t* words, std::uint32_t* capabilities) const noexcept {
+        return capnp_canonical_size_at(frame_.data(), frame_.size(), path_.data(), path_.size(), limits_.nesting,
+                                       limits_.words, words, capabilities);
+    }
+
+private:
+    Bytes frame_;
+    Path path_;
     Limits limits_;
 };
 
@@ -545,6 +593,18 @@ inline Bytes copy_flat_into(std::vector<std::uint8_t>& buffer CAPNP_CANONICAL_LI
 inline Size size(Bytes frame, Limits limits = {}) { return detail::size_of(detail::FrameSource(frame, limits)); }
 inline Size size(const Segments& segments, Limits limits = {}) {
     return detail::size_of(detail::SegmentSource(segments, limits));
+}
+
+// The same for a part of a message: the value of the pointer at the end of a path, as if that pointer were the root. If
+// the path leads to no pointer, throws Error with CAPNP_CANONICAL_NO_SUCH_PLACE.
+inline std::vector<std::uint8_t> copy_flat_at(Bytes frame, Path path, Limits limits = {}) {
+    return detail::copy_of(detail::PartSource(frame, path, limits), detail::Form::flat);
+}
+[[nodiscard]] inline Digest digest_at(Bytes frame, Path path, Limits limits = {}) {
+    return detail::digest_of(detail::PartSource(frame, path, limits));
+}
+inline Size size_at(Bytes frame, Path path, Limits limits = {}) {
+    return detail::size_of(detail::PartSource(frame, path, limits));
 }
 
 // The same, for a message passed as raw words: all of the bytes are its one segment, and its copy is raw words too.

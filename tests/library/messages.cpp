@@ -1,7 +1,7 @@
 // Tests of capnp_canonical.hpp, without Cap'n Proto's own headers.
 //
-//     messages FILE PACKED    the messages of messages.txt, and what packed.txt has; a line `ok: NAME` or `FAILED: NAME: WHAT`
-//                             for each test
+//     messages FILE PACKED PARTS    the messages of messages.txt, what packed.txt has, and the rows of parts.txt; a line
+//                                   `ok: NAME` or `FAILED: NAME: WHAT` for each test
 #include "capnp_canonical.hpp"
 
 #include <algorithm>
@@ -376,6 +376,28 @@ void test_frame_reader() {
     require_same("a long frame", answer([&] { return frames.next() ? "a frame" : "nothing"; }), "MessageTooLong");
 }
 
+// Parts of messages: rows of parts.txt, which says what they are.
+void test_parts(const std::string& file) {
+    std::ifstream rows(file);
+    std::size_t count = 0;
+    for (std::string line; std::getline(rows, line);) {
+        if (line.empty() || line[0] == '#') continue;
+        std::istringstream words(line);
+        std::string name, frame, path, wanted, flat, digest;
+        words >> name >> frame >> path >> wanted >> flat >> digest;
+        std::vector<std::uint32_t> indexes;
+        std::istringstream steps(path == "-" ? "" : path);
+        for (std::string step; std::getline(steps, step, '.');) indexes.push_back(std::uint32_t(std::stoul(step)));
+        const Vector bytes = bytes_of(frame);
+        const bool done = wanted == "Done";
+        require_same(name + ", copied", answer([&] { return digits_of(capnp_canonical::copy_flat_at(bytes, indexes)); }), done ? flat : wanted);
+        require_same(name + ", hashed", answer([&] { return digits_of(capnp_canonical::digest_at(bytes, indexes)); }), done ? digest : wanted);
+        if (done) require(8 * capnp_canonical::size_at(bytes, indexes).words + 8 >= bytes_of(flat).size(), name + ", measured");
+        count++;
+    }
+    require(count > 60, "too few parts");
+}
+
 // Bytes behind the frame at the front cost nothing: 2,000 copies of a message in front of 64 MiB.
 void test_bytes_behind() {
     Vector stream(std::size_t(64) << 20);
@@ -473,7 +495,7 @@ void test_errors() {
 }
 
 int main(int count, char** words) {
-    if (count != 3) return 2;
+    if (count != 4) return 2;
     test_messages(words[1]);
     test("packed bytes", [&] { test_packed(words[2]); });
     test("packed messages", test_unpacked);
@@ -491,6 +513,7 @@ int main(int count, char** words) {
     test("faults", test_faults);
     test("frames of a stream", test_frames);
     test("frames of a reader", test_frame_reader);
+    test("parts of messages", [&] { test_parts(words[3]); });
     test("errors", test_errors);
     test("version", [] { require(capnp_canonical::version() == CAPNP_CANONICAL_VERSION, "another than the header's"); });
     return failed ? 1 : 0;

@@ -19,6 +19,7 @@ from capnp_canonical import Error, Fault, Limits, Reason, Refusal, Size
 
 MESSAGES = pathlib.Path(__file__).with_name('messages.txt')
 PACKED = pathlib.Path(__file__).with_name('packed.txt')
+PARTS = pathlib.Path(__file__).with_name('parts.txt')
 LIBRARY = 'CAPNP_CANONICAL_LIBRARY'
 # A struct of three words that ends in a zero word.
 ZERO_WORD = bytes.fromhex('0000000004000000 0000000003000000 1111111111111111 ffffffffffffffff 0000000000000000')
@@ -99,6 +100,36 @@ class Messages(unittest.TestCase):
 LINES = [line.split() for line in MESSAGES.read_text().splitlines() if not line.startswith('#')]
 for name, *line in LINES:
     setattr(Messages, f'test_{name}', lambda self, line=line: self.frame(*line))
+
+
+class Parts(unittest.TestCase):
+    def test_parts(self):
+        lines = [line.split() for line in PARTS.read_text().splitlines() if not line.startswith('#')]
+        self.assertEqual(len(lines), 66)
+        for name, frame, path, wanted, flat, digest in lines:
+            given, indexes = bytes.fromhex(frame), [int(it) for it in path.strip('-').split('.') if it]
+            with self.subTest(name, path=path):
+                done = wanted == 'Done'
+                self.assertEqual(answer(bytes.hex, capnp_canonical.copy_flat_at, given, indexes), flat if done else wanted)
+                self.assertEqual(answer(bytes.hex, capnp_canonical.digest_at, given, indexes), digest if done else wanted)
+                if done:
+                    self.assertGreaterEqual(8 + 8 * capnp_canonical.size_at(given, indexes).words, len(flat) // 2)
+                else:
+                    self.assertEqual(answer(size_text, capnp_canonical.size_at, given, indexes), wanted)
+
+    def test_paths(self):
+        self.assertEqual(capnp_canonical.copy_flat_at(SHARED, ()), SHARED_FLAT)
+        for path in (0,), iter([1]), b'\0':
+            self.assertEqual(capnp_canonical.copy_flat_at(SHARED, path), bytes.fromhex('0100000082000000' + TEXT))
+        with self.assertRaises(Error) as caught:
+            capnp_canonical.digest_at(SHARED, [2])
+        self.assertEqual(caught.exception.number, Refusal.NO_SUCH_PLACE)
+        for path in [-1], [2**32]:
+            with self.assertRaises(OverflowError):
+                capnp_canonical.size_at(SHARED, path)
+        for path in 0, ['0'], [None]:
+            with self.assertRaises(TypeError):
+                capnp_canonical.copy_flat_at(SHARED, path)
 
 
 class Calls(unittest.TestCase):

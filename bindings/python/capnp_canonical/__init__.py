@@ -25,18 +25,19 @@ else the one that the system's loader finds.
 """
 from capnp_canonical._answers import Error, Fault, Limits, Reason, Refusal, Size
 from capnp_canonical._calls import (
-    check, copy, copy_flat, copy_flat_into, copy_into, digest, frame_size, is_canonical, segments_check, segments_copy,
-    segments_copy_flat, segments_digest, segments_is_canonical, segments_size, size, unpack, unpack_into, words_check,
-    words_copy, words_digest, words_is_canonical, words_size,
+    check, copy, copy_flat, copy_flat_at, copy_flat_into, copy_into, digest, digest_at, frame_size, is_canonical,
+    segments_check, segments_copy, segments_copy_flat, segments_digest, segments_is_canonical, segments_size, size,
+    size_at, unpack, unpack_into, words_check, words_copy, words_digest, words_is_canonical, words_size,
 )
 from capnp_canonical._frames import frames
 from capnp_canonical._library import version
 
 __all__ = [
-    'Error', 'Fault', 'Limits', 'Reason', 'Refusal', 'Size', 'check', 'copy', 'copy_flat', 'copy_flat_into',
-    'copy_into', 'digest', 'frame_size', 'frames', 'is_canonical', 'segments_check', 'segments_copy',
-    'segments_copy_flat', 'segments_digest', 'segments_is_canonical', 'segments_size', 'size', 'unpack', 'unpack_into',
-    'version', 'words_check', 'words_copy', 'words_digest', 'words_is_canonical', 'words_size',
+    'Error', 'Fault', 'Limits', 'Reason', 'Refusal', 'Size', 'check', 'copy', 'copy_flat', 'copy_flat_at',
+    'copy_flat_into', 'copy_into', 'digest', 'digest_at', 'frame_size', 'frames', 'is_canonical', 'segments_check',
+    'segments_copy', 'segments_copy_flat', 'segments_digest', 'segments_is_canonical', 'segments_size', 'size',
+    'size_at', 'unpack', 'unpack_into', 'version', 'words_check', 'words_copy', 'words_digest', 'words_is_canonical',
+    'words_size',
 ]
 
 for _shown in Error, Fault, Limits, Reason, Refusal, Size:

@@ -2,6 +2,7 @@
 from __future__ import annotations
 
 import ctypes
+from array import array
 from typing import TYPE_CHECKING, Any, Callable, Iterable, List, Optional, Sequence, Tuple
 
 from capnp_canonical._answers import Error, Fault, Limits, Reason, Refusal, Size
@@ -178,6 +179,13 @@ def _sized(call: _Call, given: _Given, limits: Limits) -> Size:
     return Size(count.value, capabilities.value)
 
 
+def _at(call: _Call, path: Iterable[int]) -> _Call:
+    """The call for a part of the message, with a path whose indexes fit 32 bits."""
+    indexes = array('I', list(path))
+    raw = (ctypes.c_uint32 * len(indexes))(*indexes)
+    return lambda first, second, *rest: call(first, second, raw, len(indexes), *rest)
+
+
 def copy(frame: ReadableBuffer, limits: Limits = LIMITS) -> bytes:
     """Make the message canonical, as a frame of one segment."""
     return _written_of_frame(library.capnp_canonical_copy, frame, limits)
@@ -206,6 +214,19 @@ def digest(frame: ReadableBuffer, limits: Limits = LIMITS) -> bytes:
     return _digest(library.capnp_canonical_digest, _frame(frame), limits)
 
 
+def copy_flat_at(frame: ReadableBuffer, path: Iterable[int], limits: Limits = LIMITS) -> bytes:
+    """Make a part of a message canonical and return its raw words. The part is the value of the pointer at the end of a
+    path. The path has the indexes of pointers, from the root pointer on; `(0,)` is the first pointer of the root struct.
+    In a list, an index is that of an element. Raises `Error` with `Refusal.NO_SUCH_PLACE` if the path leads to no
+    pointer."""
+    return _written_of_frame(_at(library.capnp_canonical_copy_flat_at, path), frame, limits)
+
+
+def digest_at(frame: ReadableBuffer, path: Iterable[int], limits: Limits = LIMITS) -> bytes:
+    """The SHA-256 of the bytes that `copy_flat_at` gives."""
+    return _digest(_at(library.capnp_canonical_digest_at, path), _frame(frame), limits)
+
+
 def check(frame: ReadableBuffer, limits: Limits = LIMITS) -> Optional[Fault]:
     """Say why and where the message isn't canonical; None if it is: one segment that holds the canonical words of a
     value and nothing else."""
@@ -221,6 +242,11 @@ def is_canonical(frame: ReadableBuffer, limits: Limits = LIMITS) -> bool:
 def size(frame: ReadableBuffer, limits: Limits = LIMITS) -> Size:
     """Count the words and capabilities of the message."""
     return _sized(library.capnp_canonical_size, _frame(frame), limits)
+
+
+def size_at(frame: ReadableBuffer, path: Iterable[int], limits: Limits = LIMITS) -> Size:
+    """Like `size`, for the part of the message that `copy_flat_at` copies."""
+    return _sized(_at(library.capnp_canonical_size_at, path), _frame(frame), limits)
 
 
 def segments_copy(segments: Iterable[ReadableBuffer], limits: Limits = LIMITS) -> bytes:

@@ -19,6 +19,9 @@ extern "C" {
     pub fn capnp_canonical_copy(frame: *const u8, frame_size: usize, nesting: i32, words: u64, to: *mut u8, room: usize, written: *mut usize) -> u32;
     pub fn capnp_canonical_copy_flat(frame: *const u8, frame_size: usize, nesting: i32, words: u64, to: *mut u8, room: usize, written: *mut usize) -> u32;
     pub fn capnp_canonical_digest(frame: *const u8, frame_size: usize, nesting: i32, words: u64, digest: *mut u8) -> u32;
+    pub fn capnp_canonical_copy_flat_at(frame: *const u8, frame_size: usize, path: *const u32, steps: usize, nesting: i32, words: u64, to: *mut u8, room: usize, written: *mut usize) -> u32;
+    pub fn capnp_canonical_digest_at(frame: *const u8, frame_size: usize, path: *const u32, steps: usize, nesting: i32, words: u64, digest: *mut u8) -> u32;
+    pub fn capnp_canonical_size_at(frame: *const u8, frame_size: usize, path: *const u32, steps: usize, nesting: i32, words: u64, word_count: *mut u64, cap_count: *mut u32) -> u32;
     pub fn capnp_canonical_check(frame: *const u8, frame_size: usize, nesting: i32, words: u64, is_canonical: *mut bool, fault: *mut RawFault) -> u32;
     pub fn capnp_canonical_size(frame: *const u8, frame_size: usize, nesting: i32, words: u64, word_count: *mut u64, cap_count: *mut u32) -> u32;
     pub fn capnp_canonical_frame_size(frame: *const u8, size: usize, words: u64, bytes: *mut usize) -> u32;

@@ -162,6 +162,54 @@ pub fn digest(frame: impl AsRef<[u8]>, limits: Limits) -> Result<[u8; 32], Error
     })
 }
 
+/// Makes a part of the message canonical, and returns its raw words: the value of the pointer at the end of a path. The
+/// path is the indexes of pointers, from the root pointer on; `&[0]` is the first pointer of the root struct. In a list,
+/// an index is that of an element. [`Error::NO_SUCH_PLACE`] if the path leads to no pointer.
+pub fn canonical_words_at(
+    frame: impl AsRef<[u8]>,
+    path: &[u32],
+    limits: Limits,
+) -> Result<Vec<u8>, Error> {
+    let frame = first_frame(frame.as_ref(), limits)?;
+    let mut words = Vec::new();
+    append(&mut words, frame.len().min(4096), |to, room, written| {
+        // SAFETY: each slice is a pointer and its length, and `to` has this room.
+        unsafe {
+            ffi::capnp_canonical_copy_flat_at(
+                frame.as_ptr(),
+                frame.len(),
+                path.as_ptr(),
+                path.len(),
+                limits.nesting,
+                limits.words,
+                to,
+                room,
+                written,
+            )
+        }
+    })?;
+    Ok(words)
+}
+
+/// The SHA-256 of the bytes that [`canonical_words_at`] returns.
+pub fn digest_at(frame: impl AsRef<[u8]>, path: &[u32], limits: Limits) -> Result<[u8; 32], Error> {
+    let frame = frame.as_ref();
+    digest_of(|to| {
+        // SAFETY: each slice is a pointer and its length, and `to` has room for 32 bytes.
+        unsafe {
+            ffi::capnp_canonical_digest_at(
+                frame.as_ptr(),
+                frame.len(),
+                path.as_ptr(),
+                path.len(),
+                limits.nesting,
+                limits.words,
+                to,
+            )
+        }
+    })
+}
+
 /// Says why and where the message of the frame at the front of a slice isn't canonical; `None` if it is: one segment
 /// that holds the canonical words of a value and nothing else.
 pub fn check(frame: impl AsRef<[u8]>, limits: Limits) -> Result<Option<Fault>, Error> {
@@ -185,6 +233,26 @@ pub fn check(frame: impl AsRef<[u8]>, limits: Limits) -> Result<Option<Fault>, E
 /// limit is exceeded or the bytes aren't a frame; [`check`] says why.
 pub fn is_canonical(frame: impl AsRef<[u8]>, limits: Limits) -> bool {
     check(frame, limits) == Ok(None)
+}
+
+/// The size of the part of the message that [`canonical_words_at`] copies.
+pub fn size_at(frame: impl AsRef<[u8]>, path: &[u32], limits: Limits) -> Result<Size, Error> {
+    let frame = frame.as_ref();
+    size_of(|words, capabilities| {
+        // SAFETY: each slice is a pointer and its length.
+        unsafe {
+            ffi::capnp_canonical_size_at(
+                frame.as_ptr(),
+                frame.len(),
+                path.as_ptr(),
+                path.len(),
+                limits.nesting,
+                limits.words,
+                words,
+                capabilities,
+            )
+        }
+    })
 }
 
 /// The size of the message of the frame at the front of a slice.

@@ -1,8 +1,8 @@
 //! The messages of tests/library/messages.txt, and what that file can't say.
 use capnp_canonical::{
-    canonical_copy, canonical_words, canonical_words_into, check, digest, frame_size, frames,
-    is_canonical, looks_like, segments, size, unpack, unpack_into, version, words, Error, Fault,
-    FrameReader, Limits, Reason, Size,
+    canonical_copy, canonical_words, canonical_words_at, canonical_words_into, check, digest,
+    digest_at, frame_size, frames, is_canonical, looks_like, segments, size, size_at, unpack,
+    unpack_into, version, words, Error, Fault, FrameReader, Limits, Reason, Size,
 };
 use std::fs;
 
@@ -502,6 +502,30 @@ fn errors_have_their_names() {
     ] {
         assert_eq!(error.name(), name);
         assert!(!error.text().contains("doesn't know"));
+    }
+}
+
+#[test]
+fn parts_are_copied() {
+    let (frame, limits) = (bytes_of(SHARED), Limits::default());
+    let text = bytes_of("010000008200000061626364656667686162636465666700");
+    for path in [[0], [1]] {
+        assert_eq!(canonical_words_at(&frame, &path, limits), Ok(text.clone()));
+        assert_eq!(
+            digest_at(&frame, &path, limits),
+            words::digest(&text, limits)
+        );
+        assert_eq!(size_at(&frame, &path, limits).map(|size| size.words), Ok(2));
+    }
+    assert_eq!(
+        canonical_words_at(&frame, &[], limits),
+        Ok(bytes_of(SHARED_FLAT))
+    );
+    for path in [&[2][..], &[0, 0], &[u32::MAX]] {
+        let nowhere = Error::NO_SUCH_PLACE;
+        assert_eq!(canonical_words_at(&frame, path, limits), Err(nowhere));
+        assert_eq!(digest_at(&frame, path, limits), Err(nowhere));
+        assert_eq!(size_at(&frame, path, limits).err(), Some(nowhere));
     }
 }
 
