@@ -9,8 +9,8 @@ pub use capnp_framing::framing::{
     read_into_with, read_segment_into, read_segment_into_with, write,
 };
 pub use capnp_messages::messages::{
-    CanonicalCopy, CanonicalError, CopyMemory, canonical_bytes, canonical_fault, canonical_segment,
-    is_canonical_message, laws, write_copy,
+    CanonicalCopy, CanonicalError, CopyMemory, MessageExtent, canonical_bytes, canonical_fault,
+    canonical_segment, is_canonical_message, laws, validate, validate_of, write_copy,
 };
 pub use capnp_readers::readers::{CanonicalFault, CanonicalFaultReason};
 pub use pointed::{copy_canonical, copy_canonical_with, read_root, write_canonical};

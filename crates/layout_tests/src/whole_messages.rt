@@ -7,7 +7,7 @@ use capnp_layout::devices::MemoryInput;
 use capnp_layout::error::ErrorKind;
 use capnp_layout::framing::{
     FrameError, OwnedSegments, copy_canonical, copy_canonical_with, is_canonical_message,
-    read_root, read_segment_into,
+    read_root, read_segment_into, validate,
 };
 use capnp_layout::read_limiter::ReadLimiter;
 use std::process::Abort;
@@ -75,4 +75,51 @@ fn words_without_a_frame(rt: HostRuntime) {
     let mut input = MemoryInput::new(&bytes);
     let cut = read_segment_into(&mut input, 3, &mut into);
     assert!(rt; cut == Err(FrameError::Truncated) && into.is_empty());
+}
+
+/// A struct of one data word and a pointer to a list of two bytes.
+const NAMED: &str = "0000000001000100 0500000000000000 0100000012000000 6162000000000000";
+
+/// A struct of two pointers to the same struct of one data word.
+const SHARED: &str = "0000000000000200 0400000001000000 0000000001000000 0700000000000000";
+
+/// A list of three elements without width.
+const VOIDS: &str = "0100000018000000";
+
+/// A message is validated within a nesting limit and a number of words, or refused. In the answers
+/// are the depth, the words and the capabilities of its value, and the words left, all counted by
+/// hand.
+#[test]
+fn validated_messages(rt: HostRuntime) {
+    let outside = ErrorKind::MessageContainsOutOfBoundsPointer;
+    let too_deep = ErrorKind::MessageIsTooDeeplyNestedOrContainsCycles;
+    let null = "0000000000000000";
+    let capability = "0300000002000000";
+    let cut = "0000000001000000";
+    for (text, nesting_limit, budget, want, left) in [
+        ("", 64, 9, Err(outside), 9),
+        (null, 0, 0, Err(ErrorKind::ReadLimitExceeded), 0),
+        (null, 0, 1, Ok((0, 0, 0)), 0),
+        (capability, 0, 1, Ok((0, 0, 1)), 0),
+        (NAMED, 2, 4, Ok((2, 3, 0)), 0),
+        (NAMED, 2, 3, Err(ErrorKind::ReadLimitExceeded), 0),
+        (NAMED, 1, 4, Err(too_deep), 1),
+        (SHARED, 2, 6, Ok((2, 4, 0)), 1),
+        (SHARED, 2, 4, Err(ErrorKind::ReadLimitExceeded), 0),
+        (VOIDS, 1, 4, Ok((1, 0, 0)), 0),
+        (VOIDS, 1, 3, Err(ErrorKind::ReadLimitExceeded), 2),
+        (cut, 64, 9, Err(outside), 8),
+    ] {
+        let options = ReaderOptions {
+            nesting_limit,
+            ..ReaderOptions::default()
+        };
+        let arena = arena_of(rt.alloc(), text, options).expect(&rt, "a message");
+        let mut lim = ReadLimiter::new(Some(budget));
+        let got = match validate(&arena, &mut lim) {
+            Ok(extent) => Ok((extent.depth, extent.words, extent.capabilities)),
+            Err(kind) => Err(kind),
+        };
+        assert!(rt; got == want && lim.left() == Some(left), "{text}");
+    }
 }
