@@ -156,6 +156,20 @@ struct capnp_canonical_fault {
     uint64_t segment;
 };
 
+/* How deep the value of a message is, how much it holds, and what reading it costs. */
+struct capnp_canonical_extent {
+    /* The number of words of all objects, without landing pads; 2^64 - 1 if there are more. An object counts each time a
+     * pointer leads to it. */
+    uint64_t words;
+    /* The number of capabilities; 2^64 - 1 if there are more. */
+    uint64_t capabilities;
+    /* The number of words that reading the whole value once takes from the traversal limit: the least limit within which
+     * the message is sound. It counts one for the root pointer. */
+    uint64_t cost;
+    /* The number of structs and lists that are nested in each other, at most: the least nesting limit. */
+    uint32_t depth;
+};
+
 /* A segment of a message. */
 struct capnp_canonical_segment {
     /* Its first byte, at any address; may be null if `size` is 0. */
@@ -195,6 +209,12 @@ uint32_t capnp_canonical_check(const uint8_t *frame, size_t frame_size, int32_t 
  * both are 0. */
 uint32_t capnp_canonical_size(const uint8_t *frame, size_t frame_size, int32_t nesting, uint64_t words, uint64_t *word_count, uint32_t *cap_count);
 
+/* Tests whether the message is sound: whether its root means a value within both limits. The value may have capabilities.
+ * Exactly then the answer is CAPNP_CANONICAL_DONE, and `*extent` tells how deep the value is, how much it holds, and what
+ * reading it costs. Otherwise the answer is the first fault that reading the value meets, and `*extent` is all 0. The
+ * frame is at the front of `frame_size` bytes. Takes no memory, and doesn't read the data of structs and lists. */
+uint32_t capnp_canonical_validate(const uint8_t *frame, size_t frame_size, int32_t nesting, uint64_t words, struct capnp_canonical_extent *extent);
+
 /* copy_flat, digest and size for a part of the message: for the value of the pointer at the end of a path. If
  * `struct Signed { payload @0 :Payload; signature @1 :Data; }` is the root, the path {0} leads to the payload, whose words
  * can be signed. `path` is `steps` indexes; it may be null if `steps` is 0, which leads to the root pointer. An index
@@ -228,7 +248,7 @@ uint32_t capnp_canonical_frame_size(const uint8_t *frame, size_t size, uint64_t 
  * for what has arrived, not for what is announced. */
 uint32_t capnp_canonical_frame_size_from_prefix(const uint8_t *prefix, size_t size, uint64_t words, size_t *bytes);
 
-/* copy, copy_flat, digest, check and size, for a message of `count` segments. There may be more segments than a frame can
+/* copy, copy_flat, digest, check, size and validate, for a message of `count` segments. There may be more segments than a frame can
  * have. If there are none there is no root, and the call is refused with CAPNP_CANONICAL_INVALID_SEGMENT_ID. */
 uint32_t capnp_canonical_segments_copy(const struct capnp_canonical_segment *segments, size_t count, int32_t nesting, uint64_t words, uint8_t *to, size_t room, size_t *written);
 
@@ -239,6 +259,8 @@ uint32_t capnp_canonical_segments_digest(const struct capnp_canonical_segment *s
 uint32_t capnp_canonical_segments_check(const struct capnp_canonical_segment *segments, size_t count, int32_t nesting, uint64_t words, bool *is_canonical, struct capnp_canonical_fault *fault);
 
 uint32_t capnp_canonical_segments_size(const struct capnp_canonical_segment *segments, size_t count, int32_t nesting, uint64_t words, uint64_t *word_count, uint32_t *cap_count);
+
+uint32_t capnp_canonical_segments_validate(const struct capnp_canonical_segment *segments, size_t count, int32_t nesting, uint64_t words, struct capnp_canonical_extent *extent);
 
 /* The same, for a message given as the raw words that copy_flat writes: all `size` bytes at `message` are its one
  * segment. The copy is raw words too. If you pass a frame here, its bytes are read as raw words and mean another
@@ -251,6 +273,8 @@ uint32_t capnp_canonical_words_digest(const uint8_t *message, size_t size, int32
 uint32_t capnp_canonical_words_check(const uint8_t *message, size_t size, int32_t nesting, uint64_t words, bool *is_canonical, struct capnp_canonical_fault *fault);
 
 uint32_t capnp_canonical_words_size(const uint8_t *message, size_t size, int32_t nesting, uint64_t words, uint64_t *word_count, uint32_t *cap_count);
+
+uint32_t capnp_canonical_words_validate(const uint8_t *message, size_t size, int32_t nesting, uint64_t words, struct capnp_canonical_extent *extent);
 
 /* Unpacks all `packed_size` packed bytes to the front of the `room` bytes at `to`, and writes to `*written` how many
  * bytes they stand for, which are whole words. This turns what capnp::writePackedMessage, `capnp encode --packed` and

@@ -287,6 +287,18 @@ struct Size {
     std::uint32_t capabilities;
 };
 
+// How deep the value of a message is, how much it holds, and what reading it costs.
+struct Extent {
+    // The number of words of all objects, without landing pads, and of capabilities; 2^64 - 1 if there are more. An object
+    // counts each time a pointer leads to it.
+    std::uint64_t words;
+    std::uint64_t capabilities;
+    // The number of words that reading the whole value once takes from the traversal limit, with one for the root pointer.
+    std::uint64_t cost;
+    // The number of structs and lists that are nested in each other, at most.
+    std::uint32_t depth;
+};
+
 // The size in bytes of the frame at the front. Its message isn't read.
 inline std::size_t frame_size(Bytes stream, std::uint64_t words = CAPNP_CANONICAL_WORDS) {
     std::size_t size = 0;
@@ -343,6 +355,9 @@ public:
     }
     std::uint32_t size(std::uint64_t* words, std::uint32_t* capabilities) const noexcept {
         return capnp_canonical_size(frame_.data(), frame_.size(), limits_.nesting, limits_.words, words, capabilities);
+    }
+    std::uint32_t validate(capnp_canonical_extent* extent) const noexcept {
+        return capnp_canonical_validate(frame_.data(), frame_.size(), limits_.nesting, limits_.words, extent);
     }
 
 private:
@@ -405,6 +420,9 @@ public:
     }
     std::uint32_t size(std::uint64_t* words, std::uint32_t* capabilities) const noexcept {
         return capnp_canonical_segments_size(segments_, count_, limits_.nesting, limits_.words, words, capabilities);
+    }
+    std::uint32_t validate(capnp_canonical_extent* extent) const noexcept {
+        return capnp_canonical_segments_validate(segments_, count_, limits_.nesting, limits_.words, extent);
     }
 
 private:
@@ -516,6 +534,14 @@ Checked checked(const Source& source) {
 }
 
 template <typename Source>
+Extent extent_of(const Source& source) {
+    capnp_canonical_extent extent = {};
+    std::uint32_t answer = source.validate(&extent);
+    if (answer != CAPNP_CANONICAL_DONE) throw Error(answer, source.place());
+    return Extent{extent.words, extent.capabilities, extent.cost, extent.depth};
+}
+
+template <typename Source>
 Size size_of(const Source& source) {
     Size size = {};
     std::uint32_t answer = source.size(&size.words, &size.capabilities);
@@ -595,7 +621,16 @@ inline Size size(const Segments& segments, Limits limits = {}) {
     return detail::size_of(detail::SegmentSource(segments, limits));
 }
 
-// The same for a part of a message: the value of the pointer at the end of a path, as if that pointer were the root. If
+// Throws Error unless the message is sound: unless its root means a value within both limits, which may have
+// capabilities.
+inline Extent validate(Bytes frame, Limits limits = {}) {
+    return detail::extent_of(detail::FrameSource(frame, limits));
+}
+inline Extent validate(const Segments& segments, Limits limits = {}) {
+    return detail::extent_of(detail::SegmentSource(segments, limits));
+}
+
+// copy_flat, digest and size for a part of a message: the value of the pointer at the end of a path, as if that pointer were the root. If
 // the path leads to no pointer, throws Error with CAPNP_CANONICAL_NO_SUCH_PLACE.
 inline std::vector<std::uint8_t> copy_flat_at(Bytes frame, Path path, Limits limits = {}) {
     return detail::copy_of(detail::PartSource(frame, path, limits), detail::Form::flat);
@@ -617,6 +652,7 @@ inline std::vector<std::uint8_t> words_copy(Bytes words, Limits limits = {}) {
     return capnp_canonical_words_is_canonical(words.data(), words.size(), limits.nesting, limits.words);
 }
 inline Size words_size(Bytes words, Limits limits = {}) { return size(Segments{words}, limits); }
+inline Extent words_validate(Bytes words, Limits limits = {}) { return validate(Segments{words}, limits); }
 
 // Unpacks what capnp::writePackedMessage writes: the frames of one or more messages, which the calls above take, and
 // Frames one by one. Two packed bytes stand for up to 2,048. If there are more words than the limit, this throws Error

@@ -23,24 +23,25 @@ The package needs CPython. It loads the library that the environment variable CA
 libcapnp_canonical.so from the package's folder, from the folder around it, or from the folder `lib` beside that; or
 else the one that the system's loader finds.
 """
-from capnp_canonical._answers import Error, Fault, Limits, Reason, Refusal, Size
+from capnp_canonical._answers import Error, Extent, Fault, Limits, Reason, Refusal, Size
 from capnp_canonical._calls import (
     check, copy, copy_flat, copy_flat_at, copy_flat_into, copy_into, digest, digest_at, frame_size, is_canonical,
-    segments_check, segments_copy, segments_copy_flat, segments_digest, segments_is_canonical, segments_size, size,
-    size_at, unpack, unpack_into, words_check, words_copy, words_digest, words_is_canonical, words_size,
+    segments_check, segments_copy, segments_copy_flat, segments_digest, segments_is_canonical, segments_size,
+    segments_validate, size, size_at, unpack, unpack_into, validate, words_check, words_copy, words_digest,
+    words_is_canonical, words_size, words_validate,
 )
 from capnp_canonical._frames import frames
 from capnp_canonical._library import version
 
 __all__ = [
-    'Error', 'Fault', 'Limits', 'Reason', 'Refusal', 'Size', 'check', 'copy', 'copy_flat', 'copy_flat_at',
+    'Error', 'Extent', 'Fault', 'Limits', 'Reason', 'Refusal', 'Size', 'check', 'copy', 'copy_flat', 'copy_flat_at',
     'copy_flat_into', 'copy_into', 'digest', 'digest_at', 'frame_size', 'frames', 'is_canonical', 'segments_check',
-    'segments_copy', 'segments_copy_flat', 'segments_digest', 'segments_is_canonical', 'segments_size', 'size',
-    'size_at', 'unpack', 'unpack_into', 'version', 'words_check', 'words_copy', 'words_digest', 'words_is_canonical',
-    'words_size',
+    'segments_copy', 'segments_copy_flat', 'segments_digest', 'segments_is_canonical', 'segments_size',
+    'segments_validate', 'size', 'size_at', 'unpack', 'unpack_into', 'validate', 'version', 'words_check',
+    'words_copy', 'words_digest', 'words_is_canonical', 'words_size', 'words_validate',
 ]
 
-for _shown in Error, Fault, Limits, Reason, Refusal, Size:
+for _shown in Error, Extent, Fault, Limits, Reason, Refusal, Size:
     _shown.__module__ = __name__
 _number = version()
 __version__ = f'{_number // 10000}.{_number // 100 % 100}.{_number % 100}'

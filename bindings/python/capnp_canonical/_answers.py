@@ -172,3 +172,17 @@ class Size:
     """Words of 8 bytes. The canonical words are at most one more."""
     capabilities: int
     """The number of capabilities."""
+
+
+@dataclass(frozen=True)
+class Extent:
+    """How deep the value of a message is, how much it holds, and what reading it costs."""
+
+    depth: int
+    """The number of structs and lists that are nested in each other, at most: the least nesting limit."""
+    words: int
+    """Words of all objects, without landing pads. An object counts each time a pointer leads to it."""
+    capabilities: int
+    """The number of capabilities."""
+    cost: int
+    """Words that reading the whole value once takes from the traversal limit, with one for the root pointer."""

@@ -5,8 +5,8 @@ import ctypes
 from array import array
 from typing import TYPE_CHECKING, Any, Callable, Iterable, List, Optional, Sequence, Tuple
 
-from capnp_canonical._answers import Error, Fault, Limits, Reason, Refusal, Size
-from capnp_canonical._library import Lent, RawFault, RawSegment, library
+from capnp_canonical._answers import Error, Extent, Fault, Limits, Reason, Refusal, Size
+from capnp_canonical._library import Lent, RawExtent, RawFault, RawSegment, library
 from capnp_canonical._library import frame_size as raw_frame_size
 from capnp_canonical._looks import looks_like
 
@@ -179,6 +179,16 @@ def _sized(call: _Call, given: _Given, limits: Limits) -> Size:
     return Size(count.value, capabilities.value)
 
 
+def _validated(call: _Call, given: _Given, limits: Limits) -> Extent:
+    extent = RawExtent()
+    with given:
+        nesting, words = _limits(limits)
+        answer = call(given.first, given.second, nesting, words, extent)
+        if answer != DONE:
+            raise _error_of(answer, given)
+    return Extent(extent.depth, extent.words, extent.capabilities, extent.cost)
+
+
 def _at(call: _Call, path: Iterable[int]) -> _Call:
     """The call for a part of the message, with a path whose indexes fit 32 bits."""
     indexes = array('I', list(path))
@@ -244,6 +254,12 @@ def size(frame: ReadableBuffer, limits: Limits = LIMITS) -> Size:
     return _sized(library.capnp_canonical_size, _frame(frame), limits)
 
 
+def validate(frame: ReadableBuffer, limits: Limits = LIMITS) -> Extent:
+    """Raise `Error` unless the message is sound: unless its root means a value within both limits. The value may have
+    capabilities."""
+    return _validated(library.capnp_canonical_validate, _frame(frame), limits)
+
+
 def size_at(frame: ReadableBuffer, path: Iterable[int], limits: Limits = LIMITS) -> Size:
     """Like `size`, for the part of the message that `copy_flat_at` copies."""
     return _sized(_at(library.capnp_canonical_size_at, path), _frame(frame), limits)
@@ -279,6 +295,11 @@ def segments_size(segments: Iterable[ReadableBuffer], limits: Limits = LIMITS) -
     return _sized(library.capnp_canonical_segments_size, _segments(segments), limits)
 
 
+def segments_validate(segments: Iterable[ReadableBuffer], limits: Limits = LIMITS) -> Extent:
+    """Like `validate`, for a message of these segments."""
+    return _validated(library.capnp_canonical_segments_validate, _segments(segments), limits)
+
+
 def words_copy(words: ReadableBuffer, limits: Limits = LIMITS) -> bytes:
     """Like `copy_flat`, for a message passed as raw words: all of them are its one segment."""
     return segments_copy_flat([words], limits)
@@ -302,6 +323,11 @@ def words_is_canonical(words: ReadableBuffer, limits: Limits = LIMITS) -> bool:
 def words_size(words: ReadableBuffer, limits: Limits = LIMITS) -> Size:
     """Like `size`, for a message passed as raw words."""
     return segments_size([words], limits)
+
+
+def words_validate(words: ReadableBuffer, limits: Limits = LIMITS) -> Extent:
+    """Like `validate`, for a message passed as raw words."""
+    return segments_validate([words], limits)
 
 
 def bytes_wanted(held: bytes) -> int:

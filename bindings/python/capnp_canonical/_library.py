@@ -20,6 +20,13 @@ class RawFault(ctypes.Structure):
     _fields_ = [('reason', ctypes.c_uint32), ('word', ctypes.c_uint32), ('segment', ctypes.c_uint64)]
 
 
+class RawExtent(ctypes.Structure):
+    _fields_ = [
+        ('words', ctypes.c_uint64), ('capabilities', ctypes.c_uint64), ('cost', ctypes.c_uint64),
+        ('depth', ctypes.c_uint32),
+    ]
+
+
 class RawSegment(ctypes.Structure):
     _fields_ = [('bytes', ctypes.c_void_p), ('size', ctypes.c_size_t)]
 
@@ -90,6 +97,7 @@ def _load() -> ctypes.CDLL:
         ('digest', [ctypes.c_char_p]),
         ('check', [pointer(ctypes.c_bool), pointer(RawFault)]),
         ('size', [pointer(u64), pointer(u32)]),
+        ('validate', [pointer(RawExtent)]),
     )
     messages: Any = ('', at), ('segments_', pointer(RawSegment))
     for message, first in messages:

@@ -1,5 +1,5 @@
 //! What the calls return.
-use crate::ffi::RawFault;
+use crate::ffi::{RawExtent, RawFault};
 use crate::texts;
 use alloc::vec::Vec;
 use core::fmt;
@@ -189,6 +189,20 @@ impl fmt::Display for Fault {
     }
 }
 
+/// How deep the value of a message is, how much it holds, and what reading it costs.
+#[derive(Clone, Copy, Debug, PartialEq, Eq, Hash)]
+#[non_exhaustive]
+pub struct Extent {
+    /// The number of structs and lists that are nested in each other, at most: the least nesting limit.
+    pub depth: u32,
+    /// Words of all objects, without landing pads. An object counts each time a pointer leads to it.
+    pub words: u64,
+    /// The number of capabilities.
+    pub capabilities: u64,
+    /// Words that reading the whole value once takes from the traversal limit, with one for the root pointer.
+    pub cost: u64,
+}
+
 /// The size of what the root of a message leads to, without the root pointer and landing pads. Its canonical words take
 /// at most 8 bytes more than these words.
 #[derive(Clone, Copy, Debug, PartialEq, Eq, Hash)]
@@ -255,6 +269,18 @@ pub(crate) fn fault_of(
         segment: fault.segment,
         word: fault.word,
     }))
+}
+
+/// What a call finds a message to hold.
+pub(crate) fn extent_of(call: impl FnOnce(&mut RawExtent) -> u32) -> Result<Extent, Error> {
+    let mut raw = RawExtent::default();
+    done(call(&mut raw))?;
+    Ok(Extent {
+        depth: raw.depth,
+        words: raw.words,
+        capabilities: raw.capabilities,
+        cost: raw.cost,
+    })
 }
 
 pub(crate) fn size_of(call: impl FnOnce(&mut u64, &mut u32) -> u32) -> Result<Size, Error> {

@@ -9,6 +9,15 @@ pub(crate) struct RawFault {
 }
 
 #[repr(C)]
+#[derive(Default)]
+pub(crate) struct RawExtent {
+    pub words: u64,
+    pub capabilities: u64,
+    pub cost: u64,
+    pub depth: u32,
+}
+
+#[repr(C)]
 pub(crate) struct RawSegment {
     pub bytes: *const u8,
     pub size: usize,
@@ -24,6 +33,8 @@ extern "C" {
     pub fn capnp_canonical_size_at(frame: *const u8, frame_size: usize, path: *const u32, steps: usize, nesting: i32, words: u64, word_count: *mut u64, cap_count: *mut u32) -> u32;
     pub fn capnp_canonical_check(frame: *const u8, frame_size: usize, nesting: i32, words: u64, is_canonical: *mut bool, fault: *mut RawFault) -> u32;
     pub fn capnp_canonical_size(frame: *const u8, frame_size: usize, nesting: i32, words: u64, word_count: *mut u64, cap_count: *mut u32) -> u32;
+    pub fn capnp_canonical_validate(frame: *const u8, frame_size: usize, nesting: i32, words: u64, extent: *mut RawExtent) -> u32;
+    pub fn capnp_canonical_segments_validate(segments: *const RawSegment, count: usize, nesting: i32, words: u64, extent: *mut RawExtent) -> u32;
     pub fn capnp_canonical_frame_size(frame: *const u8, size: usize, words: u64, bytes: *mut usize) -> u32;
     pub fn capnp_canonical_frame_size_from_prefix(prefix: *const u8, size: usize, words: u64, bytes: *mut usize) -> u32;
     pub fn capnp_canonical_segments_copy(segments: *const RawSegment, count: usize, nesting: i32, words: u64, to: *mut u8, room: usize, written: *mut usize) -> u32;

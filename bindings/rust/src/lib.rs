@@ -50,8 +50,8 @@ mod texts;
 pub mod words;
 
 use alloc::vec::Vec;
-use answers::{append, digest_of, done, fault_of, size_of};
-pub use answers::{Error, Fault, Reason, Size};
+use answers::{append, digest_of, done, extent_of, fault_of, size_of};
+pub use answers::{Error, Extent, Fault, Reason, Size};
 pub use looks::looks_like;
 pub use packed::{unpack, unpack_into};
 #[cfg(feature = "std")]
@@ -273,6 +273,24 @@ pub fn size(frame: impl AsRef<[u8]>, limits: Limits) -> Result<Size, Error> {
     })
 }
 
+/// Refuses the message unless it is sound: unless its root means a value within both limits. The value may have
+/// capabilities.
+pub fn validate(frame: impl AsRef<[u8]>, limits: Limits) -> Result<Extent, Error> {
+    let frame = frame.as_ref();
+    extent_of(|extent| {
+        // SAFETY: the slice is a pointer and its length.
+        unsafe {
+            ffi::capnp_canonical_validate(
+                frame.as_ptr(),
+                frame.len(),
+                limits.nesting,
+                limits.words,
+                extent,
+            )
+        }
+    })
+}
+
 /// The size in bytes of the frame at the front, which may have at most `words` words. Its message isn't read.
 pub fn frame_size(stream: impl AsRef<[u8]>, words: u64) -> Result<usize, Error> {
     let stream = stream.as_ref();
@@ -292,12 +310,7 @@ pub fn frame_size_from_prefix(prefix: impl AsRef<[u8]>, words: u64) -> Result<us
     let mut size = 0;
     // SAFETY: the slice is a pointer and its length.
     done(unsafe {
-        ffi::capnp_canonical_frame_size_from_prefix(
-            prefix.as_ptr(),
-            prefix.len(),
-            words,
-            &mut size,
-        )
+        ffi::capnp_canonical_frame_size_from_prefix(prefix.as_ptr(), prefix.len(), words, &mut size)
     })?;
     Ok(size)
 }

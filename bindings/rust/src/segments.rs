@@ -1,7 +1,7 @@
 //! The same calls, for a message whose segments you have. The length of each segment is a multiple of 8 bytes.
-use crate::answers::{append, digest_of, fault_of, size_of};
+use crate::answers::{append, digest_of, extent_of, fault_of, size_of};
 use crate::ffi::{self, RawSegment};
-use crate::{Error, Fault, Limits, Size};
+use crate::{Error, Extent, Fault, Limits, Size};
 use alloc::vec::Vec;
 
 /// Something that holds the segments of a message, like `capnp::message::ReaderSegments`: for example a slice or a
@@ -185,6 +185,23 @@ pub fn size<S: Segments + ?Sized>(segments: &S, limits: Limits) -> Result<Size, 
                 limits.words,
                 words,
                 capabilities,
+            )
+        }
+    })
+}
+
+/// Refuses the message unless it is sound, like `validate` of the crate.
+pub fn validate<S: Segments + ?Sized>(segments: &S, limits: Limits) -> Result<Extent, Error> {
+    let raw = Raw::of(segments)?;
+    extent_of(|extent| {
+        // SAFETY: the segments are pointers and lengths.
+        unsafe {
+            ffi::capnp_canonical_segments_validate(
+                raw.segments.as_ptr(),
+                raw.segments.len(),
+                limits.nesting,
+                limits.words,
+                extent,
             )
         }
     })

@@ -2,7 +2,7 @@
 //! them and you have stored them. If you pass a frame here it is read as words, and is another value.
 //!
 //! [`canonical_words`]: crate::canonical_words
-use crate::{segments, Error, Fault, Limits, Size};
+use crate::{segments, Error, Extent, Fault, Limits, Size};
 use alloc::vec::Vec;
 
 /// The canonical words of the value that the words hold.
@@ -39,4 +39,9 @@ pub fn is_canonical(words: impl AsRef<[u8]>, limits: Limits) -> bool {
 /// The size of the message.
 pub fn size(words: impl AsRef<[u8]>, limits: Limits) -> Result<Size, Error> {
     segments::size(&[words], limits)
+}
+
+/// Refuses the message unless it is sound, like `validate` of the crate.
+pub fn validate(words: impl AsRef<[u8]>, limits: Limits) -> Result<Extent, Error> {
+    segments::validate(&[words], limits)
 }

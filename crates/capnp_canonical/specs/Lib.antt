@@ -2,3 +2,4 @@ pub mod Numbers
 pub mod Texts
 pub mod Calls
 pub mod Parts
+pub mod Validation

@@ -14,12 +14,13 @@ ghost use Rattle.capnp_framing.specs.Prefix.{size_from_prefix};
 ghost use Rattle.capnp_framing.specs.Reading.{total};
 ghost use Rattle.capnp_messages.specs.Digests.{IsDigestOf};
 ghost use Rattle.capnp_messages.specs.MessageParts.{IsDigestOfPart};
-ghost use Rattle.capnp_messages.specs.Messages.{HasSizeOf};
+ghost use Rattle.capnp_messages.specs.Messages.{HasSizeOf, IsReadable};
 ghost use Rattle.capnp_messages.specs.Commands.{HasAnswerWithin};
 ghost use Rattle.capnp_messages.specs.declared.messages.command.Command.{Command};
 ghost use Rattle.capnp_messages.specs.declared.messages.command.Form.{Form};
 ghost use Rattle.capnp_packing.specs.Packing.{IsWhole, Packs, unpacked_bytes};
 ghost use Rattle.capnp_canonical.specs.Calls.{FillsByNumber, InFrame, InSegments, InWords, IsCopyOf, IsGranted, IsNumberWhere, RefusesBytes, RefusesMeaning, RefusesPacked, RefusesPrefix, RefusesRoom, RefusesSegments, RefusesSegment, TestIs, limits_of, no_fault};
+ghost use Rattle.capnp_canonical.specs.Validation.{ExtentIs, RefusesExtent, no_extent};
 ghost use Rattle.capnp_canonical.specs.Parts.{HasPart, HasPartSize, IsCopyOfPart, RefusesPartOf, RefusesPartRoom, RefusesPartSize};
 ghost use Rattle.capnp_pointers.specs.Faults.{fault_reason_text};
 ghost use Rattle.capnp_canonical.specs.Numbers.{answer_name, answer_number, reason_number, wanted_room};
@@ -27,6 +28,7 @@ ghost use Rattle.capnp_canonical.specs.Texts.{PutsText, IsTextOf};
 
 mod calls;
 mod digest;
+mod extent;
 mod fault;
 mod frames;
 mod names;
@@ -39,6 +41,7 @@ mod words;
 use calls::Limits;
 use capnp_messages::messages::Form;
 use capnp_packing::packing::Place;
+use extent::{Extent, NO_EXTENT, validate_frame, validate_segments, validate_words};
 use fault::{Fault, NO_FAULT};
 use frames::{
     check_frame, copy_frame, digest_frame, frame_size, frame_size_from_prefix, size_frame,
@@ -191,6 +194,38 @@ pub extern "C" fn capnp_canonical_size(
         Err(refusal) => {
             *word_count = 0;
             *cap_count = 0;
+            refusal.number()
+        }
+    }
+}
+
+/// Tests whether the message whose frame is at the front of `frame` is sound: whether its root means
+/// a value within both limits, which may have capabilities. Stores in `extent` how deep the value
+/// is, how much it holds, and what reading it costs. Takes no memory.
+///
+/// Answers 0 exactly for such messages. For others, `extent` is all 0.
+#[unsafe(no_mangle)]
+pub extern "C" fn capnp_canonical_validate(
+    frame: &[u8],
+    nesting: i32,
+    words: u64,
+    extent: &mut Extent,
+) -> u32
+    ensures done { result ≡ 0 → InFrame frame.now words
+        (ExtentIs (limits_of nesting words) extent.new) }
+    ensures refused { result ≢ 0 → IsNumberWhere result (λ r. RefusesBytes frame.now words r
+        ⊎ InFrame frame.now words (λ S. RefusesExtent (limits_of nesting words) S r)) }
+    ensures none { result ≢ 0 → extent.new ≡ no_extent }
+    ensures granted { InFrame frame.now words (λ S. IsReadable S (limits_of nesting words))
+        → result ≡ 0 }
+{
+    match validate_frame(frame, Limits { nesting, words }) {
+        Ok(found) => {
+            *extent = found;
+            0
+        }
+        Err(refusal) => {
+            *extent = NO_EXTENT;
             refusal.number()
         }
     }
@@ -520,6 +555,34 @@ pub extern "C" fn capnp_canonical_segments_size(
     }
 }
 
+/// Like `capnp_canonical_validate`, for the message of these segments.
+#[unsafe(no_mangle)]
+pub extern "C" fn capnp_canonical_segments_validate(
+    segments: &[&[u8]],
+    nesting: i32,
+    words: u64,
+    extent: &mut Extent,
+) -> u32
+    ensures done { result ≡ 0 → InSegments segments.now
+        (ExtentIs (limits_of nesting words) extent.new) }
+    ensures refused { result ≢ 0 → IsNumberWhere result (λ r. RefusesSegments segments.now r
+        ⊎ InSegments segments.now (λ S. RefusesExtent (limits_of nesting words) S r)) }
+    ensures none { result ≢ 0 → extent.new ≡ no_extent }
+    ensures granted { InSegments segments.now (λ S. IsReadable S (limits_of nesting words))
+        → result ≡ 0 }
+{
+    match validate_segments(segments, Limits { nesting, words }) {
+        Ok(found) => {
+            *extent = found;
+            0
+        }
+        Err(refusal) => {
+            *extent = NO_EXTENT;
+            refusal.number()
+        }
+    }
+}
+
 /// Like `capnp_canonical_digest`, for a message that the caller passes as `segments`, without a
 /// frame.
 #[unsafe(no_mangle)]
@@ -643,6 +706,34 @@ pub extern "C" fn capnp_canonical_words_size(
         Err(refusal) => {
             *word_count = 0;
             *cap_count = 0;
+            refusal.number()
+        }
+    }
+}
+
+/// Like `capnp_canonical_validate`, for the message whose only segment has the words in `bytes`.
+#[unsafe(no_mangle)]
+pub extern "C" fn capnp_canonical_words_validate(
+    bytes: &[u8],
+    nesting: i32,
+    words: u64,
+    extent: &mut Extent,
+) -> u32
+    ensures done { result ≡ 0 → InWords bytes.now
+        (ExtentIs (limits_of nesting words) extent.new) }
+    ensures refused { result ≢ 0 → IsNumberWhere result (λ r. RefusesSegment bytes.now r
+        ⊎ InWords bytes.now (λ S. RefusesExtent (limits_of nesting words) S r)) }
+    ensures none { result ≢ 0 → extent.new ≡ no_extent }
+    ensures granted { InWords bytes.now (λ S. IsReadable S (limits_of nesting words))
+        → result ≡ 0 }
+{
+    match validate_words(bytes, Limits { nesting, words }) {
+        Ok(found) => {
+            *extent = found;
+            0
+        }
+        Err(refusal) => {
+            *extent = NO_EXTENT;
             refusal.number()
         }
     }

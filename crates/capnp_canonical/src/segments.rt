@@ -19,7 +19,7 @@ use std::alloc::Global;
 
 /// The caller's segments: whole words, and within the limits of `SegmentArray::new`.
 #[derive(Clone, Copy)]
-struct LentSegments<'a> {
+pub struct LentSegments<'a> {
     segments: &'a [&'a [u8]],
     ghost small: { IsSmall (map (λ s. s.now) segments.now) },
 }
@@ -28,7 +28,7 @@ impl<'a> LentSegments<'a> {
     /// Wraps `segments`. Refuses with `SegmentIsNotWholeWords` if the bytes of a segment aren't
     /// whole words, and with `MessageTooLarge` if there are more segments or words than
     /// `SegmentArray::new` allows.
-    fn new(segments: &'a [&'a [u8]]) -> Result<Self, Refusal>
+    pub fn new(segments: &'a [&'a [u8]]) -> Result<Self, Refusal>
         ensures segments { IfOk result (λ lent.
             ⟦<LentSegments<'static> as ReaderSegments>⟧.segments lent ≡ lent_bytes segments.now) }
         ensures whole { IfOk result (λ lent. AreWholeWords segments.now × AreSmall segments.now) }

@@ -20,7 +20,7 @@ use std::alloc::Global;
 
 /// Returns the message whose one segment is `words`. Refuses with `SegmentIsNotWholeWords` if
 /// `words` isn't whole words, and with `MessageTooLarge` if it is 2^32 words or more.
-fn message_of(words: &[u8]) -> Result<OutputSegments<'_>, Refusal>
+pub fn message_of(words: &[u8]) -> Result<OutputSegments<'_>, Refusal>
     ensures segments { IfOk result (λ s. output_bytes s ≡ words.now ∷ []) }
     ensures small { IfOk result (λ s. IsSmall (output_bytes s)) }
     ensures whole { IfOk result (λ _. IsOneSegment words.now) }

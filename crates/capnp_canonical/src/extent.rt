@@ -1,0 +1,104 @@
+//! How much a sound message holds, in the form for C.
+ghost use Rattle.std.specs.Prelude.{◌≡◌, ◌⊎◌, IfOk, IfErr};
+ghost use Rattle.capnp_format.specs.Bytes.{message};
+ghost use Rattle.capnp_arena_traits.specs.Limits.{IsSmall};
+ghost use Rattle.capnp_canonical.specs.Calls.{InFrame, InSegments, InWords, RefusesBytes, RefusesSegment, RefusesSegments, limits_of};
+ghost use Rattle.capnp_canonical.specs.Validation.{ExtentIs, RefusesExtent, no_extent, told_extent};
+
+use crate::calls::Limits;
+use crate::frames::message_in;
+use crate::refusal::Refusal;
+use crate::segments::LentSegments;
+use crate::words::message_of;
+use capnp_arena::arena::ReaderSegments;
+use capnp_messages::messages::{MessageExtent, validate_of};
+
+/// How deep the value of a message is, how much it holds, and what reading it costs.
+#[repr(C)]
+#[derive(Clone, Copy)]
+pub struct Extent {
+    /// The number of words of all objects, without landing pads; `u64::MAX` if there are more.
+    pub words: u64,
+    /// The number of capabilities; `u64::MAX` if there are more.
+    pub capabilities: u64,
+    /// The number of words that reading the whole value once takes from the traversal limit.
+    pub cost: u64,
+    /// The number of structs and lists that are nested in each other, at most.
+    pub depth: u32,
+}
+
+/// The extent that is stored for a message that isn't sound.
+pub const NO_EXTENT: Extent = Extent {
+    words: 0,
+    capabilities: 0,
+    cost: 0,
+    depth: 0,
+};
+
+impl Extent {
+    /// Returns the extent that was found.
+    fn of(found: MessageExtent) -> Self
+        ensures { result ≡ told_extent found }
+    {
+        Extent {
+            words: found.value.words,
+            capabilities: found.value.capabilities,
+            cost: match found.cost {
+                Some(cost) => cost as u64,
+                None => 0,
+            },
+            depth: found.value.depth,
+        }
+    }
+}
+
+/// Returns the extent of the message in `segments`, if it means a value within `limits`.
+fn validate<S: ReaderSegments + Drop>(segments: S, limits: Limits) -> Result<Extent, Refusal>
+    requires { IsSmall (S.segments segments) }
+    ensures extent { IfOk result (λ x. ExtentIs (limits_of limits.nesting limits.words) x
+        (message (S.segments segments))) }
+    ensures refused { IfErr result (RefusesExtent (limits_of limits.nesting limits.words)
+        (message (S.segments segments))) }
+{
+    match validate_of(segments, limits.options()) {
+        Ok(found) => Ok(Extent::of(found)),
+        Err(kind) => Err(Refusal::Layout(kind)),
+    }
+}
+
+/// Returns the extent of the message whose frame is at the front of `frame`, if it means a value
+/// within `limits`.
+pub fn validate_frame(frame: &[u8], limits: Limits) -> Result<Extent, Refusal>
+    ensures extent { IfOk result (λ x. InFrame frame.now limits.words
+        (ExtentIs (limits_of limits.nesting limits.words) x)) }
+    ensures refused { IfErr result (λ r. RefusesBytes frame.now limits.words r
+        ⊎ InFrame frame.now limits.words
+        (λ S. RefusesExtent (limits_of limits.nesting limits.words) S r)) }
+{
+    let segments = message_in(frame, limits.words)?;
+    validate(segments, limits)
+}
+
+/// The same for the message of these segments.
+pub fn validate_segments(segments: &[&[u8]], limits: Limits) -> Result<Extent, Refusal>
+    ensures extent { IfOk result (λ x. InSegments segments.now
+        (ExtentIs (limits_of limits.nesting limits.words) x)) }
+    ensures refused { IfErr result (λ r. RefusesSegments segments.now r
+        ⊎ InSegments segments.now
+        (λ S. RefusesExtent (limits_of limits.nesting limits.words) S r)) }
+{
+    let lent = LentSegments::new(segments)?;
+    validate(lent, limits)
+}
+
+/// The same for the message whose only segment has these words.
+pub fn validate_words(words: &[u8], limits: Limits) -> Result<Extent, Refusal>
+    ensures extent { IfOk result (λ x. InWords words.now
+        (ExtentIs (limits_of limits.nesting limits.words) x)) }
+    ensures refused { IfErr result (λ r. RefusesSegment words.now r
+        ⊎ InWords words.now
+        (λ S. RefusesExtent (limits_of limits.nesting limits.words) S r)) }
+{
+    let message = message_of(words)?;
+    validate(message, limits)
+}
