@@ -73,6 +73,18 @@ pub struct NumbersReader<'a, A: ReaderArena, T: PrimitiveElement> {
         ≤ data_bits reader.element_size reader.struct_size },
 }
 
+impl<'a, A: ReaderArena, T: PrimitiveElement> Clone for NumbersReader<'a, A, T> {
+    ghost is_clone = { λ x y. y ≡ x };
+
+    ghost is_infallible = { λ _. ⊤ };
+
+    fn clone(&self) -> Result<Self, AllocError> {
+        Ok(*self)
+    }
+}
+
+impl<'a, A: ReaderArena, T: PrimitiveElement> Copy for NumbersReader<'a, A, T> {}
+
 impl<'a, A: ReaderArena, T: PrimitiveElement> NumbersReader<'a, A, T> {
     /// The number of elements.
     pub fn len(&self) -> u32
