@@ -105,6 +105,8 @@ for which in static shared; do
     part "packed bytes, $which" "$folder/unpack_$which" "$here/packed.txt"
     part "parts of messages, $which, built" build "parts_$which" tests/library/parts.c "$which"
     part "parts of messages, $which" "$folder/parts_$which" "$here/parts.txt"
+    part "sound messages, $which, built" build "extents_$which" tests/library/extents.c "$which"
+    part "sound messages, $which" "$folder/extents_$which" "$here/extents.txt"
 done
 part "test with the address sanitizer, built" build sanitized tests/library/test.c static -fsanitize=address,undefined -fno-sanitize-recover
 part "test with the address sanitizer" "$folder/sanitized" "$here/messages.txt"
@@ -114,6 +116,8 @@ part "packed bytes with the address sanitizer, built" build unpack_sanitized tes
 part "packed bytes with the address sanitizer" "$folder/unpack_sanitized" "$here/packed.txt"
 part "parts of messages with the address sanitizer, built" build parts_sanitized tests/library/parts.c static -fsanitize=address,undefined -fno-sanitize-recover
 part "parts of messages with the address sanitizer" "$folder/parts_sanitized" "$here/parts.txt"
+part "sound messages with the address sanitizer, built" build extents_sanitized tests/library/extents.c static -fsanitize=address,undefined -fno-sanitize-recover
+part "sound messages with the address sanitizer" "$folder/extents_sanitized" "$here/extents.txt"
 part "packed bytes where malloc is counted, built" build unpack_counting tests/library/unpack.c static -DWRAP -Wl,--wrap=malloc -Wl,--wrap=realloc
 part "packed bytes where malloc is counted" "$folder/unpack_counting" "$here/packed.txt"
 part "test where malloc refuses, built" build refusing tests/library/test.c static -DWRAP -Wl,--wrap=malloc -Wl,--wrap=realloc
