@@ -630,7 +630,7 @@ inline Extent validate(const Segments& segments, Limits limits = {}) {
     return detail::extent_of(detail::SegmentSource(segments, limits));
 }
 
-// copy_flat, digest and size for a part of a message: the value of the pointer at the end of a path, as if that pointer were the root. If
+// copy_flat, digest and size for a part of a message: the value of the pointer at the end of a path. If
 // the path leads to no pointer, throws Error with CAPNP_CANONICAL_NO_SUCH_PLACE.
 inline std::vector<std::uint8_t> copy_flat_at(Bytes frame, Path path, Limits limits = {}) {
     return detail::copy_of(detail::PartSource(frame, path, limits), detail::Form::flat);

@@ -1,5 +1,5 @@
-/* Calls the functions that tell whether a message is sound, for the messages of a file (see its top): as a frame, as segments,
- * and as raw words where there is one segment. Then with limits that are just enough, and just too small.
+/* Calls the functions that tell whether a message is sound, for the messages of a file (see its top): for the frame, for its segments,
+ * and for the raw words of a single segment. Then with limits that are just enough, and just too small.
  *
  *     extents FILE
  *

@@ -1,4 +1,4 @@
--- Whether a message is sound, and how much it holds, as C sees it.
+-- What C is told of a sound message: how deep its value is, and how much it holds.
 use Rattle.std.specs.Prelude.{◌≡◌, ℕ, Option, Some, None, Result, Err}
 use Rattle.capnp_words.specs.declared.error.ErrorKind.{ErrorKind}
 use Rattle.capnp_format.specs.Segments.{Segments}
@@ -7,18 +7,18 @@ use Rattle.capnp_messages.specs.Extents.{HasExtent, validate}
 use Rattle.capnp_messages.specs.declared.messages.validation.MessageExtent.{MessageExtent}
 use Rattle.capnp_canonical.specs.declared.refusal.Refusal.{Refusal}
 use Rattle.capnp_canonical.specs.declared.refusal.Refusal.TheVariants.{Layout}
-use Rattle.capnp_canonical.specs.declared.extent.Extent.{Extent}
+use Rattle.capnp_canonical.specs.declared.extent.SoundMessage.{SoundMessage}
 
 -- The number, or 0 if there is none.
 abbrev pub or_zero : Option ℕ → ℕ
 or_zero (Some n) = n
 or_zero None = 0
 
--- No extent, and an extent as C sees it.
-abbrev pub no_extent : Extent
+-- What C is told if a message is not sound, and if it is.
+abbrev pub no_extent : SoundMessage
 no_extent = record { words = 0; capabilities = 0; cost = 0; depth = 0 }
 
-abbrev pub told_extent : MessageExtent → Extent
+abbrev pub told_extent : MessageExtent → SoundMessage
 told_extent x =
     record {
       words = x.value.words;
@@ -28,7 +28,7 @@ told_extent x =
     }
 
 -- S means a value within the limits, with this extent.
-abbrev pub ExtentIs : ReaderOptions → Extent → Segments → Type 0
+abbrev pub ExtentIs : ReaderOptions → SoundMessage → Segments → Type 0
 ExtentIs limits extent S =
     (x : MessageExtent) × HasExtent S limits x × (extent ≡ told_extent x)
 

@@ -16,7 +16,7 @@ use capnp_messages::messages::{MessageExtent, validate_of};
 /// How deep the value of a message is, how much it holds, and what reading it costs.
 #[repr(C)]
 #[derive(Clone, Copy)]
-pub struct Extent {
+pub struct SoundMessage {
     /// The number of words of all objects, without landing pads; `u64::MAX` if there are more.
     pub words: u64,
     /// The number of capabilities; `u64::MAX` if there are more.
@@ -28,19 +28,19 @@ pub struct Extent {
 }
 
 /// The extent that is stored for a message that isn't sound.
-pub const NO_EXTENT: Extent = Extent {
+pub const NOT_SOUND: SoundMessage = SoundMessage {
     words: 0,
     capabilities: 0,
     cost: 0,
     depth: 0,
 };
 
-impl Extent {
+impl SoundMessage {
     /// Returns the extent that was found.
     fn of(found: MessageExtent) -> Self
         ensures { result ≡ told_extent found }
     {
-        Extent {
+        SoundMessage {
             words: found.value.words,
             capabilities: found.value.capabilities,
             cost: match found.cost {
@@ -53,7 +53,7 @@ impl Extent {
 }
 
 /// Returns the extent of the message in `segments`, if it means a value within `limits`.
-fn validate<S: ReaderSegments + Drop>(segments: S, limits: Limits) -> Result<Extent, Refusal>
+fn validate<S: ReaderSegments + Drop>(segments: S, limits: Limits) -> Result<SoundMessage, Refusal>
     requires { IsSmall (S.segments segments) }
     ensures extent { IfOk result (λ x. ExtentIs (limits_of limits.nesting limits.words) x
         (message (S.segments segments))) }
@@ -61,14 +61,14 @@ fn validate<S: ReaderSegments + Drop>(segments: S, limits: Limits) -> Result<Ext
         (message (S.segments segments))) }
 {
     match validate_of(segments, limits.options()) {
-        Ok(found) => Ok(Extent::of(found)),
+        Ok(found) => Ok(SoundMessage::of(found)),
         Err(kind) => Err(Refusal::Layout(kind)),
     }
 }
 
 /// Returns the extent of the message whose frame is at the front of `frame`, if it means a value
 /// within `limits`.
-pub fn validate_frame(frame: &[u8], limits: Limits) -> Result<Extent, Refusal>
+pub fn validate_frame(frame: &[u8], limits: Limits) -> Result<SoundMessage, Refusal>
     ensures extent { IfOk result (λ x. InFrame frame.now limits.words
         (ExtentIs (limits_of limits.nesting limits.words) x)) }
     ensures refused { IfErr result (λ r. RefusesBytes frame.now limits.words r
@@ -80,7 +80,7 @@ pub fn validate_frame(frame: &[u8], limits: Limits) -> Result<Extent, Refusal>
 }
 
 /// The same for the message of these segments.
-pub fn validate_segments(segments: &[&[u8]], limits: Limits) -> Result<Extent, Refusal>
+pub fn validate_segments(segments: &[&[u8]], limits: Limits) -> Result<SoundMessage, Refusal>
     ensures extent { IfOk result (λ x. InSegments segments.now
         (ExtentIs (limits_of limits.nesting limits.words) x)) }
     ensures refused { IfErr result (λ r. RefusesSegments segments.now r
@@ -92,7 +92,7 @@ pub fn validate_segments(segments: &[&[u8]], limits: Limits) -> Result<Extent, R
 }
 
 /// The same for the message whose only segment has these words.
-pub fn validate_words(words: &[u8], limits: Limits) -> Result<Extent, Refusal>
+pub fn validate_words(words: &[u8], limits: Limits) -> Result<SoundMessage, Refusal>
     ensures extent { IfOk result (λ x. InWords words.now
         (ExtentIs (limits_of limits.nesting limits.words) x)) }
     ensures refused { IfErr result (λ r. RefusesSegment words.now r

@@ -41,7 +41,7 @@ mod words;
 use calls::Limits;
 use capnp_messages::messages::Form;
 use capnp_packing::packing::Place;
-use extent::{Extent, NO_EXTENT, validate_frame, validate_segments, validate_words};
+use extent::{NOT_SOUND, SoundMessage, validate_frame, validate_segments, validate_words};
 use fault::{Fault, NO_FAULT};
 use frames::{
     check_frame, copy_frame, digest_frame, frame_size, frame_size_from_prefix, size_frame,
@@ -209,7 +209,7 @@ pub extern "C" fn capnp_canonical_validate(
     frame: &[u8],
     nesting: i32,
     words: u64,
-    extent: &mut Extent,
+    extent: &mut SoundMessage,
 ) -> u32
     ensures done { result ≡ 0 → InFrame frame.now words
         (ExtentIs (limits_of nesting words) extent.new) }
@@ -225,7 +225,7 @@ pub extern "C" fn capnp_canonical_validate(
             0
         }
         Err(refusal) => {
-            *extent = NO_EXTENT;
+            *extent = NOT_SOUND;
             refusal.number()
         }
     }
@@ -561,7 +561,7 @@ pub extern "C" fn capnp_canonical_segments_validate(
     segments: &[&[u8]],
     nesting: i32,
     words: u64,
-    extent: &mut Extent,
+    extent: &mut SoundMessage,
 ) -> u32
     ensures done { result ≡ 0 → InSegments segments.now
         (ExtentIs (limits_of nesting words) extent.new) }
@@ -577,7 +577,7 @@ pub extern "C" fn capnp_canonical_segments_validate(
             0
         }
         Err(refusal) => {
-            *extent = NO_EXTENT;
+            *extent = NOT_SOUND;
             refusal.number()
         }
     }
@@ -717,7 +717,7 @@ pub extern "C" fn capnp_canonical_words_validate(
     bytes: &[u8],
     nesting: i32,
     words: u64,
-    extent: &mut Extent,
+    extent: &mut SoundMessage,
 ) -> u32
     ensures done { result ≡ 0 → InWords bytes.now
         (ExtentIs (limits_of nesting words) extent.new) }
@@ -733,7 +733,7 @@ pub extern "C" fn capnp_canonical_words_validate(
             0
         }
         Err(refusal) => {
-            *extent = NO_EXTENT;
+            *extent = NOT_SOUND;
             refusal.number()
         }
     }
