@@ -12,8 +12,8 @@ use Rattle.capnp_messages.specs.MessageParts.{IsPartOf, RefusesPart, part_size}
 use Rattle.capnp_canonical.specs.declared.refusal.Refusal.{Refusal}
 use Rattle.capnp_canonical.specs.declared.refusal.Refusal.TheVariants.{NoRoom, Layout}
 
--- The canonical bytes of the part of a message to which a path leads, without a frame: of at most as
--- many words as a segment of a copy can have.
+-- The canonical bytes of the part of a message to which a path leads, without a frame: of at most
+-- as many words as a segment of a copy can have.
 abbrev pub IsCopyOfPart : ReaderOptions → List ℕ → Segments → List ℕ → Type 0
 IsCopyOfPart limits path S bytes =
     (t : Tree) × IsPartOf S limits path t × (length (encoding (trim t)) ≤ max_segment_words)
@@ -44,4 +44,5 @@ HasPartSize limits path S words caps =
 
 -- The size of a part is refused.
 abbrev pub RefusesPartSize : ReaderOptions → List ℕ → Segments → Refusal → Type 0
-RefusesPartSize limits path S r = (k : ErrorKind) × (r ≡ Layout k) × (part_size S limits path ≡ Err k)
+RefusesPartSize limits path S r =
+    (k : ErrorKind) × (r ≡ Layout k) × (part_size S limits path ≡ Err k)

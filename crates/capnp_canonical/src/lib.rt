@@ -266,14 +266,14 @@ pub extern "C" fn capnp_canonical_digest(
 }
 
 /// Makes the canonical copy of a part of the message whose frame is at the front of `frame`: of the
-/// value of the pointer to which `path` leads. Writes the canonical words to the front of `to`, without
-/// a frame, and stores the number of bytes written in `written`. `nesting` and `words` are the limits
-/// of `capnp_canonical_check`. The rest of the message isn't read.
+/// value of the pointer to which `path` leads. Writes the canonical words to the front of `to`,
+/// without a frame, and stores the number of bytes written in `written`. `nesting` and `words` are
+/// the limits of `capnp_canonical_check`. The rest of the message isn't read.
 ///
-/// `path` is a list of indexes. From the root pointer on, an index leads from a struct to one of its
-/// pointers; from a list of pointers, to an element; from a list of structs, to an element, from which
-/// the next index leads to one of its pointers. Refuses with `NoSuchPlace` if an index leads nowhere, or
-/// if the path ends at an element of a list of structs.
+/// `path` is a list of indexes. From the root pointer on, an index leads from a struct to one of
+/// its pointers; from a list of pointers, to an element; from a list of structs, to an element,
+/// from which the next index leads to one of its pointers. Refuses with `NoSuchPlace` if an index
+/// leads nowhere, or if the path ends at an element of a list of structs.
 ///
 /// If `to` is too small, stores the number of bytes needed in `written`; for any other refusal, 0.
 /// The bytes of `to` after the copy are unchanged. If the call is refused, all bytes of `to` are
@@ -340,9 +340,9 @@ pub extern "C" fn capnp_canonical_digest_at(
     }
 }
 
-/// Counts the words and capabilities of the part of the message to which `path` leads, without landing
-/// pads. Follows `path` like `capnp_canonical_copy_flat_at`. Stores the numbers in `word_count` and
-/// `cap_count`; after a refusal both are 0.
+/// Counts the words and capabilities of the part of the message to which `path` leads, without
+/// landing pads. Follows `path` like `capnp_canonical_copy_flat_at`. Stores the numbers in
+/// `word_count` and `cap_count`; after a refusal both are 0.
 #[unsafe(no_mangle)]
 pub extern "C" fn capnp_canonical_size_at(
     frame: &[u8],

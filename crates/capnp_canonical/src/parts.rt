@@ -1,5 +1,5 @@
-//! Copies, measures and hashes a part of the message whose frame is at the front of a buffer: the value
-//! of the pointer to which a path leads.
+//! Copies, measures and hashes a part of the message whose frame is at the front of a buffer: the
+//! value of the pointer to which a path leads.
 ghost use Rattle.std.specs.Prelude.{◌≡◌, ◌⊎◌, length, IfOk, IfErr};
 ghost use Rattle.capnp_format.specs.Bytes.{message};
 ghost use Rattle.capnp_arena_traits.specs.Limits.{IsSmall};
@@ -23,8 +23,8 @@ use std::alloc::Global;
 /// The size in bytes of the stack memory into which a small part is copied.
 const SMALL: usize = 512;
 
-/// Makes the canonical copy of a part of the message in `source` on the heap, and writes the copy to
-/// the front of `to`, without a frame. Returns the number of bytes written.
+/// Makes the canonical copy of a part of the message in `source` on the heap, and writes the copy
+/// to the front of `to`, without a frame. Returns the number of bytes written.
 #[inline(never)]
 fn copy_part_on_heap<S: ReaderSegments>(
     alloc: Global,
@@ -73,8 +73,9 @@ fn copy_part<S: ReaderSegments>(
     }
 }
 
-/// Makes the canonical copy of the part of the message at the front of `frame` to which `path` leads,
-/// and writes the copy to the front of `to`, without a frame. Returns the number of bytes written.
+/// Makes the canonical copy of the part of the message at the front of `frame` to which `path`
+/// leads, and writes the copy to the front of `to`, without a frame. Returns the number of bytes
+/// written.
 ///
 /// Takes heap memory only if the copy has more than 64 words.
 pub fn copy_frame_part(
@@ -121,8 +122,8 @@ pub fn digest_frame_part(
     }
 }
 
-/// Counts the words and capabilities of the part of the message at the front of `frame` to which `path`
-/// leads, without landing pads.
+/// Counts the words and capabilities of the part of the message at the front of `frame` to which
+/// `path` leads, without landing pads.
 pub fn size_frame_part(frame: &[u8], path: &[u32], limits: Limits) -> Result<MessageSize, Refusal>
     ensures size { IfOk result (λ z. InFrame frame.now limits.words
         (λ S. HasPartSize (limits_of limits.nesting limits.words) path.now S

@@ -23,9 +23,10 @@ abbrev pub part_within : Segments → ReaderOptions → List ℕ → Result Read
 part_within S limits path =
     part S (levels limits.nesting_limit) path (unused limits.traversal_limit_in_words)
 
--- The path leads from the root pointer of S to a pointer that means t, which has no capabilities. What
--- the traversal limit has left there covers what reading t costs.
-pub record IsPartOf (S : Segments) (limits : ReaderOptions) (path : List ℕ) (t : Tree) : Type 0 where
+-- The path leads from the root pointer of S to a pointer that means t, which has no capabilities.
+-- What the traversal limit has left there covers what reading t costs.
+pub record IsPartOf (S : Segments) (limits : ReaderOptions) (path : List ℕ) (t : Tree)
+    : Type 0 where
   pub place : Reading
   pub left : Meter
   pub leads : part_within S limits path ≡ (Ok place, left)
@@ -37,7 +38,10 @@ pub record IsPartOf (S : Segments) (limits : ReaderOptions) (path : List ℕ) (t
 -- The path is refused with k, or it leads to a pointer for which P holds with what is left there.
 pub data RefusesPartAt (S : Segments) (limits : ReaderOptions) (path : List ℕ) (k : ErrorKind)
     (P : Reading → Meter → Type 0) : Type 0 where
-  path_refused : (m : Meter) → part_within S limits path ≡ (Err k, m) → RefusesPartAt S limits path k P
+  path_refused :
+      (m : Meter) →
+      part_within S limits path ≡ (Err k, m) →
+      RefusesPartAt S limits path k P
   part_refused :
       (r : Reading) (m : Meter) →
       part_within S limits path ≡ (Ok r, m) →

@@ -1,6 +1,7 @@
 -- A part of a message: the value at the end of a path of indexes. From a pointer to a struct, an
--- index leads to a pointer of the struct; from a pointer to a list of pointers, to an element; from a
--- pointer to a list of structs, to an element, from which the next index leads to one of its pointers.
+-- index leads to a pointer of the struct; from a pointer to a list of pointers, to an element; from
+-- a pointer to a list of structs, to an element, from which the next index leads to one of its
+-- pointers.
 use Rattle.std.specs.Prelude.{ℕ, pred, ◌+◌, ◌*◌, if◌then◌else◌, ◌&&◌, nat_lt, List, [], ◌∷◌}
 use Rattle.std.specs.Prelude.{Option, Some, None, Result, Ok, Err}
 use Rattle.capnp_words.specs.declared.error.ErrorKind.{ErrorKind}
@@ -25,8 +26,8 @@ part_of (Structs d q es) (i ∷ j ∷ path) =
     else None
 part_of t path = None
 
--- Where a path leads: to a pointer; or to an element of a list of structs, by the place of its first
--- pointer and the number of its pointers.
+-- Where a path leads: to a pointer; or to an element of a list of structs, by the place of its
+-- first pointer and the number of its pointers.
 pub data PathEnd : Type 0 where
   to_pointer : Reading → PathEnd
   to_element : Reading → ℕ → PathEnd

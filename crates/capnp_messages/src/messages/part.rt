@@ -23,11 +23,11 @@ use capnp_words::read_limiter::ReadLimiter;
 use std::alloc::Global;
 
 /// Makes the canonical copy of a part of the message in `source`: of the value of the pointer to
-/// which `path` leads from the root pointer (encoding specification, "Canonicalization"). The copy is
-/// a message of one segment, whose memory `allocator` grants. If refused, returns the allocator.
+/// which `path` leads from the root pointer (encoding specification, "Canonicalization"). The copy
+/// is a message of one segment, whose memory `allocator` grants. If refused, returns the allocator.
 ///
-/// Follows `path` like `follow_path`, and reads the part, both within `limits`; the root pointer costs
-/// one word. The rest of the message isn't read. Refusals: the first one met while reading;
+/// Follows `path` like `follow_path`, and reads the part, both within `limits`; the root pointer
+/// costs one word. The rest of the message isn't read. Refusals: the first one met while reading;
 /// `NoSuchPlace` if `path` leads to no pointer; `AllocationFailed`, which the allocator counts, if
 /// memory ran out; `MessageTooLarge(536870911)` if there are more than 536,870,911 canonical words.
 /// Precondition: the nesting limit of `source` is that of `limits`.
@@ -59,9 +59,9 @@ pub fn canonical_part_from<A: Allocator, S: ReaderSegments>(
     }
 }
 
-/// Makes the canonical copy of a part of the message in `source`, like `canonical_part_from`. The copy
-/// becomes the one segment of `made`, for which this call requests `room` words. Returns `true`; or
-/// `false` if the copy doesn't fit the segment, or there is no memory for the segment.
+/// Makes the canonical copy of a part of the message in `source`, like `canonical_part_from`. The
+/// copy becomes the one segment of `made`, for which this call requests `room` words. Returns
+/// `true`; or `false` if the copy doesn't fit the segment, or there is no memory for the segment.
 ///
 /// Preconditions: `made` has no segment yet; `room` is from 1 to 536,870,911; the nesting limit of
 /// `source` is that of `limits`.
@@ -94,10 +94,10 @@ pub fn canonical_part_in_room<A: Allocator, S: ReaderSegments>(
     copy_in_room(made, part, lim.left(), room)
 }
 
-/// Counts the words and capabilities of the value of the pointer to which `path` leads from the root
-/// pointer of the message in `source`, without landing pads (encoding specification, "Structs" and
-/// "Lists"). Takes no memory. Refuses like `follow_path`, and otherwise like `Pointer::total_size`.
-/// Precondition: the nesting limit of `source` is that of `limits`.
+/// Counts the words and capabilities of the value of the pointer to which `path` leads from the
+/// root pointer of the message in `source`, without landing pads (encoding specification, "Structs"
+/// and "Lists"). Takes no memory. Refuses like `follow_path`, and otherwise like
+/// `Pointer::total_size`. Precondition: the nesting limit of `source` is that of `limits`.
 pub fn size_of_part<S: ReaderSegments>(
     source: &ReaderArenaImpl<S>,
     path: &[u32],

@@ -43,12 +43,12 @@ fn digest_of_part_copy<A: Allocator, S: ReaderSegments>(
     }
 }
 
-/// Returns the SHA-256 of the canonical words of the part of the message in `source` to which `path`
-/// leads, and the allocator. Equal values have the same digest, in any message and at the end of any
-/// path. Precondition: the nesting limit of `source` is that of `limits`.
+/// Returns the SHA-256 of the canonical words of the part of the message in `source` to which
+/// `path` leads, and the allocator. Equal values have the same digest, in any message and at the
+/// end of any path. Precondition: the nesting limit of `source` is that of `limits`.
 ///
-/// Refuses what `canonical_part_from` refuses. The words are made in stack memory if there are at most
-/// 64. Otherwise the copy takes memory from `allocator`, and returns it.
+/// Refuses what `canonical_part_from` refuses. The words are made in stack memory if there are at
+/// most 64. Otherwise the copy takes memory from `allocator`, and returns it.
 pub fn digest_of_part<A: Allocator, S: ReaderSegments>(
     alloc: Global,
     allocator: A,

@@ -53,8 +53,8 @@ impl<'a, A: ReaderArena> Reached<'a, A> {
         }
     }
 
-    /// The element at `index` of the list of structs that `from` leads to, which has `count` elements
-    /// from `start` on.
+    /// The element at `index` of the list of structs that `from` leads to, which has `count`
+    /// elements from `start` on.
     fn in_structs(
         from: Pointer<'a, A>,
         start: Place<'a>,
@@ -103,8 +103,8 @@ impl<'a, A: ReaderArena> Reached<'a, A> {
         }
     }
 
-    /// Where `index` leads from the end of a path. A pointer is read like `Source::read_object`, and
-    /// its object's pointers have a nesting limit that is one less.
+    /// Where `index` leads from the end of a path. A pointer is read like `Source::read_object`,
+    /// and its object's pointers have a nesting limit that is one less.
     fn step(self, index: u32, lim: &mut ReadLimiter) -> Result<Self, ErrorKind>
         ensures { step (end_read A.ReaderArena self.entry) index lim.old
             ≡ (end_result A.ReaderArena result, lim.new) }
@@ -121,15 +121,15 @@ impl<'a, A: ReaderArena> Reached<'a, A> {
 
 /// Follows `path` from the pointer `from`, and returns the pointer that it leads to.
 ///
-/// From a pointer to a struct, an index leads to a pointer of the struct; from a pointer to a list of
-/// pointers, to an element; from a pointer to a list of structs, to an element, from which the next
-/// index leads to one of its pointers. Each pointer on the way is read and charged like
-/// `Source::read_object`; the last one isn't. Each has a nesting limit that is one less than that of
-/// the one before.
+/// From a pointer to a struct, an index leads to a pointer of the struct; from a pointer to a list
+/// of pointers, to an element; from a pointer to a list of structs, to an element, from which the
+/// next index leads to one of its pointers. Each pointer on the way is read and charged like
+/// `Source::read_object`; the last one isn't. Each has a nesting limit that is one less than that
+/// of the one before.
 ///
-/// Refuses with `NoSuchPlace` if an index leads nowhere, or if the path ends at an element of a list
-/// of structs, to which no pointer leads. Refuses like `Source::read_object` if a pointer on the way
-/// can't be read. What was charged before stays charged.
+/// Refuses with `NoSuchPlace` if an index leads nowhere, or if the path ends at an element of a
+/// list of structs, to which no pointer leads. Refuses like `Source::read_object` if a pointer on
+/// the way can't be read. What was charged before stays charged.
 pub fn follow_path<'a, A: ReaderArena>(
     from: Pointer<'a, A>,
     path: &[u32],

@@ -34,7 +34,8 @@ impl<'a, A: ReaderArena> PointerRun<'a, A> {
         requires inside { start.at + words + count
             ≤ length (segment (source_start A.ReaderArena from.source).segments start.segment) }
         ensures first { reading A.ReaderArena result.first
-            ≡ inside (reading A.ReaderArena from.entry) start.entry.segment (start.entry.at + words) }
+            ≡ inside (reading A.ReaderArena from.entry) start.entry.segment
+            (start.entry.at + words) }
         ensures count { result.count ≡ count }
     {
         PointerRun {

@@ -12,10 +12,10 @@ ghost use Rattle.capnp_objects.specs.Reading.{Reading};
 ghost use Rattle.capnp_messages.specs.Parts.{part, part_of};
 ghost use Rattle.capnp_messages.specs.Roots.{CoversRoot};
 
-/// If the root of a message means a value t, a path that is followed leads to a pointer of the message
-/// which means the part of t at the end of the path. If the limiter covers reading all of t, it then
-/// still covers reading the part (`found`). A path is refused for one of two reasons: it leads nowhere
-/// in t, or the limiter doesn't cover reading all of t (`refused`).
+/// If the root of a message means a value t, a path that is followed leads to a pointer of the
+/// message which means the part of t at the end of the path. If the limiter covers reading all of
+/// t, it then still covers reading the part (`found`). A path is refused for one of two reasons: it
+/// leads nowhere in t, or the limiter doesn't cover reading all of t (`refused`).
 pub fn parts_found()
     ensures found { (S : Segments) (n c : ℕ) (t : Tree) (path : List ℕ) (m m' : Meter) (r : Reading)
         → Means S n 0 0 t c → CoversRoot S m.left → part S n path m ≡ (Ok r, m')
