@@ -1,9 +1,8 @@
 -- A message that means a value within the limits is sound.
-use Rattle.std.proofs.Common.{◌≡◌, false, true, Err, IsOk, refl, subst}
+use Rattle.std.proofs.Common.{Err}
 use Rattle.std.proofs.lemmas.Bool.{false≢true}
 use Rattle.capnp_format.specs.Segments.{Segments}
 use Rattle.capnp_arena.specs.declared.arena.reader_arena_impl.ReaderOptions.{ReaderOptions}
-use Rattle.capnp_messages.specs.Extents.{validate}
 use Rattle.capnp_messages.specs.Messages.{IsReadable}
 use Rattle.capnp_messages.proofs.ExtentLemmas.{readable_if}
 use Rattle.capnp_canonical.specs.Validation.{RefusesExtent}

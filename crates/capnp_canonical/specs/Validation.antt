@@ -1,5 +1,5 @@
 -- What C is told of a sound message: how deep its value is, and how much it holds.
-use Rattle.std.specs.Prelude.{◌≡◌, ℕ, Option, Some, None, Result, Err}
+use Rattle.std.specs.Prelude.{◌≡◌, ℕ, Option, Some, None, Err}
 use Rattle.capnp_words.specs.declared.error.ErrorKind.{ErrorKind}
 use Rattle.capnp_format.specs.Segments.{Segments}
 use Rattle.capnp_arena.specs.declared.arena.reader_arena_impl.ReaderOptions.{ReaderOptions}
