@@ -8,14 +8,14 @@ _capnp_canon() {
     esac
     for ((at = 1; at < COMP_CWORD; at++)); do
         case ${COMP_WORDS[at]} in
-        canon | check | size | digest) command=${command:-${COMP_WORDS[at]}} ;;
+        canon | check | size | digest | validate) command=${command:-${COMP_WORDS[at]}} ;;
         --) ended=yes ;;
         esac
     done
     local options='--packed --from-flat --nesting --words --help --version'
     case $command in
     canon) options="--flat --pack --hex $options" ;;
-    check) options="--quiet --flat $options" ;;
+    check | validate) options="--quiet --flat $options" ;;
     size) options="--flat $options" ;;
     digest) options="--check --quiet --flat $options" ;;
     *) options="--flat --pack --hex --quiet --check $options" ;;
@@ -27,7 +27,7 @@ _capnp_canon() {
         local IFS=$'\n'
         COMPREPLY=($(compgen -f -- "$word"))
     else
-        COMPREPLY=($(compgen -W 'canon check size digest' -- "$word"))
+        COMPREPLY=($(compgen -W 'canon check size digest validate' -- "$word"))
     fi
 }
 complete -F _capnp_canon capnp_canon

@@ -12,7 +12,8 @@ import subprocess
 import sys
 
 TOP = pathlib.Path(__file__).resolve().parents[1]
-COMMANDS = {'canon': {'--flat', '--pack', '--hex'}, 'check': {'--flat', '--quiet'}, 'size': {'--flat'}, 'digest': {'--flat', '--check', '--quiet'}}
+COMMANDS = {'canon': {'--flat', '--pack', '--hex'}, 'check': {'--flat', '--quiet'}, 'size': {'--flat'}, 'digest': {'--flat', '--check', '--quiet'},
+            'validate': {'--flat', '--quiet'}}
 LETTERS = {'-h', '-V', '-c'}
 
 

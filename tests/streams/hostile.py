@@ -14,25 +14,27 @@ from packing import packed, unpacked
 from program import answers
 from runs import without_reasons
 
-# The segments of each message, its canonical words, and its number of words without the root pointer and landing pads.
+# The segments of each message, its canonical words, its number of words without the root pointer and landing pads, and how
+# many structs and lists of it are inside one another.
 SIX = (
     # a struct of three data words that ends in a zero word
-    ('0000000003000000111111111111111100000000000000800000000000000000', '000000000200000011111111111111110000000000000080', 3),
-    ('0000000000000000', '0000000000000000', 0),
+    ('0000000003000000111111111111111100000000000000800000000000000000', '000000000200000011111111111111110000000000000080', 3, 1),
+    ('0000000000000000', '0000000000000000', 0, 0),
     # a landing pad of two words
-    ('0600000001000000 02000000020000000000000001000000 aabbccddeeff0102', '0000000001000000aabbccddeeff0102', 1),
+    ('0600000001000000 02000000020000000000000001000000 aabbccddeeff0102', '0000000001000000aabbccddeeff0102', 1, 1),
     # a text
-    ('010000003200000068656c6c6f000000', '010000003200000068656c6c6f000000', 1),
+    ('010000003200000068656c6c6f000000', '010000003200000068656c6c6f000000', 1, 1),
     # two structs of a word and a pointer each: 1 and a text, 2 and null
     (
         '01000000270000000800000001000100010101010101010109000000320000000200000000000000' '00000000000000006162636465000000',
         '01000000270000000800000001000100010101010101010109000000320000000200000000000000' '00000000000000006162636465000000',
         6,
+        2,
     ),
     # a struct of a word and nine bits
-    ('0000000001000100ffffffffffffffff0100000049000000ff01000000000000', '0000000001000100ffffffffffffffff0100000049000000ff01000000000000', 3),
+    ('0000000001000100ffffffffffffffff0100000049000000ff01000000000000', '0000000001000100ffffffffffffffff0100000049000000ff01000000000000', 3, 2),
 )
-FORMS = 'canon', 'canon,--flat', 'check', 'size', 'digest'
+FORMS = 'canon', 'canon,--flat', 'check', 'size', 'digest', 'validate'
 ALL = 'none,none'
 ANSWER = re.compile(r'(?:(done|stopped) (\d+) (\w+)|(unflushed)) -([0-9a-f]*)')
 Answer = collections.namedtuple('Answer', 'how number word written')
@@ -44,11 +46,13 @@ def message(row):
 
 def wanted(form, row):
     """The expected answer to one of the six messages."""
-    segments, words, size = row
+    segments, words, size, depth = row
     if form == 'check':
         return b'canonical\n' if segments == words else b'not canonical\n'
     if form == 'size':
         return f'words {size} caps 0\n'.encode()
+    if form == 'validate':
+        return f'sound: depth {depth}, words {size}, capabilities 0\n'.encode()
     if form == 'digest':
         return hashlib.sha256(bytes.fromhex(words)).hexdigest().encode() + b'\n'
     return bytes.fromhex(words if form == 'canon,--flat' else framed([bytes.fromhex(words)]))

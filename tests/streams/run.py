@@ -6,7 +6,9 @@
 - Each line of a .jsonl file is one case: a run with its arguments, its input, its files if it has any, and the expected
   output (these three in hex digits), standard error and exit status. The cases of peer.jsonl are real messages with the
   answers of C++ Cap'n Proto 0.9.2 (tests/peer/cases.py). Those of worked.jsonl were worked out by hand from the encoding
-  specification; the hashes of `digest` are Python's, over the words of other cases.
+  specification; the hashes of `digest` are Python's, over the words of other cases. Those of validate.jsonl are messages
+  of tests/vectors and tests/corpus, unchanged or altered. Their answers come from a model of the format outside of this
+  repository, which reads the whole value.
 - vectors.py makes streams from the vectors of tests/vectors, whose answers were made outside of this repository.
 - devices.py lets standard input and output fail, limits memory, and checks how much memory a run takes.
 - coprocess.py waits for each answer before it writes the next message.

@@ -30,9 +30,10 @@ pub enum Unanswered {
 /// Returns `false` if the command is `check` and one of the messages isn't canonical; otherwise
 /// `true`. Ends with an error at the first file that can't be opened or isn't answered to its end.
 ///
-/// If there are several files, each line of `check` and `size` begins with the file's name. Each line
-/// of `digest` ends with the file's name, `-` for standard input, and the number of the message. If
-/// the files are lists of such lines, verifies them, and returns whether all messages are as listed.
+/// If there are several files, each line of `check`, `size` and `validate` begins with the file's
+/// name. Each line of `digest` ends with the file's name, `-` for standard input, and the number of
+/// the message. If the files are lists of such lines, verifies them, and returns whether all
+/// messages are as listed.
 pub fn answer_all<W: BufferedOutput>(
     rt: &HostRuntime,
     task: Task,

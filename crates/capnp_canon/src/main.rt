@@ -1,6 +1,6 @@
 //! The program `capnp_canon`: reads a stream of framed messages from standard input or from files,
-//! and for each message writes its canonical copy, or whether it is in canonical form, or how large
-//! it is. `capnp_canon --help` explains the arguments.
+//! and for each message writes its canonical copy, its digest, or how large it is, or tests whether
+//! it is in canonical form, or sound. `capnp_canon --help` explains the arguments.
 #![tactic(auto)]
 
 mod inputs;

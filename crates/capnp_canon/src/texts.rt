@@ -23,6 +23,7 @@ pub const HELP: &str = "Usage: capnp_canon canon [--flat] [--pack] [--hex] [OPTI
   or:  capnp_canon check [--quiet] [OPTION]... [FILE]...
   or:  capnp_canon size [OPTION]... [FILE]...
   or:  capnp_canon digest [--check [--quiet]] [OPTION]... [FILE]...
+  or:  capnp_canon validate [--quiet] [OPTION]... [FILE]...
   or:  capnp_canon --help | --version
 Reads framed Cap'n Proto messages from files or standard input, one after the other, and answers
 each one.
@@ -40,10 +41,13 @@ digest       writes a line for each message, like sha256sum: `HASH  FILE:N`. HAS
   -c, --check  reads such lines from each file, and writes for each `FILE:N: OK`, or if message N of
              FILE doesn't have this hash any more, `FILE:N: FAILED`
   --quiet    with --check, writes only those that failed
+validate     tests whether each message is sound: whether its whole value can be read within the
+             limits. Writes a line for each: `sound: depth D, words N, capabilities M`
+  --quiet    writes nothing; only the exit status answers
 
   --packed      the input is packed
-  --from-flat   the input is the raw words of one message; check, size and digest also accept --flat
-                as a name for this option
+  --from-flat   the input is the raw words of one message; the commands other than canon also accept
+                --flat as a name for this option
   --nesting N   the nesting limit: at most N structs and lists inside one another (default 64)
   --words N     the traversal limit of each message, and the most words of 8 bytes that its frame
                 may have (default 8388608, which is 64 MiB); none for no limit
@@ -52,8 +56,8 @@ digest       writes a line for each message, like sha256sum: `HASH  FILE:N`. HAS
 
 Options may come anywhere, and --nesting=N works like --nesting N. If an option is repeated, the
 last one counts. After --, no argument is an option. Files are read in turn; with no FILE, or when
-FILE is -, standard input is read. With several files, each line of check and size starts with
-`FILE: `.
+FILE is -, standard input is read. With several files, each line of check, size and validate starts
+with `FILE: `.
 
 Before the program waits for more input, it writes all answers that it has. It ends at the first
 message that is refused; the answers before it are written. Standard error then says

@@ -1,5 +1,5 @@
 -- A message that has an answer is refused only for lack of memory.
-use Rattle.std.proofs.Common.{◌≡◌, inl, inr, ℕ, ◌+◌, ◌≤◌, Option, Some, Result, IsOk, subst, arith}
+use Rattle.std.proofs.Common.{◌≡◌, inl, inr, ℕ, ◌+◌, ◌≤◌, Option, Some, Result, Err, IsOk, subst, arith}
 use Rattle.std.proofs.lemmas.Bool.{false≢true}
 use Rattle.capnp_words.specs.Meter.{FitsIn}
 use Rattle.capnp_words.specs.declared.error.ErrorKind.{ErrorKind}
@@ -15,11 +15,13 @@ use Rattle.capnp_messages.specs.Roots.{CoversRoot, RefusesRoot}
 use Rattle.capnp_messages.specs.Roots.RefusesRoot.{no_root, no_budget}
 use Rattle.capnp_messages.specs.Commands.{HasAnswerWithin, RefusesAnswer}
 use Rattle.capnp_messages.specs.Copies.{LacksMemoryOr}
+use Rattle.capnp_messages.specs.Extents.{validate}
 use Rattle.capnp_messages.specs.Messages.{HasCanonicalCopy, HasSizeWithin, IsReadable, IsValueOf, RefusesCanon}
 use Rattle.capnp_messages.specs.Messages.{RefusesCheck, RefusesSize}
 use Rattle.capnp_messages.specs.declared.messages.command.Command.{Command}
-use Rattle.capnp_messages.specs.declared.messages.command.Command.TheVariants.{Canon, Check, Size, Digest}
+use Rattle.capnp_messages.specs.declared.messages.command.Command.TheVariants.{Canon, Check, Size, Digest, Validate}
 use Rattle.capnp_messages.proofs.CanonLemmas.{covers_rest}
+use Rattle.capnp_messages.proofs.ExtentLemmas.{readable_if}
 use Rattle.capnp_messages.proofs.TestLemmas.{never_stops}
 
 -- a root pointer that the limit covers isn't refused
@@ -56,6 +58,10 @@ pub size_refused : (S : Segments) (limits : ReaderOptions) {k : ErrorKind} →
     HasSizeWithin S limits → RefusesSize S limits k → ⊥
 size_refused S limits has refused = false≢true (subst (λ (r : Result MessageSize ErrorKind). IsOk r) refused has)
 
+pub validate_refused : (S : Segments) (limits : ReaderOptions) {k : ErrorKind} →
+    IsReadable S limits → validate S limits ≡ Err k → ⊥
+validate_refused S limits {k} read refused = false≢true ((readable_if S limits (Err k) refused).1 read)
+
 -- if there is an answer, the only refusal is AllocationFailed
 pub answer_refused : (command : Command) (limits : ReaderOptions) (S : Segments) {k : ErrorKind} →
     HasAnswerWithin command limits S → RefusesAnswer command limits S k → k ≡ AllocationFailed
@@ -64,6 +70,7 @@ answer_refused (Canon form) limits S (t, value, fits) (inr refused) =
     absurd (canon_refused S limits t value fits refused)
 answer_refused Check limits S can refused = absurd (check_refused S limits (can refused.0) refused)
 answer_refused Size limits S has refused = absurd (size_refused S limits has refused)
+answer_refused Validate limits S read refused = absurd (validate_refused S limits read refused)
 answer_refused Digest limits S (t, value, fits) (inl memory) = memory
 answer_refused Digest limits S (t, value, fits) (inr refused) =
     absurd (canon_refused S limits t value fits refused)

@@ -1,15 +1,14 @@
 -- The canonical copy of a message as a function: what it returns, and how it is refused.
-use Rattle.std.proofs.Common.{◌≡◌, ◌⊎◌, ◌↔◌, inl, inr, ℕ, zero, suc, ◌+◌, ◌-◌, ◌<◌, ◌≤◌, List, length, true, false, nat_le, Option, Some, None, Result, Ok, Err, refl, sym, ap, ◌∙◌, subst, arith, le-leb}
+use Rattle.std.proofs.Common.{◌≡◌, ◌⊎◌, ◌↔◌, inl, inr, ℕ, ◌+◌, ◌-◌, ◌<◌, ◌≤◌, List, length, true, false, nat_le, Option, Some, Result, Ok, Err, refl, sym, ap, ◌∙◌, subst, arith, le-leb}
 use Rattle.std.proofs.lemmas.Bool.{cases_lt}
 use Rattle.capnp_words.specs.declared.error.ErrorKind.{ErrorKind}
-use Rattle.capnp_words.specs.declared.error.ErrorKind.TheVariants.{InvalidSegmentId, MessageTooLarge, ReadLimitExceeded}
+use Rattle.capnp_words.specs.declared.error.ErrorKind.TheVariants.{MessageTooLarge}
 use Rattle.capnp_words.specs.Meter.{FitsIn, Meter, less, unused}
 use Rattle.capnp_format.specs.Canonical.{encoding, trim, word_count}
-use Rattle.capnp_format.specs.Segments.{IsPlace, Segments, segment}
+use Rattle.capnp_format.specs.Segments.{Segments}
 use Rattle.capnp_format.specs.Tree.{Tree}
 use Rattle.capnp_format.proofs.Levels.{one_value}
 use Rattle.capnp_arena_traits.specs.Allocations.{max_segment_words}
-use Rattle.capnp_arena_traits.specs.Checks.{misplaced}
 use Rattle.capnp_arena.specs.declared.arena.reader_arena_impl.ReaderOptions.{ReaderOptions}
 use Rattle.capnp_objects.specs.Metered.{onward, outcome}
 use Rattle.capnp_objects.specs.Outcomes.{MeansThere, Reads}
@@ -26,10 +25,9 @@ use Rattle.capnp_messages.specs.Canonicalize.{OutgrowsSegment, canonical_words, 
 use Rattle.capnp_messages.specs.Copies.{OutgrowsRoom}
 use Rattle.capnp_messages.specs.Messages.{IsValueOf, RefusesCanon, left_of, root_within}
 use Rattle.capnp_messages.specs.Roots.{CoversRoot, RefusesRoot}
-use Rattle.capnp_messages.specs.Roots.RefusesRoot.{no_root, no_budget}
 use Rattle.capnp_messages.proofs.AnsweredLemmas.{canon_refused}
 use Rattle.capnp_messages.proofs.MessageLemmas.{AtRoot, value_of}
-use Rattle.capnp_messages.proofs.SizeLemmas.{root_is, root_stops}
+use Rattle.capnp_messages.proofs.SizeLemmas.{root_is, root_or_not, root_stops}
 
 -- the canonical words of what a place means are one for the pointer and those of its objects
 words_long : (r : Reading) (t : Tree) (c : ℕ) → MeansThere r t c → length (encoding (trim t)) ≡ 1 + word_count (trim t)
@@ -40,18 +38,6 @@ fits_in room ws fits = (let short : nat_le (length ws) room ≡ true = le-leb _ 
 
 exceeds : (room : ℕ) (ws : List ℕ) → room < length ws → words_in_room room ws ≡ Err (MessageTooLarge room)
 exceeds room ws more = (let long : nat_le (length ws) room ≡ false = grind (arith, more) in rw long refl)
-
--- the root of S is read, or refused
-covered_or_not : (S : Segments) (budget : Option ℕ) → IsPlace S 0 0 → CoversRoot S budget ⊎ ((k : ErrorKind) × RefusesRoot S budget k)
-covered_or_not S None there = inl (record { root = there; covered = tt })
-covered_or_not S (Some zero) there = inr (ReadLimitExceeded, no_budget refl there refl)
-covered_or_not S (Some (suc n)) there = inl (record { root = there; covered = omega arith })
-
-pub root_or_not : (S : Segments) (budget : Option ℕ) → CoversRoot S budget ⊎ ((k : ErrorKind) × RefusesRoot S budget k)
-root_or_not S budget = elim (cases_lt 0 (length (segment S 0))) [
-  | inl there ↦ covered_or_not S budget there
-  | inr none ↦ inr (misplaced S 0 (InvalidSegmentId 0), no_root refl (λ there. omega (arith, there, none)))
-]
 
 -- if it is refused, so is the copy
 without_root : {S : Segments} (limits : ReaderOptions) {k : ErrorKind} → RefusesRoot S limits.traversal_limit_in_words k → canonicalize S limits ≡ Err k

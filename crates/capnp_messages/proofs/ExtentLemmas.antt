@@ -24,8 +24,7 @@ use Rattle.capnp_messages.specs.Messages.{IsReadable, left_of, root_within}
 use Rattle.capnp_messages.specs.Roots.{CoversRoot}
 use Rattle.capnp_messages.specs.declared.messages.validation.MessageExtent.{MessageExtent}
 use Rattle.capnp_messages.proofs.CanonLemmas.{covers_rest, covers_root}
-use Rattle.capnp_messages.proofs.CanonicalizeLemmas.{root_or_not}
-use Rattle.capnp_messages.proofs.SizeLemmas.{root_is, root_stops}
+use Rattle.capnp_messages.proofs.SizeLemmas.{root_is, root_or_not, root_stops}
 
 -- What reading the value at the root makes of a message.
 at_value : (S : Segments) (limits : ReaderOptions) (o : Result Tree ErrorKind × Meter) → CoversRoot S limits.traversal_limit_in_words → value plain (root_within S limits) (unused (left_of limits)) ≡ o →

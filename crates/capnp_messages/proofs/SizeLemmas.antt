@@ -1,8 +1,11 @@
 -- The size of a message is that of what its root leads to.
-use Rattle.std.proofs.Common.{◌≡◌, ℕ, true, false, nat_lt, refl, Option, None, Some, Result, Ok, Err, IfOk, length, subst, sym, ap, ◌∙◌, arith, le-leb, lt-ltb, ◌↔◌, ◌≤◌, IsOk, IfErr}
+use Rattle.std.proofs.Common.{◌≡◌, ◌⊎◌, inl, inr, ℕ, zero, suc, true, false, nat_lt, refl, Option, None, Some, Result, Ok, Err, IfOk, length, subst, sym, ap, ◌∙◌, arith, le-leb, lt-ltb, ◌↔◌, ◌≤◌, IsOk, IfErr}
+use Rattle.std.proofs.lemmas.Bool.{cases_lt}
 use Rattle.capnp_words.specs.declared.error.ErrorKind.{ErrorKind}
+use Rattle.capnp_words.specs.declared.error.ErrorKind.TheVariants.{InvalidSegmentId, ReadLimitExceeded}
 use Rattle.capnp_words.specs.Meter.{FitsIn, Meter, less, unused}
-use Rattle.capnp_format.specs.Segments.{Segments, segment}
+use Rattle.capnp_format.specs.Segments.{IsPlace, Segments, segment}
+use Rattle.capnp_arena_traits.specs.Checks.{misplaced}
 use Rattle.capnp_arena.specs.declared.arena.reader_arena_impl.ReaderOptions.{ReaderOptions}
 use Rattle.capnp_objects.specs.Metered.{fits, onward}
 use Rattle.capnp_objects.specs.Reading.{Reading}
@@ -19,7 +22,19 @@ pub fits_one : (left : Option ℕ) → FitsIn left 1 → fits left 1 ≡ true
 fits_one None h = refl
 fits_one (Some x) h = le-leb 1 x h
 
--- The root is read, or isn't.
+-- The root is read, or refused.
+covered_or_not : (S : Segments) (budget : Option ℕ) → IsPlace S 0 0 → CoversRoot S budget ⊎ ((k : ErrorKind) × RefusesRoot S budget k)
+covered_or_not S None there = inl (record { root = there; covered = tt })
+covered_or_not S (Some zero) there = inr (ReadLimitExceeded, no_budget refl there refl)
+covered_or_not S (Some (suc n)) there = inl (record { root = there; covered = omega arith })
+
+pub root_or_not : (S : Segments) (budget : Option ℕ) → CoversRoot S budget ⊎ ((k : ErrorKind) × RefusesRoot S budget k)
+root_or_not S budget = elim (cases_lt 0 (length (segment S 0))) [
+  | inl there ↦ covered_or_not S budget there
+  | inr none ↦ inr (misplaced S 0 (InvalidSegmentId 0), no_root refl (λ there. omega (arith, there, none)))
+]
+
+-- What reading the root returns.
 pub root_is : (S : Segments) (n : ℕ) (left : Option ℕ) → CoversRoot S left → read_message_root S n (unused left) ≡ (Ok (message_root S n), unused (less left 1))
 root_is S n left covers =
     let there : nat_lt 0 (length (segment S 0)) ≡ true = lt-ltb _ _ covers.root in

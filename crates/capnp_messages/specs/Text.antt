@@ -5,6 +5,7 @@ use mir.Val.{SFits as FitsSigned}
 use mir.Syntax.{w32}
 use Rattle.std.specs.Fmt.{decimal}
 use Rattle.std.specs.Str.Parse.{IsNumeral, digits_value, starts_with_minus}
+use Rattle.capnp_pointers.specs.declared.pointers.validate.Extent.{Extent}
 
 -- The text of the nesting limit n: an optional '-' and one or more decimal digits, with a value of
 -- i32.
@@ -29,3 +30,9 @@ check_line false = codes "not canonical" ++ 10 ∷ []
 -- The line that answers with a size, in decimal digits.
 abbrev pub size_line : ℕ → ℕ → List ℕ
 size_line words caps = codes "words " ++ decimal words ++ codes " caps " ++ decimal caps ++ 10 ∷ []
+
+-- The line that answers that a message is sound, with the extent of its value in decimal digits.
+abbrev pub extent_line : Extent → List ℕ
+extent_line x =
+    codes "sound: depth " ++ decimal x.depth ++ codes ", words " ++ decimal x.words
+    ++ codes ", capabilities " ++ decimal x.capabilities ++ 10 ∷ []

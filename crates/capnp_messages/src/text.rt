@@ -1,11 +1,11 @@
-//! Parses limits from arguments, and writes numbers and sizes as text.
+//! Parses limits from arguments, and writes numbers, sizes and extents as text.
 ghost use Rattle.std.specs.Prelude.{◌≡◌, false, Option, IfSome, IsNone, ℤ, ℕ};
 ghost use Rattle.std.specs.Fmt.{decimal};
 ghost use Rattle.capnp_framing.specs.Writing.{Writes};
-ghost use Rattle.capnp_messages.specs.Text.{IsBudget, IsNesting, size_line};
+ghost use Rattle.capnp_messages.specs.Text.{IsBudget, IsNesting, extent_line, size_line};
 
 use capnp_framing::devices::{DeviceFault, Output, write_all};
-use capnp_pointers::pointers::MessageSize;
+use capnp_pointers::pointers::{Extent, MessageSize};
 
 /// Parses a nesting limit: an `i32` in decimal digits with an optional `-`. Returns `None` for any
 /// other text, also for one with a `+`.
@@ -59,5 +59,20 @@ pub fn write_size<W: Output>(output: &mut W, size: MessageSize) -> Result<(), De
     write_number(output, size.word_count)?;
     write_all(output, b" caps ")?;
     write_number(output, u64::from(size.cap_count))?;
+    write_all(output, b"\n")
+}
+
+/// Writes a line that says that a message is sound, with the extent of its value: `sound: depth N,
+/// words N, capabilities N`.
+pub fn write_extent<W: Output>(output: &mut W, extent: Extent) -> Result<(), DeviceFault>
+    requires { W.has_failed output.old ≡ false }
+    ensures { Writes W.Output result output.old output.new (extent_line extent) }
+{
+    write_all(output, b"sound: depth ")?;
+    write_number(output, u64::from(extent.depth))?;
+    write_all(output, b", words ")?;
+    write_number(output, extent.words)?;
+    write_all(output, b", capabilities ")?;
+    write_number(output, extent.capabilities)?;
     write_all(output, b"\n")
 }

@@ -8,7 +8,7 @@ use Rattle.std.specs.Option.{option_map, option_or}
 use Rattle.std.specs.Str.{all_ascii_digits, bytes_eq}
 use Rattle.std.specs.Str.Parse.{digits_value, starts_with_minus}
 use Rattle.capnp_messages.specs.declared.messages.command.Command.{Command}
-use Rattle.capnp_messages.specs.declared.messages.command.Command.TheVariants.{Canon, Check, Size, Digest}
+use Rattle.capnp_messages.specs.declared.messages.command.Command.TheVariants.{Canon, Check, Size, Digest, Validate}
 use Rattle.capnp_messages.specs.declared.messages.command.Form.TheVariants.{Framed, Flat}
 use Rattle.capnp_streams.specs.declared.streams.arguments.ArgumentFault.{ArgumentFault}
 use Rattle.capnp_streams.specs.declared.streams.arguments.ArgumentFault.TheVariants.{MissingCommand, UnknownCommand, UnknownOption}
@@ -24,7 +24,7 @@ use Rattle.capnp_streams.specs.declared.streams.arguments.Setting.TheVariants.{N
 use Rattle.capnp_streams.specs.declared.streams.arguments.ArgumentStep.{ArgumentStep}
 use Rattle.capnp_streams.specs.declared.streams.arguments.ArgumentStep.TheVariants.{Goes, File, Stops}
 use Rattle.capnp_streams.specs.declared.streams.arguments.Verb.{Verb}
-use Rattle.capnp_streams.specs.declared.streams.arguments.Verb.TheVariants.{Canon as ToCanon, Check as ToCheck, Size as ToSize, Digest as ToDigest}
+use Rattle.capnp_streams.specs.declared.streams.arguments.Verb.TheVariants.{Canon as ToCanon, Check as ToCheck, Size as ToSize, Digest as ToDigest, Validate as ToValidate}
 use Rattle.capnp_streams.specs.declared.streams.task.Request.{Request}
 use Rattle.capnp_streams.specs.declared.streams.task.Request.TheVariants.{Help as AskHelp, Version as AskVersion, Run}
 use Rattle.capnp_streams.specs.declared.streams.task.Task.{Task}
@@ -67,6 +67,7 @@ verb_text ToCanon = codes "canon"
 verb_text ToCheck = codes "check"
 verb_text ToSize = codes "size"
 verb_text ToDigest = codes "digest"
+verb_text ToValidate = codes "validate"
 
 -- The command that has this text.
 abbrev pub verb_named : List ℕ → Option Verb
@@ -74,7 +75,8 @@ verb_named text =
     if bytes_eq text (verb_text ToCanon) then Some ToCanon else
     if bytes_eq text (verb_text ToCheck) then Some ToCheck else
     if bytes_eq text (verb_text ToSize) then Some ToSize else
-    if bytes_eq text (verb_text ToDigest) then Some ToDigest else None
+    if bytes_eq text (verb_text ToDigest) then Some ToDigest else
+    if bytes_eq text (verb_text ToValidate) then Some ToValidate else None
 
 -- The text of an option with a value.
 abbrev pub setting_text : Setting → List ℕ
@@ -130,6 +132,7 @@ verb_reads_flat (Some ToCanon) flat from_flat = from_flat
 verb_reads_flat (Some ToCheck) flat from_flat = flat || from_flat
 verb_reads_flat (Some ToSize) flat from_flat = flat || from_flat
 verb_reads_flat (Some ToDigest) flat from_flat = flat || from_flat
+verb_reads_flat (Some ToValidate) flat from_flat = flat || from_flat
 
 abbrev pub line_reads_flat : Line → Bool
 line_reads_flat line = verb_reads_flat line.verb line.flat line.from_flat
@@ -153,6 +156,10 @@ verb_exclusion (Some ToSize) line =
 verb_exclusion (Some ToDigest) line =
     if line.pack then Some (NotOfCommand ToDigest Pack) else
     if line.hex then Some (NotOfCommand ToDigest Hex) else None
+verb_exclusion (Some ToValidate) line =
+    if line.pack then Some (NotOfCommand ToValidate Pack) else
+    if line.hex then Some (NotOfCommand ToValidate Hex) else
+    if line.lists then Some (NotOfCommand ToValidate CheckName) else None
 
 -- Two options of the line that exclude each other: hex digits are written neither as raw words nor
 -- packed, and raw words aren't unpacked.
@@ -263,6 +270,7 @@ command_of ToCanon flat = Canon (if flat then Flat else Framed)
 command_of ToCheck flat = Check
 command_of ToSize flat = Size
 command_of ToDigest flat = Digest
+command_of ToValidate flat = Validate
 
 -- The task that a line with this command requests.
 abbrev pub line_task : Verb → Line → Task
@@ -283,6 +291,7 @@ lacks_check ToDigest line = line.quiet && not line.lists
 lacks_check ToCanon line = false
 lacks_check ToCheck line = false
 lacks_check ToSize line = false
+lacks_check ToValidate line = false
 
 abbrev pub end_by : Option Setting → Option Verb → Line → Result Request ArgumentFault
 end_by (Some setting) verb line = Err (MissingValue setting)

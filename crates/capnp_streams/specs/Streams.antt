@@ -26,17 +26,19 @@ use Rattle.capnp_framing.specs.declared.framing.frame_error.FrameError.TheVarian
 use Rattle.capnp_making.specs.Memory.{refusals_for}
 use Rattle.capnp_pointers.specs.Faults.{fault_reason_text}
 use Rattle.capnp_pointers.specs.declared.pointers.canonical_fault.CanonicalFault.{CanonicalFault}
-use Rattle.capnp_messages.specs.Text.{check_line, size_line}
+use Rattle.capnp_messages.specs.Text.{check_line, extent_line, size_line}
 use Rattle.capnp_messages.specs.CanonicalMessages.{IsCanonicalMessage}
 use Rattle.capnp_messages.specs.Digests.{IsDigestOf}
+use Rattle.capnp_messages.specs.Extents.{HasExtent}
 use Rattle.capnp_messages.specs.Messages.{HasSizeOf, IsCanonicalWithin, IsFaultOf, IsValueOf}
 use Rattle.capnp_streams.specs.declared.streams.fault.Fault.{Fault}
 use Rattle.capnp_streams.specs.declared.streams.fault.Fault.TheVariants.{Frame, Layout, TooManyMessages}
 use Rattle.capnp_streams.specs.declared.streams.runs.Stop.{Stop}
 use Rattle.capnp_streams.specs.declared.streams.runs.Summary.{Summary}
 use Rattle.capnp_messages.specs.declared.messages.command.Command.{Command}
-use Rattle.capnp_messages.specs.declared.messages.command.Command.TheVariants.{Canon, Check, Size, Digest}
+use Rattle.capnp_messages.specs.declared.messages.command.Command.TheVariants.{Canon, Check, Size, Digest, Validate}
 use Rattle.capnp_messages.specs.declared.messages.command.Form.{Form}
+use Rattle.capnp_messages.specs.declared.messages.validation.MessageExtent.{MessageExtent}
 use Rattle.capnp_streams.specs.declared.streams.task.Task.{Task}
 use Rattle.capnp_messages.specs.Commands.{HasAnswerWithin, RefusesAnswer, form_bytes}
 
@@ -91,6 +93,9 @@ AnswerIs Size task S holds bytes =
 AnswerIs Digest task S holds bytes =
     (holds ≡ true)
     × ((digest : List ℕ) × IsDigestOf S task.limits digest × (bytes ≡ hex_line digest))
+AnswerIs Validate task S holds bytes =
+    (holds ≡ true)
+    × ((x : MessageExtent) × HasExtent S task.limits x × (bytes ≡ extent_line x.value))
 
 -- The fault says why a command has no answer to S.
 abbrev pub RefusesBy : Command → ReaderOptions → Segments → Fault → Type 0
@@ -106,6 +111,7 @@ refusals_behind (Canon form) (Layout k) n = refusals_for k n
 refusals_behind Check (Layout k) n = n
 refusals_behind Size (Layout k) n = n
 refusals_behind Digest (Layout k) n = refusals_for k n
+refusals_behind Validate (Layout k) n = n
 
 -- The allocator is there after a command, and has counted one more refusal if there was no memory,
 -- and otherwise none.

@@ -20,4 +20,6 @@ pub enum Command {
     Size,
     /// Write the SHA-256 of the message's canonical words.
     Digest,
+    /// Find out whether the message is sound: whether its whole value can be read.
+    Validate,
 }

@@ -12,9 +12,9 @@ use capnp_framing::devices::{DeviceFault, Output};
 use capnp_framing::framing::FrameError;
 use capnp_messages::messages::{
     Command, Form, canonical_bytes, canonical_fault_of, canonical_from, canonical_segment,
-    digest_with, size_of,
+    digest_with, size_of, validate_of,
 };
-use capnp_messages::text::write_size;
+use capnp_messages::text::{write_extent, write_size};
 use std::alloc::Global;
 
 /// The fault if writing to the output fails.
@@ -195,5 +195,9 @@ pub(super) fn answer<A: Allocator, S: ReaderSegments + Drop, W: Output>(
             Err(kind) => Err(Fault::Layout(kind)),
         },
         Command::Digest => digest(memory, task, segments, output),
+        Command::Validate => match validate_of(segments, task.limits) {
+            Ok(extent) => if_written(write_extent(output, extent.value), true),
+            Err(kind) => Err(Fault::Layout(kind)),
+        },
     }
 }

@@ -15,6 +15,7 @@ pub enum Verb {
     Check,
     Size,
     Digest,
+    Validate,
 }
 
 impl Verb {
@@ -27,6 +28,7 @@ impl Verb {
             Verb::Check => "check",
             Verb::Size => "size",
             Verb::Digest => "digest",
+            Verb::Validate => "validate",
         }
     }
 }
@@ -194,7 +196,9 @@ impl Line {
         ensures { result ≡ line_reads_flat self.now }
     {
         match self.verb {
-            Some(Verb::Check | Verb::Size | Verb::Digest) => self.flat || self.from_flat,
+            Some(Verb::Check | Verb::Size | Verb::Digest | Verb::Validate) => {
+                self.flat || self.from_flat
+            }
             Some(Verb::Canon) | None => self.from_flat,
         }
     }
@@ -221,6 +225,10 @@ impl Line {
             Some(Verb::Digest) if self.pack => (Verb::Digest, OptionName::Pack),
             Some(Verb::Digest) if self.hex => (Verb::Digest, OptionName::Hex),
             Some(Verb::Digest) => return None,
+            Some(Verb::Validate) if self.pack => (Verb::Validate, OptionName::Pack),
+            Some(Verb::Validate) if self.hex => (Verb::Validate, OptionName::Hex),
+            Some(Verb::Validate) if self.lists => (Verb::Validate, OptionName::Check),
+            Some(Verb::Validate) => return None,
         };
         Some(ArgumentFault::NotOfCommand(verb, option))
     }
@@ -470,7 +478,7 @@ impl Line {
     {
         match verb {
             Verb::Digest => self.quiet && !self.lists,
-            Verb::Canon | Verb::Check | Verb::Size => false,
+            Verb::Canon | Verb::Check | Verb::Size | Verb::Validate => false,
         }
     }
 
@@ -483,6 +491,7 @@ impl Line {
             Verb::Check => Command::Check,
             Verb::Size => Command::Size,
             Verb::Digest => Command::Digest,
+            Verb::Validate => Command::Validate,
         };
         Task {
             command,
@@ -531,6 +540,8 @@ fn verb_of(text: &str) -> Option<Verb>
         Some(Verb::Size)
     } else if text == "digest" {
         Some(Verb::Digest)
+    } else if text == "validate" {
+        Some(Verb::Validate)
     } else {
         None
     }

@@ -22,7 +22,8 @@ pub struct Task {
     /// frame.
     pub hex: bool,
     /// Whether nothing is written to the output, so that only the program's exit status says
-    /// whether each message is canonical. If the files are lists, whether only what fails is written.
+    /// whether each message is canonical, or sound. If the files are lists, whether only what fails
+    /// is written.
     pub quiet: bool,
     /// Whether the files are lists that `digest` has written, which are verified.
     pub lists: bool,
@@ -49,16 +50,16 @@ pub struct WrongArgument {
     pub fault: ArgumentFault,
 }
 
-/// Parses the arguments after the program's name: `canon`, `check`, `size` or `digest`, options, and
-/// files.
+/// Parses the arguments after the program's name: `canon`, `check`, `size`, `digest` or `validate`,
+/// options, and files.
 ///
-/// The options are `--flat`, `--pack` and `--hex` (of `canon`), `--flat` and `--quiet` (of
-/// `check`), `--flat` (of `size`), `--flat`, `--check` or `-c`, and with it `--quiet` (of
-/// `digest`), and `--packed`, `--from-flat`, `--nesting N` and `--words N` (of all four). They may
+/// The options are `--flat`, `--pack` and `--hex` (of `canon`), `--flat` and `--quiet` (of `check`
+/// and `validate`), `--flat` (of `size`), `--flat`, `--check` or `-c`, and with it `--quiet` (of
+/// `digest`), and `--packed`, `--from-flat`, `--nesting N` and `--words N` (of all five). They may
 /// come anywhere. If one is repeated, the last counts. `--nesting=N` and `--words=N` are the same
 /// as with a space. `--hex` can't be used with `--flat` or `--pack`: hex digits are written neither
-/// raw nor packed. `--packed` can't be used with `--from-flat`, or with the `--flat` of `check`,
-/// `size` and `digest`: raw words are never read packed.
+/// raw nor packed. `--packed` can't be used with `--from-flat`, or with a `--flat` that isn't of
+/// `canon`: raw words are never read packed.
 ///
 /// An argument looks like an option if it is `-` followed by more; `-` alone is standard input. Of
 /// the arguments that neither look like an option nor are the value of one, the first is the

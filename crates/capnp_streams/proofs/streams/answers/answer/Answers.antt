@@ -1,7 +1,7 @@
 -- What a command without memory has written is its answer, and no refusal is counted.
 use Rattle.std.proofs.Common.{◌≡◌, false, refl, true}
-use Rattle.capnp_messages.specs.Text.{check_line, size_line}
-use Rattle.capnp_messages.specs.declared.messages.command.Command.TheVariants.{Check, Size}
+use Rattle.capnp_messages.specs.Text.{check_line, extent_line, size_line}
+use Rattle.capnp_messages.specs.declared.messages.command.Command.TheVariants.{Check, Size, Validate}
 use Rattle.capnp_streams.specs.Streams.{fault_line}
 use Rattle.capnp_streams.proofs.AnsweredLemmas.{answer_refuses, answer_written}
 use Rattle.capnp_streams.proofs.CountingLemmas.{memory_counted, written_uncounted}
@@ -44,3 +44,17 @@ returns-in-Err-size_of-clause-answer g c =
 
 pub returns-in-Err-size_of-clause-memory : goal.returns-in-Err-size_of-clause-memory
 returns-in-Err-size_of-clause-memory g c = rw c.in-Size.is (memory_counted _ _ _ Size _ c.requires.there refl (λ n. refl))
+
+pub returns-in-Ok-validate_of-clause-answer : goal.returns-in-Ok-validate_of-clause-answer
+returns-in-Ok-validate_of-clause-answer g c =
+    rw c.in-Validate.is (answer_written _ _ _ _ _ _ (extent_line c.in-Ok-validate_of.extent.value) c.write_extent.ensures c.if_written-in-Ok-validate_of.ensures.written c.if_written-in-Ok-validate_of.ensures.failed (refl, (c.in-Ok-validate_of.extent, c.in-Ok-validate_of.ensures.extent, refl)))
+
+pub returns-in-Ok-validate_of-clause-memory : goal.returns-in-Ok-validate_of-clause-memory
+returns-in-Ok-validate_of-clause-memory g c = rw c.in-Validate.is (memory_counted _ _ _ Validate _ c.requires.there refl (written_uncounted Validate _ _ _ c.if_written-in-Ok-validate_of.ensures.written c.if_written-in-Ok-validate_of.ensures.failed))
+
+pub returns-in-Err-validate_of-clause-answer : goal.returns-in-Err-validate_of-clause-answer
+returns-in-Err-validate_of-clause-answer g c =
+    rw c.in-Validate.is (answer_refuses _ _ _ _ c.in-Err-validate_of.ensures.computed)
+
+pub returns-in-Err-validate_of-clause-memory : goal.returns-in-Err-validate_of-clause-memory
+returns-in-Err-validate_of-clause-memory g c = rw c.in-Validate.is (memory_counted _ _ _ Validate _ c.requires.there refl (λ n. refl))
