@@ -73,7 +73,9 @@ static void test_message(struct bytes frame, const char *answer, const struct ca
     expect(is_same(&found, wanted), "the extent");
     test_segments(frame, answer, wanted);
     if (strcmp(answer, "Done") == 0) test_limits(frame, wanted);
-    for (size_t size = 0; size < frame.size; size++) {
+    size_t whole = 0;
+    expect(capnp_canonical_frame_size(frame.at, frame.size, CAPNP_CANONICAL_WORDS, &whole) == CAPNP_CANONICAL_DONE, "the size of the frame");
+    for (size_t size = 0; size < whole; size++) {
         struct bytes cut = block(size);
         if (size) memcpy(cut.at, frame.at, size);
         found = unwritten();
