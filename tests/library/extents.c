@@ -68,9 +68,13 @@ static void test_limits(struct bytes frame, const struct capnp_canonical_extent 
 }
 
 static void test_message(struct bytes frame, const char *answer, const struct capnp_canonical_extent *wanted) {
-    struct capnp_canonical_extent found = unwritten(), zero = {0, 0, 0, 0};
-    expect(is_named(capnp_canonical_validate(frame.at, frame.size, CAPNP_CANONICAL_NESTING, CAPNP_CANONICAL_WORDS, &found), answer), "the answer");
+    struct capnp_canonical_extent found, zero = {0, 0, 0, 0};
+    struct bytes to = block(sizeof found + 8), behind = {to.at + sizeof found, 8};
+    expect(is_named(capnp_canonical_validate(frame.at, frame.size, CAPNP_CANONICAL_NESTING, CAPNP_CANONICAL_WORDS, (struct capnp_canonical_extent *)(void *)to.at), answer), "the answer");
+    memcpy(&found, to.at, sizeof found);
     expect(is_same(&found, wanted), "the extent");
+    expect(is_filled(behind), "the bytes behind the extent");
+    free(to.at);
     test_segments(frame, answer, wanted);
     if (strcmp(answer, "Done") == 0) test_limits(frame, wanted);
     size_t whole = 0;
@@ -97,11 +101,7 @@ int main(int count, char **words) {
         wanted.words = strtoull(strtok(NULL, " "), NULL, 10);
         wanted.capabilities = strtoull(strtok(NULL, " "), NULL, 10);
         wanted.cost = strtoull(strtok(NULL, " \n"), NULL, 10);
-        struct bytes frame = block(strlen(digits) / 2);
-        for (size_t at = 0; at < frame.size; at++) {
-            char two[3] = {digits[2 * at], digits[2 * at + 1], 0};
-            frame.at[at] = (uint8_t)strtoul(two, NULL, 16);
-        }
+        struct bytes frame = from_hex(digits);
         place = name;
         test_message(frame, answer, &wanted);
         free(frame.at);
