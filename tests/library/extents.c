@@ -80,8 +80,7 @@ static void test_message(struct bytes frame, const char *answer, const struct ca
     size_t whole = 0;
     expect(capnp_canonical_frame_size(frame.at, frame.size, CAPNP_CANONICAL_WORDS, &whole) == CAPNP_CANONICAL_DONE, "the size of the frame");
     for (size_t size = 0; size < whole; size++) {
-        struct bytes cut = block(size);
-        if (size) memcpy(cut.at, frame.at, size);
+        struct bytes cut = copy_of(frame.at, size);
         found = unwritten();
         uint32_t refused = capnp_canonical_validate(cut.at, size, CAPNP_CANONICAL_NESTING, CAPNP_CANONICAL_WORDS, &found);
         expect(refused == (size ? CAPNP_CANONICAL_TRUNCATED : CAPNP_CANONICAL_NO_MESSAGE) && is_same(&found, &zero), "a frame cut short");
