@@ -7,13 +7,13 @@ use Rattle.capnp_framing.specs.Reading.{total}
 use Rattle.capnp_arena.specs.declared.arena.reader_arena_impl.ReaderOptions.{ReaderOptions}
 use Rattle.capnp_messages.specs.Tries.{room_of_try}
 use Rattle.capnp_messages.specs.Messages.{IsReadable, RefusesCheck}
-use Rattle.capnp_messages.proofs.AnsweredLemmas.{check_refused}
+use Rattle.capnp_messages.proofs.AnsweredLemmas.{check_alone, check_refused}
 
 -- a test is answered if its message can be read, or doesn't have one segment
 pub is_tested : (S : Segments) (limits : ReaderOptions) (r : Result Bool ErrorKind) → (length S ≡ 1 → IsReadable S limits) →
     IfErr r (RefusesCheck S limits) → IsOk r
 is_tested S limits (Ok holds) can refused = refl
-is_tested S limits (Err k) can refused = absurd (check_refused S limits (can refused.0) refused)
+is_tested S limits (Err k) can refused = absurd (check_refused S limits (can (check_alone S limits refused)) refused)
 
 total_is : (S : Segments) → total S ≡ sum (map length S)
 total_is [] = refl

@@ -18,14 +18,16 @@ ghost use Rattle.capnp_framing.specs.declared.framing.frame_error.FrameError.The
 ghost use Rattle.capnp_making.specs.Made.{zero_struct};
 ghost use Rattle.capnp_making.specs.Makes.{call_at};
 ghost use Rattle.capnp_making.specs.Memory.{IsRefusedFor};
+ghost use Rattle.capnp_objects.specs.Metered.{◌>>>◌, answer};
 ghost use Rattle.capnp_objects.specs.Source.{levels};
 ghost use Rattle.capnp_objects.specs.Spending.{Paid, pointers_in};
 ghost use Rattle.capnp_objects.specs.Wanted.{canonical};
-ghost use Rattle.capnp_pointers.specs.Checking.{IsUnfit, TestEnds, TestStops, progress};
+ghost use Rattle.capnp_pointers.specs.Testing.{head_found, head_moved, test_value};
 ghost use Rattle.capnp_pointers.specs.Pointers.{reading};
 ghost use Rattle.capnp_edits.specs.Edits.{IsApplied, TakesAll};
 ghost use Rattle.capnp_edits.specs.Steps.{AreSteps};
 ghost use Rattle.capnp_messages.specs.CanonicalMessages.{IsCanonicalMessage, IsCanonicalOf};
+ghost use Rattle.capnp_messages.specs.Check.{check, whole_result};
 ghost use Rattle.capnp_messages.specs.Commands.{form_bytes};
 ghost use Rattle.capnp_messages.specs.Copies.{LacksMemoryOr, RefusesCopy, RefusesCopyAnywhere};
 ghost use Rattle.capnp_messages.specs.Messages.{HasCanonicalCopy, IsReadable, IsValueOf, RefusesAt, RefusesCanon, RefusesCheck, left_of, root_within};
@@ -258,7 +260,8 @@ fn same_bytes<A: Allocator>(left: &BuilderArenaImpl<A>, right: &BuilderArenaImpl
 ///
 /// Unless it refuses, returns `true` exactly if the message is one segment with the canonical words
 /// of a value, and no other words. This value is then within both limits. Never refuses a message
-/// that has a value within both limits, or that has no segment or several.
+/// that has a value within both limits, or that has no segment or several. What it returns is a
+/// function of the segments and the limits.
 pub fn canonical_test<S: ReaderSegments + Drop>(
     segments: S,
     limits: ReaderOptions,
@@ -271,6 +274,7 @@ pub fn canonical_test<S: ReaderSegments + Drop>(
     ensures within { IfOk result (λ yes. IsTrue yes → (t : Tree)
         × IsCanonicalOf (message (S.segments segments)) t
         × IsValueOf (message (S.segments segments)) limits t) }
+    ensures computed { whole_result (check (message (S.segments segments)) limits) ≡ result }
     ensures refused { IfErr result (RefusesCheck (message (S.segments segments)) limits) }
 {
     is_canonical(segments, limits)
@@ -308,14 +312,10 @@ pub fn canonical_test_at<S: ReaderSegments>(
         × (head.new ≡ head.old + word_count t)
         × Paid true lim.old lim.new (charge t) (pointers_in t)) }
     ensures kept { (result ≡ Ok true → ⊥) → head.new ≡ head.old }
-    ensures refused { IfErr result (λ k. TestStops k
+    ensures computed { (test_value
         (read_at (message (⟦<ReaderArenaImpl<S> as ReaderArena>⟧.segments arena.now))
-        (levels arena.now.nesting_limit) place.segment place.word)
-        (progress head.old lim.old) lim.new) }
-    ensures failed { result ≡ Ok false → TestEnds IsUnfit
-        (read_at (message (⟦<ReaderArenaImpl<S> as ReaderArena>⟧.segments arena.now))
-        (levels arena.now.nesting_limit) place.segment place.word)
-        (progress head.old lim.old) lim.new }
+        (levels arena.now.nesting_limit) place.segment place.word) head.old
+        >>> λ v. answer (head_found v)) lim.old ≡ (head_moved result head.new, lim.new) }
 {
     PointerReader::of_pointer(pointer_at(arena, place)).is_canonical(lim, head)
 }

@@ -27,7 +27,7 @@ use Rattle.capnp_messages.specs.Commands.{HasAnswerWithin, form_bytes}
 use Rattle.capnp_messages.specs.declared.messages.command.Command.TheVariants.{Canon, Check, Size}
 use Rattle.capnp_messages.specs.declared.messages.command.Form.{Form}
 use Rattle.capnp_messages.specs.declared.messages.command.Form.TheVariants.{Framed, Flat}
-use Rattle.capnp_messages.proofs.AnsweredLemmas.{answer_refused, check_refused, size_refused}
+use Rattle.capnp_messages.proofs.AnsweredLemmas.{answer_refused, check_alone, check_refused, size_refused}
 use Rattle.capnp_messages.proofs.FramesLemmas.{no_bytes_begin}
 use Rattle.capnp_canonical.specs.Calls.{AreWholeWords, Fills, InFrame, IsCopyOf, IsGranted, IsOneSegment, RefusesBytes, RefusesMeaning, RefusesRoom, RefusesSegments, RefusesSegment, TestFinds, TestIs, no_fault, table_bytes, told_fault}
 use Rattle.capnp_canonical.specs.Numbers.{answer_number}
@@ -149,7 +149,7 @@ room_enough form limits room n caps wide S words (inr (bytes, copy, named, less)
 -- the test of a message that can be read isn't refused, nor is a size that exists
 pub check_granted : (limits : ReaderOptions) {r : Refusal} (S : Segments) →
     RefusesMeaning Check limits S r → HasAnswerWithin Check limits S → ⊥
-check_granted limits S (k, named, refused) can = check_refused S limits (can refused.0) refused
+check_granted limits S (k, named, refused) can = check_refused S limits (can (check_alone S limits refused)) refused
 
 pub size_granted : (limits : ReaderOptions) {r : Refusal} (S : Segments) →
     RefusesMeaning Size limits S r → HasAnswerWithin Size limits S → ⊥

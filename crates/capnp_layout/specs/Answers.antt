@@ -1,6 +1,6 @@
 -- What the program says about a message, and why it refuses one.
 use Rattle.std.specs.Prelude.{◌≡◌, ◌⊎◌, ℕ, ◌+◌, ◌-◌, ◌^◌, ◌≤◌, List, [], ◌∷◌, ◌++◌, Bool, true}
-use Rattle.std.specs.Prelude.{false}
+use Rattle.std.specs.Prelude.{false, Err}
 use Rattle.std.specs.Int.{to_le_bytes, w64}
 use Rattle.hex.specs.Hex.{encode_lower}
 use Rattle.capnp_words.specs.declared.error.ErrorKind.{ErrorKind}
@@ -15,7 +15,7 @@ use Rattle.capnp_arena.specs.declared.arena.reader_arena_impl.ReaderOptions.{Rea
 use Rattle.capnp_layout.specs.declared.tool.args.Args.{Args}
 use Rattle.capnp_layout.specs.declared.tool.args.Args.TheVariants.{Canon, Check, Size, FramedCanon}
 use Rattle.capnp_objects.specs.Source.{levels}
-use Rattle.capnp_pointers.specs.Checking.{progress, TestStops}
+use Rattle.capnp_pointers.specs.Testing.{test_value}
 use Rattle.capnp_messages.specs.Roots.{CoversRoot}
 use Rattle.capnp_messages.specs.Messages.{RefusesAt, RefusesCanon, RefusesSize, left_of, root_within}
 
@@ -39,13 +39,13 @@ CheckOf S options true =
 CheckOf S options false =
     CoversRoot S options.traversal_limit_in_words × ((t : Tree) → Stands S 0 0 1 t → ⊥)
 
--- A command refuses the message S with k: its canonical copy is refused; the test for canonical
--- form at its root stops; or its size is refused.
+-- A command refuses the message S with k: its canonical copy, the test for canonical form at its
+-- root, or its size is refused.
 abbrev pub RefusesCommand : Args → Segments → ErrorKind → Type 0
 RefusesCommand (Canon options) S k = RefusesCanon S options k
 RefusesCommand (Check options) S k =
     RefusesAt S options k ((m : Meter)
-    × TestStops k (root_within S options) (progress 1 (unused (left_of options))) m)
+    × (test_value (root_within S options) 1 (unused (left_of options)) ≡ (Err k, m)))
 RefusesCommand (Size options) S k = RefusesSize S options k
 RefusesCommand (FramedCanon options) S k = RefusesCanon S options k
 RefusesCommand _ S k = ⊥

@@ -1,7 +1,8 @@
 -- A message that has an answer is refused only for lack of memory.
-use Rattle.std.proofs.Common.{◌≡◌, inl, inr, ℕ, ◌+◌, ◌≤◌, Option, Some, Result, Err, IsOk, subst, arith}
+use Rattle.std.proofs.Common.{◌≡◌, inl, inr, ℕ, ◌+◌, ◌≤◌, Option, Some, Result, Err, IsOk, length, ap, subst, arith}
 use Rattle.std.proofs.lemmas.Bool.{false≢true}
-use Rattle.capnp_words.specs.Meter.{FitsIn}
+use Rattle.capnp_words.specs.Meter.{FitsIn, Meter, unused}
+use Rattle.capnp_objects.specs.Source.{levels}
 use Rattle.capnp_words.specs.declared.error.ErrorKind.{ErrorKind}
 use Rattle.capnp_words.specs.declared.error.ErrorKind.TheVariants.{AllocationFailed}
 use Rattle.capnp_format.specs.Segments.{Segments}
@@ -22,7 +23,8 @@ use Rattle.capnp_messages.specs.declared.messages.command.Command.{Command}
 use Rattle.capnp_messages.specs.declared.messages.command.Command.TheVariants.{Canon, Check, Size, Digest, Validate}
 use Rattle.capnp_messages.proofs.CanonLemmas.{covers_rest}
 use Rattle.capnp_messages.proofs.ExtentLemmas.{readable_if}
-use Rattle.capnp_messages.proofs.TestLemmas.{never_stops}
+use Rattle.capnp_messages.proofs.CheckedLemmas.{readable_answered, refused_alone}
+use Rattle.capnp_messages.specs.Check.{message_tested}
 
 -- a root pointer that the limit covers isn't refused
 root_refused : {S : Segments} {limit : Option ℕ} {k : ErrorKind} → CoversRoot S limit → RefusesRoot S limit k → ⊥
@@ -46,13 +48,23 @@ pub copy_lacks_memory : (S : Segments) (limits : ReaderOptions) {old new : ℕ} 
 copy_lacks_memory S limits has (inl memory) = memory
 copy_lacks_memory S limits (t, value, fits) (inr (refused, same)) = absurd (canon_refused S limits t value fits refused)
 
+-- a refusal of the test, with what the limiter has left
+pub refusal : (S : Segments) (limits : ReaderOptions) {k : ErrorKind} → RefusesCheck S limits k → (m : Meter) × (message_tested S (levels limits.nesting_limit) (unused limits.traversal_limit_in_words) ≡ (Err k, m))
+refusal S limits refused =
+    let left : Meter = (message_tested S (levels limits.nesting_limit) (unused limits.traversal_limit_in_words)).1 in
+    (left, ap (λ x. (x, left)) refused)
+
 -- the test of a message that can be read isn't refused
-pub check_refused : (S : Segments) (limits : ReaderOptions) {k : ErrorKind} →
-    IsReadable S limits → RefusesCheck S limits k → ⊥
-check_refused S limits read (one, (m, inl (root, same))) = root_refused read.root root
-check_refused S limits read (one, (m, inr (covers, stops))) =
-    never_stops stops read.value read.cost read.means
-    (covers_rest limits.traversal_limit_in_words read.cost read.covered)
+pub check_refused : (S : Segments) (limits : ReaderOptions) {k : ErrorKind} → IsReadable S limits → RefusesCheck S limits k → ⊥
+check_refused S limits {k} read refused =
+    let (m, is) = refusal S limits refused in
+    readable_answered S (levels limits.nesting_limit) (unused limits.traversal_limit_in_words) m k is read.root read.value read.cost read.means read.covered
+
+-- and only a message of one segment is refused
+pub check_alone : (S : Segments) (limits : ReaderOptions) {k : ErrorKind} → RefusesCheck S limits k → length S ≡ 1
+check_alone S limits {k} refused =
+    let (m, is) = refusal S limits refused in
+    refused_alone S (levels limits.nesting_limit) (unused limits.traversal_limit_in_words) m k is
 
 pub size_refused : (S : Segments) (limits : ReaderOptions) {k : ErrorKind} →
     HasSizeWithin S limits → RefusesSize S limits k → ⊥
@@ -68,7 +80,7 @@ pub answer_refused : (command : Command) (limits : ReaderOptions) (S : Segments)
 answer_refused (Canon form) limits S (t, value, fits) (inl memory) = memory
 answer_refused (Canon form) limits S (t, value, fits) (inr refused) =
     absurd (canon_refused S limits t value fits refused)
-answer_refused Check limits S can refused = absurd (check_refused S limits (can refused.0) refused)
+answer_refused Check limits S can refused = absurd (check_refused S limits (can (check_alone S limits refused)) refused)
 answer_refused Size limits S has refused = absurd (size_refused S limits has refused)
 answer_refused Validate limits S read refused = absurd (validate_refused S limits read refused)
 answer_refused Digest limits S (t, value, fits) (inl memory) = memory

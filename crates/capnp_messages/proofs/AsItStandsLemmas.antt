@@ -19,7 +19,7 @@ covers_less None n more less covered = tt
 covers_less (Some left) n more less covered = omega arith
 
 -- what the test of a canonical message found and paid is the message's value within the limits
-value_within : {S : Segments} {limits : ReaderOptions} {n : ℤ} {old new : Meter} → n ≡ limits.nesting_limit →
+pub value_within : {S : Segments} {limits : ReaderOptions} {n : ℤ} {old new : Meter} → n ≡ limits.nesting_limit →
     old ≡ unused limits.traversal_limit_in_words → IsWithinLevels S (levels n) → IsPaid S old new →
     (t : Tree) × IsValueOf S limits t × IsCanonicalOf S t
 value_within {S} {limits} {n} {old} {new} nesting begun within (t, canonical, paid) =

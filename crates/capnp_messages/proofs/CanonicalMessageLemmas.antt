@@ -1,8 +1,6 @@
 -- What the test at the root of a message of one segment states about the whole message.
-use Rattle.std.proofs.Common.{◌≡◌, ◌↔◌, inl, inr, ℕ, ◌+◌, ◌-◌, ◌<◌, ◌≤◌, List, [], ◌∷◌, take, drop, get_or, length, Bool, true, false, Option, Some, None, refl, ap, sym, ◌∙◌, subst, arith, length-drop, length-take}
-use Rattle.std.specs.Prelude.{IsNone, IfNone, IfSome, is_some, not}
+use Rattle.std.proofs.Common.{◌≡◌, ◌↔◌, ℕ, ◌+◌, ◌-◌, ◌<◌, ◌≤◌, List, [], ◌∷◌, take, drop, get_or, length, true, Option, Some, None, refl, ap, sym, ◌∙◌, subst, arith, length-drop, length-take}
 use Rattle.std.proofs.lemmas.List.{take_all}
-use Rattle.capnp_words.specs.declared.error.ErrorKind.{ErrorKind}
 use Rattle.capnp_words.specs.Meter.{Meter, FitsIn, less, raised, spent}
 use Rattle.capnp_format.specs.Bytes.{message}
 use Rattle.capnp_format.specs.Segments.{Segments, segment}
@@ -15,18 +13,13 @@ use Rattle.capnp_arena_traits.specs.Checks.{total_words}
 use Rattle.capnp_arena_traits.proofs.MessageLemmas.{length-message}
 use Rattle.capnp_objects.specs.Reading.{Reading}
 use Rattle.capnp_objects.specs.Spending.{Paid}
-use Rattle.capnp_pointers.specs.declared.pointers.canonical_fault.CanonicalFault.{CanonicalFault}
-use Rattle.capnp_pointers.specs.declared.pointers.canonical_fault.CanonicalFaultReason.TheVariants.{WordsBehind}
-use Rattle.capnp_pointers.specs.Faults.{FaultIs}
-use Rattle.capnp_pointers.specs.Checking.{IsCanonicalAt, IsFault, IsFound, TestEnds, TestStops, progress}
-use Rattle.capnp_pointers.proofs.NeverStops.{stops_never}
+use Rattle.capnp_pointers.specs.Checking.{IsFound, progress}
 use Rattle.capnp_messages.specs.Roots.{CoversRoot, message_root}
 use Rattle.capnp_framing.specs.Frames.{CanBeFramed, frame}
 use Rattle.capnp_framing.specs.Reading.{total}
 use Rattle.capnp_framing.proofs.FrameLemmas.{same_frames}
-use Rattle.capnp_messages.specs.CanonicalMessages.{CanBeTested, IsCanonicalMessage, IsCanonicalOf, IsMessageFault, IsPaid, IsRootFault, IsWithinLevels}
+use Rattle.capnp_messages.specs.CanonicalMessages.{IsCanonicalMessage, IsCanonicalOf}
 use Rattle.capnp_messages.proofs.CanonLemmas.{covers_root}
-use Rattle.capnp_messages.proofs.CanonLemmas.{covers_rest}
 use Rattle.capnp_messages.proofs.TryLemmas.{total-message}
 
 -- a message of one segment
@@ -73,15 +66,11 @@ both_less : (budget : Option ℕ) (c : ℕ) → less (less budget 1) c ≡ less 
 both_less None c = refl
 both_less (Some b) c = ap Some (let same : b - 1 - c ≡ b - (1 + c) = omega arith in same)
 
-paid_both : {m m' : Meter} {c i : ℕ} → FitsIn m.left 1 → Paid true (spent m 1) m' c i → Paid true m m' (1 + c) i
+pub paid_both : {m m' : Meter} {c i : ℕ} → FitsIn m.left 1 → Paid true (spent m 1) m' c i → Paid true m m' (1 + c) i
 paid_both {m} {c = c} {i = i} one paid = record {
   covers = covers_root m.left c one paid.covers;
   spent = paid.spent ∙ ap (λ (left : Option ℕ). let now : Meter = record { left = left; followed = raised m.followed i } in now) (both_less m.left c);
 }
-
--- if the test finds a value whose words end with the segment, the message is canonical
-pub found_whole : {S : Segments} {n h : ℕ} {m m' : Meter} → length S ≡ 1 → CoversRoot S m.left → IsFound (message_root S n) (progress 1 (spent m 1)) (progress h m') → h ≡ length (segment S 0) → IsPaid S m m'
-found_whole one covers (t, finds) full = (t, stands_alone one finds.stands (sym finds.head_is ∙ full), paid_both covers.covered finds.paid)
 
 -- if words follow after these, the message isn't canonical
 pub found_more : {S : Segments} {n h : ℕ} {m' : Meter} {from : Meter} → IsFound (message_root S n) (progress 1 from) (progress h m') → (h ≡ length (segment S 0) → ⊥) → IsCanonicalMessage S → ⊥
@@ -89,13 +78,6 @@ found_more {S} (t, finds) more (u, canonical) =
     let there : 1 ≤ length (segment S 0) = omega (arith, finds.stands.0) in
     let value : t ≡ u = one_stands {S = S} {s = 0} {h = 1} there (record { stands = finds.stands }) (record { stands = canonical_stands canonical }) in
     more (finds.head_is ∙ ap (λ v. 1 + word_count v) value ∙ sym (canonical_length canonical))
-
-pub more_fault : {S : Segments} {n h : ℕ} {m m' : Meter} {f : CanonicalFault} → CoversRoot S m.left → IsFound (message_root S n) (progress 1 (spent m 1)) (progress h m') → (h ≡ length (segment S 0) → ⊥) → FaultIs f WordsBehind 0 h → IsRootFault f S n m m'
-more_fault {S} {h = h} covers (t, finds) more fault =
-    let in_segment = within S t finds.stands in
-    let head = finds.head_is in
-    let fewer : 1 + word_count t < length (segment S 0) = omega (arith, in_segment, head, more) in
-    (covers, inr (t, h, finds, fewer, fault))
 
 -- a canonical message has a word for its root
 pub has_root : {S : Segments} {t : Tree} → IsCanonicalOf S t → 1 ≤ length (segment S 0)
@@ -122,54 +104,6 @@ pub record IsRootRead (S : Segments) (n : ℕ) (old : Meter) (r : Reading) (m : 
 -- what holds for the place and limiter of a root that is read holds at the root
 pub moved : {S : Segments} {n : ℕ} {old : Meter} {r : Reading} {m : Meter} (P : Reading → Meter → Type 0) → IsRootRead S n old r m → P r m → P (message_root S n) (spent old 1)
 moved {S} {n} {m = m} P root held = subst (P (message_root S n)) root.left (subst (λ (x : Reading). P x m) root.place held)
-
--- if the root's test finds a fault, the message isn't canonical
-pub some_exactly : {S : Segments} {n : ℕ} {old : Meter} {r : Reading} {m : Meter} {f : CanonicalFault} (o : Option CanonicalFault) → IsRootRead S n old r m → o ≡ Some f → IsNone o ↔ IsCanonicalAt r 1 → IsNone (Some f) ↔ IsCanonicalMessage S
-some_exactly {S} {n} {r = r} {f = f} o root is same =
-    let at_root : IsNone (Some f) ↔ IsCanonicalAt (message_root S n) 1 = moved (λ r m. IsNone (Some f) ↔ IsCanonicalAt r 1) root (subst (λ x. IsNone x ↔ IsCanonicalAt r 1) is same) in
-    (λ wrong. absurd (let never : true ≡ false = wrong in cc), λ (t, canonical). at_root.1 (t, canonical_stands canonical))
-
--- and that fault is the message's
-pub root_fault : {S : Segments} {n : ℕ} {old : Meter} {r : Reading} {m m' : Meter} {f : CanonicalFault} (o : Option CanonicalFault) → IsRootRead S n old r m → o ≡ Some f → IfSome o (λ e. TestEnds (IsFault e) r (progress 1 m) m') → IsRootFault f S n old m'
-root_fault {r = r} {m = m} {m' = m'} {f = f} o root is ends =
-    let there : TestEnds (IsFault f) r (progress 1 m) m' = subst (λ (x : Option CanonicalFault). IfSome x (λ e. TestEnds (IsFault e) r (progress 1 m) m')) is ends in
-    (root.covers, inl (moved (λ r m. TestEnds (IsFault f) r (progress 1 m) m') root there))
-
--- if the test finds a value whose words end with the segment, the message is canonical and paid
-pub whole_paid : {S : Segments} {n h : ℕ} {old : Meter} {r : Reading} {m m' : Meter} (o : Option CanonicalFault) → IsRootRead S n old r m → length S ≡ 1 → o ≡ None → IfNone o (IsFound r (progress 1 m) (progress h m')) → h ≡ length (segment S 0) → IsPaid S old m'
-whole_paid {h = h} {r = r} {m = m} {m' = m'} o root one is found full =
-    let finds : IsFound r (progress 1 m) (progress h m') = subst (λ (x : Option CanonicalFault). IfNone x (IsFound r (progress 1 m) (progress h m'))) is found in
-    found_whole one root.covers (moved (λ r m. IsFound r (progress 1 m) (progress h m')) root finds) full
-
--- and its value isn't deeper than the levels
-pub whole_within : {S : Segments} {n h : ℕ} {old : Meter} {r : Reading} {m : Meter} (m' : Meter) (o : Option CanonicalFault) → IsRootRead S n old r m → length S ≡ 1 → o ≡ None → IfNone o (IsFound r (progress 1 m) (progress h m')) → h ≡ length (segment S 0) → IsWithinLevels S n
-whole_within {S} {n} {h} {r = r} {m = m} m' o root one is found full u canonical =
-    let there : IsFound r (progress 1 m) (progress h m') = subst (λ (x : Option CanonicalFault). IfNone x (IsFound r (progress 1 m) (progress h m'))) is found in
-    let (t, finds) = moved (λ r m. IsFound r (progress 1 m) (progress h m')) root there in
-    let same : t ≡ u = one_canonical_value S t u (stands_alone one finds.stands (sym finds.head_is ∙ full)) canonical in
-    subst (λ (v : Tree). depth v ≤ n) same finds.levels
-
--- if words follow after these, the message isn't canonical, and the fault is the first of them
-pub more_never : {S : Segments} {n h : ℕ} {old : Meter} {r : Reading} {m : Meter} (m' : Meter) (o : Option CanonicalFault) → IsRootRead S n old r m → o ≡ None → IfNone o (IsFound r (progress 1 m) (progress h m')) → (h ≡ length (segment S 0) → ⊥) → IsCanonicalMessage S → ⊥
-more_never {h = h} {r = r} {m = m} m' o root is found more =
-    let finds : IsFound r (progress 1 m) (progress h m') = subst (λ (x : Option CanonicalFault). IfNone x (IsFound r (progress 1 m) (progress h m'))) is found in
-    found_more (moved (λ r m. IsFound r (progress 1 m) (progress h m')) root finds) more
-
-pub more_is_fault : {S : Segments} {n h : ℕ} {old : Meter} {r : Reading} {m m' : Meter} {f : CanonicalFault} (o : Option CanonicalFault) → IsRootRead S n old r m → o ≡ None → IfNone o (IsFound r (progress 1 m) (progress h m')) → (h ≡ length (segment S 0) → ⊥) → FaultIs f WordsBehind 0 h → IsRootFault f S n old m'
-more_is_fault {h = h} {r = r} {m = m} {m' = m'} o root is found more fault =
-    let finds : IsFound r (progress 1 m) (progress h m') = subst (λ (x : Option CanonicalFault). IfNone x (IsFound r (progress 1 m) (progress h m'))) is found in
-    more_fault root.covers (moved (λ r m. IsFound r (progress 1 m) (progress h m')) root finds) more fault
-
--- If the test of a message says no, it finds a fault.
-pub message_fault_found : {S : Segments} {n : ℕ} {m m' : Meter} (o : Option CanonicalFault) (b : Bool) → is_some o ≡ not b → b ≡ false → IfSome o (λ f. IsMessageFault f S n m m') → (f : CanonicalFault) × IsMessageFault f S n m m'
-message_fault_found None b is fails fault = absurd (let wrong : false ≡ true = is ∙ ap not fails in cc)
-message_fault_found (Some f) b is fails fault = (f, fault)
-
--- the test of a canonical message isn't refused within its limits
-pub never_refused : {S : Segments} {n : ℕ} {old : Meter} {r : Reading} {m m' : Meter} {k : ErrorKind} → IsRootRead S n old r m → TestStops k r (progress 1 m) m' → CanBeTested S n old → ⊥
-never_refused {S} {n} {old} {m' = m'} {k = k} root stops (t, canonical, levels, fits) =
-    let stopped = moved (λ r m. TestStops k r (progress 1 m) m') root stops in
-    stops_never stopped (t, canonical_stands canonical, for_offset t (1 ≤ length (segment S 0)) (has_root canonical), levels, covers_rest old.left (charge t) fits)
 
 -- if a message has one segment, its words are those of all segments
 only_total : (S : Segments) → length S ≡ 1 → total S ≡ length (segment S 0)

@@ -4,13 +4,14 @@ pub mod TryLemmas
 pub mod SizeLemmas
 pub mod CanonicalMessageLemmas
 pub mod CanonicalFrameLemmas
-pub mod TestLemmas
 pub mod MessageLemmas
 pub mod AnsweredLemmas
 pub mod FramesLemmas
 pub mod AsItStandsLemmas
 pub mod DigestLemmas
 pub mod CanonicalizeLemmas
+pub mod CheckedLemmas
+pub mod ChecksComputed
 pub mod ExtentLemmas
 pub mod PathLemmas
 pub mod PartLemmas

@@ -1,6 +1,6 @@
 -- What reading the root of a message states about the message.
-use Rattle.std.proofs.Common.{◌≡◌, ◌⊎◌, inl, inr, ℕ, zero, suc, ℤ, List, [], ◌∷◌, length, Option, Some, None, Result, Ok, Err}
-use Rattle.std.proofs.Common.{IsOk, IfOk, IfSome, IfErr, true, false, refl, sym, ap, ◌∙◌, subst, arith}
+use Rattle.std.proofs.Common.{◌≡◌, ◌⊎◌, inl, inr, ℕ, ℤ, [], ◌∷◌, Option}
+use Rattle.std.proofs.Common.{sym, ap, ◌∙◌, subst}
 use Rattle.capnp_words.specs.declared.error.ErrorKind.{ErrorKind}
 use Rattle.capnp_words.specs.Meter.{Meter, spent, unused}
 use Rattle.capnp_format.specs.Canonical.{encoding, trim}
@@ -17,11 +17,7 @@ use Rattle.capnp_messages.specs.Roots.{CoversRoot, message_root}
 use Rattle.capnp_messages.specs.Copies.{LacksMemoryOr, RefusesCopy}
 use Rattle.capnp_messages.specs.Tries.{NeedsMoreRoom}
 use Rattle.capnp_messages.proofs.CanonLemmas.{covers_root}
-use Rattle.capnp_messages.specs.CanonicalMessages.{IsMessageFault, RefusesTest}
-use Rattle.capnp_format.specs.Bytes.{message}
-use Rattle.capnp_arena_traits.proofs.MessageLemmas.{length-message}
-use Rattle.capnp_pointers.specs.declared.pointers.canonical_fault.CanonicalFault.{CanonicalFault}
-use Rattle.capnp_messages.specs.Messages.{IsFaultOf, IsValueOf, RefusesCanon, RefusesCheck, left_of, root_within}
+use Rattle.capnp_messages.specs.Messages.{IsValueOf, RefusesCanon, left_of, root_within}
 
 -- The root of a message is read, and m is what the limit has left.
 pub record AtRoot (S : Segments) (limits : ReaderOptions) (r : Reading) (m : Meter) : Type 0 where
@@ -93,37 +89,3 @@ pub own_copy_needs : {S : Segments} {limits : ReaderOptions} {r : Reading} {m : 
     AtRoot S limits r m → NeedsMoreRoom r room ⊎ P → NeedsMoreRoom (root_within S limits) room ⊎ P
 own_copy_needs {room = room} root (inl more) = inl (subst (λ (x : Reading). NeedsMoreRoom x room) root.place more)
 own_copy_needs root (inr other) = inr other
-
--- the test of a message, within the limits: what it finds, and why it is refused
-pub fault_of_message : {S T : Segments} {limits : ReaderOptions} {z : ℤ} {old : Meter}
-    (r : Result (Option CanonicalFault) ErrorKind) (new : Meter) →
-    T ≡ S → z ≡ limits.nesting_limit → old ≡ unused limits.traversal_limit_in_words →
-    IfOk r (λ o. IfSome o (λ f. IsMessageFault f T (levels z) old new)) → IfOk r (λ o. IfSome o (IsFaultOf S limits))
-fault_of_message (Ok None) new same nesting begun found = tt
-fault_of_message {S} {T} {limits} {z} {old} (Ok (Some f)) new same nesting begun found =
-    let m : Meter = unused limits.traversal_limit_in_words in
-    let there = subst (λ (x : Meter). IsMessageFault f T (levels z) x new) begun found in
-    let within = subst (λ (x : ℤ). IsMessageFault f T (levels x) m new) nesting there in
-    (new, subst (λ (X : Segments). IsMessageFault f X (levels limits.nesting_limit) m new) same within)
-fault_of_message (Err k) new same nesting begun found = tt
-
-is_one : (n : ℕ) → ((n ≡ 1 → ⊥) → ⊥) → n ≡ 1
-is_one zero other = absurd (other (λ e. omega arith))
-is_one (suc zero) other = refl
-is_one (suc (suc n)) other = absurd (other (λ e. omega arith))
-
-pub check_of_message : {S : Segments} {limits : ReaderOptions} {z : ℤ} {old : Meter} {X P : Type 0}
-    (r : Result X ErrorKind) (segments : List (List ℕ)) (new : Meter) →
-    message segments ≡ S → z ≡ limits.nesting_limit → old ≡ unused limits.traversal_limit_in_words →
-    ((length segments ≡ 1 → ⊥) → IsOk r × P) → IfErr r (RefusesTest (message segments) (levels z) old new) →
-    IfErr r (RefusesCheck S limits)
-check_of_message (Ok x) segments new same nesting begun answered refused = tt
-check_of_message {S} {limits} {z} {old} (Err k) segments new same nesting begun answered refused =
-    let m : Meter = unused limits.traversal_limit_in_words in
-    let T : Segments = message segments in
-    let alone : length segments ≡ 1 =
-    is_one (length segments) (λ no. let wrong : false ≡ true = (answered no).0 in cc) in
-    let there = subst (λ (x : Meter). RefusesTest T (levels z) x new k) begun refused in
-    let within = subst (λ (x : ℤ). RefusesTest T (levels x) m new k) nesting there in
-    let here = subst (λ (X : Segments). RefusesTest X (levels limits.nesting_limit) m new k) same within in
-    (ap length (sym same) ∙ length-message segments ∙ alone, (new, here))

@@ -16,6 +16,9 @@ use Rattle.capnp_pointers.proofs.Counted.{size_is}
 use Rattle.capnp_messages.specs.Roots.{CoversRoot, RefusesRoot, message_root, read_message_root}
 use Rattle.capnp_messages.specs.Roots.RefusesRoot.{no_root, no_budget}
 use Rattle.capnp_messages.specs.Messages.{HasSizeOf, HasSizeWithin, RefusesSize, message_size, root_within}
+use Rattle.capnp_format.specs.Means.{Means}
+use Rattle.capnp_format.specs.Tree.{Tree}
+use Rattle.capnp_pointers.specs.ValueSize.{value_size}
 use Rattle.capnp_messages.proofs.MessageLemmas.{AtRoot}
 
 pub fits_one : (left : Option ℕ) → FitsIn left 1 → fits left 1 ≡ true
@@ -79,3 +82,16 @@ has_size_if S limits result e = ((λ is. subst (λ (x : Result MessageSize Error
 pub size_refused_if : (S : Segments) (limits : ReaderOptions) (result : Result MessageSize ErrorKind) → message_size S limits ≡ result → IfErr result (RefusesSize S limits)
 size_refused_if S limits (Ok z) e = tt
 size_refused_if S limits (Err k) e = e
+
+-- The size is that of the value which the root means.
+pub size_of_value : (S : Segments) (limits : ReaderOptions) (z : MessageSize) (t : Tree) (n cost : ℕ) → message_size S limits ≡ Ok z → Means S n 0 0 t cost → z ≡ value_size t
+size_of_value S limits z t n cost is means = elim (root_or_not S limits.traversal_limit_in_words) [
+  | inl covers ↦
+      let m : Meter = unused (less limits.traversal_limit_in_words 1) in
+      let left : Meter = (measure (root_within S limits) (only_words 0) m).1 in
+      let read : (measure (root_within S limits) (only_words 0) m).0 ≡ Ok z = sym (ap (λ o. (onward (λ (x : Reading). measure x (only_words 0)) o).0) (root_is S (levels limits.nesting_limit) limits.traversal_limit_in_words covers)) ∙ is in
+      size_is (root_within S limits) n m left z t cost (ap (λ x. (x, left)) read) means
+  | inr refused ↦
+      let wrong : Err refused.0 ≡ Ok z = sym (ap (λ o. (onward (λ (x : Reading). measure x (only_words 0)) o).0) (root_stops S (levels limits.nesting_limit) limits.traversal_limit_in_words refused.0 refused.1)) ∙ is in
+      absurd (cc wrong)
+]

@@ -11,6 +11,7 @@ pub mod Canonicalize
 pub mod Extents
 pub mod Commands
 pub mod Digests
+pub mod Check
 pub mod Parts
 pub mod PathEnds
 pub mod MessageParts

@@ -1,7 +1,7 @@
 -- What a whole message has within the limits of a reader's options, and why it is refused.
-use Rattle.std.specs.Prelude.{◌≡◌, ◌⊎◌, ℕ, ◌+◌, ◌≤◌, Option, Result, Ok, Err, IsOk, length}
+use Rattle.std.specs.Prelude.{◌≡◌, ◌⊎◌, ℕ, ◌+◌, ◌≤◌, Option, Some, Result, Ok, Err, IsOk}
 use Rattle.capnp_words.specs.declared.error.ErrorKind.{ErrorKind}
-use Rattle.capnp_words.specs.Meter.{Meter, FitsIn, less, unused}
+use Rattle.capnp_words.specs.Meter.{FitsIn, less, unused}
 use Rattle.capnp_format.specs.Canonical.{IsFree, trim, word_count}
 use Rattle.capnp_format.specs.Segments.{Segments}
 use Rattle.capnp_format.specs.Tree.{Tree, capabilities}
@@ -16,7 +16,8 @@ use Rattle.capnp_pointers.specs.declared.pointers.sizes.MessageSize.{MessageSize
 use Rattle.capnp_pointers.specs.Measure.{measure, only_words}
 use Rattle.capnp_messages.specs.Roots.{CoversRoot, RefusesRoot, message_root, read_message_root}
 use Rattle.capnp_messages.specs.Copies.{RefusesCopy}
-use Rattle.capnp_messages.specs.CanonicalMessages.{CanBeTested, IsMessageFault, RefusesTest}
+use Rattle.capnp_messages.specs.CanonicalMessages.{CanBeTested}
+use Rattle.capnp_messages.specs.Check.{check}
 
 -- The root of S means a value, with or without capabilities, within the nesting limit. The
 -- traversal limit covers what reading it costs, and one word for the root pointer ("Messages",
@@ -48,12 +49,9 @@ HasCanonicalCopy S limits =
 abbrev pub IsCanonicalWithin : Segments → ReaderOptions → Type 0
 IsCanonicalWithin S limits = CanBeTested S (levels limits.nesting_limit) (unused limits.traversal_limit_in_words)
 
--- The test of S for canonical form finds the fault f: the reason of f is true of the word that f
--- names.
+-- The test of S for canonical form finds the fault f.
 abbrev pub IsFaultOf : Segments → ReaderOptions → CanonicalFault → Type 0
-IsFaultOf S limits f =
-    (m : Meter)
-    × IsMessageFault f S (levels limits.nesting_limit) (unused limits.traversal_limit_in_words) m
+IsFaultOf S limits f = check S limits ≡ Ok (Some f)
 
 -- The reading of the root of S, within the nesting limit.
 abbrev pub root_within : Segments → ReaderOptions → Reading
@@ -95,9 +93,6 @@ abbrev pub RefusesCanon : Segments → ReaderOptions → ErrorKind → Type 0
 RefusesCanon S limits k =
     RefusesAt S limits k (RefusesCopy (root_within S limits) (left_of limits) max_segment_words k)
 
--- S has one segment, and the test of S is refused with k.
+-- The test of S is refused with k.
 abbrev pub RefusesCheck : Segments → ReaderOptions → ErrorKind → Type 0
-RefusesCheck S limits k =
-    (length S ≡ 1)
-    × ((m : Meter)
-    × RefusesTest S (levels limits.nesting_limit) (unused limits.traversal_limit_in_words) m k)
+RefusesCheck S limits k = check S limits ≡ Err k

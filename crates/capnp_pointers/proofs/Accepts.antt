@@ -4,11 +4,12 @@ use Rattle.std.proofs.Common.{◌≡◌, ◌≢◌, inl, inr, ℕ, zero, suc, �
 use Rattle.capnp_format.specs.Word.{kind, offset_bits, data_words, pointer_count, element_size, list_count, is_double, struct_word, list_word}
 use Rattle.capnp_format.specs.Numbers.{words_for, unpacked, packed, element_bits, from_digits}
 use Rattle.capnp_format.specs.Segments.{Segments, segment, word_at, words_at, HasWords, IsPlace, Target, leads, near, far, offset_leads}
-use Rattle.capnp_format.specs.Tree.{Null, Struct, Flat, Pointers, Structs, Trees, no_trees, tree, Elements, no_elements, element, blank, count, element_count}
+use Rattle.capnp_format.specs.Tree.{Null, Struct, Flat, Pointers, Structs, Trees, no_trees, tree, Elements, no_elements, element, count, element_count}
 use Rattle.capnp_format.specs.Means.{Claims, StructAt, ListAt, IsTag}
-use Rattle.capnp_format.specs.Canonical.{used_from, used_words, used_trees, take_trees, data_width, pointer_width, cut_to, trim, word_count, word_count_elements, pointer, pointers, rows, bodies, element_bodies, offset_to, Reaches, Stands}
+use Rattle.capnp_format.specs.Canonical.{used_from, used_words, used_trees, take_trees, data_width, pointer_width, cut_to, trim, word_count, pointer, pointers, rows, bodies, element_bodies, offset_to, Reaches, Stands}
 use Rattle.capnp_format.specs.Value.{AreElements}
-use Rattle.capnp_pointers.specs.Standing.{AllStand, ElementsStand, EndsUsed, IsPadded}
+use Rattle.capnp_pointers.specs.Standing.{AllStand, EndsUsed, IsPadded}
+use Rattle.capnp_pointers.proofs.ElementsStanding.{ElementsStand}
 use Rattle.capnp_format.specs.Forest.{target_in}
 use Rattle.capnp_format.proofs.Bounds.{HasSmallWords, digits_below, words_small}
 use Rattle.capnp_format.proofs.Digits.{length-digits}
@@ -249,22 +250,3 @@ structs_stand S s p h a m n d q es w place other o start claim tag exact len dw 
             (moved S s (h + 1 + element_count es * (d + q) + 0) (h + length (struct_word (element_count es) d q ∷ rows d q 0 es)) (element_bodies es) (omega (arith, long)) r.behind),
       ),
     )
-
--- Elements without words and pointers are canonical anywhere.
-pub blanks_stand : (S : Segments) (s p h n : ℕ) → ElementsStand S s p 0 0 h (blank n)
-blanks_stand S s p h zero = tt
-blanks_stand S s p h (suc n) = (refl, refl, refl, tt, blanks_stand S s (p + 0 + 0) (h + 0) n)
-
--- Elements without words and pointers have no widths.
-pub data_width-blank : (n : ℕ) → data_width (blank n) ≡ 0
-data_width-blank zero = refl
-data_width-blank (suc n) = omega (arith, data_width-blank n)
-
-pub pointer_width-blank : (n : ℕ) → pointer_width (blank n) ≡ 0
-pointer_width-blank zero = refl
-pointer_width-blank (suc n) = omega (arith, pointer_width-blank n)
-
--- The children of elements without words and pointers take no words.
-pub words-blank : (n : ℕ) → word_count_elements (blank n) ≡ 0
-words-blank zero = refl
-words-blank (suc n) = omega (arith, words-blank n)

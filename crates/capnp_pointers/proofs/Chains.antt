@@ -6,7 +6,8 @@ use Rattle.capnp_format.specs.Segments.{Segments, segment, word_at, HasWords}
 use Rattle.capnp_format.specs.Tree.{Tree, Null, Capability, Struct, Flat, Pointers, Structs, Trees, no_trees, tree, Elements, no_elements, element, count, element_count, capabilities_all, capabilities_elements}
 use Rattle.capnp_format.specs.Canonical.{word_count, word_count_all, word_count_elements, trim_each, trim_elements, pointer, pointers, rows, body, bodies, element_bodies, ForOffset, OffsetsFit, RowsFit, AreEncodable, AreEncodableElements, offset_to, Reaches, Stands}
 use Rattle.capnp_format.specs.Value.{AreValues, AreElements}
-use Rattle.capnp_pointers.specs.Standing.{AllStand, ElementsStand}
+use Rattle.capnp_pointers.specs.Standing.{AllStand}
+use Rattle.capnp_pointers.proofs.ElementsStanding.{ElementsStand}
 use Rattle.capnp_format.proofs.Slices.{has_words_first, has_words_rest, has_words_head, has_words_tail, has_words_within, moved}
 use Rattle.capnp_format.proofs.Lengths.{length-body, length-bodies, length-pointers}
 use Rattle.capnp_format.proofs.Lies.{pointer_ahead, reaches_ahead}

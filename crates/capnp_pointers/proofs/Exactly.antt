@@ -1,16 +1,16 @@
 -- Object by object: canonical words of some value are at a place and a head exactly if the object
 -- passes the checks of its canonical form. Each lemma takes what the checks found one by one.
-use Rattle.std.proofs.Common.{◌≡◌, ◌≢◌, ℕ, ◌+◌, ◌*◌, ◌<◌, ◌≤◌, ◌↔◌, ◌⊎◌, inl, inr, max, sym, ap, ◌∙◌, subst, arith}
+use Rattle.std.proofs.Common.{◌≡◌, ◌≢◌, ℕ, ◌+◌, ◌*◌, ◌≤◌, ◌↔◌, ◌⊎◌, inl, inr, max, sym, ap, ◌∙◌, subst, arith}
 use Rattle.std.proofs.lemmas.Bool.{cases_lt}
 use Rattle.capnp_format.specs.Word.{kind}
 use Rattle.capnp_format.specs.Segments.{Segments, word_at, IsPlace, Target}
 use Rattle.capnp_format.specs.Tree.{Structs, Elements, no_elements, element, element_count}
 use Rattle.capnp_format.specs.Means.{Claims, ListAt, IsTag}
-use Rattle.capnp_format.specs.Canonical.{data_width, pointer_width, word_count_all, word_count_elements}
-use Rattle.capnp_pointers.specs.Standing.{ElementsStand}
+use Rattle.capnp_format.specs.Canonical.{data_width, pointer_width, word_count_all}
+use Rattle.capnp_pointers.proofs.ElementsStanding.{ElementsStand}
 use Rattle.capnp_format.proofs.Bounds.{HasSmallWords}
 use Rattle.capnp_pointers.proofs.Accepts.{structs_stand}
-use Rattle.capnp_pointers.proofs.Growing.{Accepts, AllAccept, next_element_stands, one_row_of_elements}
+use Rattle.capnp_pointers.proofs.Growing.{Accepts, one_row_of_elements}
 use Rattle.capnp_format.proofs.Trimming.{used_words-le, used_trees-le}
 use Rattle.capnp_pointers.proofs.Found.{structs_found}
 
@@ -40,13 +40,6 @@ structs_of_tag S s p h a m n d q w place other o start claim tag = (
       )),
   (λ y. (Structs d q y.1, structs_stand S s p h a m n d q y.1 w place other o start claim tag y.0 y.2 y.3 y.4 y.5)),
 )
-
--- If the children of the next element aren't canonical, no list of more elements is.
-pub element_fails : (S : Segments) (s p d q h n : ℕ) (es : Elements) → ElementsStand S s p d q h es → element_count es < n →
-    (AllAccept S s (p + element_count es * (d + q) + d) (h + word_count_elements es) q → ⊥) → ElementsAccept S s p d q h n → ⊥
-element_fails S s p d q h n es a less fails = λ x.
-    let r = next_element_stands S s p d q h es x.0 a x.4 (omega (arith, x.1)) in
-    fails (r.next, r.counts, r.stand)
 
 -- If the widths of all elements aren't the least, there are no such canonical elements.
 pub widths_fail : (S : Segments) (s p d q h n : ℕ) (es : Elements) → ElementsStand S s p d q h es → element_count es ≡ n →

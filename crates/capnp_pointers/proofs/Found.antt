@@ -9,7 +9,8 @@ use Rattle.capnp_format.specs.Tree.{Tree, Null, Capability, Struct, Flat, Pointe
 use Rattle.capnp_format.specs.Means.{Claims, StructAt, ListAt, IsTag}
 use Rattle.capnp_format.specs.Canonical.{used_words, used_trees, take_trees, data_width, pointer_width, cut_to, trim, trim_each, trim_elements, pointer, pointers, rows, bodies, element_bodies, ForOffset, offset_to, Reaches, Stands}
 use Rattle.capnp_format.specs.Value.{AreElements}
-use Rattle.capnp_pointers.specs.Standing.{AllStand, ElementsStand, EndsUsed, IsPadded}
+use Rattle.capnp_pointers.specs.Standing.{AllStand, EndsUsed, IsPadded}
+use Rattle.capnp_pointers.proofs.ElementsStanding.{ElementsStand}
 use Rattle.capnp_format.proofs.Digits.{length-digits}
 use Rattle.capnp_format.proofs.Slices.{has_words_first, has_words_rest, has_words_head, has_words_tail, has_words_within, moved}
 use Rattle.capnp_format.proofs.Lengths.{length-pointers, length-rows}

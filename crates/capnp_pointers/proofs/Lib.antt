@@ -1,3 +1,4 @@
+pub mod ElementsStanding
 pub mod Walking
 pub mod Chains
 pub mod Used
@@ -9,7 +10,6 @@ pub mod Takes
 pub mod NearRead
 pub mod Checks
 pub mod Falls
-pub mod Fails
 pub mod Measured
 pub mod Validated
 pub mod Extents
@@ -20,8 +20,7 @@ mod Worked
 pub mod Counted
 pub mod Rooms
 pub mod Returned
-pub mod NeverStops
-pub mod ReadsAlong
 pub mod Verdicts
 pub mod ObjectVerdicts
 pub mod Answered
+pub mod ReadsAlong

@@ -4,7 +4,6 @@ use Rattle.std.proofs.Common.{◌≡◌, ◌≢◌, ◌↔◌, ◌⊎◌, inl, i
 use Rattle.std.proofs.lemmas.Bool.{false≢true, ne_eqb}
 use Rattle.capnp_words.specs.declared.error.ErrorKind.{ErrorKind}
 use Rattle.capnp_words.specs.Meter.{Meter}
-use Rattle.capnp_format.specs.Segments.{IsPlace}
 use Rattle.capnp_format.specs.Word.{kind, data_words, pointer_count, element_size, list_count}
 use Rattle.capnp_format.specs.Numbers.{words_for, element_bits, from_digits}
 use Rattle.capnp_words.specs.Sizes.{size_number}

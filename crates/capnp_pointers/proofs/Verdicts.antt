@@ -13,11 +13,12 @@ use Rattle.capnp_objects.specs.Metered.{onward}
 use Rattle.capnp_objects.specs.Reading.{Reading, behind, segment_read, words_from}
 use Rattle.capnp_objects.proofs.Budgets.{paid_both}
 use Rattle.capnp_objects.proofs.Decided.{same_or_not}
-use Rattle.capnp_pointers.specs.Checking.{AreFound, FindsElements, progress, Progress, Finds, FindsAll, IsFound, IsCanonicalAt, AreCanonicalAt}
+use Rattle.capnp_pointers.specs.Checking.{AreFound, progress, Progress, Finds, FindsAll, IsFound, IsCanonicalAt, AreCanonicalAt}
 use Rattle.capnp_pointers.specs.Measure.{fold_elements, fold_pointers}
-use Rattle.capnp_pointers.specs.Standing.{ElementsStand, AllStand}
+use Rattle.capnp_pointers.specs.Standing.{AllStand}
+use Rattle.capnp_pointers.proofs.ElementsStanding.{ElementsStand}
 use Rattle.capnp_pointers.specs.Testing.{TestStep, elements_tested, is_used, pointers_tested, rows_tested, some_used, unless_fault}
-use Rattle.capnp_pointers.proofs.Checks.{AreFoundRows, finds_none, finds_no_element}
+use Rattle.capnp_pointers.proofs.Checks.{FindsElements, AreFoundRows, finds_none, finds_no_element}
 use Rattle.capnp_pointers.proofs.Accepts.{used_where_standing}
 use Rattle.capnp_pointers.proofs.Exactly.{ElementsAccept, reached, widths_fail, widths_within}
 use Rattle.capnp_pointers.proofs.Growing.{one_row}

@@ -1,6 +1,5 @@
 -- One level less, as a nesting limit counts it; and results that are passed on.
-use Rattle.std.proofs.Common.{◌≡◌, ℕ, zero, suc, pred, ◌+◌, ◌*◌, ◌<◌, ◌≤◌, length, Result, Ok, Err, IsOk, IfOk, IfErr, OnOk, OnErr, ap, ◌∙◌, arith}
-use Rattle.std.proofs.lemmas.Bool.{false≢true}
+use Rattle.std.proofs.Common.{◌≡◌, ℕ, zero, suc, pred, ◌+◌, ◌*◌, ◌<◌, ◌≤◌, length, Result, Ok, Err, IfOk, IfErr, OnOk, OnErr, ap, ◌∙◌, arith}
 use Rattle.std.proofs.lemmas.Int.{ints, to_z-of_z}
 use mir.Syntax.{w32}
 use mir.Val.{SFits, to_z, of_z}
@@ -38,17 +37,9 @@ pub ok_so : {A E : Type 0} (r : Result A E) {P Q : A → Type 0} → IfOk r P �
 ok_so (Ok x) h f = f x h
 ok_so (Err k) h f = tt
 
-pub from_ok : {A E : Type 0} (r : Result A E) {P : A → Type 0} {Q : Type 0} → IsOk r → IfOk r P → ((x : A) → P x → Q) → Q
-from_ok (Ok x) is h f = f x h
-from_ok (Err k) is h f = absurd (false≢true is)
-
 pub err_so : {A E : Type 0} (r : Result A E) {P Q : E → Type 0} → IfErr r P → ((k : E) → P k → Q k) → IfErr r Q
 err_so (Ok x) h f = tt
 err_so (Err k) h f = f k h
-
-pub err_with : {A E : Type 0} (r : Result A E) {X : Type 0} {P Q : E → Type 0} → OnErr r X → IfErr r P → (X → (k : E) → P k → Q k) → IfErr r Q
-err_with (Ok x) e h f = tt
-err_with (Err k) e h f = f e k h
 
 pub on_err : {A E : Type 0} (r : Result A E) {X : Type 0} → X → OnErr r X
 on_err (Ok x) h = tt
@@ -57,10 +48,6 @@ on_err (Err k) h = h
 pub on_err_so : {A E : Type 0} (r : Result A E) {X Y : Type 0} → OnErr r X → (X → Y) → OnErr r Y
 on_err_so (Ok x) h f = tt
 on_err_so (Err k) h f = f h
-
-pub on_err_both : {A E : Type 0} (r : Result A E) {X Y Z : Type 0} → OnErr r X → OnErr r Y → (X → Y → Z) → OnErr r Z
-on_err_both (Ok x) g h f = tt
-on_err_both (Err k) g h f = f g h
 
 pub on_ok_so : {A E : Type 0} (r : Result A E) {X Y : Type 0} → OnOk r X → (X → Y) → OnOk r Y
 on_ok_so (Ok x) h f = f h

@@ -4,6 +4,7 @@ pub mod Targets
 pub mod Answering
 pub mod Bytes
 pub mod Charged
+pub mod TestResults
 pub mod Same
 pub mod Values
 pub mod ListValues

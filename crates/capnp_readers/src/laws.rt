@@ -2,8 +2,7 @@
 //! "Canonicalization"; docs/FORMAT.md, "The test for canonical form"). Each function does nothing:
 //! its contract is the law, proved for all messages and limits.
 
-ghost use Rattle.std.specs.Prelude.{◌≡◌, ◌↔◌, ◌-◌, ◌≤◌, ◌∷◌, ℕ, length};
-ghost use Rattle.capnp_words.specs.declared.error.ErrorKind.{ErrorKind};
+ghost use Rattle.std.specs.Prelude.{◌≡◌, ◌↔◌, ◌-◌, ◌≤◌, ◌∷◌, ℕ, IsOk, length};
 ghost use Rattle.capnp_words.specs.Meter.{Meter};
 ghost use Rattle.capnp_format.specs.Tree.{Tree};
 ghost use Rattle.capnp_format.specs.Canonical.{Stands, charge, trim};
@@ -12,16 +11,17 @@ ghost use Rattle.capnp_objects.specs.Outcomes.{MeansThere, Reads};
 ghost use Rattle.capnp_objects.specs.Spending.{Paid};
 ghost use Rattle.capnp_objects.specs.Reading.{Reading, word_of, segment_read};
 ghost use Rattle.capnp_objects.specs.Wanted.{canonical};
-ghost use Rattle.capnp_pointers.specs.Checking.{Progress, progress, Finds, CanBeFound, CanAllBeFound, TestStops, TestEnds, TestsEnd, IsUnfit, Unread};
+ghost use Rattle.capnp_pointers.specs.Checking.{CanAllBeFound, CanBeFound, Finds, Progress, progress};
+ghost use Rattle.capnp_pointers.specs.Testing.{test_value, test_values};
 
 /// The test for canonical form never refuses a pointer if the pointer and words of its segment are
 /// the canonical words of a value, and reading them is within the nesting limit and the traversal
 /// limit. The same holds for a test of several consecutive pointers.
 pub fn canonical_is_answered()
-    ensures place { (k : ErrorKind) (r : Reading) (from : Progress) (m' : Meter)
-        → TestStops k r from m' → CanBeFound r from → ⊥ }
-    ensures pointers { (k : ErrorKind) (r : Reading) (i : ℕ) (from : Progress) (m' : Meter)
-        → TestsEnd (Unread k) r i from m' → CanAllBeFound r i from → ⊥ }
+    ensures place { (r : Reading) (head : ℕ) (m : Meter) → CanBeFound r (progress head m)
+        → IsOk (test_value r head m).0 }
+    ensures pointers { (i : ℕ) (r : Reading) (head : ℕ) (m : Meter)
+        → CanAllBeFound r i (progress head m) → IsOk (test_values i r head m).0 }
 {}
 
 /// The test for canonical form accepts the words of a canonical copy if the test starts with the
@@ -56,17 +56,13 @@ pub fn same_words()
         ↔ (t ≡ u) }
 {}
 
-/// A test for canonical form that finds a fault or is refused changes the limiter as reading does:
-/// the words that were granted are subtracted from the words left, and the pointers that were
-/// followed are added to the count of pointers. If nothing is charged, for example for a default
-/// value, the limiter is unchanged.
-pub fn end_is_charged()
-    ensures failed { (r : Reading) (from : Progress) (m' : Meter) → TestEnds IsUnfit r from m'
-        → (g : ℕ) × (i : ℕ) × Paid r.charging from.meter m' g i }
-    ensures refused { (k : ErrorKind) (r : Reading) (from : Progress) (m' : Meter)
-        → TestStops k r from m' → (g : ℕ) × (i : ℕ) × Paid r.charging from.meter m' g i }
-    ensures pointers_failed { (r : Reading) (n : ℕ) (from : Progress) (m' : Meter)
-        → TestsEnd IsUnfit r n from m' → (g : ℕ) × (i : ℕ) × Paid r.charging from.meter m' g i }
-    ensures pointers_refused { (k : ErrorKind) (r : Reading) (n : ℕ) (from : Progress) (m' : Meter)
-        → TestsEnd (Unread k) r n from m' → (g : ℕ) × (i : ℕ) × Paid r.charging from.meter m' g i }
+/// A test for canonical form changes the limiter as reading does, also if it finds a fault or is
+/// refused: the words that were granted are subtracted from the words left, and the pointers that
+/// were followed are added to the count of pointers. If nothing is charged, for example for a
+/// default value, the limiter is unchanged.
+pub fn test_is_charged()
+    ensures place { (r : Reading) (head : ℕ) (m : Meter)
+        → (g : ℕ) × (i : ℕ) × Paid r.charging m (test_value r head m).1 g i }
+    ensures pointers { (n : ℕ) (r : Reading) (head : ℕ) (m : Meter)
+        → (g : ℕ) × (i : ℕ) × Paid r.charging m (test_values n r head m).1 g i }
 {}

@@ -49,6 +49,7 @@ pub fn canonical_segment<S: ReaderSegments>(
             Ok(segment) => Some(whole_words(segment)),
             Err(_) => None,
         },
-        _ => None,
+        Ok(Some(_)) => None,
+        Err(_) => None,
     }
 }

@@ -1,12 +1,10 @@
 //! Tests whether a whole message is in canonical form.
-ghost use Rattle.std.specs.Prelude.{◌≡◌, ◌↔◌, false, true, length, Ok, IsTrue, IsOk, IfOk, OnOk, IfErr};
-ghost use Rattle.capnp_words.specs.Meter.{spent};
+ghost use Rattle.std.specs.Prelude.{◌≡◌, ◌↔◌, true, Ok, IsTrue, IfOk};
 ghost use Rattle.capnp_format.specs.Bytes.{message};
 ghost use Rattle.capnp_objects.specs.Source.{levels};
-ghost use Rattle.capnp_pointers.specs.Pointers.{reading};
-ghost use Rattle.capnp_pointers.specs.declared.pointers.canonical_fault.CanonicalFault.{CanonicalFault};
-ghost use Rattle.capnp_messages.specs.Roots.{CoversRoot, RefusesRoot, message_root};
-ghost use Rattle.capnp_messages.specs.CanonicalMessages.{IsCanonicalMessage, IsMessageFault, IsPaid, IsWithinLevels, AnswersTest};
+ghost use Rattle.capnp_objects.specs.Metered.{answer, ◌>>>◌};
+ghost use Rattle.capnp_messages.specs.CanonicalMessages.{IsCanonicalMessage, IsPaid, IsWithinLevels};
+ghost use Rattle.capnp_messages.specs.Check.{is_whole, message_tested};
 
 use super::message_fault::canonical_fault;
 use capnp_arena::arena::{ReaderArena, ReaderArenaImpl, ReaderSegments};
@@ -28,21 +26,16 @@ pub fn is_canonical_message<S: ReaderSegments>(
 ) -> Result<bool, ErrorKind>
     ensures exactly { IfOk result (λ yes. IsTrue yes
         ↔ IsCanonicalMessage (message (⟦<ReaderArenaImpl<S> as ReaderArena>⟧.segments arena.now))) }
-    ensures unread { (length (⟦<ReaderArenaImpl<S> as ReaderArena>⟧.segments arena.now) ≡ 1 → ⊥)
-        → (result ≡ Ok false) × (lim.new ≡ lim.old) }
     ensures paid { result ≡ Ok true →
         IsPaid (message (⟦<ReaderArenaImpl<S> as ReaderArena>⟧.segments arena.now))
         lim.old lim.new }
     ensures within { result ≡ Ok true →
         IsWithinLevels (message (⟦<ReaderArenaImpl<S> as ReaderArena>⟧.segments arena.now))
         (levels arena.now.nesting_limit) }
-    ensures answered { AnswersTest result
+    ensures computed { (message_tested
         (message (⟦<ReaderArenaImpl<S> as ReaderArena>⟧.segments arena.now))
-        (levels arena.now.nesting_limit) lim.old lim.new }
-    ensures failed { result ≡ Ok false → (f : CanonicalFault) ×
-        IsMessageFault f (message (⟦<ReaderArenaImpl<S> as ReaderArena>⟧.segments arena.now))
-        (levels arena.now.nesting_limit)
-        lim.old lim.new }
+        (levels arena.now.nesting_limit) >>> λ o. answer (is_whole o)) lim.old
+        ≡ (result, lim.new) }
 {
     Ok(canonical_fault(arena, lim)?.is_none())
 }

@@ -3,19 +3,24 @@
 
 mod parts;
 
-ghost use Rattle.std.specs.Prelude.{◌≡◌, ◌↔◌, ◌⊎◌, ◌≤◌, ◌+◌, ℕ, List, Some, Ok, Err};
+ghost use Rattle.std.specs.Prelude.{◌≡◌, ◌↔◌, ◌⊎◌, ◌≤◌, ◌+◌, ℕ, List, None, Some, Ok, Err, IsOk, length};
 ghost use Rattle.capnp_words.specs.declared.error.ErrorKind.{ErrorKind};
 ghost use Rattle.capnp_words.specs.declared.error.ErrorKind.TheVariants.{MessageTooLarge};
-ghost use Rattle.capnp_format.specs.Segments.{Segments};
+ghost use Rattle.capnp_format.specs.Segments.{HasSmallWords, Segments};
 ghost use Rattle.capnp_format.specs.Tree.{Tree, depth};
 ghost use Rattle.capnp_format.specs.Means.{Means};
 ghost use Rattle.capnp_format.specs.Canonical.{charge, encoding, trim, word_count};
 ghost use Rattle.capnp_arena_traits.specs.Allocations.{max_segment_words};
 ghost use Rattle.capnp_arena.specs.declared.arena.reader_arena_impl.ReaderOptions.{ReaderOptions};
 ghost use Rattle.capnp_framing.specs.Frames.{CanBeFramed, frame};
-ghost use Rattle.capnp_messages.specs.CanonicalMessages.{IsCanonicalOf};
+ghost use Rattle.capnp_pointers.specs.Testing.{IsTestName};
+ghost use Rattle.capnp_pointers.specs.ValueSize.{value_size};
+ghost use Rattle.capnp_pointers.specs.declared.pointers.canonical_fault.CanonicalFault.{CanonicalFault};
+ghost use Rattle.capnp_pointers.specs.declared.pointers.sizes.MessageSize.{MessageSize};
+ghost use Rattle.capnp_messages.specs.CanonicalMessages.{IsCanonicalMessage, IsCanonicalOf};
+ghost use Rattle.capnp_messages.specs.Check.{check, plain_value};
 ghost use Rattle.capnp_messages.specs.Canonicalize.{OutgrowsSegment, canonicalize};
-ghost use Rattle.capnp_messages.specs.Messages.{IsValueOf, RefusesCanon};
+ghost use Rattle.capnp_messages.specs.Messages.{IsReadable, IsValueOf, RefusesCanon, message_size};
 
 pub use parts::parts_found;
 
@@ -54,4 +59,31 @@ pub fn copies_refused()
     ensures within { (S : Segments) (limits : ReaderOptions) (n : ℕ) (k : ErrorKind)
         → limits.traversal_limit_in_words ≡ Some n → n ≤ max_segment_words
         → RefusesCanon S limits k ↔ (canonicalize S limits ≡ Err k) }
+{}
+
+/// The test of a whole message is a function of its segments and the limits, `check`. If the words
+/// of segment 0 have 64 bits, it finds no fault exactly if the message is the canonical message of a
+/// value within both limits (`canonical`). A message with a fault isn't canonical, under any limits
+/// (`fault`). The test isn't refused if the message has a value within the limits, or doesn't have
+/// exactly one segment (`answered`). If it is refused, so is reading the message's plain value; the
+/// error is the same, except that the test refuses a list without a level left with
+/// `NestingLimitExceeded` (`refused`).
+pub fn checks_computed()
+    ensures canonical { (S : Segments) (limits : ReaderOptions) → HasSmallWords S 0
+        → (check S limits ≡ Ok None) ↔ ((t : Tree) × IsCanonicalOf S t × IsValueOf S limits t) }
+    ensures fault { (S : Segments) (limits : ReaderOptions) (f : CanonicalFault)
+        → (length S ≡ 1 → HasSmallWords S 0) → check S limits ≡ Ok (Some f)
+        → IsCanonicalMessage S → ⊥ }
+    ensures answered { (S : Segments) (limits : ReaderOptions)
+        → (length S ≡ 1 → IsReadable S limits) → IsOk (check S limits) }
+    ensures refused { (S : Segments) (limits : ReaderOptions) (k : ErrorKind)
+        → check S limits ≡ Err k → (length S ≡ 1)
+        × ((l : ErrorKind) × IsTestName l k × (plain_value S limits ≡ Err l)) }
+{}
+
+/// If the root of a message means a value, and the message has a size within the limits, the size is
+/// the value's: its words and its capabilities.
+pub fn sizes_computed()
+    ensures { (S : Segments) (limits : ReaderOptions) (z : MessageSize) (t : Tree) (n cost : ℕ)
+        → message_size S limits ≡ Ok z → Means S n 0 0 t cost → z ≡ value_size t }
 {}

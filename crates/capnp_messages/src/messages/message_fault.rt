@@ -1,13 +1,11 @@
 //! Finds out where and why a whole message isn't in canonical form (encoding specification,
 //! "Canonicalization").
-ghost use Rattle.std.specs.Prelude.{◌≡◌, ◌≢◌, ◌↔◌, None, Some, Ok, length, min, IsNone, IsOk, IfNone, IfSome, IfOk, OnOk, IfErr};
-ghost use Rattle.capnp_words.specs.Meter.{spent};
+ghost use Rattle.std.specs.Prelude.{◌≡◌, ◌≢◌, ◌↔◌, None, Some, Ok, length, min, IsNone, IfNone, IfSome, IfOk};
 ghost use Rattle.capnp_format.specs.Bytes.{message};
 ghost use Rattle.capnp_objects.specs.Source.{levels};
 ghost use Rattle.capnp_pointers.specs.Faults.{FaultIs};
-ghost use Rattle.capnp_pointers.specs.Pointers.{reading};
-ghost use Rattle.capnp_messages.specs.Roots.{CoversRoot, RefusesRoot, message_root};
-ghost use Rattle.capnp_messages.specs.CanonicalMessages.{IsCanonicalMessage, IsMessageFault, IsPaid, AnswersTest, IsWithinLevels};
+ghost use Rattle.capnp_messages.specs.CanonicalMessages.{IsCanonicalMessage, IsPaid, IsWithinLevels};
+ghost use Rattle.capnp_messages.specs.Check.{message_tested};
 
 use super::root::read_root;
 use capnp_arena::arena::{ReaderArena, ReaderArenaImpl, ReaderSegments};
@@ -51,15 +49,9 @@ pub fn canonical_fault<S: ReaderSegments>(
     ensures within { IfOk result (λ o. IfNone o (
         IsWithinLevels (message (⟦<ReaderArenaImpl<S> as ReaderArena>⟧.segments arena.now))
         (levels arena.now.nesting_limit))) }
-    ensures answered { AnswersTest result
+    ensures computed { message_tested
         (message (⟦<ReaderArenaImpl<S> as ReaderArena>⟧.segments arena.now))
-        (levels arena.now.nesting_limit) lim.old lim.new }
-    ensures fault { IfOk result (λ o. IfSome o (λ f.
-        IsMessageFault f (message (⟦<ReaderArenaImpl<S> as ReaderArena>⟧.segments arena.now))
-        (levels arena.now.nesting_limit)
-        lim.old lim.new)) }
-    ensures unread { (length (⟦<ReaderArenaImpl<S> as ReaderArena>⟧.segments arena.now) ≡ 1 → ⊥)
-        → IsOk result × (lim.new ≡ lim.old) }
+        (levels arena.now.nesting_limit) lim.old ≡ (result, lim.new) }
 {
     let of_count = segment_count_fault(arena);
     if of_count.is_some() {

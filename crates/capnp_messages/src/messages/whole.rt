@@ -8,6 +8,7 @@ ghost use Rattle.capnp_arena_traits.specs.Allocations.{one_more};
 ghost use Rattle.capnp_arena_traits.specs.Limits.{IsSmall};
 ghost use Rattle.capnp_messages.specs.Copies.{HoldsCanonicalWords, LacksMemoryOr};
 ghost use Rattle.capnp_messages.specs.CanonicalMessages.{IsCanonicalMessage};
+ghost use Rattle.capnp_messages.specs.Check.{check, whole_result};
 ghost use Rattle.capnp_messages.specs.Tries.{IsMadeByFirstTry, IsSegmentRoom, NeedsMoreRoom};
 ghost use Rattle.capnp_messages.specs.Messages.{HasSizeOf, HasSizeWithin, IsCanonicalWithin, IsFaultOf, IsValueOf, RefusesCanon, RefusesCheck, RefusesSize, message_size, root_within};
 
@@ -129,6 +130,7 @@ pub fn canonical_fault_of<S: ReaderSegments + Drop>(
         ↔ IsCanonicalMessage (message (S.segments segments))) }
     ensures within { IfOk result (λ o. IfNone o
         (IsCanonicalWithin (message (S.segments segments)) limits)) }
+    ensures computed { check (message (S.segments segments)) limits ≡ result }
     ensures fault { IfOk result (λ o. IfSome o (IsFaultOf (message (S.segments segments)) limits)) }
     ensures refused { IfErr result (RefusesCheck (message (S.segments segments)) limits) }
 {
@@ -147,6 +149,7 @@ pub fn is_canonical<S: ReaderSegments + Drop>(
         ↔ IsCanonicalMessage (message (S.segments segments))) }
     ensures within { IfOk result (λ holds. OnTrue holds
         (IsCanonicalWithin (message (S.segments segments)) limits)) }
+    ensures computed { whole_result (check (message (S.segments segments)) limits) ≡ result }
     ensures refused { IfErr result (RefusesCheck (message (S.segments segments)) limits) }
 {
     let fault = canonical_fault_of(segments, limits)?;

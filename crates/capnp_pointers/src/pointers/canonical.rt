@@ -1,16 +1,14 @@
 //! The test for canonical form, in place.
-ghost use Rattle.std.specs.Prelude.{ℕ, ◌≡◌, ◌≢◌, ◌<◌, ◌≤◌, ◌+◌, ◌*◌, ◌/◌, ◌-◌, ◌⊎◌, ◌↔◌, pred, ◌^◌, None, IsOk, IsTrue, IsNone, Ok, true, false, Some, Err, IfOk, IfErr, IfNone, IfSome, OnOk, OnErr, length, slice_index};
+ghost use Rattle.std.specs.Prelude.{ℕ, ◌≡◌, ◌≢◌, ◌<◌, ◌≤◌, ◌+◌, ◌*◌, ◌/◌, ◌-◌, ◌⊎◌, ◌↔◌, pred, ◌^◌, None, IsTrue, Ok, true, false, Some, Err, IfOk, IfErr, OnErr, length, slice_index};
 ghost use Rattle.capnp_format.specs.Bytes.{words_of};
 ghost use Rattle.capnp_format.specs.Word.{kind, element_size};
 ghost use Rattle.capnp_format.specs.Numbers.{words_for};
 ghost use Rattle.capnp_words.specs.Sizes.{size_number};
 ghost use Rattle.capnp_objects.specs.Metered.{◌>>>◌, answer};
-ghost use Rattle.capnp_objects.specs.Reading.{behind, segment_read, word_of};
+ghost use Rattle.capnp_objects.specs.Reading.{behind, segment_read};
 ghost use Rattle.capnp_objects.specs.Source.{levels};
-ghost use Rattle.capnp_pointers.specs.Faults.{FaultIs};
 ghost use Rattle.capnp_pointers.specs.Pointers.{reading, reading_on};
-ghost use Rattle.capnp_objects.specs.Rows.{rows_sized};
-ghost use Rattle.capnp_pointers.specs.Checking.{progress, level_refusal_name, IsFound, AreFound, IsCanonicalAt, AreCanonicalAt, IsTestedWord, StartsRight, TellsFlat, TellsStruct, TellsRows, CanBeFound, CanAllBeFound, Unread, TestStops, TestEnds, TestsPlace, TestsPointers, IsFault, IsUnfit, TestsEnd, RowTestsEnd, SectionsFail, RowsFail};
+ghost use Rattle.capnp_pointers.specs.Checking.{HasSmallSegment, IsTestedWord, StartsRight, TellsFlat};
 ghost use Rattle.capnp_pointers.specs.Testing.{Tests, fault_verdict, head_found, head_moved, rows_tested, struct_tested, structs_tested, test_value, test_values, test_within};
 
 use crate::pointers::Pointer;
@@ -57,21 +55,9 @@ impl<'a, A: ReaderArena> Pointer<'a, A> {
         lim: &mut ReadLimiter,
         head: &mut u32,
     ) -> Result<Option<CanonicalFault>, ErrorKind>
-        ensures exactly { IfOk result (λ o. IsNone o
-            ↔ IsCanonicalAt (reading A.ReaderArena self.now) head.old) }
-        ensures found { IfOk result (λ o. IfNone o
-            (IsFound (reading A.ReaderArena self.now) (progress head.old lim.old)
-            (progress head.new lim.new))) }
-        ensures answered { CanBeFound (reading A.ReaderArena self.now) (progress head.old lim.old)
-            → IsOk result }
-        ensures refused { IfErr result
-            (λ k. TestStops k (reading A.ReaderArena self.now)
-            (progress head.old lim.old) lim.new) }
-        ensures fault { IfOk result (λ o. IfSome o
-            (λ f. TestEnds (IsFault f) (reading A.ReaderArena self.now)
-            (progress head.old lim.old) lim.new)) }
         ensures computed { test_value (reading A.ReaderArena self.now) head.old lim.old
             ≡ (fault_verdict result head.new, lim.new) }
+        ensures small { HasSmallSegment (reading A.ReaderArena self.now) }
         ensures kept { (result ≡ Ok None → ⊥) → head.new ≡ head.old }
     {
         let mut test = Test::begin(lim);
@@ -102,19 +88,9 @@ impl<'a, A: ReaderArena> Pointer<'a, A> {
     ) -> Result<bool, ErrorKind>
         requires inside { self.now.place.at + count
             ≤ length (segment_read (reading A.ReaderArena self.now)) }
-        ensures exactly { IfOk result (λ b. IsTrue b
-            ↔ AreCanonicalAt (reading A.ReaderArena self.now) count head.old) }
-        ensures found { IfOk result (λ b. IsTrue b
-            → AreFound (reading A.ReaderArena self.now) count
-            (progress head.old lim.old) (progress head.new lim.new)) }
-        ensures answered { CanAllBeFound (reading A.ReaderArena self.now) count
-            (progress head.old lim.old) → IsOk result }
-        ensures refused { IfErr result (λ k. TestsEnd (Unread k)
-            (reading A.ReaderArena self.now) count (progress head.old lim.old) lim.new) }
-        ensures failed { result ≡ Ok false → TestsEnd IsUnfit
-            (reading A.ReaderArena self.now) count (progress head.old lim.old) lim.new }
         ensures computed { (test_values count (reading A.ReaderArena self.now) head.old
             >>> λ v. answer (head_found v)) lim.old ≡ (head_moved result head.new, lim.new) }
+        ensures small { 0 < count → HasSmallSegment (reading A.ReaderArena self.now) }
         ensures kept { (result ≡ Ok true → ⊥) → head.new ≡ head.old }
     {
         let mut test = Test::begin(lim);
@@ -146,10 +122,9 @@ fn test_place<A: ReaderArena>(
     head: u32,
     test: &mut Test,
 ) -> Result<u32, Stopped>
-    ensures told { TestsPlace (reading_on A.ReaderArena from.now at nesting_limit)
-        (progress head test.old.lim) test.new result }
     ensures computed { Tests (test_value (reading_on A.ReaderArena from.now at nesting_limit) head)
         test.old test.new result }
+    ensures small { HasSmallSegment (reading A.ReaderArena from.now) }
 {
     let word = Place { at, ..from.place }.word();
     if at as usize >= whole_words(from.place.bytes) {
@@ -185,10 +160,9 @@ fn test_children<A: ReaderArena>(
     test: &mut Test,
 ) -> Result<u32, Stopped>
     requires inside { at + count ≤ length (segment_read (reading A.ReaderArena from.now)) }
-    ensures told { TestsPointers (reading_on A.ReaderArena from.now at nesting_limit) count
-        (progress first test.old.lim) test.new result }
     ensures computed { Tests (test_values count (reading_on A.ReaderArena from.now at nesting_limit)
         first) test.old test.new result }
+    ensures small { 0 < count → HasSmallSegment (reading A.ReaderArena from.now) }
 {
     let mut head = first;
     for i in 0..count {
@@ -212,9 +186,7 @@ fn test_struct<A: ReaderArena>(
     requires tested { IsTestedWord word.0 (reading_on A.ReaderArena from.now at nesting_limit) }
     requires some { word.0 ≢ 0 }
     requires is_struct { kind word.0 ≡ 0 }
-    ensures told { TestsPlace (reading_on A.ReaderArena from.now at nesting_limit)
-        (progress head test.old.lim) test.new result }
-    ensures computed { Tests (test_value (reading_on A.ReaderArena from.now at nesting_limit) head)
+    ensures { Tests (test_value (reading_on A.ReaderArena from.now at nesting_limit) head)
         test.old test.new result }
 {
     let pointer = PointerWord {
@@ -262,19 +234,7 @@ fn test_sections<A: ReaderArena>(
 ) -> Result<u32, Stopped>
     requires inside { start + (size.data_words + size.pointers)
         ≤ length (segment_read (reading A.ReaderArena from.now)) }
-    ensures tells { IfOk result (λ end.
-        TellsStruct (reading_on A.ReaderArena from.now start nesting_limit) size
-        test.old.lim test.new.lim (Some end)) }
-    ensures never { OnErr result (OnOk test.new.answer
-        (TellsStruct (reading_on A.ReaderArena from.now start nesting_limit) size
-        test.old.lim test.new.lim None)) }
-    ensures refused { OnErr result (IfErr test.new.answer (λ k. TestsEnd (Unread k)
-        (behind (reading_on A.ReaderArena from.now start nesting_limit) size.data_words)
-        size.pointers (progress (start + size.data_words + size.pointers) test.old.lim)
-        test.new.lim)) }
-    ensures failed { OnErr result (IfOk test.new.answer (λ f. SectionsFail f
-        (reading_on A.ReaderArena from.now start nesting_limit) size test.old.lim test.new.lim)) }
-    ensures computed { Tests (struct_tested (test_within (levels nesting_limit)) size.data_words
+    ensures { Tests (struct_tested (test_within (levels nesting_limit)) size.data_words
         size.pointers (reading_on A.ReaderArena from.now start nesting_limit))
         test.old test.new result }
 {
@@ -315,9 +275,7 @@ fn test_near_flat<A: ReaderArena>(
     requires tested { IsTestedWord word.0 (reading_on A.ReaderArena from.now at nesting_limit) }
     requires is_list { kind word.0 ≡ 1 }
     requires of_bits { (0 < element_size word.0) × (element_size word.0 ≤ 5) }
-    ensures told { TestsPlace (reading_on A.ReaderArena from.now at nesting_limit)
-        (progress head test.old.lim) test.new result }
-    ensures computed { Tests (test_value (reading_on A.ReaderArena from.now at nesting_limit) head)
+    ensures { Tests (test_value (reading_on A.ReaderArena from.now at nesting_limit) head)
         test.old test.new result }
 {
     let size = word.list_element_size();
@@ -360,9 +318,7 @@ fn test_list<A: ReaderArena>(
 ) -> Result<u32, Stopped>
     requires tested { IsTestedWord word.0 (reading_on A.ReaderArena from.now at nesting_limit) }
     requires is_list { kind word.0 ≡ 1 }
-    ensures told { TestsPlace (reading_on A.ReaderArena from.now at nesting_limit)
-        (progress head test.old.lim) test.new result }
-    ensures computed { Tests (test_value (reading_on A.ReaderArena from.now at nesting_limit) head)
+    ensures { Tests (test_value (reading_on A.ReaderArena from.now at nesting_limit) head)
         test.old test.new result }
 {
     let place = Place { at, ..from.place };
@@ -412,25 +368,7 @@ fn test_structs<A: ReaderArena>(
 ) -> Result<u32, Stopped>
     requires inside { start + claimed ≤ length (segment_read (reading A.ReaderArena from.now)) }
     requires tagged { 0 < start }
-    ensures tells { IfOk result (λ end. (count * (size.data_words + size.pointers) ≡ claimed)
-        × TellsRows (reading_on A.ReaderArena from.now start nesting_limit) (rows_sized size count)
-        (progress (start + claimed) test.old.lim) test.new.lim (Some end)) }
-    ensures never { OnErr result (OnOk test.new.answer
-        (count * (size.data_words + size.pointers) ≡ claimed
-        → TellsRows (reading_on A.ReaderArena from.now start nesting_limit) (rows_sized size count)
-        (progress (start + claimed) test.old.lim) test.new.lim None)) }
-    ensures exact { OnErr result (OnErr test.new.answer
-        (count * (size.data_words + size.pointers) ≡ claimed)) }
-    ensures refused { OnErr result (IfErr test.new.answer (λ k. RowTestsEnd (Unread k)
-        (reading_on A.ReaderArena from.now start nesting_limit) (rows_sized size count)
-        (progress (start + claimed) test.old.lim) test.new.lim)) }
-    ensures failed { OnErr result (IfOk test.new.answer (λ f.
-        (FaultIs f CanonicalFaultReason.ElementWords from.now.place.segment (start - 1)
-        × (count * (size.data_words + size.pointers) ≢ claimed) × (test.new.lim ≡ test.old.lim))
-        ⊎ ((count * (size.data_words + size.pointers) ≡ claimed)
-        × RowsFail f (reading_on A.ReaderArena from.now start nesting_limit) (rows_sized size count)
-        test.old.lim test.new.lim))) }
-    ensures computed { Tests (structs_tested (test_within (levels nesting_limit)) claimed size count
+    ensures { Tests (structs_tested (test_within (levels nesting_limit)) claimed size count
         (reading_on A.ReaderArena from.now start nesting_limit)) test.old test.new result }
 {
     if u64::from(count) * u64::from(size.total()) != u64::from(claimed) {
@@ -461,21 +399,7 @@ fn test_rows<A: ReaderArena>(
     requires inside { start + count * (size.data_words + size.pointers)
         ≤ length (segment_read (reading A.ReaderArena from.now)) }
     requires tagged { 0 < start }
-    ensures tells { IfOk result (λ end.
-        TellsRows (reading_on A.ReaderArena from.now start nesting_limit) (rows_sized size count)
-        (progress (start + count * (size.data_words + size.pointers)) test.old.lim)
-        test.new.lim (Some end)) }
-    ensures never { OnErr result (OnOk test.new.answer
-        (TellsRows (reading_on A.ReaderArena from.now start nesting_limit) (rows_sized size count)
-        (progress (start + count * (size.data_words + size.pointers)) test.old.lim)
-        test.new.lim None)) }
-    ensures refused { OnErr result (IfErr test.new.answer (λ k. RowTestsEnd (Unread k)
-        (reading_on A.ReaderArena from.now start nesting_limit) (rows_sized size count)
-        (progress (start + count * (size.data_words + size.pointers)) test.old.lim) test.new.lim)) }
-    ensures failed { OnErr result (IfOk test.new.answer (λ f. RowsFail f
-        (reading_on A.ReaderArena from.now start nesting_limit) (rows_sized size count)
-        test.old.lim test.new.lim)) }
-    ensures computed { Tests (rows_tested (test_within (levels nesting_limit)) size.data_words
+    ensures { Tests (rows_tested (test_within (levels nesting_limit)) size.data_words
         size.pointers count (reading_on A.ReaderArena from.now start nesting_limit))
         test.old test.new result }
 {
@@ -524,9 +448,7 @@ fn test_row<A: ReaderArena>(
     test: &mut Test,
 ) -> Result<u32, Stopped>
     requires inside { at + count ≤ length (segment_read (reading A.ReaderArena from.now)) }
-    ensures told { TestsPointers (reading_on A.ReaderArena from.now at nesting_limit) count
-        (progress first test.old.lim) test.new result }
-    ensures computed { Tests (test_values count (reading_on A.ReaderArena from.now at nesting_limit)
+    ensures { Tests (test_values count (reading_on A.ReaderArena from.now at nesting_limit)
         first) test.old test.new result }
 {
     if count == 0 {

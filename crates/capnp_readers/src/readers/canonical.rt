@@ -1,9 +1,11 @@
 //! Tests whether the value that a pointer leads to, or a struct that is being read, is in canonical
 //! form.
-ghost use Rattle.std.specs.Prelude.{◌≡◌, ◌≢◌, ◌↔◌, None, IsOk, IsTrue, IsNone, Ok, true, false, IfOk, IfErr, IfNone, IfSome};
+ghost use Rattle.std.specs.Prelude.{◌<◌, ◌≡◌, ◌≢◌, ◌↔◌, None, IsTrue, Ok, true, false, IfOk};
 ghost use Rattle.capnp_readers.specs.Readers.{read_by};
 ghost use Rattle.capnp_readers.specs.Sizes.{pointers_read};
-ghost use Rattle.capnp_pointers.specs.Checking.{progress, IsFound, AreFound, IsCanonicalAt, AreCanonicalAt, CanBeFound, CanAllBeFound, Unread, TestStops, TestEnds, IsFault, IsUnfit, TestsEnd};
+ghost use Rattle.capnp_objects.specs.Metered.{◌>>>◌, answer};
+ghost use Rattle.capnp_pointers.specs.Checking.{HasSmallSegment};
+ghost use Rattle.capnp_pointers.specs.Testing.{fault_verdict, head_found, head_moved, test_value, test_values};
 ghost use Rattle.capnp_readers.specs.Checking.{StartsWhole, IsDataUsed, ArePointersUsed, head_behind};
 
 use crate::readers::{PointerReader, StructReader};
@@ -41,19 +43,9 @@ impl<'a, A: ReaderArena> PointerReader<'a, A> {
     /// a list. Returns `false` at the first word that isn't canonical. After a refusal or `false`,
     /// what was charged before stays charged.
     pub fn is_canonical(&self, lim: &mut ReadLimiter, head: &mut u32) -> Result<bool, ErrorKind>
-        ensures exactly { IfOk result (λ b. IsTrue b
-            ↔ IsCanonicalAt (read_by A.ReaderArena self.now) head.old) }
-        ensures found { IfOk result (λ b. IsTrue b
-            → IsFound (read_by A.ReaderArena self.now) (progress head.old lim.old)
-            (progress head.new lim.new)) }
-        ensures answered { CanBeFound (read_by A.ReaderArena self.now) (progress head.old lim.old)
-            → IsOk result }
-        ensures refused { IfErr result
-            (λ k. TestStops k (read_by A.ReaderArena self.now)
-            (progress head.old lim.old) lim.new) }
-        ensures failed { result ≡ Ok false
-            → TestEnds IsUnfit (read_by A.ReaderArena self.now) (progress head.old lim.old)
-            lim.new }
+        ensures computed { (test_value (read_by A.ReaderArena self.now) head.old
+            >>> λ v. answer (head_found v)) lim.old ≡ (head_moved result head.new, lim.new) }
+        ensures small { HasSmallSegment (read_by A.ReaderArena self.now) }
         ensures kept { (result ≡ Ok true → ⊥) → head.new ≡ head.old }
     {
         Ok(self.canonical_fault(lim, head)?.is_none())
@@ -71,19 +63,9 @@ impl<'a, A: ReaderArena> PointerReader<'a, A> {
         lim: &mut ReadLimiter,
         head: &mut u32,
     ) -> Result<Option<CanonicalFault>, ErrorKind>
-        ensures exactly { IfOk result (λ o. IsNone o
-            ↔ IsCanonicalAt (read_by A.ReaderArena self.now) head.old) }
-        ensures found { IfOk result (λ o. IfNone o
-            (IsFound (read_by A.ReaderArena self.now) (progress head.old lim.old)
-            (progress head.new lim.new))) }
-        ensures answered { CanBeFound (read_by A.ReaderArena self.now) (progress head.old lim.old)
-            → IsOk result }
-        ensures refused { IfErr result
-            (λ k. TestStops k (read_by A.ReaderArena self.now)
-            (progress head.old lim.old) lim.new) }
-        ensures fault { IfOk result (λ o. IfSome o
-            (λ f. TestEnds (IsFault f) (read_by A.ReaderArena self.now)
-            (progress head.old lim.old) lim.new)) }
+        ensures computed { test_value (read_by A.ReaderArena self.now) head.old lim.old
+            ≡ (fault_verdict result head.new, lim.new) }
+        ensures small { HasSmallSegment (read_by A.ReaderArena self.now) }
         ensures kept { (result ≡ Ok None → ⊥) → head.new ≡ head.old }
     {
         self.pointer().canonical_fault(lim, head)
@@ -113,30 +95,19 @@ impl<'a, A: ReaderArena> StructReader<'a, A> {
         data_trunc: &mut bool,
         ptr_trunc: &mut bool,
     ) -> Result<bool, ErrorKind>
-        ensures exactly { IfOk result (λ b. IsTrue b
-            ↔ StartsWhole A.ReaderArena self.now read_head.old
-            × AreCanonicalAt (pointers_read A.ReaderArena self.now) self.now.pointer_count
-            ptr_head.old) }
-        ensures found { IfOk result (λ b. IsTrue b
-            → AreFound (pointers_read A.ReaderArena self.now) self.now.pointer_count
-            (progress ptr_head.old lim.old) (progress ptr_head.new lim.new)) }
+        ensures computed { StartsWhole A.ReaderArena self.now read_head.old
+            → (test_values self.now.pointer_count (pointers_read A.ReaderArena self.now) ptr_head.old
+            >>> λ v. answer (head_found v)) lim.old ≡ (head_moved result ptr_head.new, lim.new) }
+        ensures elsewhere { (StartsWhole A.ReaderArena self.now read_head.old → ⊥)
+            → (result ≡ Ok false) × (lim.new ≡ lim.old) }
+        ensures small { StartsWhole A.ReaderArena self.now read_head.old
+            → 0 < self.now.pointer_count → HasSmallSegment (pointers_read A.ReaderArena self.now) }
         ensures behind { IfOk result (λ b. IsTrue b → read_head.new
             ≡ head_behind A.ReaderArena self.now read_head.old) }
         ensures data { IfOk result (λ b. IsTrue b → IsTrue data_trunc.new
             ↔ IsDataUsed A.ReaderArena self.now) }
         ensures pointers { IfOk result (λ b. IsTrue b → IsTrue ptr_trunc.new
             ↔ ArePointersUsed A.ReaderArena self.now) }
-        ensures answered { CanAllBeFound (pointers_read A.ReaderArena self.now)
-            self.now.pointer_count (progress ptr_head.old lim.old) → IsOk result }
-        ensures started { IfErr result (λ k. StartsWhole A.ReaderArena self.now read_head.old) }
-        ensures elsewhere { (StartsWhole A.ReaderArena self.now read_head.old → ⊥)
-            → lim.new ≡ lim.old }
-        ensures refused { IfErr result (λ k. TestsEnd (Unread k)
-            (pointers_read A.ReaderArena self.now) self.now.pointer_count
-            (progress ptr_head.old lim.old) lim.new) }
-        ensures failed { result ≡ Ok false → StartsWhole A.ReaderArena self.now read_head.old
-            → TestsEnd IsUnfit (pointers_read A.ReaderArena self.now) self.now.pointer_count
-            (progress ptr_head.old lim.old) lim.new }
         ensures kept { (result ≡ Ok true → ⊥) → (read_head.new ≡ read_head.old)
             × (ptr_head.new ≡ ptr_head.old) }
         ensures flags { (result ≡ Ok true → ⊥) → (data_trunc.new ≡ data_trunc.old)
@@ -169,30 +140,18 @@ impl<'a, A: ReaderArena> StructReader<'a, A> {
         data_trunc: &mut bool,
         ptr_trunc: &mut bool,
     ) -> Result<bool, ErrorKind>
-        ensures exactly { IfOk result (λ b. IsTrue b
-            ↔ StartsWhole A.ReaderArena self.now head.old
-            × AreCanonicalAt (pointers_read A.ReaderArena self.now) self.now.pointer_count
-            (head_behind A.ReaderArena self.now head.old)) }
-        ensures found { IfOk result (λ b. IsTrue b
-            → AreFound (pointers_read A.ReaderArena self.now) self.now.pointer_count
-            (progress (head_behind A.ReaderArena self.now head.old) lim.old)
-            (progress head.new lim.new)) }
+        ensures computed { StartsWhole A.ReaderArena self.now head.old
+            → (test_values self.now.pointer_count (pointers_read A.ReaderArena self.now)
+            (head_behind A.ReaderArena self.now head.old) >>> λ v. answer (head_found v)) lim.old
+            ≡ (head_moved result head.new, lim.new) }
+        ensures elsewhere { (StartsWhole A.ReaderArena self.now head.old → ⊥)
+            → (result ≡ Ok false) × (lim.new ≡ lim.old) }
+        ensures small { StartsWhole A.ReaderArena self.now head.old
+            → 0 < self.now.pointer_count → HasSmallSegment (pointers_read A.ReaderArena self.now) }
         ensures data { IfOk result (λ b. IsTrue b → IsTrue data_trunc.new
             ↔ IsDataUsed A.ReaderArena self.now) }
         ensures pointers { IfOk result (λ b. IsTrue b → IsTrue ptr_trunc.new
             ↔ ArePointersUsed A.ReaderArena self.now) }
-        ensures answered { CanAllBeFound (pointers_read A.ReaderArena self.now)
-            self.now.pointer_count (progress (head_behind A.ReaderArena self.now head.old) lim.old)
-            → IsOk result }
-        ensures started { IfErr result (λ k. StartsWhole A.ReaderArena self.now head.old) }
-        ensures elsewhere { (StartsWhole A.ReaderArena self.now head.old → ⊥)
-            → lim.new ≡ lim.old }
-        ensures refused { IfErr result (λ k. TestsEnd (Unread k)
-            (pointers_read A.ReaderArena self.now) self.now.pointer_count
-            (progress (head_behind A.ReaderArena self.now head.old) lim.old) lim.new) }
-        ensures failed { result ≡ Ok false → StartsWhole A.ReaderArena self.now head.old
-            → TestsEnd IsUnfit (pointers_read A.ReaderArena self.now) self.now.pointer_count
-            (progress (head_behind A.ReaderArena self.now head.old) lim.old) lim.new }
         ensures kept { (result ≡ Ok true → ⊥) → head.new ≡ head.old }
         ensures flags { (result ≡ Ok true → ⊥) → (data_trunc.new ≡ data_trunc.old)
             × (ptr_trunc.new ≡ ptr_trunc.old) }

@@ -18,7 +18,7 @@ returns c =
     at_root c.new-arena.ensures.words c.new-arena.ensures.nesting c.new-lim.ensures c.in_ok-root.ensures.place c.in_ok-root.ensures.charged (c.read_root.ensures.exactly.0 read) in
     record {
       small = search rules;
-      check = check_answers c.is_canonical.result _ at c.is_canonical.ensures.exactly c.is_canonical.ensures.found;
-      answered = λ small canonical. check_answered c.is_canonical.result _ at c.is_canonical.ensures.refused canonical;
-      refused = IfErr-weaker c.is_canonical.result _ _ (λ k stops. inr (check_refused at stops)) c.is_canonical.ensures.refused;
+      check = check_answers c.is_canonical.result c.is_canonical.new.head c.is_canonical.new.lim at c.is_canonical.ensures.small c.is_canonical.ensures.computed;
+      answered = λ small canonical. check_answered c.is_canonical.result c.is_canonical.new.head c.is_canonical.new.lim at c.is_canonical.ensures.computed canonical;
+      refused = IfErr-weaker c.is_canonical.result _ _ (λ k refused. inr refused) (check_refused c.is_canonical.result c.is_canonical.new.head c.is_canonical.new.lim at c.is_canonical.ensures.computed);
     }

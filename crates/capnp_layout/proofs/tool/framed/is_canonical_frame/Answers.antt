@@ -2,7 +2,7 @@ use Rattle.std.proofs.Common.{inl, inr, refl, subst}
 use Rattle.std.proofs.lemmas.Result.{err_from_is_err_and}
 use Rattle.capnp_format.specs.Segments.{Segments}
 use Rattle.capnp_messages.specs.Messages.{RefusesCheck}
-use Rattle.capnp_messages.proofs.AnsweredLemmas.{check_refused}
+use Rattle.capnp_messages.proofs.AnsweredLemmas.{check_alone, check_refused}
 use Rattle.capnp_layout.proofs.FrameCommands.{frame_not_refused, one_message}
 use Rattle.capnp_layout.proofs.tool.framed.is_canonical_frame.Goals as goal
 
@@ -17,7 +17,7 @@ returns-in_err-frame-clause-refused c =
 pub returns-in-Err-clause-answered : goal.returns-in-Err-clause-answered
 returns-in-Err-clause-answered c = λ (S, holds, tested).
     let refused = subst (λ (T : Segments). RefusesCheck T c.args.options c.in-Err.kind) (one_message c.in_ok-frame.ensures.holds holds) c.in-Err.ensures.refused in
-    absurd (check_refused S c.args.options (tested refused.0) refused)
+    absurd (check_refused S c.args.options (tested (check_alone S c.args.options refused)) refused)
 
 pub returns-in-Err-clause-refused : goal.returns-in-Err-clause-refused
 returns-in-Err-clause-refused c = inr (_, c.in_ok-frame.ensures.holds, (c.in-Err.kind, refl, c.in-Err.ensures.refused))
