@@ -14,7 +14,7 @@ pub mod Measured
 pub mod Validated
 pub mod Extents
 pub mod ExtentBounds
-pub mod Unexpected
+pub mod Traversed
 pub mod Tested
 mod Worked
 pub mod Counted

@@ -10,7 +10,7 @@ use Rattle.capnp_words.specs.Meter.{Meter, Affords}
 use Rattle.capnp_words.specs.declared.wire_pointer.ElementSize.{ElementSize}
 use Rattle.capnp_words.specs.Sizes.{size_number}
 use Rattle.capnp_format.specs.Numbers.{words_for}
-use Rattle.capnp_format.specs.Word.{kind, data_words}
+use Rattle.capnp_format.specs.Word.{kind}
 use Rattle.capnp_format.specs.Segments.{HasSmallWords, word_at, IsPlace}
 use Rattle.capnp_format.specs.Tree.{Tree, Trees, count, depth, depth_all}
 use Rattle.capnp_format.specs.Canonical.{Stands, ForOffset, word_count, word_count_all}

@@ -1,7 +1,7 @@
 //! Laws of sizes, of the test for canonical form, and of values that can be read. Each function does
 //! nothing: its contract is the law, proved for all messages and limits.
 
-ghost use Rattle.std.specs.Prelude.{◌≡◌, ◌<◌, ◌≤◌, ◌+◌, ℕ, true, Some, Ok, Err, ◌↔◌};
+ghost use Rattle.std.specs.Prelude.{◌≡◌, ◌<◌, ◌≤◌, ◌+◌, ◌++◌, ◌∷◌, ℕ, List, true, Some, Ok, Err, ◌↔◌};
 ghost use Rattle.capnp_words.specs.declared.error.ErrorKind.{ErrorKind};
 ghost use Rattle.capnp_words.specs.Meter.{Affords, Meter};
 ghost use Rattle.capnp_format.specs.Canonical.{trim, word_count};
@@ -17,6 +17,7 @@ ghost use Rattle.capnp_objects.specs.Wanted.{plain};
 ghost use Rattle.capnp_pointers.specs.Checking.{AreCanonicalAt, AreFound, HasSmallSegment, IsCanonicalAt, IsFound, progress};
 ghost use Rattle.capnp_pointers.specs.Measure.{FitSize, measure, only_words};
 ghost use Rattle.capnp_pointers.specs.Testing.{test_value, test_values, IsTestName};
+ghost use Rattle.capnp_pointers.specs.Traversals.{Traverses, IsUnexpected};
 ghost use Rattle.capnp_pointers.specs.Unexpected.{LeadsToOther};
 ghost use Rattle.capnp_pointers.specs.ValueSize.{value_size};
 ghost use Rattle.capnp_pointers.specs.declared.pointers.canonical_fault.CanonicalFault.{CanonicalFault};
@@ -118,4 +119,16 @@ pub fn refused_as_unexpected()
     ensures { (e : Expected) (r : Reading) (m m' : Meter) (t : Tree) (c : ℕ) (k : ErrorKind)
         → MeansThere r t c → 0 < r.levels → Affords r.charging m c
         → expect (expectation e) r m ≡ (Err k, m') → LeadsToOther (expectation e) r k }
+{}
+
+/// What `Pointer::validate` is for. If a value can be read within both limits, then whoever reads it
+/// with these limits, following each of its pointers at most once, in any order, by calls that
+/// expect objects of some kind, is never refused for a limit or for a broken message. A call is
+/// refused only for what it found: an object of another kind, a text that doesn't end in a zero
+/// byte, or elements of a list that are too narrow; or, where no level is left, a capability.
+pub fn traversals_within_limits()
+    ensures { (r : Reading) (m left now next : Meter) (t : Tree) (before later : List Reading)
+        (s : Reading) (e : Expected) (k : ErrorKind) → value plain r m ≡ (Ok t, left)
+        → Traverses r m (before ++ (s ∷ later)) now
+        → expect (expectation e) s now ≡ (Err k, next) → IsUnexpected e s k }
 {}
