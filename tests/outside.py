@@ -1,10 +1,10 @@
 #!/usr/bin/env python3
 """Runs the tests that aren't part of the gate: those of the library, of a release, of a clone, of the programs' pages and
-options, of the JavaScript package and the viewer, and the comparison with C++ Cap'n Proto.
+options, of the JavaScript package, of generated readers and the viewer, and the comparison with C++ Cap'n Proto.
 
     outside.py [NAME..]
 
-NAMEs choose the parts: completion, shell, peer, js, viewer, library, clone, release; by default all, which takes most of an
+NAMEs choose the parts: completion, shell, peer, js, typed, viewer, library, clone, release; by default all, which takes most of an
 hour. Some parts prove and build what isn't built yet; clone and release test the last commit.
 
 Prints the last line of each part, and the lines that say what the part itself skipped. If a part fails, also prints the end
@@ -24,6 +24,7 @@ PARTS = (
     ('shell', ('sh', 'tests/shell.sh'), ('rt|build/capnp_canon', 'timeout')),
     ('peer', ('sh', 'tests/peer/run.sh'), ('rt|build/capnp_canon', 'capnp')),
     ('js', ('sh', 'tests/js/run.sh'), ('node',)),
+    ('typed', (sys.executable, '-B', 'tests/typed/run.py'), ('rt', 'capnp')),
     ('viewer', ('sh', 'tests/viewer/run.sh'), ('node', os.environ.get('CHROMIUM', 'chromium'))),
     ('library', ('sh', 'tests/library/run.sh'), ('rt',)),
     ('clone', ('sh', 'tests/release/clone.sh'), ('git', 'make', 'cc')),

@@ -5,9 +5,9 @@ ghost use Rattle.capnp_format.specs.Means.{Means};
 ghost use Rattle.capnp_format.specs.Tree.{Tree};
 ghost use Rattle.capnp_objects.specs.Source.{levels};
 ghost use Rattle.capnp_readers.specs.Values.{HasStructs, struct_element};
-ghost use Rattle.addressbook.specs.Schema.{address_book_people, person_id};
+ghost use Rattle.addressbook_reading.specs.Schema.{address_book_people, person_id};
 
-use crate::address_book;
+use addressbook_reading::address_book;
 use capnp_arena_traits::arena::ReaderArena;
 use capnp_words::error::ErrorKind;
 use capnp_words::read_limiter::ReadLimiter;

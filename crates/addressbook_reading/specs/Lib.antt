@@ -1,0 +1,3 @@
+pub mod Schema
+pub mod OfPersonEmploymentWhich
+pub mod OfPersonPhoneNumberType

@@ -1,0 +1,96 @@
+//! The program `capnpc-rattle`, a plug-in of the schema compiler, `capnp compile`: reads the compiler's
+//! request from standard input, and writes a crate of readers into the working directory. The crate
+//! needs no proof of its own.
+#![tactic(auto)]
+
+mod imports;
+mod model;
+mod modules;
+mod names;
+mod noted;
+mod readers;
+mod request;
+mod templates;
+mod text;
+mod writing;
+
+use anyhow::{Result, anyhow};
+use capnp_arena::arena::{ReaderArena, ReaderArenaImpl, ReaderOptions};
+use capnp_framing::devices::ReaderInput;
+use capnp_framing::framing::read;
+use capnp_words::read_limiter::ReadLimiter;
+use modules::name_modules;
+use names::snake_case;
+use noted::Noted;
+use readers::{File, Readers};
+use request::{Request, read_request};
+use schema_reading::code_generator_request;
+use std::alloc::{AllocError, Global};
+use std::rt::Files;
+use std::{fs, io};
+
+/// The most words of a request.
+const MAX_WORDS: u64 = 1 << 28;
+
+/// Reads the request that standard input has.
+fn requested(rt: &(impl Input + AllocGlobal)) -> Result<Request> {
+    let mut input = ReaderInput::new(rt.reader());
+    let Some(segments) = read(rt.alloc(), &mut input, MAX_WORDS)? else {
+        return Err(anyhow!("no request: run `capnp compile -o./capnpc-rattle SCHEMA.capnp`"));
+    };
+    // the compiler is trusted, so the traversal isn't limited
+    let mut limiter = ReadLimiter::new(None);
+    let arena = ReaderArenaImpl::new(segments, ReaderOptions::default());
+    request_in(rt.alloc(), &arena, &mut limiter)
+}
+
+/// Reads the request that a message is, and names the modules.
+fn request_in<A: ReaderArena>(alloc: Global, arena: &A, lim: &mut ReadLimiter) -> Result<Request> {
+    let root = code_generator_request::Reader::root(arena, lim)?;
+    let mut noted = Noted::new(alloc);
+    let mut request = read_request(root, lim, &mut noted);
+    name_modules(&mut request.nodes, &mut noted);
+    noted.finish()?;
+    Ok(request)
+}
+
+/// The name of a file without its folders and its ending.
+fn stem(file: &str) -> &str {
+    let name = match file.rsplit_once('/') {
+        Some((_, name)) => name,
+        None => file,
+    };
+    match name.split_once('.') {
+        Some((stem, _)) => stem,
+        None => name,
+    }
+}
+
+/// Returns the files of the crate that is requested.
+fn generate(alloc: Global, request: &Request) -> Result<Vec<File>, AllocError> {
+    let stem = stem(request.file.as_str());
+    let mut name = snake_case(alloc, stem);
+    name.push("_reading");
+    let name = name.whole()?;
+    let mut readers = Readers::new(alloc, name.as_str(), request.nodes.as_slice());
+    readers.write(stem);
+    readers.files()
+}
+
+/// Writes a file, and makes its folder.
+fn write_file<R: Files>(rt: &R, file: &File) -> io::Result<()> {
+    let path = file.path.as_str();
+    if let Some((folder, _)) = path.rsplit_once('/') {
+        fs::create_dir_all(rt, folder)?;
+    }
+    fs::write(rt, path, file.text.as_str())
+}
+
+fn main(rt: HostRuntime) -> Result<()> {
+    let request = requested(&rt)?;
+    let files = generate(rt.alloc(), &request)?;
+    for file in files.iter() {
+        write_file(&rt, file)?;
+    }
+    Ok(())
+}

@@ -1,0 +1,74 @@
+//! Names in generated code.
+
+use crate::text::Text;
+use std::alloc::Global;
+
+/// Names that a module can't have: words of Rust, Rattle and its prover, and what modules import.
+pub const MODULE_WORDS: &[&str] = &[
+    "as", "break", "const", "continue", "crate", "else", "enum", "extern", "false", "fn", "for",
+    "if", "impl", "in", "let", "loop", "match", "mod", "move", "mut", "pub", "ref", "return",
+    "self", "static", "struct", "super", "trait", "true", "type", "unsafe", "use", "where",
+    "while", "async", "await", "dyn", "abstract", "become", "box", "do", "final", "macro",
+    "override", "priv", "typeof", "unsized", "virtual", "yield", "try", "gen", "ghost", "requires",
+    "ensures", "result", "lib", "std", "core", "main", "value", "list", "syntax", "prim",
+];
+
+/// Names that an enum and its variants can't have.
+pub const VARIANT_WORDS: &[&str] = &["Self", "Type", "Below"];
+
+/// Names that the definition of a field can't have, since modules import them too.
+pub const SPEC_WORDS: &[&str] = &[
+    "cast_unsigned",
+    "source_start",
+    "read_by",
+    "child_cost",
+    "list_length",
+    "struct_element",
+    "text_bytes",
+    "list_numbers",
+    "text_or",
+    "data_or",
+    "bits_in",
+    "bit_xor",
+];
+
+/// Returns a name in snake case, in the same way that upstream does: each capital becomes `_` and a
+/// small letter. What isn't a letter or a digit becomes `_`.
+pub fn snake_case(alloc: Global, name: &str) -> Text {
+    let mut snake = Text::new(alloc);
+    let mut starts = true;
+    for c in name.chars() {
+        if c.is_ascii_uppercase() && !starts {
+            snake.push_char('_');
+        }
+        starts = !c.is_ascii_alphanumeric();
+        snake.push_char(if starts { '_' } else { c.to_ascii_lowercase() });
+    }
+    snake
+}
+
+/// Returns a name with a capital at its start.
+pub fn capitalized(alloc: Global, name: &str) -> Text {
+    let mut capital = Text::new(alloc);
+    for (i, c) in name.chars().enumerate() {
+        capital.push_char(if i == 0 { c.to_ascii_uppercase() } else { c });
+    }
+    capital
+}
+
+/// Returns the name of the file with a module's numbers: each part with a capital, without `_`
+/// between them.
+pub fn joined(alloc: Global, module: &str) -> Text {
+    let mut joined = Text::new(alloc);
+    let mut starts = true;
+    for c in module.chars() {
+        if c != '_' {
+            joined.push_char(if starts { c.to_ascii_uppercase() } else { c });
+        }
+        starts = c == '_';
+    }
+    if starts {
+        joined.push_char('_');
+    }
+    joined
+}

@@ -1,0 +1,139 @@
+//! Notes what is refused while the request is read, and goes on with an empty value. So the code
+//! that reads the request is without a branch at each call.
+
+use crate::names::snake_case;
+use crate::text::Text;
+use anyhow::{Result, anyhow};
+use capnp_words::error::ErrorKind;
+use std::alloc::{AllocError, Global};
+use std::str;
+
+/// What was refused so far.
+#[derive(Drop)]
+pub struct Noted {
+    alloc: Global,
+    // The first refusal of a reader.
+    refusal: Option<ErrorKind>,
+    // Whether a text wasn't UTF-8.
+    has_bad_text: bool,
+    // Whether memory was lacking.
+    has_failed: bool,
+}
+
+impl Noted {
+    /// Returns notes of nothing.
+    pub fn new(alloc: Global) -> Self {
+        Noted {
+            alloc,
+            refusal: None,
+            has_bad_text: false,
+            has_failed: false,
+        }
+    }
+
+    /// The allocator.
+    pub fn alloc(&self) -> Global {
+        self.alloc
+    }
+
+    /// Refuses what was read if something is noted.
+    pub fn finish(&self) -> Result<()> {
+        if let Some(refusal) = self.refusal {
+            return Err(refusal.into());
+        }
+        if self.has_bad_text {
+            return Err(anyhow!("a name is not UTF-8"));
+        }
+        if self.has_failed {
+            return Err(AllocError.into());
+        }
+        Ok(())
+    }
+
+    /// Returns what was read; `None` if that was refused.
+    pub fn got<T: Drop>(&mut self, read: Result<T, ErrorKind>) -> Option<T> {
+        match read {
+            Ok(value) => Some(value),
+            Err(refusal) => {
+                self.refuse(refusal);
+                None
+            }
+        }
+    }
+
+    /// Returns the bytes that were read; none if that was refused.
+    pub fn bytes<'a>(&mut self, read: Result<&'a [u8], ErrorKind>) -> &'a [u8] {
+        match read {
+            Ok(bytes) => bytes,
+            Err(refusal) => {
+                self.refuse(refusal);
+                &[]
+            }
+        }
+    }
+
+    /// Returns the text that was read; an empty one if that was refused.
+    pub fn text<'a>(&mut self, read: Result<&'a [u8], ErrorKind>) -> &'a str {
+        match str::from_utf8(self.bytes(read)) {
+            Ok(text) => text,
+            Err(_) => {
+                self.has_bad_text = true;
+                ""
+            }
+        }
+    }
+
+    /// Returns a copy of a text.
+    pub fn copy(&mut self, text: &str) -> String {
+        let mut copied = Text::new(self.alloc);
+        copied.push(text);
+        self.whole(copied)
+    }
+
+    /// Returns a name in snake case.
+    pub fn snake(&mut self, name: &str) -> String {
+        let snake = snake_case(self.alloc, name);
+        self.whole(snake)
+    }
+
+    /// Returns a text; an empty one if memory was lacking for a part of it.
+    pub fn whole(&mut self, text: Text) -> String {
+        match text.whole() {
+            Ok(text) => text,
+            Err(AllocError) => {
+                self.has_failed = true;
+                String::new(self.alloc)
+            }
+        }
+    }
+
+    /// Returns a copy of bytes.
+    pub fn copy_bytes(&mut self, bytes: &[u8]) -> Vec<u8> {
+        match bytes.to_vec(self.alloc) {
+            Ok(copied) => copied,
+            Err(_) => {
+                self.has_failed = true;
+                Vec::new(self.alloc)
+            }
+        }
+    }
+
+    /// Appends an item to a list.
+    pub fn push<T: Drop>(&mut self, list: &mut Vec<T>, item: T) {
+        if list.push(item).is_err() {
+            self.has_failed = true;
+        }
+    }
+
+    /// Notes that memory was lacking elsewhere.
+    pub fn note(&mut self, has_failed: bool) {
+        self.has_failed = self.has_failed || has_failed;
+    }
+
+    // Notes a refusal, if it is the first.
+    fn refuse(&mut self, refusal: ErrorKind) {
+        if self.refusal.is_none() {
+            self.refusal = Some(refusal);
+        }
+    }
+}

@@ -1,0 +1,706 @@
+//! Generates readers.
+ghost use Rattle.std.specs.Prelude.{◌≤◌};
+
+use crate::model::{Base, Default, Field, FieldKind, Node, NodeKind, Slot, Struct, Type};
+use crate::names::{SPEC_WORDS, VARIANT_WORDS, capitalized, joined, snake_case};
+use crate::templates;
+use crate::text::{Names, Text, Values};
+use crate::writing::Module;
+use std::alloc::{AllocError, Global};
+
+/// A file of a generated crate.
+#[derive(Drop)]
+pub struct File {
+    /// Its path, from the folder of crates on.
+    pub path: String,
+    /// Its text.
+    pub text: String,
+}
+
+/// A crate of readers as it is generated.
+#[derive(Drop)]
+pub struct Readers<'m> {
+    alloc: Global,
+    // The name of the crate.
+    name: &'m str,
+    // All declarations.
+    nodes: &'m [Node],
+    // The definitions of the fields.
+    definitions: Text,
+    // The names of these definitions.
+    taken: Names,
+    // The names of the modules.
+    modules: Names,
+    // The files of the numbers of enums and unions.
+    numbers: Names,
+    // The files.
+    files: Vec<File>,
+    // Whether memory was lacking for a file.
+    has_failed: bool,
+}
+
+impl<'m> Readers<'m> {
+    /// Returns a crate without files.
+    pub fn new(alloc: Global, name: &'m str, nodes: &'m [Node]) -> Self {
+        Readers {
+            alloc,
+            name,
+            nodes,
+            definitions: Text::new(alloc),
+            taken: Names::new(alloc),
+            modules: Names::new(alloc),
+            numbers: Names::new(alloc),
+            files: Vec::new(alloc),
+            has_failed: false,
+        }
+    }
+
+    /// Writes all files. `stem` is the name of the schema's file, without its ending.
+    pub fn write(&mut self, stem: &str) {
+        self.definitions.push(templates::DEFINITIONS);
+        let nodes = self.nodes;
+        for node in nodes {
+            match &node.kind {
+                NodeKind::Struct(it) => self.write_struct(node, it),
+                NodeKind::Enum(names) => self.write_enum(node, names.as_slice()),
+                NodeKind::File | NodeKind::Other(_) => {}
+            }
+        }
+        self.write_lib(stem);
+        self.write_specs();
+    }
+
+    /// Returns the files that are written.
+    pub fn files(self) -> Result<Vec<File>, AllocError> {
+        let lists = [&self.taken, &self.modules, &self.numbers];
+        if self.has_failed || lists.iter().any(|list| list.has_failed()) {
+            return Err(AllocError);
+        }
+        Ok(self.files)
+    }
+
+    // The declaration with this id.
+    fn node(&self, id: u64) -> Option<&'m Node> {
+        let nodes = self.nodes;
+        nodes.iter().find(|node| node.id == id)
+    }
+
+    // Adds a file. `name` is its name from the crate's folder on.
+    fn add_file(&mut self, name: &Text, text: Text) {
+        let mut path = Text::new(self.alloc);
+        path.push(self.name);
+        path.push("/");
+        path.append(name);
+        if let Ok(path) = path.whole()
+            && let Ok(text) = text.whole()
+            && self.files.push(File { path, text }).is_ok()
+        {
+            return;
+        }
+        self.has_failed = true;
+    }
+
+    // Adds a module's file.
+    fn finish(&mut self, module: &mut Module, about: &str) {
+        self.modules.add(self.alloc, module.name.as_str());
+        let mut name = Text::new(self.alloc);
+        name.push("src/");
+        name.push(module.name.as_str());
+        name.push(".rt");
+        let text = module.text(about, self.name);
+        self.add_file(&name, text);
+    }
+
+    // Adds a definition: `values` has what it is about, its type, its value, and `spec_name`. Puts
+    // its name as `spec`.
+    fn define(&mut self, module: &mut Module, values: &mut Values) {
+        let mut spec = Text::new(self.alloc);
+        spec.push(values.get("spec_name"));
+        self.taken.take(self.alloc, SPEC_WORDS, &mut spec);
+        module.specs.add(self.alloc, spec.as_str());
+        values.put_text("spec", spec);
+        self.definitions.fill(templates::DEFINITION, values);
+    }
+
+    // Writes the module of a struct or a group, and that of its union.
+    fn write_struct(&mut self, node: &Node, it: &Struct) {
+        let mut module = Module::new(self.alloc, node.module.as_str());
+        let mut values = Values::new(self.alloc);
+        values.put("full", node.full.as_str());
+        module.body.fill(templates::READER, &values);
+        if !it.is_group {
+            module.body.push(templates::ROOT);
+        }
+        self.write_getters(&mut module, node, it);
+        if it.members > 0 {
+            self.write_which(&mut module, node, it);
+        }
+        module.body.push("}\n");
+        if !it.is_group {
+            module.body.fill(templates::READERS, &values);
+        }
+        self.finish(&mut module, node.full.as_str());
+        if it.members > 0 {
+            values.put_filled("about", "Which member of ~full~ is set");
+            let members = members(self.alloc, it);
+            self.has_failed = self.has_failed || members.has_failed();
+            self.write_names(
+                it.which.as_str(),
+                "Which",
+                values.get("about"),
+                members.as_slice(),
+            );
+        }
+    }
+
+    // Writes the getters of a struct.
+    fn write_getters(&mut self, module: &mut Module, node: &Node, it: &Struct) {
+        let mut names = Names::new(self.alloc);
+        for field in it.fields.iter() {
+            let mut name = snake_case(self.alloc, field.name.as_str());
+            names.take(self.alloc, &[], &mut name);
+            let mut values = Values::new(self.alloc);
+            values.put("full", node.full.as_str());
+            values.put("node", node.snake.as_str());
+            values.put("name", field.name.as_str());
+            values.put_text("snake", name);
+            self.write_field(module, field, &mut values);
+        }
+        self.has_failed = self.has_failed || names.has_failed();
+    }
+
+    // Writes the call that says which member of a union is set.
+    fn write_which(&mut self, module: &mut Module, node: &Node, it: &Struct) {
+        let mut values = Values::new(self.alloc);
+        values.put("full", node.full.as_str());
+        values.put("node", node.snake.as_str());
+        values.put_filled("about", "Which member of ~full~ is set.");
+        values.put_filled("spec_name", "~node~_tag");
+        values.put("type", "ℕ");
+        values.put_text("value", bits_in(self.alloc, it.tag_offset, 16));
+        values.put_number("index", u64::from(it.tag_offset));
+        values.put_number("count", u64::from(it.members));
+        values.put_filled("read", "value::get_number(&self.reader, ~index~)");
+        self.define(module, &mut values);
+        module.begin();
+        module.body.push("    /// Returns which member is set.\n");
+        values.put("call", "which");
+        write_named(self.alloc, module, it.which.as_str(), "Which", &mut values);
+    }
+
+    // Writes the module of an enum.
+    fn write_enum(&mut self, node: &Node, names: &[String]) {
+        if names.is_empty() {
+            return;
+        }
+        let name = type_of(self.alloc, node);
+        self.write_names(
+            node.module.as_str(),
+            name.as_str(),
+            node.full.as_str(),
+            names,
+        );
+    }
+
+    // Writes the module of an enum, or of the members of a union.
+    fn write_names(&mut self, name: &str, of: &str, about: &str, names: &[String]) {
+        let mut module = Module::new(self.alloc, name);
+        module.numbers.add(self.alloc, name);
+        let mut values = Values::new(self.alloc);
+        values.put("full", about);
+        values.put("type", of);
+        values.put("module", name);
+        values.put("crate", self.name);
+        values.put_number("count", names.len() as u64);
+        put_variants(self.alloc, names, &mut values);
+        module.body.fill(templates::NAMES, &values);
+        let file = joined(self.alloc, name);
+        self.numbers.add(self.alloc, file.as_str());
+        values.put_text("file", file);
+        let mut path = Text::new(self.alloc);
+        path.fill("specs/Of~file~.antt", &values);
+        let mut text = Text::new(self.alloc);
+        text.fill(templates::NUMBERS, &values);
+        self.add_file(&path, text);
+        self.finish(&mut module, about);
+    }
+
+    // Writes the getter of a field.
+    fn write_field(&mut self, module: &mut Module, field: &Field, values: &mut Values) {
+        match &field.kind {
+            FieldKind::Group(id) => self.write_group(module, *id, values),
+            FieldKind::Slot(slot) => {
+                let why = self.unreadable(slot);
+                if !why.is_empty() {
+                    skip(module, why, values);
+                } else if slot.of.lists > 0 || slot.of.base != Base::Void {
+                    self.write_slot(module, field, slot, values);
+                }
+            }
+            FieldKind::Unknown => skip(module, "its type is unknown", values),
+        }
+    }
+
+    // Writes the getter of a group.
+    fn write_group(&mut self, module: &mut Module, id: u64, values: &mut Values) {
+        let Some(node) = self.node(id) else {
+            skip(module, "its group is unknown", values);
+            return;
+        };
+        module.begin();
+        module.body.fill("    /// ~name~ :group\n", values);
+        module.put_path(node.module.as_str(), values);
+        values.put_filled("call", "get_~snake~");
+        values.put_filled("gives", "~path~Reader<'a, A>");
+        module.sign(false, values);
+        module.body.fill(templates::GROUP, values);
+    }
+
+    // Why a field has no getter; empty if it has one.
+    fn unreadable(&self, slot: &Slot) -> &'static str {
+        if let Default::Pointer = &slot.default {
+            return "its default value is a pointer";
+        }
+        match (slot.of.base, self.node(slot.of.id)) {
+            (Base::Struct, None) => "its struct is unknown",
+            (Base::Enum, None) => "its enum is unknown",
+            (Base::Enum, Some(node)) => match &node.kind {
+                NodeKind::Enum(names) if !names.is_empty() => "",
+                _ => "its enum has no names",
+            },
+            _ => "",
+        }
+    }
+
+    // Writes the getter of a field that isn't a group.
+    fn write_slot(&mut self, module: &mut Module, field: &Field, slot: &Slot, values: &mut Values) {
+        values.put_text("of", self.type_name(slot.of));
+        values.put_filled("about", "~full~.~name~");
+        values.put_filled("spec_name", "~node~_~snake~");
+        values.put_filled("call", "get_~snake~");
+        values.put_number("index", u64::from(slot.offset));
+        module.begin();
+        begin_comment(module, field.ordinal, values);
+        if is_in_data(slot.of) {
+            put_number_field(self.alloc, slot, values);
+        } else {
+            put_pointer_field(self.alloc, slot, values);
+        }
+        self.define(module, values);
+        if is_in_data(slot.of) {
+            self.write_number(module, slot.of, values);
+        } else {
+            self.write_pointer(module, slot.of, values);
+        }
+    }
+
+    // The name of a type in the schema.
+    fn type_name(&self, of: Type) -> Text {
+        let mut name = Text::new(self.alloc);
+        for _ in 0..of.lists {
+            name.push("List(");
+        }
+        match of.base.name() {
+            Some(known) => name.push(known),
+            None => match self.node(of.id) {
+                Some(node) => name.push(node.full.as_str()),
+                None => name.push("unknown"),
+            },
+        }
+        for _ in 0..of.lists {
+            name.push(")");
+        }
+        name
+    }
+
+    // Writes the getter of a number, a bit or an enum, from its name on.
+    fn write_number(&self, module: &mut Module, of: Type, values: &mut Values) {
+        if of.base == Base::Enum {
+            if let Some(node) = self.node(of.id) {
+                if let NodeKind::Enum(names) = &node.kind {
+                    values.put_number("count", names.len() as u64);
+                }
+                let name = type_of(self.alloc, node);
+                write_named(
+                    self.alloc,
+                    module,
+                    node.module.as_str(),
+                    name.as_str(),
+                    values,
+                );
+            }
+            return;
+        }
+        values.put("gives", of.base.rust_type().unwrap_or("()"));
+        module.sign(false, values);
+        module.body.fill(number_template(of.base), values);
+    }
+
+    // Writes the getter of a pointer, from its name on, and the call that says whether it is null.
+    fn write_pointer(&self, module: &mut Module, of: Type, values: &mut Values) {
+        if of.lists <= 1 && of.base == Base::Struct {
+            if let Some(node) = self.node(of.id) {
+                module.put_path(node.module.as_str(), values);
+            }
+        }
+        if of.lists > 0 {
+            write_list(module, of, values);
+        } else {
+            write_one(module, of.base, values);
+        }
+        let mut has = Values::new(self.alloc);
+        has.put("name", values.get("name"));
+        has.put("snake", values.get("snake"));
+        has.put("index", values.get("index"));
+        has.put_filled("call", "has_~snake~");
+        has.put("gives", "bool");
+        module.body.fill(
+            "\n    /// Whether the pointer of ~name~ is not null.\n",
+            &has,
+        );
+        module.sign(false, &has);
+        module.body.fill(templates::HAS, &has);
+    }
+
+    // Writes the root module.
+    fn write_lib(&mut self, stem: &str) {
+        let mut text = Text::new(self.alloc);
+        let mut values = Values::new(self.alloc);
+        values.put("stem", stem);
+        text.fill(
+            "//! Readers of `~stem~.capnp`, generated by capnpc-rattle.\n",
+            &values,
+        );
+        let nodes = self.nodes;
+        for node in nodes {
+            match &node.kind {
+                NodeKind::Other(what) => not_written(self.alloc, &mut text, node, what),
+                NodeKind::Enum(names) if names.is_empty() => {
+                    not_written(self.alloc, &mut text, node, "an enum without names");
+                }
+                _ => {}
+            }
+        }
+        text.push("#![tactic(auto)]\n\n");
+        self.modules.sort();
+        for module in self.modules.as_slice() {
+            text.push("pub mod ");
+            text.push(module.as_str());
+            text.push(";\n");
+        }
+        let mut name = Text::new(self.alloc);
+        name.push("src/lib.rt");
+        self.add_file(&name, text);
+    }
+
+    // Writes the definitions' files.
+    fn write_specs(&mut self) {
+        let mut text = Text::new(self.alloc);
+        text.push("pub mod Schema\n");
+        self.numbers.sort();
+        for file in self.numbers.as_slice() {
+            text.push("pub mod Of");
+            text.push(file.as_str());
+            text.push("\n");
+        }
+        let mut name = Text::new(self.alloc);
+        name.push("specs/Lib.antt");
+        self.add_file(&name, text);
+        let mut name = Text::new(self.alloc);
+        name.push("specs/Schema.antt");
+        let definitions = std::mem::replace(&mut self.definitions, Text::new(self.alloc));
+        self.add_file(&name, definitions);
+    }
+}
+
+// Whether a field is in its struct's data section.
+fn is_in_data(of: Type) -> bool {
+    of.lists == 0 && of.base.bits() > 0
+}
+
+// Writes the comment of a getter.
+fn begin_comment(module: &mut Module, ordinal: Option<u16>, values: &Values) {
+    module.body.fill("    /// ~name~ ", values);
+    if let Some(ordinal) = ordinal {
+        module.body.push("@");
+        module.body.push_number(u64::from(ordinal));
+        module.body.push(" ");
+    }
+    module.body.fill(":~of~\n", values);
+}
+
+// Writes the line of the root module for a declaration without code.
+fn not_written(alloc: Global, to: &mut Text, node: &Node, what: &str) {
+    let mut values = Values::new(alloc);
+    values.put("full", node.full.as_str());
+    values.put("what", what);
+    to.fill("//!\n//! Not written: `~full~`, ~what~.\n", &values);
+}
+
+// Puts the variants of an enum, what reads them, and their numbers. `values` has the enum's type and
+// module.
+fn put_variants(alloc: Global, names: &[String], values: &mut Values) {
+    let mut taken = Names::new(alloc);
+    let mut variants = Text::new(alloc);
+    let mut arms = Text::new(alloc);
+    let mut numbers = Text::new(alloc);
+    for (i, name) in names.iter().enumerate() {
+        let mut variant = capitalized(alloc, name.as_str());
+        taken.take(alloc, VARIANT_WORDS, &mut variant);
+        let mut row = Values::new(alloc);
+        row.put("name", name.as_str());
+        row.put_text("variant", variant);
+        row.put("type", values.get("type"));
+        row.put("module", values.get("module"));
+        row.put_number("number", i as u64);
+        variants.fill("    /// ~name~ @~number~\n    ~variant~,\n", &row);
+        arms.fill("        ~number~ => Ok(~type~::~variant~),\n", &row);
+        numbers.fill("~module~_number ~variant~ = ~number~\n", &row);
+    }
+    values.put_text("variants", variants);
+    values.put_text("arms", arms);
+    values.put_text("numbers", numbers);
+    let mut list = Text::new(alloc);
+    taken.list(&mut list);
+    values.put_text("names", list);
+}
+
+// Puts the type and the definition of a field of a data section, and what reads it.
+fn put_number_field(alloc: Global, slot: &Slot, values: &mut Values) {
+    let base = slot.of.base;
+    values.put("type", "ℕ");
+    values.put("kind", number_kind(base));
+    values.put_number("bits", base.bits());
+    values.put_text("stored", bits_in(alloc, slot.offset, base.bits()));
+    if let Default::Number { literal, bits } = &slot.default {
+        values.put("sense", "≢");
+        values.put("literal", literal.as_str());
+        values.put_number("mask", *bits);
+        values.put("rust", base.rust_type().unwrap_or("()"));
+        if base == Base::Bool {
+            values.put_filled("value", "~stored~");
+            values.put_filled("read", "value::get_bool_or(&self.reader, ~index~, true)");
+        } else {
+            values.put_filled("value", "bit_xor (~stored~) ~mask~");
+            values.put_filled("read", templates::NUMBER_OR);
+        }
+    } else {
+        values.put("sense", "≡");
+        values.put_filled("value", "~stored~");
+        values.put_filled("read", "value::get_~kind~(&self.reader, ~index~)");
+    }
+}
+
+// What the function is called that reads a number or a bit.
+fn number_kind(base: Base) -> &'static str {
+    if base == Base::Bool { "bool" } else { "number" }
+}
+
+// The template of a number, or a bit.
+fn number_template(base: Base) -> &'static str {
+    if base == Base::Bool {
+        return templates::BOOL;
+    }
+    if base.has_sign() {
+        return templates::SIGNED;
+    }
+    templates::UNSIGNED
+}
+
+// Puts the type and the definition of a field of a pointer section; of a text or data also what
+// reads it.
+fn put_pointer_field(alloc: Global, slot: &Slot, values: &mut Values) {
+    let of = slot.of;
+    if of.lists > 0 || (of.base != Base::Text && of.base != Base::Data) {
+        values.put("type", "Tree");
+        values.put_filled("value", "child ~index~ t");
+        return;
+    }
+    values.put("type", "List ℕ");
+    values.put("kind", bytes_kind(of.base));
+    values.put("bytes", bytes_of(of.base));
+    if let Default::Bytes(bytes) = &slot.default {
+        values.put_text("numbers", numbers_of(alloc, bytes.as_slice()));
+        values.put_text("literal", literal_of(alloc, bytes.as_slice()));
+        values.put_filled("value", "~kind~_or (~numbers~) (child ~index~ t)");
+        values.put_filled("read", templates::BYTES_OR);
+    } else {
+        values.put_filled("value", "~bytes~ (child ~index~ t)");
+        values.put_filled("read", templates::BYTES);
+    }
+}
+
+// What functions of texts and of data are called.
+fn bytes_kind(base: Base) -> &'static str {
+    if base == Base::Text { "text" } else { "data" }
+}
+
+// The definition of the bytes of a text, or of data.
+fn bytes_of(base: Base) -> &'static str {
+    if base == Base::Text {
+        "text_bytes"
+    } else {
+        "list_numbers"
+    }
+}
+
+// The names of a union's members, by their numbers.
+fn members(alloc: Global, it: &Struct) -> Names {
+    let mut names = Names::new(alloc);
+    for number in 0..it.members {
+        if let Some(field) = it.fields.iter().find(|field| field.discriminant == number) {
+            names.add(alloc, field.name.as_str());
+        }
+    }
+    names
+}
+
+// The name of an enum: the last part of its full name.
+fn type_of(alloc: Global, node: &Node) -> Text {
+    let full = node.full.as_str();
+    let mut name = match full.rsplit_once('.') {
+        Some((_, last)) => capitalized(alloc, last),
+        None => capitalized(alloc, full),
+    };
+    if VARIANT_WORDS.contains(&name.as_str()) {
+        name.push_char('_');
+    }
+    name
+}
+
+// The definition of a field of a data section: `width` bits, from the field at `offset` on.
+fn bits_in(alloc: Global, offset: u32, width: u64) -> Text
+    requires { width ≤ 64 }
+{
+    let mut text = Text::new(alloc);
+    text.push("bits_in ");
+    text.push_number(u64::from(offset) * width);
+    text.push(" ");
+    text.push_number(width);
+    text.push(" t");
+    text
+}
+
+// Writes a comment in place of a getter.
+fn skip(module: &mut Module, why: &str, values: &mut Values) {
+    values.put("why", why);
+    module.begin();
+    module
+        .body
+        .fill("    // ~name~ isn't written: ~why~.\n", values);
+}
+
+// Writes the getter of the enum `name` of the module `of`, from the getter's name on.
+fn write_named(alloc: Global, module: &mut Module, of: &str, name: &str, values: &mut Values) {
+    module.numbers.note(alloc, of);
+    module.put_path(of, values);
+    values.put("module", of);
+    values.put("enum", name);
+    values.put_filled("gives", "Result<~path~~enum~, NotInSchema>");
+    module.sign(false, values);
+    module.body.fill(templates::ENUM, values);
+}
+
+// Writes the getter of a text, data, a struct, a capability, or any pointer, from its name on.
+fn write_one(module: &mut Module, base: Base, values: &mut Values) {
+    values.put_filled("gives", pointer_result(base));
+    module.sign(
+        matches!(base, Base::Text | Base::Data | Base::Struct),
+        values,
+    );
+    module.body.fill(pointer_template(base), values);
+}
+
+// What such a getter returns.
+fn pointer_result(base: Base) -> &'static str {
+    match base {
+        Base::Text | Base::Data => "Result<&'a [u8], ErrorKind>",
+        Base::Struct => "Result<~path~Reader<'a, A>, ErrorKind>",
+        Base::Interface => "Result<u32, ErrorKind>",
+        _ => "PointerReader<'a, A>",
+    }
+}
+
+// The template of such a getter.
+fn pointer_template(base: Base) -> &'static str {
+    match base {
+        Base::Text => templates::TEXT,
+        Base::Data => templates::DATA,
+        Base::Struct => templates::STRUCT,
+        Base::Interface => templates::CAPABILITY,
+        _ => templates::POINTER,
+    }
+}
+
+// Writes the getter of a list, from its name on.
+fn write_list(module: &mut Module, of: Type, values: &mut Values) {
+    let (function, reader) = list_kind(of);
+    values.put("size", element_size(of));
+    values.put("get", function);
+    values.put("reader", reader);
+    values.put("element", of.base.rust_type().unwrap_or("()"));
+    values.put_filled("gives", list_result(function));
+    if function == "get_structs" {
+        values.put("list", "r.list.reader");
+        values.put_filled("end", templates::STRUCT_LIST);
+    } else {
+        values.put("list", "r.reader");
+        values.put_filled("end", templates::OTHER_LIST);
+    }
+    module.sign(true, values);
+    module.body.fill(templates::LIST, values);
+}
+
+// The element size of a list.
+fn element_size(of: Type) -> &'static str {
+    if of.lists == 1 {
+        of.base.element_size()
+    } else {
+        "Pointer"
+    }
+}
+
+// What the getter of a list returns.
+fn list_result(function: &str) -> &'static str {
+    match function {
+        "get_structs" => "Result<~path~Readers<'a, A>, ErrorKind>",
+        "get_numbers" => "Result<~reader~<'a, A, ~element~>, ErrorKind>",
+        _ => "Result<~reader~<'a, A>, ErrorKind>",
+    }
+}
+
+// The function of `typed_reading` that reads a list, and the type that it returns.
+fn list_kind(of: Type) -> (&'static str, &'static str) {
+    if of.lists > 1 {
+        return ("get_pointers", "PointersReader");
+    }
+    match of.base {
+        Base::Struct => ("get_structs", "StructsReader"),
+        Base::Text => ("get_texts", "TextsReader"),
+        Base::Data => ("get_data_list", "DataListReader"),
+        Base::Interface | Base::AnyPointer => ("get_pointers", "PointersReader"),
+        _ => ("get_numbers", "NumbersReader"),
+    }
+}
+
+// Bytes as a list of the prover's.
+fn numbers_of(alloc: Global, bytes: &[u8]) -> Text {
+    let mut numbers = Text::new(alloc);
+    for byte in bytes {
+        numbers.push_number(u64::from(*byte));
+        numbers.push(" ∷ ");
+    }
+    numbers.push("[]");
+    numbers
+}
+
+// Bytes as a literal of Rust's.
+fn literal_of(alloc: Global, bytes: &[u8]) -> Text {
+    let mut literal = Text::new(alloc);
+    literal.push("b\"");
+    for byte in bytes {
+        literal.push_byte(*byte);
+    }
+    literal.push("\"");
+    literal
+}

@@ -1,0 +1,375 @@
+//! Reads the schema compiler's request, a `CodeGeneratorRequest`, by generated readers.
+
+use crate::model::{Base, Default, Field, FieldKind, Node, NodeKind, Slot, Struct, Type};
+use crate::noted::Noted;
+use crate::text::Text;
+use capnp_arena_traits::arena::ReaderArena;
+use capnp_words::error::ErrorKind;
+use capnp_words::read_limiter::ReadLimiter;
+use schema_reading::{
+    code_generator_request, code_generator_request_requested_file, enumerant, field, field_ordinal,
+    field_ordinal_which, field_slot, field_which, node, node_struct, node_which, type_, type_which,
+    value_, value_which,
+};
+
+/// The most lists of lists that a type is read of.
+const MAX_LISTS: u32 = 64;
+
+/// The schema compiler's request.
+#[derive(Drop)]
+pub struct Request {
+    /// The name of the first file that it asks for; empty if it asks for none.
+    pub file: String,
+    /// All declarations, by their order in the request, without names of modules.
+    pub nodes: Vec<Node>,
+}
+
+/// Reads a request.
+pub fn read_request<A: ReaderArena>(
+    from: code_generator_request::Reader<'_, A>,
+    lim: &mut ReadLimiter,
+    noted: &mut Noted,
+) -> Request {
+    let mut file = String::new(noted.alloc());
+    if let Some(files) = noted.got(from.get_requested_files(lim)) {
+        file = read_file(files, lim, noted);
+    }
+    let mut nodes = Vec::new(noted.alloc());
+    if let Some(declared) = noted.got(from.get_nodes(lim)) {
+        read_nodes(declared, &mut nodes, lim, noted);
+    }
+    Request { file, nodes }
+}
+
+// Reads the name of the first file.
+fn read_file<A: ReaderArena>(
+    files: code_generator_request_requested_file::Readers<'_, A>,
+    lim: &mut ReadLimiter,
+    noted: &mut Noted,
+) -> String {
+    if files.len() == 0 {
+        return String::new(noted.alloc());
+    }
+    let name = noted.text(files.get(0).get_filename(lim));
+    noted.copy(name)
+}
+
+// Reads the declarations, and appends them to `nodes`.
+fn read_nodes<A: ReaderArena>(
+    declared: node::Readers<'_, A>,
+    nodes: &mut Vec<Node>,
+    lim: &mut ReadLimiter,
+    noted: &mut Noted,
+) {
+    for i in 0..declared.len() {
+        let node = read_node(declared.get(i), lim, noted);
+        noted.push(nodes, node);
+    }
+}
+
+// Reads a declaration.
+fn read_node<A: ReaderArena>(
+    from: node::Reader<'_, A>,
+    lim: &mut ReadLimiter,
+    noted: &mut Noted,
+) -> Node {
+    let full = without_file(noted.text(from.get_display_name(lim)));
+    let kind = read_kind(from, lim, noted);
+    Node {
+        id: from.get_id(),
+        full: noted.copy(full),
+        snake: noted.snake(full),
+        module: String::new(noted.alloc()),
+        kind,
+    }
+}
+
+// The name of a declaration in its file.
+fn without_file(shown: &str) -> &str {
+    match shown.split_once(':') {
+        Some((_, full)) => full,
+        None => shown,
+    }
+}
+
+// Reads what a declaration is.
+fn read_kind<A: ReaderArena>(
+    from: node::Reader<'_, A>,
+    lim: &mut ReadLimiter,
+    noted: &mut Noted,
+) -> NodeKind {
+    match from.which() {
+        Ok(node_which::Which::File) => NodeKind::File,
+        Ok(node_which::Which::Struct) => NodeKind::Struct(read_struct(
+            from.get_struct(),
+            lim,
+            noted,
+        )),
+        Ok(node_which::Which::Enum) => NodeKind::Enum(read_enum(from, lim, noted)),
+        Ok(node_which::Which::Interface) => NodeKind::Other("an interface"),
+        Ok(node_which::Which::Const) => NodeKind::Other("a constant"),
+        Ok(node_which::Which::Annotation) => NodeKind::Other("an annotation"),
+        Err(_) => NodeKind::Other("a declaration of an unknown kind"),
+    }
+}
+
+// Reads the names of an enum.
+fn read_enum<A: ReaderArena>(
+    from: node::Reader<'_, A>,
+    lim: &mut ReadLimiter,
+    noted: &mut Noted,
+) -> Vec<String> {
+    let mut names = Vec::new(noted.alloc());
+    if let Some(enumerants) = noted.got(from.get_enum().get_enumerants(lim)) {
+        read_enumerants(enumerants, &mut names, lim, noted);
+    }
+    names
+}
+
+// Reads enumerants, and appends their names to `names`.
+fn read_enumerants<A: ReaderArena>(
+    enumerants: enumerant::Readers<'_, A>,
+    names: &mut Vec<String>,
+    lim: &mut ReadLimiter,
+    noted: &mut Noted,
+) {
+    for i in 0..enumerants.len() {
+        let name = noted.text(enumerants.get(i).get_name(lim));
+        let name = noted.copy(name);
+        noted.push(names, name);
+    }
+}
+
+// Reads a struct or a group.
+fn read_struct<A: ReaderArena>(
+    from: node_struct::Reader<'_, A>,
+    lim: &mut ReadLimiter,
+    noted: &mut Noted,
+) -> Struct {
+    let mut fields = Vec::new(noted.alloc());
+    if let Some(declared) = noted.got(from.get_fields(lim)) {
+        read_fields(declared, &mut fields, lim, noted);
+    }
+    Struct {
+        is_group: from.get_is_group(),
+        members: from.get_discriminant_count(),
+        tag_offset: from.get_discriminant_offset(),
+        which: String::new(noted.alloc()),
+        fields,
+    }
+}
+
+// Reads fields, and appends them to `fields`.
+fn read_fields<A: ReaderArena>(
+    declared: field::Readers<'_, A>,
+    fields: &mut Vec<Field>,
+    lim: &mut ReadLimiter,
+    noted: &mut Noted,
+) {
+    for i in 0..declared.len() {
+        let field = read_field(declared.get(i), lim, noted);
+        noted.push(fields, field);
+    }
+}
+
+// Reads a field.
+fn read_field<A: ReaderArena>(
+    from: field::Reader<'_, A>,
+    lim: &mut ReadLimiter,
+    noted: &mut Noted,
+) -> Field {
+    let name = noted.text(from.get_name(lim));
+    let kind = read_field_kind(from, lim, noted);
+    Field {
+        name: noted.copy(name),
+        ordinal: ordinal_of(from.get_ordinal()),
+        discriminant: from.get_discriminant_value(),
+        kind,
+    }
+}
+
+// The number of a field in the schema; `None` for a group.
+fn ordinal_of<A: ReaderArena>(from: field_ordinal::Reader<'_, A>) -> Option<u16> {
+    match from.which() {
+        Ok(field_ordinal_which::Which::Explicit) => Some(from.get_explicit()),
+        _ => None,
+    }
+}
+
+// Reads what a field is.
+fn read_field_kind<A: ReaderArena>(
+    from: field::Reader<'_, A>,
+    lim: &mut ReadLimiter,
+    noted: &mut Noted,
+) -> FieldKind {
+    match from.which() {
+        Ok(field_which::Which::Group) => FieldKind::Group(from.get_group().get_type_id()),
+        Ok(field_which::Which::Slot) => read_slot(from.get_slot(), lim, noted),
+        Err(_) => FieldKind::Unknown,
+    }
+}
+
+// Reads a field that isn't a group.
+fn read_slot<A: ReaderArena>(
+    from: field_slot::Reader<'_, A>,
+    lim: &mut ReadLimiter,
+    noted: &mut Noted,
+) -> FieldKind {
+    let Some(of) = slot_type(from, lim, noted) else {
+        return FieldKind::Unknown;
+    };
+    let default = match noted.got(from.get_default_value(lim)) {
+        Some(value) => read_default(value, lim, noted),
+        None => Default::Zero,
+    };
+    FieldKind::Slot(Slot {
+        offset: from.get_offset(),
+        of,
+        default,
+    })
+}
+
+// Reads the type of a field; `None` if it is of an unknown kind.
+fn slot_type<A: ReaderArena>(
+    from: field_slot::Reader<'_, A>,
+    lim: &mut ReadLimiter,
+    noted: &mut Noted,
+) -> Option<Type> {
+    let of = noted.got(from.get_type(lim))?;
+    read_type(of, lim, noted)
+}
+
+// Reads a type; `None` if it is of an unknown kind.
+fn read_type<A: ReaderArena>(
+    from: type_::Reader<'_, A>,
+    lim: &mut ReadLimiter,
+    noted: &mut Noted,
+) -> Option<Type> {
+    let mut inner = from;
+    for lists in 0..MAX_LISTS {
+        let which = inner.which().ok()?;
+        if !matches!(which, type_which::Which::List) {
+            let base = base_of(which);
+            let id = id_of(inner, base);
+            return Some(Type { lists, base, id });
+        }
+        inner = noted.got(inner.get_list().get_element_type(lim))?;
+    }
+    None
+}
+
+// The base type that `which` names.
+fn base_of(which: type_which::Which) -> Base {
+    match which {
+        type_which::Which::Void => Base::Void,
+        type_which::Which::Bool => Base::Bool,
+        type_which::Which::Int8 => Base::Int8,
+        type_which::Which::Int16 => Base::Int16,
+        type_which::Which::Int32 => Base::Int32,
+        type_which::Which::Int64 => Base::Int64,
+        type_which::Which::Uint8 => Base::UInt8,
+        type_which::Which::Uint16 => Base::UInt16,
+        type_which::Which::Uint32 => Base::UInt32,
+        type_which::Which::Uint64 => Base::UInt64,
+        type_which::Which::Float32 => Base::Float32,
+        type_which::Which::Float64 => Base::Float64,
+        type_which::Which::Text => Base::Text,
+        type_which::Which::Data => Base::Data,
+        type_which::Which::Enum => Base::Enum,
+        type_which::Which::Struct => Base::Struct,
+        type_which::Which::Interface => Base::Interface,
+        type_which::Which::List | type_which::Which::AnyPointer => Base::AnyPointer,
+    }
+}
+
+// The id of a type's declaration; 0 if it has none.
+fn id_of<A: ReaderArena>(from: type_::Reader<'_, A>, base: Base) -> u64 {
+    match base {
+        Base::Enum => from.get_enum().get_type_id(),
+        Base::Struct => from.get_struct().get_type_id(),
+        Base::Interface => from.get_interface().get_type_id(),
+        _ => 0,
+    }
+}
+
+// Reads a default value.
+fn read_default<A: ReaderArena>(
+    from: value_::Reader<'_, A>,
+    lim: &mut ReadLimiter,
+    noted: &mut Noted,
+) -> Default {
+    match from.which() {
+        Ok(value_which::Which::Text) => bytes(from.get_text(lim), noted),
+        Ok(value_which::Which::Data) => bytes(from.get_data(lim), noted),
+        Ok(value_which::Which::List) => pointer(from.has_list()),
+        Ok(value_which::Which::Struct) => pointer(from.has_struct()),
+        Ok(value_which::Which::AnyPointer) => pointer(from.has_any_pointer()),
+        Ok(which) => number(bits_of(from, which), signed_of(from, which), noted),
+        Err(_) => Default::Pointer,
+    }
+}
+
+// The bits of a number; 1 for `true`.
+fn bits_of<A: ReaderArena>(from: value_::Reader<'_, A>, which: value_which::Which) -> u64 {
+    match which {
+        value_which::Which::Bool => u64::from(from.get_bool()),
+        value_which::Which::Int8 => u64::from(from.get_int8().cast_unsigned()),
+        value_which::Which::Int16 => u64::from(from.get_int16().cast_unsigned()),
+        value_which::Which::Int32 => u64::from(from.get_int32().cast_unsigned()),
+        value_which::Which::Int64 => from.get_int64().cast_unsigned(),
+        value_which::Which::Uint8 => u64::from(from.get_uint8()),
+        value_which::Which::Uint16 => u64::from(from.get_uint16()),
+        value_which::Which::Uint32 => u64::from(from.get_uint32()),
+        value_which::Which::Uint64 => from.get_uint64(),
+        value_which::Which::Float32 => u64::from(from.get_float32()),
+        value_which::Which::Float64 => from.get_float64(),
+        value_which::Which::Enum => u64::from(from.get_enum()),
+        _ => 0,
+    }
+}
+
+// A number that has a sign.
+fn signed_of<A: ReaderArena>(
+    from: value_::Reader<'_, A>,
+    which: value_which::Which,
+) -> Option<i64> {
+    match which {
+        value_which::Which::Int8 => Some(i64::from(from.get_int8())),
+        value_which::Which::Int16 => Some(i64::from(from.get_int16())),
+        value_which::Which::Int32 => Some(i64::from(from.get_int32())),
+        value_which::Which::Int64 => Some(from.get_int64()),
+        _ => None,
+    }
+}
+
+// The default of a number with these bits.
+fn number(bits: u64, signed: Option<i64>, noted: &mut Noted) -> Default {
+    if bits == 0 {
+        return Default::Zero;
+    }
+    let mut literal = Text::new(noted.alloc());
+    match signed {
+        Some(value) => literal.push_signed(value),
+        None => literal.push_number(bits),
+    }
+    let literal = noted.whole(literal);
+    Default::Number { literal, bits }
+}
+
+// The default of a text or of data.
+fn bytes(read: Result<&[u8], ErrorKind>, noted: &mut Noted) -> Default {
+    let bytes = noted.bytes(read);
+    if bytes.is_empty() {
+        return Default::Zero;
+    }
+    Default::Bytes(noted.copy_bytes(bytes))
+}
+
+// The default of a list, a struct, or any pointer.
+fn pointer(is_set: bool) -> Default {
+    if is_set {
+        Default::Pointer
+    } else {
+        Default::Zero
+    }
+}

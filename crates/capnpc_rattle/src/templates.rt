@@ -1,0 +1,279 @@
+//! The text of generated readers. A word between two `~` stands for what `fill` puts there.
+
+/// What each struct and group has.
+pub const READER: &str = "/// ~full~.
+pub struct Reader<'a, A: ReaderArena> {
+    /// The struct.
+    pub reader: StructReader<'a, A>,
+}
+
+impl<'a, A: ReaderArena> Clone for Reader<'a, A> {
+    ghost is_clone = { λ x y. y ≡ x };
+
+    ghost is_infallible = { λ _. ⊤ };
+
+    fn clone(&self) -> Result<Self, AllocError> {
+        Ok(*self)
+    }
+}
+
+impl<'a, A: ReaderArena> Copy for Reader<'a, A> {}
+
+impl<'a, A: ReaderArena> Reader<'a, A> {
+";
+
+/// The root of a message, which can be a struct, and no group.
+pub const ROOT: &str = "    /// Returns the root of a message.
+    pub fn root(arena: &'a A, lim: &mut ReadLimiter) -> Result<Self, ErrorKind>
+        ensures value { (t : Tree) (c : ℕ)
+            → Means (message (A.segments arena.now)) (levels (A.nesting arena.now)) 0 0 t c
+            → IfOk result (λ r. ShowsStructOf A.ReaderArena r.reader t) }
+        ensures answered { let S = message (A.segments arena.now) in (t : Tree) (c : ℕ)
+            → Holds S 0 0 1 → IsStructOrNull t → Means S (levels (A.nesting arena.now)) 0 0 t c
+            → Affords (A.charging arena.now) lim.old (1 + c) → IsOk result }
+    {
+        let reader = value::root(arena, lim)?;
+        Ok(Reader { reader })
+    }
+";
+
+/// A list of structs.
+pub const READERS: &str = "
+/// A list of ~full~.
+pub struct Readers<'a, A: ReaderArena> {
+    /// The list.
+    pub list: StructsReader<'a, A>,
+}
+
+impl<'a, A: ReaderArena> Clone for Readers<'a, A> {
+    ghost is_clone = { λ x y. y ≡ x };
+
+    ghost is_infallible = { λ _. ⊤ };
+
+    fn clone(&self) -> Result<Self, AllocError> {
+        Ok(*self)
+    }
+}
+
+impl<'a, A: ReaderArena> Copy for Readers<'a, A> {}
+
+impl<'a, A: ReaderArena> Readers<'a, A> {
+    /// The number of elements.
+    pub fn len(&self) -> u32
+        ensures count { result ≡ self.now.list.reader.count }
+        ensures value { (t : Tree) → ShowsListOf A.ReaderArena self.now.list.reader t
+            → result ≡ list_length t }
+    {
+        self.list.len()
+    }
+
+    /// Returns element `index`. Precondition: `index` is below the number of elements.
+    pub fn get(&self, index: u32) -> Reader<'a, A>
+        requires { index < self.now.list.reader.count }
+        ensures value { (t : Tree) → ShowsListOf A.ReaderArena self.now.list.reader t
+            → HasStructs t → ShowsStructOf A.ReaderArena result.reader (struct_element t index) }
+        ensures source { result.reader.source ≡ self.now.list.reader.source }
+    {
+        Reader {
+            reader: self.list.get(index),
+        }
+    }
+}
+";
+
+/// A number without a sign, or the bits of a float.
+pub const UNSIGNED: &str =
+    "        ensures { (t : Tree) → ShowsStructOf A.ReaderArena self.now.reader t
+            → result ≡ ~spec~ t }
+    {
+        ~read~
+    }
+";
+
+/// A number with a sign.
+pub const SIGNED: &str =
+    "        ensures { (t : Tree) → ShowsStructOf A.ReaderArena self.now.reader t
+            → cast_unsigned w~bits~ result ≡ ~spec~ t }
+    {
+        ~read~
+    }
+";
+
+/// How a number with a default value is read.
+pub const NUMBER_OR: &str = "value::get_number_or::<A, ~rust~>(&self.reader, ~index~, ~literal~)";
+
+/// A bit.
+pub const BOOL: &str = "        ensures { (t : Tree) → ShowsStructOf A.ReaderArena self.now.reader t
+            → (IsTrue result ↔ (~spec~ t ~sense~ 1)) }
+    {
+        ~read~
+    }
+";
+
+/// An enum, or which member of a union is set.
+pub const ENUM: &str =
+    "        ensures value { (t : Tree) → ShowsStructOf A.ReaderArena self.now.reader t
+            → IfOk result (λ e. ~module~_number e
+            ≡ ~spec~ t) }
+        ensures unknown { (t : Tree) → ShowsStructOf A.ReaderArena self.now.reader t
+            → IfErr result (λ e. (e.0 ≡ ~spec~ t)
+            × (~count~ ≤ ~spec~ t)) }
+    {
+        ~path~of_number(~read~)
+    }
+";
+
+/// A group.
+pub const GROUP: &str = "        ensures { result.reader ≡ self.now.reader }
+    {
+        ~path~Reader {
+            reader: self.reader,
+        }
+    }
+";
+
+/// A text.
+pub const TEXT: &str =
+    "        ensures value { (t : Tree) → ShowsStructOf A.ReaderArena self.now.reader t
+            → IfOk result (λ text. text.now ≡ ~spec~ t) }
+        ensures answered { let start = source_start A.ReaderArena self.now.reader.source in
+            (t : Tree) (shows : ShowsStructOf A.ReaderArena self.now.reader t)
+            → AreWords start.segments → IsText (child ~index~ t)
+            → Affords start.charging lim.old (child_cost A.ReaderArena shows ~index~)
+            → IsOk result }
+    {
+~read~    }
+";
+
+/// Data.
+pub const DATA: &str =
+    "        ensures value { (t : Tree) → ShowsStructOf A.ReaderArena self.now.reader t
+            → IfOk result (λ bytes. bytes.now ≡ ~spec~ t) }
+        ensures answered { let start = source_start A.ReaderArena self.now.reader.source in
+            (t : Tree) (shows : ShowsStructOf A.ReaderArena self.now.reader t)
+            → IsBytes (child ~index~ t)
+            → Affords start.charging lim.old (child_cost A.ReaderArena shows ~index~)
+            → IsOk result }
+    {
+~read~    }
+";
+
+/// How a text or data is returned.
+pub const BYTES: &str = "        value::get_~kind~(&self.reader, ~index~, lim)
+";
+
+/// How a text or data with a default value is returned.
+pub const BYTES_OR: &str = "        let default = ~literal~;
+        value::get_~kind~_or(&self.reader, ~index~, default, lim)
+";
+
+/// A struct.
+pub const STRUCT: &str =
+    "        ensures value { (t : Tree) → ShowsStructOf A.ReaderArena self.now.reader t
+            → IfOk result (λ r.
+            ShowsStructOf A.ReaderArena r.reader (~spec~ t)) }
+        ensures answered { let start = source_start A.ReaderArena self.now.reader.source in
+            (t : Tree) (shows : ShowsStructOf A.ReaderArena self.now.reader t)
+            → IsStructOrNull (~spec~ t)
+            → Affords start.charging lim.old (child_cost A.ReaderArena shows ~index~)
+            → IsOk result }
+    {
+        let reader = value::get_struct(&self.reader, ~index~, lim)?;
+        Ok(~path~Reader { reader })
+    }
+";
+
+/// A list.
+pub const LIST: &str =
+    "        ensures value { (t : Tree) → ShowsStructOf A.ReaderArena self.now.reader t
+            → IfOk result (λ r.
+            ShowsListOf A.ReaderArena ~list~ (~spec~ t)) }
+        ensures answered { let start = source_start A.ReaderArena self.now.reader.source in
+            (t : Tree) (shows : ShowsStructOf A.ReaderArena self.now.reader t)
+            → FitsSize ~size~ (~spec~ t)
+            → Affords start.charging lim.old (child_cost A.ReaderArena shows ~index~)
+            → IsOk result }
+    {
+~end~";
+
+/// How a list of structs is returned.
+pub const STRUCT_LIST: &str = "        let list = list::get_structs(&self.reader, ~index~, lim)?;
+        Ok(~path~Readers { list })
+    }
+";
+
+/// How another list is returned.
+pub const OTHER_LIST: &str = "        list::~get~(&self.reader, ~index~, lim)
+    }
+";
+
+/// A pointer that can lead to anything.
+pub const POINTER: &str =
+    "        ensures { (t : Tree) → ShowsStructOf A.ReaderArena self.now.reader t
+            → HasValue (read_by A.ReaderArena result) (~spec~ t) }
+    {
+        value::get_pointer(&self.reader, ~index~)
+    }
+";
+
+/// A capability.
+pub const CAPABILITY: &str =
+    "        ensures { (t : Tree) (i : ℕ) → ShowsStructOf A.ReaderArena self.now.reader t
+            → ~spec~ t ≡ Capability i → IfOk result (λ n. n ≡ i) }
+    {
+        value::get_capability(&self.reader, ~index~)
+    }
+";
+
+/// Whether a pointer is set.
+pub const HAS: &str = "        ensures { (t : Tree) → ShowsStructOf A.ReaderArena self.now.reader t
+            → (IsTrue result ↔ (child ~index~ t ≢ Null)) }
+    {
+        value::has(&self.reader, ~index~)
+    }
+";
+
+/// An enum, or the members of a union.
+pub const NAMES: &str = "/// ~full~.
+#[derive(Clone, Copy, Debug, PartialEq, Eq)]
+pub enum ~type~ {
+~variants~}
+
+/// Returns what `number` names.
+pub fn of_number(number: u16) -> Result<~type~, NotInSchema>
+    ensures value { IfOk result (λ e. ~module~_number e ≡ number) }
+    ensures unknown { IfErr result (λ e. (e.0 ≡ number) × (~count~ ≤ number)) }
+{
+    match number {
+~arms~        _ => Err(NotInSchema(number)),
+    }
+}
+";
+
+/// The numbers of an enum, or of the members of a union.
+pub const NUMBERS: &str = "-- The number of each variant of ~module~::~type~.
+use Rattle.std.specs.Prelude.{ℕ}
+use Rattle.~crate~.specs.declared.~module~.~type~.{~type~}
+use Rattle.~crate~.specs.declared.~module~.~type~.TheVariants.{~names~}
+
+abbrev pub ~module~_number : ~type~ → ℕ
+~numbers~";
+
+/// The definition of a field.
+pub const DEFINITION: &str = "
+-- ~about~
+abbrev pub ~spec~ : Tree → ~type~
+~spec~ t = ~value~
+";
+
+/// What is before the definitions of the fields.
+pub const DEFINITIONS: &str = "-- What the fields are in a value.
+use Rattle.std.specs.Prelude.{ℕ, List, bit_xor, ◌∷◌, []}
+use Rattle.capnp_format.specs.Tree.{Tree}
+use Rattle.capnp_readers.specs.Values.{list_numbers, text_bytes}
+use Rattle.typed_reading.specs.Values.{bits_in, child, data_or, text_or}
+";
+
+/// How a module imports the numbers of an enum.
+pub const NUMBERS_IMPORT: &str = "ghost use Rattle.~crate~.specs.Of~file~.{~module~_number};
+";

@@ -1,0 +1,247 @@
+//! Texts, names and templates. A call that finds no memory notes that, and goes on; who takes the
+//! result learns it. So the code that writes files is without a branch at each call.
+
+use std::alloc::{AllocError, Global};
+
+/// A text as it grows.
+#[derive(Drop)]
+pub struct Text {
+    text: String,
+    has_failed: bool,
+}
+
+impl Text {
+    /// Returns an empty text.
+    pub fn new(alloc: Global) -> Self {
+        Text {
+            text: String::new(alloc),
+            has_failed: false,
+        }
+    }
+
+    /// Appends a text.
+    pub fn push(&mut self, part: &str) {
+        if self.text.push_str(part).is_err() {
+            self.has_failed = true;
+        }
+    }
+
+    /// Appends a character.
+    pub fn push_char(&mut self, part: char) {
+        if self.text.push(part).is_err() {
+            self.has_failed = true;
+        }
+    }
+
+    /// Appends another text.
+    pub fn append(&mut self, other: &Text) {
+        self.push(other.as_str());
+        self.note(other.has_failed);
+    }
+
+    /// Appends the digits of a number.
+    pub fn push_number(&mut self, number: u64) {
+        if write!(self.text, "{number}").is_err() {
+            self.has_failed = true;
+        }
+    }
+
+    /// Appends the digits of a number, and its sign if that is `-`.
+    pub fn push_signed(&mut self, number: i64) {
+        if write!(self.text, "{number}").is_err() {
+            self.has_failed = true;
+        }
+    }
+
+    /// Appends `\x` and the two digits of a byte.
+    pub fn push_byte(&mut self, byte: u8) {
+        if write!(self.text, "\\x{byte:02x}").is_err() {
+            self.has_failed = true;
+        }
+    }
+
+    /// Appends `template`, with each word between two `~` replaced by what `values` has for it.
+    pub fn fill(&mut self, template: &str, values: &Values) {
+        for (i, piece) in template.split('~').enumerate() {
+            if i % 2 == 0 {
+                self.push(piece);
+            } else {
+                self.push(values.get(piece));
+            }
+        }
+        self.note(values.has_failed);
+    }
+
+    /// Notes that memory was lacking elsewhere.
+    pub fn note(&mut self, has_failed: bool) {
+        self.has_failed = self.has_failed || has_failed;
+    }
+
+    /// The text.
+    pub fn as_str(&self) -> &str {
+        self.text.as_str()
+    }
+
+    /// Returns the text. Refuses one with a part for which there was no memory.
+    pub fn whole(self) -> Result<String, AllocError> {
+        let Text { text, has_failed } = self;
+        if has_failed {
+            return Err(AllocError);
+        }
+        Ok(text)
+    }
+}
+
+// What stands for a word of a template.
+#[derive(Drop)]
+struct Value {
+    word: &'static str,
+    text: String,
+}
+
+/// What stands for the words of templates.
+#[derive(Drop)]
+pub struct Values {
+    alloc: Global,
+    values: Vec<Value>,
+    has_failed: bool,
+}
+
+impl Values {
+    /// Returns a table without words.
+    pub fn new(alloc: Global) -> Self {
+        Values {
+            alloc,
+            values: Vec::new(alloc),
+            has_failed: false,
+        }
+    }
+
+    /// Adds a word that stands for what is in `text`.
+    pub fn put_text(&mut self, word: &'static str, text: Text) {
+        match text.whole() {
+            Ok(text) => {
+                if self.values.push(Value { word, text }).is_err() {
+                    self.has_failed = true;
+                }
+            }
+            Err(AllocError) => self.has_failed = true,
+        }
+    }
+
+    /// Adds a word.
+    pub fn put(&mut self, word: &'static str, part: &str) {
+        let mut text = Text::new(self.alloc);
+        text.push(part);
+        self.put_text(word, text);
+    }
+
+    /// Adds a word that stands for a number.
+    pub fn put_number(&mut self, word: &'static str, number: u64) {
+        let mut text = Text::new(self.alloc);
+        text.push_number(number);
+        self.put_text(word, text);
+    }
+
+    /// Adds a word that stands for a template, filled with the words before it.
+    pub fn put_filled(&mut self, word: &'static str, template: &str) {
+        let mut text = Text::new(self.alloc);
+        text.fill(template, self);
+        self.put_text(word, text);
+    }
+
+    /// What stands for a word; nothing if it isn't there.
+    pub fn get(&self, word: &str) -> &str {
+        match self.values.iter().find(|it| it.word == word) {
+            Some(value) => value.text.as_str(),
+            None => "",
+        }
+    }
+}
+
+/// Names in a list.
+#[derive(Drop)]
+pub struct Names {
+    names: Vec<String>,
+    has_failed: bool,
+}
+
+impl Names {
+    /// Returns an empty list.
+    pub fn new(alloc: Global) -> Self {
+        Names {
+            names: Vec::new(alloc),
+            has_failed: false,
+        }
+    }
+
+    /// Whether memory was lacking for a name.
+    pub fn has_failed(&self) -> bool {
+        self.has_failed
+    }
+
+    /// The names.
+    pub fn as_slice(&self) -> &[String] {
+        self.names.as_slice()
+    }
+
+    /// Whether a name is in the list.
+    pub fn contains(&self, name: &str) -> bool {
+        self.names.iter().any(|it| it.as_str() == name)
+    }
+
+    /// Adds a name.
+    pub fn add(&mut self, alloc: Global, name: &str) {
+        let mut text = Text::new(alloc);
+        text.push(name);
+        match text.whole() {
+            Ok(name) => {
+                if self.names.push(name).is_err() {
+                    self.has_failed = true;
+                }
+            }
+            Err(AllocError) => self.has_failed = true,
+        }
+    }
+
+    /// Adds a name, unless it is in the list.
+    pub fn note(&mut self, alloc: Global, name: &str) {
+        if !self.contains(name) {
+            self.add(alloc, name);
+        }
+    }
+
+    /// Appends as many `_` to `name` as make it new, and none of these words, and adds it.
+    pub fn take(&mut self, alloc: Global, words: &[&'static str], name: &mut Text) {
+        for _ in 0..u32::MAX {
+            if !is_word(words, name.as_str()) && !self.contains(name.as_str()) {
+                break;
+            }
+            name.push_char('_');
+        }
+        self.add(alloc, name.as_str());
+    }
+
+    /// Sorts the names.
+    pub fn sort(&mut self) {
+        if self.names.sort().is_err() {
+            self.has_failed = true;
+        }
+    }
+
+    /// Appends the names to a text, with commas between them.
+    pub fn list(&self, to: &mut Text) {
+        for (i, name) in self.names.iter().enumerate() {
+            if i > 0 {
+                to.push(", ");
+            }
+            to.push(name.as_str());
+        }
+        to.note(self.has_failed);
+    }
+}
+
+// Whether a name is one of these words.
+fn is_word(words: &[&'static str], name: &str) -> bool {
+    words.iter().any(|word| *word == name)
+}

@@ -1,0 +1,11 @@
+pub mod Schema
+pub mod OfBrandBindingWhich
+pub mod OfBrandScopeWhich
+pub mod OfElementSize
+pub mod OfFieldOrdinalWhich
+pub mod OfFieldWhich
+pub mod OfNodeWhich
+pub mod OfTypeAnyPointerUnconstrainedWhich
+pub mod OfTypeAnyPointerWhich
+pub mod OfTypeWhich
+pub mod OfValueWhich

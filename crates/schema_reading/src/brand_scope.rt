@@ -1,0 +1,144 @@
+//! Brand.Scope
+ghost use Rattle.std.specs.Prelude.{◌≡◌, ◌≢◌, ◌<◌, ◌≤◌, ◌+◌, ◌↔◌, ℕ, IsTrue, IfOk, IfErr, IsOk, ⊤};
+ghost use Rattle.capnp_format.specs.Bytes.{message};
+ghost use Rattle.capnp_format.specs.Means.{Means};
+ghost use Rattle.capnp_format.specs.Tree.{Tree, Null};
+ghost use Rattle.capnp_words.specs.Meter.{Affords};
+ghost use Rattle.capnp_words.specs.declared.wire_pointer.ElementSize.TheVariants.{InlineComposite};
+ghost use Rattle.capnp_arena_traits.specs.Checks.{Holds};
+ghost use Rattle.capnp_objects.specs.Reading.{source_start};
+ghost use Rattle.capnp_objects.specs.Source.{levels};
+ghost use Rattle.capnp_readers.specs.Values.{FitsSize, HasStructs, IsStructOrNull, ShowsListOf, ShowsStructOf, child_cost, list_length, struct_element};
+ghost use Rattle.typed_reading.specs.Values.{child};
+ghost use Rattle.schema_reading.specs.Schema.{brand_scope_scope_id, brand_scope_bind, brand_scope_tag};
+ghost use Rattle.schema_reading.specs.OfBrandScopeWhich.{brand_scope_which_number};
+
+use crate::{brand_binding, brand_scope_which};
+use capnp_arena_traits::arena::ReaderArena;
+use capnp_readers::readers::StructReader;
+use capnp_words::error::ErrorKind;
+use capnp_words::read_limiter::ReadLimiter;
+use std::alloc::AllocError;
+use typed_reading::error::NotInSchema;
+use typed_reading::list::{self, StructsReader};
+use typed_reading::value;
+
+/// Brand.Scope.
+pub struct Reader<'a, A: ReaderArena> {
+    /// The struct.
+    pub reader: StructReader<'a, A>,
+}
+
+impl<'a, A: ReaderArena> Clone for Reader<'a, A> {
+    ghost is_clone = { λ x y. y ≡ x };
+
+    ghost is_infallible = { λ _. ⊤ };
+
+    fn clone(&self) -> Result<Self, AllocError> {
+        Ok(*self)
+    }
+}
+
+impl<'a, A: ReaderArena> Copy for Reader<'a, A> {}
+
+impl<'a, A: ReaderArena> Reader<'a, A> {
+    /// Returns the root of a message.
+    pub fn root(arena: &'a A, lim: &mut ReadLimiter) -> Result<Self, ErrorKind>
+        ensures value { (t : Tree) (c : ℕ)
+            → Means (message (A.segments arena.now)) (levels (A.nesting arena.now)) 0 0 t c
+            → IfOk result (λ r. ShowsStructOf A.ReaderArena r.reader t) }
+        ensures answered { let S = message (A.segments arena.now) in (t : Tree) (c : ℕ)
+            → Holds S 0 0 1 → IsStructOrNull t → Means S (levels (A.nesting arena.now)) 0 0 t c
+            → Affords (A.charging arena.now) lim.old (1 + c) → IsOk result }
+    {
+        let reader = value::root(arena, lim)?;
+        Ok(Reader { reader })
+    }
+
+    /// scopeId @0 :UInt64
+    pub fn get_scope_id(&self) -> u64
+        ensures { (t : Tree) → ShowsStructOf A.ReaderArena self.now.reader t
+            → result ≡ brand_scope_scope_id t }
+    {
+        value::get_number(&self.reader, 0)
+    }
+
+    /// bind @1 :List(Brand.Binding)
+    pub fn get_bind(
+        &self,
+        lim: &mut ReadLimiter,
+    ) -> Result<brand_binding::Readers<'a, A>, ErrorKind>
+        ensures value { (t : Tree) → ShowsStructOf A.ReaderArena self.now.reader t
+            → IfOk result (λ r.
+            ShowsListOf A.ReaderArena r.list.reader (brand_scope_bind t)) }
+        ensures answered { let start = source_start A.ReaderArena self.now.reader.source in
+            (t : Tree) (shows : ShowsStructOf A.ReaderArena self.now.reader t)
+            → FitsSize InlineComposite (brand_scope_bind t)
+            → Affords start.charging lim.old (child_cost A.ReaderArena shows 0)
+            → IsOk result }
+    {
+        let list = list::get_structs(&self.reader, 0, lim)?;
+        Ok(brand_binding::Readers { list })
+    }
+
+    /// Whether the pointer of bind is not null.
+    pub fn has_bind(&self) -> bool
+        ensures { (t : Tree) → ShowsStructOf A.ReaderArena self.now.reader t
+            → (IsTrue result ↔ (child 0 t ≢ Null)) }
+    {
+        value::has(&self.reader, 0)
+    }
+
+    /// Returns which member is set.
+    pub fn which(&self) -> Result<brand_scope_which::Which, NotInSchema>
+        ensures value { (t : Tree) → ShowsStructOf A.ReaderArena self.now.reader t
+            → IfOk result (λ e. brand_scope_which_number e
+            ≡ brand_scope_tag t) }
+        ensures unknown { (t : Tree) → ShowsStructOf A.ReaderArena self.now.reader t
+            → IfErr result (λ e. (e.0 ≡ brand_scope_tag t)
+            × (2 ≤ brand_scope_tag t)) }
+    {
+        brand_scope_which::of_number(value::get_number(&self.reader, 4))
+    }
+}
+
+/// A list of Brand.Scope.
+pub struct Readers<'a, A: ReaderArena> {
+    /// The list.
+    pub list: StructsReader<'a, A>,
+}
+
+impl<'a, A: ReaderArena> Clone for Readers<'a, A> {
+    ghost is_clone = { λ x y. y ≡ x };
+
+    ghost is_infallible = { λ _. ⊤ };
+
+    fn clone(&self) -> Result<Self, AllocError> {
+        Ok(*self)
+    }
+}
+
+impl<'a, A: ReaderArena> Copy for Readers<'a, A> {}
+
+impl<'a, A: ReaderArena> Readers<'a, A> {
+    /// The number of elements.
+    pub fn len(&self) -> u32
+        ensures count { result ≡ self.now.list.reader.count }
+        ensures value { (t : Tree) → ShowsListOf A.ReaderArena self.now.list.reader t
+            → result ≡ list_length t }
+    {
+        self.list.len()
+    }
+
+    /// Returns element `index`. Precondition: `index` is below the number of elements.
+    pub fn get(&self, index: u32) -> Reader<'a, A>
+        requires { index < self.now.list.reader.count }
+        ensures value { (t : Tree) → ShowsListOf A.ReaderArena self.now.list.reader t
+            → HasStructs t → ShowsStructOf A.ReaderArena result.reader (struct_element t index) }
+        ensures source { result.reader.source ≡ self.now.list.reader.source }
+    {
+        Reader {
+            reader: self.list.get(index),
+        }
+    }
+}

@@ -1,0 +1,26 @@
+//! Which member of Brand.Scope is set
+ghost use Rattle.std.specs.Prelude.{◌≡◌, ◌≤◌, IfOk, IfErr};
+ghost use Rattle.schema_reading.specs.OfBrandScopeWhich.{brand_scope_which_number};
+
+use typed_reading::error::NotInSchema;
+
+/// Which member of Brand.Scope is set.
+#[derive(Clone, Copy, Debug, PartialEq, Eq)]
+pub enum Which {
+    /// bind @0
+    Bind,
+    /// inherit @1
+    Inherit,
+}
+
+/// Returns what `number` names.
+pub fn of_number(number: u16) -> Result<Which, NotInSchema>
+    ensures value { IfOk result (λ e. brand_scope_which_number e ≡ number) }
+    ensures unknown { IfErr result (λ e. (e.0 ≡ number) × (2 ≤ number)) }
+{
+    match number {
+        0 => Ok(Which::Bind),
+        1 => Ok(Which::Inherit),
+        _ => Err(NotInSchema(number)),
+    }
+}

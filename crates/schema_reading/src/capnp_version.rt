@@ -1,0 +1,116 @@
+//! CapnpVersion
+ghost use Rattle.std.specs.Prelude.{◌≡◌, ◌<◌, ◌+◌, ℕ, IfOk, IsOk, ⊤};
+ghost use Rattle.capnp_format.specs.Bytes.{message};
+ghost use Rattle.capnp_format.specs.Means.{Means};
+ghost use Rattle.capnp_format.specs.Tree.{Tree};
+ghost use Rattle.capnp_words.specs.Meter.{Affords};
+ghost use Rattle.capnp_arena_traits.specs.Checks.{Holds};
+ghost use Rattle.capnp_objects.specs.Source.{levels};
+ghost use Rattle.capnp_readers.specs.Values.{HasStructs, IsStructOrNull, ShowsListOf, ShowsStructOf, list_length, struct_element};
+ghost use Rattle.schema_reading.specs.Schema.{capnp_version_major, capnp_version_minor, capnp_version_micro};
+
+use capnp_arena_traits::arena::ReaderArena;
+use capnp_readers::readers::StructReader;
+use capnp_words::error::ErrorKind;
+use capnp_words::read_limiter::ReadLimiter;
+use std::alloc::AllocError;
+use typed_reading::list::StructsReader;
+use typed_reading::value;
+
+/// CapnpVersion.
+pub struct Reader<'a, A: ReaderArena> {
+    /// The struct.
+    pub reader: StructReader<'a, A>,
+}
+
+impl<'a, A: ReaderArena> Clone for Reader<'a, A> {
+    ghost is_clone = { λ x y. y ≡ x };
+
+    ghost is_infallible = { λ _. ⊤ };
+
+    fn clone(&self) -> Result<Self, AllocError> {
+        Ok(*self)
+    }
+}
+
+impl<'a, A: ReaderArena> Copy for Reader<'a, A> {}
+
+impl<'a, A: ReaderArena> Reader<'a, A> {
+    /// Returns the root of a message.
+    pub fn root(arena: &'a A, lim: &mut ReadLimiter) -> Result<Self, ErrorKind>
+        ensures value { (t : Tree) (c : ℕ)
+            → Means (message (A.segments arena.now)) (levels (A.nesting arena.now)) 0 0 t c
+            → IfOk result (λ r. ShowsStructOf A.ReaderArena r.reader t) }
+        ensures answered { let S = message (A.segments arena.now) in (t : Tree) (c : ℕ)
+            → Holds S 0 0 1 → IsStructOrNull t → Means S (levels (A.nesting arena.now)) 0 0 t c
+            → Affords (A.charging arena.now) lim.old (1 + c) → IsOk result }
+    {
+        let reader = value::root(arena, lim)?;
+        Ok(Reader { reader })
+    }
+
+    /// major @0 :UInt16
+    pub fn get_major(&self) -> u16
+        ensures { (t : Tree) → ShowsStructOf A.ReaderArena self.now.reader t
+            → result ≡ capnp_version_major t }
+    {
+        value::get_number(&self.reader, 0)
+    }
+
+    /// minor @1 :UInt8
+    pub fn get_minor(&self) -> u8
+        ensures { (t : Tree) → ShowsStructOf A.ReaderArena self.now.reader t
+            → result ≡ capnp_version_minor t }
+    {
+        value::get_number(&self.reader, 2)
+    }
+
+    /// micro @2 :UInt8
+    pub fn get_micro(&self) -> u8
+        ensures { (t : Tree) → ShowsStructOf A.ReaderArena self.now.reader t
+            → result ≡ capnp_version_micro t }
+    {
+        value::get_number(&self.reader, 3)
+    }
+}
+
+/// A list of CapnpVersion.
+pub struct Readers<'a, A: ReaderArena> {
+    /// The list.
+    pub list: StructsReader<'a, A>,
+}
+
+impl<'a, A: ReaderArena> Clone for Readers<'a, A> {
+    ghost is_clone = { λ x y. y ≡ x };
+
+    ghost is_infallible = { λ _. ⊤ };
+
+    fn clone(&self) -> Result<Self, AllocError> {
+        Ok(*self)
+    }
+}
+
+impl<'a, A: ReaderArena> Copy for Readers<'a, A> {}
+
+impl<'a, A: ReaderArena> Readers<'a, A> {
+    /// The number of elements.
+    pub fn len(&self) -> u32
+        ensures count { result ≡ self.now.list.reader.count }
+        ensures value { (t : Tree) → ShowsListOf A.ReaderArena self.now.list.reader t
+            → result ≡ list_length t }
+    {
+        self.list.len()
+    }
+
+    /// Returns element `index`. Precondition: `index` is below the number of elements.
+    pub fn get(&self, index: u32) -> Reader<'a, A>
+        requires { index < self.now.list.reader.count }
+        ensures value { (t : Tree) → ShowsListOf A.ReaderArena self.now.list.reader t
+            → HasStructs t → ShowsStructOf A.ReaderArena result.reader (struct_element t index) }
+        ensures source { result.reader.source ≡ self.now.list.reader.source }
+    {
+        Reader {
+            reader: self.list.get(index),
+        }
+    }
+}

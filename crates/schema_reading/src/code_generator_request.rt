@@ -1,0 +1,197 @@
+//! CodeGeneratorRequest
+ghost use Rattle.std.specs.Prelude.{◌≡◌, ◌≢◌, ◌<◌, ◌+◌, ◌↔◌, ℕ, IsTrue, IfOk, IsOk, ⊤};
+ghost use Rattle.capnp_format.specs.Bytes.{message};
+ghost use Rattle.capnp_format.specs.Means.{Means};
+ghost use Rattle.capnp_format.specs.Tree.{Tree, Null};
+ghost use Rattle.capnp_words.specs.Meter.{Affords};
+ghost use Rattle.capnp_words.specs.declared.wire_pointer.ElementSize.TheVariants.{InlineComposite};
+ghost use Rattle.capnp_arena_traits.specs.Checks.{Holds};
+ghost use Rattle.capnp_objects.specs.Reading.{source_start};
+ghost use Rattle.capnp_objects.specs.Source.{levels};
+ghost use Rattle.capnp_readers.specs.Values.{FitsSize, HasStructs, IsStructOrNull, ShowsListOf, ShowsStructOf, child_cost, list_length, struct_element};
+ghost use Rattle.typed_reading.specs.Values.{child};
+ghost use Rattle.schema_reading.specs.Schema.{code_generator_request_nodes, code_generator_request_requested_files, code_generator_request_capnp_version, code_generator_request_source_info};
+
+use crate::{capnp_version, code_generator_request_requested_file, node, node_source_info};
+use capnp_arena_traits::arena::ReaderArena;
+use capnp_readers::readers::StructReader;
+use capnp_words::error::ErrorKind;
+use capnp_words::read_limiter::ReadLimiter;
+use std::alloc::AllocError;
+use typed_reading::list::{self, StructsReader};
+use typed_reading::value;
+
+/// CodeGeneratorRequest.
+pub struct Reader<'a, A: ReaderArena> {
+    /// The struct.
+    pub reader: StructReader<'a, A>,
+}
+
+impl<'a, A: ReaderArena> Clone for Reader<'a, A> {
+    ghost is_clone = { λ x y. y ≡ x };
+
+    ghost is_infallible = { λ _. ⊤ };
+
+    fn clone(&self) -> Result<Self, AllocError> {
+        Ok(*self)
+    }
+}
+
+impl<'a, A: ReaderArena> Copy for Reader<'a, A> {}
+
+impl<'a, A: ReaderArena> Reader<'a, A> {
+    /// Returns the root of a message.
+    pub fn root(arena: &'a A, lim: &mut ReadLimiter) -> Result<Self, ErrorKind>
+        ensures value { (t : Tree) (c : ℕ)
+            → Means (message (A.segments arena.now)) (levels (A.nesting arena.now)) 0 0 t c
+            → IfOk result (λ r. ShowsStructOf A.ReaderArena r.reader t) }
+        ensures answered { let S = message (A.segments arena.now) in (t : Tree) (c : ℕ)
+            → Holds S 0 0 1 → IsStructOrNull t → Means S (levels (A.nesting arena.now)) 0 0 t c
+            → Affords (A.charging arena.now) lim.old (1 + c) → IsOk result }
+    {
+        let reader = value::root(arena, lim)?;
+        Ok(Reader { reader })
+    }
+
+    /// nodes @0 :List(Node)
+    pub fn get_nodes(&self, lim: &mut ReadLimiter) -> Result<node::Readers<'a, A>, ErrorKind>
+        ensures value { (t : Tree) → ShowsStructOf A.ReaderArena self.now.reader t
+            → IfOk result (λ r.
+            ShowsListOf A.ReaderArena r.list.reader (code_generator_request_nodes t)) }
+        ensures answered { let start = source_start A.ReaderArena self.now.reader.source in
+            (t : Tree) (shows : ShowsStructOf A.ReaderArena self.now.reader t)
+            → FitsSize InlineComposite (code_generator_request_nodes t)
+            → Affords start.charging lim.old (child_cost A.ReaderArena shows 0)
+            → IsOk result }
+    {
+        let list = list::get_structs(&self.reader, 0, lim)?;
+        Ok(node::Readers { list })
+    }
+
+    /// Whether the pointer of nodes is not null.
+    pub fn has_nodes(&self) -> bool
+        ensures { (t : Tree) → ShowsStructOf A.ReaderArena self.now.reader t
+            → (IsTrue result ↔ (child 0 t ≢ Null)) }
+    {
+        value::has(&self.reader, 0)
+    }
+
+    /// requestedFiles @1 :List(CodeGeneratorRequest.RequestedFile)
+    pub fn get_requested_files(
+        &self,
+        lim: &mut ReadLimiter,
+    ) -> Result<code_generator_request_requested_file::Readers<'a, A>, ErrorKind>
+        ensures value { (t : Tree) → ShowsStructOf A.ReaderArena self.now.reader t
+            → IfOk result (λ r.
+            ShowsListOf A.ReaderArena r.list.reader (code_generator_request_requested_files t)) }
+        ensures answered { let start = source_start A.ReaderArena self.now.reader.source in
+            (t : Tree) (shows : ShowsStructOf A.ReaderArena self.now.reader t)
+            → FitsSize InlineComposite (code_generator_request_requested_files t)
+            → Affords start.charging lim.old (child_cost A.ReaderArena shows 1)
+            → IsOk result }
+    {
+        let list = list::get_structs(&self.reader, 1, lim)?;
+        Ok(code_generator_request_requested_file::Readers { list })
+    }
+
+    /// Whether the pointer of requestedFiles is not null.
+    pub fn has_requested_files(&self) -> bool
+        ensures { (t : Tree) → ShowsStructOf A.ReaderArena self.now.reader t
+            → (IsTrue result ↔ (child 1 t ≢ Null)) }
+    {
+        value::has(&self.reader, 1)
+    }
+
+    /// capnpVersion @2 :CapnpVersion
+    pub fn get_capnp_version(
+        &self,
+        lim: &mut ReadLimiter,
+    ) -> Result<capnp_version::Reader<'a, A>, ErrorKind>
+        ensures value { (t : Tree) → ShowsStructOf A.ReaderArena self.now.reader t
+            → IfOk result (λ r.
+            ShowsStructOf A.ReaderArena r.reader (code_generator_request_capnp_version t)) }
+        ensures answered { let start = source_start A.ReaderArena self.now.reader.source in
+            (t : Tree) (shows : ShowsStructOf A.ReaderArena self.now.reader t)
+            → IsStructOrNull (code_generator_request_capnp_version t)
+            → Affords start.charging lim.old (child_cost A.ReaderArena shows 2)
+            → IsOk result }
+    {
+        let reader = value::get_struct(&self.reader, 2, lim)?;
+        Ok(capnp_version::Reader { reader })
+    }
+
+    /// Whether the pointer of capnpVersion is not null.
+    pub fn has_capnp_version(&self) -> bool
+        ensures { (t : Tree) → ShowsStructOf A.ReaderArena self.now.reader t
+            → (IsTrue result ↔ (child 2 t ≢ Null)) }
+    {
+        value::has(&self.reader, 2)
+    }
+
+    /// sourceInfo @3 :List(Node.SourceInfo)
+    pub fn get_source_info(
+        &self,
+        lim: &mut ReadLimiter,
+    ) -> Result<node_source_info::Readers<'a, A>, ErrorKind>
+        ensures value { (t : Tree) → ShowsStructOf A.ReaderArena self.now.reader t
+            → IfOk result (λ r.
+            ShowsListOf A.ReaderArena r.list.reader (code_generator_request_source_info t)) }
+        ensures answered { let start = source_start A.ReaderArena self.now.reader.source in
+            (t : Tree) (shows : ShowsStructOf A.ReaderArena self.now.reader t)
+            → FitsSize InlineComposite (code_generator_request_source_info t)
+            → Affords start.charging lim.old (child_cost A.ReaderArena shows 3)
+            → IsOk result }
+    {
+        let list = list::get_structs(&self.reader, 3, lim)?;
+        Ok(node_source_info::Readers { list })
+    }
+
+    /// Whether the pointer of sourceInfo is not null.
+    pub fn has_source_info(&self) -> bool
+        ensures { (t : Tree) → ShowsStructOf A.ReaderArena self.now.reader t
+            → (IsTrue result ↔ (child 3 t ≢ Null)) }
+    {
+        value::has(&self.reader, 3)
+    }
+}
+
+/// A list of CodeGeneratorRequest.
+pub struct Readers<'a, A: ReaderArena> {
+    /// The list.
+    pub list: StructsReader<'a, A>,
+}
+
+impl<'a, A: ReaderArena> Clone for Readers<'a, A> {
+    ghost is_clone = { λ x y. y ≡ x };
+
+    ghost is_infallible = { λ _. ⊤ };
+
+    fn clone(&self) -> Result<Self, AllocError> {
+        Ok(*self)
+    }
+}
+
+impl<'a, A: ReaderArena> Copy for Readers<'a, A> {}
+
+impl<'a, A: ReaderArena> Readers<'a, A> {
+    /// The number of elements.
+    pub fn len(&self) -> u32
+        ensures count { result ≡ self.now.list.reader.count }
+        ensures value { (t : Tree) → ShowsListOf A.ReaderArena self.now.list.reader t
+            → result ≡ list_length t }
+    {
+        self.list.len()
+    }
+
+    /// Returns element `index`. Precondition: `index` is below the number of elements.
+    pub fn get(&self, index: u32) -> Reader<'a, A>
+        requires { index < self.now.list.reader.count }
+        ensures value { (t : Tree) → ShowsListOf A.ReaderArena self.now.list.reader t
+            → HasStructs t → ShowsStructOf A.ReaderArena result.reader (struct_element t index) }
+        ensures source { result.reader.source ≡ self.now.list.reader.source }
+    {
+        Reader {
+            reader: self.list.get(index),
+        }
+    }
+}

@@ -1,0 +1,124 @@
+//! CodeGeneratorRequest.RequestedFile.Import
+ghost use Rattle.std.specs.Prelude.{◌≡◌, ◌≢◌, ◌<◌, ◌+◌, ◌↔◌, ℕ, IsTrue, IfOk, IsOk, ⊤};
+ghost use Rattle.capnp_format.specs.Bytes.{message};
+ghost use Rattle.capnp_format.specs.Means.{Means};
+ghost use Rattle.capnp_format.specs.Segments.{AreWords};
+ghost use Rattle.capnp_format.specs.Tree.{Tree, Null};
+ghost use Rattle.capnp_words.specs.Meter.{Affords};
+ghost use Rattle.capnp_arena_traits.specs.Checks.{Holds};
+ghost use Rattle.capnp_objects.specs.Reading.{source_start};
+ghost use Rattle.capnp_objects.specs.Source.{levels};
+ghost use Rattle.capnp_readers.specs.Values.{HasStructs, IsStructOrNull, IsText, ShowsListOf, ShowsStructOf, child_cost, list_length, struct_element};
+ghost use Rattle.typed_reading.specs.Values.{child};
+ghost use Rattle.schema_reading.specs.Schema.{code_generator_request_requested_file_import_id, code_generator_request_requested_file_import_name};
+
+use capnp_arena_traits::arena::ReaderArena;
+use capnp_readers::readers::StructReader;
+use capnp_words::error::ErrorKind;
+use capnp_words::read_limiter::ReadLimiter;
+use std::alloc::AllocError;
+use typed_reading::list::StructsReader;
+use typed_reading::value;
+
+/// CodeGeneratorRequest.RequestedFile.Import.
+pub struct Reader<'a, A: ReaderArena> {
+    /// The struct.
+    pub reader: StructReader<'a, A>,
+}
+
+impl<'a, A: ReaderArena> Clone for Reader<'a, A> {
+    ghost is_clone = { λ x y. y ≡ x };
+
+    ghost is_infallible = { λ _. ⊤ };
+
+    fn clone(&self) -> Result<Self, AllocError> {
+        Ok(*self)
+    }
+}
+
+impl<'a, A: ReaderArena> Copy for Reader<'a, A> {}
+
+impl<'a, A: ReaderArena> Reader<'a, A> {
+    /// Returns the root of a message.
+    pub fn root(arena: &'a A, lim: &mut ReadLimiter) -> Result<Self, ErrorKind>
+        ensures value { (t : Tree) (c : ℕ)
+            → Means (message (A.segments arena.now)) (levels (A.nesting arena.now)) 0 0 t c
+            → IfOk result (λ r. ShowsStructOf A.ReaderArena r.reader t) }
+        ensures answered { let S = message (A.segments arena.now) in (t : Tree) (c : ℕ)
+            → Holds S 0 0 1 → IsStructOrNull t → Means S (levels (A.nesting arena.now)) 0 0 t c
+            → Affords (A.charging arena.now) lim.old (1 + c) → IsOk result }
+    {
+        let reader = value::root(arena, lim)?;
+        Ok(Reader { reader })
+    }
+
+    /// id @0 :UInt64
+    pub fn get_id(&self) -> u64
+        ensures { (t : Tree) → ShowsStructOf A.ReaderArena self.now.reader t
+            → result ≡ code_generator_request_requested_file_import_id t }
+    {
+        value::get_number(&self.reader, 0)
+    }
+
+    /// name @1 :Text
+    pub fn get_name(&self, lim: &mut ReadLimiter) -> Result<&'a [u8], ErrorKind>
+        ensures value { (t : Tree) → ShowsStructOf A.ReaderArena self.now.reader t
+            → IfOk result (λ text. text.now ≡ code_generator_request_requested_file_import_name t) }
+        ensures answered { let start = source_start A.ReaderArena self.now.reader.source in
+            (t : Tree) (shows : ShowsStructOf A.ReaderArena self.now.reader t)
+            → AreWords start.segments → IsText (child 0 t)
+            → Affords start.charging lim.old (child_cost A.ReaderArena shows 0)
+            → IsOk result }
+    {
+        value::get_text(&self.reader, 0, lim)
+    }
+
+    /// Whether the pointer of name is not null.
+    pub fn has_name(&self) -> bool
+        ensures { (t : Tree) → ShowsStructOf A.ReaderArena self.now.reader t
+            → (IsTrue result ↔ (child 0 t ≢ Null)) }
+    {
+        value::has(&self.reader, 0)
+    }
+}
+
+/// A list of CodeGeneratorRequest.RequestedFile.Import.
+pub struct Readers<'a, A: ReaderArena> {
+    /// The list.
+    pub list: StructsReader<'a, A>,
+}
+
+impl<'a, A: ReaderArena> Clone for Readers<'a, A> {
+    ghost is_clone = { λ x y. y ≡ x };
+
+    ghost is_infallible = { λ _. ⊤ };
+
+    fn clone(&self) -> Result<Self, AllocError> {
+        Ok(*self)
+    }
+}
+
+impl<'a, A: ReaderArena> Copy for Readers<'a, A> {}
+
+impl<'a, A: ReaderArena> Readers<'a, A> {
+    /// The number of elements.
+    pub fn len(&self) -> u32
+        ensures count { result ≡ self.now.list.reader.count }
+        ensures value { (t : Tree) → ShowsListOf A.ReaderArena self.now.list.reader t
+            → result ≡ list_length t }
+    {
+        self.list.len()
+    }
+
+    /// Returns element `index`. Precondition: `index` is below the number of elements.
+    pub fn get(&self, index: u32) -> Reader<'a, A>
+        requires { index < self.now.list.reader.count }
+        ensures value { (t : Tree) → ShowsListOf A.ReaderArena self.now.list.reader t
+            → HasStructs t → ShowsStructOf A.ReaderArena result.reader (struct_element t index) }
+        ensures source { result.reader.source ≡ self.now.list.reader.source }
+    {
+        Reader {
+            reader: self.list.get(index),
+        }
+    }
+}

@@ -1,0 +1,201 @@
+//! Field
+ghost use Rattle.std.specs.Prelude.{◌≡◌, ◌≢◌, ◌<◌, ◌≤◌, ◌+◌, ◌↔◌, ℕ, IsTrue, IfOk, IfErr, IsOk, ⊤};
+ghost use Rattle.capnp_format.specs.Bytes.{message};
+ghost use Rattle.capnp_format.specs.Means.{Means};
+ghost use Rattle.capnp_format.specs.Segments.{AreWords};
+ghost use Rattle.capnp_format.specs.Tree.{Tree, Null};
+ghost use Rattle.capnp_words.specs.Meter.{Affords};
+ghost use Rattle.capnp_words.specs.declared.wire_pointer.ElementSize.TheVariants.{InlineComposite};
+ghost use Rattle.capnp_arena_traits.specs.Checks.{Holds};
+ghost use Rattle.capnp_objects.specs.Reading.{source_start};
+ghost use Rattle.capnp_objects.specs.Source.{levels};
+ghost use Rattle.capnp_readers.specs.Values.{FitsSize, HasStructs, IsStructOrNull, IsText, ShowsListOf, ShowsStructOf, child_cost, list_length, struct_element};
+ghost use Rattle.typed_reading.specs.Values.{child};
+ghost use Rattle.schema_reading.specs.Schema.{field_name, field_code_order, field_annotations, field_discriminant_value, field_tag};
+ghost use Rattle.schema_reading.specs.OfFieldWhich.{field_which_number};
+
+use crate::{annotation, field_group, field_ordinal, field_slot, field_which};
+use capnp_arena_traits::arena::ReaderArena;
+use capnp_readers::readers::StructReader;
+use capnp_words::error::ErrorKind;
+use capnp_words::read_limiter::ReadLimiter;
+use std::alloc::AllocError;
+use typed_reading::error::NotInSchema;
+use typed_reading::list::{self, StructsReader};
+use typed_reading::value;
+
+/// Field.
+pub struct Reader<'a, A: ReaderArena> {
+    /// The struct.
+    pub reader: StructReader<'a, A>,
+}
+
+impl<'a, A: ReaderArena> Clone for Reader<'a, A> {
+    ghost is_clone = { λ x y. y ≡ x };
+
+    ghost is_infallible = { λ _. ⊤ };
+
+    fn clone(&self) -> Result<Self, AllocError> {
+        Ok(*self)
+    }
+}
+
+impl<'a, A: ReaderArena> Copy for Reader<'a, A> {}
+
+impl<'a, A: ReaderArena> Reader<'a, A> {
+    /// Returns the root of a message.
+    pub fn root(arena: &'a A, lim: &mut ReadLimiter) -> Result<Self, ErrorKind>
+        ensures value { (t : Tree) (c : ℕ)
+            → Means (message (A.segments arena.now)) (levels (A.nesting arena.now)) 0 0 t c
+            → IfOk result (λ r. ShowsStructOf A.ReaderArena r.reader t) }
+        ensures answered { let S = message (A.segments arena.now) in (t : Tree) (c : ℕ)
+            → Holds S 0 0 1 → IsStructOrNull t → Means S (levels (A.nesting arena.now)) 0 0 t c
+            → Affords (A.charging arena.now) lim.old (1 + c) → IsOk result }
+    {
+        let reader = value::root(arena, lim)?;
+        Ok(Reader { reader })
+    }
+
+    /// name @0 :Text
+    pub fn get_name(&self, lim: &mut ReadLimiter) -> Result<&'a [u8], ErrorKind>
+        ensures value { (t : Tree) → ShowsStructOf A.ReaderArena self.now.reader t
+            → IfOk result (λ text. text.now ≡ field_name t) }
+        ensures answered { let start = source_start A.ReaderArena self.now.reader.source in
+            (t : Tree) (shows : ShowsStructOf A.ReaderArena self.now.reader t)
+            → AreWords start.segments → IsText (child 0 t)
+            → Affords start.charging lim.old (child_cost A.ReaderArena shows 0)
+            → IsOk result }
+    {
+        value::get_text(&self.reader, 0, lim)
+    }
+
+    /// Whether the pointer of name is not null.
+    pub fn has_name(&self) -> bool
+        ensures { (t : Tree) → ShowsStructOf A.ReaderArena self.now.reader t
+            → (IsTrue result ↔ (child 0 t ≢ Null)) }
+    {
+        value::has(&self.reader, 0)
+    }
+
+    /// codeOrder @1 :UInt16
+    pub fn get_code_order(&self) -> u16
+        ensures { (t : Tree) → ShowsStructOf A.ReaderArena self.now.reader t
+            → result ≡ field_code_order t }
+    {
+        value::get_number(&self.reader, 0)
+    }
+
+    /// annotations @2 :List(Annotation)
+    pub fn get_annotations(
+        &self,
+        lim: &mut ReadLimiter,
+    ) -> Result<annotation::Readers<'a, A>, ErrorKind>
+        ensures value { (t : Tree) → ShowsStructOf A.ReaderArena self.now.reader t
+            → IfOk result (λ r.
+            ShowsListOf A.ReaderArena r.list.reader (field_annotations t)) }
+        ensures answered { let start = source_start A.ReaderArena self.now.reader.source in
+            (t : Tree) (shows : ShowsStructOf A.ReaderArena self.now.reader t)
+            → FitsSize InlineComposite (field_annotations t)
+            → Affords start.charging lim.old (child_cost A.ReaderArena shows 1)
+            → IsOk result }
+    {
+        let list = list::get_structs(&self.reader, 1, lim)?;
+        Ok(annotation::Readers { list })
+    }
+
+    /// Whether the pointer of annotations is not null.
+    pub fn has_annotations(&self) -> bool
+        ensures { (t : Tree) → ShowsStructOf A.ReaderArena self.now.reader t
+            → (IsTrue result ↔ (child 1 t ≢ Null)) }
+    {
+        value::has(&self.reader, 1)
+    }
+
+    /// discriminantValue @3 :UInt16
+    pub fn get_discriminant_value(&self) -> u16
+        ensures { (t : Tree) → ShowsStructOf A.ReaderArena self.now.reader t
+            → result ≡ field_discriminant_value t }
+    {
+        value::get_number_or::<A, u16>(&self.reader, 1, 65535)
+    }
+
+    /// slot :group
+    pub fn get_slot(&self) -> field_slot::Reader<'a, A>
+        ensures { result.reader ≡ self.now.reader }
+    {
+        field_slot::Reader {
+            reader: self.reader,
+        }
+    }
+
+    /// group :group
+    pub fn get_group(&self) -> field_group::Reader<'a, A>
+        ensures { result.reader ≡ self.now.reader }
+    {
+        field_group::Reader {
+            reader: self.reader,
+        }
+    }
+
+    /// ordinal :group
+    pub fn get_ordinal(&self) -> field_ordinal::Reader<'a, A>
+        ensures { result.reader ≡ self.now.reader }
+    {
+        field_ordinal::Reader {
+            reader: self.reader,
+        }
+    }
+
+    /// Returns which member is set.
+    pub fn which(&self) -> Result<field_which::Which, NotInSchema>
+        ensures value { (t : Tree) → ShowsStructOf A.ReaderArena self.now.reader t
+            → IfOk result (λ e. field_which_number e
+            ≡ field_tag t) }
+        ensures unknown { (t : Tree) → ShowsStructOf A.ReaderArena self.now.reader t
+            → IfErr result (λ e. (e.0 ≡ field_tag t)
+            × (2 ≤ field_tag t)) }
+    {
+        field_which::of_number(value::get_number(&self.reader, 4))
+    }
+}
+
+/// A list of Field.
+pub struct Readers<'a, A: ReaderArena> {
+    /// The list.
+    pub list: StructsReader<'a, A>,
+}
+
+impl<'a, A: ReaderArena> Clone for Readers<'a, A> {
+    ghost is_clone = { λ x y. y ≡ x };
+
+    ghost is_infallible = { λ _. ⊤ };
+
+    fn clone(&self) -> Result<Self, AllocError> {
+        Ok(*self)
+    }
+}
+
+impl<'a, A: ReaderArena> Copy for Readers<'a, A> {}
+
+impl<'a, A: ReaderArena> Readers<'a, A> {
+    /// The number of elements.
+    pub fn len(&self) -> u32
+        ensures count { result ≡ self.now.list.reader.count }
+        ensures value { (t : Tree) → ShowsListOf A.ReaderArena self.now.list.reader t
+            → result ≡ list_length t }
+    {
+        self.list.len()
+    }
+
+    /// Returns element `index`. Precondition: `index` is below the number of elements.
+    pub fn get(&self, index: u32) -> Reader<'a, A>
+        requires { index < self.now.list.reader.count }
+        ensures value { (t : Tree) → ShowsListOf A.ReaderArena self.now.list.reader t
+            → HasStructs t → ShowsStructOf A.ReaderArena result.reader (struct_element t index) }
+        ensures source { result.reader.source ≡ self.now.list.reader.source }
+    {
+        Reader {
+            reader: self.list.get(index),
+        }
+    }
+}

@@ -1,0 +1,63 @@
+//! Node.enum
+ghost use Rattle.std.specs.Prelude.{◌≡◌, ◌≢◌, ◌↔◌, IsTrue, IfOk, IsOk, ⊤};
+ghost use Rattle.capnp_format.specs.Tree.{Tree, Null};
+ghost use Rattle.capnp_words.specs.Meter.{Affords};
+ghost use Rattle.capnp_words.specs.declared.wire_pointer.ElementSize.TheVariants.{InlineComposite};
+ghost use Rattle.capnp_objects.specs.Reading.{source_start};
+ghost use Rattle.capnp_readers.specs.Values.{FitsSize, ShowsListOf, ShowsStructOf, child_cost};
+ghost use Rattle.typed_reading.specs.Values.{child};
+ghost use Rattle.schema_reading.specs.Schema.{node_enum_enumerants};
+
+use crate::enumerant;
+use capnp_arena_traits::arena::ReaderArena;
+use capnp_readers::readers::StructReader;
+use capnp_words::error::ErrorKind;
+use capnp_words::read_limiter::ReadLimiter;
+use std::alloc::AllocError;
+use typed_reading::{list, value};
+
+/// Node.enum.
+pub struct Reader<'a, A: ReaderArena> {
+    /// The struct.
+    pub reader: StructReader<'a, A>,
+}
+
+impl<'a, A: ReaderArena> Clone for Reader<'a, A> {
+    ghost is_clone = { λ x y. y ≡ x };
+
+    ghost is_infallible = { λ _. ⊤ };
+
+    fn clone(&self) -> Result<Self, AllocError> {
+        Ok(*self)
+    }
+}
+
+impl<'a, A: ReaderArena> Copy for Reader<'a, A> {}
+
+impl<'a, A: ReaderArena> Reader<'a, A> {
+    /// enumerants @14 :List(Enumerant)
+    pub fn get_enumerants(
+        &self,
+        lim: &mut ReadLimiter,
+    ) -> Result<enumerant::Readers<'a, A>, ErrorKind>
+        ensures value { (t : Tree) → ShowsStructOf A.ReaderArena self.now.reader t
+            → IfOk result (λ r.
+            ShowsListOf A.ReaderArena r.list.reader (node_enum_enumerants t)) }
+        ensures answered { let start = source_start A.ReaderArena self.now.reader.source in
+            (t : Tree) (shows : ShowsStructOf A.ReaderArena self.now.reader t)
+            → FitsSize InlineComposite (node_enum_enumerants t)
+            → Affords start.charging lim.old (child_cost A.ReaderArena shows 3)
+            → IsOk result }
+    {
+        let list = list::get_structs(&self.reader, 3, lim)?;
+        Ok(enumerant::Readers { list })
+    }
+
+    /// Whether the pointer of enumerants is not null.
+    pub fn has_enumerants(&self) -> bool
+        ensures { (t : Tree) → ShowsStructOf A.ReaderArena self.now.reader t
+            → (IsTrue result ↔ (child 3 t ≢ Null)) }
+    {
+        value::has(&self.reader, 3)
+    }
+}

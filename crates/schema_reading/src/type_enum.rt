@@ -1,0 +1,67 @@
+//! Type.enum
+ghost use Rattle.std.specs.Prelude.{◌≡◌, ◌≢◌, ◌↔◌, IsTrue, IfOk, IsOk, ⊤};
+ghost use Rattle.capnp_format.specs.Tree.{Tree, Null};
+ghost use Rattle.capnp_words.specs.Meter.{Affords};
+ghost use Rattle.capnp_objects.specs.Reading.{source_start};
+ghost use Rattle.capnp_readers.specs.Values.{IsStructOrNull, ShowsStructOf, child_cost};
+ghost use Rattle.typed_reading.specs.Values.{child};
+ghost use Rattle.schema_reading.specs.Schema.{type_enum_type_id, type_enum_brand};
+
+use crate::brand;
+use capnp_arena_traits::arena::ReaderArena;
+use capnp_readers::readers::StructReader;
+use capnp_words::error::ErrorKind;
+use capnp_words::read_limiter::ReadLimiter;
+use std::alloc::AllocError;
+use typed_reading::value;
+
+/// Type.enum.
+pub struct Reader<'a, A: ReaderArena> {
+    /// The struct.
+    pub reader: StructReader<'a, A>,
+}
+
+impl<'a, A: ReaderArena> Clone for Reader<'a, A> {
+    ghost is_clone = { λ x y. y ≡ x };
+
+    ghost is_infallible = { λ _. ⊤ };
+
+    fn clone(&self) -> Result<Self, AllocError> {
+        Ok(*self)
+    }
+}
+
+impl<'a, A: ReaderArena> Copy for Reader<'a, A> {}
+
+impl<'a, A: ReaderArena> Reader<'a, A> {
+    /// typeId @15 :UInt64
+    pub fn get_type_id(&self) -> u64
+        ensures { (t : Tree) → ShowsStructOf A.ReaderArena self.now.reader t
+            → result ≡ type_enum_type_id t }
+    {
+        value::get_number(&self.reader, 1)
+    }
+
+    /// brand @21 :Brand
+    pub fn get_brand(&self, lim: &mut ReadLimiter) -> Result<brand::Reader<'a, A>, ErrorKind>
+        ensures value { (t : Tree) → ShowsStructOf A.ReaderArena self.now.reader t
+            → IfOk result (λ r.
+            ShowsStructOf A.ReaderArena r.reader (type_enum_brand t)) }
+        ensures answered { let start = source_start A.ReaderArena self.now.reader.source in
+            (t : Tree) (shows : ShowsStructOf A.ReaderArena self.now.reader t)
+            → IsStructOrNull (type_enum_brand t)
+            → Affords start.charging lim.old (child_cost A.ReaderArena shows 0)
+            → IsOk result }
+    {
+        let reader = value::get_struct(&self.reader, 0, lim)?;
+        Ok(brand::Reader { reader })
+    }
+
+    /// Whether the pointer of brand is not null.
+    pub fn has_brand(&self) -> bool
+        ensures { (t : Tree) → ShowsStructOf A.ReaderArena self.now.reader t
+            → (IsTrue result ↔ (child 0 t ≢ Null)) }
+    {
+        value::has(&self.reader, 0)
+    }
+}

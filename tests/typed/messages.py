@@ -1,0 +1,236 @@
+"""Random schemas and random messages, and what is compared: what a program prints by generated readers, with what `capnp
+decode` prints."""
+import random
+import struct
+import subprocess
+
+from schema import BITS, NO_DISCRIMINANT, always, kind, members, name_of, parsed, unquoted, values
+
+NUMBERS = [name for name in BITS if name != 'enum']
+SHOWN = {'void': 'Void', 'bool': 'Bool', 'text': 'Text', 'data': 'Data', 'float32': 'Float32', 'float64': 'Float64'}
+SHOWN |= {f'{sign}int{bits}': f'{"U" if sign else ""}Int{bits}' for sign in ('', 'u') for bits in (8, 16, 32, 64)}
+# Words of Rust, Rattle and its prover, among the names of fields.
+WORDS = ['type', 'match', 'self', 'in', 'data', 'record', 'module', 'where', 'open', 'list', 'value', 'result', 'let', 'ghost', 'number', 'fooBar', 'httpURL', 'x1']
+
+
+class RandomSchema:
+    """A schema of structs that refer to one another, with enums, unions and groups."""
+
+    def __init__(self, seed, structs, fields):
+        self.random = random.Random(seed)
+        self.structs = [f'S{i}' if i else 'Root' for i in range(structs)]
+        self.enums = [f'E{i}' for i in range(3)]
+        lines = [f'@0x{0x8000000000000000 | self.random.getrandbits(63):x};']
+        for enum in self.enums:
+            names = self.random.sample(WORDS, self.random.randint(1, 8))
+            lines.append(f'enum {enum} {{ {" ".join(f"{name} @{i};" for i, name in enumerate(names))} }}')
+        for name in self.structs:
+            lines += [f'struct {name} {{', *self.struct(self.random.randint(3, fields)), '}']
+        self.text = '\n'.join(lines) + '\n'
+
+    def name(self, taken):
+        name = self.random.choice(WORDS) if self.random.random() < .5 else f'f{len(taken)}'
+        while name in taken:
+            name += 'x'
+        taken.add(name)
+        return name
+
+    def base(self):
+        return self.random.choice([*NUMBERS, 'text', 'data', 'enum', 'struct', 'void', 'list', 'list', 'any'])
+
+    def type(self, what, depth=2):
+        if what == 'enum':
+            return self.random.choice(self.enums)
+        if what == 'struct':
+            return self.random.choice(self.structs)
+        if what == 'any':
+            return 'AnyPointer'
+        if what == 'list':
+            inner = self.base()
+            while inner == 'any' or inner == 'list' and not depth:
+                inner = self.base()
+            return f'List({self.type(inner, depth - 1)})'
+        return SHOWN[what]
+
+    def default(self, what):
+        if what == 'enum' or self.random.random() < .5:
+            return ''
+        if what in ('text', 'data'):
+            return ' = "hello"' if what == 'text' else ' = 0x"00 ff 10 22"'
+        return f' = {number(self.random, what)}' if what in NUMBERS and not what.startswith('float') else ''
+
+    def struct(self, count):
+        taken, at, lines = set(), 0, []
+        union = self.random.random() < .5
+        for _ in range(count):
+            what = self.base()
+            lines.append(f'  {self.name(taken)} @{at} :{self.type(what)}{self.default(what)};')
+            at += 1
+        if union:
+            opened = '  union {' if self.random.random() < .5 else f'  {self.name(taken)} :union {{'
+            lines.append(opened)
+            for _ in range(self.random.randint(2, 6)):
+                if self.random.random() < .2:
+                    inner = set()
+                    lines.append(f'    {self.name(taken)} :group {{ {self.name(inner)} @{at} :UInt32; {self.name(inner)} @{at + 1} :Text; }}')
+                    at += 2
+                    continue
+                what = self.base()
+                lines.append(f'    {self.name(taken)} @{at} :{self.type(what)};')
+                at += 1
+            lines.append('  }')
+        return lines
+
+
+def number(choices, what):
+    """The text of a number of this kind."""
+    if what == 'bool':
+        return choices.choice(['true', 'false'])
+    if what.startswith('float'):
+        value = choices.choice([0.0, 1.5, -2.25, choices.uniform(-1e6, 1e6), 1e-20, -1e30])
+        return repr(struct.unpack('<f', struct.pack('<f', value))[0] if what == 'float32' else value)
+    bits = BITS[what]
+    if what.startswith('u'):
+        return str(choices.choice([0, 1, 2 ** bits - 1, choices.randrange(2 ** bits), choices.randrange(256)]))
+    return str(choices.choice([0, 1, -1, 2 ** (bits - 1) - 1, -2 ** (bits - 1), choices.randrange(-2 ** (bits - 1), 2 ** (bits - 1))]))
+
+
+class RandomValues:
+    """Texts of random values of a schema, for `capnp encode`."""
+
+    def __init__(self, schema, seed):
+        self.schema, self.random = schema, random.Random(seed)
+
+    def value(self, of, depth):
+        what = kind(of)
+        if what == 'void':
+            return 'void'
+        if what == 'enum':
+            return name_of(self.random.choice(self.schema.declared(of)['enum']['enumerants']))
+        if what in BITS:
+            return number(self.random, what)
+        if what == 'text':
+            return '"' + ''.join(self.random.choice('ab 09_-~{') for _ in range(self.random.choice([0, 1, 3, 7, 8, 9, 30]))) + '"'
+        if what == 'data':
+            some = bytes(self.random.randrange(256) for _ in range(self.random.choice([0, 1, 7, 8, 9, 20])))
+            return f'0x"{some.hex()}"' if some else '""'
+        if what == 'struct':
+            return self.struct(self.schema.declared(of), depth - 1)
+        if what == 'list':
+            inner = of['list']['elementType']
+            count = self.random.choice([0, 1, 2, 3, 8, 9, 17] if kind(inner) in BITS else [0, 1, 2, 3])
+            found = [self.value(inner, depth - 1) for _ in range(count)]
+            return None if None in found else f'[{", ".join(found)}]'
+        return None
+
+    def struct(self, node, depth):
+        fields = always(node)
+        if (choice := members(node)) and self.random.random() < .95:
+            fields = [*fields, self.random.choice(choice)]
+        shown = []
+        for field in fields:
+            if 'group' in field:
+                found = self.struct(self.schema.nodes[field['group']['typeId']], depth)
+            elif kind(field['slot']['type']) in ('struct', 'list') and (depth <= 0 or self.random.random() < .4) or self.random.random() < .2:
+                continue
+            else:
+                found = self.value(field['slot']['type'], depth)
+            if found is not None:
+                shown.append(f'{name_of(field)} = {found}')
+        return f'({", ".join(shown)})'
+
+
+def frames(schema, root, count, seed):
+    """The frames of random messages. `capnp encode` doesn't take each text that `capnp decode` would print: those are left
+    out."""
+    make = RandomValues(schema, seed)
+    found = []
+    for _ in range(count):
+        run = subprocess.run(['capnp', 'encode', schema.path, root], input=make.struct(schema.find(root), 4).encode(), stdout=subprocess.PIPE, stderr=subprocess.DEVNULL)
+        if not run.returncode:
+            found.append(run.stdout)
+    return found
+
+
+class Difference(Exception):
+    """Two values that differ: where, and what they are."""
+
+
+class Compared:
+    """Compares what a program printed with what `capnp decode` prints, and counts the fields."""
+
+    def __init__(self, schema):
+        self.schema, self.fields = schema, 0
+
+    def number(self, of, ours, theirs, where):
+        what = kind(of)
+        self.fields += 1
+        if what == 'enum':
+            names = [name_of(it) for it in self.schema.declared(of)['enum']['enumerants']]
+            same = ours == str(names.index(theirs))
+        elif what.startswith('float'):
+            # `capnp decode` prints as many digits as it takes, but of old versions of it only 8
+            form, size = ('<f', 4) if what == 'float32' else ('<d', 8)
+            ours = struct.unpack(form, int(ours).to_bytes(size, 'little'))[0]
+            theirs = struct.unpack(form, struct.pack(form, float(theirs)))[0]
+            same = ours == theirs or what == 'float32' and f'{ours:.7g}' == f'{theirs:.7g}'
+        else:
+            same = ours == theirs
+        if not same:
+            raise Difference(where, ours, theirs)
+
+    def value(self, of, ours, theirs, where):
+        what = kind(of)
+        if what == 'void':
+            return
+        if what in BITS:
+            self.number(of, ours, theirs, where)
+        elif what in ('text', 'data'):
+            self.fields += 1
+            if bytes(map(int, ours)) != unquoted(theirs):
+                raise Difference(where, ours, theirs)
+        elif what == 'struct':
+            self.struct(self.schema.declared(of), ours, theirs, where)
+        elif what == 'list':
+            if len(ours) != len(theirs):
+                raise Difference(where, ours, theirs)
+            for i, (one, other) in enumerate(zip(ours, theirs)):
+                self.value(of['list']['elementType'], one, other, f'{where}[{i}]')
+
+    def struct(self, node, ours, theirs, where):
+        for field in node['fields']:
+            name = name_of(field)
+            there = f'{where}.{name}'
+            if name not in theirs:
+                self.unset(field, ours.get(name), there)
+            elif name not in ours or ours[name] == 'null':
+                raise Difference(there, ours.get(name), theirs[name])
+            elif 'group' in field:
+                self.struct(self.schema.nodes[field['group']['typeId']], ours[name], theirs[name], there)
+            else:
+                self.value(field['slot']['type'], ours[name], theirs[name], there)
+
+    def unset(self, field, ours, where):
+        """A field that `capnp decode` doesn't print: a null pointer, or a member that isn't set."""
+        if ours is None or 'group' in field:
+            return
+        what = kind(field['slot']['type'])
+        if what in ('text', 'data'):
+            if bytes(map(int, ours)) != unquoted(field['slot']['defaultValue'].get(what, '""')):
+                raise Difference(where, ours, 'the default value')
+        elif what in BITS or ours != 'null' and field['discriminantValue'] == NO_DISCRIMINANT:
+            raise Difference(where, ours, 'nothing')
+
+
+def compared(schema, root, ours, theirs):
+    """The numbers of messages and of fields that are the same, and the first difference or None."""
+    compare = Compared(schema)
+    ours, theirs = list(values(ours)), list(values(theirs))
+    if len(ours) != len(theirs):
+        return 0, 0, f'{len(ours)} messages instead of {len(theirs)}'
+    for i, (one, other) in enumerate(zip(ours, theirs)):
+        try:
+            compare.struct(schema.find(root), parsed(one), parsed(other), f'message {i}')
+        except Difference as found:
+            return i, compare.fields, ' '.join(map(str, found.args))
+    return len(ours), compare.fields, None

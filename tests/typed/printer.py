@@ -1,0 +1,135 @@
+"""Writes a program that prints messages by generated readers: each field, in the notation of `capnp decode`, except that enums
+are numbers, and floats their bits, and that bytes are lists."""
+from schema import BITS, RUST, always, kind, members, name_of
+
+HEAD = '''//! Prints each message of standard input, by generated readers.
+#![tactic(auto)]
+
+use {crate}::{{{modules}}};
+use capnp_arena::arena::{{ReaderArena, ReaderArenaImpl, ReaderOptions}};
+use capnp_framing::devices::ReaderInput;
+use capnp_framing::framing::read;
+use capnp_words::read_limiter::ReadLimiter;
+use typed_reading::{{list, value}};
+
+fn print_bytes(rt: &impl Print, bytes: &[u8]) -> anyhow::Result<()> {{
+    print!(rt; "[")?;
+    for byte in bytes {{
+        print!(rt; "{{byte}}, ")?;
+    }}
+    print!(rt; "]")?;
+    Ok(())
+}}
+'''
+MAIN = '''
+fn main(rt: HostRuntime) -> anyhow::Result<()> {{
+    let mut input = ReaderInput::new(rt.reader());
+    for _ in 0..1_000_000 {{
+        let Some(segments) = read(rt.alloc(), &mut input, 8_388_608)? else {{
+            return Ok(());
+        }};
+        let arena = ReaderArenaImpl::new(segments, ReaderOptions::default());
+        let mut lim = ReadLimiter::new(None);
+        let root = {module}::Reader::root(&arena, &mut lim)?;
+        print_{module}(&rt, root, &mut lim, 64)?;
+        println!(&rt; "")?;
+    }}
+    Ok(())
+}}
+'''
+
+
+class Printer:
+    def __init__(self, schema):
+        self.schema = schema
+
+    def element(self, of, got, to, pad):
+        """Prints an element of a list, which the expression `got` reads as a number, a struct, or a struct with one pointer."""
+        what = kind(of)
+        if what == 'void':
+            to.append(f'{pad}{got};\n{pad}print!(rt; "void, ")?;\n')
+        elif what in RUST:
+            to.append(f'{pad}let v = {got};\n{pad}print!(rt; "{{v}}, ")?;\n')
+        elif what == 'struct':
+            module = self.schema.declared(of)['module']
+            to.append(f'{pad}print_{module}(rt, {got}, lim, depth - 1)?;\n{pad}print!(rt; ", ")?;\n')
+        elif what in ('text', 'data'):
+            to.append(f'{pad}print_bytes(rt, {got})?;\n{pad}print!(rt; ", ")?;\n')
+        elif what == 'list':
+            to.append(f'{pad}let e = {got};\n')
+            self.elements(of['list']['elementType'], self.list_at(of['list']['elementType'], '&e', 0), to, pad)
+            to.append(f'{pad}print!(rt; ", ")?;\n')
+        else:
+            to.append(f'{pad}print!(rt; "any, ")?;\n')
+
+    def list_at(self, of, reader, index):
+        """The list of these elements, at a pointer of a struct."""
+        what = kind(of)
+        if what in RUST:
+            return f'list::get_numbers::<A, {RUST[what]}>({reader}, {index}, lim)?'
+        if what == 'struct':
+            return f'{self.schema.declared(of)["module"]}::Readers {{ list: list::get_structs({reader}, {index}, lim)? }}'
+        return f'list::{ {"text": "get_texts", "data": "get_data_list"}.get(what, "get_pointers")}({reader}, {index}, lim)?'
+
+    def elements(self, of, got, to, pad):
+        """Prints a list."""
+        limited = 'i, lim)?' if kind(of) in ('text', 'data') else 'i)'
+        to.append(f'{pad}let l = {got};\n{pad}print!(rt; "[")?;\n{pad}for i in 0..l.len() {{\n')
+        self.element(of, f'l.get({limited}', to, pad + '    ')
+        to.append(f'{pad}}}\n{pad}print!(rt; "]")?;\n')
+
+    def field(self, field, to, pad):
+        getter, name = field['getter'], name_of(field)
+        to.append(f'{pad}print!(rt; "{name} = ")?;\n')
+        if 'group' in field:
+            module = self.schema.nodes[field['group']['typeId']]['module']
+            to.append(f'{pad}print_{module}(rt, r.get_{getter}(), lim, depth - 1)?;\n')
+        else:
+            self.slot(field['slot']['type'], getter, to, pad)
+        to.append(f'{pad}print!(rt; ", ")?;\n')
+
+    def slot(self, of, getter, to, pad):
+        what = kind(of)
+        if what == 'void':
+            to.append(f'{pad}print!(rt; "void")?;\n')
+        elif what == 'enum':
+            node = self.schema.declared(of)
+            arms = ''.join(f'{pad}    Ok({node["module"]}::{node["type"]}::{it}) => {i},\n' for i, it in enumerate(node['variants']))
+            to.append(f'{pad}let v: u16 = match r.get_{getter}() {{\n{arms}{pad}    Err(e) => e.0,\n{pad}}};\n{pad}print!(rt; "{{v}}")?;\n')
+        elif what in BITS:
+            to.append(f'{pad}let v = r.get_{getter}();\n{pad}print!(rt; "{{v}}")?;\n')
+        elif what in ('text', 'data'):
+            to.append(f'{pad}print_bytes(rt, r.get_{getter}(lim)?)?;\n')
+        else:
+            to.append(f'{pad}if r.has_{getter}() {{\n')
+            if what == 'struct':
+                to.append(f'{pad}    print_{self.schema.declared(of)["module"]}(rt, r.get_{getter}(lim)?, lim, depth - 1)?;\n')
+            elif what == 'list':
+                self.elements(of['list']['elementType'], f'r.get_{getter}(lim)?', to, pad + '    ')
+            else:
+                to.append(f'{pad}    print!(rt; "any")?;\n')
+            to.append(f'{pad}}} else {{\n{pad}    print!(rt; "null")?;\n{pad}}}\n')
+
+    def function(self, node):
+        module, body = node['module'], []
+        for field in always(node):
+            self.field(field, body, '    ')
+        if 'which' in node:
+            body.append('    match r.which() {\n')
+            for field in members(node):
+                body.append(f'        Ok({node["which"]}::Which::{field["variant"]}) => {{\n')
+                self.field(field, body, ' ' * 12)
+                body.append('        }\n')
+            body.append('        Err(e) => {\n            let v = e.0;\n            print!(rt; "unknown = {v}")?;\n        }\n    }\n')
+        return (f'\nfn print_{module}<A: ReaderArena>(\n    rt: &impl Print,\n    r: {module}::Reader<\'_, A>,\n    lim: &mut ReadLimiter,\n    depth: u32,\n'
+                f') -> anyhow::Result<()> {{\n    if depth == 0 {{\n        print!(rt; "deep")?;\n        return Ok(());\n    }}\n    print!(rt; "(")?;\n'
+                f'    let _ = (&r, &lim);\n{"".join(body)}    print!(rt; ")")?;\n    Ok(())\n}}\n')
+
+
+def program(schema, crate, root):
+    """The text of the program for messages whose root is the struct `root`."""
+    printer = Printer(schema)
+    structs = [node for node in schema.written if 'struct' in node]
+    functions = ''.join(printer.function(node) for node in structs)
+    modules = sorted({node['module'] for node in schema.written if node['module'] + '::' in functions} | {node['which'] for node in structs if 'which' in node})
+    return HEAD.format(crate=crate, modules=', '.join(modules)) + functions + MAIN.format(module=schema.find(root)['module'])
