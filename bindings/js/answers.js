@@ -20,6 +20,7 @@ export const Refusal = Object.freeze({
   MessageIsTooDeeplyNestedOrContainsCycles: 58,
   MessageTooLarge: 59,
   NestingLimitExceeded: 60,
+  NoSuchPlace: 61,
   ReadLimitExceeded: 62,
   UnknownPointerType: 66,
 });

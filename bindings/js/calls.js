@@ -1,6 +1,6 @@
 // The calls. index.d.ts says what each takes, returns and throws.
 import { CanonicalError, Fault, Reason, Refusal } from './answers.js';
-import { MAX_NESTING, MOST, Refused, called, lend, lendFew, lendSegments, number64, reaches, seen } from './library.js';
+import { MAX_NESTING, MOST, Refused, called, lend, lendFew, lendPath, lendSegments, number64, reaches, seen } from './library.js';
 
 export { CanonicalError, Fault, MAX_NESTING, Reason, Refusal };
 
@@ -24,6 +24,17 @@ function partsOf(segments) {
     throw new TypeError('segments must be a list of bytes');
   }
   return Array.from(segments, (it) => bytesOf(it, 'a segment'));
+}
+
+function pathOf(path) {
+  if (typeof path !== 'object' || path === null || typeof path[Symbol.iterator] !== 'function') {
+    throw new TypeError('a path must be a list of indexes');
+  }
+  return Array.from(path, (index) => {
+    if (!Number.isInteger(index)) throw new TypeError(`an index must be a whole number, not ${String(index)}`);
+    if (index < 0 || index >= 2 ** 32) throw new RangeError(`an index of ${index}`);
+    return index;
+  });
 }
 
 function limitsOf(given) {
@@ -51,9 +62,9 @@ function wordsOf(words) {
 const noMemory = () => new Refused(Refusal.AllocationFailed);
 
 /** Has a call write a copy: first into about as many bytes as the message has, and if these are too few, into as many as it says. */
-function copied(lib, name, given, limits) {
+function copied(lib, call, given, limits) {
   if (!given) throw noMemory();
-  const call = lib.calls[name], { end } = given;
+  const { end } = given;
   for (let { room } = given; ;) {
     const answer = call(given.first, given.second, limits.nesting, limits.words, end, room, lib.base) >>> 0;
     const written = number64(lib, lib.base);
@@ -67,30 +78,44 @@ function copied(lib, name, given, limits) {
 /** The number of bytes of a SHA-256. */
 const DIGEST = 32;
 
-function digested(lib, name, given, limits) {
+function digested(lib, call, given, limits) {
   if (!given) throw noMemory();
   const { base } = lib;
-  const answer = lib.calls[name](given.first, given.second, limits.nesting, limits.words, base) >>> 0;
+  const answer = call(given.first, given.second, limits.nesting, limits.words, base) >>> 0;
   if (answer !== 0) throw new Refused(answer);
   return seen(lib).bytes.slice(base, base + DIGEST);
 }
 
 /** The fault, or null. */
-function checked(lib, name, given, limits) {
+function checked(lib, call, given, limits) {
   if (!given) throw noMemory();
   const { base } = lib;
-  const answer = lib.calls[name](given.first, given.second, limits.nesting, limits.words, base + 16, base) >>> 0;
+  const answer = call(given.first, given.second, limits.nesting, limits.words, base + 16, base) >>> 0;
   if (answer !== 0) throw new Refused(answer);
   const { bytes, view } = seen(lib);
   return bytes[base + 16] ? null : new Fault(view.getUint32(base, true), number64(lib, base + 8), view.getUint32(base + 4, true));
 }
 
-function sized(lib, name, given, limits) {
+function sized(lib, call, given, limits) {
   if (!given) throw noMemory();
   const { base } = lib;
-  const answer = lib.calls[name](given.first, given.second, limits.nesting, limits.words, base, base + 8) >>> 0;
+  const answer = call(given.first, given.second, limits.nesting, limits.words, base, base + 8) >>> 0;
   if (answer !== 0) throw new Refused(answer);
   return { words: number64(lib, base), capabilities: seen(lib).view.getUint32(base + 8, true) };
+}
+
+function validated(lib, call, given, limits) {
+  if (!given) throw noMemory();
+  const { base } = lib;
+  const answer = call(given.first, given.second, limits.nesting, limits.words, base) >>> 0;
+  if (answer !== 0) throw new Refused(answer);
+  const depth = seen(lib).view.getUint32(base + 24, true);
+  return { depth, words: number64(lib, base), capabilities: number64(lib, base + 8), cost: number64(lib, base + 16) };
+}
+
+/** A call for a part of the message: with a path, which is in the memory in front of the message. */
+function callAt(lib, call, path) {
+  return (first, second, ...more) => call(first, second, lendPath(lib, path), path.length, ...more);
 }
 
 /** The number of segments by the first 4 bytes of a frame, and the size of its table in bytes. */
@@ -110,9 +135,22 @@ function measured(lib, bytes, words, from = 0) {
   return number64(lib, lib.base);
 }
 
-/** Copies the frame at the front into the memory. If more bytes may follow it, finds out first where it ends. */
-function lendFrame(lib, bytes, words) {
-  return lend(lib, bytes.length > 4096 ? bytes.subarray(0, measured(lib, bytes, words)) : bytes);
+/** How many bytes of a frame to have before it is whole, if these are its first. Copies only its table. */
+function announced(lib, prefix, words) {
+  const count = prefix.length < 8 ? prefix.length : Math.min(prefix.length, tableOf(prefix).table);
+  const at = lendFew(lib, prefix, 0, count);
+  if (!at) throw noMemory();
+  const answer = lib.calls.frame_size_from_prefix(at, count, words, lib.base) >>> 0;
+  if (answer !== 0) throw new Refused(answer);
+  return number64(lib, lib.base);
+}
+
+/**
+ * Copies the frame at the front into the memory, after `before` bytes. If more bytes may follow the frame, finds out first where it
+ * ends.
+ */
+function lendFrame(lib, bytes, words, before = 0) {
+  return lend(lib, bytes.length > 4096 ? bytes.subarray(0, measured(lib, bytes, words)) : bytes, before);
 }
 
 /** Runs a call. Its refusal is thrown as an error. */
@@ -131,27 +169,53 @@ function answered(run, bytes) {
 
 export function canonicalize(frame, limits) {
   const bytes = bytesOf(frame, 'a frame'), within = limitsOf(limits);
-  return answered((lib) => copied(lib, 'copy', lendFrame(lib, bytes, within.words), within), bytes);
+  return answered((lib) => copied(lib, lib.calls.copy, lendFrame(lib, bytes, within.words), within), bytes);
 }
 
 export function canonicalizeFlat(frame, limits) {
   const bytes = bytesOf(frame, 'a frame'), within = limitsOf(limits);
-  return answered((lib) => copied(lib, 'copy_flat', lendFrame(lib, bytes, within.words), within), bytes);
+  return answered((lib) => copied(lib, lib.calls.copy_flat, lendFrame(lib, bytes, within.words), within), bytes);
 }
 
 export function digest(frame, limits) {
   const bytes = bytesOf(frame, 'a frame'), within = limitsOf(limits);
-  return answered((lib) => digested(lib, 'digest', lendFrame(lib, bytes, within.words), within), bytes);
+  return answered((lib) => digested(lib, lib.calls.digest, lendFrame(lib, bytes, within.words), within), bytes);
 }
 
 export function check(frame, limits) {
   const bytes = bytesOf(frame, 'a frame'), within = limitsOf(limits);
-  return answered((lib) => checked(lib, 'check', lendFrame(lib, bytes, within.words), within), bytes);
+  return answered((lib) => checked(lib, lib.calls.check, lendFrame(lib, bytes, within.words), within), bytes);
 }
 
 export function size(frame, limits) {
   const bytes = bytesOf(frame, 'a frame'), within = limitsOf(limits);
-  return answered((lib) => sized(lib, 'size', lendFrame(lib, bytes, within.words), within), bytes);
+  return answered((lib) => sized(lib, lib.calls.size, lendFrame(lib, bytes, within.words), within), bytes);
+}
+
+export function validate(frame, limits) {
+  const bytes = bytesOf(frame, 'a frame'), within = limitsOf(limits);
+  return answered((lib) => validated(lib, lib.calls.validate, lendFrame(lib, bytes, within.words), within), bytes);
+}
+
+/** Runs a call for the part of the message at the end of a path. */
+function answeredAt(run, name, frame, path, limits) {
+  const bytes = bytesOf(frame, 'a frame'), indexes = pathOf(path), within = limitsOf(limits);
+  return answered((lib) => {
+    const given = lendFrame(lib, bytes, within.words, 4 * indexes.length);
+    return run(lib, callAt(lib, lib.calls[name], indexes), given, within);
+  }, bytes);
+}
+
+export function canonicalizeFlatAt(frame, path, limits) {
+  return answeredAt(copied, 'copy_flat_at', frame, path, limits);
+}
+
+export function digestAt(frame, path, limits) {
+  return answeredAt(digested, 'digest_at', frame, path, limits);
+}
+
+export function sizeAt(frame, path, limits) {
+  return answeredAt(sized, 'size_at', frame, path, limits);
 }
 
 /** False also if the message is refused. */
@@ -166,7 +230,7 @@ function isYes(run) {
 
 export function isCanonical(frame, limits) {
   const bytes = bytesOf(frame, 'a frame'), within = limitsOf(limits);
-  return isYes((lib) => checked(lib, 'check', lendFrame(lib, bytes, within.words), within));
+  return isYes((lib) => checked(lib, lib.calls.check, lendFrame(lib, bytes, within.words), within));
 }
 
 // Messages in segments, and in raw words.
@@ -174,50 +238,58 @@ export function isCanonical(frame, limits) {
 export const segments = Object.freeze({
   canonicalize(list, limits) {
     const parts = partsOf(list), within = limitsOf(limits);
-    return answered((lib) => copied(lib, 'segments_copy', lendSegments(lib, parts), within));
+    return answered((lib) => copied(lib, lib.calls.segments_copy, lendSegments(lib, parts), within));
   },
   canonicalizeFlat(list, limits) {
     const parts = partsOf(list), within = limitsOf(limits);
-    return answered((lib) => copied(lib, 'segments_copy_flat', lendSegments(lib, parts), within));
+    return answered((lib) => copied(lib, lib.calls.segments_copy_flat, lendSegments(lib, parts), within));
   },
   digest(list, limits) {
     const parts = partsOf(list), within = limitsOf(limits);
-    return answered((lib) => digested(lib, 'segments_digest', lendSegments(lib, parts), within));
+    return answered((lib) => digested(lib, lib.calls.segments_digest, lendSegments(lib, parts), within));
   },
   check(list, limits) {
     const parts = partsOf(list), within = limitsOf(limits);
-    return answered((lib) => checked(lib, 'segments_check', lendSegments(lib, parts), within));
+    return answered((lib) => checked(lib, lib.calls.segments_check, lendSegments(lib, parts), within));
   },
   isCanonical(list, limits) {
     const parts = partsOf(list), within = limitsOf(limits);
-    return isYes((lib) => checked(lib, 'segments_check', lendSegments(lib, parts), within));
+    return isYes((lib) => checked(lib, lib.calls.segments_check, lendSegments(lib, parts), within));
   },
   size(list, limits) {
     const parts = partsOf(list), within = limitsOf(limits);
-    return answered((lib) => sized(lib, 'segments_size', lendSegments(lib, parts), within));
+    return answered((lib) => sized(lib, lib.calls.segments_size, lendSegments(lib, parts), within));
+  },
+  validate(list, limits) {
+    const parts = partsOf(list), within = limitsOf(limits);
+    return answered((lib) => validated(lib, lib.calls.segments_validate, lendSegments(lib, parts), within));
   },
 });
 
 export const words = Object.freeze({
   canonicalize(message, limits) {
     const bytes = bytesOf(message, 'a message'), within = limitsOf(limits);
-    return answered((lib) => copied(lib, 'words_copy', lend(lib, bytes), within));
+    return answered((lib) => copied(lib, lib.calls.words_copy, lend(lib, bytes), within));
   },
   digest(message, limits) {
     const bytes = bytesOf(message, 'a message'), within = limitsOf(limits);
-    return answered((lib) => digested(lib, 'words_digest', lend(lib, bytes), within));
+    return answered((lib) => digested(lib, lib.calls.words_digest, lend(lib, bytes), within));
   },
   check(message, limits) {
     const bytes = bytesOf(message, 'a message'), within = limitsOf(limits);
-    return answered((lib) => checked(lib, 'words_check', lend(lib, bytes), within));
+    return answered((lib) => checked(lib, lib.calls.words_check, lend(lib, bytes), within));
   },
   isCanonical(message, limits) {
     const bytes = bytesOf(message, 'a message'), within = limitsOf(limits);
-    return isYes((lib) => checked(lib, 'words_check', lend(lib, bytes), within));
+    return isYes((lib) => checked(lib, lib.calls.words_check, lend(lib, bytes), within));
   },
   size(message, limits) {
     const bytes = bytesOf(message, 'a message'), within = limitsOf(limits);
-    return answered((lib) => sized(lib, 'words_size', lend(lib, bytes), within));
+    return answered((lib) => sized(lib, lib.calls.words_size, lend(lib, bytes), within));
+  },
+  validate(message, limits) {
+    const bytes = bytesOf(message, 'a message'), within = limitsOf(limits);
+    return answered((lib) => validated(lib, lib.calls.words_validate, lend(lib, bytes), within));
   },
 });
 
@@ -228,25 +300,30 @@ export function frameSize(stream, limits) {
   return answered((lib) => measured(lib, bytes, within.words), bytes);
 }
 
+export function frameSizeFromPrefix(prefix, limits) {
+  const bytes = bytesOf(prefix, 'the first bytes of a frame'), within = limitsOf(limits);
+  return answered((lib) => announced(lib, bytes, within.words), bytes);
+}
+
 export function frames(stream, limits) {
   return framesOf(bytesOf(stream, 'a stream'), limitsOf(limits).words);
 }
 
 function* framesOf(bytes, words) {
   for (let at = 0, message = 1; at < bytes.length; message++) {
-    const taken = sizeAt(bytes, at, words, message, at);
+    const taken = ofMessage((lib) => measured(lib, bytes, words, at), bytes.subarray(at), message, at);
     yield bytes.subarray(at, at + taken);
     at += taken;
   }
 }
 
-/** The size of the frame at `from`, which is message `message` of a stream, at byte `byte`. */
-function sizeAt(bytes, from, words, message, byte) {
+/** Runs a call for message `message` of a stream, which is at byte `byte` and begins with these bytes. */
+function ofMessage(run, bytes, message, byte) {
   try {
-    return called((lib) => measured(lib, bytes, words, from));
+    return called(run);
   } catch (error) {
     if (!(error instanceof Refused)) throw error;
-    throw new CanonicalError(error.number, { place: { message, byte }, looksLike: looksLike(bytes.subarray(from)) });
+    throw new CanonicalError(error.number, { place: { message, byte }, looksLike: looksLike(bytes) });
   }
 }
 
@@ -254,21 +331,12 @@ export function framesFrom(pieces, limits) {
   return framesOfPieces(pieces, limitsOf(limits).words);
 }
 
-/** How many bytes a frame has, or its table, by its first bytes; 0 if these aren't those of a frame. */
-function wantedOf(held) {
-  if (held.length < 4) return 4;
-  const { count, table } = tableOf(held);
-  if (count > MOST_SEGMENTS) return 0;
-  if (held.length < table) return table;
-  const view = new DataView(held.buffer, held.byteOffset, table);
-  let bytes = table;
-  for (let number = 0; number < count; number++) bytes += 8 * view.getUint32(4 + 4 * number, true);
-  return bytes;
-}
+/** A frame can be refused by its first 4 bytes. */
+const FEWEST = 4;
 
 async function* framesOfPieces(pieces, words) {
   // the bytes that aren't part of a frame yet: those joined, and the pieces after them
-  let held = new Uint8Array(0), more = [], count = 0, at = 0, message = 1, wanted = 4;
+  let held = new Uint8Array(0), more = [], count = 0, at = 0, message = 1, wanted = FEWEST;
   const join = () => {
     const joined = new Uint8Array(count);
     let to = 0;
@@ -278,40 +346,27 @@ async function* framesOfPieces(pieces, words) {
     }
     held = joined;
     more = [];
-    wanted = wantedOf(held);
   };
-  const next = () => sizeAt(held, 0, words, message, at);
   for await (const piece of pieces) {
     // a copy, because the caller may use the memory of a piece again
     more.push(bytesOf(piece, 'a piece of a stream').slice());
     count += more[more.length - 1].length;
-    while (count && count >= wanted) {
+    while (count >= wanted) {
       if (more.length) join();
-      // the table says how much has to come; what is over the limit is refused without the rest
-      if (count < wanted && (held.length < 8 || isWithin(held, words))) break;
-      const taken = next();
-      yield held.subarray(0, taken);
-      held = held.subarray(taken);
-      count -= taken;
-      at += taken;
+      // what the table announces is the size of the frame; a frame over the limit is refused before it is there
+      wanted = ofMessage((lib) => announced(lib, held, words), held, message, at);
+      if (count < wanted) break;
+      yield held.subarray(0, wanted);
+      held = held.subarray(wanted);
+      count -= wanted;
+      at += wanted;
       message++;
-      wanted = wantedOf(held);
+      wanted = FEWEST;
     }
   }
   if (count) {
-    if (more.length) join();
-    next();
-  }
-}
-
-/** Whether the frame whose table is held may go on: it isn't refused for its table. */
-function isWithin(held, limit) {
-  try {
-    called((lib) => measured(lib, held, limit));
-    return true;
-  } catch (error) {
-    if (!(error instanceof Refused)) throw error;
-    return error.number === Refusal.Truncated;
+    join();
+    ofMessage((lib) => measured(lib, held, words), held, message, at);
   }
 }
 

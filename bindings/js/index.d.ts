@@ -48,6 +48,7 @@ export const Refusal: {
   readonly MessageIsTooDeeplyNestedOrContainsCycles: 58;
   readonly MessageTooLarge: 59;
   readonly NestingLimitExceeded: 60;
+  readonly NoSuchPlace: 61;
   readonly ReadLimitExceeded: 62;
   readonly UnknownPointerType: 66;
 };
@@ -103,6 +104,17 @@ export interface Size {
   readonly capabilities: number;
 }
 
+/** How deep the value of a message is, how much it holds, and what reading it costs. Numbers from 2^53 on are rounded. */
+export interface Extent {
+  /** How many structs and lists are nested in each other, at most: the least nesting limit within which the message is sound. */
+  readonly depth: number;
+  /** The number of words of all objects, without landing pads. An object counts each time a pointer leads to it. */
+  readonly words: number;
+  readonly capabilities: number;
+  /** The number of words that reading the whole value once takes: the least limit `words` within which the message is sound. */
+  readonly cost: number;
+}
+
 /** Makes the message of the frame at the front canonical. Returns a frame of one segment. */
 export function canonicalize(frame: Bytes, limits?: Limits): Uint8Array;
 
@@ -127,6 +139,29 @@ export function isCanonical(frame: Bytes, limits?: Limits): boolean;
 /** Counts the words and capabilities that the root of the message leads to. */
 export function size(frame: Bytes, limits?: Limits): Size;
 
+/**
+ * Tests whether the message is sound: whether its whole value can be read within both limits. The value may have capabilities. Returns
+ * its extent if it is; otherwise the call is refused with the first fault that reading the value meets.
+ */
+export function validate(frame: Bytes, limits?: Limits): Extent;
+
+/**
+ * `canonicalizeFlat` for a part of the message: for the value of the pointer at the end of a path. In `struct Signed { payload @0
+ * :Payload; signature @1 :Data; }` the path `[0]` leads to the payload, whose words can be signed.
+ *
+ * A path starts at the root pointer. An index leads from a struct to its pointer with this index, which isn't the field's number: only
+ * pointers count; from a list of pointers to an element; and from a list of structs to an element, from which the next index leads to
+ * one of its pointers. Without indexes it leads to the root pointer. `NoSuchPlace` means that the path leads to no pointer. The rest of
+ * the message isn't read, and needn't be sound.
+ */
+export function canonicalizeFlatAt(frame: Bytes, path: Iterable<number>, limits?: Limits): Uint8Array;
+
+/** `digest` for the part of the message to which the path leads: the SHA-256 of what `canonicalizeFlatAt` returns. */
+export function digestAt(frame: Bytes, path: Iterable<number>, limits?: Limits): Uint8Array;
+
+/** `size` for the part of the message to which the path leads. */
+export function sizeAt(frame: Bytes, path: Iterable<number>, limits?: Limits): Size;
+
 /** The same calls for a message given as its segments. There may be more of them than a frame can have. */
 export const segments: {
   canonicalize(list: Iterable<Bytes>, limits?: Limits): Uint8Array;
@@ -135,6 +170,7 @@ export const segments: {
   check(list: Iterable<Bytes>, limits?: Limits): Fault | null;
   isCanonical(list: Iterable<Bytes>, limits?: Limits): boolean;
   size(list: Iterable<Bytes>, limits?: Limits): Size;
+  validate(list: Iterable<Bytes>, limits?: Limits): Extent;
 };
 
 /** The same calls for a message given as its raw words. The copy is raw words too. */
@@ -144,10 +180,19 @@ export const words: {
   check(message: Bytes, limits?: Limits): Fault | null;
   isCanonical(message: Bytes, limits?: Limits): boolean;
   size(message: Bytes, limits?: Limits): Size;
+  validate(message: Bytes, limits?: Limits): Extent;
 };
 
 /** The size in bytes of the frame at the front. Reads only its table. */
 export function frameSize(stream: Bytes, limits?: Limits): number;
+
+/**
+ * How many bytes of a stream to have, from the start of a frame on, before `frameSize` finds the frame whole. If the first bytes,
+ * `prefix`, contain the table, that is the size of the frame. Otherwise it is the size of the table, or of the smallest table, and more
+ * than `prefix` has: read until that many bytes are there, and ask again. Refuses the frame if they tell that it has too many segments,
+ * or more than `words` words. Eight bytes can announce a frame of many words: make room for what has arrived.
+ */
+export function frameSizeFromPrefix(prefix: Bytes, limits?: Limits): number;
 
 /** Iterates over the frames of a stream, as views of its bytes. An error says which message it is, and at which byte. */
 export function frames(stream: Bytes, limits?: Limits): Generator<Uint8Array, void, undefined>;

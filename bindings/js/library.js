@@ -70,12 +70,22 @@ export function reaches(lib, end) {
 
 const up = (at) => Math.ceil(at / 16) * 16;
 
-/** Copies bytes into the memory. Returns their address and number, and the address after them, where a copy has `room` bytes. */
-export function lend(lib, bytes) {
-  const at = lib.base + ANSWERS, end = up(at + bytes.length), room = Math.min(end - at + 16, MOST - 1);
+/**
+ * Copies bytes into the memory, after `before` bytes that the caller fills. Returns their address and number, and the address after
+ * them, where a copy has `room` bytes.
+ */
+export function lend(lib, bytes, before = 0) {
+  const at = up(lib.base + ANSWERS + before), end = up(at + bytes.length), room = Math.min(end - at + 16, MOST - 1);
   if (bytes.length >= MOST || !reaches(lib, end + room)) return undefined;
   lib.bytes.set(bytes, at);
   return { first: at, second: bytes.length, end, room };
+}
+
+/** Writes the indexes of a path into the memory in front of what is lent, which left 4 bytes for each. Returns their address. */
+export function lendPath(lib, path) {
+  const at = lib.base + ANSWERS;
+  path.forEach((index, number) => lib.view.setUint32(at + 4 * number, index, true));
+  return at;
 }
 
 /** Copies segments into the memory, after a table of them. An entry is two numbers of 64 bits: the address, and the size. */

@@ -12,15 +12,20 @@ const { CanonicalError, MAX_NESTING, Reason, Refusal } = capnp;
 const refusal = (text) => (/^[A-Z]/.test(text) ? `!${text}` : text);
 const faultOf = (fault) => (fault ? `${fault.reason},${fault.segment},${fault.word}` : 'yes');
 
+/** The segments of a frame. */
+function segmentsOf(bytes) {
+  const segments = [];
+  for (let number = 0, table = bytes.length >= 8 ? new DataView(bytes.buffer) : undefined, at = 0; table && number <= table.getUint32(0, true) && number < 512; number++) {
+    at ||= Math.ceil((4 + 4 * (table.getUint32(0, true) + 1)) / 8) * 8;
+    segments.push(bytes.subarray(at, (at += 8 * table.getUint32(4 + 4 * number, true))));
+  }
+  return segments;
+}
+
 test('messages', () => {
   let count = 0;
   for (const [name, frame, copy, flat, check, size, digest] of rowsOf('library/messages.txt')) {
-    const bytes = hex(frame), isCopied = copy === 'Done';
-    const segments = [];
-    for (let number = 0, table = bytes.length >= 8 ? new DataView(bytes.buffer) : undefined, at = 0; table && number <= table.getUint32(0, true) && number < 512; number++) {
-      at ||= Math.ceil((4 + 4 * (table.getUint32(0, true) + 1)) / 8) * 8;
-      segments.push(bytes.subarray(at, (at += 8 * table.getUint32(4 + 4 * number, true))));
-    }
+    const bytes = hex(frame), isCopied = copy === 'Done', segments = segmentsOf(bytes);
     assert.equal(said(() => hexOf(capnp.canonicalize(bytes))), isCopied ? hexOf(framed([hex(flat)])) : `!${copy}`, name);
     assert.equal(said(() => hexOf(capnp.canonicalizeFlat(bytes))), isCopied ? flat : `!${copy}`, name);
     assert.equal(said(() => hexOf(capnp.digest(bytes))), isCopied ? digest : `!${copy}`, name);
@@ -41,6 +46,54 @@ test('messages', () => {
     count++;
   }
   passed('messages', count);
+});
+
+test('parts of messages', () => {
+  let count = 0;
+  for (const [name, frame, path, answer, flat, digest] of rowsOf('library/parts.txt')) {
+    const bytes = hex(frame), indexes = path === '-' ? [] : path.split('.').slice(0, -1).map(Number);
+    const wanted = (text) => (answer === 'Done' ? text : `!${answer}`);
+    assert.equal(said(() => hexOf(capnp.canonicalizeFlatAt(bytes, indexes))), wanted(flat), `${name} ${path}`);
+    assert.equal(said(() => hexOf(capnp.digestAt(bytes, new Uint32Array(indexes)))), wanted(digest), `${name} ${path}`);
+    // the words of the message itself needn't be trimmed, so only the part's copy has a known size
+    const copy = answer === 'Done' ? framed([hex(flat)]) : bytes, inCopy = answer === 'Done' ? [] : indexes;
+    assert.equal(said(() => Object.values(capnp.sizeAt(copy, inCopy)).join()), wanted(`${hex(flat).length / 8 - 1},0`), `${name} ${path}`);
+    assert.equal(said(() => typeof capnp.sizeAt(bytes, indexes).words), wanted('number'), `${name} ${path}`);
+    // bytes after the frame, and limits that the part doesn't fit
+    const longer = new Uint8Array(bytes.length + 5000);
+    longer.set(bytes);
+    assert.equal(said(() => hexOf(capnp.canonicalizeFlatAt(longer, indexes, { words: Infinity }))), wanted(flat), `${name} ${path}`);
+    assert.throws(() => capnp.digestAt(bytes, indexes, { words: 0 }), { code: 'MessageTooLong' });
+    count++;
+  }
+  const frame = framed([hex('00000000000001000100000022000000' + '4164610000000000')]);
+  for (const path of ['0', 0, null, undefined, {}, [0.5], ['0'], [1n], [NaN]]) assert.throws(() => capnp.digestAt(frame, path), TypeError);
+  for (const path of [[-1], [2 ** 32], [0, 1e100]]) assert.throws(() => capnp.sizeAt(frame, path), RangeError);
+  assert.throws(() => capnp.canonicalizeFlatAt('text', [0]), TypeError);
+  assert.throws(() => capnp.canonicalizeFlatAt(frame, Array(100000).fill(0)), { code: 'NoSuchPlace' });
+  passed('parts of messages', count);
+  assert.equal(count, 66);
+});
+
+test('the extent of messages', () => {
+  let count = 0;
+  for (const [name, frame, answer, ...numbers] of rowsOf('library/extents.txt')) {
+    const bytes = hex(frame), segments = segmentsOf(bytes), wanted = answer === 'Done' ? numbers.join() : `!${answer}`;
+    const shown = ({ depth, words, capabilities, cost }) => [depth, words, capabilities, cost].join();
+    assert.equal(said(() => shown(capnp.validate(bytes))), wanted, name);
+    assert.equal(said(() => shown(capnp.segments.validate(segments))), wanted, name);
+    if (segments.length === 1) assert.equal(said(() => shown(capnp.words.validate(segments[0]))), wanted, name);
+    if (answer === 'Done') {
+      // limits that are just enough, and just too small
+      const [depth, , , cost] = numbers.map(Number), least = { nesting: depth, words: Math.max(cost, segments.reduce((sum, it) => sum + it.length / 8, 0)) };
+      assert.equal(shown(capnp.segments.validate(segments, least)), wanted, name);
+      if (depth) assert.throws(() => capnp.segments.validate(segments, { ...least, nesting: depth - 1 }), { code: 'MessageIsTooDeeplyNestedOrContainsCycles' }, name);
+      if (least.words === cost) assert.throws(() => capnp.segments.validate(segments, { ...least, words: cost - 1 }), CanonicalError, name);
+    }
+    count++;
+  }
+  passed('extents', count);
+  assert.ok(count > 7);
 });
 
 test('packed bytes', () => {
@@ -93,14 +146,39 @@ test('vectors', () => {
   assert.ok(count > 8900);
 });
 
+/** What capnp_canon writes for the message in a frame, which has this number; and whether it is a yes. */
+function answerTo({ command, isFlat, path, limits }, frame, number) {
+  switch (command) {
+    case 'canon': {
+      if (!path) return [isFlat ? capnp.canonicalizeFlat(frame, limits) : capnp.canonicalize(frame, limits), true];
+      const words = capnp.canonicalizeFlatAt(frame, path, limits);
+      return [isFlat ? words : framed([words]), true];
+    }
+    case 'size': {
+      const { words, capabilities } = path ? capnp.sizeAt(frame, path, limits) : capnp.size(frame, limits);
+      return [`words ${words} caps ${capabilities}\n`, true];
+    }
+    case 'digest': return [`${hexOf(path ? capnp.digestAt(frame, path, limits) : capnp.digest(frame, limits))}  -:${number}\n`, true];
+    case 'validate': {
+      const { depth, words, capabilities } = capnp.validate(frame, limits);
+      return [`sound: depth ${depth}, words ${words}, capabilities ${capabilities}\n`, true];
+    }
+    default: {
+      const fault = capnp.check(frame, limits);
+      return [fault ? `not canonical: ${fault}\n` : 'canonical\n', !fault];
+    }
+  }
+}
+
 /** The output, first line of errors and status that capnp_canon would have; undefined if its arguments have no like here. */
 function run(args, input) {
   const [command, ...rest] = args, limits = {};
-  let isFlat = false, isPacked = false;
+  let isFlat = false, isPacked = false, path;
   while (rest.length) {
     const it = rest.shift();
     if (it === '--flat' && command === 'canon') isFlat = true;
     else if (it === '--packed') isPacked = true;
+    else if (it === '--at' && /^\d+(\.\d+)*$/.test(rest[0])) path = rest.shift().split('.').map(Number);
     else if (it === '--nesting' && /^-?\d+$/.test(rest[0]) && rest[0] >= -(2 ** 31) && rest[0] <= MAX_NESTING) limits.nesting = Number(rest.shift());
     else if (it === '--words' && rest[0] === 'none') limits.words = (rest.shift(), Infinity);
     else if (it === '--words' && /^\d+$/.test(rest[0]) && BigInt(rest[0]) < 2n ** 64n) limits.words = BigInt(rest.shift());
@@ -112,15 +190,9 @@ function run(args, input) {
   try {
     for (const frame of capnp.frames(isPacked ? capnp.unpack(input, { words: Infinity }) : input, limits)) {
       try {
-        if (command === 'canon') output.push(Buffer.from(isFlat ? capnp.canonicalizeFlat(frame, limits) : capnp.canonicalize(frame, limits)));
-        else if (command === 'size') {
-          const { words, capabilities } = capnp.size(frame, limits);
-          output.push(Buffer.from(`words ${words} caps ${capabilities}\n`));
-        } else {
-          const fault = capnp.check(frame, limits);
-          isYes &&= !fault;
-          output.push(Buffer.from(fault ? `not canonical: ${fault}\n` : 'canonical\n'));
-        }
+        const [written, isGood] = answerTo({ command, isFlat, path, limits }, frame, message);
+        output.push(Buffer.from(written));
+        isYes &&= isGood;
       } catch (error) {
         throw error instanceof CanonicalError ? error.at(message, at) : error;
       }
@@ -136,8 +208,8 @@ function run(args, input) {
 
 test('streams', () => {
   let count = 0, left = 0;
-  for (const it of [...jsonl('streams/peer.jsonl'), ...jsonl('streams/worked.jsonl')]) {
-    const isPlain = ['canon', 'check', 'size'].includes(it.args[0]) && !it.files && it.input !== undefined;
+  for (const it of ['peer', 'worked', 'validate'].flatMap((name) => jsonl(`streams/${name}.jsonl`))) {
+    const isPlain = ['canon', 'check', 'size', 'digest', 'validate'].includes(it.args[0]) && !it.files && it.input !== undefined;
     // unpacking is all or nothing here, and message by message there
     const isAlike = it.status !== 2 || (!it.args.includes('--packed') && /^capnp_canon: message \d+ at byte \d+: refused \w+\n/.test(it.stderr));
     const got = isPlain && isAlike ? run(it.args, hex(it.input)) : undefined;
@@ -160,7 +232,7 @@ test('streams', () => {
     count++;
   }
   passed(`streams (${left} others have files, other options or other errors)`, count);
-  assert.ok(count > 250);
+  assert.ok(count > 550);
 });
 
 const person = () => hex('00000000040000000000000003000000111111111111111100000000000000800000000000000000');
@@ -286,6 +358,29 @@ test('streams in pieces', async () => {
   const many = framed(Array.from({ length: 512 }, (_, i) => new Uint8Array(8 * (i % 3))));
   for (const step of [3, 64, 4096]) assert.deepEqual(await all(cut(many, step)), [many.length]);
   passed('streams in pieces', 1);
+});
+
+test('the size of a frame from its first bytes', async () => {
+  let count = 0;
+  for (const [name, frame] of rowsOf('library/messages.txt')) {
+    const bytes = hex(frame);
+    if (bytes.length < 8 || said(() => capnp.frameSize(bytes)) !== bytes.length) continue;
+    // each answer is more than there is, until the frame is whole; from its table on it is the frame's size
+    const table = Math.ceil((4 + 4 * (new DataView(bytes.buffer).getUint32(0, true) + 1)) / 8) * 8;
+    for (let held = 0; held <= bytes.length; held++) {
+      const wanted = capnp.frameSizeFromPrefix(bytes.subarray(0, held));
+      assert.equal(wanted, held < 4 ? 8 : held < table ? table : bytes.length, `${name} ${held}`);
+      count++;
+    }
+    const least = segmentsOf(bytes).reduce((sum, it) => sum + it.length / 8, 0);
+    assert.equal(capnp.frameSizeFromPrefix(bytes, { words: least }), bytes.length);
+    assert.throws(() => capnp.frameSizeFromPrefix(bytes.subarray(0, table), { words: least - 1 }), { code: 'MessageTooLong' });
+  }
+  assert.throws(() => capnp.frameSizeFromPrefix(hex('00020000')), { code: 'TooManySegments' });
+  assert.equal(capnp.frameSizeFromPrefix(hex('00000000ffffffff'), { words: Infinity }), 8 + 8 * (2 ** 32 - 1));
+  assert.throws(() => capnp.frameSizeFromPrefix('text'), TypeError);
+  passed('sizes from first bytes', count);
+  assert.ok(count > 1000);
 });
 
 test('raw words hash to the same', () => {

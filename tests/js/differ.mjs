@@ -21,6 +21,7 @@ for (let i = 0; i < Number(process.argv[2]); i++) {
   for (let turns = drawn(4); turns && bytes.length; turns--) bytes[drawn(bytes.length)] ^= 1 << drawn(8);
   if (!drawn(8)) bytes = bytes.slice(0, drawn(bytes.length + 1));
   const limits = { nesting: drawn(3) ? 64 : drawn(8), words: drawn(3) ? 100000 : drawn(80) };
+  const path = Array.from({ length: drawn(4) }, () => drawn(3));
   const answers = [
     () => hexOf(capnp.canonicalize(bytes, limits)),
     () => hexOf(capnp.canonicalizeFlat(bytes, limits)),
@@ -31,8 +32,12 @@ for (let i = 0; i < Number(process.argv[2]); i++) {
     () => Object.values(capnp.size(bytes, limits)).join(),
     () => String(capnp.frameSize(bytes, limits)),
     () => hexOf(capnp.unpack(bytes, { words: 1000 })),
+    () => Object.values(capnp.validate(bytes, limits)).join(),
+    () => hexOf(capnp.canonicalizeFlatAt(bytes, path, limits)),
+    () => hexOf(capnp.digestAt(bytes, path, limits)),
+    () => Object.values(capnp.sizeAt(bytes, path, limits)).join(),
   ];
-  lines.push([hexOf(bytes), limits.nesting, limits.words, ...answers.map(said)].join(' '));
+  lines.push([hexOf(bytes), limits.nesting, limits.words, path.join('.') || '-', ...answers.map(said)].join(' '));
   if (lines.length === 1000) process.stdout.write(`${lines.splice(0).join('\n')}\n`);
 }
 if (lines.length) process.stdout.write(`${lines.join('\n')}\n`);

@@ -15,9 +15,10 @@ def said(call):
 def main():
     passed = failed = refused = 0
     for line in sys.stdin:
-        shown, nesting, words, *answers = line.rstrip('\n').split(' ')
+        shown, nesting, words, steps, *answers = line.rstrip('\n').split(' ')
         frame = b'' if shown == '-' else bytes.fromhex(shown)
         limits = native.Limits(int(nesting), int(words))
+        path = [] if steps == '-' else [int(it) for it in steps.split('.')]
 
         def check():
             fault = native.check(frame, limits)
@@ -27,9 +28,18 @@ def main():
             found = native.size(frame, limits)
             return f'{found.words},{found.capabilities}'
 
+        def extent():
+            found = native.validate(frame, limits)
+            return f'{found.depth},{found.words},{found.capabilities},{found.cost}'
+
+        def size_at():
+            found = native.size_at(frame, path, limits)
+            return f'{found.words},{found.capabilities}'
+
         got = [
             said(lambda: native.copy(frame, limits).hex() or '-'), said(lambda: native.copy_flat(frame, limits).hex() or '-'), said(check), said(size),
             said(lambda: str(native.frame_size(frame, limits.words))), said(lambda: native.unpack(frame, 1000).hex() or '-'),
+            said(extent), said(lambda: native.copy_flat_at(frame, path, limits).hex() or '-'), said(lambda: native.digest_at(frame, path, limits).hex()), said(size_at),
         ]
         passed += got == answers
         failed += got != answers

@@ -1,7 +1,7 @@
 // Uses each name of index.d.ts: `tsc --strict --noEmit` checks it.
 import * as capnp from '../../bindings/js/index.js';
 import { use } from '../../bindings/js/core.js';
-import { CanonicalError, Fault, Limits, MAX_NESTING, Reason, Refusal, Size } from '../../bindings/js/index.js';
+import { CanonicalError, Extent, Fault, Limits, MAX_NESTING, Reason, Refusal, Size } from '../../bindings/js/index.js';
 
 export async function all(frame: Uint8Array, buffer: ArrayBuffer, pieces: AsyncIterable<Uint8Array>): Promise<string> {
   const limits: Limits = { nesting: MAX_NESTING, words: 2n ** 40n };
@@ -18,6 +18,9 @@ export async function all(frame: Uint8Array, buffer: ArrayBuffer, pieces: AsyncI
   text += capnp.segments.canonicalize([frame, buffer]).length + capnp.segments.canonicalizeFlat(new Set([frame])).length + capnp.segments.size([]).words;
   text += `${digest.length} ${capnp.segments.digest([frame]).length} ${capnp.words.digest(flat).length}`;
   text += `${capnp.segments.check([])} ${capnp.words.check(flat)} ${capnp.words.size(flat).words} ${capnp.words.canonicalize(flat).length}`;
+  const { depth, cost }: Extent = capnp.validate(frame, limits);
+  text += `${depth} ${cost} ${capnp.segments.validate([frame]).words} ${capnp.words.validate(flat).capabilities} ${capnp.frameSizeFromPrefix(frame)}`;
+  text += `${capnp.canonicalizeFlatAt(frame, [0, 1]).length} ${capnp.digestAt(frame, new Set([0]), limits).length} ${capnp.sizeAt(frame, []).words}`;
   use(new WebAssembly.Module(buffer));
   try {
     return text;
@@ -32,5 +35,7 @@ export async function all(frame: Uint8Array, buffer: ArrayBuffer, pieces: AsyncI
 capnp.canonicalize('text');
 // @ts-expect-error a limit that there isn't
 capnp.check(new Uint8Array(0), { depth: 7 });
+// @ts-expect-error a path of texts
+capnp.digestAt(new Uint8Array(0), ['0']);
 // @ts-expect-error bytes aren't segments
 capnp.segments.check(new Uint8Array(0));
