@@ -206,7 +206,7 @@ frames_as_long S bytes f =
     ∙ length-frame_with f.padding S f.padded
     ∙ sym (length-frame_with (replicate (padding_size (length S)) 0) S (length-replicate (padding_size (length S)) 0))
 
--- what a frame tells, with any bytes behind it
+-- what a frame tells, with any bytes after it
 pub record ToldByFrame (S : Segments) (xs : List ℕ) (behind : ℕ) : Type 0 where
   pub segments : segments_told xs ≡ length S
   pub words : words_in_table xs ≡ total S

@@ -19,8 +19,8 @@ size_from_prefix prefix most =
     if nat_lt most (words_in_table prefix) then Err (MessageTooLong (words_in_table prefix)) else
     Ok (table_size (segments_told prefix) + 8 * words_in_table prefix)
 
--- The bytes tell the size of a frame of `size` bytes: not more than it, and exactly it if so many
--- bytes are there.
+-- What the bytes tell of a frame of `size` bytes: at most this size, and exactly this size if they
+-- are at least as many as they tell.
 pub record TellsSize (prefix : List ℕ) (most size : ℕ) : Type 0 where
   pub told : ℕ
   pub is : size_from_prefix prefix most ≡ Ok told

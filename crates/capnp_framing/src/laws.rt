@@ -45,9 +45,10 @@ pub fn bare_words()
         → NoBareWords bytes most e → ⊥ }
 {}
 
-/// `size_from_prefix` doesn't refuse any part of a frame that is at the front of a stream, and
-/// returns at most the size of the frame; if so many bytes are there, exactly its size.
+/// If a stream begins with a frame, `size_from_prefix` doesn't refuse the first bytes of the stream,
+/// however many there are, and returns at most the size of the frame. If it returns no more than the
+/// number of these bytes, it returns exactly the size of the frame.
 pub fn sizes_from_prefixes()
-    ensures { (S : Segments) (bytes behind prefix rest : List ℕ) (most : ℕ) → IsFrameOf S bytes
-        → total S ≤ most → bytes ++ behind ≡ prefix ++ rest → TellsSize prefix most (length bytes) }
+    ensures { (S : Segments) (bytes later prefix rest : List ℕ) (most : ℕ) → IsFrameOf S bytes
+        → total S ≤ most → bytes ++ later ≡ prefix ++ rest → TellsSize prefix most (length bytes) }
 {}
