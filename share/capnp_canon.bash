@@ -3,7 +3,7 @@ _capnp_canon() {
     local word=${COMP_WORDS[COMP_CWORD]} before=${COMP_WORDS[COMP_CWORD - 1]} command='' ended='' at
     COMPREPLY=()
     case $before in
-    --nesting) return ;;
+    --nesting | --at) return ;;
     --words) COMPREPLY=($(compgen -W none -- "$word")) && return ;;
     esac
     for ((at = 1; at < COMP_CWORD; at++)); do
@@ -14,11 +14,11 @@ _capnp_canon() {
     done
     local options='--packed --from-flat --nesting --words --help --version'
     case $command in
-    canon) options="--flat --pack --hex $options" ;;
+    canon) options="--flat --pack --hex --at $options" ;;
     check | validate) options="--quiet --flat $options" ;;
-    size) options="--flat $options" ;;
-    digest) options="--check --quiet --flat $options" ;;
-    *) options="--flat --pack --hex --quiet --check $options" ;;
+    size) options="--flat --at $options" ;;
+    digest) options="--check --quiet --flat --at $options" ;;
+    *) options="--flat --pack --hex --quiet --check --at $options" ;;
     esac
     if [[ $word == -* && ! $ended ]]; then
         COMPREPLY=($(compgen -W "$options" -- "$word"))

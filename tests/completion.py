@@ -12,7 +12,8 @@ import subprocess
 import sys
 
 TOP = pathlib.Path(__file__).resolve().parents[1]
-COMMANDS = {'canon': {'--flat', '--pack', '--hex'}, 'check': {'--flat', '--quiet'}, 'size': {'--flat'}, 'digest': {'--flat', '--check', '--quiet'},
+COMMANDS = {'canon': {'--flat', '--pack', '--hex', '--at'}, 'check': {'--flat', '--quiet'}, 'size': {'--flat', '--at'},
+            'digest': {'--flat', '--check', '--quiet', '--at'},
             'validate': {'--flat', '--quiet'}}
 LETTERS = {'-h', '-V', '-c'}
 
@@ -30,7 +31,7 @@ def words(text):
 def of_help():
     """The commands and the options of `--help`: the words at the start of its lines."""
     text = re.search(r'pub const HELP: &str =\s*"(.*?)";', file('crates/capnp_canon/src/texts.rt'), re.S)[1]
-    lines = re.findall(r'^ *((?:-[a-zA-Z], *)?(?:--)?[a-z][a-z-]*)(?: N)?  +\S', text, re.M)
+    lines = re.findall(r'^ *((?:-[a-zA-Z], *)?(?:--)?[a-z][a-z-]*)(?: (?:N|PATH))?  +\S', text, re.M)
     found = {word for line in lines for word in re.split(', *', line.strip())}
     return {it for it in found if not it.startswith('-')}, {it for it in found if it.startswith('-')}
 

@@ -10,6 +10,7 @@
   of tests/vectors and tests/corpus, unchanged or altered. Their answers come from a model of the format outside of this
   repository, which reads the whole value.
 - vectors.py makes streams from the vectors of tests/vectors, whose answers were made outside of this repository.
+- parts.py takes the rows of tests/library/parts.txt, whose answers are those of C++ Cap'n Proto.
 - devices.py lets standard input and output fail, limits memory, and checks how much memory a run takes.
 - coprocess.py waits for each answer before it writes the next message.
 - hostile.py uses STREAM_RUNS, a program with the same engine. Its devices fail at each call in turn, and its streams are
@@ -24,6 +25,7 @@ sys.path.append(str(HERE.parent / 'hostile'))
 import coprocess
 import devices
 import hostile
+import parts
 import vectors
 from program import Counts
 from runs import Program, stored
@@ -40,6 +42,7 @@ def main():
     counts = Counts(options.show)
     for name, part in (
         ('cases', lambda: stored(program, counts)),
+        ('parts of messages', lambda: parts.answered(program, counts)),
         ('vectors as streams', lambda: vectors.streams(program, counts)),
         ('devices', lambda: devices.failing(program, counts)),
         ('little memory', lambda: devices.scarce(program, counts)),

@@ -45,6 +45,8 @@ validate     tests whether each message is sound: whether its whole value can be
              limits. Writes a line for each: `sound: depth D, words N, capabilities M`
   --quiet    writes nothing; only the exit status answers
 
+  --at PATH     canon, size and digest answer about a part of each message: the value of the pointer
+                to which PATH leads, 1 to 32 indexes between dots, such as 0.2.[7].1 (see the manual)
   --packed      the input is packed
   --from-flat   the input is the raw words of one message; the commands other than canon also accept
                 --flat as a name for this option

@@ -12,9 +12,8 @@ use Rattle.capnp_framing.specs.declared.devices.Output.{Ghosts}
 use Rattle.capnp_framing.proofs.FrameLemmas.{one_frame_begins}
 use Rattle.capnp_framing.proofs.ReadingLemmas.{frame_is_read}
 use Rattle.capnp_words.specs.declared.error.ErrorKind.{ErrorKind}
-use Rattle.capnp_messages.specs.Commands.{HasAnswerWithin, RefusesAnswer}
-use Rattle.capnp_messages.proofs.AnsweredLemmas.{answer_refused}
 use Rattle.capnp_messages.proofs.FramesLemmas.{no_bytes_begin}
+use Rattle.capnp_streams.specs.Asked.{HasAskedAnswer, RefusesAsked}
 use Rattle.capnp_streams.specs.Streams.{AnswerIs, Answers, AreDone, AreFrames, CanBeAnswered, EndsBehind, IsOfDevices}
 use Rattle.capnp_streams.specs.Streams.{Question, Stage, StopsAt, most_words}
 use Rattle.capnp_framing.specs.declared.framing.frame_error.FrameError.{FrameError}
@@ -24,6 +23,7 @@ use Rattle.capnp_streams.specs.declared.streams.fault.Fault.TheVariants.{Frame, 
 use Rattle.capnp_streams.specs.declared.streams.runs.Stop.{Stop}
 use Rattle.capnp_streams.specs.declared.streams.runs.Summary.{Summary}
 use Rattle.capnp_streams.specs.declared.streams.task.Task.{Task}
+use Rattle.capnp_streams.proofs.AskedLemmas.{asked_refused}
 use Rattle.capnp_streams.proofs.FramesLemmas.{frames_behind, no_bytes_refused}
 use Rattle.capnp_streams.proofs.StreamLemmas.{begins}
 
@@ -45,15 +45,15 @@ first_has P most (T ∷ more) left S (first, rest, is, framed, short, others) al
     subst P one (All-head P T more all)
 
 stops_so : (task : Task) (more : List Segments) (left : List ℕ) (after : Option (List ℕ)) (failed : Bool) (fault : Fault) →
-    AreFrames (most_words task.limits) more left → All (HasAnswerWithin task.command task.limits) more →
+    AreFrames (most_words task.limits) more left → All (HasAskedAnswer task.command task) more →
     StopsAt task (Some left) after failed fault → IsOfDevices fault
 stops_so task more left after failed (Frame e) framed all (inl memory) = inl memory
 stops_so task more left after failed (Frame e) framed all (inr (inl (named, device))) = inr (inl named)
 stops_so task more left after failed (Frame e) framed all (inr (inr none)) =
     absurd (frame_is_there (most_words task.limits) more left e framed none)
 stops_so task more left after failed (Layout k) framed all (S, bytes, is, short, consumed, refused) =
-    let P : Segments → Type 0 = HasAnswerWithin task.command task.limits in
-    answer_refused task.command task.limits S
+    let P : Segments → Type 0 = HasAskedAnswer task.command task in
+    asked_refused task.command task S
     (first_has P (most_words task.limits) more left S framed all (begins (Some left) after consumed is short)) refused
 stops_so task more left after failed TooManyMessages framed all stops = absurd stops
 
@@ -79,8 +79,8 @@ step_answerable {task} old left between after failed fault done (inr (stops, sam
     go (Some x) (Some y) consumed (messages, framed, all) stopped =
         let (more, is, others) =
         frames_behind (most_words task.limits) done.messages messages done.bytes y x done.framed framed consumed in
-        let rest = all_behind (HasAnswerWithin task.command task.limits) done.messages more
-        (subst (All (HasAnswerWithin task.command task.limits)) is all) in
+        let rest = all_behind (HasAskedAnswer task.command task) done.messages more
+        (subst (All (HasAskedAnswer task.command task)) is all) in
         stops_so task more y after failed fault others rest stopped
 
 -- a run ends at a message that isn't answered
@@ -110,7 +110,7 @@ answer_written g from to q (Err e) holds bytes writes is failed answer =
 
 -- a command refuses a message, and nothing was written of it
 pub answer_refuses : {W : Type 0} (g : Ghosts W) (from : W) (q : Question) (k : ErrorKind) →
-    RefusesAnswer q.command q.task.limits q.asked_of k → Answers g from from q (Err (Layout k))
+    RefusesAsked q.command q.task q.asked_of k → Answers g from from q (Err (Layout k))
 answer_refuses g from q k why = record {
   answered = tt;
   works = tt;

@@ -11,8 +11,9 @@ use Rattle.std.proofs.lemmas.List.{length-map}
 use Rattle.std.proofs.lemmas.Slice.Eq.{bytes_eq-Decides}
 use Rattle.std.proofs.lemmas.Str.Parse.{numerals_by_value, tells_all_ascii_digits}
 use Rattle.capnp_messages.specs.Text.{IsBudget, IsNesting}
-use Rattle.capnp_streams.specs.Arguments.{argument_step, budget_of, end_of, files_after, files_from, is_numeral, located, nesting_of, plain_line}
+use Rattle.capnp_streams.specs.Arguments.{argument_step, budget_of, end_of, files_after, files_from, located, nesting_of, plain_line}
 use Rattle.capnp_streams.specs.Arguments.{request_after, request_from, request_of, signed_value, unsigned_text}
+use Rattle.capnp_streams.specs.Paths.{is_numeral}
 use Rattle.capnp_streams.specs.declared.streams.arguments.ArgumentFault.{ArgumentFault}
 use Rattle.capnp_streams.specs.declared.streams.arguments.Line.{Line}
 use Rattle.capnp_streams.specs.declared.streams.arguments.ArgumentStep.{ArgumentStep}
@@ -21,7 +22,7 @@ use Rattle.capnp_streams.specs.declared.streams.task.Request.{Request}
 use Rattle.capnp_streams.specs.declared.streams.task.WrongArgument.{WrongArgument}
 
 -- tests that hold, and ones that don't
-both_true : (a b : Bool) → (a && b) ≡ true → (a ≡ true) × (b ≡ true)
+pub both_true : (a b : Bool) → (a && b) ≡ true → (a ≡ true) × (b ≡ true)
 both_true true b is = (refl, is)
 both_true false b is = absurd (let wrong : false ≡ true = is in cc)
 
@@ -29,18 +30,18 @@ not_true : (b : Bool) → (b ≡ true → ⊥) → b ≡ false
 not_true true never = absurd (never refl)
 not_true false never = refl
 
-chosen_none : {A : Type 0} (b : Bool) (x : A) → (b ≡ true → ⊥) → (if b then Some x else None) ≡ None
+pub chosen_none : {A : Type 0} (b : Bool) (x : A) → (b ≡ true → ⊥) → (if b then Some x else None) ≡ None
 chosen_none true x never = absurd (never refl)
 chosen_none false x never = refl
 
 -- a numeral, by its test
-is_numeral_true : (text : List ℕ) → IsNumeral 10 text → is_numeral text ≡ true
+pub is_numeral_true : (text : List ℕ) → IsNumeral 10 text → is_numeral text ≡ true
 is_numeral_true text (some, digits) =
     let long : nat_lt 0 (length text) ≡ true = lt-ltb 0 (length text) some in
     let all : all_ascii_digits text ≡ true = (numerals_by_value _ tells_all_ascii_digits).from text digits in
     rw (long, all)
 
-numeral_by_test : (text : List ℕ) → is_numeral text ≡ true → IsNumeral 10 text
+pub numeral_by_test : (text : List ℕ) → is_numeral text ≡ true → IsNumeral 10 text
 numeral_by_test text is =
     let tests = both_true (nat_lt 0 (length text)) (all_ascii_digits text) is in
     (ltb-true 0 (length text) tests.0, (numerals_by_value _ tells_all_ascii_digits).to text tests.1)

@@ -1,9 +1,9 @@
 -- A copy that isn't made is counted if memory ran out, and otherwise not.
-use Rattle.std.proofs.Common.{◌≡◌, ◌∙◌, inl, inr, ℕ, Bool, true, false, if◌then◌else◌, length, nat_lt, ap, refl, sym, subst}
+use Rattle.std.proofs.Common.{◌≡◌, ◌∙◌, inl, inr, ℕ, List, [], ◌∷◌, Bool, length, nat_lt, ap, refl, sym, subst}
 use Rattle.std.proofs.Common.{Option, IsSome, Result, Ok, Err, OnOk, OnErr, IfErr}
 use Rattle.std.specs.Option.{option_map_or}
 use Rattle.capnp_words.specs.declared.error.ErrorKind.{ErrorKind}
-use Rattle.capnp_words.specs.declared.error.ErrorKind.TheVariants.{AllocationFailed, InvalidSegmentId, MessageContainsOutOfBoundsPointer}
+use Rattle.capnp_words.specs.declared.error.ErrorKind.TheVariants.{AllocationFailed}
 use Rattle.capnp_format.specs.Segments.{Segments}
 use Rattle.capnp_arena.specs.declared.arena.reader_arena_impl.ReaderOptions.{ReaderOptions}
 use Rattle.capnp_making.specs.Memory.{refusals_for}
@@ -14,15 +14,11 @@ use Rattle.capnp_messages.specs.Copies.{LacksMemoryOr}
 use Rattle.capnp_messages.specs.declared.messages.command.Command.{Command}
 use Rattle.capnp_messages.specs.Messages.{RefusesCanon}
 use Rattle.capnp_messages.specs.Roots.RefusesRoot.{no_root, no_budget}
+use Rattle.capnp_streams.specs.Asked.{RefusesCopyAt}
 use Rattle.capnp_streams.specs.Streams.{CountsRefusals, refusals_behind}
+use Rattle.capnp_streams.proofs.PartLemmas.{never_part, not_misplaced}
 use Rattle.capnp_streams.specs.declared.streams.fault.Fault.{Fault}
 use Rattle.capnp_streams.specs.declared.streams.fault.Fault.TheVariants.{Frame}
-
--- AllocationFailed isn't the error of a place that isn't there
-not_misplaced : (b : Bool) (id : ℕ) →
-    AllocationFailed ≡ (if b then MessageContainsOutOfBoundsPointer else InvalidSegmentId id) → ⊥
-not_misplaced true id same = cc
-not_misplaced false id same = cc
 
 -- a message isn't refused with AllocationFailed for what it holds
 never_canon : (S : Segments) (limits : ReaderOptions) → RefusesCanon S limits AllocationFailed → ⊥
@@ -31,11 +27,15 @@ never_canon S limits (inl (no_budget named root none)) = cc
 never_canon S limits (inr (covers, inl (named, large, out))) = cc
 never_canon S limits (inr (covers, inr (m, refused))) = not_for_memory refused
 
-pub copy_counted : (S : Segments) (limits : ReaderOptions) {old new : ℕ} {k : ErrorKind} →
-    LacksMemoryOr old new k (RefusesCanon S limits k) → new ≡ refusals_for k old
-copy_counted S limits {old} {k = k} (inl (named, risen)) = risen ∙ sym (ap (λ (x : ErrorKind). refusals_for x old) named)
-copy_counted S limits {old} {k = k} (inr (refused, same)) =
-    same ∙ sym (not_the_allocator k (λ named. never_canon S limits (subst (λ (x : ErrorKind). RefusesCanon S limits x) named refused)) old)
+never_asked : (S : Segments) (limits : ReaderOptions) (path : List ℕ) → RefusesCopyAt S limits path AllocationFailed → ⊥
+never_asked S limits [] refused = never_canon S limits refused
+never_asked S limits (i ∷ path) refused = never_part S limits (i ∷ path) refused
+
+pub copy_counted : (S : Segments) (limits : ReaderOptions) (path : List ℕ) {old new : ℕ} {k : ErrorKind} →
+    LacksMemoryOr old new k (RefusesCopyAt S limits path k) → new ≡ refusals_for k old
+copy_counted S limits path {old} {k = k} (inl (named, risen)) = risen ∙ sym (ap (λ (x : ErrorKind). refusals_for x old) named)
+copy_counted S limits path {old} {k = k} (inr (refused, same)) =
+    same ∙ sym (not_the_allocator k (λ named. never_asked S limits path (subst (λ (x : ErrorKind). RefusesCopyAt S limits path x) named refused)) old)
 
 -- an output that fails counts nothing
 pub written_uncounted : {A E : Type 0} (command : Command) (result : Result Bool Fault) (written : Result A E) (holds : Bool) →

@@ -1,8 +1,11 @@
 pub mod AnsweredLemmas
 pub mod ArgumentLemmas
+pub mod AskedLemmas
 pub mod CountingLemmas
 pub mod DigitLemmas
 pub mod FlatLemmas
 pub mod FramesLemmas
 pub mod PackedLemmas
+pub mod PartLemmas
+pub mod PathLemmas
 pub mod StreamLemmas

@@ -5,11 +5,12 @@ use Rattle.std.specs.Prelude.{Option, Some, None, Result, Ok, Err, Bool, true, f
 use Rattle.std.specs.Int.Signed.{mag}
 use Rattle.std.specs.List.{after_first, before_first, position_or_len}
 use Rattle.std.specs.Option.{option_map, option_or}
-use Rattle.std.specs.Str.{all_ascii_digits, bytes_eq}
+use Rattle.std.specs.Str.{bytes_eq}
 use Rattle.std.specs.Str.Parse.{digits_value, starts_with_minus}
 use Rattle.capnp_messages.specs.declared.messages.command.Command.{Command}
 use Rattle.capnp_messages.specs.declared.messages.command.Command.TheVariants.{Canon, Check, Size, Digest, Validate}
 use Rattle.capnp_messages.specs.declared.messages.command.Form.TheVariants.{Framed, Flat}
+use Rattle.capnp_streams.specs.Paths.{is_numeral, is_whole_path, no_path, path_of}
 use Rattle.capnp_streams.specs.declared.streams.arguments.ArgumentFault.{ArgumentFault}
 use Rattle.capnp_streams.specs.declared.streams.arguments.ArgumentFault.TheVariants.{MissingCommand, UnknownCommand, UnknownOption}
 use Rattle.capnp_streams.specs.declared.streams.arguments.ArgumentFault.TheVariants.{MissingValue, InvalidValue, InvalidSetting, UnwantedValue}
@@ -18,9 +19,9 @@ use Rattle.capnp_streams.specs.declared.streams.arguments.Line.{Line}
 use Rattle.capnp_streams.specs.declared.streams.arguments.OptionName.{OptionName}
 use Rattle.capnp_streams.specs.declared.streams.arguments.OptionName.TheVariants.{Help, HelpLetter, Version, VersionLetter, End}
 use Rattle.capnp_streams.specs.declared.streams.arguments.OptionName.TheVariants.{Packed, Pack, Flat as FlatName, FromFlat, Hex, Quiet, Nesting, Words}
-use Rattle.capnp_streams.specs.declared.streams.arguments.OptionName.TheVariants.{Check as CheckName, CheckLetter}
+use Rattle.capnp_streams.specs.declared.streams.arguments.OptionName.TheVariants.{Check as CheckName, CheckLetter, At}
 use Rattle.capnp_streams.specs.declared.streams.arguments.Setting.{Setting}
-use Rattle.capnp_streams.specs.declared.streams.arguments.Setting.TheVariants.{Nesting as SetNesting, Words as SetWords}
+use Rattle.capnp_streams.specs.declared.streams.arguments.Setting.TheVariants.{Nesting as SetNesting, Words as SetWords, At as SetAt}
 use Rattle.capnp_streams.specs.declared.streams.arguments.ArgumentStep.{ArgumentStep}
 use Rattle.capnp_streams.specs.declared.streams.arguments.ArgumentStep.TheVariants.{Goes, File, Stops}
 use Rattle.capnp_streams.specs.declared.streams.arguments.Verb.{Verb}
@@ -47,11 +48,12 @@ option_text Nesting = codes "--nesting"
 option_text Words = codes "--words"
 option_text CheckName = codes "--check"
 option_text CheckLetter = codes "-c"
+option_text At = codes "--at"
 
 abbrev pub all_options : List OptionName
 all_options =
     Help ∷ HelpLetter ∷ Version ∷ VersionLetter ∷ End ∷ Packed ∷ Pack ∷ FlatName ∷ FromFlat ∷ Hex ∷ Quiet ∷ Nesting ∷ Words
-    ∷ CheckName ∷ CheckLetter ∷ []
+    ∷ CheckName ∷ CheckLetter ∷ At ∷ []
 
 -- The option among `options` that has this text.
 abbrev pub option_among : List OptionName → List ℕ → Option OptionName
@@ -82,10 +84,7 @@ verb_named text =
 abbrev pub setting_text : Setting → List ℕ
 setting_text SetNesting = option_text Nesting
 setting_text SetWords = option_text Words
-
--- Whether a text is one or more decimal digits.
-abbrev pub is_numeral : List ℕ → Bool
-is_numeral text = nat_lt 0 (length text) && all_ascii_digits text
+setting_text SetAt = option_text At
 
 -- What follows an optional `-`, and the number that both write.
 abbrev pub unsigned_text : List ℕ → List ℕ
@@ -120,6 +119,7 @@ plain_line = record {
   hex = false;
   quiet = false;
   lists = false;
+  path = no_path;
   expects = None;
   ended = false;
 }
@@ -138,7 +138,8 @@ abbrev pub line_reads_flat : Line → Bool
 line_reads_flat line = verb_reads_flat line.verb line.flat line.from_flat
 
 -- An option of the line that its command doesn't have. Only `canon` has options for what it writes,
--- and only `digest` one for its lists, which `--quiet` needs there; `--flat` is for all of them.
+-- and only `digest` one for its lists, which `--quiet` needs there; `check` and `validate` don't take a
+-- path; `--flat` is for all of them.
 abbrev pub verb_exclusion : Option Verb → Line → Option ArgumentFault
 verb_exclusion None line = None
 verb_exclusion (Some ToCanon) line =
@@ -147,7 +148,8 @@ verb_exclusion (Some ToCanon) line =
 verb_exclusion (Some ToCheck) line =
     if line.pack then Some (NotOfCommand ToCheck Pack) else
     if line.hex then Some (NotOfCommand ToCheck Hex) else
-    if line.lists then Some (NotOfCommand ToCheck CheckName) else None
+    if line.lists then Some (NotOfCommand ToCheck CheckName) else
+    if not (is_whole_path line.path) then Some (NotOfCommand ToCheck At) else None
 verb_exclusion (Some ToSize) line =
     if line.pack then Some (NotOfCommand ToSize Pack) else
     if line.hex then Some (NotOfCommand ToSize Hex) else
@@ -159,7 +161,8 @@ verb_exclusion (Some ToDigest) line =
 verb_exclusion (Some ToValidate) line =
     if line.pack then Some (NotOfCommand ToValidate Pack) else
     if line.hex then Some (NotOfCommand ToValidate Hex) else
-    if line.lists then Some (NotOfCommand ToValidate CheckName) else None
+    if line.lists then Some (NotOfCommand ToValidate CheckName) else
+    if not (is_whole_path line.path) then Some (NotOfCommand ToValidate At) else None
 
 -- Two options of the line that exclude each other: hex digits are written neither as raw words nor
 -- packed, and raw words aren't unpacked.
@@ -192,10 +195,11 @@ line_with_value SetWords text line = option_map (λ n. record line {
   limits = record line.limits { traversal_limit_in_words = n };
   expects = None;
 }) (budget_of text)
+line_with_value SetAt text line = option_map (λ p. record line { path = p; expects = None }) (path_of text)
 
 abbrev pub step_or : ArgumentFault → Option Line → Result ArgumentStep ArgumentFault
 step_or fault None = Err fault
-step_or fault (Some line) = Ok (Goes line)
+step_or fault (Some line) = step_if_allowed line
 
 -- The step of an option without a `=` and a value after it.
 abbrev pub option_step : OptionName → Line → Result ArgumentStep ArgumentFault
@@ -214,12 +218,14 @@ option_step CheckName line = step_if_allowed (record line { lists = true })
 option_step CheckLetter line = step_if_allowed (record line { lists = true })
 option_step Nesting line = Ok (Goes (record line { expects = Some SetNesting }))
 option_step Words line = Ok (Goes (record line { expects = Some SetWords }))
+option_step At line = Ok (Goes (record line { expects = Some SetAt }))
 
 -- The step of an option with a `=` and a value after it.
 abbrev pub assigned_step : Option OptionName → List ℕ → Line → Result ArgumentStep ArgumentFault
 assigned_step None value line = Err UnknownOption
 assigned_step (Some Nesting) value line = step_or (InvalidSetting SetNesting) (line_with_value SetNesting value line)
 assigned_step (Some Words) value line = step_or (InvalidSetting SetWords) (line_with_value SetWords value line)
+assigned_step (Some At) value line = step_or (InvalidSetting SetAt) (line_with_value SetAt value line)
 assigned_step (Some option) value line = Err (UnwantedValue option)
 
 -- Whether a byte separates an option from its value.
@@ -283,6 +289,7 @@ line_task verb line = record {
   hex = line.hex;
   quiet = line.quiet;
   lists = line.lists;
+  path = line.path;
 }
 
 -- Whether `digest` has `--quiet` without `--check`.

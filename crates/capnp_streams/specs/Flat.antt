@@ -7,7 +7,7 @@ use Rattle.capnp_framing.specs.Bare.{AreBareWords, HasTakenBare, NoBareWords}
 use Rattle.capnp_framing.specs.declared.devices.Input.{Ghosts}
 use Rattle.capnp_framing.specs.declared.framing.frame_error.FrameError.TheVariants.{AllocationFailed as NoMemory}
 use Rattle.capnp_framing.specs.declared.framing.frame_error.FrameError.TheVariants.{ReadFailed}
-use Rattle.capnp_messages.specs.Commands.{HasAnswerWithin, RefusesAnswer}
+use Rattle.capnp_streams.specs.Asked.{HasAskedAnswer, RefusesAsked}
 use Rattle.capnp_streams.specs.Streams.{AnswerIs, Stage, most_words}
 use Rattle.capnp_streams.specs.declared.streams.fault.Fault.{Fault}
 use Rattle.capnp_streams.specs.declared.streams.fault.Fault.TheVariants.{Frame, Layout, TooManyMessages}
@@ -31,7 +31,7 @@ StopsFlat task input failed (Frame e) =
     ⊎ IfSome input (λ bytes. NoBareWords bytes (most_words task.limits) e)
 StopsFlat task input failed (Layout k) =
     (bytes : List ℕ) × IfSome input (λ all. all ≡ bytes) × AreBareWords bytes (most_words task.limits)
-    × RefusesAnswer task.command task.limits (message (bytes ∷ [])) k
+    × RefusesAsked task.command task (message (bytes ∷ [])) k
 StopsFlat task input failed TooManyMessages = ⊥
 
 module _ {R : Type 0} (g : Ghosts R) where
@@ -45,4 +45,4 @@ module _ {R : Type 0} (g : Ghosts R) where
 abbrev pub CanFlatBeAnswered : Task → List ℕ → Type 0
 CanFlatBeAnswered task bytes =
     AreBareWords bytes (most_words task.limits)
-    × HasAnswerWithin task.command task.limits (message (bytes ∷ []))
+    × HasAskedAnswer task.command task (message (bytes ∷ []))

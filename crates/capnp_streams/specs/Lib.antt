@@ -1,4 +1,6 @@
 pub mod Arguments
+pub mod Asked
 pub mod Flat
 pub mod Packed
+pub mod Paths
 pub mod Streams

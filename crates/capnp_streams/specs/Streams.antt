@@ -28,9 +28,8 @@ use Rattle.capnp_pointers.specs.Faults.{fault_reason_text}
 use Rattle.capnp_pointers.specs.declared.pointers.canonical_fault.CanonicalFault.{CanonicalFault}
 use Rattle.capnp_messages.specs.Text.{check_line, extent_line, size_line}
 use Rattle.capnp_messages.specs.CanonicalMessages.{IsCanonicalMessage}
-use Rattle.capnp_messages.specs.Digests.{IsDigestOf}
 use Rattle.capnp_messages.specs.Extents.{HasExtent}
-use Rattle.capnp_messages.specs.Messages.{HasSizeOf, IsCanonicalWithin, IsFaultOf, IsValueOf}
+use Rattle.capnp_messages.specs.Messages.{IsCanonicalWithin, IsFaultOf}
 use Rattle.capnp_streams.specs.declared.streams.fault.Fault.{Fault}
 use Rattle.capnp_streams.specs.declared.streams.fault.Fault.TheVariants.{Frame, Layout, TooManyMessages}
 use Rattle.capnp_streams.specs.declared.streams.runs.Stop.{Stop}
@@ -40,7 +39,9 @@ use Rattle.capnp_messages.specs.declared.messages.command.Command.TheVariants.{C
 use Rattle.capnp_messages.specs.declared.messages.command.Form.{Form}
 use Rattle.capnp_messages.specs.declared.messages.validation.MessageExtent.{MessageExtent}
 use Rattle.capnp_streams.specs.declared.streams.task.Task.{Task}
-use Rattle.capnp_messages.specs.Commands.{HasAnswerWithin, RefusesAnswer, form_bytes}
+use Rattle.capnp_messages.specs.Commands.{form_bytes}
+use Rattle.capnp_streams.specs.Asked.{HasAskedAnswer, HasSizeAt, IsDigestAt, IsValueAt, RefusesAsked}
+use Rattle.capnp_streams.specs.Paths.{path_indexes}
 
 -- The name of a refusal.
 abbrev pub fault_name : Fault → List ℕ
@@ -75,32 +76,35 @@ written_words true form words = hex_line (bytes_of_words words)
 written_words false form words = form_bytes form words
 
 -- What a command answers to S, with the other settings of a task: `holds` is yes or no, and `bytes`
--- are written. Canonical words are at most as many as a segment of a copy can have. The value of a message
+-- are written. Copies, digests and sizes are of the part to which the task's path leads. Canonical words are at most as many as a segment of a copy can have. The value of a message
 -- that is said to be canonical is within the limits. The line about a message that isn't canonical says
 -- why: the reason is true of the word that it names.
 abbrev pub AnswerIs : Command → Task → Segments → Bool → List ℕ → Type 0
 AnswerIs (Canon form) task S holds bytes =
     (holds ≡ true)
-    × ((t : Tree) × IsValueOf S task.limits t × (length (encoding (trim t)) ≤ max_segment_words)
+    × ((t : Tree) × IsValueAt S task.limits (path_indexes task.path) t
+    × (length (encoding (trim t)) ≤ max_segment_words)
     × (bytes ≡ written_words task.hex form (encoding (trim t))))
 AnswerIs Check task S true bytes = IsCanonicalWithin S task.limits × (bytes ≡ check_line true)
 AnswerIs Check task S false bytes =
     (IsCanonicalMessage S → ⊥)
     × ((f : CanonicalFault) × IsFaultOf S task.limits f × (bytes ≡ fault_line f))
 AnswerIs Size task S holds bytes =
-    (holds ≡ true) × ((words : ℕ) × (caps : ℕ) × HasSizeOf S task.limits words caps ×
-    (bytes ≡ size_line words caps))
+    (holds ≡ true)
+    × ((words : ℕ) × (caps : ℕ) × HasSizeAt S task.limits (path_indexes task.path) words caps
+    × (bytes ≡ size_line words caps))
 AnswerIs Digest task S holds bytes =
     (holds ≡ true)
-    × ((digest : List ℕ) × IsDigestOf S task.limits digest × (bytes ≡ hex_line digest))
+    × ((digest : List ℕ) × IsDigestAt S task.limits (path_indexes task.path) digest
+    × (bytes ≡ hex_line digest))
 AnswerIs Validate task S holds bytes =
     (holds ≡ true)
     × ((x : MessageExtent) × HasExtent S task.limits x × (bytes ≡ extent_line x.value))
 
 -- The fault says why a command has no answer to S.
-abbrev pub RefusesBy : Command → ReaderOptions → Segments → Fault → Type 0
-RefusesBy command limits S (Layout k) = RefusesAnswer command limits S k
-RefusesBy command limits S _ = ⊥
+abbrev pub RefusesBy : Command → Task → Segments → Fault → Type 0
+RefusesBy command task S (Layout k) = RefusesAsked command task S k
+RefusesBy command task S _ = ⊥
 
 -- How often memory was refused after a fault, if it was n times before: one more if there was none
 -- for the frame that is read, or for a canonical copy or its digest; otherwise n.
@@ -150,7 +154,7 @@ module _ {W : Type 0} (g : OutputGhosts W) where
         × Prints g from to answer)
     pub works : OnOk result (g.has_failed to ≡ false)
     pub refused : IfErr result (λ fault. IsWriteFault to fault
-        ⊎ (RefusesBy q.command q.task.limits q.asked_of fault × IsUnwritten g from to))
+        ⊎ (RefusesBy q.command q.task q.asked_of fault × IsUnwritten g from to))
 
 -- The bytes are the frames of these messages, one after the other, each of at most `most` words.
 abbrev pub AreFrames : ℕ → List Segments → List ℕ → Type 0
@@ -218,7 +222,7 @@ StopsAt task old new failed (Frame e) =
     ⊎ IfSome old (λ bytes. NoFrame bytes (most_words task.limits) e)
 StopsAt task old new failed (Layout k) =
     (S : Segments) × (bytes : List ℕ) × IsFrameOf S bytes × (total S ≤ most_words task.limits)
-    × Consumes old new bytes × RefusesAnswer task.command task.limits S k
+    × Consumes old new bytes × RefusesAsked task.command task S k
 StopsAt task old new failed TooManyMessages = ⊥
 
 -- Why no message is answered after a stage, and nothing more is written: the one at the front
@@ -233,7 +237,7 @@ EndsBehind task old new failed stop =
 abbrev pub CanBeAnswered : Task → List ℕ → Type 0
 CanBeAnswered task bytes =
     (messages : List Segments) × AreFrames (most_words task.limits) messages bytes
-    × All (HasAnswerWithin task.command task.limits) messages
+    × All (HasAskedAnswer task.command task) messages
 
 -- A fault of no message: memory or a device fails, or there are too many messages to count.
 abbrev pub IsOfDevices : Fault → Type 0

@@ -5,14 +5,14 @@ ghost use Rattle.capnp_framing.specs.declared.framing.frame_error.FrameError.The
 ghost use Rattle.capnp_streams.specs.Streams.{Answers, CountsRefusals, question_on};
 
 use super::fault::Fault;
+use super::parts::{copy_asked, digest_asked, size_asked};
 use super::task::Task;
 use super::writing::{write_canonical, write_canonical_words, write_fault, write_hex_line};
 use capnp_arena::arena::{Allocator, ReaderArena, ReaderArenaImpl, ReaderSegments};
 use capnp_framing::devices::{DeviceFault, Output};
 use capnp_framing::framing::FrameError;
 use capnp_messages::messages::{
-    Command, Form, canonical_bytes, canonical_fault_of, canonical_from, canonical_segment,
-    digest_with, size_of, validate_of,
+    Command, Form, canonical_bytes, canonical_fault_of, canonical_segment, validate_of,
 };
 use capnp_messages::text::{write_extent, write_size};
 use std::alloc::Global;
@@ -78,8 +78,9 @@ fn if_written(written: Result<(), DeviceFault>, holds: bool) -> Result<bool, Fau
     }
 }
 
-/// Makes a canonical copy of the message in `source`, writes the copy, and notes in `memory`
-/// whether the message was canonical already. Returns `true` if the copy is written.
+/// Makes the canonical copy that `task` asks for of the message in `source`, writes the copy, and
+/// notes in `memory` whether the message was canonical already. Returns `true` if the copy is
+/// written.
 fn canon_copy<A: Allocator, S: ReaderSegments, W: Output>(
     memory: &mut Memory<A>,
     form: Form,
@@ -98,7 +99,7 @@ fn canon_copy<A: Allocator, S: ReaderSegments, W: Output>(
     let Some(allocator) = memory.allocator.take() else {
         unreachable!()
     };
-    match canonical_from(memory.alloc, allocator, source, task.limits) {
+    match copy_asked(memory.alloc, allocator, source, task) {
         Ok(made) => {
             let words = canonical_bytes(&made);
             memory.was_canonical = is_first_segment(source, words);
@@ -113,9 +114,9 @@ fn canon_copy<A: Allocator, S: ReaderSegments, W: Output>(
     }
 }
 
-/// Writes the canonical words of the message. These are the words of its own segment if the message
-/// is canonical already and the previous one was, too; otherwise makes a canonical copy. Returns
-/// `true` if the words are written.
+/// Writes the canonical words of the message, or of its part. If the whole message is asked for,
+/// these are the words of its own segment if the message is canonical already and the previous one
+/// was, too; otherwise makes a canonical copy. Returns `true` if the words are written.
 fn canon<A: Allocator, S: ReaderSegments + Drop, W: Output>(
     memory: &mut Memory<A>,
     form: Form,
@@ -132,7 +133,7 @@ fn canon<A: Allocator, S: ReaderSegments + Drop, W: Output>(
         (Command.Canon form) result }
 {
     let source = ReaderArenaImpl::new(segments, task.limits);
-    if memory.was_canonical {
+    if memory.was_canonical && task.path.is_whole() {
         if let Some(words) = canonical_segment(&source, task.limits) {
             return if_written(write_canonical_words(output, words, task.hex, form), true);
         }
@@ -140,8 +141,8 @@ fn canon<A: Allocator, S: ReaderSegments + Drop, W: Output>(
     canon_copy(memory, form, task, &source, output)
 }
 
-/// Writes the SHA-256 of the message's canonical words as a line of hex digits. Returns `true` if
-/// the line is written.
+/// Writes the SHA-256 of the canonical words of the message, or of its part, as a line of hex
+/// digits. Returns `true` if the line is written.
 fn digest<A: Allocator, S: ReaderSegments + Drop, W: Output>(
     memory: &mut Memory<A>,
     task: Task,
@@ -159,7 +160,7 @@ fn digest<A: Allocator, S: ReaderSegments + Drop, W: Output>(
     let Some(allocator) = memory.allocator.take() else {
         unreachable!()
     };
-    let (digest, allocator) = digest_with(memory.alloc, allocator, segments, task.limits);
+    let (digest, allocator) = digest_asked(memory.alloc, allocator, segments, task);
     memory.allocator = Some(allocator);
     match digest {
         Ok(digest) => if_written(write_hex_line(output, &digest), true),
@@ -190,7 +191,7 @@ pub(super) fn answer<A: Allocator, S: ReaderSegments + Drop, W: Output>(
             Ok(Some(fault)) => if_written(write_fault(output, fault), false),
             Err(kind) => Err(Fault::Layout(kind)),
         },
-        Command::Size => match size_of(segments, task.limits) {
+        Command::Size => match size_asked(segments, task) {
             Ok(size) => if_written(write_size(output, size), true),
             Err(kind) => Err(Fault::Layout(kind)),
         },

@@ -3,6 +3,7 @@ ghost use Rattle.std.specs.Prelude.{◌≡◌, ◌<◌, MatchOption, length};
 ghost use Rattle.std.specs.List.{after_first, before_first, position_or_len};
 ghost use Rattle.capnp_streams.specs.Arguments.{assigned_step, budget_of, command_step, end_of, exclusion_of, form_exclusion, has_option_form, is_equals, lacks_check, line_reads_flat, line_with_value, named_step, nesting_of, operand_step, option_named, option_step, option_text, parted_step, plain_line, setting_text, step_if_allowed, argument_step, step_or, line_task, verb_exclusion, verb_named, verb_text};
 
+use super::path::{Path, path_of};
 use super::task::{Request, Task};
 use capnp_arena::arena::ReaderOptions;
 use capnp_messages::messages::{Command, Form};
@@ -51,10 +52,11 @@ pub enum OptionName {
     Words,
     Check,
     CheckLetter,
+    At,
 }
 
 /// All options.
-const OPTIONS: [OptionName; 15] = [
+const OPTIONS: [OptionName; 16] = [
     OptionName::Help,
     OptionName::HelpLetter,
     OptionName::Version,
@@ -70,6 +72,7 @@ const OPTIONS: [OptionName; 15] = [
     OptionName::Words,
     OptionName::Check,
     OptionName::CheckLetter,
+    OptionName::At,
 ];
 
 impl OptionName {
@@ -93,6 +96,7 @@ impl OptionName {
             OptionName::Words => "--words",
             OptionName::Check => "--check",
             OptionName::CheckLetter => "-c",
+            OptionName::At => "--at",
         }
     }
 }
@@ -102,6 +106,7 @@ impl OptionName {
 pub enum Setting {
     Nesting,
     Words,
+    At,
 }
 
 impl Setting {
@@ -112,6 +117,7 @@ impl Setting {
         match self {
             Setting::Nesting => "--nesting",
             Setting::Words => "--words",
+            Setting::At => "--at",
         }
     }
 }
@@ -154,6 +160,8 @@ pub(super) struct Line {
     quiet: bool,
     /// Whether the files are lists of digests.
     lists: bool,
+    /// The path to the part that is asked about.
+    path: Path,
     /// The option whose value comes next.
     expects: Option<Setting>,
     /// Whether `--` came, after which no argument is an option.
@@ -186,6 +194,7 @@ impl Line {
             hex: false,
             quiet: false,
             lists: false,
+            path: Path::whole(),
             expects: None,
             ended: false,
         }
@@ -216,6 +225,7 @@ impl Line {
             Some(Verb::Check) if self.pack => (Verb::Check, OptionName::Pack),
             Some(Verb::Check) if self.hex => (Verb::Check, OptionName::Hex),
             Some(Verb::Check) if self.lists => (Verb::Check, OptionName::Check),
+            Some(Verb::Check) if !self.path.is_whole() => (Verb::Check, OptionName::At),
             Some(Verb::Check) => return None,
             Some(Verb::Size) if self.pack => (Verb::Size, OptionName::Pack),
             Some(Verb::Size) if self.hex => (Verb::Size, OptionName::Hex),
@@ -228,6 +238,7 @@ impl Line {
             Some(Verb::Validate) if self.pack => (Verb::Validate, OptionName::Pack),
             Some(Verb::Validate) if self.hex => (Verb::Validate, OptionName::Hex),
             Some(Verb::Validate) if self.lists => (Verb::Validate, OptionName::Check),
+            Some(Verb::Validate) if !self.path.is_whole() => (Verb::Validate, OptionName::At),
             Some(Verb::Validate) => return None,
         };
         Some(ArgumentFault::NotOfCommand(verb, option))
@@ -316,6 +327,10 @@ impl Line {
                 expects: Some(Setting::Words),
                 ..self
             })),
+            OptionName::At => Ok(ArgumentStep::Goes(Line {
+                expects: Some(Setting::At),
+                ..self
+            })),
         }
     }
 
@@ -347,11 +362,19 @@ impl Line {
                 }),
                 None => None,
             },
+            Setting::At => match path_of(text) {
+                Some(path) => Some(Line {
+                    path,
+                    expects: None,
+                    ..self
+                }),
+                None => None,
+            },
         }
     }
 
     /// Returns what `text`, as the value of `setting`, does to the line; the error `fault` if
-    /// `text` isn't a valid value of `setting`.
+    /// `text` isn't a valid value of `setting`; an error if the command doesn't have `setting`.
     fn with_value_or(
         self,
         setting: Setting,
@@ -361,7 +384,7 @@ impl Line {
         ensures { result ≡ step_or fault (line_with_value setting text.now self) }
     {
         match self.with_value(setting, text) {
-            Some(line) => Ok(ArgumentStep::Goes(line)),
+            Some(line) => line.if_allowed(),
             None => Err(fault),
         }
     }
@@ -383,6 +406,10 @@ impl Line {
             }
             Some(OptionName::Words) => {
                 let setting = Setting::Words;
+                self.with_value_or(setting, value, ArgumentFault::InvalidSetting(setting))
+            }
+            Some(OptionName::At) => {
+                let setting = Setting::At;
                 self.with_value_or(setting, value, ArgumentFault::InvalidSetting(setting))
             }
             Some(option) => Err(ArgumentFault::UnwantedValue(option)),
@@ -502,6 +529,7 @@ impl Line {
             hex: self.hex,
             quiet: self.quiet,
             lists: self.lists,
+            path: self.path,
         }
     }
 }

@@ -3,6 +3,7 @@ ghost use Rattle.std.specs.Prelude.{◌≡◌, ◌<◌, ◌+◌, ◌++◌, ℕ, 
 ghost use Rattle.capnp_streams.specs.Arguments.{files_of, request_of};
 
 use super::arguments::{ArgumentFault, ArgumentStep, Line};
+use super::path::Path;
 use capnp_arena::arena::ReaderOptions;
 use capnp_messages::messages::Command;
 use std::alloc::{AllocError, Global};
@@ -27,6 +28,9 @@ pub struct Task {
     pub quiet: bool,
     /// Whether the files are lists that `digest` has written, which are verified.
     pub lists: bool,
+    /// The path from the root pointer to the part of each message that `Canon`, `Size` and `Digest`
+    /// are about; `Check` and `Validate` are about the whole message.
+    pub path: Path,
 }
 
 /// What the arguments ask for.
@@ -55,11 +59,11 @@ pub struct WrongArgument {
 ///
 /// The options are `--flat`, `--pack` and `--hex` (of `canon`), `--flat` and `--quiet` (of `check`
 /// and `validate`), `--flat` (of `size`), `--flat`, `--check` or `-c`, and with it `--quiet` (of
-/// `digest`), and `--packed`, `--from-flat`, `--nesting N` and `--words N` (of all five). They may
-/// come anywhere. If one is repeated, the last counts. `--nesting=N` and `--words=N` are the same
-/// as with a space. `--hex` can't be used with `--flat` or `--pack`: hex digits are written neither
-/// raw nor packed. `--packed` can't be used with `--from-flat`, or with a `--flat` that isn't of
-/// `canon`: raw words are never read packed.
+/// `digest`), `--at PATH` (of `canon`, `size` and `digest`), and `--packed`, `--from-flat`,
+/// `--nesting N` and `--words N` (of all five). They may come anywhere. If one is repeated, the last
+/// counts. An option with a value may have a `=` in place of the space. `--hex` can't be used with
+/// `--flat` or `--pack`: hex digits are written neither raw nor packed. `--packed` can't be used
+/// with `--from-flat`, or with a `--flat` that isn't of `canon`: raw words are never read packed.
 ///
 /// An argument looks like an option if it is `-` followed by more; `-` alone is standard input. Of
 /// the arguments that neither look like an option nor are the value of one, the first is the
@@ -67,7 +71,8 @@ pub struct WrongArgument {
 /// `-h`, or `--version` or `-V`, is ignored.
 ///
 /// The nesting limit is an `i32` in decimal digits with an optional `-`; default 64. The traversal
-/// limit in words is a `u64` in decimal digits, or `none`; default 8,388,608.
+/// limit in words is a `u64` in decimal digits, or `none`; default 8,388,608. A path is 1 to 32
+/// indexes between dots; each is a `u32` in decimal digits, with or without brackets: `0.2.[7].1`.
 ///
 /// Refuses all other arguments. The `WrongArgument` is the first one that can't follow those before
 /// it; the arguments after that one don't matter.

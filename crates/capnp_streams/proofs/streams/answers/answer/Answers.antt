@@ -38,12 +38,12 @@ returns-in-Ok-clause-answer g c =
 pub returns-in-Ok-clause-memory : goal.returns-in-Ok-clause-memory
 returns-in-Ok-clause-memory g c = rw c.in-Size.is (memory_counted _ _ _ Size _ c.requires.there refl (written_uncounted Size _ _ _ c.if_written-in-Ok.ensures.written c.if_written-in-Ok.ensures.failed))
 
-pub returns-in-Err-size_of-clause-answer : goal.returns-in-Err-size_of-clause-answer
-returns-in-Err-size_of-clause-answer g c =
-    rw c.in-Size.is (answer_refuses _ _ _ _ c.in-Err-size_of.ensures.refused)
+pub returns-in-Err-size_asked-clause-answer : goal.returns-in-Err-size_asked-clause-answer
+returns-in-Err-size_asked-clause-answer g c =
+    rw c.in-Size.is (answer_refuses _ _ _ _ c.in-Err-size_asked.ensures.refused)
 
-pub returns-in-Err-size_of-clause-memory : goal.returns-in-Err-size_of-clause-memory
-returns-in-Err-size_of-clause-memory g c = rw c.in-Size.is (memory_counted _ _ _ Size _ c.requires.there refl (λ n. refl))
+pub returns-in-Err-size_asked-clause-memory : goal.returns-in-Err-size_asked-clause-memory
+returns-in-Err-size_asked-clause-memory g c = rw c.in-Size.is (memory_counted _ _ _ Size _ c.requires.there refl (λ n. refl))
 
 pub returns-in-Ok-validate_of-clause-answer : goal.returns-in-Ok-validate_of-clause-answer
 returns-in-Ok-validate_of-clause-answer g c =

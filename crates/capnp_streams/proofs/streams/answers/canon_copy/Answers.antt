@@ -4,6 +4,7 @@ use Rattle.capnp_format.specs.Canonical.{encoding, trim}
 use Rattle.capnp_format.proofs.WordsOf.{words}
 use Rattle.capnp_arena_traits.specs.Allocations.{max_segment_words}
 use Rattle.capnp_messages.specs.declared.messages.command.Command.TheVariants.{Canon}
+use Rattle.capnp_streams.specs.Paths.{path_indexes}
 use Rattle.capnp_streams.specs.Streams.{written_words}
 use Rattle.capnp_streams.proofs.AnsweredLemmas.{answer_refuses, answer_written}
 use Rattle.capnp_messages.proofs.CanonLemmas.{or_memory}
@@ -22,7 +23,7 @@ returns-in-Ok-clause-answer g c =
 pub returns-in-Ok-clause-memory : goal.returns-in-Ok-clause-memory
 returns-in-Ok-clause-memory g c =
     let here : c.args.memory.now.allocator ≡ Some c.in-Some.allocator = search rules in
-    memory_counted _ _ _ (Canon c.args.form) _ refl (rw here (c.into_allocator.ensures.refusals ∙ c.in-Ok.ensures.tries.granted))
+    memory_counted _ _ _ (Canon c.args.form) _ refl (rw here (c.into_allocator.ensures.refusals ∙ c.in-Ok.ensures.granted))
     (written_uncounted (Canon c.args.form) _ _ _ c.if_written.ensures.written c.if_written.ensures.failed)
 
 pub returns-in-Err-clause-answer : goal.returns-in-Err-clause-answer
@@ -34,5 +35,5 @@ returns-in-Err-clause-memory g c =
     record {
       there = refl;
       kept = tt;
-      counted = rw here (copy_counted _ c.args.task.limits c.in-Err.ensures.refused);
+      counted = rw here (copy_counted _ c.args.task.limits (path_indexes c.args.task.path) c.in-Err.ensures.refused);
     }
