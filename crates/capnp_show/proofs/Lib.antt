@@ -1,0 +1,2 @@
+pub mod ObjectLemmas
+pub mod ShownLemmas

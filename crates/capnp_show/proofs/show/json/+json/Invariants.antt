@@ -1,0 +1,14 @@
+use Rattle.std.proofs.Common.{◌+◌, ◌*◌}
+use Rattle.capnp_show.proofs.show.json.+json.Given as goal
+
+abbrev pub decreases-json_pointer : goal.decreases-json_pointer
+decreases-json_pointer g l = 4 * l.depth + 3
+
+abbrev pub decreases-json_elements : goal.decreases-json_elements
+decreases-json_elements g l = 4 * l.depth + 2
+
+abbrev pub decreases-json_struct : goal.decreases-json_struct
+decreases-json_struct g l = 4 * l.depth + 1
+
+abbrev pub decreases-json_pointers : goal.decreases-json_pointers
+decreases-json_pointers g l = 4 * l.depth

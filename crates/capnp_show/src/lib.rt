@@ -1,0 +1,5 @@
+//! Shows what a message holds without its schema, in lines of text or in JSON: each object with its
+//! place, its sizes and its data, and each fault where it is.
+#![tactic(auto)]
+
+pub mod show;

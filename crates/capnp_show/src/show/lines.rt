@@ -1,0 +1,426 @@
+//! A message as lines of text, one for each object.
+ghost use Rattle.std.specs.Prelude.{◌≤◌, length};
+
+use super::objects::{bytes_at, number_at, place_at, pointer_after, pointer_inside, read_object};
+use super::text::{CUT_LINE, Ended, Text, text_of};
+use capnp_arena_traits::arena::ReaderArena;
+use capnp_objects::object::{Object, Place};
+use capnp_pointers::pointers::Pointer;
+use capnp_words::read_limiter::ReadLimiter;
+use capnp_words::wire_pointer::{ElementSize, StructSize, WirePointerKind};
+use std::alloc::Global;
+
+/// How many elements of a list are shown, and how many words of a data section.
+const MOST_ELEMENTS: u32 = 64;
+
+/// How many bytes of a text are shown.
+const MOST_TEXT: usize = 1024;
+
+/// A step from an object to one of its pointers or elements.
+#[derive(Clone, Copy)]
+enum PathStep {
+    /// To a pointer of a struct.
+    Pointer(u32),
+    /// To an element of a list.
+    Element(u32),
+}
+
+/// The lines of a message so far, and what the next ones need.
+#[derive(Drop)]
+pub(super) struct Lines {
+    /// The lines so far.
+    pub(super) text: Text,
+    /// Whether no line has a fault.
+    pub(super) is_sound: bool,
+    path: Text,
+    /// What is left of the traversal limit.
+    pub(super) lim: ReadLimiter,
+    has_places: bool,
+    /// How many pointers below the root are followed.
+    pub(super) depth: u32,
+}
+
+impl Lines {
+    /// Makes the lines of a message before the first one. They go at most `depth` pointers below
+    /// the root.
+    pub(super) fn new(alloc: Global, lim: ReadLimiter, has_places: bool, depth: u32) -> Self {
+        Lines {
+            text: Text::new(alloc),
+            is_sound: true,
+            path: Text::new(alloc),
+            lim,
+            has_places,
+            depth,
+        }
+    }
+
+    /// Writes the first line: the number of the message, and its size.
+    pub(super) fn write_head(
+        &mut self,
+        number: u64,
+        segments: u64,
+        words: u64,
+    ) -> Result<(), Ended> {
+        self.text.push(b"message ")?;
+        self.text.push_number(number)?;
+        if self.has_places {
+            self.text.push(b": segments ")?;
+            self.text.push_number(segments)?;
+            self.text.push(b", words ")?;
+            self.text.push_number(words)?;
+        }
+        self.text.push(b"\n")
+    }
+
+    /// Writes the line for a root pointer that can't be read.
+    pub(super) fn write_no_root(&mut self, name: &str) -> Result<(), Ended> {
+        self.write_path()?;
+        self.write_refusal(name)
+    }
+
+    /// Writes the line that says that the text is cut, after an unfinished line.
+    pub(super) fn write_cut(&mut self) -> Result<(), Ended> {
+        self.text.push_last(CUT_LINE)
+    }
+
+    /// Adds a step to the path, and returns how long the path was before.
+    fn enter(&mut self, step: PathStep) -> Result<usize, Ended> {
+        let len = self.path.len();
+        if 0 < len {
+            self.path.push(b".")?;
+        }
+        match step {
+            PathStep::Pointer(index) => self.path.push_number(u64::from(index))?,
+            PathStep::Element(index) => {
+                self.path.push(b"[")?;
+                self.path.push_number(u64::from(index))?;
+                self.path.push(b"]")?;
+            }
+        }
+        Ok(len)
+    }
+
+    /// Writes the path with which each line begins.
+    fn write_path(&mut self) -> Result<(), Ended> {
+        if self.path.is_empty() {
+            self.text.push(b"root")
+        } else {
+            self.text.push(self.path.bytes())
+        }
+    }
+
+    /// Writes a word of a segment.
+    fn write_place(&mut self, segment: u64, word: u32) -> Result<(), Ended> {
+        self.text.push(b" [")?;
+        self.text.push_number(segment)?;
+        self.text.push(b":")?;
+        self.text.push_number(u64::from(word))?;
+        self.text.push(b"]")
+    }
+
+    /// Writes where an object starts, unless places are left out.
+    fn write_start(&mut self, start: Place) -> Result<(), Ended> {
+        if !self.has_places {
+            return Ok(());
+        }
+        self.text.push(b" at")?;
+        self.write_place(start.segment, start.at)
+    }
+
+    /// Writes the beginning of the line for the pointer at `place`: the path, the place, and the
+    /// landing pad if the pointer is a far pointer.
+    fn write_pointer(&mut self, place: Place) -> Result<(), Ended> {
+        self.write_path()?;
+        if !self.has_places {
+            return Ok(());
+        }
+        self.write_place(place.segment, place.at)?;
+        let word = place.word();
+        if word.kind() != WirePointerKind::Far {
+            return Ok(());
+        }
+        if word.is_double_far() {
+            self.text.push(b" double")?;
+        }
+        self.text.push(b" far")?;
+        self.write_place(
+            u64::from(word.far_segment_id()),
+            word.far_position_in_segment(),
+        )
+    }
+
+    /// Writes why a pointer can't be read, and ends the line.
+    fn write_refusal(&mut self, name: &str) -> Result<(), Ended> {
+        self.is_sound = false;
+        self.text.push(b" refused ")?;
+        self.text.push(name.as_bytes())?;
+        self.text.push(b"\n")
+    }
+
+    /// Writes a kind of object and a number.
+    fn write_kind(&mut self, kind: &str, count: u32) -> Result<(), Ended> {
+        self.text.push(b" ")?;
+        self.text.push(kind.as_bytes())?;
+        self.text.push(b" ")?;
+        self.text.push_number(u64::from(count))
+    }
+
+    /// Writes the sizes of the two sections of a struct.
+    fn write_sizes(&mut self, size: StructSize) -> Result<(), Ended> {
+        self.text.push(b", data ")?;
+        self.text.push_number(u64::from(size.data_words))?;
+        self.text.push(b", pointers ")?;
+        self.text.push_number(u64::from(size.pointers))
+    }
+
+    /// Writes the rest of the line for a struct.
+    fn write_struct(&mut self, start: Place, size: StructSize) -> Result<(), Ended> {
+        self.text.push(b" struct")?;
+        self.write_start(start)?;
+        self.write_sizes(size)?;
+        self.write_data(start, u32::from(size.data_words))?;
+        self.text.push(b"\n")
+    }
+
+    /// Writes the rest of the line for a capability.
+    fn write_capability(&mut self, index: u32) -> Result<(), Ended> {
+        self.write_kind("capability", index)?;
+        self.text.push(b"\n")
+    }
+
+    /// Writes the rest of the line for a list of pointers.
+    fn write_list(&mut self, start: Place, count: u32) -> Result<(), Ended> {
+        self.write_kind("pointers", count)?;
+        self.write_start(start)?;
+        self.text.push(b"\n")
+    }
+
+    /// Writes the rest of the line for a list of structs.
+    fn write_structs(&mut self, start: Place, size: StructSize, count: u32) -> Result<(), Ended> {
+        self.write_kind("structs", count)?;
+        self.write_start(start)?;
+        self.write_sizes(size)?;
+        self.text.push(b"\n")
+    }
+
+    /// Writes the words of a data section as numbers.
+    fn write_data(&mut self, start: Place, words: u32) -> Result<(), Ended> {
+        for i in 0..words.min(MOST_ELEMENTS) {
+            self.text.push(if i == 0 { b": 0x" } else { b" 0x" })?;
+            self.text.push_hex_number(place_at(start, i).word().0)?;
+        }
+        self.write_more(words)
+    }
+
+    /// Writes two dots if there are more elements than are shown.
+    fn write_more(&mut self, count: u32) -> Result<(), Ended> {
+        if count > MOST_ELEMENTS {
+            self.text.push(b" ..")?;
+        }
+        Ok(())
+    }
+
+    /// Writes the rest of the line for a list of bits or numbers.
+    fn write_flat(&mut self, start: Place, size: ElementSize, count: u32) -> Result<(), Ended> {
+        self.write_kind(kind_of(size), count)?;
+        self.write_start(start)?;
+        match size {
+            ElementSize::Void => {}
+            ElementSize::Byte => self.write_bytes(bytes_at(start, count as usize))?,
+            _ => self.write_numbers(start, size, count)?,
+        }
+        self.text.push(b"\n")
+    }
+
+    /// Writes the elements of a list of bits or numbers.
+    fn write_numbers(&mut self, start: Place, size: ElementSize, count: u32) -> Result<(), Ended> {
+        for i in 0..count.min(MOST_ELEMENTS) {
+            self.text.push(if i == 0 { b": " } else { b" " })?;
+            self.text.push_number(number_at(start, size, i))?;
+        }
+        self.write_more(count)
+    }
+
+    /// Writes bytes: as text if they read as text, and otherwise as hex digits.
+    fn write_bytes(&mut self, bytes: &[u8]) -> Result<(), Ended> {
+        if bytes.is_empty() {
+            return Ok(());
+        }
+        self.text.push(b": ")?;
+        match text_of(bytes) {
+            Some(text) => self.write_text(text.as_bytes()),
+            None => self.write_hex(bytes),
+        }
+    }
+
+    /// Writes UTF-8 bytes in quotes.
+    fn write_text(&mut self, bytes: &[u8]) -> Result<(), Ended> {
+        let front = front_of(bytes);
+        self.text.push_quoted(front)?;
+        if front.len() < bytes.len() {
+            self.text.push(b" ..")?;
+        }
+        Ok(())
+    }
+
+    /// Writes bytes as hex digits, two for each.
+    fn write_hex(&mut self, bytes: &[u8]) -> Result<(), Ended> {
+        let front = &bytes[..bytes.len().min(MOST_ELEMENTS as usize)];
+        self.text.push_hex(front)?;
+        if front.len() < bytes.len() {
+            self.text.push(b" ..")?;
+        }
+        Ok(())
+    }
+
+    /// Writes a line that says that only the first elements of a list are shown, if it has more.
+    fn write_end_of_list(&mut self, count: u32) -> Result<(), Ended> {
+        if count <= MOST_ELEMENTS {
+            return Ok(());
+        }
+        self.write_path()?;
+        self.text.push(b" cut after ")?;
+        self.text.push_number(u64::from(MOST_ELEMENTS))?;
+        self.text.push(b" elements\n")
+    }
+
+    /// Writes a line that says that what the object leads to isn't shown.
+    fn write_deeper(&mut self) -> Result<(), Ended> {
+        self.write_path()?;
+        self.text.push(b" cut at depth ")?;
+        self.text.push_number(u64::from(self.depth))?;
+        self.text.push(b"\n")
+    }
+}
+
+/// The name of a list of bits or numbers of this size.
+fn kind_of(size: ElementSize) -> &'static str {
+    match size {
+        ElementSize::Void => "void",
+        ElementSize::Bit => "bits",
+        ElementSize::Byte => "bytes",
+        ElementSize::TwoBytes => "u16",
+        ElementSize::FourBytes => "u32",
+        _ => "u64",
+    }
+}
+
+/// The first characters of UTF-8 bytes, at most `MOST_TEXT` bytes.
+fn front_of(bytes: &[u8]) -> &[u8]
+    ensures { length result.now ≤ length bytes.now }
+{
+    if bytes.len() <= MOST_TEXT {
+        return bytes;
+    }
+    let mut end = MOST_TEXT;
+    while 0 < end && bytes[end] & 0xc0 == 0x80 {
+        end -= 1;
+    }
+    &bytes[..end]
+}
+
+/// Writes the line of the pointer `from`, and the lines of what it leads to, at most `depth` pointers
+/// below it.
+#[cycle(lines)]
+pub(super) fn show_pointer<A: ReaderArena>(
+    from: Pointer<'_, A>,
+    depth: u32,
+    lines: &mut Lines,
+) -> Result<(), Ended> {
+    lines.write_pointer(from.place)?;
+    match read_object(from, &mut lines.lim) {
+        Err(kind) => lines.write_refusal(kind.name()),
+        Ok(Object::Null) => lines.text.push(b" null\n"),
+        Ok(Object::Capability(index)) => lines.write_capability(index),
+        Ok(Object::Flat { start, size, count }) => lines.write_flat(start, size, count),
+        Ok(Object::Struct { start, size }) => {
+            lines.write_struct(start, size)?;
+            let first = pointer_inside(from, start, u32::from(size.data_words));
+            show_below(first, u32::from(size.pointers), false, depth, lines)
+        }
+        Ok(Object::Pointers { start, count }) => {
+            lines.write_list(start, count)?;
+            show_below(pointer_inside(from, start, 0), count, true, depth, lines)
+        }
+        Ok(Object::Structs { start, size, count }) => {
+            lines.write_structs(start, size, count)?;
+            show_elements(pointer_inside(from, start, 0), size, count, depth, lines)
+        }
+    }
+}
+
+/// Writes the lines below a struct or a list with `count` pointers, `first` the first of them.
+#[cycle(lines)]
+fn show_below<A: ReaderArena>(
+    first: Pointer<'_, A>,
+    count: u32,
+    are_elements: bool,
+    depth: u32,
+    lines: &mut Lines,
+) -> Result<(), Ended> {
+    if count == 0 {
+        return Ok(());
+    }
+    if depth == 0 {
+        return lines.write_deeper();
+    }
+    if !are_elements {
+        return show_pointers(first, count, false, depth - 1, lines);
+    }
+    show_pointers(first, count.min(MOST_ELEMENTS), true, depth - 1, lines)?;
+    lines.write_end_of_list(count)
+}
+
+/// Writes the lines of `count` pointers, `first` the first of them, and of what they lead to. A null
+/// pointer has no line.
+#[cycle(lines)]
+fn show_pointers<A: ReaderArena>(
+    first: Pointer<'_, A>,
+    count: u32,
+    are_elements: bool,
+    depth: u32,
+    lines: &mut Lines,
+) -> Result<(), Ended> {
+    for i in 0..count {
+        let pointer = pointer_after(first, i);
+        if !pointer.is_null() {
+            let step = if are_elements {
+                PathStep::Element(i)
+            } else {
+                PathStep::Pointer(i)
+            };
+            let len = lines.enter(step)?;
+            show_pointer(pointer, depth, lines)?;
+            lines.path.truncate(len);
+        }
+    }
+    Ok(())
+}
+
+/// Writes the lines of the elements of a list of structs, which start at `first`, and the lines below
+/// them. Elements without words have no lines.
+#[cycle(lines)]
+fn show_elements<A: ReaderArena>(
+    first: Pointer<'_, A>,
+    size: StructSize,
+    count: u32,
+    depth: u32,
+    lines: &mut Lines,
+) -> Result<(), Ended> {
+    if count == 0 || size.total() == 0 {
+        return Ok(());
+    }
+    if depth == 0 {
+        return lines.write_deeper();
+    }
+    for i in 0..count.min(MOST_ELEMENTS) {
+        let element = pointer_after(first, i.saturating_mul(size.total()));
+        let len = lines.enter(PathStep::Element(i))?;
+        lines.write_path()?;
+        lines.write_struct(element.place, size)?;
+        let pointers = pointer_after(element, u32::from(size.data_words));
+        show_pointers(pointers, u32::from(size.pointers), false, depth - 1, lines)?;
+        lines.path.truncate(len);
+    }
+    lines.write_end_of_list(count)
+}
