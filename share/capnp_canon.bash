@@ -3,12 +3,12 @@ _capnp_canon() {
     local word=${COMP_WORDS[COMP_CWORD]} before=${COMP_WORDS[COMP_CWORD - 1]} command='' ended='' at
     COMPREPLY=()
     case $before in
-    --nesting | --at) return ;;
+    --nesting | --at | --depth) return ;;
     --words) COMPREPLY=($(compgen -W none -- "$word")) && return ;;
     esac
     for ((at = 1; at < COMP_CWORD; at++)); do
         case ${COMP_WORDS[at]} in
-        canon | check | size | digest | validate) command=${command:-${COMP_WORDS[at]}} ;;
+        canon | check | size | digest | validate | show) command=${command:-${COMP_WORDS[at]}} ;;
         --) ended=yes ;;
         esac
     done
@@ -18,7 +18,8 @@ _capnp_canon() {
     check | validate) options="--quiet --flat $options" ;;
     size) options="--flat --at $options" ;;
     digest) options="--check --quiet --flat --at $options" ;;
-    *) options="--flat --pack --hex --quiet --check --at $options" ;;
+    show) options="--json --values --depth --flat $options" ;;
+    *) options="--flat --pack --hex --quiet --check --at --json --values --depth $options" ;;
     esac
     if [[ $word == -* && ! $ended ]]; then
         COMPREPLY=($(compgen -W "$options" -- "$word"))
@@ -27,7 +28,7 @@ _capnp_canon() {
         local IFS=$'\n'
         COMPREPLY=($(compgen -f -- "$word"))
     else
-        COMPREPLY=($(compgen -W 'canon check size digest validate' -- "$word"))
+        COMPREPLY=($(compgen -W 'canon check size digest validate show' -- "$word"))
     fi
 }
 complete -F _capnp_canon capnp_canon

@@ -14,7 +14,7 @@ import sys
 TOP = pathlib.Path(__file__).resolve().parents[1]
 COMMANDS = {'canon': {'--flat', '--pack', '--hex', '--at'}, 'check': {'--flat', '--quiet'}, 'size': {'--flat', '--at'},
             'digest': {'--flat', '--check', '--quiet', '--at'},
-            'validate': {'--flat', '--quiet'}}
+            'validate': {'--flat', '--quiet'}, 'show': {'--flat', '--json', '--values', '--depth'}}
 LETTERS = {'-h', '-V', '-c'}
 
 
@@ -70,6 +70,7 @@ def facts():
     yield 'no option after -- for bash', offered('canon', '--', '--fr') == set()
     yield 'the value of --words for bash', offered('canon', '--words', '') == {'none'}
     yield 'the value of --nesting for bash', offered('canon', '--nesting', '') == set()
+    yield 'the value of --depth for bash', offered('show', '--depth', '') == set()
 
 
 def main():

@@ -29,7 +29,7 @@ take_apart() {
 # The tools that a part needs and that are missing.
 lacking() {
     grep -q layout_tool "$1" && [ ! -e "$work/folder/layout_tool" ] && echo layout_tool
-    for tool in bash openssl sha256sum xxd; do
+    for tool in bash jq openssl sha256sum xxd; do
         if [ "${1##*.}" = $tool ] || grep -qw -e "$tool" "$1"; then command -v $tool >/dev/null || echo $tool; fi
     done
 }

@@ -9,6 +9,7 @@ import time
 
 from hostile import FORMS, MESSAGES, WANTED
 from packing import packed, unpacked
+from shown import shown
 
 SECONDS = 1
 
@@ -77,6 +78,10 @@ def answered(program, counts):
         for asked in parts(MESSAGES):
             conversation(program, counts, args, asked, wanted)
         conversation(program, counts, [*args, '--packed'], [packed(it) for it in MESSAGES], wanted)
+    for options in [], ['--json']:
+        texts = [shown(it, options, number)[0].encode() for number, it in enumerate(MESSAGES, 1)]
+        conversation(program, counts, ['show', *options], MESSAGES, texts)
+        conversation(program, counts, ['show', *options, '--packed'], [packed(it) for it in MESSAGES], texts)
     conversation(program, counts, ['canon', '--pack'], MESSAGES, WANTED['canon'], whole)
     digits = [it.hex().encode() + b'\n' for it in WANTED['canon,--flat']]
     conversation(program, counts, ['canon', '--hex'], MESSAGES, digits)

@@ -10,7 +10,7 @@ import tempfile
 # 1,000 messages with a null root. Each takes 16 bytes, and so does its answer.
 NULL = bytes.fromhex('0000000001000000') + bytes(8)
 MANY = NULL * 1000
-FORMS = ['canon'], ['canon', '--flat'], ['canon', '--pack'], ['canon', '--hex'], ['check'], ['size'], ['digest'], ['validate']
+FORMS = ['canon'], ['canon', '--flat'], ['canon', '--pack'], ['canon', '--hex'], ['check'], ['size'], ['digest'], ['validate'], ['show'], ['show', '--json']
 FULL = 2, 'capnp_canon: write error: No space left on device\n'
 # After a closed pipe nothing is printed: the reader closed it.
 LEFT = 2, ''

@@ -12,6 +12,8 @@
 - vectors.py makes streams from the vectors of tests/vectors, whose answers were made outside of this repository.
 - parts.py takes the rows of tests/library/parts.txt, whose answers are those of C++ Cap'n Proto.
 - devices.py lets standard input and output fail, limits memory, and checks how much memory a run takes.
+- shown.py compares what `show` writes about messages of tests/corpus, unchanged (show.jsonl) and altered, with a model
+  that is written from docs/PROGRAM.md and docs/FORMAT.md.
 - coprocess.py waits for each answer before it writes the next message.
 - hostile.py uses STREAM_RUNS, a program with the same engine. Its devices fail at each call in turn, and its streams are
   cut short after each byte and have each bit flipped."""
@@ -26,6 +28,7 @@ import coprocess
 import devices
 import hostile
 import parts
+import shown
 import vectors
 from program import Counts
 from runs import Program, stored
@@ -47,6 +50,7 @@ def main():
         ('devices', lambda: devices.failing(program, counts)),
         ('little memory', lambda: devices.scarce(program, counts)),
         ('memory for what came', lambda: devices.bounded(program, counts)),
+        ('altered messages, shown', lambda: shown.runs(program, counts)),
         ('coprocesses', lambda: coprocess.answered(program, counts)),
         ('hostile runs', lambda: hostile.runs(options.runs, counts)),
     ):

@@ -10,9 +10,9 @@ use capnp_framing::devices::Output;
 use capnp_framing::framing::FrameError;
 use capnp_packing::buffered::{BufferedInput, BufferedOutput};
 use capnp_streams::devices::{BufReaderInput, NamedLines, NumberedLines};
-use capnp_streams::looks::looks_like;
+use capnp_streams::looks::{InputForm, looks_like};
 use capnp_streams::seen::{Seen, Watched};
-use capnp_streams::streams::{self, Command, Fault, Stop, Summary, Task};
+use capnp_streams::streams::{self, Command, Fault, ShowTask, Stop, Summary, Task};
 use std::alloc::{AllocError, Global};
 use std::fs::File;
 use std::io::{self, BufReader, Read};
@@ -24,6 +24,25 @@ pub enum Unanswered {
     Said,
     /// Writing the output failed.
     WriteFailed,
+}
+
+/// What is done with each message of an input.
+#[derive(Clone, Copy)]
+pub enum Job {
+    /// It is answered.
+    Answer(Task),
+    /// It is shown.
+    Show(ShowTask),
+}
+
+impl Job {
+    /// How the input is read.
+    fn input_form(self) -> InputForm {
+        match self {
+            Job::Answer(task) => task.input_form(),
+            Job::Show(task) => task.input_form(),
+        }
+    }
 }
 
 /// Does `task` with each message of each file in turn, or of standard input if there are no files.
@@ -46,17 +65,42 @@ pub fn answer_all<W: BufferedOutput>(
     if matches!(task.command, Command::Digest) {
         return digest_all(rt, task, files, output);
     }
+    let are_named = !matches!(task.command, Command::Canon(_));
+    each_file(rt, Job::Answer(task), are_named, files, output)
+}
+
+/// Shows each message of each file in turn, or of standard input if there are no files. Returns
+/// whether each pointer that was followed could be read. Ends with an error at the first file that
+/// can't be opened or isn't shown to its end. If there are several files, each line of text begins
+/// with the file's name.
+pub fn show_all<W: BufferedOutput>(
+    rt: &HostRuntime,
+    task: ShowTask,
+    files: &[String],
+    output: &mut W,
+) -> Result<bool, Unanswered> {
+    each_file(rt, Job::Show(task), !task.showing.json, files, output)
+}
+
+/// Does `job` with each message of each file in turn, or of standard input if there are no files.
+/// If `are_named` is set and there are several files, each line begins with the file's name.
+fn each_file<W: BufferedOutput>(
+    rt: &HostRuntime,
+    job: Job,
+    are_named: bool,
+    files: &[String],
+    output: &mut W,
+) -> Result<bool, Unanswered> {
     if files.is_empty() {
-        return answer(rt, task, None, rt.reader(), output);
+        return answer(rt, job, None, rt.reader(), output);
     }
-    let are_named = files.len() > 1 && !matches!(task.command, Command::Canon(_));
     let mut holds = true;
     for file in files {
         let name = file.as_str();
-        let here = if are_named {
-            answer_file(rt, task, name, &mut NamedLines::new(name, output))
+        let here = if are_named && files.len() > 1 {
+            answer_file(rt, job, name, &mut NamedLines::new(name, output))
         } else {
-            answer_file(rt, task, name, output)
+            answer_file(rt, job, name, output)
         };
         holds = here? && holds;
     }
@@ -73,7 +117,7 @@ fn digest_all<W: BufferedOutput>(
     if files.is_empty() {
         return answer(
             rt,
-            task,
+            Job::Answer(task),
             None,
             rt.reader(),
             &mut NumberedLines::new("-", output),
@@ -81,24 +125,29 @@ fn digest_all<W: BufferedOutput>(
     }
     for file in files {
         let name = file.as_str();
-        answer_file(rt, task, name, &mut NumberedLines::new(name, output))?;
+        answer_file(
+            rt,
+            Job::Answer(task),
+            name,
+            &mut NumberedLines::new(name, output),
+        )?;
     }
     Ok(true)
 }
 
-/// Does `task` with the file `name`, or with standard input if `name` is `-`. Returns what
+/// Does `job` with the file `name`, or with standard input if `name` is `-`. Returns what
 /// `answer_all` returns.
 pub fn answer_file<W: BufferedOutput>(
     rt: &HostRuntime,
-    task: Task,
+    job: Job,
     name: &str,
     output: &mut W,
 ) -> Result<bool, Unanswered> {
     if name == "-" {
-        return answer(rt, task, Some(name), rt.reader(), output);
+        return answer(rt, job, Some(name), rt.reader(), output);
     }
     match File::open(rt, name) {
-        Ok(file) => answer(rt, task, Some(name), file, output),
+        Ok(file) => answer(rt, job, Some(name), file, output),
         Err(error) => {
             pass_on(output)?;
             let _ = match said(rt.alloc(), &error) {
@@ -118,16 +167,16 @@ pub fn pass_on<W: BufferedOutput>(output: &mut W) -> Result<(), Unanswered> {
     }
 }
 
-/// Does `task` with the bytes of `reader`. Reports a fault with `name`, the name of the input, if
+/// Does `job` with the bytes of `reader`. Reports a fault with `name`, the name of the input, if
 /// there is one. Returns what `answer_all` returns.
 fn answer<R: Read + Drop, W: BufferedOutput>(
     rt: &HostRuntime,
-    task: Task,
+    job: Job,
     name: Option<&str>,
     reader: R,
     output: &mut W,
 ) -> Result<bool, Unanswered> {
-    if task.from_flat {
+    if job.input_form() == InputForm::RawWords {
         // Raw words are read to the end of the input first, which may take a while.
         pass_on(output)?;
     }
@@ -141,51 +190,48 @@ fn answer<R: Read + Drop, W: BufferedOutput>(
         let _ = rt.eprintln(NO_MEMORY);
         return Err(Unanswered::Said);
     };
-    match run(rt, task, BufReaderInput::new(reader), output) {
+    match run(rt, job, BufReaderInput::new(reader), output) {
         Ok(summary) => Ok(summary.holds),
         Err(stop) => {
             if matches!(stop.fault, Fault::Frame(FrameError::WriteFailed)) {
                 return Err(Unanswered::WriteFailed);
             }
             pass_on(output)?;
-            refuse(rt, task, name, stop, &seen);
+            refuse(rt, job.input_form(), name, stop, &seen);
             Err(Unanswered::Said)
         }
     }
 }
 
-/// Does `task` with the messages of `input`, and writes the answers to `output`. Precondition:
+/// Does `job` with the messages of `input`, and writes the answers to `output`. Precondition:
 /// neither `input` nor `output` has failed.
 fn run<R: BufferedInput + Drop, W: BufferedOutput>(
     rt: &HostRuntime,
-    task: Task,
+    job: Job,
     mut input: R,
     output: &mut W,
 ) -> Result<Summary, Stop>
     requires reads { R.has_failed input ≡ false }
     requires writes { W.has_failed output.old ≡ false }
 {
-    if task.unpack {
-        streams::run_packed(rt.alloc(), task, input, output)
-    } else if task.from_flat {
-        run_flat(rt, task, &mut input, output)
-    } else {
-        streams::run(rt.alloc(), task, &mut input, output)
+    let alloc = rt.alloc();
+    match job {
+        Job::Answer(task) => match task.input_form() {
+            InputForm::Frames => streams::run(alloc, task, &mut input, output),
+            InputForm::PackedFrames => streams::run_packed(alloc, task, input, output),
+            InputForm::RawWords => only(streams::run_flat(alloc, task, &mut input, output)),
+        },
+        Job::Show(task) => match task.input_form() {
+            InputForm::Frames => streams::run_show(alloc, task, &mut input, output),
+            InputForm::PackedFrames => streams::run_show_packed(alloc, task, input, output),
+            InputForm::RawWords => only(streams::run_show_flat(alloc, task, &mut input, output)),
+        },
     }
 }
 
-/// Does `task` with the one message that `input` holds as raw words, and returns what `run` returns
-/// for a stream of one message.
-fn run_flat<R: BufferedInput, W: BufferedOutput>(
-    rt: &HostRuntime,
-    task: Task,
-    input: &mut R,
-    output: &mut W,
-) -> Result<Summary, Stop>
-    requires reads { R.has_failed input.old ≡ false }
-    requires writes { W.has_failed output.old ≡ false }
-{
-    match streams::run_flat(rt.alloc(), task, input, output) {
+/// The result of a run over one message, after its answer.
+fn only(answered: Result<bool, Fault>) -> Result<Summary, Stop> {
+    match answered {
         Ok(holds) => Ok(Summary {
             messages: 1,
             bytes: 0,
@@ -200,9 +246,9 @@ fn run_flat<R: BufferedInput, W: BufferedOutput>(
 }
 
 /// Reports which message is refused, counted from 1, at which byte of the input it begins, and why
-/// it is refused. If this is the first message, and the input looks like something that `task`
-/// doesn't read, also reports what the input looks like.
-fn refuse(rt: &HostRuntime, task: Task, name: Option<&str>, stop: Stop, seen: &Seen) {
+/// it is refused. If this is the first message, and the input doesn't look like what `form` says,
+/// also reports what the input looks like.
+fn refuse(rt: &HostRuntime, form: InputForm, name: Option<&str>, stop: Stop, seen: &Seen) {
     let (name, colon) = match name {
         Some(name) => (name, ": "),
         None => ("", ""),
@@ -229,7 +275,7 @@ fn refuse(rt: &HostRuntime, task: Task, name: Option<&str>, stop: Stop, seen: &S
     };
     let front = seen.front();
     if stop.answered == 0 {
-        if let Some(looks) = looks_like(task, stop.fault, front.first(), front.given()) {
+        if let Some(looks) = looks_like(form, stop.fault, front.first(), front.given()) {
             let _ = eprintln!(rt;
                 "capnp_canon: {name}{colon}the input looks like {}",
                 looks.text()

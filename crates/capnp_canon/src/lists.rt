@@ -1,7 +1,7 @@
 //! Verifies lists that `digest` has written: whether the messages that they name still have the
 //! digests that they state.
 
-use crate::inputs::{Unanswered, answer_file, pass_on, said};
+use crate::inputs::{Job, Unanswered, answer_file, pass_on, said};
 use crate::texts::{NO_MEMORY, NO_UTF8};
 use capnp_framing::devices::{DeviceFault, MemoryOutput, Output, write_all};
 use capnp_packing::buffered::BufferedOutput;
@@ -194,7 +194,7 @@ fn digests_of<W: BufferedOutput>(
 ) -> Result<MemoryOutput, Unanswered> {
     pass_on(output)?;
     let mut digests = MemoryOutput::new(rt.alloc());
-    match answer_file(rt, task, name, &mut digests) {
+    match answer_file(rt, Job::Answer(task), name, &mut digests) {
         Ok(_) => {}
         Err(Unanswered::Said) => found.is_unread = true,
         Err(Unanswered::WriteFailed) => {

@@ -1,6 +1,6 @@
 //! The program `capnp_canon`: reads a stream of framed messages from standard input or from files,
-//! and for each message writes its canonical copy, its digest, or how large it is, or tests whether
-//! it is in canonical form, or sound. `capnp_canon --help` explains the arguments.
+//! and for each message writes its canonical copy, its digest, or how large it is, tests whether it
+//! is in canonical form, or sound, or shows what it holds. `capnp_canon --help` explains the arguments.
 #![tactic(auto)]
 
 mod inputs;
@@ -11,8 +11,8 @@ use capnp_packing::buffered::BufferedOutput;
 use capnp_packing::packing::PackingOutput;
 use capnp_streams::devices::{BufWriterOutput, NoOutput};
 use capnp_streams::seen::{Seen, Watched};
-use capnp_streams::streams::{self, ArgumentFault, Request, Task, WrongArgument};
-use inputs::{Unanswered, answer_all, said};
+use capnp_streams::streams::{self, ArgumentFault, Request, ShowTask, Task, WrongArgument};
+use inputs::{Unanswered, answer_all, said, show_all};
 use std::alloc::AllocError;
 use std::env;
 use std::io::{self, BufWriter};
@@ -44,6 +44,10 @@ fn answer(rt: &HostRuntime) -> Result<ExitCode, AllocError> {
         Ok(Request::Run(task)) => {
             let files = streams::named_files(rt.alloc(), args)?;
             Ok(run(rt, task, files.as_slice()))
+        }
+        Ok(Request::Show(task)) => {
+            let files = streams::named_files(rt.alloc(), args)?;
+            Ok(show(rt, task, files.as_slice()))
         }
     }
 }
@@ -137,8 +141,7 @@ fn run(rt: &HostRuntime, task: Task, files: &[String]) -> ExitCode {
     run_to(rt, task, files, &mut packing, &seen)
 }
 
-/// Does `task`, flushes `output`, and returns the program's exit status. If `output` fails, reports
-/// this failure.
+/// Does `task`, flushes `output`, and returns the program's exit status.
 fn run_to<W: BufferedOutput>(
     rt: &HostRuntime,
     task: Task,
@@ -147,6 +150,30 @@ fn run_to<W: BufferedOutput>(
     seen: &Seen,
 ) -> ExitCode {
     let ended = answer_all(rt, task, files, output);
+    ended_with(rt, ended, output, seen)
+}
+
+/// Shows the messages of `files`, or of standard input if there are no files, on standard output.
+/// Returns the program's exit status.
+fn show(rt: &HostRuntime, task: ShowTask, files: &[String]) -> ExitCode {
+    let seen = Seen::new();
+    let writer = Watched::new(io::writer(rt), &seen);
+    let Ok(writer) = BufWriter::with_capacity(rt.alloc(), BUFFER, writer) else {
+        return complain(rt, NO_MEMORY);
+    };
+    let mut output = BufWriterOutput::new(writer);
+    let ended = show_all(rt, task, files, &mut output);
+    ended_with(rt, ended, &mut output, &seen)
+}
+
+/// Flushes `output`, and returns the exit status of a program that has `ended` so. If `output` fails,
+/// reports this failure.
+fn ended_with<W: BufferedOutput>(
+    rt: &HostRuntime,
+    ended: Result<bool, Unanswered>,
+    output: &mut W,
+    seen: &Seen,
+) -> ExitCode {
     if output.pass_on().is_err() {
         return write_failed(rt, seen.fault());
     }

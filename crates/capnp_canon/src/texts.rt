@@ -24,6 +24,7 @@ pub const HELP: &str = "Usage: capnp_canon canon [--flat] [--pack] [--hex] [OPTI
   or:  capnp_canon size [OPTION]... [FILE]...
   or:  capnp_canon digest [--check [--quiet]] [OPTION]... [FILE]...
   or:  capnp_canon validate [--quiet] [OPTION]... [FILE]...
+  or:  capnp_canon show [--json] [--values] [--depth N] [OPTION]... [FILE]...
   or:  capnp_canon --help | --version
 Reads framed Cap'n Proto messages from files or standard input, one after the other, and answers
 each one.
@@ -44,6 +45,11 @@ digest       writes a line for each message, like sha256sum: `HASH  FILE:N`. HAS
 validate     tests whether each message is sound: whether its whole value can be read within the
              limits. Writes a line for each: `sound: depth D, words N, capabilities M`
   --quiet    writes nothing; only the exit status answers
+show         writes what each message holds, without its schema: a line for each object, with its
+             path, its place, its sizes and its data, and `refused NAME` where a pointer is wrong
+  --json     as JSON, one line for each message
+  --values   without places, so that equal values are shown alike
+  --depth N  follows at most N pointers below the root (default 64)
 
   --at PATH     canon, size and digest answer about a part of each message: the value of the pointer
                 to which PATH leads, 1 to 32 indexes between dots, such as 0.2.[7].1 (see the manual)
@@ -58,8 +64,8 @@ validate     tests whether each message is sound: whether its whole value can be
 
 Options may come anywhere, and --nesting=N works like --nesting N. If an option is repeated, the
 last one counts. After --, no argument is an option. Files are read in turn; with no FILE, or when
-FILE is -, standard input is read. With several files, each line of check, size and validate starts
-with `FILE: `.
+FILE is -, standard input is read. With several files, each line of check, size, validate and show
+starts with `FILE: `, unless it is JSON.
 
 Before the program waits for more input, it writes all answers that it has. It ends at the first
 message that is refused; the answers before it are written. Standard error then says
@@ -67,5 +73,5 @@ message that is refused; the answers before it are written. Standard error then 
 is a position in the unpacked stream. If files are named, `FILE: ` comes before `message`.
 
 Exit status: 0 if every message is answered and, with check, canonical; 1 if check found one that
-isn't, or digest --check one that failed or a list without lines; 2 if a message is refused, a file
-can't be opened, the arguments are wrong, or reading or writing failed.";
+isn't, digest --check one that failed or a list without lines, or show a pointer that is wrong; 2 if
+a message is refused, a file can't be opened, the arguments are wrong, or reading or writing failed.";

@@ -1,7 +1,7 @@
 -- The arguments after the program's name, and what they request. Options and files may come in any
 -- order, but the command comes before the files.
 use Rattle.std.specs.Prelude.{ℕ, ℤ, ◌+◌, ◌^◌, ◌==◌, nat_lt, pos, neg_ℤ, List, [], ◌∷◌, length, drop, codes, find}
-use Rattle.std.specs.Prelude.{Option, Some, None, Result, Ok, Err, Bool, true, false, not, ◌&&◌, ◌||◌, if◌then◌else◌}
+use Rattle.std.specs.Prelude.{negsuc, option_and_then, unwrap_or, is_some, Option, Some, None, Result, Ok, Err, Bool, true, false, not, ◌&&◌, ◌||◌, if◌then◌else◌}
 use Rattle.std.specs.Int.Signed.{mag}
 use Rattle.std.specs.List.{after_first, before_first, position_or_len}
 use Rattle.std.specs.Option.{option_map, option_or}
@@ -19,15 +19,16 @@ use Rattle.capnp_streams.specs.declared.streams.arguments.Line.{Line}
 use Rattle.capnp_streams.specs.declared.streams.arguments.OptionName.{OptionName}
 use Rattle.capnp_streams.specs.declared.streams.arguments.OptionName.TheVariants.{Help, HelpLetter, Version, VersionLetter, End}
 use Rattle.capnp_streams.specs.declared.streams.arguments.OptionName.TheVariants.{Packed, Pack, Flat as FlatName, FromFlat, Hex, Quiet, Nesting, Words}
-use Rattle.capnp_streams.specs.declared.streams.arguments.OptionName.TheVariants.{Check as CheckName, CheckLetter, At}
+use Rattle.capnp_streams.specs.declared.streams.arguments.OptionName.TheVariants.{Check as CheckName, CheckLetter, At, Json, Values, Depth}
 use Rattle.capnp_streams.specs.declared.streams.arguments.Setting.{Setting}
-use Rattle.capnp_streams.specs.declared.streams.arguments.Setting.TheVariants.{Nesting as SetNesting, Words as SetWords, At as SetAt}
+use Rattle.capnp_streams.specs.declared.streams.arguments.Setting.TheVariants.{Nesting as SetNesting, Words as SetWords, At as SetAt, Depth as SetDepth}
 use Rattle.capnp_streams.specs.declared.streams.arguments.ArgumentStep.{ArgumentStep}
 use Rattle.capnp_streams.specs.declared.streams.arguments.ArgumentStep.TheVariants.{Goes, File, Stops}
 use Rattle.capnp_streams.specs.declared.streams.arguments.Verb.{Verb}
-use Rattle.capnp_streams.specs.declared.streams.arguments.Verb.TheVariants.{Canon as ToCanon, Check as ToCheck, Size as ToSize, Digest as ToDigest, Validate as ToValidate}
+use Rattle.capnp_streams.specs.declared.streams.arguments.Verb.TheVariants.{Canon as ToCanon, Check as ToCheck, Size as ToSize, Digest as ToDigest, Validate as ToValidate, Show as ToShow}
 use Rattle.capnp_streams.specs.declared.streams.task.Request.{Request}
-use Rattle.capnp_streams.specs.declared.streams.task.Request.TheVariants.{Help as AskHelp, Version as AskVersion, Run}
+use Rattle.capnp_streams.specs.declared.streams.task.Request.TheVariants.{Help as AskHelp, Version as AskVersion, Run, Show}
+use Rattle.capnp_streams.specs.declared.streams.task.ShowTask.{ShowTask}
 use Rattle.capnp_streams.specs.declared.streams.task.Task.{Task}
 use Rattle.capnp_streams.specs.declared.streams.task.WrongArgument.{WrongArgument}
 
@@ -49,11 +50,14 @@ option_text Words = codes "--words"
 option_text CheckName = codes "--check"
 option_text CheckLetter = codes "-c"
 option_text At = codes "--at"
+option_text Json = codes "--json"
+option_text Values = codes "--values"
+option_text Depth = codes "--depth"
 
 abbrev pub all_options : List OptionName
 all_options =
     Help ∷ HelpLetter ∷ Version ∷ VersionLetter ∷ End ∷ Packed ∷ Pack ∷ FlatName ∷ FromFlat ∷ Hex ∷ Quiet ∷ Nesting ∷ Words
-    ∷ CheckName ∷ CheckLetter ∷ At ∷ []
+    ∷ CheckName ∷ CheckLetter ∷ At ∷ Json ∷ Values ∷ Depth ∷ []
 
 -- The option among `options` that has this text.
 abbrev pub option_among : List OptionName → List ℕ → Option OptionName
@@ -70,6 +74,7 @@ verb_text ToCheck = codes "check"
 verb_text ToSize = codes "size"
 verb_text ToDigest = codes "digest"
 verb_text ToValidate = codes "validate"
+verb_text ToShow = codes "show"
 
 -- The command that has this text.
 abbrev pub verb_named : List ℕ → Option Verb
@@ -78,13 +83,15 @@ verb_named text =
     if bytes_eq text (verb_text ToCheck) then Some ToCheck else
     if bytes_eq text (verb_text ToSize) then Some ToSize else
     if bytes_eq text (verb_text ToDigest) then Some ToDigest else
-    if bytes_eq text (verb_text ToValidate) then Some ToValidate else None
+    if bytes_eq text (verb_text ToValidate) then Some ToValidate else
+    if bytes_eq text (verb_text ToShow) then Some ToShow else None
 
 -- The text of an option with a value.
 abbrev pub setting_text : Setting → List ℕ
 setting_text SetNesting = option_text Nesting
 setting_text SetWords = option_text Words
 setting_text SetAt = option_text At
+setting_text SetDepth = option_text Depth
 
 -- What follows an optional `-`, and the number that both write.
 abbrev pub unsigned_text : List ℕ → List ℕ
@@ -107,6 +114,15 @@ budget_of text =
     if bytes_eq text (codes "none") then Some None else
     if is_numeral text && nat_lt (digits_value 10 text) (2 ^ 64) then Some (Some (digits_value 10 text)) else None
 
+-- The depth that a text writes: decimal digits with a value below 2^31, or the same after a `-` if
+-- the value is zero.
+abbrev pub natural_of : ℤ → Option ℕ
+natural_of (pos n) = Some n
+natural_of (negsuc n) = None
+
+abbrev pub depth_of : List ℕ → Option ℕ
+depth_of text = option_and_then natural_of (nesting_of text)
+
 -- No arguments yet: a nesting limit of 64, and a traversal limit of 8,388,608 words.
 abbrev pub plain_line : Line
 plain_line = record {
@@ -120,6 +136,9 @@ plain_line = record {
   quiet = false;
   lists = false;
   path = no_path;
+  json = false;
+  values = false;
+  depth = None;
   expects = None;
   ended = false;
 }
@@ -133,12 +152,13 @@ verb_reads_flat (Some ToCheck) flat from_flat = flat || from_flat
 verb_reads_flat (Some ToSize) flat from_flat = flat || from_flat
 verb_reads_flat (Some ToDigest) flat from_flat = flat || from_flat
 verb_reads_flat (Some ToValidate) flat from_flat = flat || from_flat
+verb_reads_flat (Some ToShow) flat from_flat = flat || from_flat
 
 abbrev pub line_reads_flat : Line → Bool
 line_reads_flat line = verb_reads_flat line.verb line.flat line.from_flat
 
 -- An option of the line that its command doesn't have. Only `canon` has options for what it writes,
--- and only `digest` one for its lists, which `--quiet` needs there; `check` and `validate` don't take a
+-- and only `digest` one for its lists, which `--quiet` needs there; `check`, `validate` and `show` take no
 -- path; `--flat` is for all of them.
 abbrev pub verb_exclusion : Option Verb → Line → Option ArgumentFault
 verb_exclusion None line = None
@@ -163,6 +183,21 @@ verb_exclusion (Some ToValidate) line =
     if line.hex then Some (NotOfCommand ToValidate Hex) else
     if line.lists then Some (NotOfCommand ToValidate CheckName) else
     if not (is_whole_path line.path) then Some (NotOfCommand ToValidate At) else None
+verb_exclusion (Some ToShow) line =
+    if line.pack then Some (NotOfCommand ToShow Pack) else
+    if line.hex then Some (NotOfCommand ToShow Hex) else
+    if line.quiet then Some (NotOfCommand ToShow Quiet) else
+    if line.lists then Some (NotOfCommand ToShow CheckName) else
+    if not (is_whole_path line.path) then Some (NotOfCommand ToShow At) else None
+
+-- An option of the line that only `show` has, if it has another command.
+abbrev pub show_exclusion : Option Verb → Line → Option ArgumentFault
+show_exclusion None line = None
+show_exclusion (Some ToShow) line = None
+show_exclusion (Some verb) line =
+    if line.json then Some (NotOfCommand verb Json) else
+    if line.values then Some (NotOfCommand verb Values) else
+    if is_some line.depth then Some (NotOfCommand verb Depth) else None
 
 -- Two options of the line that exclude each other: hex digits are written neither as raw words nor
 -- packed, and raw words aren't unpacked.
@@ -175,7 +210,9 @@ form_exclusion line =
 
 -- Why the arguments of the line don't go together; `None` if they do.
 abbrev pub exclusion_of : Line → Option ArgumentFault
-exclusion_of line = option_or (verb_exclusion line.verb line) (form_exclusion line)
+exclusion_of line =
+    option_or (verb_exclusion line.verb line)
+    (option_or (show_exclusion line.verb line) (form_exclusion line))
 
 abbrev pub step_unless : Option ArgumentFault → Line → Result ArgumentStep ArgumentFault
 step_unless None line = Ok (Goes line)
@@ -196,6 +233,10 @@ line_with_value SetWords text line = option_map (λ n. record line {
   expects = None;
 }) (budget_of text)
 line_with_value SetAt text line = option_map (λ p. record line { path = p; expects = None }) (path_of text)
+line_with_value SetDepth text line = option_map (λ n. record line {
+  depth = Some n;
+  expects = None;
+}) (depth_of text)
 
 abbrev pub step_or : ArgumentFault → Option Line → Result ArgumentStep ArgumentFault
 step_or fault None = Err fault
@@ -216,6 +257,9 @@ option_step Hex line = step_if_allowed (record line { hex = true })
 option_step Quiet line = step_if_allowed (record line { quiet = true })
 option_step CheckName line = step_if_allowed (record line { lists = true })
 option_step CheckLetter line = step_if_allowed (record line { lists = true })
+option_step Json line = step_if_allowed (record line { json = true })
+option_step Values line = step_if_allowed (record line { values = true })
+option_step Depth line = Ok (Goes (record line { expects = Some SetDepth }))
 option_step Nesting line = Ok (Goes (record line { expects = Some SetNesting }))
 option_step Words line = Ok (Goes (record line { expects = Some SetWords }))
 option_step At line = Ok (Goes (record line { expects = Some SetAt }))
@@ -226,6 +270,7 @@ assigned_step None value line = Err UnknownOption
 assigned_step (Some Nesting) value line = step_or (InvalidSetting SetNesting) (line_with_value SetNesting value line)
 assigned_step (Some Words) value line = step_or (InvalidSetting SetWords) (line_with_value SetWords value line)
 assigned_step (Some At) value line = step_or (InvalidSetting SetAt) (line_with_value SetAt value line)
+assigned_step (Some Depth) value line = step_or (InvalidSetting SetDepth) (line_with_value SetDepth value line)
 assigned_step (Some option) value line = Err (UnwantedValue option)
 
 -- Whether a byte separates an option from its value.
@@ -270,18 +315,20 @@ step_by None text line =
 abbrev pub argument_step : List ℕ → Line → Result ArgumentStep ArgumentFault
 argument_step text line = step_by line.expects text line
 
--- The command, with raw canonical words if `flat` is set.
-abbrev pub command_of : Verb → Bool → Command
-command_of ToCanon flat = Canon (if flat then Flat else Framed)
-command_of ToCheck flat = Check
-command_of ToSize flat = Size
-command_of ToDigest flat = Digest
-command_of ToValidate flat = Validate
+-- The command for the messages, with raw canonical words if `flat` is set; `None` if the messages are
+-- shown.
+abbrev pub command_of : Verb → Bool → Option Command
+command_of ToCanon flat = Some (Canon (if flat then Flat else Framed))
+command_of ToCheck flat = Some Check
+command_of ToSize flat = Some Size
+command_of ToDigest flat = Some Digest
+command_of ToValidate flat = Some Validate
+command_of ToShow flat = None
 
--- The task that a line with this command requests.
-abbrev pub line_task : Verb → Line → Task
-line_task verb line = record {
-  command = command_of verb line.flat;
+-- The task that a line requests, with this command for the messages.
+abbrev pub line_task : Command → Line → Task
+line_task command line = record {
+  command = command;
   limits = line.limits;
   unpack = line.unpack;
   from_flat = line_reads_flat line;
@@ -292,6 +339,20 @@ line_task verb line = record {
   path = line.path;
 }
 
+-- How a line requests to show messages: 64 pointers deep, if it doesn't state a depth.
+abbrev pub line_show : Line → ShowTask
+line_show line = record {
+  showing = record { json = line.json; values = line.values; depth = unwrap_or line.depth 64 };
+  limits = line.limits;
+  unpack = line.unpack;
+  from_flat = line_reads_flat line;
+}
+
+-- The request of a line with this command for the messages.
+abbrev pub line_request : Option Command → Line → Request
+line_request (Some command) line = Run (line_task command line)
+line_request None line = Show (line_show line)
+
 -- Whether `digest` has `--quiet` without `--check`.
 abbrev pub lacks_check : Verb → Line → Bool
 lacks_check ToDigest line = line.quiet && not line.lists
@@ -299,11 +360,13 @@ lacks_check ToCanon line = false
 lacks_check ToCheck line = false
 lacks_check ToSize line = false
 lacks_check ToValidate line = false
+lacks_check ToShow line = false
 
 abbrev pub end_by : Option Setting → Option Verb → Line → Result Request ArgumentFault
 end_by (Some setting) verb line = Err (MissingValue setting)
 end_by None None line = Err MissingCommand
-end_by None (Some verb) line = if lacks_check verb line then Err (Needs Quiet CheckName) else Ok (Run (line_task verb line))
+end_by None (Some verb) line = if lacks_check verb line then Err (Needs Quiet CheckName) else
+    Ok (line_request (command_of verb line.flat) line)
 
 -- What a line requests if no argument follows.
 abbrev pub end_of : Line → Result Request ArgumentFault

@@ -2,7 +2,7 @@
 //! answered, the user is told the guess.
 ghost use Rattle.std.specs.Prelude.{◌<◌, ◌≤◌, ◌^◌, IfSome};
 
-use crate::streams::{Fault, Task};
+use crate::streams::{Fault, ShowTask, Task};
 use capnp_framing::devices::{Input, MemoryInput};
 use capnp_framing::framing::FrameError;
 use capnp_packing::packing::UnpackingInput;
@@ -49,11 +49,49 @@ impl Looks {
     }
 }
 
-/// Guesses what an input is, after a run of `task` has refused its first message with `fault`.
-/// Returns `None` if `fault` says nothing about the input, or if the input looks like what `task`
-/// reads, or like nothing known. `first` has the first bytes of the input; the input has at least
+/// How a task reads its input.
+#[derive(Clone, Copy, Debug, PartialEq, Eq)]
+pub enum InputForm {
+    /// As a stream of frames.
+    Frames,
+    /// As a packed stream of frames (encoding specification, "Packing").
+    PackedFrames,
+    /// As the raw words of one message.
+    RawWords,
+}
+
+impl InputForm {
+    /// The form for these two options.
+    fn of(unpack: bool, from_flat: bool) -> Self {
+        if unpack {
+            InputForm::PackedFrames
+        } else if from_flat {
+            InputForm::RawWords
+        } else {
+            InputForm::Frames
+        }
+    }
+}
+
+impl Task {
+    /// How this task reads its input.
+    pub fn input_form(&self) -> InputForm {
+        InputForm::of(self.unpack, self.from_flat)
+    }
+}
+
+impl ShowTask {
+    /// How this task reads its input.
+    pub fn input_form(&self) -> InputForm {
+        InputForm::of(self.unpack, self.from_flat)
+    }
+}
+
+/// Guesses what an input is, after a run that reads it in this `form` has refused its first message
+/// with `fault`. Returns `None` if `fault` says nothing about the input, or if the input looks like
+/// what it is read as, or like nothing known. `first` has the first bytes of the input; the input has at least
 /// `given` bytes.
-pub fn looks_like(task: Task, fault: Fault, first: &[u8], given: u64) -> Option<Looks> {
+pub fn looks_like(form: InputForm, fault: Fault, first: &[u8], given: u64) -> Option<Looks> {
     if is_of_devices(fault) {
         return None;
     }
@@ -61,15 +99,13 @@ pub fn looks_like(task: Task, fault: Fault, first: &[u8], given: u64) -> Option<
     if known.is_some() {
         return known;
     }
-    if task.unpack {
-        return unlike_packed(first);
-    }
-    if task.from_flat {
-        return unlike_words(first);
-    }
-    match fault {
-        Fault::Frame(_) => unlike_frames(first, given),
-        _ => None,
+    match form {
+        InputForm::PackedFrames => unlike_packed(first),
+        InputForm::RawWords => unlike_words(first),
+        InputForm::Frames => match fault {
+            Fault::Frame(_) => unlike_frames(first, given),
+            _ => None,
+        },
     }
 }
 

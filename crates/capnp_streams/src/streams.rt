@@ -8,6 +8,7 @@ mod packed;
 mod parts;
 mod path;
 mod runs;
+mod shows;
 mod task;
 mod writing;
 
@@ -18,4 +19,5 @@ pub use flat::{run_flat, run_flat_with};
 pub use packed::{run_packed, run_packed_with};
 pub use path::{Path, paths_parsed};
 pub use runs::{Stop, Summary, run, run_with};
-pub use task::{Request, Task, WrongArgument, named_files, parse_args};
+pub use shows::{run_show, run_show_flat, run_show_packed};
+pub use task::{Request, ShowTask, Task, WrongArgument, named_files, parse_args};

@@ -1,13 +1,14 @@
 //! Parses the arguments, one by one.
 ghost use Rattle.std.specs.Prelude.{◌≡◌, ◌<◌, MatchOption, length};
 ghost use Rattle.std.specs.List.{after_first, before_first, position_or_len};
-ghost use Rattle.capnp_streams.specs.Arguments.{assigned_step, budget_of, command_step, end_of, exclusion_of, form_exclusion, has_option_form, is_equals, lacks_check, line_reads_flat, line_with_value, named_step, nesting_of, operand_step, option_named, option_step, option_text, parted_step, plain_line, setting_text, step_if_allowed, argument_step, step_or, line_task, verb_exclusion, verb_named, verb_text};
+ghost use Rattle.capnp_streams.specs.Arguments.{assigned_step, budget_of, command_of, command_step, depth_of, end_of, exclusion_of, form_exclusion, has_option_form, is_equals, lacks_check, line_reads_flat, line_request, line_show, line_with_value, named_step, nesting_of, operand_step, option_named, option_step, option_text, parted_step, plain_line, setting_text, show_exclusion, step_if_allowed, argument_step, step_or, line_task, verb_exclusion, verb_named, verb_text};
 
 use super::path::{Path, path_of};
-use super::task::{Request, Task};
+use super::task::{Request, ShowTask, Task};
 use capnp_arena::arena::ReaderOptions;
 use capnp_messages::messages::{Command, Form};
 use capnp_messages::text::{parse_budget, parse_nesting};
+use capnp_show::show::Showing;
 
 /// A command of `capnp_canon`, without its options.
 #[derive(Clone, Copy, Debug, PartialEq, Eq)]
@@ -17,6 +18,7 @@ pub enum Verb {
     Size,
     Digest,
     Validate,
+    Show,
 }
 
 impl Verb {
@@ -30,6 +32,7 @@ impl Verb {
             Verb::Size => "size",
             Verb::Digest => "digest",
             Verb::Validate => "validate",
+            Verb::Show => "show",
         }
     }
 }
@@ -53,10 +56,16 @@ pub enum OptionName {
     Check,
     CheckLetter,
     At,
+    Json,
+    Values,
+    Depth,
 }
 
+/// How many pointers below the root are followed without `--depth`.
+const PLAIN_DEPTH: u32 = 64;
+
 /// All options.
-const OPTIONS: [OptionName; 16] = [
+const OPTIONS: [OptionName; 19] = [
     OptionName::Help,
     OptionName::HelpLetter,
     OptionName::Version,
@@ -73,6 +82,9 @@ const OPTIONS: [OptionName; 16] = [
     OptionName::Check,
     OptionName::CheckLetter,
     OptionName::At,
+    OptionName::Json,
+    OptionName::Values,
+    OptionName::Depth,
 ];
 
 impl OptionName {
@@ -97,6 +109,9 @@ impl OptionName {
             OptionName::Check => "--check",
             OptionName::CheckLetter => "-c",
             OptionName::At => "--at",
+            OptionName::Json => "--json",
+            OptionName::Values => "--values",
+            OptionName::Depth => "--depth",
         }
     }
 }
@@ -107,6 +122,7 @@ pub enum Setting {
     Nesting,
     Words,
     At,
+    Depth,
 }
 
 impl Setting {
@@ -118,6 +134,7 @@ impl Setting {
             Setting::Nesting => "--nesting",
             Setting::Words => "--words",
             Setting::At => "--at",
+            Setting::Depth => "--depth",
         }
     }
 }
@@ -162,6 +179,9 @@ pub(super) struct Line {
     lists: bool,
     /// The path to the part that is asked about.
     path: Path,
+    json: bool,
+    values: bool,
+    depth: Option<u32>,
     /// The option whose value comes next.
     expects: Option<Setting>,
     /// Whether `--` came, after which no argument is an option.
@@ -195,6 +215,9 @@ impl Line {
             quiet: false,
             lists: false,
             path: Path::whole(),
+            json: false,
+            values: false,
+            depth: None,
             expects: None,
             ended: false,
         }
@@ -205,7 +228,7 @@ impl Line {
         ensures { result ≡ line_reads_flat self.now }
     {
         match self.verb {
-            Some(Verb::Check | Verb::Size | Verb::Digest | Verb::Validate) => {
+            Some(Verb::Check | Verb::Size | Verb::Digest | Verb::Validate | Verb::Show) => {
                 self.flat || self.from_flat
             }
             Some(Verb::Canon) | None => self.from_flat,
@@ -240,8 +263,32 @@ impl Line {
             Some(Verb::Validate) if self.lists => (Verb::Validate, OptionName::Check),
             Some(Verb::Validate) if !self.path.is_whole() => (Verb::Validate, OptionName::At),
             Some(Verb::Validate) => return None,
+            Some(Verb::Show) if self.pack => (Verb::Show, OptionName::Pack),
+            Some(Verb::Show) if self.hex => (Verb::Show, OptionName::Hex),
+            Some(Verb::Show) if self.quiet => (Verb::Show, OptionName::Quiet),
+            Some(Verb::Show) if self.lists => (Verb::Show, OptionName::Check),
+            Some(Verb::Show) if !self.path.is_whole() => (Verb::Show, OptionName::At),
+            Some(Verb::Show) => return None,
         };
         Some(ArgumentFault::NotOfCommand(verb, option))
+    }
+
+    /// Returns the fault if the line has an option of `show`, and another command. Returns `None` if
+    /// it has no such option, or no command yet.
+    fn show_exclusion(&self) -> Option<ArgumentFault>
+        ensures { result ≡ show_exclusion self.now.verb self.now }
+    {
+        match self.verb {
+            None | Some(Verb::Show) => None,
+            Some(verb) if self.json => Some(ArgumentFault::NotOfCommand(verb, OptionName::Json)),
+            Some(verb) if self.values => {
+                Some(ArgumentFault::NotOfCommand(verb, OptionName::Values))
+            }
+            Some(verb) if self.depth.is_some() => {
+                Some(ArgumentFault::NotOfCommand(verb, OptionName::Depth))
+            }
+            Some(_) => None,
+        }
     }
 
     /// Returns the fault if two of the line's options can't be used together; otherwise `None`. Hex
@@ -268,7 +315,10 @@ impl Line {
     {
         match self.verb_exclusion() {
             Some(fault) => Some(fault),
-            None => self.form_exclusion(),
+            None => match self.show_exclusion() {
+                Some(fault) => Some(fault),
+                None => self.form_exclusion(),
+            },
         }
     }
 
@@ -319,6 +369,16 @@ impl Line {
                 ..self
             }
             .if_allowed(),
+            OptionName::Json => Line { json: true, ..self }.if_allowed(),
+            OptionName::Values => Line {
+                values: true,
+                ..self
+            }
+            .if_allowed(),
+            OptionName::Depth => Ok(ArgumentStep::Goes(Line {
+                expects: Some(Setting::Depth),
+                ..self
+            })),
             OptionName::Nesting => Ok(ArgumentStep::Goes(Line {
                 expects: Some(Setting::Nesting),
                 ..self
@@ -370,6 +430,14 @@ impl Line {
                 }),
                 None => None,
             },
+            Setting::Depth => match depth(text) {
+                Some(depth) => Some(Line {
+                    depth: Some(depth),
+                    expects: None,
+                    ..self
+                }),
+                None => None,
+            },
         }
     }
 
@@ -410,6 +478,10 @@ impl Line {
             }
             Some(OptionName::At) => {
                 let setting = Setting::At;
+                self.with_value_or(setting, value, ArgumentFault::InvalidSetting(setting))
+            }
+            Some(OptionName::Depth) => {
+                let setting = Setting::Depth;
                 self.with_value_or(setting, value, ArgumentFault::InvalidSetting(setting))
             }
             Some(option) => Err(ArgumentFault::UnwantedValue(option)),
@@ -492,7 +564,7 @@ impl Line {
                 if self.lacks_check(verb) {
                     Err(ArgumentFault::Needs(OptionName::Quiet, OptionName::Check))
                 } else {
-                    Ok(Request::Run(self.task(verb)))
+                    Ok(self.request_of(verb))
                 }
             }
             None => Err(ArgumentFault::MissingCommand),
@@ -505,21 +577,39 @@ impl Line {
     {
         match verb {
             Verb::Digest => self.quiet && !self.lists,
-            Verb::Canon | Verb::Check | Verb::Size | Verb::Validate => false,
+            Verb::Canon | Verb::Check | Verb::Size | Verb::Validate | Verb::Show => false,
         }
     }
 
-    /// Returns the task that the line asks for, with the command `verb`.
-    fn task(self, verb: Verb) -> Task
-        ensures { result ≡ line_task verb self }
+    /// Returns what the line asks for, with the command `verb`.
+    fn request_of(self, verb: Verb) -> Request
+        ensures { result ≡ line_request (command_of verb self.flat) self }
     {
-        let command = match verb {
-            Verb::Canon => Command::Canon(if self.flat { Form::Flat } else { Form::Framed }),
-            Verb::Check => Command::Check,
-            Verb::Size => Command::Size,
-            Verb::Digest => Command::Digest,
-            Verb::Validate => Command::Validate,
-        };
+        match self.command(verb) {
+            Some(command) => Request::Run(self.task(command)),
+            None => Request::Show(self.show_task()),
+        }
+    }
+
+    /// Returns the command for the messages, if `verb` is one that answers them; `None` if it is
+    /// `Show`.
+    fn command(self, verb: Verb) -> Option<Command>
+        ensures { result ≡ command_of verb self.flat }
+    {
+        match verb {
+            Verb::Canon => Some(Command::Canon(if self.flat { Form::Flat } else { Form::Framed })),
+            Verb::Check => Some(Command::Check),
+            Verb::Size => Some(Command::Size),
+            Verb::Digest => Some(Command::Digest),
+            Verb::Validate => Some(Command::Validate),
+            Verb::Show => None,
+        }
+    }
+
+    /// Returns the task that the line asks for, with this command.
+    fn task(self, command: Command) -> Task
+        ensures { result ≡ line_task command self }
+    {
         Task {
             command,
             limits: self.limits,
@@ -530,6 +620,22 @@ impl Line {
             quiet: self.quiet,
             lists: self.lists,
             path: self.path,
+        }
+    }
+
+    /// Returns how the line asks to show messages.
+    fn show_task(self) -> ShowTask
+        ensures { result ≡ line_show self }
+    {
+        ShowTask {
+            showing: Showing {
+                json: self.json,
+                values: self.values,
+                depth: self.depth.unwrap_or(PLAIN_DEPTH),
+            },
+            limits: self.limits,
+            unpack: self.unpack,
+            from_flat: self.reads_flat(),
         }
     }
 }
@@ -570,6 +676,8 @@ fn verb_of(text: &str) -> Option<Verb>
         Some(Verb::Digest)
     } else if text == "validate" {
         Some(Verb::Validate)
+    } else if text == "show" {
+        Some(Verb::Show)
     } else {
         None
     }
@@ -598,4 +706,15 @@ fn budget(text: &str) -> Option<Option<usize>>
     ensures { result ≡ budget_of text.now }
 {
     parse_budget(text)
+}
+
+/// Returns the depth that `text` states: a number below 2^31. Returns `None` if `text` doesn't state
+/// one.
+fn depth(text: &str) -> Option<u32>
+    ensures { result ≡ depth_of text.now }
+{
+    match nesting(text) {
+        Some(depth) if 0 <= depth => Some(depth as u32),
+        _ => None,
+    }
 }

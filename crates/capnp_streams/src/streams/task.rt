@@ -6,6 +6,7 @@ use super::arguments::{ArgumentFault, ArgumentStep, Line};
 use super::path::Path;
 use capnp_arena::arena::ReaderOptions;
 use capnp_messages::messages::Command;
+use capnp_show::show::Showing;
 use std::alloc::{AllocError, Global};
 
 /// What to do with each message of a stream, and the limits for reading it.
@@ -33,6 +34,17 @@ pub struct Task {
     pub path: Path,
 }
 
+/// How to show each message of a stream, and the limits for reading it.
+#[derive(Clone, Copy)]
+pub struct ShowTask {
+    pub showing: Showing,
+    pub limits: ReaderOptions,
+    /// Whether the input is packed (encoding specification, "Packing").
+    pub unpack: bool,
+    /// Whether the input is the raw words of one message, not frames.
+    pub from_flat: bool,
+}
+
 /// What the arguments ask for.
 #[derive(Clone, Copy)]
 pub enum Request {
@@ -43,6 +55,8 @@ pub enum Request {
     /// A task for each message of the files that `named_files` returns. Without files the input is
     /// standard input.
     Run(Task),
+    /// To show each message of these files.
+    Show(ShowTask),
 }
 
 /// The first wrong argument.
@@ -54,16 +68,17 @@ pub struct WrongArgument {
     pub fault: ArgumentFault,
 }
 
-/// Parses the arguments after the program's name: `canon`, `check`, `size`, `digest` or `validate`,
-/// options, and files.
+/// Parses the arguments after the program's name: `canon`, `check`, `size`, `digest`, `validate` or
+/// `show`, options, and files.
 ///
 /// The options are `--flat`, `--pack` and `--hex` (of `canon`), `--flat` and `--quiet` (of `check`
 /// and `validate`), `--flat` (of `size`), `--flat`, `--check` or `-c`, and with it `--quiet` (of
-/// `digest`), `--at PATH` (of `canon`, `size` and `digest`), and `--packed`, `--from-flat`,
-/// `--nesting N` and `--words N` (of all five). They may come anywhere. If one is repeated, the last
-/// counts. An option with a value may have a `=` in place of the space. `--hex` can't be used with
-/// `--flat` or `--pack`: hex digits are written neither raw nor packed. `--packed` can't be used
-/// with `--from-flat`, or with a `--flat` that isn't of `canon`: raw words are never read packed.
+/// `digest`), `--at PATH` (of `canon`, `size` and `digest`), `--flat`, `--json`, `--values` and
+/// `--depth N` (of `show`), and `--packed`, `--from-flat`, `--nesting N` and `--words N` (of all
+/// six). They may come anywhere. If one is repeated, the last counts. An option with a value may
+/// have a `=` in place of the space. `--hex` can't be used with `--flat` or `--pack`: hex digits are
+/// written neither raw nor packed. `--packed` can't be used with `--from-flat`, or with a `--flat`
+/// that isn't of `canon`: raw words are never read packed.
 ///
 /// An argument looks like an option if it is `-` followed by more; `-` alone is standard input. Of
 /// the arguments that neither look like an option nor are the value of one, the first is the
@@ -73,6 +88,7 @@ pub struct WrongArgument {
 /// The nesting limit is an `i32` in decimal digits with an optional `-`; default 64. The traversal
 /// limit in words is a `u64` in decimal digits, or `none`; default 8,388,608. A path is 1 to 32
 /// indexes between dots; each is a `u32` in decimal digits, with or without brackets: `0.2.[7].1`.
+/// The depth is a number below 2^31 in decimal digits; default 64.
 ///
 /// Refuses all other arguments. The `WrongArgument` is the first one that can't follow those before
 /// it; the arguments after that one don't matter.

@@ -1,0 +1,161 @@
+//! Shows each message of a stream.
+ghost use Rattle.std.specs.Prelude.{◌≡◌, ◌*◌, false, Ok, None, OnOk, IfOk};
+ghost use Rattle.std.specs.Io.KnownBytes.{Keeps};
+ghost use Rattle.capnp_show.specs.Show.{PrintsAtMost};
+ghost use Rattle.capnp_streams.specs.Streams.{AreWorking};
+
+use super::fault::Fault;
+use super::runs::{Stop, Summary, words_of};
+use super::task::ShowTask;
+use capnp_arena::arena::ReaderSegments;
+use capnp_framing::devices::{DeviceFault, Input, Output};
+use capnp_framing::framing::{FrameError, OwnedSegments, read_into, read_segment_into};
+use capnp_packing::buffered::{BufferedInput, BufferedOutput, pass_on_before_waiting};
+use capnp_packing::packing::UnpackingInput;
+use capnp_show::show::{MOST_BYTES, ShowFault, show_message};
+use std::alloc::Global;
+
+/// Shows message `number`, which is in `segments`. Returns whether each pointer that was followed
+/// could be read.
+fn show<W: Output>(
+    alloc: Global,
+    task: ShowTask,
+    number: u64,
+    segments: &OwnedSegments,
+    output: &mut W,
+) -> Result<bool, Fault>
+    requires { W.has_failed output.old ≡ false }
+    ensures bounded { OnOk result (PrintsAtMost W.Output MOST_BYTES output.old output.new) }
+    ensures works { OnOk result (W.has_failed output.new ≡ false) }
+{
+    match show_message(alloc, task.showing, task.limits, number, segments, output) {
+        Ok(is_sound) => Ok(is_sound),
+        Err(ShowFault::AllocationFailed) => Err(Fault::Frame(FrameError::AllocationFailed)),
+        Err(ShowFault::WriteFailed) => Err(Fault::Frame(FrameError::WriteFailed)),
+    }
+}
+
+/// Reads message `number` and shows it. Flushes the output before, unless the message is already in
+/// the input's buffer. Returns `None` at the end of the input.
+fn show_next<R: BufferedInput, W: BufferedOutput>(
+    alloc: Global,
+    task: ShowTask,
+    number: u64,
+    input: &mut R,
+    segments: &mut OwnedSegments,
+    output: &mut W,
+) -> Result<Option<bool>, Fault>
+    requires { AreWorking R.Input W.Output input.old output.old }
+    ensures end { result ≡ Ok None → Keeps (W.contents output.old) (W.contents output.new) }
+    ensures bounded { OnOk result (PrintsAtMost W.Output MOST_BYTES output.old output.new) }
+    ensures work { OnOk result (AreWorking R.Input W.Output input.new output.new) }
+{
+    if pass_on_before_waiting(input, output).is_err() {
+        return Err(Fault::Frame(FrameError::WriteFailed));
+    }
+    match read_into(input, words_of(task.limits), segments) {
+        Ok(false) => Ok(None),
+        Ok(true) => match show(alloc, task, number, &*segments, output) {
+            Ok(is_sound) => Ok(Some(is_sound)),
+            Err(fault) => Err(fault),
+        },
+        Err(error) => Err(Fault::Frame(error)),
+    }
+}
+
+/// Shows each message of the input, a stream of frames, and writes the texts in the order of the
+/// messages. `holds` of the summary says whether each pointer that was followed could be read.
+///
+/// The number of words of each message may be at most the traversal limit. At most `MOST_BYTES`
+/// bytes are written for a message. The run ends at the
+/// first message whose frame can't be read, if memory runs out, or if the output fails. Unless the
+/// output failed, it then has the texts of all messages before this one, and no byte for this one.
+pub fn run_show<R: BufferedInput, W: BufferedOutput>(
+    alloc: Global,
+    task: ShowTask,
+    input: &mut R,
+    output: &mut W,
+) -> Result<Summary, Stop>
+    requires { AreWorking R.Input W.Output input.old output.old }
+    ensures bounded { IfOk result (λ summary.
+        PrintsAtMost W.Output (summary.messages * MOST_BYTES) output.old output.new) }
+    ensures work { OnOk result (AreWorking R.Input W.Output input.new output.new) }
+{
+    let mut segments = OwnedSegments::new(alloc);
+    let mut bytes = 0u64;
+    let mut holds = true;
+    for answered in 0..u64::MAX {
+        match show_next(alloc, task, answered + 1, input, &mut segments, output) {
+            Ok(None) => {
+                return Ok(Summary {
+                    messages: answered,
+                    bytes,
+                    holds,
+                });
+            }
+            Ok(Some(is_sound)) => {
+                bytes = bytes.saturating_add(segments.size_in_bytes() as u64);
+                holds &= is_sound;
+            }
+            Err(fault) => {
+                return Err(Stop {
+                    answered,
+                    byte: bytes,
+                    fault,
+                });
+            }
+        }
+    }
+    Err(Stop {
+        answered: u64::MAX,
+        byte: bytes,
+        fault: Fault::TooManyMessages,
+    })
+}
+
+/// Unpacks the input `packed` (encoding specification, "Packing"), and does with the unpacked bytes
+/// what `run_show` does with its input. If the packed bytes are cut short, the run stops with
+/// `Truncated` after the messages whose frames are complete.
+pub fn run_show_packed<R: Input + Drop, W: BufferedOutput>(
+    alloc: Global,
+    task: ShowTask,
+    packed: R,
+    output: &mut W,
+) -> Result<Summary, Stop>
+    requires { AreWorking R.Input W.Output packed output.old }
+    ensures bounded { IfOk result (λ summary.
+        PrintsAtMost W.Output (summary.messages * MOST_BYTES) output.old output.new) }
+    ensures works { OnOk result (W.has_failed output.new ≡ false) }
+{
+    let mut input = UnpackingInput::new(packed);
+    let summary = run_show(alloc, task, &mut input, output)?;
+    let error = match input.finish() {
+        Ok(true) => return Ok(summary),
+        Ok(false) => FrameError::Truncated,
+        Err(DeviceFault) => FrameError::ReadFailed,
+    };
+    Err(Stop {
+        answered: summary.messages,
+        byte: summary.bytes,
+        fault: Fault::Frame(error),
+    })
+}
+
+/// Shows the one message that the input holds as raw words, without a frame, like `run_flat` reads
+/// it. Returns whether each pointer that was followed could be read.
+pub fn run_show_flat<R: Input, W: Output>(
+    alloc: Global,
+    task: ShowTask,
+    input: &mut R,
+    output: &mut W,
+) -> Result<bool, Fault>
+    requires { AreWorking R.Input W.Output input.old output.old }
+    ensures bounded { OnOk result (PrintsAtMost W.Output MOST_BYTES output.old output.new) }
+    ensures works { OnOk result (W.has_failed output.new ≡ false) }
+{
+    let mut segments = OwnedSegments::new(alloc);
+    match read_segment_into(input, words_of(task.limits), &mut segments) {
+        Ok(()) => show(alloc, task, 1, &segments, output),
+        Err(error) => Err(Fault::Frame(error)),
+    }
+}
