@@ -16,7 +16,7 @@ use Rattle.capnp_objects.specs.Wanted.{plain}
 use Rattle.capnp_objects.proofs.Inverted.{not_read_if}
 use Rattle.capnp_objects.proofs.Limits.{not_for_memory}
 use Rattle.capnp_messages.specs.MessageParts.{RefusesPart, part_refused, path_refused}
-use Rattle.capnp_messages.specs.Parts.{PathEnd, end_at, end_in, follow_path, inside, part, pointer_in, pointer_of_end, step, to_element, to_pointer}
+use Rattle.capnp_messages.specs.Parts.{PathEnd, end_at, end_in, follow_path, inside, pointer_in, pointer_of_end, step, to_element, to_pointer}
 use Rattle.capnp_messages.specs.Roots.{message_root, read_message_root}
 
 -- AllocationFailed isn't the error of a place that isn't there

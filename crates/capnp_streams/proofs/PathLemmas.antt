@@ -1,6 +1,6 @@
 -- The text of a path, index by index.
 use native.Mathlib.Numerals.{unary_clauses}
-use Rattle.std.proofs.Common.{◌≡◌, ◌∙◌, ℕ, suc, ◌+◌, ◌^◌, ◌<◌, ◌≤◌, min, List, [], ◌∷◌, ◌++◌, Bool, true, false, ◌&&◌, Option, Some, None, length, map, ap, ap₂, refl, sym, subst, arith, append-nil, append_assoc, take, drop, length-drop}
+use Rattle.std.proofs.Common.{◌≡◌, ◌∙◌, ℕ, ◌+◌, ◌^◌, ◌<◌, ◌≤◌, min, List, [], ◌∷◌, ◌++◌, Bool, true, false, ◌&&◌, Option, Some, None, length, map, ap, ap₂, refl, sym, subst, arith, append-nil, append_assoc, take, drop, length-drop}
 use Rattle.std.specs.List.{after_first, before_first, position_or_len}
 use Rattle.std.specs.Prelude.{IfSome, IsNone, if◌then◌else◌, nat_lt, slice_set}
 use Rattle.std.specs.Str.Parse.{digits_value}

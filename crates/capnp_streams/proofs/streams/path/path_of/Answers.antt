@@ -1,4 +1,4 @@
-use Rattle.std.proofs.Common.{◌≡◌, ◌<◌, List, ℕ, None, Some, length, rules}
+use Rattle.std.proofs.Common.{◌≡◌, ◌<◌, None, Some, length, rules}
 use Rattle.std.specs.List.{after_first, before_first, position_or_len}
 use Rattle.capnp_streams.specs.Paths.{index_of, is_dot, path_with}
 use Rattle.capnp_streams.proofs.PathLemmas.{parsed_last, parsed_off, parsed_on, shorter_behind}
