@@ -79,7 +79,7 @@ pub fn show_all<W: BufferedOutput>(
     files: &[String],
     output: &mut W,
 ) -> Result<bool, Unanswered> {
-    each_file(rt, Job::Show(task), !task.showing.json, files, output)
+    each_file(rt, Job::Show(task), !task.json, files, output)
 }
 
 /// Does `job` with each message of each file in turn, or of standard input if there are no files.

@@ -1,2 +1,1 @@
 pub mod ObjectLemmas
-pub mod ShownLemmas

@@ -1,7 +1,7 @@
 -- The arguments after the program's name, and what they request. Options and files may come in any
 -- order, but the command comes before the files.
 use Rattle.std.specs.Prelude.{ℕ, ℤ, ◌+◌, ◌^◌, ◌==◌, nat_lt, pos, neg_ℤ, List, [], ◌∷◌, length, drop, codes, find}
-use Rattle.std.specs.Prelude.{negsuc, option_and_then, unwrap_or, is_some, Option, Some, None, Result, Ok, Err, Bool, true, false, not, ◌&&◌, ◌||◌, if◌then◌else◌}
+use Rattle.std.specs.Prelude.{unwrap_or, is_some, Option, Some, None, Result, Ok, Err, Bool, true, false, not, ◌&&◌, ◌||◌, if◌then◌else◌}
 use Rattle.std.specs.Int.Signed.{mag}
 use Rattle.std.specs.List.{after_first, before_first, position_or_len}
 use Rattle.std.specs.Option.{option_map, option_or}
@@ -113,15 +113,6 @@ abbrev pub budget_of : List ℕ → Option (Option ℕ)
 budget_of text =
     if bytes_eq text (codes "none") then Some None else
     if is_numeral text && nat_lt (digits_value 10 text) (2 ^ 64) then Some (Some (digits_value 10 text)) else None
-
--- The depth that a text writes: decimal digits with a value below 2^31, or the same after a `-` if
--- the value is zero.
-abbrev pub natural_of : ℤ → Option ℕ
-natural_of (pos n) = Some n
-natural_of (negsuc n) = None
-
-abbrev pub depth_of : List ℕ → Option ℕ
-depth_of text = option_and_then natural_of (nesting_of text)
 
 -- No arguments yet: a nesting limit of 64, and a traversal limit of 8,388,608 words.
 abbrev pub plain_line : Line
@@ -236,7 +227,7 @@ line_with_value SetAt text line = option_map (λ p. record line { path = p; expe
 line_with_value SetDepth text line = option_map (λ n. record line {
   depth = Some n;
   expects = None;
-}) (depth_of text)
+}) (nesting_of text)
 
 abbrev pub step_or : ArgumentFault → Option Line → Result ArgumentStep ArgumentFault
 step_or fault None = Err fault
@@ -342,7 +333,9 @@ line_task command line = record {
 -- How a line requests to show messages: 64 pointers deep, if it doesn't state a depth.
 abbrev pub line_show : Line → ShowTask
 line_show line = record {
-  showing = record { json = line.json; values = line.values; depth = unwrap_or line.depth 64 };
+  json = line.json;
+  values = line.values;
+  depth = unwrap_or line.depth (pos 64);
   limits = line.limits;
   unpack = line.unpack;
   from_flat = line_reads_flat line;

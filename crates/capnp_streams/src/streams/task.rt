@@ -6,7 +6,6 @@ use super::arguments::{ArgumentFault, ArgumentStep, Line};
 use super::path::Path;
 use capnp_arena::arena::ReaderOptions;
 use capnp_messages::messages::Command;
-use capnp_show::show::Showing;
 use std::alloc::{AllocError, Global};
 
 /// What to do with each message of a stream, and the limits for reading it.
@@ -37,7 +36,12 @@ pub struct Task {
 /// How to show each message of a stream, and the limits for reading it.
 #[derive(Clone, Copy)]
 pub struct ShowTask {
-    pub showing: Showing,
+    /// Whether each message is one line of JSON.
+    pub json: bool,
+    /// Whether places are left out.
+    pub values: bool,
+    /// How many pointers below the root are followed; none if it is below 1.
+    pub depth: i32,
     pub limits: ReaderOptions,
     /// Whether the input is packed (encoding specification, "Packing").
     pub unpack: bool,
@@ -88,7 +92,7 @@ pub struct WrongArgument {
 /// The nesting limit is an `i32` in decimal digits with an optional `-`; default 64. The traversal
 /// limit in words is a `u64` in decimal digits, or `none`; default 8,388,608. A path is 1 to 32
 /// indexes between dots; each is a `u32` in decimal digits, with or without brackets: `0.2.[7].1`.
-/// The depth is a number below 2^31 in decimal digits; default 64.
+/// The depth is written like the nesting limit; default 64.
 ///
 /// Refuses all other arguments. The `WrongArgument` is the first one that can't follow those before
 /// it; the arguments after that one don't matter.
