@@ -170,6 +170,18 @@ struct capnp_canonical_extent {
     uint32_t depth;
 };
 
+/* How far a packed stream is unpacked, for capnp_canonical_unpack_piece. All 0 at the start of a stream, as
+ * `struct capnp_canonical_unpacking unpacking = {0};` makes it; only the calls change it. If it is all 0 after a call, the
+ * packed bytes may end there. */
+struct capnp_canonical_unpacking {
+    /* The number of zero bytes that are unpacked and not written yet. */
+    uint16_t zeros;
+    /* Where the next packed byte is, inside a word or a run of words. */
+    uint16_t left;
+    uint8_t place;
+    uint8_t bits;
+};
+
 /* A segment of a message. */
 struct capnp_canonical_segment {
     /* Its first byte, at any address; may be null if `size` is 0. */
@@ -291,6 +303,18 @@ uint32_t capnp_canonical_words_validate(const uint8_t *message, size_t size, int
  * proved. */
 uint32_t capnp_canonical_unpack(const uint8_t *packed, size_t packed_size, uint8_t *to, size_t room, size_t *written);
 
+/* Unpacks the next bytes of a packed stream, which may be cut into pieces anywhere: goes on from where the last call with
+ * this `*unpacking` stopped, and stops when it has written `room` bytes to `to`, or has taken all `packed_size` packed
+ * bytes. Returns the number of bytes written, and writes to `*taken` how many packed bytes it took. It is never refused.
+ *
+ * It takes no more packed bytes than it needs for what it writes, and the count after the last word if that is there. So
+ * when it has written a whole message, it has taken the message's own packed bytes and no others, if no run of words
+ * begins in one message and ends in another. C++, Rust and capnp_canon write no such run. Other streams are read, too:
+ * `*unpacking` then has the rest of the run, and the next call goes on with it.
+ *
+ * The packed bytes and those at `to` may not overlap. */
+size_t capnp_canonical_unpack_piece(struct capnp_canonical_unpacking *unpacking, const uint8_t *packed, size_t packed_size, uint8_t *to, size_t room, size_t *taken);
+
 /* Writes the name of a refusal, such as `Truncated`, and a terminating zero to the `room` bytes at `to`, like snprintf:
  * if the room is too small the name is cut, and the zero is still written unless `room` is 0. Returns the length of the
  * name in bytes, without the zero, or 0 if the number has no name. */
@@ -306,6 +330,36 @@ uint32_t capnp_canonical_version(void);
 size_t capnp_canonical_version_text(char *to, size_t room);
 
 /* The functions from here on are defined in this header. */
+
+/* Unpacks the next message of a packed stream, and no other: its frame, to the front of the `room` bytes at `to`. `*held`
+ * is the number of bytes of the frame that are there already: 0 at the start of a frame. Goes on from where the last call
+ * with this `*unpacking` stopped. After each answer, `*taken` is how many packed bytes it took, `*held` how many bytes of
+ * the frame are there, and `*wanted` how many to have (see capnp_canonical_frame_size_from_prefix).
+ *
+ * CAPNP_CANONICAL_DONE means that the frame is whole, and `*held` is its size. The next one starts after these packed
+ * bytes; set `*held` to 0 for it. CAPNP_CANONICAL_NO_ROOM means that `*wanted` is more than `room`: move what is there to a
+ * larger buffer, and call again with the other packed bytes. CAPNP_CANONICAL_TRUNCATED means that no packed bytes are
+ * left: call again with those that follow. If none follow, the stream is cut short, unless `*held` is 0 and
+ * capnp_canonical_is_unpacked is true. Refuses the frame if it has too many segments, or more than
+ * `words` words. */
+CAPNP_CANONICAL_INLINE uint32_t capnp_canonical_unpack_frame(struct capnp_canonical_unpacking *unpacking, const uint8_t *packed, size_t packed_size, uint64_t words, uint8_t *to, size_t room, size_t *held, size_t *taken, size_t *wanted) {
+    *taken = 0;
+    for (;;) {
+        uint32_t answer = capnp_canonical_frame_size_from_prefix(to, *held, words, wanted);
+        size_t end = *wanted < room ? *wanted : room, more = 0;
+        if (answer != CAPNP_CANONICAL_DONE) return answer;
+        if (*held == *wanted) return CAPNP_CANONICAL_DONE;
+        if (*held >= end) return CAPNP_CANONICAL_NO_ROOM;
+        *held += capnp_canonical_unpack_piece(unpacking, *taken ? packed + *taken : packed, packed_size - *taken, to + *held, end - *held, &more);
+        *taken += more;
+        if (*held < end) return CAPNP_CANONICAL_TRUNCATED;
+    }
+}
+
+/* Whether no packed word or run has begun that isn't unpacked to its end: whether the packed bytes may end here. */
+CAPNP_CANONICAL_INLINE bool capnp_canonical_is_unpacked(const struct capnp_canonical_unpacking *unpacking) {
+    return !unpacking->zeros && !unpacking->place;
+}
 
 /* Whether the message of the frame at the front is canonical. Also false if the message can't be read, because a limit
  * is exceeded or the bytes aren't a frame; capnp_canonical_check says why. */

@@ -789,6 +789,65 @@ private:
     Place place_;
 };
 
+// The frames of a packed stream that is read as it comes, such as capnp::writePackedMessage writes to a socket. Made and
+// used like a FrameReader; `read` reads packed bytes. Reads up to 64 KiB ahead, and keeps them for the next frames. Makes
+// room for at most twice the unpacked bytes that have come, or for 256 KiB.
+template <typename Read>
+class PackedFrameReader {
+public:
+    explicit PackedFrameReader(Read read, std::uint64_t words = CAPNP_CANONICAL_WORDS)
+        : read_(std::move(read)), words_(words), packed_(std::size_t{1} << 16) {}
+
+    // The next frame, unpacked; its bytes stay as they are until the next call or the end of the reader. Nothing at the end
+    // of the stream. Throws Error if the next bytes aren't a frame of at most as many words, or the stream ends within one,
+    // or before the count after a word.
+    std::optional<Bytes> next() CAPNP_CANONICAL_LIFETIMEBOUND {
+        const Place here = {place_.message + 1, place_.byte};
+        for (std::size_t held = 0;;) {
+            std::size_t taken = 0, wanted = 0;
+            const std::uint32_t answer =
+                capnp_canonical_unpack_frame(&unpacking_, packed_.data() + first_, end_ - first_, words_, frame_.data(),
+                                             frame_.size(), &held, &taken, &wanted);
+            first_ += taken;
+            packed_bytes_ += taken;
+            if (answer == CAPNP_CANONICAL_NO_ROOM) {
+                frame_.resize(std::min(wanted, held + std::max(held, piece)));
+            } else if (answer == CAPNP_CANONICAL_DONE) {
+                place_ = {here.message, here.byte + held};
+                return Bytes(frame_.data(), held, here);
+            } else if (answer != CAPNP_CANONICAL_TRUNCATED) {
+                throw Error(answer, here);
+            } else if (!read_more()) {
+                if (held == 0 && capnp_canonical_is_unpacked(&unpacking_)) return std::nullopt;
+                throw Error(answer, here, wanted);
+            }
+        }
+    }
+
+    // The number of packed bytes that the frames so far took.
+    std::uint64_t packed_bytes() const noexcept { return packed_bytes_; }
+
+private:
+    // Reads packed bytes, if there are none left. Returns whether some came.
+    bool read_more() {
+        first_ = end_ = 0;
+        end_ = read_(packed_.data(), packed_.size());
+        return end_ > 0;
+    }
+
+    static constexpr std::size_t piece = std::size_t{1} << 18;
+
+    Read read_;
+    std::uint64_t words_;
+    // The packed bytes that were read and not yet unpacked are from `first_` to `end_`.
+    std::vector<std::uint8_t> packed_, frame_;
+    std::size_t first_ = 0, end_ = 0;
+    capnp_canonical_unpacking unpacking_ = {};
+    std::uint64_t packed_bytes_ = 0;
+    // The number of the last frame, and the byte after it.
+    Place place_;
+};
+
 // The version of the linked library: major * 10000 + minor * 100 + patch.
 inline std::uint32_t version() noexcept { return capnp_canonical_version(); }
 

@@ -103,6 +103,8 @@ for which in static shared; do
     part "test, $which" "$folder/test_$which" "$here/messages.txt"
     part "packed bytes, $which, built" build "unpack_$which" tests/library/unpack.c "$which"
     part "packed bytes, $which" "$folder/unpack_$which" "$here/packed.txt"
+    part "pieces of packed streams, $which, built" build "pieces_$which" tests/library/pieces.c "$which"
+    part "pieces of packed streams, $which" "$folder/pieces_$which" "$here/streams.txt"
     part "parts of messages, $which, built" build "parts_$which" tests/library/parts.c "$which"
     part "parts of messages, $which" "$folder/parts_$which" "$here/parts.txt"
     part "sound messages, $which, built" build "extents_$which" tests/library/extents.c "$which"
@@ -114,12 +116,16 @@ part "functions of the header with the address sanitizer, built" build inline_sa
 part "functions of the header with the address sanitizer" "$folder/inline_sanitized" "$here/messages.txt"
 part "packed bytes with the address sanitizer, built" build unpack_sanitized tests/library/unpack.c static -fsanitize=address,undefined -fno-sanitize-recover
 part "packed bytes with the address sanitizer" "$folder/unpack_sanitized" "$here/packed.txt"
+part "pieces of packed streams with the address sanitizer, built" build pieces_sanitized tests/library/pieces.c static -fsanitize=address,undefined -fno-sanitize-recover
+part "pieces of packed streams with the address sanitizer" "$folder/pieces_sanitized" "$here/streams.txt"
 part "parts of messages with the address sanitizer, built" build parts_sanitized tests/library/parts.c static -fsanitize=address,undefined -fno-sanitize-recover
 part "parts of messages with the address sanitizer" "$folder/parts_sanitized" "$here/parts.txt"
 part "sound messages with the address sanitizer, built" build extents_sanitized tests/library/extents.c static -fsanitize=address,undefined -fno-sanitize-recover
 part "sound messages with the address sanitizer" "$folder/extents_sanitized" "$here/extents.txt"
 part "packed bytes where malloc is counted, built" build unpack_counting tests/library/unpack.c static -DWRAP -Wl,--wrap=malloc -Wl,--wrap=realloc
 part "packed bytes where malloc is counted" "$folder/unpack_counting" "$here/packed.txt"
+part "pieces of packed streams where malloc is counted, built" build pieces_counting tests/library/pieces.c static -DWRAP -Wl,--wrap=malloc -Wl,--wrap=realloc
+part "pieces of packed streams where malloc is counted" "$folder/pieces_counting" "$here/streams.txt"
 part "test where malloc refuses, built" build refusing tests/library/test.c static -DWRAP -Wl,--wrap=malloc -Wl,--wrap=realloc
 part "test where malloc refuses" "$folder/refusing" "$here/messages.txt"
 if has valgrind "the example and the test under it"; then

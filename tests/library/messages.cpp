@@ -1,7 +1,7 @@
 // Tests of capnp_canonical.hpp, without Cap'n Proto's own headers.
 //
-//     messages FILE PACKED PARTS    the messages of messages.txt, what packed.txt has, and the rows of parts.txt; a line
-//                                   `ok: NAME` or `FAILED: NAME: WHAT` for each test
+//     messages FILE PACKED PARTS STREAMS    the messages of messages.txt, what packed.txt has, and the rows of parts.txt and of
+//                                           streams.txt; a line `ok: NAME` or `FAILED: NAME: WHAT` for each test
 #include "capnp_canonical.hpp"
 
 #include <algorithm>
@@ -376,6 +376,57 @@ void test_frame_reader() {
     require_same("a long frame", answer([&] { return frames.next() ? "a frame" : "nothing"; }), "MessageTooLong");
 }
 
+// The words of a row between commas.
+std::vector<std::string> parts_of(const std::string& digits) {
+    std::vector<std::string> parts;
+    std::istringstream words(digits == "-" ? "" : digits);
+    for (std::string part; std::getline(words, part, ',');) parts.push_back(part);
+    return parts;
+}
+
+// Packed streams: rows of streams.txt, which says what they are.
+void test_packed_frame_reader(const std::string& file) {
+    std::ifstream rows(file);
+    std::size_t count = 0;
+    for (std::string line; std::getline(rows, line);) {
+        if (line.empty() || line[0] == '#') continue;
+        std::string name, digits, wanted, end;
+        std::istringstream(line) >> name >> digits >> wanted >> end;
+        const std::vector<std::string> packed = parts_of(digits), frames = parts_of(wanted);
+        Vector stream;
+        for (const std::string& part : packed) {
+            Vector bytes = bytes_of(part);
+            stream.insert(stream.end(), bytes.begin(), bytes.end());
+        }
+        for (std::size_t most : {std::size_t(1), std::size_t(2), std::size_t(7), stream.size()}) {
+            std::size_t at = 0, number = 0, byte = 0, taken = 0;
+            capnp_canonical::PackedFrameReader reader([&](std::uint8_t* to, std::size_t size) {
+                std::size_t came = std::min({most, size, stream.size() - at});
+                std::copy_n(stream.data() + at, came, to);
+                at += came;
+                return came;
+            });
+            std::string refused = "Done";
+            try {
+                while (std::optional<Bytes> frame = reader.next()) {
+                    require_same(name, digits_of(*frame), frames.at(number));
+                    taken += packed.at(number++).size() / 2;
+                    require(frame->place().message == number && frame->place().byte == byte, name + ": the place");
+                    require(most < stream.size() || reader.packed_bytes() == taken, name + ": the packed bytes taken");
+                    byte += frame->size();
+                }
+            } catch (const Error& error) {
+                refused = error.name();
+                require(error.place().message == number + 1 && error.place().byte == byte, name + ": which frame is refused");
+            }
+            require(number == frames.size(), name + ": the number of frames");
+            require_same(name, refused, end);
+        }
+        count++;
+    }
+    require(count == 18, std::to_string(count) + " rows");
+}
+
 // Parts of messages: rows of parts.txt, which says what they are.
 void test_parts(const std::string& file) {
     std::ifstream rows(file);
@@ -495,7 +546,7 @@ void test_errors() {
 }
 
 int main(int count, char** words) {
-    if (count != 4) return 2;
+    if (count != 5) return 2;
     test_messages(words[1]);
     test("packed bytes", [&] { test_packed(words[2]); });
     test("packed messages", test_unpacked);
@@ -513,6 +564,7 @@ int main(int count, char** words) {
     test("faults", test_faults);
     test("frames of a stream", test_frames);
     test("frames of a reader", test_frame_reader);
+    test("frames of a packed reader", [&] { test_packed_frame_reader(words[4]); });
     test("parts of messages", [&] { test_parts(words[3]); });
     test("errors", test_errors);
     test("version", [] { require(capnp_canonical::version() == CAPNP_CANONICAL_VERSION, "another than the header's"); });

@@ -20,6 +20,7 @@ from capnp_canonical import Error, Fault, Limits, Reason, Refusal, Size
 MESSAGES = pathlib.Path(__file__).with_name('messages.txt')
 PACKED = pathlib.Path(__file__).with_name('packed.txt')
 PARTS = pathlib.Path(__file__).with_name('parts.txt')
+STREAMS = pathlib.Path(__file__).with_name('streams.txt')
 LIBRARY = 'CAPNP_CANONICAL_LIBRARY'
 # A struct of three words that ends in a zero word.
 ZERO_WORD = bytes.fromhex('0000000004000000 0000000003000000 1111111111111111 ffffffffffffffff 0000000000000000')
@@ -453,6 +454,60 @@ class FramesOfFiles(unittest.TestCase):
             list(capnp_canonical.frames(io.StringIO('text')))
         with self.assertRaises(TypeError):
             list(capnp_canonical.frames(7))
+
+
+class PackedFrames(unittest.TestCase):
+    """The packed streams of streams.txt, and cases that this file can't express."""
+
+    def test_rows(self):
+        rows = [line.split() for line in STREAMS.read_text().splitlines() if not line.startswith('#')]
+        self.assertEqual(len(rows), 18)
+        for name, packed, wanted, end in rows:
+            stream = bytes.fromhex(packed.replace(',', '').strip('-'))
+            for given in stream, io.BytesIO(stream), Raw(stream, 1), Raw(stream, 7):
+                found, said, place = [], 'Done', None
+                try:
+                    for frame in capnp_canonical.packed_frames(given):
+                        found.append(frame.hex())
+                except Error as error:
+                    said, place = error.name, error.place
+                self.assertEqual((','.join(found) or '-', said), (wanted, end), name)
+                if place:
+                    self.assertEqual(place, (len(found) + 1, sum(map(len, found)) // 2))
+
+    def test_a_frame_is_given_as_soon_as_it_is_there(self):
+        """Also if the count after its last word hasn't come."""
+        read, write = os.pipe()
+        message = bytes.fromhex('0000000001000000 0000000000000000')
+        with open(read, 'rb') as file, open(write, 'wb', buffering=0) as other:
+            frames = capnp_canonical.packed_frames(file)
+            for packed in '1001 00', '00 1001 0000', '1001 00':
+                other.write(bytes.fromhex(packed))
+                self.assertEqual(next(frames), message)
+            other.write(bytes(1))
+            other.close()
+            self.assertEqual(list(frames), [])
+
+    def test_large(self):
+        words = 100_000
+        large = bytes(4) + words.to_bytes(4, 'little') + bytes(8 * words)
+        packed = bytes.fromhex('70a08601') + b'\0\xff' * (words // 256) + bytes([0, words % 256 - 1])
+        self.assertEqual(list(capnp_canonical.packed_frames(packed * 2)), [large] * 2)
+        for limit, wanted in (words, large.hex()), (words - 1, 'MessageTooLong'):
+            frames = capnp_canonical.packed_frames(Raw(packed, 5), limit)
+            self.assertEqual(answer(memoryview.hex, next, frames), wanted)
+
+    def test_a_table_that_announces_more_than_comes(self):
+        """Memory is taken for what is there, and not for 32 GiB."""
+        with self.assertRaises(Error) as refused:
+            next(capnp_canonical.packed_frames(bytes.fromhex('f0ffffffff 0000'), words=2**64 - 1))
+        self.assertIs(refused.exception.number, Refusal.TRUNCATED)
+
+    def test_other_files(self):
+        with self.assertRaisesRegex(TypeError, 'open for text'):
+            list(capnp_canonical.packed_frames(io.StringIO('text')))
+        with self.assertRaises(TypeError):
+            list(capnp_canonical.packed_frames(7))
 
 
 class Places(unittest.TestCase):

@@ -18,7 +18,7 @@ LIMITS = Limits()
 # Up to this size the room for a copy is as large as all bytes passed, and the frame isn't measured first.
 _SMALL = 4096
 # The most bytes of a table, which has up to 512 segments.
-_TABLE = 2056
+TABLE = 2056
 # The bytes of a SHA-256.
 _DIGEST = 32
 _OF_FRAMES = Refusal.TOO_MANY_SEGMENTS, Refusal.MESSAGE_TOO_LONG, Refusal.TRUNCATED
@@ -349,7 +349,7 @@ def frame_size(stream: ReadableBuffer, words: int = LIMITS.words) -> int:
         except Error as error:
             if error.number != Refusal.TRUNCATED:
                 raise
-            front = ctypes.string_at(given.first, min(given.size, _TABLE))
+            front = ctypes.string_at(given.first, min(given.size, TABLE))
             raise Error(error.number, looks_like=error.looks_like, wanted=bytes_wanted(front)) from None
 
 

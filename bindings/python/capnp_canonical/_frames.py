@@ -15,12 +15,12 @@ _PIECE = 1 << 16
 _MOST = 1 << 22
 
 
-class _Readable(Protocol):
+class Readable(Protocol):
     def read(self, size: int, /) -> Optional[bytes]:
         ...
 
 
-def frames(stream: Union[ReadableBuffer, _Readable], words: int = LIMITS.words) -> Iterator[memoryview]:
+def frames(stream: Union[ReadableBuffer, Readable], words: int = LIMITS.words) -> Iterator[memoryview]:
     """Iterate over the frames of a stream, each of at most `words` words, as views of bytes. Raises `Error` if the
     remaining bytes don't start with a frame; it says which message that is, and at which byte.
 
@@ -30,12 +30,12 @@ def frames(stream: Union[ReadableBuffer, _Readable], words: int = LIMITS.words) 
     A frame of bytes is a view of them: an mmap can't be closed, nor a bytearray change its size, until you release
     each frame (`frame.release()`) or drop it (`del frame`), and the iterator has ended or is dropped too."""
     words = Limits(words=words).words
-    if hasattr(stream, 'read') and not _has_buffer(stream):
+    if hasattr(stream, 'read') and not has_buffer(stream):
         return _frames_of_file(stream, words)
     return _frames_of_bytes(stream, words)
 
 
-def _has_buffer(stream: Any) -> bool:
+def has_buffer(stream: Any) -> bool:
     """Whether it is bytes. An mmap has `read` too."""
     try:
         memoryview(stream).release()
@@ -59,7 +59,7 @@ def _frames_of_bytes(stream: Any, words: int) -> Iterator[memoryview]:
             number += 1
 
 
-class _Pieces:
+class Pieces:
     """A file that is read piece by piece, as far as needed."""
 
     def __init__(self, file: Any) -> None:
@@ -67,25 +67,38 @@ class _Pieces:
         self._read = getattr(file, 'read1', None) or file.read
         self.has_ended = False
 
+    def _next(self, size: int) -> bytes:
+        """At most `size` bytes; none at the end of the file."""
+        piece: Optional[bytes] = self._read(size)
+        if piece is None:
+            raise BlockingIOError('the file has no bytes now, and does not wait for them')
+        if isinstance(piece, str):
+            raise TypeError('the file is open for text: frames are bytes')
+        self.has_ended = not piece
+        return piece
+
     def more(self, held: bytes, wanted: int) -> bytes:
         """The bytes held and those that follow: `wanted` bytes or more, or fewer if the file ends."""
         pieces, size = [held], len(held)
         while size < wanted:
-            piece = self._read(min(max(_PIECE, wanted - size), _MOST))
-            if piece is None:
-                raise BlockingIOError('the file has no bytes now, and does not wait for them')
-            if isinstance(piece, str):
-                raise TypeError('the file is open for text: frames are bytes')
+            piece = self._next(min(max(_PIECE, wanted - size), _MOST))
             if not piece:
-                self.has_ended = True
                 break
             pieces.append(piece)
             size += len(piece)
         return b''.join(pieces)
 
+    def all(self) -> Iterator[bytes]:
+        """The rest of the file, piece by piece."""
+        while True:
+            piece = self._next(_PIECE)
+            if not piece:
+                return
+            yield piece
+
 
 def _frames_of_file(file: Any, words: int) -> Iterator[memoryview]:
-    pieces = _Pieces(file)
+    pieces = Pieces(file)
     at, number = 0, 1
     held = pieces.more(b'', 1)
     while held:

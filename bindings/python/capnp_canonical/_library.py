@@ -27,6 +27,12 @@ class RawExtent(ctypes.Structure):
     ]
 
 
+class RawUnpacking(ctypes.Structure):
+    _fields_ = [
+        ('zeros', ctypes.c_uint16), ('left', ctypes.c_uint16), ('place', ctypes.c_uint8), ('bits', ctypes.c_uint8),
+    ]
+
+
 class RawSegment(ctypes.Structure):
     _fields_ = [('bytes', ctypes.c_void_p), ('size', ctypes.c_size_t)]
 
@@ -118,6 +124,7 @@ def _load() -> ctypes.CDLL:
         ('name', [u32, ctypes.c_char_p, size], size),
         ('reason_text', [u32, ctypes.c_char_p, size], size),
         ('unpack', [at, size, at, size, pointer(size)], u32),
+        ('unpack_piece', [pointer(RawUnpacking), at, size, at, size, pointer(size)], size),
         ('version', [], u32),
     )
     for call, arguments, result in others:

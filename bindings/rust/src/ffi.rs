@@ -17,6 +17,16 @@ pub(crate) struct RawExtent {
     pub depth: u32,
 }
 
+#[cfg(feature = "std")]
+#[repr(C)]
+#[derive(Debug, Default)]
+pub(crate) struct RawUnpacking {
+    pub zeros: u16,
+    pub left: u16,
+    pub place: u8,
+    pub bits: u8,
+}
+
 #[repr(C)]
 pub(crate) struct RawSegment {
     pub bytes: *const u8,
@@ -43,5 +53,7 @@ extern "C" {
     pub fn capnp_canonical_segments_check(segments: *const RawSegment, count: usize, nesting: i32, words: u64, is_canonical: *mut bool, fault: *mut RawFault) -> u32;
     pub fn capnp_canonical_segments_size(segments: *const RawSegment, count: usize, nesting: i32, words: u64, word_count: *mut u64, cap_count: *mut u32) -> u32;
     pub fn capnp_canonical_unpack(packed: *const u8, packed_size: usize, to: *mut u8, room: usize, written: *mut usize) -> u32;
+    #[cfg(feature = "std")]
+    pub fn capnp_canonical_unpack_piece(unpacking: *mut RawUnpacking, packed: *const u8, packed_size: usize, to: *mut u8, room: usize, taken: *mut usize) -> usize;
     pub fn capnp_canonical_version() -> u32;
 }

@@ -9,8 +9,8 @@
 //! frame may **succeed** on raw words, and then reads **another** value, because the pointer to a root without
 //! pointers is also the table of a frame.
 //!
-//! The crate is `no_std` with `alloc`. The feature `std`, on by default, has `FrameReader` for files and sockets, and lets
-//! you turn an `Error` into an `std::io::Error`.
+//! The crate is `no_std` with `alloc`. The feature `std`, on by default, has `FrameReader` and `PackedFrameReader` for files and
+//! sockets, and lets you turn an `Error` into an `std::io::Error`.
 //!
 //! ```
 //! use capnp_canonical::{canonical_words, check, is_canonical, Limits};
@@ -43,6 +43,8 @@ mod ffi;
 mod looks;
 mod packed;
 #[cfg(feature = "std")]
+mod packed_reader;
+#[cfg(feature = "std")]
 mod reader;
 pub mod segments;
 mod stream;
@@ -54,6 +56,8 @@ use answers::{append, digest_of, done, extent_of, fault_of, size_of};
 pub use answers::{Error, Extent, Fault, Reason, Size};
 pub use looks::looks_like;
 pub use packed::{unpack, unpack_into};
+#[cfg(feature = "std")]
+pub use packed_reader::PackedFrameReader;
 #[cfg(feature = "std")]
 pub use reader::FrameReader;
 pub use stream::{frames, Frame, Frames, StreamError};

@@ -4,9 +4,9 @@ use alloc::vec::Vec;
 use std::io::{self, ErrorKind, Read};
 
 /// The size in bytes of the smallest segment table.
-const SMALLEST: usize = 8;
+pub(crate) const SMALLEST: usize = 8;
 /// The room that is made before any byte has come.
-const PIECE: usize = 1 << 18;
+pub(crate) const PIECE: usize = 1 << 18;
 
 /// The frames of a stream that is read as it comes, such as a socket or a file. Reads no byte after the frame that it
 /// returns, and makes room for at most as many bytes as have come, or for 256 KiB.

@@ -2,12 +2,14 @@
 use capnp_canonical::{
     canonical_copy, canonical_words, canonical_words_at, canonical_words_into, check, digest,
     digest_at, frame_size, frames, is_canonical, looks_like, segments, size, size_at, unpack,
-    unpack_into, version, words, Error, Fault, FrameReader, Limits, Reason, Size,
+    unpack_into, version, words, Error, Fault, FrameReader, Limits, PackedFrameReader, Reason,
+    Size,
 };
 use std::fs;
 
 const MESSAGES: &str = concat!(env!("CARGO_MANIFEST_DIR"), "/tests/messages.txt");
 const PACKED: &str = concat!(env!("CARGO_MANIFEST_DIR"), "/tests/packed.txt");
+const STREAMS: &str = concat!(env!("CARGO_MANIFEST_DIR"), "/tests/streams.txt");
 /// A struct of three words, of which the last is zero.
 const ZERO_WORD: &str =
     "000000000400000000000000030000001111111111111111ffffffffffffffff0000000000000000";
@@ -299,6 +301,61 @@ fn frames_of_a_reader() -> std::io::Result<()> {
     assert!(refused
         .to_string()
         .starts_with("message 1 at byte 0: MessageTooLong"));
+    Ok(())
+}
+
+/// The words of a row between commas.
+fn parts_of(digits: &str) -> Vec<Vec<u8>> {
+    match digits {
+        "-" => Vec::new(),
+        _ => digits.split(',').map(bytes_of).collect(),
+    }
+}
+
+#[test]
+fn frames_of_a_packed_reader() -> Tested {
+    let file = fs::read_to_string(STREAMS)?;
+    let rows = file.lines().filter(|line| !line.starts_with('#'));
+    assert_eq!(rows.clone().count(), 18);
+    for row in rows {
+        let [name, packed, wanted, end] = row.split(' ').collect::<Vec<_>>()[..] else {
+            return Err(row.into());
+        };
+        let (packed, wanted) = (parts_of(packed), parts_of(wanted));
+        let stream = packed.concat();
+        for most in [1, 2, 7, usize::MAX] {
+            let bytes = stream.as_slice();
+            let mut frames =
+                PackedFrameReader::new(Slowly { bytes, most }, Limits::default().words);
+            let (mut byte, mut taken) = (0, 0);
+            for (number, frame) in wanted.iter().enumerate() {
+                let found = frames.next_frame()?.expect(name);
+                assert_eq!(
+                    (found.message, found.byte, found.bytes),
+                    (number as u64 + 1, byte, &frame[..])
+                );
+                byte += frame.len() as u64;
+                taken += packed[number].len() as u64;
+                assert!(
+                    most != usize::MAX || frames.packed_bytes() == taken,
+                    "{name}"
+                );
+            }
+            let message = wanted.len() + 1;
+            let said = match frames.next_frame() {
+                Ok(found) => {
+                    assert_eq!(found, None, "{name}");
+                    String::from("Done")
+                }
+                Err(error) => error.to_string(),
+            };
+            let start = match end {
+                "Done" => String::from(end),
+                _ => format!("message {message} at byte {byte}: {end}: "),
+            };
+            assert!(said.starts_with(&start), "{name}: {said}");
+        }
+    }
     Ok(())
 }
 

@@ -3,3 +3,4 @@ pub mod Texts
 pub mod Calls
 pub mod Parts
 pub mod Validation
+pub mod Pieces

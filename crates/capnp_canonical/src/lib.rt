@@ -19,8 +19,10 @@ ghost use Rattle.capnp_messages.specs.Commands.{HasAnswerWithin};
 ghost use Rattle.capnp_messages.specs.declared.messages.command.Command.{Command};
 ghost use Rattle.capnp_messages.specs.declared.messages.command.Form.{Form};
 ghost use Rattle.capnp_packing.specs.Packing.{IsWhole, Packs, unpacked_bytes};
+ghost use Rattle.capnp_packing.specs.Pieces.{unpacked_piece};
 ghost use Rattle.capnp_canonical.specs.Calls.{FillsByNumber, InFrame, InSegments, InWords, IsCopyOf, IsGranted, IsNumberWhere, RefusesBytes, RefusesMeaning, RefusesPacked, RefusesPrefix, RefusesRoom, RefusesSegments, RefusesSegment, TestIs, limits_of, no_fault};
 ghost use Rattle.capnp_canonical.specs.Validation.{ExtentIs, RefusesExtent, no_extent};
+ghost use Rattle.capnp_canonical.specs.Pieces.{next_place, written_piece};
 ghost use Rattle.capnp_canonical.specs.Parts.{HasPart, HasPartSize, IsCopyOfPart, RefusesPartOf, RefusesPartRoom, RefusesPartSize};
 ghost use Rattle.capnp_pointers.specs.Faults.{fault_reason_text};
 ghost use Rattle.capnp_canonical.specs.Numbers.{answer_name, answer_number, reason_number, wanted_room};
@@ -47,7 +49,7 @@ use frames::{
     check_frame, copy_frame, digest_frame, frame_size, frame_size_from_prefix, size_frame,
 };
 use names::{name_of_number, put_text, text_of_reason};
-use packed::unpack;
+use packed::{Unpacking, unpack, unpack_further};
 use parts::{copy_frame_part, digest_frame_part, size_frame_part};
 use segments::{check_segments, copy_segments, digest_segments, size_segments};
 use std::alloc::Global;
@@ -795,6 +797,28 @@ pub extern "C" fn capnp_canonical_unpack(packed: &[u8], to: &mut [u8], written: 
             refusal.number()
         }
     }
+}
+
+/// Unpacks the next bytes of a packed stream to the front of `to`, and goes on from where the last
+/// call with this `unpacking` stopped; at the start of a stream its numbers are 0. Stops when `to` is
+/// full or no packed bytes are left. Stores how many it took in `taken`, and returns the number of
+/// bytes written. Is never refused, and takes no memory.
+///
+/// Takes only the packed bytes that it needs for what it writes, and the count after the last word if
+/// that is in `packed`.
+#[unsafe(no_mangle)]
+pub extern "C" fn capnp_canonical_unpack_piece(
+    unpacking: &mut Unpacking,
+    packed: &[u8],
+    to: &mut [u8],
+    taken: &mut usize,
+) -> usize
+    ensures piece { written_piece taken.new result to.new unpacking.new
+        ≡ unpacked_piece (length to.old) unpacking.old.zeros (next_place unpacking.old) packed.now }
+    ensures taken { taken.new ≤ length packed.now }
+    ensures within { result ≤ length to.new }
+{
+    unpack_further(unpacking, packed, to, taken)
 }
 
 /// Writes the name of the refusal with the number `answer` to the front of `to`, followed by a

@@ -1,6 +1,7 @@
 pub mod GivingLemmas
 pub mod MemoryLemmas
 pub mod PackingLemmas
+pub mod PieceLemmas
 pub mod SliceLemmas
 pub mod UnitLemmas
 pub mod UnpackingLemmas

@@ -28,7 +28,7 @@ written a n k xs ys h l =
 pub kept_below : (a k : ℕ) (xs ys : List ℕ) → a ≤ length xs → take a (put_mid a k xs ys) ≡ take a xs
 kept_below a k xs ys h = take-put_mid_below a k xs ys a (omega arith) h
 
-cons_at : (xs : List ℕ) (i k : ℕ) → i < length xs → take (suc k) (drop i xs) ≡ slice_index xs i ∷ take k (drop (suc i) xs)
+pub cons_at : (xs : List ℕ) (i k : ℕ) → i < length xs → take (suc k) (drop i xs) ≡ slice_index xs i ∷ take k (drop (suc i) xs)
 cons_at xs i k h = ap (take (suc k)) (drop-cons xs i 0 h)
 
 pub zeros_written : (n : ℕ) (new rest to : List ℕ) → n ≤ length to → new ≡ replicate (length (take n to)) 0

@@ -1,7 +1,8 @@
 -- Words that are packed and unpacked in memory, from the front of one slice to the front of
 -- another.
-use Rattle.std.specs.Prelude.{◌≡◌, ◌<◌, ◌≤◌, ◌%◌, ℕ, List, length, take}
+use Rattle.std.specs.Prelude.{◌≡◌, ◌≢◌, ◌<◌, ◌≤◌, ◌%◌, ℕ, List, length, take}
 use Rattle.capnp_packing.specs.Packing.{GivesAndLeads, Packs}
+use Rattle.capnp_packing.specs.Pieces.{taken_of}
 use Rattle.capnp_packing.specs.declared.packing.place.Place.TheVariants.{Tag}
 use Rattle.capnp_packing.specs.declared.packing.unpacking.Progress.{Progress}
 use Rattle.capnp_packing.specs.declared.packing.words.Packed.{Packed}
@@ -29,4 +30,6 @@ pub record UnpacksFront (packed to : List ℕ) (done : Progress) : Type 0 where
   pub taken : done.taken ≤ length packed
   pub some : 8 ≤ done.given
   pub within : done.given ≤ length to
+  pub full : done.zeros ≢ 0 → done.given ≡ length to
+  pub exact : taken_of (length to) 0 Tag (take done.taken packed) ≡ done.taken
   pub leads : GivesAndLeads Tag (take done.taken packed) (take done.given to) done.zeros done.place

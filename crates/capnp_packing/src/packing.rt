@@ -5,6 +5,7 @@
 mod in_memory;
 mod packing_error;
 mod packing_output;
+mod pieces;
 mod place;
 mod read_ahead;
 mod to_slice;
@@ -15,6 +16,8 @@ mod words;
 pub use in_memory::{pack, unpack};
 pub use packing_error::PackingError;
 pub use packing_output::PackingOutput;
+pub use pieces::unpack_piece;
 pub use place::{Place, Taken, step};
 pub use to_slice::{unpack_to_slice, unpacked_size};
+pub use unpacking::Progress;
 pub use unpacking_input::UnpackingInput;

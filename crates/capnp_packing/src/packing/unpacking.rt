@@ -1,5 +1,5 @@
 //! Unpacks words from packed bytes in memory (encoding specification, "Packing").
-ghost use Rattle.std.specs.Prelude.{◌≡◌, ◌≢◌, ◌≤◌, ◌<◌, ◌+◌, ◌∷◌, [], length, take, drop, slice_index, replicate};
+ghost use Rattle.std.specs.Prelude.{if◌then◌else◌, nat_lt, ◌≡◌, ◌≢◌, ◌≤◌, ◌<◌, ◌+◌, ◌-◌, ◌∷◌, [], length, take, drop, slice_index, replicate};
 ghost use Rattle.std.specs.Int.{to_le_bytes, w32};
 ghost use Rattle.capnp_packing.specs.Packing.{GivesAndLeads, expanded, ones};
 ghost use Rattle.capnp_packing.specs.Words.{CanUnpack, UnpacksFront};
@@ -12,15 +12,15 @@ pub(super) const UNIT: usize = 10;
 
 /// How far unpacking got.
 #[derive(Clone, Copy)]
-pub(super) struct Progress {
+pub struct Progress {
     /// The number of packed bytes that were unpacked.
-    pub(super) taken: usize,
+    pub taken: usize,
     /// The number of unpacked bytes written.
-    pub(super) given: usize,
+    pub given: usize,
     /// The number of unpacked zero bytes that come after the `given` ones, and that didn't fit.
-    pub(super) zeros: u16,
+    pub zeros: u16,
     /// The place after the `taken` packed bytes.
-    pub(super) place: Place,
+    pub place: Place,
 }
 
 /// Zeroes all bytes.
@@ -114,6 +114,7 @@ fn unpack_zeros(more: u8, to: &mut [u8]) -> Progress
     ensures taken { result.taken ≡ 2 }
     ensures some { 8 ≤ result.given }
     ensures within { result.given ≤ length to.new }
+    ensures full { result.zeros ≢ 0 → result.given ≡ length to.new }
     ensures leads { GivesAndLeads Place.Tag (0 ∷ more ∷ []) (take result.given to.new)
         result.zeros result.place }
 {
@@ -170,6 +171,20 @@ fn unpack_whole(packed: &[u8], to: &mut [u8]) -> Progress
         given: 8 + more,
         zeros: 0,
         place: Place::Tag,
+    }
+}
+
+/// The place after the next `taken` bytes of words that aren't packed. `left` + 1 bytes of these
+/// words are still to be read: the next one, and `left` after it.
+pub(super) fn raw_behind(left: u16, taken: usize) -> Place
+    requires some { 0 < taken }
+    requires inside { taken ≤ left + 1 }
+    ensures { result ≡ (if nat_lt left taken then Place.Tag else Place.Raw (left - taken)) }
+{
+    if taken > left as usize {
+        Place::Tag
+    } else {
+        Place::Raw(left - taken as u16)
     }
 }
 

@@ -1,5 +1,5 @@
 //! An input that unpacks the bytes of another input.
-ghost use Rattle.std.specs.Prelude.{Some, ℕ, List, if◌then◌else◌, nat_lt, ◌&&◌, ◌≡◌, ◌≤◌, ◌<◌, ◌+◌, ◌-◌, ◌∷◌, ◌↔◌, [], IsTrue, IsErr, false, true, IfOk, OnOk, OnErr, length, take, slice_range};
+ghost use Rattle.std.specs.Prelude.{Some, ℕ, List, ◌&&◌, ◌≡◌, ◌≤◌, ◌<◌, ◌+◌, ◌-◌, ◌∷◌, ◌↔◌, [], IsTrue, IsErr, false, true, IfOk, OnOk, OnErr, length, take, slice_range};
 ghost use Rattle.std.specs.Io.KnownBytes.{Consumes, IsAtEnd, ReadConsumes};
 ghost use Rattle.std.specs.Option.{option_map};
 ghost use Rattle.capnp_framing.specs.Devices.{ReadGives};
@@ -9,7 +9,7 @@ ghost use Rattle.capnp_packing.specs.Unpacking.{UnpacksAhead, UnpacksSome};
 
 use super::place::{Place, step};
 use super::read_ahead::ReadAhead;
-use super::unpacking::{UNIT, put_zeros, unpack_words};
+use super::unpacking::{UNIT, put_zeros, raw_behind, unpack_words};
 use crate::buffered::BufferedInput;
 use capnp_framing::devices::{DeviceFault, Input};
 
@@ -186,20 +186,6 @@ impl<R: Input> UnpackingInput<R> {
             self.place = raw_behind(left, n);
         }
         Ok(n)
-    }
-}
-
-/// The place after the next `taken` bytes of words that aren't packed. `left` + 1 bytes of these
-/// words are still to be read: the next one, and `left` after it.
-fn raw_behind(left: u16, taken: usize) -> Place
-    requires some { 0 < taken }
-    requires inside { taken ≤ left + 1 }
-    ensures { result ≡ (if nat_lt left taken then Place.Tag else Place.Raw (left - taken)) }
-{
-    if taken > left as usize {
-        Place::Tag
-    } else {
-        Place::Raw(left - taken as u16)
     }
 }
 
