@@ -1,0 +1,5 @@
+pub mod Searched
+pub mod RootSearched
+pub mod Named
+pub mod Sized
+pub mod Commands
