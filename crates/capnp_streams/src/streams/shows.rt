@@ -1,5 +1,6 @@
 //! Shows each message of a stream.
 ghost use Rattle.std.specs.Prelude.{◌≡◌, false, OnOk};
+ghost use Rattle.capnp_arena_traits.specs.Limits.{IsSmall};
 ghost use Rattle.capnp_show.specs.Show.{PrintsAtMost};
 ghost use Rattle.capnp_streams.specs.Streams.{AreWorking};
 
@@ -16,14 +17,15 @@ use std::alloc::Global;
 
 /// Shows message `number`, which is in `segments`. Returns whether each pointer that was followed
 /// could be read.
-fn show<W: Output>(
+fn show<S: ReaderSegments + Drop, W: Output>(
     alloc: Global,
     task: ShowTask,
     number: u64,
-    segments: &OwnedSegments,
+    segments: S,
     output: &mut W,
 ) -> Result<bool, Fault>
-    requires { W.has_failed output.old ≡ false }
+    requires small { IsSmall (S.segments segments) }
+    requires works { W.has_failed output.old ≡ false }
     ensures bounded { OnOk result (PrintsAtMost W.Output MOST_BYTES output.old output.new) }
     ensures works { OnOk result (W.has_failed output.new ≡ false) }
 {
