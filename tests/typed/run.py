@@ -62,7 +62,8 @@ class Counts:
 
 def generate(path, folder):
     """Runs `capnp compile` with the generator, and returns the name of the crate that it wrote into the folder."""
-    subprocess.run(['capnp', 'compile', f'-o{TOP}/capnpc-rattle:{folder}', path], check=True)
+    source = pathlib.Path(path).parent
+    subprocess.run(['capnp', 'compile', f'--src-prefix={source}', f'-o{TOP}/capnpc-rattle:{folder}', path], check=True)
     return pathlib.Path(path).stem + '_reading'
 
 
