@@ -31,7 +31,7 @@ impl Unpacking {
         ensures zeros { result.zeros ≡ zeros }
         ensures place { next_place result ≡ place }
     {
-        let (number, left, bits) = match place {
+        let (number, left, bits): (u8, u16, u8) = match place {
             Place::Tag => (0, 0, 0),
             Place::Kept { bits, left } => (1, u16::from(left), bits),
             Place::Zeros => (2, 0, 0),
@@ -101,7 +101,8 @@ pub fn unpack_further(
     ensures taken { taken.new ≤ length packed.now }
     ensures within { result ≤ length to.new }
 {
-    let done = unpack_piece(unpacking.zeros, unpacking.next_place(), packed, to);
+    let from = *unpacking;
+    let done = unpack_piece(from.zeros, from.next_place(), packed, to);
     *unpacking = Unpacking::of(done.zeros, done.place);
     *taken = done.taken;
     done.given

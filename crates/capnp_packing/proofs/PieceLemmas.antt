@@ -1,12 +1,12 @@
 -- The packed bytes that a call takes, one after another until its room is full.
-use Rattle.std.proofs.Common.{◌≡◌, inl, inr, ℕ, zero, suc, ◌+◌, ◌-◌, ◌*◌, ◌/◌, ◌%◌, ◌<◌, ◌≤◌, ◌≢◌, List, [], ◌∷◌, ◌++◌, replicate, length, take, drop, set, Bool, true, false, refl, sym, ap, ap₂, ◌∙◌, arith, append_assoc, append-nil, take-add, take_at, take_all, drop-cons, length-append, length-take, length-drop, length-set, Option, Some, None}
+use Rattle.std.proofs.Common.{◌≡◌, inl, inr, ℕ, zero, suc, ◌+◌, ◌-◌, ◌/◌, ◌%◌, ◌<◌, ◌≤◌, ◌≢◌, List, [], ◌∷◌, ◌++◌, replicate, length, take, drop, set, Bool, true, false, refl, sym, ap, ap₂, ◌∙◌, arith, append_assoc, append-nil, take-add, take_at, take_all, drop-cons, length-append, length-drop, length-set, Some, None}
 use Rattle.std.specs.Prelude.{if◌then◌else◌, nat_eq, nat_lt, ◌||◌, ◌&&◌, slice_index}
-use Rattle.std.proofs.lemmas.Bool.{and_cases, and_parts, and_right, cases_Bool, cases_eq, cases_lt, eq-eqb, false≢true, le-ltb, lt-ltb, ne_eqb, or_cases, ltb-true, eqb-true}
+use Rattle.std.proofs.lemmas.Bool.{and_cases, and_parts, cases_Bool, cases_eq, cases_lt, eq-eqb, false≢true, le-ltb, lt-ltb, ne_eqb, or_cases, ltb-true, eqb-true}
 use Rattle.std.proofs.lemmas.Bool.Decides.{eqb_tells, nat_tests}
 use Rattle.std.proofs.lemmas.List.{drop_all, length-replicate, replicate-append-replicate, take-append-drop, take_rest}
 use borrow.Rule.Slice.PartMut.{put_mid}
 use Rattle.capnp_packing.specs.Packing.{GivesAndLeads, all_given, byte_given, lead, place_after, place_at_end, place_within, unpacked_bytes, zeros_given}
-use Rattle.capnp_packing.specs.Pieces.{Piece, UnpacksNext, is_before_count, piece_of, taken_of, takes_next, unpacked_piece}
+use Rattle.capnp_packing.specs.Pieces.{Piece, UnpacksNext, piece_of, taken_of, takes_next, unpacked_piece}
 use Rattle.capnp_packing.specs.Words.{UnpacksFront}
 use Rattle.capnp_packing.proofs.SliceLemmas.{given_as}
 use Rattle.capnp_packing.proofs.UnitLemmas.{cons_at, length_front, written}

@@ -1,4 +1,4 @@
-use Rattle.std.proofs.Common.{◌≡◌, ◌-◌, ◌∙◌, length, sym, arith, drop, set, length-drop, length-take, List, ℕ}
+use Rattle.std.proofs.Common.{◌-◌, ◌∙◌, length, sym, arith, drop, set, length-drop, length-take, List, ℕ}
 use Rattle.capnp_packing.proofs.PieceLemmas.{none_next, some_next}
 use Rattle.capnp_packing.proofs.packing.pieces.unpack_byte.Goals as goal
 

@@ -1,4 +1,4 @@
-use Rattle.std.proofs.Common.{◌≡◌, ◌-◌, ◌+◌, ◌∙◌, ◌&&◌, length, drop, sym, ap, arith, true, nat_lt, length-drop, length-take}
+use Rattle.std.proofs.Common.{◌≡◌, ◌-◌, ◌+◌, ◌∙◌, length, drop, sym, ap, arith, true, nat_lt, length-drop, length-take}
 use Rattle.std.proofs.lemmas.Bool.{and_parts}
 use Rattle.capnp_packing.specs.Pieces.{takes_next, unpacked_piece}
 use Rattle.capnp_packing.proofs.PieceLemmas.{none_due, reached_end, reached_first, reached_more}

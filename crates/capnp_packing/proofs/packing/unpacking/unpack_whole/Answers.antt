@@ -1,6 +1,6 @@
 use Rattle.std.proofs.Common.{◌≡◌, ◌+◌, ◌-◌, ◌*◌, refl, ap, rules, ◌∙◌, arith, take, drop}
 use Rattle.std.specs.Prelude.{slice_index}
-use Rattle.capnp_packing.specs.declared.packing.place.Place.TheVariants.{Tag, Raw}
+use Rattle.capnp_packing.specs.declared.packing.place.Place.TheVariants.{Tag}
 use Rattle.capnp_packing.proofs.PieceLemmas.{led_taken}
 use Rattle.capnp_packing.proofs.UnitLemmas.{whole_alone, whole_before, whole_run}
 use Rattle.capnp_packing.proofs.packing.unpacking.unpack_whole.Goals as goal
