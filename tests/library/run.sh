@@ -281,6 +281,11 @@ else
         part 'types of C++ Cap'\''n Proto' cxx_types c++17
         part MessageReader cxx_reader
         sed -n 's/^ok: \(ratio .*\)/    \1/p' log
+        if ! has openssl xxd "$prefix/bin/capnp_canon" || ! echo '#include <openssl/hmac.h>' | "$cxx" -E -x c++ - >log 2>&1; then
+            skip 'signed in C++' "openssl, openssl/hmac.h, xxd or $prefix/bin/capnp_canon"
+        else
+            part 'signed in C++, verified in Python and at the shell' sh "$here/signed.sh" "$prefix"
+        fi
     fi
     [ ! "$has_cc" ] || part 'example in C' example_c
     [ ! "$has_cxx" ] || part 'example in C++' example_cpp
