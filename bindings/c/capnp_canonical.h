@@ -182,6 +182,26 @@ struct capnp_canonical_unpacking {
     uint8_t bits;
 };
 
+/* How capnp_canonical_locate reads a message. */
+enum capnp_canonical_reading {
+    /* As the calls that validate and those that test read it. */
+    CAPNP_CANONICAL_READING_VALUE = 0,
+    /* As the calls that copy and those that hash read it, which refuse a capability. */
+    CAPNP_CANONICAL_READING_CANONICAL = 1,
+    /* As the calls that measure read it. */
+    CAPNP_CANONICAL_READING_SIZE = 2
+};
+
+/* The pointer at which reading a message stops. */
+struct capnp_canonical_pointer {
+    /* Why: a number of enum capnp_canonical_answer; CAPNP_CANONICAL_DONE if the whole value is read. */
+    uint32_t refusal;
+    /* The position in the segment, in words. */
+    uint32_t word;
+    /* The number of the segment. */
+    uint64_t segment;
+};
+
 /* A segment of a message. */
 struct capnp_canonical_segment {
     /* Its first byte, at any address; may be null if `size` is 0. */
@@ -227,6 +247,20 @@ uint32_t capnp_canonical_size(const uint8_t *frame, size_t frame_size, int32_t n
  * frame is at the front of `frame_size` bytes. Takes no memory, and doesn't read the data of structs and lists. */
 uint32_t capnp_canonical_validate(const uint8_t *frame, size_t frame_size, int32_t nesting, uint64_t words, struct capnp_canonical_extent *extent);
 
+/* Finds the pointer at which the message is broken, after another call has refused it: the first pointer, in the order of
+ * reading, whose object can't be read. Writes its place and its refusal to `*pointer`. If the root pointer itself is
+ * refused, because there is none or `words` is 0, that is word 0 of segment 0. If the whole value is read, the numbers of
+ * `*pointer` are 0. `reading` is one of enum capnp_canonical_reading, by the call that refused the message; any other
+ * number counts as CAPNP_CANONICAL_READING_VALUE. The frame is at the front of `frame_size` bytes. Takes no memory. The
+ * other calls don't remember places: this one reads the message once more, which takes about as long as they did.
+ *
+ * `refusal` is the number that the other call returned, except that a call that tests returns
+ * CAPNP_CANONICAL_NESTING_LIMIT_EXCEEDED at a list. These refusals are of no pointer: those of bytes that aren't a frame,
+ * or of segments that aren't whole words, which this call returns too, with the numbers of `*pointer` 0;
+ * CAPNP_CANONICAL_NO_ROOM, _ALLOCATION_FAILED and _MESSAGE_TOO_LARGE. It looks at the whole message, so don't call it for
+ * the calls that take a path. */
+uint32_t capnp_canonical_locate(const uint8_t *frame, size_t frame_size, int32_t nesting, uint64_t words, uint32_t reading, struct capnp_canonical_pointer *pointer);
+
 /* copy_flat, digest and size for a part of the message: for the value of the pointer at the end of a path. If
  * `struct Signed { payload @0 :Payload; signature @1 :Data; }` is the root, the path {0} leads to the payload, whose words
  * can be signed. `path` is `steps` indexes; it may be null if `steps` is 0, which leads to the root pointer. An index
@@ -260,7 +294,7 @@ uint32_t capnp_canonical_frame_size(const uint8_t *frame, size_t size, uint64_t 
  * for what has arrived, not for what is announced. */
 uint32_t capnp_canonical_frame_size_from_prefix(const uint8_t *prefix, size_t size, uint64_t words, size_t *bytes);
 
-/* copy, copy_flat, digest, check, size and validate, for a message of `count` segments. There may be more segments than a frame can
+/* copy, copy_flat, digest, check, size, validate and locate, for a message of `count` segments. There may be more segments than a frame can
  * have. If there are none there is no root, and the call is refused with CAPNP_CANONICAL_INVALID_SEGMENT_ID. */
 uint32_t capnp_canonical_segments_copy(const struct capnp_canonical_segment *segments, size_t count, int32_t nesting, uint64_t words, uint8_t *to, size_t room, size_t *written);
 
@@ -273,6 +307,8 @@ uint32_t capnp_canonical_segments_check(const struct capnp_canonical_segment *se
 uint32_t capnp_canonical_segments_size(const struct capnp_canonical_segment *segments, size_t count, int32_t nesting, uint64_t words, uint64_t *word_count, uint32_t *cap_count);
 
 uint32_t capnp_canonical_segments_validate(const struct capnp_canonical_segment *segments, size_t count, int32_t nesting, uint64_t words, struct capnp_canonical_extent *extent);
+
+uint32_t capnp_canonical_segments_locate(const struct capnp_canonical_segment *segments, size_t count, int32_t nesting, uint64_t words, uint32_t reading, struct capnp_canonical_pointer *pointer);
 
 /* The same, for a message given as the raw words that copy_flat writes: all `size` bytes at `message` are its one
  * segment. The copy is raw words too. If you pass a frame here, its bytes are read as raw words and mean another
@@ -287,6 +323,8 @@ uint32_t capnp_canonical_words_check(const uint8_t *message, size_t size, int32_
 uint32_t capnp_canonical_words_size(const uint8_t *message, size_t size, int32_t nesting, uint64_t words, uint64_t *word_count, uint32_t *cap_count);
 
 uint32_t capnp_canonical_words_validate(const uint8_t *message, size_t size, int32_t nesting, uint64_t words, struct capnp_canonical_extent *extent);
+
+uint32_t capnp_canonical_words_locate(const uint8_t *message, size_t size, int32_t nesting, uint64_t words, uint32_t reading, struct capnp_canonical_pointer *pointer);
 
 /* Unpacks all `packed_size` packed bytes to the front of the `room` bytes at `to`, and writes to `*written` how many
  * bytes they stand for, which are whole words. This turns what capnp::writePackedMessage, `capnp encode --packed` and

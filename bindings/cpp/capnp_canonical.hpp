@@ -76,16 +76,29 @@ struct Place {
     std::uint64_t byte = 0;
 };
 
+// The place of a pointer in a message.
+struct Pointer {
+    // The number of the segment.
+    std::uint64_t segment;
+    // The position in the segment, in words.
+    std::uint32_t word;
+
+    // Such as `segment 0, word 17`.
+    std::string text() const { return "segment " + std::to_string(segment) + ", word " + std::to_string(word); }
+};
+
 // Why a call is refused. 57, 58 and 60 all mean that the message is nested too deeply: treat them alike.
 class Error : public std::runtime_error {
 public:
     // `number` is one of enum capnp_canonical_answer; `wanted` is how many bytes are needed, if the room is too small;
-    // `looks_like` is what the bytes look like, if that is known.
-    explicit Error(std::uint32_t number, Place place = {}, std::size_t wanted = 0, const char* looks_like = nullptr)
-        : std::runtime_error(sentence(number, place, wanted, looks_like)),
+    // `looks_like` is what the bytes look like, if that is known; `pointer` is the pointer that is refused, if it is one.
+    explicit Error(std::uint32_t number, Place place = {}, std::size_t wanted = 0, const char* looks_like = nullptr,
+                   std::optional<Pointer> pointer = std::nullopt)
+        : std::runtime_error(sentence(number, place, wanted, looks_like, pointer)),
           number_(number),
           place_(place),
-          wanted_(wanted) {}
+          wanted_(wanted),
+          pointer_(pointer) {}
 
     std::uint32_t number() const noexcept { return number_; }
     // The name, such as `Truncated`; empty if the number has none.
@@ -94,16 +107,23 @@ public:
     Place place() const noexcept { return place_; }
     // How many bytes are needed, if the room is too small.
     std::size_t wanted() const noexcept { return wanted_; }
+    // The pointer at which the message is broken. None if the bytes aren't a frame or whole words, or if there is no room or
+    // no memory, or the message is too large; and none from the calls for a part.
+    std::optional<Pointer> pointer() const noexcept { return pointer_; }
     // `what` is a sentence, such as
-    // `message 2 at byte 40: Truncated: the bytes end inside a frame or a packed word; they look like text`.
+    // `message 2 at byte 40: Truncated: the bytes end inside a frame or a packed word; they look like text`, or
+    // `MessageContainsOutOfBoundsPointer at segment 0, word 17: a pointer points outside its segment`.
 
 private:
-    static std::string sentence(std::uint32_t number, Place place, std::size_t wanted, const char* looks_like) {
+    static std::string sentence(std::uint32_t number, Place place, std::size_t wanted, const char* looks_like,
+                                std::optional<Pointer> pointer) {
         std::string text;
         if (place.message) {
             text = "message " + std::to_string(place.message) + " at byte " + std::to_string(place.byte) + ": ";
         }
-        text += std::string(capnp_canonical_error_name(number)) + ": " + capnp_canonical_error_text(number);
+        text += capnp_canonical_error_name(number);
+        if (pointer) text += " at " + pointer->text();
+        text += std::string(": ") + capnp_canonical_error_text(number);
         if (wanted) text += ", and " + std::to_string(wanted) + " bytes are wanted";
         if (looks_like) text += std::string("; they look like ") + looks_like;
         return text;
@@ -112,6 +132,7 @@ private:
     std::uint32_t number_;
     Place place_;
     std::size_t wanted_;
+    std::optional<Pointer> pointer_;
 };
 
 namespace detail {
@@ -331,6 +352,18 @@ inline bool overlap(const void* one, std::size_t size, const void* other, std::s
 
 enum class Form { framed, flat };
 
+// Whether a message may be refused with this number because of a pointer.
+inline bool is_of_pointer(std::uint32_t answer) noexcept {
+    return answer != CAPNP_CANONICAL_NO_ROOM && answer != CAPNP_CANONICAL_ALLOCATION_FAILED &&
+           answer != CAPNP_CANONICAL_MESSAGE_TOO_LARGE;
+}
+
+// What a call for the pointer of a refusal has found.
+inline std::optional<Pointer> found(std::uint32_t answer, const capnp_canonical_pointer& pointer) noexcept {
+    if (answer != CAPNP_CANONICAL_DONE || pointer.refusal == CAPNP_CANONICAL_DONE) return std::nullopt;
+    return Pointer{pointer.segment, pointer.word};
+}
+
 // The frame at the front of some bytes, in the form that the C calls take.
 class FrameSource {
 public:
@@ -359,6 +392,10 @@ public:
     std::uint32_t validate(capnp_canonical_extent* extent) const noexcept {
         return capnp_canonical_validate(frame_.data(), frame_.size(), limits_.nesting, limits_.words, extent);
     }
+    std::optional<Pointer> refused(std::uint32_t reading) const noexcept {
+        capnp_canonical_pointer it = {};
+        return found(capnp_canonical_locate(frame_.data(), frame_.size(), limits_.nesting, limits_.words, reading, &it), it);
+    }
 
 private:
     Bytes frame_;
@@ -386,6 +423,8 @@ public:
         return capnp_canonical_size_at(frame_.data(), frame_.size(), path_.data(), path_.size(), limits_.nesting,
                                        limits_.words, words, capabilities);
     }
+    // Not known: a refusal may be of the path.
+    std::optional<Pointer> refused(std::uint32_t) const noexcept { return std::nullopt; }
 
 private:
     Bytes frame_;
@@ -424,6 +463,10 @@ public:
     std::uint32_t validate(capnp_canonical_extent* extent) const noexcept {
         return capnp_canonical_segments_validate(segments_, count_, limits_.nesting, limits_.words, extent);
     }
+    std::optional<Pointer> refused(std::uint32_t reading) const noexcept {
+        capnp_canonical_pointer it = {};
+        return found(capnp_canonical_segments_locate(segments_, count_, limits_.nesting, limits_.words, reading, &it), it);
+    }
 
 private:
     const capnp_canonical_segment* segments_;
@@ -431,6 +474,14 @@ private:
     std::size_t bytes_;
     Limits limits_;
 };
+
+// The error of a message that was read in this way, with the pointer that is refused.
+template <typename Source>
+Error error_of(const Source& source, std::uint32_t answer, std::uint32_t reading) {
+    std::optional<Pointer> pointer;
+    if (is_of_pointer(answer)) pointer = source.refused(reading);
+    return Error(answer, source.place(), 0, nullptr, pointer);
+}
 
 // Copies into room that is first as large as the message, and then as large as the copy needs if that is too small;
 // `grow` makes it at least that large. Returns the number of bytes written.
@@ -444,7 +495,7 @@ std::size_t copied(const Source& source, Form form, std::size_t room, Grow grow)
         to = grow(room);
         answer = source.copy(form, to, room, &written);
     }
-    if (answer != CAPNP_CANONICAL_DONE) throw Error(answer, source.place());
+    if (answer != CAPNP_CANONICAL_DONE) throw error_of(source, answer, CAPNP_CANONICAL_READING_CANONICAL);
     return written;
 }
 
@@ -519,7 +570,7 @@ template <typename Source>
 Digest digest_of(const Source& source) {
     Digest to;
     std::uint32_t answer = source.digest(to.data());
-    if (answer != CAPNP_CANONICAL_DONE) throw Error(answer, source.place());
+    if (answer != CAPNP_CANONICAL_DONE) throw error_of(source, answer, CAPNP_CANONICAL_READING_CANONICAL);
     return to;
 }
 
@@ -528,7 +579,7 @@ Checked checked(const Source& source) {
     bool is_canonical = false;
     capnp_canonical_fault fault = {};
     std::uint32_t answer = source.check(&is_canonical, &fault);
-    if (answer != CAPNP_CANONICAL_DONE) throw Error(answer, source.place());
+    if (answer != CAPNP_CANONICAL_DONE) throw error_of(source, answer, CAPNP_CANONICAL_READING_VALUE);
     if (is_canonical) return Checked(std::nullopt);
     return Checked(Fault{fault.reason, fault.segment, fault.word});
 }
@@ -537,7 +588,7 @@ template <typename Source>
 Extent extent_of(const Source& source) {
     capnp_canonical_extent extent = {};
     std::uint32_t answer = source.validate(&extent);
-    if (answer != CAPNP_CANONICAL_DONE) throw Error(answer, source.place());
+    if (answer != CAPNP_CANONICAL_DONE) throw error_of(source, answer, CAPNP_CANONICAL_READING_VALUE);
     return Extent{extent.words, extent.capabilities, extent.cost, extent.depth};
 }
 
@@ -545,7 +596,7 @@ template <typename Source>
 Size size_of(const Source& source) {
     Size size = {};
     std::uint32_t answer = source.size(&size.words, &size.capabilities);
-    if (answer != CAPNP_CANONICAL_DONE) throw Error(answer, source.place());
+    if (answer != CAPNP_CANONICAL_DONE) throw error_of(source, answer, CAPNP_CANONICAL_READING_SIZE);
     return size;
 }
 

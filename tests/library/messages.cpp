@@ -1,7 +1,8 @@
 // Tests of capnp_canonical.hpp, without Cap'n Proto's own headers.
 //
-//     messages FILE PACKED PARTS STREAMS    the messages of messages.txt, what packed.txt has, and the rows of parts.txt and of
-//                                           streams.txt; a line `ok: NAME` or `FAILED: NAME: WHAT` for each test
+//     messages FILE PACKED PARTS STREAMS PLACES    the messages of messages.txt, what packed.txt has, and the rows of parts.txt, of
+//                                                  streams.txt and of places.txt; a line `ok: NAME` or `FAILED: NAME: WHAT` for
+//                                                  each test
 #include "capnp_canonical.hpp"
 
 #include <algorithm>
@@ -449,6 +450,45 @@ void test_parts(const std::string& file) {
     require(count > 60, "too few parts");
 }
 
+// The rows of places.txt: for each, a call that reads the message in that way, and the pointer of its refusal.
+void test_places(const std::string& file) {
+    std::ifstream rows(file);
+    std::size_t count = 0;
+    for (std::string line; std::getline(rows, line);) {
+        if (line.empty() || line[0] == '#') continue;
+        std::istringstream words(line);
+        std::string name, digits, wanted;
+        int reading = 0;
+        capnp_canonical::Limits limits;
+        capnp_canonical::Pointer pointer{};
+        words >> name >> digits >> reading >> limits.nesting >> limits.words >> wanted >> pointer.segment >> pointer.word;
+        const Vector frame = bytes_of(digits);
+        const Segments segments = segments_in(frame);
+        auto call = [&](const auto& message) {
+            if (reading == 0) capnp_canonical::validate(message, limits);
+            if (reading == 1) capnp_canonical::copy_flat(message, limits);
+            if (reading == 2) capnp_canonical::size(message, limits);
+        };
+        auto found = [&](const auto& message) -> std::string {
+            try {
+                call(message);
+                return "Done";
+            } catch (const Error& error) {
+                if (!error.pointer()) return error.name();
+                const std::string sentence = std::string(error.name()) + " at " + error.pointer()->text();
+                require(std::string(error.what()).rfind(sentence + ": ", 0) == 0, name + ", what");
+                return sentence;
+            }
+        };
+        if (wanted != "Done") wanted += " at " + pointer.text();
+        require_same(name, found(segments), wanted);
+        // the limit on words holds for the frame too
+        if (limits.words >= segments.bytes() / 8) require_same(name + ", frame", found(Bytes(frame)), wanted);
+        count++;
+    }
+    require(count > 500, "too few places");
+}
+
 // Bytes behind the frame at the front cost nothing: 2,000 copies of a message in front of 64 MiB.
 void test_bytes_behind() {
     Vector stream(std::size_t(64) << 20);
@@ -483,7 +523,7 @@ void test_frames() {
     stream.insert(stream.end(), ZERO_WORD.begin(), ZERO_WORD.end());
     require_same("a message that is refused", what([&] {
                      for (Bytes frame : capnp_canonical::Frames(stream)) capnp_canonical::copy(frame, {64, 6});
-                 }), "message 1 at byte 0: ReadLimitExceeded: the traversal limit is exceeded");
+                 }), "message 1 at byte 0: ReadLimitExceeded at segment 0, word 2: the traversal limit is exceeded");
 }
 
 // The rows of packed.txt.
@@ -566,6 +606,7 @@ int main(int count, char** words) {
     test("frames of a reader", test_frame_reader);
     test("frames of a packed reader", [&] { test_packed_frame_reader(words[4]); });
     test("parts of messages", [&] { test_parts(words[3]); });
+    test("places of broken pointers", [&] { test_places(words[5]); });
     test("errors", test_errors);
     test("version", [] { require(capnp_canonical::version() == CAPNP_CANONICAL_VERSION, "another than the header's"); });
     return failed ? 1 : 0;

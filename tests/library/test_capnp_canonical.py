@@ -18,6 +18,7 @@ import capnp_canonical
 from capnp_canonical import Error, Fault, Limits, Reason, Refusal, Size
 
 MESSAGES = pathlib.Path(__file__).with_name('messages.txt')
+PLACES = pathlib.Path(__file__).with_name('places.txt')
 PACKED = pathlib.Path(__file__).with_name('packed.txt')
 PARTS = pathlib.Path(__file__).with_name('parts.txt')
 STREAMS = pathlib.Path(__file__).with_name('streams.txt')
@@ -217,6 +218,41 @@ class Calls(unittest.TestCase):
             with self.assertRaises(Error) as refused:
                 capnp_canonical.segments_copy(segments)
             self.assertEqual(refused.exception.name, name)
+
+    def test_pointers_of_refusals(self):
+        """The rows of places.txt: for each, a call that reads the message in that way."""
+        calls = capnp_canonical.validate, capnp_canonical.copy_flat, capnp_canonical.size
+        by_segments = capnp_canonical.segments_validate, capnp_canonical.segments_copy_flat, capnp_canonical.segments_size
+        for line in PLACES.read_text().splitlines():
+            if line.startswith('#'):
+                continue
+            name, digits, reading, nesting, words, answer, segment, word = line.split()
+            frame, limits = bytes.fromhex(digits), Limits(int(nesting), int(words))
+            wanted = None if answer == 'Done' else (answer, (int(segment), int(word)))
+            segments = list(segments_in(frame))
+            for call, message in (calls[int(reading)], frame), (by_segments[int(reading)], segments):
+                if message is frame and int(words) < sum(map(len, segments)) // 8:
+                    continue
+                found = None
+                try:
+                    call(message, limits)
+                except Error as error:
+                    found = error.name, error.pointer
+                    self.assertIn(f'{error.name} at segment {segment}, word {word}: ', str(error))
+                with self.subTest(name, reading=reading):
+                    self.assertEqual(found, wanted)
+
+    def test_refusals_of_no_pointer(self):
+        for call in capnp_canonical.copy, capnp_canonical.validate, capnp_canonical.size, capnp_canonical.check:
+            with self.assertRaises(Error) as refused:
+                call(ZERO_WORD[:20])
+            self.assertIsNone(refused.exception.pointer)
+        with self.assertRaises(Error) as refused:
+            capnp_canonical.copy_flat_at(ZERO_WORD, (7,))
+        self.assertIsNone(refused.exception.pointer)
+        error = pickle.loads(pickle.dumps(Error(55, pointer=(2, 17))))
+        self.assertEqual((error.pointer, error.at(3, 40).pointer), ((2, 17), (2, 17)))
+        self.assertEqual(str(error), 'MessageContainsOutOfBoundsPointer at segment 2, word 17: a pointer points outside its segment')
 
     def test_copies_that_are_longer_than_their_message(self):
         self.assertEqual(capnp_canonical.copy_flat(SHARED), SHARED_FLAT)

@@ -115,29 +115,35 @@ class Error(ValueError):
     """If the bytes aren't a frame, a guess at what they look like, such as `gzip`; None if there is no guess."""
     wanted: int
     """How many bytes are needed, if the room is too small, or if `frame_size` gets a part of a frame; else 0."""
+    pointer: Optional[Tuple[int, int]]
+    """The pointer at which the message is broken: the number of its segment, and its position there in words. None if the
+    bytes aren't a frame or whole words, or if there is no room or no memory, or the message is too large; and None from the
+    calls for a part."""
 
     def __init__(
-        self, number: int, place: Optional[Tuple[int, int]] = None, looks_like: Optional[str] = None, wanted: int = 0
+        self, number: int, place: Optional[Tuple[int, int]] = None, looks_like: Optional[str] = None, wanted: int = 0,
+        pointer: Optional[Tuple[int, int]] = None
     ) -> None:
         known = {int(it): it for it in Refusal}
         self.number = known.get(number, number)
         self.name = text_of(library.capnp_canonical_name, number)
-        self.place, self.looks_like, self.wanted = place, looks_like, wanted
+        self.place, self.looks_like, self.wanted, self.pointer = place, looks_like, wanted, pointer
         super().__init__(self._sentence())
 
     def _sentence(self) -> str:
         text = f'message {self.place[0]} at byte {self.place[1]}: ' if self.place else ''
-        text += f'{self.name}: {_TEXTS.get(self.number, "a refusal that this package does not know")}'
+        where = f' at segment {self.pointer[0]}, word {self.pointer[1]}' if self.pointer else ''
+        text += f'{self.name}{where}: {_TEXTS.get(self.number, "a refusal that this package does not know")}'
         if self.wanted:
             text += f', and {self.wanted} bytes are wanted'
         return text + (f'; they look like {self.looks_like}' if self.looks_like else '')
 
     def at(self, message: int, byte: int) -> Error:
         """The same error for the message with this number, at this byte of a stream."""
-        return type(self)(self.number, (message, byte), self.looks_like, self.wanted)
+        return type(self)(self.number, (message, byte), self.looks_like, self.wanted, self.pointer)
 
     def __reduce__(self) -> Tuple[type[Error], Tuple[object, ...]]:
-        return type(self), (int(self.number), self.place, self.looks_like, self.wanted)
+        return type(self), (int(self.number), self.place, self.looks_like, self.wanted, self.pointer)
 
 
 @dataclass(frozen=True)

@@ -6,7 +6,7 @@ from array import array
 from typing import TYPE_CHECKING, Any, Callable, Iterable, List, Optional, Sequence, Tuple
 
 from capnp_canonical._answers import Error, Extent, Fault, Limits, Reason, Refusal, Size
-from capnp_canonical._library import Lent, RawExtent, RawFault, RawSegment, library
+from capnp_canonical._library import Lent, RawExtent, RawFault, RawPointer, RawSegment, library
 from capnp_canonical._library import frame_size as raw_frame_size
 from capnp_canonical._looks import looks_like
 
@@ -22,6 +22,11 @@ TABLE = 2056
 # The bytes of a SHA-256.
 _DIGEST = 32
 _OF_FRAMES = Refusal.TOO_MANY_SEGMENTS, Refusal.MESSAGE_TOO_LONG, Refusal.TRUNCATED
+_OF_NO_POINTER = Refusal.NO_ROOM, Refusal.ALLOCATION_FAILED, Refusal.MESSAGE_TOO_LARGE
+# The numbers of `enum capnp_canonical_reading`; None if only a part of the message is read.
+_VALUE, _CANONICAL, _SIZE = 0, 1, 2
+_Reading = Optional[int]
+_Pointer = Optional[Tuple[int, int]]
 _Call = Callable[..., int]
 _REASONS = {int(it): it for it in Reason}
 
@@ -63,11 +68,11 @@ def _segments(segments: Iterable[ReadableBuffer]) -> _Given:
     return _Given(raw, len(kept), sum(it.size for it in kept), kept)
 
 
-def _refused(answer: int, first: Any, size: int, wanted: int = 0) -> Error:
+def _refused(answer: int, first: Any, size: int, wanted: int = 0, pointer: _Pointer = None) -> Error:
     """The error of a frame; if the bytes aren't a frame, with what they look like."""
     taken = ctypes.c_size_t()
     if answer not in _OF_FRAMES or raw_frame_size(first, size, 2**64 - 1, taken) == DONE:
-        return Error(answer, wanted=wanted)
+        return Error(answer, wanted=wanted, pointer=pointer)
     return Error(answer, looks_like=looks_like(ctypes.string_at(first, min(size, 1 << 16)), size, words_is_canonical))
 
 
@@ -80,10 +85,23 @@ def measured(first: Any, size: int, words: int) -> int:
     return taken.value
 
 
-def _error_of(answer: int, given: _Given, wanted: int = 0) -> Error:
+def _pointer(answer: int, given: _Given, limits: Limits, reading: _Reading) -> _Pointer:
+    """The pointer at which a message is refused that was read in this way."""
+    if reading is None or answer in _OF_NO_POINTER:
+        return None
+    is_segments = isinstance(given.first, ctypes.Array)
+    call = library.capnp_canonical_segments_locate if is_segments else library.capnp_canonical_locate
+    found = RawPointer()
+    if call(given.first, given.second, limits.nesting, limits.words, reading, found) != DONE or found.refusal == DONE:
+        return None
+    return found.segment, found.word
+
+
+def _error_of(answer: int, given: _Given, limits: Limits, reading: _Reading, wanted: int = 0) -> Error:
+    pointer = _pointer(answer, given, limits, reading)
     if isinstance(given.first, ctypes.Array):
-        return Error(answer, wanted=wanted)
-    return _refused(answer, given.first, given.size, wanted)
+        return Error(answer, wanted=wanted, pointer=pointer)
+    return _refused(answer, given.first, given.size, wanted, pointer)
 
 
 def _limits(limits: Limits) -> Tuple[int, int]:
@@ -93,7 +111,7 @@ def _limits(limits: Limits) -> Tuple[int, int]:
         raise TypeError(f'limits must be of the class Limits, not {type(limits).__name__}') from None
 
 
-def _written(call: _Call, given: _Given, limits: Limits, room: int) -> bytes:
+def _written(call: _Call, given: _Given, limits: Limits, room: int, reading: _Reading) -> bytes:
     """What a call writes. It gets this much room, and then as much as it needs if that is too small."""
     nesting, words = _limits(limits)
     to, written = ctypes.create_string_buffer(room), ctypes.c_size_t()
@@ -103,21 +121,23 @@ def _written(call: _Call, given: _Given, limits: Limits, room: int) -> bytes:
         to = ctypes.create_string_buffer(room)
         answer = call(given.first, given.second, nesting, words, to, room, written)
     if answer != DONE:
-        raise _error_of(answer, given)
+        raise _error_of(answer, given, limits, reading)
     return ctypes.string_at(to, written.value)
 
 
-def _written_of_frame(call: _Call, frame: ReadableBuffer, limits: Limits) -> bytes:
+def _written_of_frame(
+    call: _Call, frame: ReadableBuffer, limits: Limits, reading: _Reading = _CANONICAL
+) -> bytes:
     with _frame(frame) as given:
         size = given.size
         if size > _SMALL:
             size = measured(given.first, size, _limits(limits)[1])
-        return _written(call, given, limits, size + 8)
+        return _written(call, given, limits, size + 8, reading)
 
 
 def _written_of_segments(call: _Call, segments: Iterable[ReadableBuffer], limits: Limits) -> bytes:
     with _segments(segments) as given:
-        return _written(call, given, limits, given.size + 8)
+        return _written(call, given, limits, given.size + 8, _CANONICAL)
 
 
 def _must_be_apart(to: Lent, given: _Given) -> None:
@@ -136,17 +156,17 @@ def _written_into(call: _Call, to: WriteableBuffer, frame: ReadableBuffer, limit
         _must_be_apart(room, given)
         answer = call(given.first, given.second, nesting, words, room.address, room.size, written)
         if answer != DONE:
-            raise _error_of(answer, given, written.value)
+            raise _error_of(answer, given, limits, _CANONICAL, written.value)
     return written.value
 
 
-def _digest(call: _Call, given: _Given, limits: Limits) -> bytes:
+def _digest(call: _Call, given: _Given, limits: Limits, reading: _Reading = _CANONICAL) -> bytes:
     to = ctypes.create_string_buffer(_DIGEST)
     with given:
         nesting, words = _limits(limits)
         answer = call(given.first, given.second, nesting, words, to)
         if answer != DONE:
-            raise _error_of(answer, given)
+            raise _error_of(answer, given, limits, reading)
     return to.raw
 
 
@@ -156,7 +176,7 @@ def _checked(call: _Call, given: _Given, limits: Limits) -> Optional[Fault]:
         nesting, words = _limits(limits)
         answer = call(given.first, given.second, nesting, words, is_canonical, fault)
         if answer != DONE:
-            raise _error_of(answer, given)
+            raise _error_of(answer, given, limits, _VALUE)
     if is_canonical.value:
         return None
     return Fault(_REASONS.get(fault.reason, fault.reason), fault.segment, fault.word)
@@ -169,13 +189,13 @@ def _is_canonical(call: _Call, given: _Given, limits: Limits) -> bool:
         return call(given.first, given.second, nesting, words, is_canonical, RawFault()) == DONE and is_canonical.value
 
 
-def _sized(call: _Call, given: _Given, limits: Limits) -> Size:
+def _sized(call: _Call, given: _Given, limits: Limits, reading: _Reading = _SIZE) -> Size:
     count, capabilities = ctypes.c_uint64(), ctypes.c_uint32()
     with given:
         nesting, words = _limits(limits)
         answer = call(given.first, given.second, nesting, words, count, capabilities)
         if answer != DONE:
-            raise _error_of(answer, given)
+            raise _error_of(answer, given, limits, reading)
     return Size(count.value, capabilities.value)
 
 
@@ -185,7 +205,7 @@ def _validated(call: _Call, given: _Given, limits: Limits) -> Extent:
         nesting, words = _limits(limits)
         answer = call(given.first, given.second, nesting, words, extent)
         if answer != DONE:
-            raise _error_of(answer, given)
+            raise _error_of(answer, given, limits, _VALUE)
     return Extent(extent.depth, extent.words, extent.capabilities, extent.cost)
 
 
@@ -229,12 +249,12 @@ def copy_flat_at(frame: ReadableBuffer, path: Iterable[int], limits: Limits = LI
     path. The path has the indexes of pointers, from the root pointer on; `(0,)` is the first pointer of the root struct.
     In a list, an index is that of an element. Raises `Error` with `Refusal.NO_SUCH_PLACE` if the path leads to no
     pointer."""
-    return _written_of_frame(_at(library.capnp_canonical_copy_flat_at, path), frame, limits)
+    return _written_of_frame(_at(library.capnp_canonical_copy_flat_at, path), frame, limits, None)
 
 
 def digest_at(frame: ReadableBuffer, path: Iterable[int], limits: Limits = LIMITS) -> bytes:
     """The SHA-256 of the bytes that `copy_flat_at` gives."""
-    return _digest(_at(library.capnp_canonical_digest_at, path), _frame(frame), limits)
+    return _digest(_at(library.capnp_canonical_digest_at, path), _frame(frame), limits, None)
 
 
 def check(frame: ReadableBuffer, limits: Limits = LIMITS) -> Optional[Fault]:
@@ -262,7 +282,7 @@ def validate(frame: ReadableBuffer, limits: Limits = LIMITS) -> Extent:
 
 def size_at(frame: ReadableBuffer, path: Iterable[int], limits: Limits = LIMITS) -> Size:
     """Like `size`, for the part of the message that `copy_flat_at` copies."""
-    return _sized(_at(library.capnp_canonical_size_at, path), _frame(frame), limits)
+    return _sized(_at(library.capnp_canonical_size_at, path), _frame(frame), limits, None)
 
 
 def segments_copy(segments: Iterable[ReadableBuffer], limits: Limits = LIMITS) -> bytes:

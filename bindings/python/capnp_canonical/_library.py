@@ -33,6 +33,10 @@ class RawUnpacking(ctypes.Structure):
     ]
 
 
+class RawPointer(ctypes.Structure):
+    _fields_ = [('refusal', ctypes.c_uint32), ('word', ctypes.c_uint32), ('segment', ctypes.c_uint64)]
+
+
 class RawSegment(ctypes.Structure):
     _fields_ = [('bytes', ctypes.c_void_p), ('size', ctypes.c_size_t)]
 
@@ -104,6 +108,7 @@ def _load() -> ctypes.CDLL:
         ('check', [pointer(ctypes.c_bool), pointer(RawFault)]),
         ('size', [pointer(u64), pointer(u32)]),
         ('validate', [pointer(RawExtent)]),
+        ('locate', [u32, pointer(RawPointer)]),
     )
     messages: Any = ('', at), ('segments_', pointer(RawSegment))
     for message, first in messages:

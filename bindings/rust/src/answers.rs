@@ -1,5 +1,5 @@
 //! What the calls return.
-use crate::ffi::{RawExtent, RawFault};
+use crate::ffi::{RawExtent, RawFault, RawPointer};
 use crate::texts;
 use alloc::vec::Vec;
 use core::fmt;
@@ -189,6 +189,42 @@ impl fmt::Display for Fault {
     }
 }
 
+/// How [`locate`](crate::locate) reads a message.
+#[derive(Clone, Copy, Debug, PartialEq, Eq, Hash)]
+pub enum Reading {
+    /// As `validate` and `check` read it.
+    Value = 0,
+    /// As the calls that copy and `digest` read it, which refuse a capability.
+    Canonical = 1,
+    /// As `size` reads it.
+    Size = 2,
+}
+
+/// The pointer at which a message is broken. `{}` writes it as
+/// `MessageContainsOutOfBoundsPointer at segment 0, word 17: a pointer points outside its segment`.
+#[derive(Clone, Copy, Debug, PartialEq, Eq, Hash)]
+#[non_exhaustive]
+pub struct Broken {
+    /// Why the pointer is refused.
+    pub error: Error,
+    /// The number of its segment.
+    pub segment: u64,
+    /// Its position in the segment, in words.
+    pub word: u32,
+}
+
+impl fmt::Display for Broken {
+    fn fmt(&self, f: &mut fmt::Formatter<'_>) -> fmt::Result {
+        let Broken {
+            error,
+            segment,
+            word,
+        } = self;
+        let (name, text) = (error.name(), error.text());
+        write!(f, "{name} at segment {segment}, word {word}: {text}")
+    }
+}
+
 /// How deep the value of a message is, how much it holds, and what reading it costs.
 #[derive(Clone, Copy, Debug, PartialEq, Eq, Hash)]
 #[non_exhaustive]
@@ -281,6 +317,19 @@ pub(crate) fn extent_of(call: impl FnOnce(&mut RawExtent) -> u32) -> Result<Exte
         capabilities: raw.capabilities,
         cost: raw.cost,
     })
+}
+
+/// The pointer that a call finds; `None` if it finds none.
+pub(crate) fn broken_of(
+    call: impl FnOnce(&mut RawPointer) -> u32,
+) -> Result<Option<Broken>, Error> {
+    let mut raw = RawPointer::default();
+    done(call(&mut raw))?;
+    Ok((raw.refusal != DONE).then_some(Broken {
+        error: Error(raw.refusal),
+        segment: raw.segment,
+        word: raw.word,
+    }))
 }
 
 pub(crate) fn size_of(call: impl FnOnce(&mut u64, &mut u32) -> u32) -> Result<Size, Error> {

@@ -28,6 +28,14 @@ pub(crate) struct RawUnpacking {
 }
 
 #[repr(C)]
+#[derive(Default)]
+pub(crate) struct RawPointer {
+    pub refusal: u32,
+    pub word: u32,
+    pub segment: u64,
+}
+
+#[repr(C)]
 pub(crate) struct RawSegment {
     pub bytes: *const u8,
     pub size: usize,
@@ -45,6 +53,8 @@ extern "C" {
     pub fn capnp_canonical_size(frame: *const u8, frame_size: usize, nesting: i32, words: u64, word_count: *mut u64, cap_count: *mut u32) -> u32;
     pub fn capnp_canonical_validate(frame: *const u8, frame_size: usize, nesting: i32, words: u64, extent: *mut RawExtent) -> u32;
     pub fn capnp_canonical_segments_validate(segments: *const RawSegment, count: usize, nesting: i32, words: u64, extent: *mut RawExtent) -> u32;
+    pub fn capnp_canonical_locate(frame: *const u8, frame_size: usize, nesting: i32, words: u64, reading: u32, pointer: *mut RawPointer) -> u32;
+    pub fn capnp_canonical_segments_locate(segments: *const RawSegment, count: usize, nesting: i32, words: u64, reading: u32, pointer: *mut RawPointer) -> u32;
     pub fn capnp_canonical_frame_size(frame: *const u8, size: usize, words: u64, bytes: *mut usize) -> u32;
     pub fn capnp_canonical_frame_size_from_prefix(prefix: *const u8, size: usize, words: u64, bytes: *mut usize) -> u32;
     pub fn capnp_canonical_segments_copy(segments: *const RawSegment, count: usize, nesting: i32, words: u64, to: *mut u8, room: usize, written: *mut usize) -> u32;

@@ -52,8 +52,8 @@ mod texts;
 pub mod words;
 
 use alloc::vec::Vec;
-use answers::{append, digest_of, done, extent_of, fault_of, size_of};
-pub use answers::{Error, Extent, Fault, Reason, Size};
+use answers::{append, broken_of, digest_of, done, extent_of, fault_of, size_of};
+pub use answers::{Broken, Error, Extent, Fault, Reading, Reason, Size};
 pub use looks::looks_like;
 pub use packed::{unpack, unpack_into};
 #[cfg(feature = "std")]
@@ -290,6 +290,41 @@ pub fn validate(frame: impl AsRef<[u8]>, limits: Limits) -> Result<Extent, Error
                 limits.nesting,
                 limits.words,
                 extent,
+            )
+        }
+    })
+}
+
+/// The pointer at which the message is broken, after another call has refused it: the first pointer, in the order of
+/// reading, whose object can't be read. `reading` says which call: it is read once more in the same way. `None` if the
+/// whole value is read; so too if the call was refused because memory ran out or the message is too large. Takes no memory.
+///
+/// ```
+/// use capnp_canonical::{locate, validate, Limits, Reading};
+///
+/// // The root is a struct of one word, which isn't there.
+/// let frame = [[0, 0, 0, 0, 1, 0, 0, 0], [0, 0, 0, 0, 1, 0, 0, 0]].concat();
+/// assert!(validate(&frame, Limits::default()).is_err());
+/// let broken = locate(&frame, Reading::Value, Limits::default())?.expect("a broken pointer");
+/// assert_eq!((broken.segment, broken.word), (0, 0));
+/// # Ok::<(), capnp_canonical::Error>(())
+/// ```
+pub fn locate(
+    frame: impl AsRef<[u8]>,
+    reading: Reading,
+    limits: Limits,
+) -> Result<Option<Broken>, Error> {
+    let frame = frame.as_ref();
+    broken_of(|pointer| {
+        // SAFETY: the slice is a pointer and its length.
+        unsafe {
+            ffi::capnp_canonical_locate(
+                frame.as_ptr(),
+                frame.len(),
+                limits.nesting,
+                limits.words,
+                reading as u32,
+                pointer,
             )
         }
     })

@@ -1,7 +1,7 @@
 //! The same calls, for a message whose segments you have. The length of each segment is a multiple of 8 bytes.
-use crate::answers::{append, digest_of, extent_of, fault_of, size_of};
+use crate::answers::{append, broken_of, digest_of, extent_of, fault_of, size_of};
 use crate::ffi::{self, RawSegment};
-use crate::{Error, Extent, Fault, Limits, Size};
+use crate::{Broken, Error, Extent, Fault, Limits, Reading, Size};
 use alloc::vec::Vec;
 
 /// Something that holds the segments of a message, like `capnp::message::ReaderSegments`: for example a slice or a
@@ -202,6 +202,28 @@ pub fn validate<S: Segments + ?Sized>(segments: &S, limits: Limits) -> Result<Ex
                 limits.nesting,
                 limits.words,
                 extent,
+            )
+        }
+    })
+}
+
+/// The pointer at which the message is broken, like `locate` of the crate.
+pub fn locate<S: Segments + ?Sized>(
+    segments: &S,
+    reading: Reading,
+    limits: Limits,
+) -> Result<Option<Broken>, Error> {
+    let raw = Raw::of(segments)?;
+    broken_of(|pointer| {
+        // SAFETY: the segments are pointers and lengths.
+        unsafe {
+            ffi::capnp_canonical_segments_locate(
+                raw.segments.as_ptr(),
+                raw.segments.len(),
+                limits.nesting,
+                limits.words,
+                reading as u32,
+                pointer,
             )
         }
     })

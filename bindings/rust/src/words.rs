@@ -2,7 +2,7 @@
 //! them and you have stored them. If you pass a frame here it is read as words, and is another value.
 //!
 //! [`canonical_words`]: crate::canonical_words
-use crate::{segments, Error, Extent, Fault, Limits, Size};
+use crate::{segments, Broken, Error, Extent, Fault, Limits, Reading, Size};
 use alloc::vec::Vec;
 
 /// The canonical words of the value that the words hold.
@@ -44,4 +44,13 @@ pub fn size(words: impl AsRef<[u8]>, limits: Limits) -> Result<Size, Error> {
 /// Refuses the message unless it is sound, like `validate` of the crate.
 pub fn validate(words: impl AsRef<[u8]>, limits: Limits) -> Result<Extent, Error> {
     segments::validate(&[words], limits)
+}
+
+/// The pointer at which the message is broken, like `locate` of the crate.
+pub fn locate(
+    words: impl AsRef<[u8]>,
+    reading: Reading,
+    limits: Limits,
+) -> Result<Option<Broken>, Error> {
+    segments::locate(&[words], reading, limits)
 }

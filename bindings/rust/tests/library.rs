@@ -1,9 +1,9 @@
 //! The messages of tests/library/messages.txt, and what that file can't say.
 use capnp_canonical::{
     canonical_copy, canonical_words, canonical_words_at, canonical_words_into, check, digest,
-    digest_at, frame_size, frames, is_canonical, looks_like, segments, size, size_at, unpack,
-    unpack_into, version, words, Error, Fault, FrameReader, Limits, PackedFrameReader, Reason,
-    Size,
+    digest_at, frame_size, frames, is_canonical, locate, looks_like, segments, size, size_at,
+    unpack, unpack_into, version, words, Error, Fault, FrameReader, Limits, PackedFrameReader,
+    Reading, Reason, Size,
 };
 use std::fs;
 
@@ -627,6 +627,48 @@ fn reasons_have_their_texts() {
     ] {
         assert_eq!(reason.to_string(), text);
     }
+}
+
+/// A struct of one data word and two pointers. The second pointer leads out of the segment.
+#[test]
+fn where_a_message_is_broken() -> Tested {
+    let words = bytes_of("0000000001000200070000000000000000000000000000009001000001000000");
+    let frame = framed(&words);
+    let limits = Limits::default();
+    let reads: [(Reading, fn(&Vec<u8>, Limits) -> Result<(), Error>); 3] = [
+        (Reading::Value, |it, limits| check_value(it, limits)),
+        (Reading::Canonical, |it, limits| {
+            canonical_words(it, limits).map(drop)
+        }),
+        (Reading::Size, |it, limits| size(it, limits).map(drop)),
+    ];
+    for (reading, call) in reads {
+        let broken = locate(&frame, reading, limits)?.ok_or("no pointer")?;
+        assert_eq!((broken.segment, broken.word), (0, 3));
+        assert_eq!(call(&frame, limits), Err(broken.error));
+        assert_eq!(
+            segments::locate(&[&words], reading, limits),
+            Ok(Some(broken))
+        );
+        assert_eq!(words::locate(&words, reading, limits), Ok(Some(broken)));
+        assert_eq!(
+            broken.to_string(),
+            "MessageContainsOutOfBoundsPointer at segment 0, word 3: a pointer points outside its segment"
+        );
+    }
+    assert_eq!(
+        locate(bytes_of(ZERO_WORD), Reading::Value, limits),
+        Ok(None)
+    );
+    assert_eq!(
+        locate(&frame[..20], Reading::Value, limits),
+        Err(Error::TRUNCATED)
+    );
+    Ok(())
+}
+
+fn check_value(frame: &[u8], limits: Limits) -> Result<(), Error> {
+    capnp_canonical::validate(frame, limits).map(drop)
 }
 
 #[test]

@@ -4,3 +4,4 @@ pub mod Calls
 pub mod Parts
 pub mod Validation
 pub mod Pieces
+pub mod Locating

@@ -23,6 +23,7 @@ ghost use Rattle.capnp_packing.specs.Pieces.{unpacked_piece};
 ghost use Rattle.capnp_canonical.specs.Calls.{FillsByNumber, InFrame, InSegments, InWords, IsCopyOf, IsGranted, IsNumberWhere, RefusesBytes, RefusesMeaning, RefusesPacked, RefusesPrefix, RefusesRoom, RefusesSegments, RefusesSegment, TestIs, limits_of, no_fault};
 ghost use Rattle.capnp_canonical.specs.Validation.{ExtentIs, RefusesExtent, no_extent};
 ghost use Rattle.capnp_canonical.specs.Pieces.{next_place, written_piece};
+ghost use Rattle.capnp_canonical.specs.Locating.{PointerIs, no_pointer};
 ghost use Rattle.capnp_canonical.specs.Parts.{HasPart, HasPartSize, IsCopyOfPart, RefusesPartOf, RefusesPartRoom, RefusesPartSize};
 ghost use Rattle.capnp_pointers.specs.Faults.{fault_reason_text};
 ghost use Rattle.capnp_canonical.specs.Numbers.{answer_name, answer_number, reason_number, wanted_room};
@@ -33,6 +34,7 @@ mod digest;
 mod extent;
 mod fault;
 mod frames;
+mod locating;
 mod names;
 mod packed;
 mod parts;
@@ -48,6 +50,7 @@ use fault::{Fault, NO_FAULT};
 use frames::{
     check_frame, copy_frame, digest_frame, frame_size, frame_size_from_prefix, size_frame,
 };
+use locating::{BrokenPointer, NO_POINTER, locate_in_frame, locate_in_segments, locate_in_words};
 use names::{name_of_number, put_text, text_of_reason};
 use packed::{Unpacking, unpack, unpack_further};
 use parts::{copy_frame_part, digest_frame_part, size_frame_part};
@@ -228,6 +231,40 @@ pub extern "C" fn capnp_canonical_validate(
         }
         Err(refusal) => {
             *extent = NOT_SOUND;
+            refusal.number()
+        }
+    }
+}
+
+/// Finds the pointer at which reading the message whose frame is at the front of `frame` stops, and
+/// stores its place and refusal in `pointer`; all 0 if the whole value is read. For use after
+/// another call is refused: the message is read once more. Takes no memory.
+///
+/// `reading` says how the message is read, within the limits of `capnp_canonical_check`: 0 as by the
+/// calls that validate and those that test; 1 as by those that copy and those that hash; 2 as by
+/// those that measure. Any other number counts as 0. Refused only if there is no such frame; then
+/// `pointer` is all 0 too.
+#[unsafe(no_mangle)]
+pub extern "C" fn capnp_canonical_locate(
+    frame: &[u8],
+    nesting: i32,
+    words: u64,
+    reading: u32,
+    pointer: &mut BrokenPointer,
+) -> u32
+    ensures done { result ≡ 0 → InFrame frame.now words
+        (PointerIs reading (limits_of nesting words) pointer.new) }
+    ensures refused { result ≢ 0 → IsNumberWhere result (RefusesBytes frame.now words) }
+    ensures none { result ≢ 0 → pointer.new ≡ no_pointer }
+    ensures granted { InFrame frame.now words (λ _. ⊤) → result ≡ 0 }
+{
+    match locate_in_frame(frame, Limits { nesting, words }, reading) {
+        Ok(found) => {
+            *pointer = found;
+            0
+        }
+        Err(refusal) => {
+            *pointer = NO_POINTER;
             refusal.number()
         }
     }
@@ -585,6 +622,33 @@ pub extern "C" fn capnp_canonical_segments_validate(
     }
 }
 
+/// Like `capnp_canonical_locate`, for the message of these segments.
+#[unsafe(no_mangle)]
+pub extern "C" fn capnp_canonical_segments_locate(
+    segments: &[&[u8]],
+    nesting: i32,
+    words: u64,
+    reading: u32,
+    pointer: &mut BrokenPointer,
+) -> u32
+    ensures done { result ≡ 0 → InSegments segments.now
+        (PointerIs reading (limits_of nesting words) pointer.new) }
+    ensures refused { result ≢ 0 → IsNumberWhere result (RefusesSegments segments.now) }
+    ensures none { result ≢ 0 → pointer.new ≡ no_pointer }
+    ensures granted { InSegments segments.now (λ _. ⊤) → result ≡ 0 }
+{
+    match locate_in_segments(segments, Limits { nesting, words }, reading) {
+        Ok(found) => {
+            *pointer = found;
+            0
+        }
+        Err(refusal) => {
+            *pointer = NO_POINTER;
+            refusal.number()
+        }
+    }
+}
+
 /// Like `capnp_canonical_digest`, for a message that the caller passes as `segments`, without a
 /// frame.
 #[unsafe(no_mangle)]
@@ -736,6 +800,33 @@ pub extern "C" fn capnp_canonical_words_validate(
         }
         Err(refusal) => {
             *extent = NOT_SOUND;
+            refusal.number()
+        }
+    }
+}
+
+/// Like `capnp_canonical_locate`, for the message whose only segment has the words in `bytes`.
+#[unsafe(no_mangle)]
+pub extern "C" fn capnp_canonical_words_locate(
+    bytes: &[u8],
+    nesting: i32,
+    words: u64,
+    reading: u32,
+    pointer: &mut BrokenPointer,
+) -> u32
+    ensures done { result ≡ 0 → InWords bytes.now
+        (PointerIs reading (limits_of nesting words) pointer.new) }
+    ensures refused { result ≢ 0 → IsNumberWhere result (RefusesSegment bytes.now) }
+    ensures none { result ≢ 0 → pointer.new ≡ no_pointer }
+    ensures granted { InWords bytes.now (λ _. ⊤) → result ≡ 0 }
+{
+    match locate_in_words(bytes, Limits { nesting, words }, reading) {
+        Ok(found) => {
+            *pointer = found;
+            0
+        }
+        Err(refusal) => {
+            *pointer = NO_POINTER;
             refusal.number()
         }
     }
