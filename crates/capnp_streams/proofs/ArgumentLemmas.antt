@@ -11,7 +11,8 @@ use Rattle.std.proofs.lemmas.List.{length-map}
 use Rattle.std.proofs.lemmas.Slice.Eq.{bytes_eq-Decides}
 use Rattle.std.proofs.lemmas.Str.Parse.{numerals_by_value, tells_all_ascii_digits}
 use Rattle.capnp_messages.specs.Text.{IsBudget, IsNesting}
-use Rattle.capnp_streams.specs.Arguments.{argument_step, budget_of, end_of, files_after, files_from, located, nesting_of, plain_line}
+use Rattle.std.specs.List.{after_first, before_first, position_or_len}
+use Rattle.capnp_streams.specs.Arguments.{argument_step, budget_of, end_of, files_after, files_from, is_equals, located, nesting_of, plain_line}
 use Rattle.capnp_streams.specs.Arguments.{request_after, request_from, request_of, signed_value, unsigned_text}
 use Rattle.capnp_streams.specs.Paths.{is_numeral}
 use Rattle.capnp_streams.specs.declared.streams.arguments.ArgumentFault.{ArgumentFault}
@@ -185,3 +186,11 @@ pub first_is_wrong : (args : List (String Global)) (w : WrongArgument) → reque
 first_is_wrong args w is within behind =
     let short : w.at < length (map string_bytes args) = omega (arith, length-map args string_bytes) in
     wrong_with plain_line 0 (map string_bytes args) behind w w.at (omega arith) short is
+
+-- a text with a `=` is taken apart there
+pub taken_apart : {A : Type 0} (f : List ℕ → List ℕ → A) (otherwise : A) (text name value : List ℕ) →
+    position_or_len is_equals text < length text → name ≡ before_first is_equals text → value ≡ after_first is_equals text →
+    f name value ≡ (if nat_lt (position_or_len is_equals text) (length text) then f (before_first is_equals text) (after_first is_equals text) else otherwise)
+taken_apart f otherwise text name value some first last =
+    let there : nat_lt (position_or_len is_equals text) (length text) ≡ true = lt-ltb _ _ some in
+    rw (there, first, last) refl
