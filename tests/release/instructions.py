@@ -160,13 +160,19 @@ def remembering(cases):
                   f'{cut}store i{width} {a}, ptr %p, align 1\n%r = load i64, ptr %p, align 1\nret i64 %r',
                   lambda a, b, w=width: a % 2**w | 0x5555555555555555 >> w << w, edges(width)[:12])
         cases.add(f'%at = alloca i64, align 8\nstore i64 %a, ptr %at, align 8\n%v = load i{width}, ptr %at, align 1, !noundef !1\n{widened(width, "%v")}', lambda a, b, w=width: a % 2**w, edges(64)[:12])
-    # numbers that are only moved, truncated and extended, also through a choice
+    # numbers that are moved, truncated, extended and shifted, also through a choice
     for width in (24, 40, 48, 56):
         cases.add(f'%x = alloca i64, align 8\n%y = alloca i64, align 8\nstore i64 %a, ptr %x, align 8\nstore i64 %b, ptr %y, align 8\n%v = load i{width}, ptr %x, align 1\n%w = load i{width}, ptr %y, align 1\n'
                   f'%c = icmp ult i64 %a, %b\n%m = select i1 %c, i{width} %w, i{width} %v\nstore i{width} %m, ptr %y, align 1\n%r = load i64, ptr %y, align 8\nret i64 %r',
                   lambda a, b, w=width: max(a, b) % 2**w | b >> w << w, edges(64)[:40])
         cases.add(f'%x = alloca i64, align 8\nstore i64 %a, ptr %x, align 8\nstore i{width} 0, ptr %x, align 1\n%r = load i64, ptr %x, align 8\nret i64 %r', lambda a, b, w=width: a >> w << w, edges(64)[:12])
         cases.add(f'%v = trunc i64 %a to i{width}\n%r = zext i{width} %v to i64\nret i64 %r', lambda a, b, w=width: a % 2**w, edges(64)[:12])
+        # a table of few bytes in such a number, as LLVM makes it of a choice: a byte of it, by a shift
+        for word, by in ('lshr', 5), ('shl', 7), ('mul', 8):
+            count = BINARY[word]
+            cases.add(f'%v = trunc i64 %a to i{width}\n%w = {word} i{width} %v, {by}\n%r = zext i{width} %w to i64\nret i64 %r', lambda a, b, w=width, count=count, by=by: count(a % 2**w, by, w) % 2**w, edges(64)[:12])
+        cases.add(f'%v = trunc i64 %a to i{width}\n%n = trunc i64 %b to i{width}\n%by = shl i{width} %n, 3\n%w = lshr i{width} %v, %by\n%c = trunc i{width} %w to i8\n%r = zext i8 %c to i64\nret i64 %r',
+                  lambda a, b: a >> 8 * b & 0xff, [(0x0123456789abcdef, b) for b in range(width // 8)])
     # an unused cast, and a value that is read only for it
     cases.add('%at = alloca i64, align 8\nstore i64 %a, ptr %at, align 8\n%v = load i8, ptr %at, align 8\n%u = trunc i8 %v to i1\nret i64 %b', lambda a, b: b, [(5, 8)])
     # a read before a write returns the old value

@@ -165,6 +165,11 @@ class Writer:
         kind, a, b, reads = self.pair(it)
         if kind[0] == 'vector' and word in ('and', 'or', 'xor'):
             return self.define(name, kind, f'({a} {BINARY[word]} {b})', reads)
+        if kind in UNCOUNTED and word in ('shl', 'lshr', 'mul'):
+            # A table of few bytes that is kept in such a number. It is in a `u64`, whose other bits are zero.
+            cut = '' if word == 'lshr' else f' & {hex((1 << bits(kind)) - 1)}ull'
+            by = f'* {b}' if word == 'mul' else f'{SHIFTS[word]} ({b} & 63u)'
+            return self.define(name, kind, f'(({a} {by}){cut})', reads)
         if not bits(kind) or kind in UNCOUNTED or kind == 'i1' and word not in ('and', 'or', 'xor'):
             raise Unknown('arithmetic')
         if kind == 'i1':
