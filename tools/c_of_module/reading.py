@@ -20,7 +20,8 @@ class Unknown(Exception):
     """The module has something that isn't known here; the text says what."""
 
 
-# Numbers of widths that C doesn't have. They are only moved, truncated and extended, so C keeps them in 64 bits.
+# Numbers of widths that C doesn't have, which C keeps in 64 bits. They are moved, truncated, extended, shifted and
+# multiplied; nothing else of them is known.
 UNCOUNTED = 'i24', 'i40', 'i48', 'i56'
 
 
