@@ -22,7 +22,7 @@ struct bytes {
 };
 
 /* Counts a comparison, with a line where it doesn't hold. */
-static void expect(int holds, const char *what) {
+static inline void expect(int holds, const char *what) {
     if (holds) {
         passed++;
     } else {
@@ -32,7 +32,7 @@ static void expect(int holds, const char *what) {
 }
 
 /* A block of its very size; null where that is 0. */
-static struct bytes block(size_t size) {
+static inline struct bytes block(size_t size) {
     struct bytes made = {size ? malloc(size) : NULL, size};
     if (size && !made.at) abort();
     if (size) memset(made.at, FILL, size);
@@ -40,14 +40,14 @@ static struct bytes block(size_t size) {
 }
 
 /* A block with a copy of some bytes. */
-static struct bytes copy_of(const uint8_t *from, size_t size) {
+static inline struct bytes copy_of(const uint8_t *from, size_t size) {
     struct bytes made = block(size);
     if (size) memcpy(made.at, from, size);
     return made;
 }
 
 /* A block of the bytes that hex digits say, two for each; none for `-`. */
-static struct bytes from_hex(const char *digits) {
+static inline struct bytes from_hex(const char *digits) {
     struct bytes made = block(strcmp(digits, "-") ? strlen(digits) / 2 : 0);
     for (size_t i = 0; i < made.size; i++) {
         unsigned byte = 0;
@@ -58,7 +58,7 @@ static struct bytes from_hex(const char *digits) {
 }
 
 /* Whether nothing was written over what a block held before. */
-static int is_filled(struct bytes of) {
+static inline int is_filled(struct bytes of) {
     for (size_t i = 0; i < of.size; i++) {
         if (of.at[i] != FILL) return 0;
     }

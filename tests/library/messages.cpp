@@ -586,7 +586,7 @@ void test_errors() {
 }
 
 int main(int count, char** words) {
-    if (count != 5) return 2;
+    if (count != 6) return 2;
     test_messages(words[1]);
     test("packed bytes", [&] { test_packed(words[2]); });
     test("packed messages", test_unpacked);

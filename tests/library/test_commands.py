@@ -190,7 +190,7 @@ class Commands(unittest.TestCase):
         after = at + len(FRAMES['capability'])
         self.require(run('digest', path, self.folder / 'none', self.folder), 2,
                      [*self.names(path), f'{name_of(WORDS["book"])}  {path}:{count + 2}'],
-                     f'{path}: message {count + 1} at byte {at}: CannotCreateACanonicalMessageWithACapability: '
+                     f'{path}: message {count + 1} at byte {at}: CannotCreateACanonicalMessageWithACapability at segment 0, word 1: '
                      'the value contains a capability, so it has no canonical form',
                      f'{path}: message {count + 3} at byte {after + len(FRAMES["book"])}: {TRUNCATED}',
                      f'{self.folder / "none"}: No such file or directory', f'{self.folder}: Is a directory')
