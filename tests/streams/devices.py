@@ -164,7 +164,8 @@ def table(*lengths):
 
 def bounded(program, counts):
     """Checks how much more memory a run takes than one on a message of one word. It may take at most twice the bytes that came;
-    for `canon` and `digest`, at most four times. What the table of a frame announces must not matter."""
+    for `canon` and `digest`, at most four times; and for `show`, which holds the text of a message with two digits for each byte,
+    at most six times. What the table of a frame announces must not matter."""
     announced = {'64 MiB': table((1 << 23) - 1), '512 segments': table(*[1 << 14] * 511, (1 << 14) - 1)}
     for form in FORMS:
         base = least(program, form, NULL)
@@ -178,6 +179,6 @@ def bounded(program, counts):
         used = (1 | 2 << 32 | 8 * WORDS << 35).to_bytes(8, 'little') + b'\x11' * 8 * WORDS
         for name, body in ('a list of bytes', used), ('words that nothing leads to', bytes(8) + used[8:]):
             data = table(WORDS + 1) + body
-            most = (4 if form[0] in ('canon', 'digest') else 2) * len(data) + ROOM
+            most = {'canon': 4, 'digest': 4, 'show': 6}.get(form[0], 2) * len(data) + ROOM
             want = least(program, form, data)
             counts.told(want <= base + most, name, form, want - base, 'for', len(data))
