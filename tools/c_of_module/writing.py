@@ -407,6 +407,11 @@ class Writer:
         if simple and simple[1] in NUMBERS and which != 'bswap.i8':
             text = ', '.join(given[:NUMBERS[simple[1]]])
             return self.define(name, result, f'{simple[1].replace(".", "_")}{simple[2]}({text})', reads)
+        if which == 'umul.with.overflow.i32':
+            # the product, and whether it needs more bits
+            product = f'(u64){given[0]} * {given[1]}'
+            self.module.needs(result)
+            return self.define(name, result, f'({c_type(result)}){{ (u32)({product}), (u8)({product} >> 32 != 0) }}', reads)
         joined = re.fullmatch(r'vector\.reduce\.or\.v(8|16|32|64)i8', which)
         if joined:
             return self.define(name, result, f'any{joined[1]}({given[0]})', reads)
