@@ -338,6 +338,10 @@ def counting(cases):
         by %= 2**width
         cases.add(f'{cut}%r = call i{width} @llvm.{word}.i{width}(i{width} {a}, i{width} {b}, i{width} {by})\n{widened(width, "%r")}',
                   lambda x, y, count=count, width=width, by=by: count(x % 2**width, y % 2**width, by, width) % 2**width, edges(width)[::7])
+    # a product, and whether it needs more bits
+    cases.add('%x = trunc i64 %a to i32\n%y = trunc i64 %b to i32\n%p = call { i32, i1 } @llvm.umul.with.overflow.i32(i32 %x, i32 %y)\n%m = extractvalue { i32, i1 } %p, 0\n'
+              '%o = extractvalue { i32, i1 } %p, 1\n%s = select i1 %o, i32 7, i32 %m\n%r = zext i32 %s to i64\nret i64 %r',
+              lambda a, b: (a % 2**32) * (b % 2**32) if (a % 2**32) * (b % 2**32) < 2**32 else 7, edges(32) + edges(64)[:40])
 
 
 def long_names(cases):
@@ -590,6 +594,8 @@ def declaration(name, given):
     if name.startswith('llvm.vector'):
         return f'i8 @{name}(<{re.search("[0-9]+", name)[0]} x i8>)'
     kind = name.rpartition('.')[2]
+    if '.with.overflow.' in name:
+        return f'{{ {kind}, i1 }} @{name}({kind}, {kind})'
     return f'{kind} @{name}({", ".join([kind] * len(re.findall(kind + " ", given)))}{", i1 immarg" if "i1 false" in given else ""})'
 
 
