@@ -366,12 +366,21 @@ static NEVER void capnp_messages_messages_digest_digest_of_copy_935c3d0aa105464e
 static void capnp_messages_messages_whole_canonical_from_935c3d0aa105464e(u8 *a_1, u8 *a_2, u8 *a_3);
 static NEVER void capnp_copies_copy_copy_object_254e276be25f6293(u8 *a_1, u8 *a_2, u32 a_3, u32 a_4, u8 *a_5, u8 *a_6, u8 a_7);
 static NEVER void capnp_copies_copy_children_copy_row_254e276be25f6293(u8 *a_1, u8 *a_2, u32 a_3, u32 a_4, u8 *a_5, u32 a_6, u8 *a_7, u8 a_8);
-static NEVER u8 capnp_pointers_pointers_sizes_add_object_1e87a151ef20e12e(u8 *a_1, u32 a_2, u32 a_3, u8 *a_4);
+static void capnp_refusals_refusals_search_search_object_1e87a151ef20e12e(u8 *a_1, u8 a_2, u8 a_3, u8 *a_4, u32 a_5, u32 a_6, u8 *a_7);
 static NEVER void capnp_objects_source_Source_measure_object_1e87a151ef20e12e(u8 *a_1, u8 *a_2, u8 *a_3, u32 a_4, u8 *a_5);
+static void capnp_refusals_refusals_search_search_elements_1e87a151ef20e12e(u8 *a_1, u8 a_2, u8 a_3, u8 *a_4, u32 a_5, u32 a_6, u32 a_7, u8 *a_8);
+static NEVER void capnp_refusals_refusals_search_search_pointers_1e87a151ef20e12e(u8 *a_1, u8 a_2, u8 a_3, u8 *a_4, u32 a_5, u32 a_6, u32 a_7, u8 *a_8);
+static void capnp_refusals_refusals_search_search_object_9fb2c9fcfadbb7fb(u8 *a_1, u8 a_2, u8 a_3, u8 *a_4, u32 a_5, u32 a_6, u8 *a_7);
+static NEVER void capnp_objects_source_Source_measure_object_9fb2c9fcfadbb7fb(u8 *a_1, u8 *a_2, u8 *a_3, u32 a_4, u8 *a_5);
+static void capnp_refusals_refusals_search_search_elements_9fb2c9fcfadbb7fb(u8 *a_1, u8 a_2, u8 a_3, u8 *a_4, u32 a_5, u32 a_6, u32 a_7, u8 *a_8);
+static NEVER void capnp_refusals_refusals_search_search_pointers_9fb2c9fcfadbb7fb(u8 *a_1, u8 a_2, u8 a_3, u8 *a_4, u32 a_5, u32 a_6, u32 a_7, u8 *a_8);
+static NEVER u8 capnp_pointers_pointers_sizes_add_object_1e87a151ef20e12e(u8 *a_1, u32 a_2, u32 a_3, u8 *a_4);
 static NEVER u8 capnp_pointers_pointers_sizes_add_pointers_1e87a151ef20e12e(u8 *a_1, u32 a_2, u32 a_3, u32 a_4, u8 *a_5);
 static NEVER u8 capnp_pointers_pointers_sizes_add_object_9fb2c9fcfadbb7fb(u8 *a_1, u32 a_2, u32 a_3, u8 *a_4);
-static NEVER void capnp_objects_source_Source_measure_object_9fb2c9fcfadbb7fb(u8 *a_1, u8 *a_2, u8 *a_3, u32 a_4, u8 *a_5);
 static NEVER u8 capnp_pointers_pointers_sizes_add_pointers_9fb2c9fcfadbb7fb(u8 *a_1, u32 a_2, u32 a_3, u32 a_4, u8 *a_5);
+static void capnp_packing_packing_unpacking_unpack_words(u8 *a_1, u8 *a_2, u64 a_3, u8 *a_4, u64 a_5);
+static void capnp_packing_packing_place_step(u8 *a_1, u8 *a_2, u8 a_3);
+static void capnp_packing_packing_place_within_word(u8 *a_1, u8 a_2, u8 a_3);
 static NEVER u8 capnp_pointers_pointers_validate_validate_object_1e87a_b9e603fc(u8 *a_1, u32 a_2, u32 a_3, u8 *a_4);
 static void capnp_pointers_pointers_validate_Tally_add(u8 *a_1, u32 a_2, u8 *a_3);
 static NEVER u8 capnp_pointers_pointers_validate_validate_pointers_1e8_75aff5f2(u8 *a_1, u32 a_2, u32 a_3, u32 a_4, u8 *a_5);
@@ -402,8 +411,6 @@ static void capnp_canonical_segments_copy_segments(u8 *a_1, u8 a_2, u8 *a_3, u64
 static NEVER void capnp_copies_copy_copy_object_d68d0e19952c1ff4(u8 *a_1, u8 *a_2, u32 a_3, u32 a_4, u8 *a_5, u8 *a_6, u8 a_7);
 static NEVER void capnp_copies_copy_children_copy_row_d68d0e19952c1ff4(u8 *a_1, u8 *a_2, u32 a_3, u32 a_4, u8 *a_5, u32 a_6, u8 *a_7, u8 a_8);
 static NEVER void capnp_canonical_calls_copy_on_heap_2204359a6e9fa1dc(u8 *a_1, u8 a_2, u8 *a_3, u8 *a_4, u8 *a_5, u64 a_6);
-static void capnp_packing_packing_place_step(u8 *a_1, u8 *a_2, u8 a_3);
-static void capnp_packing_packing_place_within_word(u8 *a_1, u8 a_2, u8 a_3);
 static void capnp_messages_messages_message_fault_canonical_fault__ee00a110(u8 *a_1, u8 *a_2, u8 *a_3);
 static NEVER void capnp_objects_source_follow_far_4d6e045afdcb38e0(u8 *a_1, u8 *a_2, u64 a_3, u8 *a_4);
 static struct s_i8_i32 capnp_pointers_pointers_canonical_test_children_4d6e04_eb5462cf(u8 *a_1, u32 a_2, u32 a_3, u32 a_4, u32 a_5, u8 *a_6);
@@ -418,8 +425,11 @@ static NEVER void capnp_copies_copy_children_copy_row_b6c0503bf8b72334(u8 *a_1, 
 static NEVER void capnp_copies_copy_copy_object_c26ab664f60a1cef(u8 *a_1, u8 *a_2, u32 a_3, u32 a_4, u8 *a_5, u8 *a_6, u8 a_7);
 static NEVER void capnp_copies_copy_children_copy_row_c26ab664f60a1cef(u8 *a_1, u8 *a_2, u32 a_3, u32 a_4, u8 *a_5, u32 a_6, u8 *a_7, u8 a_8);
 static NEVER void capnp_messages_messages_digest_digest_of_copy_7a947658af00c805(u8 *a_1, u8 *a_2, u8 *a_3);
-static NEVER u8 capnp_pointers_pointers_sizes_add_object_4d6e045afdcb38e0(u8 *a_1, u32 a_2, u32 a_3, u8 *a_4);
+static void capnp_refusals_refusals_search_search_object_4d6e045afdcb38e0(u8 *a_1, u8 a_2, u8 a_3, u8 *a_4, u32 a_5, u32 a_6, u8 *a_7);
 static NEVER void capnp_objects_source_Source_measure_object_4d6e045afdcb38e0(u8 *a_1, u8 *a_2, u8 *a_3, u32 a_4, u8 *a_5);
+static void capnp_refusals_refusals_search_search_elements_4d6e045afdcb38e0(u8 *a_1, u8 a_2, u8 a_3, u8 *a_4, u32 a_5, u32 a_6, u32 a_7, u8 *a_8);
+static NEVER void capnp_refusals_refusals_search_search_pointers_4d6e045afdcb38e0(u8 *a_1, u8 a_2, u8 a_3, u8 *a_4, u32 a_5, u32 a_6, u32 a_7, u8 *a_8);
+static NEVER u8 capnp_pointers_pointers_sizes_add_object_4d6e045afdcb38e0(u8 *a_1, u32 a_2, u32 a_3, u8 *a_4);
 static NEVER u8 capnp_pointers_pointers_sizes_add_pointers_4d6e045afdcb38e0(u8 *a_1, u32 a_2, u32 a_3, u32 a_4, u8 *a_5);
 static NEVER u8 capnp_pointers_pointers_validate_validate_object_4d6e0_d703b1f7(u8 *a_1, u32 a_2, u32 a_3, u8 *a_4);
 static NEVER u8 capnp_pointers_pointers_validate_validate_pointers_4d6_627af26d(u8 *a_1, u32 a_2, u32 a_3, u32 a_4, u8 *a_5);
@@ -17802,6 +17812,1668 @@ l_capnp_9c:;
     return;
 }
 
+/* capnp_refusals::refusals::search::search_object::<#1e87a151ef20e12e> */
+static void capnp_refusals_refusals_search_search_object_1e87a151ef20e12e(u8 *a_1, u8 a_2, u8 a_3, u8 *a_4, u32 a_5, u32 a_6, u8 *a_7)
+{
+    A(8) u8 slot_1[56];
+    A(8) u8 slot_2[56];
+    A(8) u8 slot_3[24];
+    A(8) u8 slot_4[32];
+    A(8) u8 slot_5[64];
+    A(8) u8 slot_6[64];
+    A(8) u8 slot_7[64];
+    A(8) u8 slot_8[24];
+    A(8) u8 slot_9[40];
+    u64 r_52;
+    u8 *r_xw;
+    u64 r_38;
+    u8 r_y8;
+    u8 *r_rq;
+    u8 *r_xw_1;
+    u64 r_38_1;
+    u64 r_7l;
+    u64 r_gw;
+    u64 r_qw;
+    u64 t_al;
+    u8 t_pa;
+    u64 r_lc;
+    u64 r_nb;
+    u64 r_yz;
+    u32 r_7d;
+    u32 r_2w;
+    u64 r_7a;
+    u64 r_0m;
+    u64 r_v8;
+    u64 r_t9;
+    u64 r_ep;
+    u64 r_y6;
+    u64 r_lc_1;
+    u8 *r_rq_1;
+    u64 r_52_2;
+    u64 r_ep_1;
+    u8 switch_wl;
+    u64 r_ij;
+    u64 r_c4_1;
+    u64 r_24_1;
+    u64 r_gw_2;
+    u8 *r_rq_2;
+    u64 r_52_3;
+    u64 r_eh;
+    u32 t_c8;
+    u32 r_12_1;
+    u32 r_az_1;
+    u32 r_68;
+    u64 r_c0;
+    u8 *r_rq_3;
+    u64 r_52_4;
+    u32 r_12_2;
+    u8 *r_rq_4;
+    u64 r_52_5;
+    u32 r_12_3;
+    u8 *r_rq_5;
+    u64 r_52_6;
+    u32 r_12_4;
+    u64 r_c6;
+    u8 *r_rq_6;
+    u64 r_52_7;
+    u64 r_r4;
+    u64 r_ut;
+    u64 r_dj;
+    u64 r_xv;
+    u64 r_qr;
+    u32 r_b6;
+    u32 r_r6;
+    u64 r_ka;
+    u8 r_28;
+    u8 r_5g;
+    u32 r_59;
+    u32 r_14;
+    u32 r_yp;
+    u32 r_8p;
+    u32 r_fj;
+    u64 r_k5;
+    u32 r_q1;
+    u8 r_ll_1;
+    u8 r_h2;
+    u32 r_5d;
+    u64 r_vt;
+    u64 r_8t;
+    u32 r_49;
+    u32 r_1t;
+    u32 r_a3_1;
+    u32 r_wr;
+    u64 r_hb;
+    u32 r_mx;
+    memset(slot_5, 0u, 64);
+    memset(slot_6, 0u, 64);
+    memset(slot_7, 0u, 64);
+    memset(slot_8, 0u, 24);
+    memset(slot_9, 0u, 40);
+    r_52 = ld64(away(a_4, 24ull));
+    r_xw = ldp(away(a_4, 32ull));
+    r_38 = ld64(away(a_4, 40ull));
+    r_y8 = ld8(a_4);
+    r_rq = away(a_4, 8ull);
+    r_xw_1 = ldp(r_rq);
+    r_38_1 = ld64(away(a_4, 16ull));
+    memset(slot_2, 0u, 56);
+    if ((u8)(a_2 & 1)) goto l_arm_xm;
+    r_7l = (u64)a_5;
+    r_gw = (u64)(r_38 >> 3ull);
+    if (!(r_gw > r_7l)) { r_xv = 0ull; r_qr = 0ull; r_b6 = 0u; r_r6 = 0u; r_ka = 0ull; r_28 = 0u; r_5g = 0u; r_59 = 0u; r_14 = 0u; r_yp = 0u; goto l_capnp_gh; }
+    r_qw = ld64((r_xw + (i64)((u64)(r_7l << 3ull))));
+    if (r_qw == 0ull) { r_xv = 0ull; r_qr = 0ull; r_b6 = 0u; r_r6 = 0u; r_ka = 0ull; r_28 = 0u; r_5g = 0u; r_59 = 0u; r_14 = 0u; r_yp = 0u; goto l_capnp_gh; }
+    t_al = (u64)(uptr)r_xw;
+    memset(slot_1, 0u, 56);
+    t_pa = (r_y8 != 0u);
+    if (t_pa) goto l_capnp_sm;
+    u8 *r_08_1 = away(a_7, 16ull);
+    st64(r_08_1, uadd_sat64(ld64(r_08_1), 1ull));
+    if ((r_qw & 3ull) == 2ull) goto l_capnp_q3;
+    goto l_join_bd;
+l_capnp_sm:;
+    if (!((r_qw & 3ull) == 2ull)) goto l_join_bd;
+    st32((slot_1 + 8), 32u);
+    r_r4 = ld64((slot_1 + 8));
+    goto l_arm_5s;
+l_join_bd:;
+    u64 r_m6 = ((u64)(r_qw >> 2ull) & 0x3fffffffull);
+    r_lc = ((r_7l + 1ull) + r_m6);
+    r_nb = (r_gw & 0xffffffffull);
+    if (!(r_m6 < 0x20000000ull)) goto l_else_70;
+    if (r_lc > r_nb) { r_r4 = 23ull; goto l_arm_5s; }
+    r_yz = r_lc;
+    goto l_capnp_i5;
+l_else_70:;
+    u64 r_3o = (r_lc + 0xffffffffc0000000ull);
+    if ((r_lc < 0x40000000ull) ? 1u : (r_3o > r_nb)) { r_r4 = 23ull; goto l_arm_5s; }
+    r_yz = r_3o;
+l_capnp_i5:;
+    r_7d = 0u;
+    r_2w = (u32)r_yz;
+    r_7a = r_52;
+    r_0m = r_qw;
+    r_v8 = r_38;
+    r_t9 = t_al;
+    goto l_arm_nn;
+l_capnp_q3:;
+    capnp_objects_source_follow_far_1e87a151ef20e12e(slot_1, r_xw_1, r_qw, a_7);
+    u64 r_38_3 = ld64((slot_1 + 16));
+    u64 r_38_4 = ld64((slot_1 + 8));
+    if (ld8(slot_1) == 0u) { r_7d = ld32((slot_1 + 44)); r_2w = ld32((slot_1 + 40)); r_7a = r_38_3; r_0m = r_38_4; r_v8 = ld64((slot_1 + 32)); r_t9 = ld64((slot_1 + 24)); goto l_arm_nn; }
+    r_ut = r_38_3;
+    r_dj = r_38_4;
+    goto l_arm_qe;
+l_arm_nn:;
+    switch ((u8)((u8)r_0m & 3u)) {
+    case 0u: goto l_arm_62;
+    case 1u: goto l_arm_z2;
+    case 2u: { r_xv = 0ull; r_qr = 0ull; r_b6 = 0u; r_r6 = 0u; r_ka = 0ull; r_28 = 1u; r_5g = 13u; r_59 = 0u; r_14 = 0u; r_yp = 0u; goto l_capnp_gh; }
+    case 3u: goto l_arm_37;
+    default: goto l_default_e1;
+    }
+l_arm_62:;
+    r_ep = (u64)(r_0m >> 32ull);
+    r_y6 = (u64)(r_0m >> 48ull);
+    if ((i32)a_6 < (i32)1u) { r_xv = 0ull; r_qr = 0ull; r_b6 = 0u; r_r6 = 0u; r_ka = 0ull; r_28 = 1u; r_5g = 26u; r_59 = 0u; r_14 = 0u; r_yp = 0u; goto l_capnp_gh; }
+    r_lc_1 = ((r_ep & 65535ull) + r_y6);
+    if (((u64)(r_v8 >> 3ull) & 0xffffffffull) < (r_lc_1 + (u64)r_2w)) { r_xv = 0ull; r_qr = 0ull; r_b6 = 0u; r_r6 = 0u; r_ka = 0ull; r_28 = 1u; r_5g = 23u; r_59 = 0u; r_14 = 0u; r_yp = 0u; goto l_capnp_gh; }
+    if (t_pa) goto l_arm_mf;
+    if (!(ld8(a_7) == 1u)) goto l_arm_mf;
+    r_rq_1 = away(a_7, 8ull);
+    r_52_2 = ld64(r_rq_1);
+    if (r_52_2 < r_lc_1) { r_xv = 0ull; r_qr = 0ull; r_b6 = 0u; r_r6 = 0u; r_ka = 0ull; r_28 = 1u; r_5g = 30u; r_59 = 0u; r_14 = 0u; r_yp = 0u; goto l_capnp_gh; }
+    st64(a_7, 1ull);
+    st64(r_rq_1, (r_52_2 - r_lc_1));
+l_arm_mf:;
+    r_xv = r_t9;
+    r_qr = r_v8;
+    r_b6 = r_2w;
+    r_r6 = r_7d;
+    r_ka = r_7a;
+    r_28 = 0u;
+    r_5g = 2u;
+    r_59 = 0u;
+    r_14 = ((u32)((u32)r_y6 << 16u) | ((u32)r_ep & 65535u));
+    r_yp = 0u;
+    goto l_capnp_gh;
+l_arm_z2:;
+    r_ep_1 = (u64)(r_0m >> 32ull);
+    switch_wl = (u8)((u8)r_ep_1 & 7u);
+    r_ij = (u64)(r_0m >> 35ull);
+    switch (switch_wl) {
+    case 7u: goto l_arm_gg;
+    case 6u: goto l_arm_0w;
+    case 0u: goto l_arm_0w_1;
+    case 1u: goto l_arm_0w_2;
+    case 2u: goto l_arm_0w_2;
+    case 3u: goto l_arm_0w_2;
+    case 4u: goto l_arm_0w_2;
+    case 5u: goto l_arm_0w_2;
+    default: goto l_default_e1;
+    }
+l_arm_gg:;
+    if ((i32)a_6 < (i32)1u) { r_xv = 0ull; r_qr = 0ull; r_b6 = 0u; r_r6 = 0u; r_ka = 0ull; r_28 = 1u; r_5g = 26u; r_59 = 0u; r_14 = 0u; r_yp = 0u; goto l_capnp_gh; }
+    r_c4_1 = (r_ij + 1ull);
+    r_24_1 = (u64)r_2w;
+    r_gw_2 = (u64)(r_v8 >> 3ull);
+    if ((r_gw_2 & 0xffffffffull) < (r_c4_1 + r_24_1)) { r_xv = 0ull; r_qr = 0ull; r_b6 = 0u; r_r6 = 0u; r_ka = 0ull; r_28 = 1u; r_5g = 23u; r_59 = 0u; r_14 = 0u; r_yp = 0u; goto l_capnp_gh; }
+    if (t_pa) goto l_arm_ga;
+    if (!(ld8(a_7) == 1u)) goto l_arm_ga;
+    r_rq_2 = away(a_7, 8ull);
+    r_52_3 = ld64(r_rq_2);
+    if (!(r_52_3 > r_ij)) { r_xv = 0ull; r_qr = 0ull; r_b6 = 0u; r_r6 = 0u; r_ka = 0ull; r_28 = 1u; r_5g = 30u; r_59 = 0u; r_14 = 0u; r_yp = 0u; goto l_capnp_gh; }
+    st64(a_7, 1ull);
+    st64(r_rq_2, (r_52_3 - r_c4_1));
+l_arm_ga:;
+    if (!(r_gw_2 > r_24_1)) { r_eh = 0ull; goto l_join_qm; }
+    u64 r_qw_1 = ld64((((u8 *)(uptr)r_t9) + (i64)((u64)(r_24_1 << 3ull))));
+    if ((r_qw_1 & 3ull) == 0ull) { r_eh = r_qw_1; goto l_join_qm; }
+    r_xv = 0ull;
+    r_qr = 0ull;
+    r_b6 = 0u;
+    r_r6 = 0u;
+    r_ka = 0ull;
+    r_28 = 1u;
+    r_5g = 11u;
+    r_59 = 0u;
+    r_14 = 0u;
+    r_yp = 0u;
+    goto l_capnp_gh;
+l_join_qm:;
+    t_c8 = (u32)((u32)r_eh >> 2u);
+    r_12_1 = (u32)(u64)(r_eh >> 48ull);
+    r_az_1 = ((u32)(u64)(r_eh >> 32ull) & 65535u);
+    r_68 = (r_az_1 + r_12_1);
+    r_c0 = (u64)t_c8;
+    if (r_ij < ((u64)r_68 * r_c0)) { r_xv = 0ull; r_qr = 0ull; r_b6 = 0u; r_r6 = 0u; r_ka = 0ull; r_28 = 1u; r_5g = 10u; r_59 = 0u; r_14 = 0u; r_yp = 0u; goto l_capnp_gh; }
+    if ((u8)((u8)t_pa | (u8)(r_68 != 0u))) goto l_arm_o2;
+    if (!(ld8(a_7) == 1u)) goto l_arm_o2;
+    r_rq_3 = away(a_7, 8ull);
+    r_52_4 = ld64(r_rq_3);
+    if (r_52_4 < r_c0) { r_xv = 0ull; r_qr = 0ull; r_b6 = 0u; r_r6 = 0u; r_ka = 0ull; r_28 = 1u; r_5g = 30u; r_59 = 0u; r_14 = 0u; r_yp = 0u; goto l_capnp_gh; }
+    st64(a_7, 1ull);
+    st64(r_rq_3, (r_52_4 - r_c0));
+l_arm_o2:;
+    r_xv = r_t9;
+    r_qr = r_v8;
+    r_b6 = (r_2w + 1u);
+    r_r6 = 0u;
+    r_ka = r_7a;
+    r_28 = 0u;
+    r_5g = 5u;
+    r_59 = 0u;
+    r_14 = ((u32)(r_12_1 << 16u) | r_az_1);
+    r_yp = t_c8;
+    goto l_capnp_gh;
+l_arm_0w:;
+    r_12_2 = (u32)r_ij;
+    if ((i32)a_6 < (i32)1u) { r_xv = 0ull; r_qr = 0ull; r_b6 = 0u; r_r6 = 0u; r_ka = 0ull; r_28 = 1u; r_5g = 26u; r_59 = 0u; r_14 = 0u; r_yp = 0u; goto l_capnp_gh; }
+    if (((u64)(r_v8 >> 3ull) & 0xffffffffull) < (r_ij + (u64)r_2w)) { r_xv = 0ull; r_qr = 0ull; r_b6 = 0u; r_r6 = 0u; r_ka = 0ull; r_28 = 1u; r_5g = 23u; r_59 = 0u; r_14 = 0u; r_yp = 0u; goto l_capnp_gh; }
+    if (t_pa) { r_xv = r_t9; r_qr = r_v8; r_b6 = r_2w; r_r6 = r_7d; r_ka = r_7a; r_28 = 0u; r_5g = 4u; r_59 = 0u; r_14 = r_12_2; r_yp = 0u; goto l_capnp_gh; }
+    if (!(ld8(a_7) == 1u)) { r_xv = r_t9; r_qr = r_v8; r_b6 = r_2w; r_r6 = r_7d; r_ka = r_7a; r_28 = 0u; r_5g = 4u; r_59 = 0u; r_14 = r_12_2; r_yp = 0u; goto l_capnp_gh; }
+    r_rq_4 = away(a_7, 8ull);
+    r_52_5 = ld64(r_rq_4);
+    if (r_52_5 < r_ij) { r_xv = 0ull; r_qr = 0ull; r_b6 = 0u; r_r6 = 0u; r_ka = 0ull; r_28 = 1u; r_5g = 30u; r_59 = 0u; r_14 = 0u; r_yp = 0u; goto l_capnp_gh; }
+    st64(a_7, 1ull);
+    st64(r_rq_4, (r_52_5 - r_ij));
+    r_xv = r_t9;
+    r_qr = r_v8;
+    r_b6 = r_2w;
+    r_r6 = r_7d;
+    r_ka = r_7a;
+    r_28 = 0u;
+    r_5g = 4u;
+    r_59 = 0u;
+    r_14 = r_12_2;
+    r_yp = 0u;
+    goto l_capnp_gh;
+l_arm_0w_1:;
+    r_12_3 = (u32)r_ij;
+    if ((i32)a_6 < (i32)1u) { r_xv = 0ull; r_qr = 0ull; r_b6 = 0u; r_r6 = 0u; r_ka = 0ull; r_28 = 1u; r_5g = 26u; r_59 = 0u; r_14 = 0u; r_yp = 0u; goto l_capnp_gh; }
+    if (((u64)(r_v8 >> 3ull) & 0xffffffffull) < (u64)r_2w) { r_xv = 0ull; r_qr = 0ull; r_b6 = 0u; r_r6 = 0u; r_ka = 0ull; r_28 = 1u; r_5g = 23u; r_59 = 0u; r_14 = 0u; r_yp = 0u; goto l_capnp_gh; }
+    if (t_pa) { r_xv = r_t9; r_qr = r_v8; r_b6 = r_2w; r_r6 = r_7d; r_ka = r_7a; r_28 = 0u; r_5g = 3u; r_59 = 0u; r_14 = 0u; r_yp = r_12_3; goto l_capnp_gh; }
+    if (!(ld8(a_7) == 1u)) { r_xv = r_t9; r_qr = r_v8; r_b6 = r_2w; r_r6 = r_7d; r_ka = r_7a; r_28 = 0u; r_5g = 3u; r_59 = 0u; r_14 = 0u; r_yp = r_12_3; goto l_capnp_gh; }
+    st64(a_7, 1ull);
+    r_rq_5 = away(a_7, 8ull);
+    r_52_6 = ld64(r_rq_5);
+    if (r_52_6 < r_ij) { r_xv = 0ull; r_qr = 0ull; r_b6 = 0u; r_r6 = 0u; r_ka = 0ull; r_28 = 1u; r_5g = 30u; r_59 = 0u; r_14 = 0u; r_yp = 0u; goto l_capnp_gh; }
+    st64(r_rq_5, (r_52_6 - r_ij));
+    r_xv = r_t9;
+    r_qr = r_v8;
+    r_b6 = r_2w;
+    r_r6 = r_7d;
+    r_ka = r_7a;
+    r_28 = 0u;
+    r_5g = 3u;
+    r_59 = 0u;
+    r_14 = 0u;
+    r_yp = r_12_3;
+    goto l_capnp_gh;
+l_arm_0w_2:;
+    r_12_4 = (u32)r_ij;
+    if ((i32)a_6 < (i32)1u) { r_xv = 0ull; r_qr = 0ull; r_b6 = 0u; r_r6 = 0u; r_ka = 0ull; r_28 = 1u; r_5g = 26u; r_59 = 0u; r_14 = 0u; r_yp = 0u; goto l_capnp_gh; }
+    r_c6 = (u64)(((ld64(away(away(((u8 *)switch_table_capnp_pointers_pointers_validate_validate_8439008b), 8 * (r_ep_1 & 7ull)), 0xfffffffffffffff8ull)) * r_ij) + 63ull) >> 6ull);
+    if (((u64)(r_v8 >> 3ull) & 0xffffffffull) < (r_c6 + (u64)r_2w)) { r_xv = 0ull; r_qr = 0ull; r_b6 = 0u; r_r6 = 0u; r_ka = 0ull; r_28 = 1u; r_5g = 23u; r_59 = 0u; r_14 = 0u; r_yp = 0u; goto l_capnp_gh; }
+    if (t_pa) goto l_arm_zg;
+    if (!(ld8(a_7) == 1u)) goto l_arm_zg;
+    r_rq_6 = away(a_7, 8ull);
+    r_52_7 = ld64(r_rq_6);
+    if (r_52_7 < r_c6) { r_xv = 0ull; r_qr = 0ull; r_b6 = 0u; r_r6 = 0u; r_ka = 0ull; r_28 = 1u; r_5g = 30u; r_59 = 0u; r_14 = 0u; r_yp = 0u; goto l_capnp_gh; }
+    st64(a_7, 1ull);
+    st64(r_rq_6, (r_52_7 - r_c6));
+l_arm_zg:;
+    r_xv = r_t9;
+    r_qr = r_v8;
+    r_b6 = r_2w;
+    r_r6 = r_7d;
+    r_ka = r_7a;
+    r_28 = 0u;
+    r_5g = 3u;
+    r_59 = 0u;
+    r_14 = (u32)switch_wl;
+    r_yp = r_12_4;
+    goto l_capnp_gh;
+l_arm_37:;
+    u8 r_ml = ((r_0m & 0xffffffffull) != 3ull);
+    r_xv = 0ull;
+    r_qr = 0ull;
+    r_b6 = 0u;
+    r_r6 = 0u;
+    r_ka = 0ull;
+    r_28 = (u8)r_ml;
+    r_5g = (r_ml ? 34u : 1u);
+    r_59 = (r_ml ? 0u : (u32)(u64)(r_0m >> 32ull));
+    r_14 = 0u;
+    r_yp = 0u;
+    goto l_capnp_gh;
+l_default_e1:;
+    UNREACHABLE();
+l_arm_5s:;
+    r_ut = 0ull;
+    r_dj = r_r4;
+l_arm_qe:;
+    r_xv = 0ull;
+    r_qr = 0ull;
+    r_b6 = 0u;
+    r_r6 = 0u;
+    r_ka = r_ut;
+    r_28 = 1u;
+    r_5g = (u8)r_dj;
+    r_59 = (u32)(u64)(r_dj >> 32ull);
+    r_14 = 0u;
+    r_yp = 0u;
+l_capnp_gh:;
+    st64((slot_2 + 24), r_xv);
+    st64((slot_2 + 32), r_qr);
+    st32((slot_2 + 40), r_b6);
+    st32((slot_2 + 44), r_r6);
+    r_8p = r_yp;
+    r_fj = r_14;
+    r_k5 = r_ka;
+    r_q1 = r_59;
+    r_ll_1 = r_5g;
+    r_h2 = r_28;
+    goto l_capnp_09;
+l_arm_xm:;
+    st64(slot_3, (u64)r_y8);
+    stp((slot_3 + 8), r_xw_1);
+    st64((slot_3 + 16), r_38_1);
+    st64(slot_4, r_52);
+    stp((slot_4 + 8), r_xw);
+    st64((slot_4 + 16), r_38);
+    st32((slot_4 + 24), a_5);
+    st32((slot_4 + 28), 0u);
+    capnp_objects_source_Source_measure_object_1e87a151ef20e12e(slot_2, slot_3, slot_4, a_6, a_7);
+    r_8p = ld32((slot_2 + 52));
+    r_fj = ld32((slot_2 + 48));
+    r_k5 = ld64((slot_2 + 16));
+    r_q1 = ld32((slot_2 + 12));
+    r_ll_1 = ld8((slot_2 + 8));
+    r_h2 = ld8(slot_2);
+l_capnp_09:;
+    mv24(slot_8, (slot_2 + 24));
+    if (!(r_h2 == 0u)) goto l_arm_1g;
+    r_5d = (u32)(r_fj >> 16u);
+    if ((u8)((u8)(r_ll_1 != 1u) | (u8)(u8)(a_3 & 1))) goto l_join_gz;
+    r_vt = 1ull;
+    r_8t = r_52;
+    r_49 = a_5;
+    r_1t = 0u;
+    r_a3_1 = 1u;
+    r_wr = 0u;
+    r_hb = 0ull;
+l_common_s8:;
+    st64(a_1, r_vt);
+    st64(away(a_1, 8ull), r_8t);
+    st32(away(a_1, 16ull), r_49);
+    st32(away(a_1, 20ull), r_1t);
+    st32(away(a_1, 24ull), r_a3_1);
+    st32(away(a_1, 28ull), r_wr);
+    st64(away(a_1, 32ull), r_hb);
+    return;
+l_arm_1g:;
+    r_vt = 1ull;
+    r_8t = r_52;
+    r_49 = a_5;
+    r_1t = 0u;
+    r_a3_1 = (u32)r_ll_1;
+    r_wr = r_q1;
+    r_hb = r_k5;
+    goto l_common_s8;
+l_join_gz:;
+    r_mx = ((a_6 == 0x80000000u) ? 0x80000000u : (a_6 + 0xffffffffu));
+    switch (r_ll_1) {
+    case 0u: goto l_arm_c3;
+    case 1u: goto l_arm_c3_1;
+    case 3u: goto l_arm_c3_2;
+    case 2u: goto l_arm_eo;
+    case 4u: goto l_arm_eo_1;
+    case 5u: goto l_arm_eo_2;
+    default: goto l_noarm_e1;
+    }
+l_arm_c3:;
+    st64(slot_9, 0ull);
+    goto l_join_c0;
+l_arm_c3_1:;
+    st64(slot_9, 0ull);
+    goto l_join_c0;
+l_arm_c3_2:;
+    st64(slot_9, 0ull);
+    goto l_join_c0;
+l_arm_eo:;
+    st64(slot_5, (u64)ld8(a_4));
+    mv16((slot_5 + 8), r_rq);
+    st64((slot_5 + 24), r_k5);
+    mv24((slot_5 + 32), slot_8);
+    st32((slot_5 + 56), r_mx);
+    capnp_refusals_refusals_search_search_elements_1e87a151ef20e12e(slot_9, a_2, a_3, slot_5, (r_fj & 65535u), r_5d, 1u, a_7);
+    goto l_join_c0;
+l_arm_eo_1:;
+    st64(slot_6, (u64)ld8(a_4));
+    mv16((slot_6 + 8), r_rq);
+    st64((slot_6 + 24), r_k5);
+    mv24((slot_6 + 32), slot_8);
+    st32((slot_6 + 56), r_mx);
+    capnp_refusals_refusals_search_search_elements_1e87a151ef20e12e(slot_9, a_2, a_3, slot_6, 0u, r_fj, 1u, a_7);
+    goto l_join_c0;
+l_arm_eo_2:;
+    st64(slot_7, (u64)ld8(a_4));
+    mv16((slot_7 + 8), r_rq);
+    st64((slot_7 + 24), r_k5);
+    mv24((slot_7 + 32), slot_8);
+    st32((slot_7 + 56), r_mx);
+    capnp_refusals_refusals_search_search_elements_1e87a151ef20e12e(slot_9, a_2, a_3, slot_7, (r_fj & 65535u), r_5d, r_8p, a_7);
+l_join_c0:;
+    r_vt = (u64)ld8(slot_9);
+    r_8t = ld64((slot_9 + 8));
+    r_49 = ld32((slot_9 + 16));
+    r_1t = ld32((slot_9 + 20));
+    r_a3_1 = ld32((slot_9 + 24));
+    r_wr = ld32((slot_9 + 28));
+    r_hb = ld64((slot_9 + 32));
+    goto l_common_s8;
+l_noarm_e1:;
+    UNREACHABLE();
+}
+
+/* capnp_objects::source::Source::measure_object::<#1e87a151ef20e12e> */
+static NEVER void capnp_objects_source_Source_measure_object_1e87a151ef20e12e(u8 *a_1, u8 *a_2, u8 *a_3, u32 a_4, u8 *a_5)
+{
+    A(8) u8 slot_1[56];
+    u8 r_dh;
+    u8 *r_rv;
+    u64 r_tp;
+    u8 *r_rv_1;
+    u64 r_qw;
+    u64 r_24;
+    u64 r_gw;
+    u64 r_qw_1;
+    u64 t_al;
+    u8 t_0c;
+    u64 r_lc;
+    u64 r_nb;
+    u64 r_yz;
+    u32 r_mk;
+    u32 r_qj;
+    u64 r_vj;
+    u64 r_at;
+    u64 r_nl;
+    u64 r_b2;
+    u64 r_ep;
+    u64 r_y6;
+    u64 r_lc_1;
+    u8 *r_rq_1;
+    u64 r_52_1;
+    u64 r_ep_1;
+    u8 switch_wl;
+    u64 r_ij;
+    u64 r_c4_1;
+    u64 r_24_2;
+    u64 r_gw_2;
+    u8 *r_rq_2;
+    u64 r_52_2;
+    u64 r_o0;
+    u32 t_c8;
+    u64 r_ep_2;
+    u64 r_y6_1;
+    u32 r_12_2;
+    u8 *r_rq_3;
+    u64 r_52_3;
+    u32 r_12_4;
+    u64 r_c6;
+    u8 *r_rq_4;
+    u64 r_52_4;
+    u64 r_r4;
+    u64 r_9r;
+    u64 r_xy;
+    u64 r_6f;
+    u64 r_3l;
+    u32 r_rk;
+    u32 r_7q;
+    u64 r_yr;
+    u64 r_c1;
+    u32 r_g3;
+    u32 r_vx;
+    u32 r_7j;
+    u32 r_p8;
+    r_dh = ld8(a_2);
+    r_rv = ldp(away(a_2, 8ull));
+    r_tp = ld64(a_3);
+    r_rv_1 = ldp((a_3 + 8));
+    r_qw = ld64((a_3 + 16));
+    r_24 = (u64)ld32((a_3 + 24));
+    r_gw = (u64)(r_qw >> 3ull);
+    if (!(r_gw > r_24)) { r_6f = 0ull; r_3l = 0ull; r_rk = 0u; r_7q = 0u; r_yr = 0ull; r_c1 = 0ull; r_g3 = 0u; r_vx = 0u; r_7j = 0u; r_p8 = 0u; goto l_capnp_6f; }
+    r_qw_1 = ld64((r_rv_1 + (i64)((u64)(r_24 << 3ull))));
+    if (r_qw_1 == 0ull) { r_6f = 0ull; r_3l = 0ull; r_rk = 0u; r_7q = 0u; r_yr = 0ull; r_c1 = 0ull; r_g3 = 0u; r_vx = 0u; r_7j = 0u; r_p8 = 0u; goto l_capnp_6f; }
+    if ((i32)a_4 < (i32)1u) { r_6f = 0ull; r_3l = 0ull; r_rk = 0u; r_7q = 0u; r_yr = 0ull; r_c1 = 1ull; r_g3 = 25u; r_vx = 0u; r_7j = 0u; r_p8 = 0u; goto l_capnp_6f; }
+    t_al = (u64)(uptr)r_rv_1;
+    memset(slot_1, 0u, 56);
+    t_0c = (r_dh == 0u);
+    if (!t_0c) goto l_capnp_sm;
+    u8 *r_08 = away(a_5, 16ull);
+    st64(r_08, uadd_sat64(ld64(r_08), 1ull));
+    if ((r_qw_1 & 3ull) == 2ull) goto l_capnp_q3;
+    goto l_join_bd;
+l_capnp_sm:;
+    if (!((r_qw_1 & 3ull) == 2ull)) goto l_join_bd;
+    st32((slot_1 + 8), 32u);
+    r_r4 = ld64((slot_1 + 8));
+    goto l_arm_5s;
+l_join_bd:;
+    u64 r_m6 = ((u64)(r_qw_1 >> 2ull) & 0x3fffffffull);
+    r_lc = ((r_24 + 1ull) + r_m6);
+    r_nb = (r_gw & 0xffffffffull);
+    if (!(r_m6 < 0x20000000ull)) goto l_else_70;
+    if (r_lc > r_nb) { r_r4 = 23ull; goto l_arm_5s; }
+    r_yz = r_lc;
+    goto l_capnp_i5;
+l_else_70:;
+    u64 r_3o = (r_lc + 0xffffffffc0000000ull);
+    if ((r_lc < 0x40000000ull) ? 1u : (r_3o > r_nb)) { r_r4 = 23ull; goto l_arm_5s; }
+    r_yz = r_3o;
+l_capnp_i5:;
+    r_mk = 0u;
+    r_qj = (u32)r_yz;
+    r_vj = r_tp;
+    r_at = r_qw_1;
+    r_nl = r_qw;
+    r_b2 = t_al;
+    goto l_arm_xs;
+l_capnp_q3:;
+    capnp_objects_source_follow_far_1e87a151ef20e12e(slot_1, r_rv, r_qw_1, a_5);
+    u64 r_38_1 = ld64((slot_1 + 16));
+    u64 r_38_2 = ld64((slot_1 + 8));
+    if (ld8(slot_1) == 0u) { r_mk = ld32((slot_1 + 44)); r_qj = ld32((slot_1 + 40)); r_vj = r_38_1; r_at = r_38_2; r_nl = ld64((slot_1 + 32)); r_b2 = ld64((slot_1 + 24)); goto l_arm_xs; }
+    r_9r = r_38_1;
+    r_xy = r_38_2;
+    goto l_arm_i4;
+l_arm_xs:;
+    switch ((u8)((u8)r_at & 3u)) {
+    case 0u: goto l_join_yh;
+    case 1u: goto l_arm_z2;
+    case 2u: { r_6f = 0ull; r_3l = 0ull; r_rk = 0u; r_7q = 0u; r_yr = 0ull; r_c1 = 1ull; r_g3 = 13u; r_vx = 0u; r_7j = 0u; r_p8 = 0u; goto l_capnp_6f; }
+    case 3u: goto l_arm_37;
+    default: goto l_default_e1;
+    }
+l_join_yh:;
+    r_ep = (u64)(r_at >> 32ull);
+    r_y6 = (u64)(r_at >> 48ull);
+    r_lc_1 = ((r_ep & 65535ull) + r_y6);
+    if (((u64)(r_nl >> 3ull) & 0xffffffffull) < (r_lc_1 + (u64)r_qj)) { r_6f = 0ull; r_3l = 0ull; r_rk = 0u; r_7q = 0u; r_yr = 0ull; r_c1 = 1ull; r_g3 = 23u; r_vx = 0u; r_7j = 0u; r_p8 = 0u; goto l_capnp_6f; }
+    if (!t_0c) goto l_arm_mf;
+    if (!(ld8(a_5) == 1u)) goto l_arm_mf;
+    r_rq_1 = away(a_5, 8ull);
+    r_52_1 = ld64(r_rq_1);
+    if (r_52_1 < r_lc_1) { r_6f = 0ull; r_3l = 0ull; r_rk = 0u; r_7q = 0u; r_yr = 0ull; r_c1 = 1ull; r_g3 = 30u; r_vx = 0u; r_7j = 0u; r_p8 = 0u; goto l_capnp_6f; }
+    st64(a_5, 1ull);
+    st64(r_rq_1, (r_52_1 - r_lc_1));
+l_arm_mf:;
+    r_6f = r_b2;
+    r_3l = r_nl;
+    r_rk = r_qj;
+    r_7q = r_mk;
+    r_yr = r_vj;
+    r_c1 = 0ull;
+    r_g3 = 2u;
+    r_vx = 0u;
+    r_7j = ((u32)((u32)r_y6 << 16u) | ((u32)r_ep & 65535u));
+    r_p8 = 0u;
+    goto l_capnp_6f;
+l_arm_z2:;
+    r_ep_1 = (u64)(r_at >> 32ull);
+    switch_wl = (u8)((u8)r_ep_1 & 7u);
+    r_ij = (u64)(r_at >> 35ull);
+    switch (switch_wl) {
+    case 7u: goto l_join_vn;
+    case 6u: goto l_join_10;
+    case 0u: goto l_arm_ps;
+    case 1u: goto l_arm_sm;
+    case 2u: goto l_arm_sm;
+    case 3u: goto l_arm_sm;
+    case 4u: goto l_arm_sm;
+    case 5u: goto l_arm_sm;
+    default: goto l_default_e1;
+    }
+l_join_vn:;
+    r_c4_1 = (r_ij + 1ull);
+    r_24_2 = (u64)r_qj;
+    r_gw_2 = (u64)(r_nl >> 3ull);
+    if ((r_gw_2 & 0xffffffffull) < (r_c4_1 + r_24_2)) { r_6f = 0ull; r_3l = 0ull; r_rk = 0u; r_7q = 0u; r_yr = 0ull; r_c1 = 1ull; r_g3 = 23u; r_vx = 0u; r_7j = 0u; r_p8 = 0u; goto l_capnp_6f; }
+    if (!t_0c) goto l_arm_ga;
+    if (!(ld8(a_5) == 1u)) goto l_arm_ga;
+    r_rq_2 = away(a_5, 8ull);
+    r_52_2 = ld64(r_rq_2);
+    if (!(r_52_2 > r_ij)) { r_6f = 0ull; r_3l = 0ull; r_rk = 0u; r_7q = 0u; r_yr = 0ull; r_c1 = 1ull; r_g3 = 30u; r_vx = 0u; r_7j = 0u; r_p8 = 0u; goto l_capnp_6f; }
+    st64(a_5, 1ull);
+    st64(r_rq_2, (r_52_2 - r_c4_1));
+l_arm_ga:;
+    if (!(r_gw_2 > r_24_2)) { r_o0 = 0ull; goto l_join_8m; }
+    u64 r_qw_2 = ld64((((u8 *)(uptr)r_b2) + (i64)((u64)(r_24_2 << 3ull))));
+    if ((r_qw_2 & 3ull) == 0ull) { r_o0 = r_qw_2; goto l_join_8m; }
+    r_6f = 0ull;
+    r_3l = 0ull;
+    r_rk = 0u;
+    r_7q = 0u;
+    r_yr = 0ull;
+    r_c1 = 1ull;
+    r_g3 = 2u;
+    r_vx = 0u;
+    r_7j = 0u;
+    r_p8 = 0u;
+    goto l_capnp_6f;
+l_join_8m:;
+    t_c8 = (u32)((u32)r_o0 >> 2u);
+    r_ep_2 = (u64)(r_o0 >> 32ull);
+    r_y6_1 = (u64)(r_o0 >> 48ull);
+    if (r_ij < (((r_ep_2 & 65535ull) + r_y6_1) * (u64)t_c8)) { r_6f = 0ull; r_3l = 0ull; r_rk = 0u; r_7q = 0u; r_yr = 0ull; r_c1 = 1ull; r_g3 = 10u; r_vx = 0u; r_7j = 0u; r_p8 = 0u; goto l_capnp_6f; }
+    r_6f = r_b2;
+    r_3l = r_nl;
+    r_rk = (r_qj + 1u);
+    r_7q = 0u;
+    r_yr = r_vj;
+    r_c1 = 0ull;
+    r_g3 = 5u;
+    r_vx = 0u;
+    r_7j = ((u32)((u32)r_y6_1 << 16u) | ((u32)r_ep_2 & 65535u));
+    r_p8 = t_c8;
+    goto l_capnp_6f;
+l_join_10:;
+    r_12_2 = (u32)r_ij;
+    if (((u64)(r_nl >> 3ull) & 0xffffffffull) < (r_ij + (u64)r_qj)) { r_6f = 0ull; r_3l = 0ull; r_rk = 0u; r_7q = 0u; r_yr = 0ull; r_c1 = 1ull; r_g3 = 23u; r_vx = 0u; r_7j = 0u; r_p8 = 0u; goto l_capnp_6f; }
+    if (!t_0c) { r_6f = r_b2; r_3l = r_nl; r_rk = r_qj; r_7q = r_mk; r_yr = r_vj; r_c1 = 0ull; r_g3 = 4u; r_vx = 0u; r_7j = r_12_2; r_p8 = 0u; goto l_capnp_6f; }
+    if (!(ld8(a_5) == 1u)) { r_6f = r_b2; r_3l = r_nl; r_rk = r_qj; r_7q = r_mk; r_yr = r_vj; r_c1 = 0ull; r_g3 = 4u; r_vx = 0u; r_7j = r_12_2; r_p8 = 0u; goto l_capnp_6f; }
+    r_rq_3 = away(a_5, 8ull);
+    r_52_3 = ld64(r_rq_3);
+    if (r_52_3 < r_ij) { r_6f = 0ull; r_3l = 0ull; r_rk = 0u; r_7q = 0u; r_yr = 0ull; r_c1 = 1ull; r_g3 = 30u; r_vx = 0u; r_7j = 0u; r_p8 = 0u; goto l_capnp_6f; }
+    st64(a_5, 1ull);
+    st64(r_rq_3, (r_52_3 - r_ij));
+    r_6f = r_b2;
+    r_3l = r_nl;
+    r_rk = r_qj;
+    r_7q = r_mk;
+    r_yr = r_vj;
+    r_c1 = 0ull;
+    r_g3 = 4u;
+    r_vx = 0u;
+    r_7j = r_12_2;
+    r_p8 = 0u;
+    goto l_capnp_6f;
+l_arm_ps:;
+    r_6f = r_b2;
+    r_3l = r_nl;
+    r_rk = r_qj;
+    r_7q = r_mk;
+    r_yr = r_vj;
+    r_c1 = 0ull;
+    r_g3 = 3u;
+    r_vx = 0u;
+    r_7j = 0u;
+    r_p8 = (u32)r_ij;
+    goto l_capnp_6f;
+l_arm_sm:;
+    r_12_4 = (u32)r_ij;
+    r_c6 = (u64)(((ld64(away(away(((u8 *)switch_table_capnp_pointers_pointers_validate_validate_8439008b), 8 * (r_ep_1 & 7ull)), 0xfffffffffffffff8ull)) * r_ij) + 63ull) >> 6ull);
+    if (((u64)(r_nl >> 3ull) & 0xffffffffull) < (r_c6 + (u64)r_qj)) { r_6f = 0ull; r_3l = 0ull; r_rk = 0u; r_7q = 0u; r_yr = 0ull; r_c1 = 1ull; r_g3 = 23u; r_vx = 0u; r_7j = 0u; r_p8 = 0u; goto l_capnp_6f; }
+    if (!t_0c) goto l_arm_zg;
+    if (!(ld8(a_5) == 1u)) goto l_arm_zg;
+    r_rq_4 = away(a_5, 8ull);
+    r_52_4 = ld64(r_rq_4);
+    if (r_52_4 < r_c6) { r_6f = 0ull; r_3l = 0ull; r_rk = 0u; r_7q = 0u; r_yr = 0ull; r_c1 = 1ull; r_g3 = 30u; r_vx = 0u; r_7j = 0u; r_p8 = 0u; goto l_capnp_6f; }
+    st64(a_5, 1ull);
+    st64(r_rq_4, (r_52_4 - r_c6));
+l_arm_zg:;
+    r_6f = r_b2;
+    r_3l = r_nl;
+    r_rk = r_qj;
+    r_7q = r_mk;
+    r_yr = r_vj;
+    r_c1 = 0ull;
+    r_g3 = 3u;
+    r_vx = 0u;
+    r_7j = (u32)switch_wl;
+    r_p8 = r_12_4;
+    goto l_capnp_6f;
+l_arm_37:;
+    u8 r_ml = ((r_at & 0xffffffffull) != 3ull);
+    r_6f = 0ull;
+    r_3l = 0ull;
+    r_rk = 0u;
+    r_7q = 0u;
+    r_yr = 0ull;
+    r_c1 = (u64)r_ml;
+    r_g3 = (r_ml ? 34u : 1u);
+    r_vx = (r_ml ? 0u : (u32)(u64)(r_at >> 32ull));
+    r_7j = 0u;
+    r_p8 = 0u;
+    goto l_capnp_6f;
+l_default_e1:;
+    UNREACHABLE();
+l_arm_5s:;
+    r_9r = 0ull;
+    r_xy = r_r4;
+l_arm_i4:;
+    r_6f = 0ull;
+    r_3l = 0ull;
+    r_rk = 0u;
+    r_7q = 0u;
+    r_yr = r_9r;
+    r_c1 = 1ull;
+    r_g3 = ((u32)r_xy & 255u);
+    r_vx = (u32)(u64)(r_xy >> 32ull);
+    r_7j = 0u;
+    r_p8 = 0u;
+l_capnp_6f:;
+    st64(a_1, r_c1);
+    st32(away(a_1, 8ull), r_g3);
+    st32(away(a_1, 12ull), r_vx);
+    st64(away(a_1, 16ull), r_yr);
+    st64(away(a_1, 24ull), r_6f);
+    st64(away(a_1, 32ull), r_3l);
+    st32(away(a_1, 40ull), r_rk);
+    st32(away(a_1, 44ull), r_7q);
+    st32(away(a_1, 48ull), r_7j);
+    st32(away(a_1, 52ull), r_p8);
+    return;
+}
+
+/* capnp_refusals::refusals::search::search_elements::<#1e87a151ef20e12e> */
+static void capnp_refusals_refusals_search_search_elements_1e87a151ef20e12e(u8 *a_1, u8 a_2, u8 a_3, u8 *a_4, u32 a_5, u32 a_6, u32 a_7, u8 *a_8)
+{
+    A(8) u8 slot_1[40];
+    u32 r_yg;
+    u8 *r_t9;
+    u8 *r_r2;
+    u32 r_sv;
+    memset(slot_1, 0u, 40);
+    if (a_6 == 0u) goto l_then_h9;
+    goto l_join_a3;
+l_common_68:;
+    return;
+l_then_h9:;
+    memset(a_1, 0u, 40);
+    goto l_common_68;
+l_join_a3:;
+    r_yg = (a_6 + a_5);
+    if (a_7 == 0u) goto l_after_h9;
+    r_t9 = away(a_4, 48ull);
+    r_r2 = away(a_4, 56ull);
+    r_sv = 0u;
+    goto l_join_tm;
+l_loop_0k:;
+    u32 r_7t = (r_sv + 1u);
+    if (r_7t == a_7) goto l_after_h9;
+    r_sv = r_7t;
+l_join_tm:;
+    capnp_refusals_refusals_search_search_pointers_1e87a151ef20e12e(slot_1, a_2, a_3, a_4, (((r_sv * r_yg) + a_5) + ld32(r_t9)), a_6, ld32(r_r2), a_8);
+    if (!(ld8(slot_1) == 1u)) goto l_loop_0k;
+    st64(a_1, 1ull);
+    mv32(away(a_1, 8ull), (slot_1 + 8));
+    goto l_common_68;
+l_after_h9:;
+    memset(a_1, 0u, 40);
+    goto l_common_68;
+}
+
+/* capnp_refusals::refusals::search::search_pointers::<#1e87a151ef20e12e> */
+static NEVER void capnp_refusals_refusals_search_search_pointers_1e87a151ef20e12e(u8 *a_1, u8 a_2, u8 a_3, u8 *a_4, u32 a_5, u32 a_6, u32 a_7, u8 *a_8)
+{
+    A(8) u8 slot_1[40];
+    u32 r_yn;
+    memset(slot_1, 0u, 40);
+    r_yn = 0u;
+    goto l_join_nr;
+l_loop_0k:;
+    u32 r_7t = (r_yn + 1u);
+    if (r_7t == a_6) goto l_after_h9;
+    r_yn = r_7t;
+l_join_nr:;
+    capnp_refusals_refusals_search_search_object_1e87a151ef20e12e(slot_1, a_2, a_3, a_4, (r_yn + a_5), a_7, a_8);
+    if (ld8(slot_1) == 1u) goto l_arm_os;
+    goto l_loop_0k;
+l_common_68:;
+    return;
+l_arm_os:;
+    st64(a_1, 1ull);
+    mv32(away(a_1, 8ull), (slot_1 + 8));
+    goto l_common_68;
+l_after_h9:;
+    memset(a_1, 0u, 40);
+    goto l_common_68;
+}
+
+/* capnp_refusals::refusals::search::search_object::<#9fb2c9fcfadbb7fb> */
+static void capnp_refusals_refusals_search_search_object_9fb2c9fcfadbb7fb(u8 *a_1, u8 a_2, u8 a_3, u8 *a_4, u32 a_5, u32 a_6, u8 *a_7)
+{
+    A(8) u8 slot_1[56];
+    A(8) u8 slot_2[56];
+    A(8) u8 slot_3[24];
+    A(8) u8 slot_4[32];
+    A(8) u8 slot_5[64];
+    A(8) u8 slot_6[64];
+    A(8) u8 slot_7[64];
+    A(8) u8 slot_8[24];
+    A(8) u8 slot_9[40];
+    u64 r_52;
+    u8 *r_xw;
+    u64 r_38;
+    u8 r_y8;
+    u8 *r_rq;
+    u8 *r_xw_1;
+    u64 r_38_1;
+    u64 r_7l;
+    u64 r_gw;
+    u64 r_qw;
+    u64 t_al;
+    u8 t_pa;
+    u64 r_lc;
+    u64 r_nb;
+    u64 r_yz;
+    u32 r_7d;
+    u32 r_2w;
+    u64 r_7a;
+    u64 r_0m;
+    u64 r_v8;
+    u64 r_t9;
+    u64 r_ep;
+    u64 r_y6;
+    u64 r_lc_1;
+    u8 *r_rq_1;
+    u64 r_52_2;
+    u64 r_ep_1;
+    u8 switch_wl;
+    u64 r_ij;
+    u64 r_c4_1;
+    u64 r_24_1;
+    u64 r_gw_2;
+    u8 *r_rq_2;
+    u64 r_52_3;
+    u64 r_eh;
+    u32 t_c8;
+    u32 r_12_1;
+    u32 r_az_1;
+    u32 r_68;
+    u64 r_c0;
+    u8 *r_rq_3;
+    u64 r_52_4;
+    u32 r_12_2;
+    u8 *r_rq_4;
+    u64 r_52_5;
+    u32 r_12_3;
+    u8 *r_rq_5;
+    u64 r_52_6;
+    u32 r_12_4;
+    u64 r_c6;
+    u8 *r_rq_6;
+    u64 r_52_7;
+    u64 r_r4;
+    u64 r_ut;
+    u64 r_dj;
+    u64 r_xv;
+    u64 r_qr;
+    u32 r_b6;
+    u32 r_r6;
+    u64 r_ka;
+    u8 r_28;
+    u8 r_5g;
+    u32 r_59;
+    u32 r_14;
+    u32 r_yp;
+    u32 r_8p;
+    u32 r_fj;
+    u64 r_k5;
+    u32 r_q1;
+    u8 r_ll_1;
+    u8 r_h2;
+    u32 r_5d;
+    u64 r_vt;
+    u64 r_8t;
+    u32 r_49;
+    u32 r_1t;
+    u32 r_a3_1;
+    u32 r_wr;
+    u64 r_hb;
+    u32 r_mx;
+    memset(slot_5, 0u, 64);
+    memset(slot_6, 0u, 64);
+    memset(slot_7, 0u, 64);
+    memset(slot_8, 0u, 24);
+    memset(slot_9, 0u, 40);
+    r_52 = ld64(away(a_4, 24ull));
+    r_xw = ldp(away(a_4, 32ull));
+    r_38 = ld64(away(a_4, 40ull));
+    r_y8 = ld8(a_4);
+    r_rq = away(a_4, 8ull);
+    r_xw_1 = ldp(r_rq);
+    r_38_1 = ld64(away(a_4, 16ull));
+    memset(slot_2, 0u, 56);
+    if ((u8)(a_2 & 1)) goto l_arm_xm;
+    r_7l = (u64)a_5;
+    r_gw = (u64)(r_38 >> 3ull);
+    if (!(r_gw > r_7l)) { r_xv = 0ull; r_qr = 0ull; r_b6 = 0u; r_r6 = 0u; r_ka = 0ull; r_28 = 0u; r_5g = 0u; r_59 = 0u; r_14 = 0u; r_yp = 0u; goto l_capnp_gh; }
+    r_qw = ld64((r_xw + (i64)((u64)(r_7l << 3ull))));
+    if (r_qw == 0ull) { r_xv = 0ull; r_qr = 0ull; r_b6 = 0u; r_r6 = 0u; r_ka = 0ull; r_28 = 0u; r_5g = 0u; r_59 = 0u; r_14 = 0u; r_yp = 0u; goto l_capnp_gh; }
+    t_al = (u64)(uptr)r_xw;
+    memset(slot_1, 0u, 56);
+    t_pa = (r_y8 != 0u);
+    if (t_pa) goto l_capnp_sm;
+    u8 *r_08_1 = away(a_7, 16ull);
+    st64(r_08_1, uadd_sat64(ld64(r_08_1), 1ull));
+    if ((r_qw & 3ull) == 2ull) goto l_capnp_hn;
+    goto l_join_bd;
+l_capnp_sm:;
+    if (!((r_qw & 3ull) == 2ull)) goto l_join_bd;
+    st32((slot_1 + 8), 32u);
+    r_r4 = ld64((slot_1 + 8));
+    goto l_arm_5s;
+l_join_bd:;
+    u64 r_m6 = ((u64)(r_qw >> 2ull) & 0x3fffffffull);
+    r_lc = ((r_7l + 1ull) + r_m6);
+    r_nb = (r_gw & 0xffffffffull);
+    if (!(r_m6 < 0x20000000ull)) goto l_else_70;
+    if (r_lc > r_nb) { r_r4 = 23ull; goto l_arm_5s; }
+    r_yz = r_lc;
+    goto l_capnp_i5;
+l_else_70:;
+    u64 r_3o = (r_lc + 0xffffffffc0000000ull);
+    if ((r_lc < 0x40000000ull) ? 1u : (r_3o > r_nb)) { r_r4 = 23ull; goto l_arm_5s; }
+    r_yz = r_3o;
+l_capnp_i5:;
+    r_7d = 0u;
+    r_2w = (u32)r_yz;
+    r_7a = r_52;
+    r_0m = r_qw;
+    r_v8 = r_38;
+    r_t9 = t_al;
+    goto l_arm_nn;
+l_capnp_hn:;
+    capnp_objects_source_follow_far_9fb2c9fcfadbb7fb(slot_1, r_xw_1, r_qw, a_7);
+    u64 r_38_3 = ld64((slot_1 + 16));
+    u64 r_38_4 = ld64((slot_1 + 8));
+    if (ld8(slot_1) == 0u) { r_7d = ld32((slot_1 + 44)); r_2w = ld32((slot_1 + 40)); r_7a = r_38_3; r_0m = r_38_4; r_v8 = ld64((slot_1 + 32)); r_t9 = ld64((slot_1 + 24)); goto l_arm_nn; }
+    r_ut = r_38_3;
+    r_dj = r_38_4;
+    goto l_arm_qe;
+l_arm_nn:;
+    switch ((u8)((u8)r_0m & 3u)) {
+    case 0u: goto l_arm_62;
+    case 1u: goto l_arm_z2;
+    case 2u: { r_xv = 0ull; r_qr = 0ull; r_b6 = 0u; r_r6 = 0u; r_ka = 0ull; r_28 = 1u; r_5g = 13u; r_59 = 0u; r_14 = 0u; r_yp = 0u; goto l_capnp_gh; }
+    case 3u: goto l_arm_37;
+    default: goto l_default_e1;
+    }
+l_arm_62:;
+    r_ep = (u64)(r_0m >> 32ull);
+    r_y6 = (u64)(r_0m >> 48ull);
+    if ((i32)a_6 < (i32)1u) { r_xv = 0ull; r_qr = 0ull; r_b6 = 0u; r_r6 = 0u; r_ka = 0ull; r_28 = 1u; r_5g = 26u; r_59 = 0u; r_14 = 0u; r_yp = 0u; goto l_capnp_gh; }
+    r_lc_1 = ((r_ep & 65535ull) + r_y6);
+    if (((u64)(r_v8 >> 3ull) & 0xffffffffull) < (r_lc_1 + (u64)r_2w)) { r_xv = 0ull; r_qr = 0ull; r_b6 = 0u; r_r6 = 0u; r_ka = 0ull; r_28 = 1u; r_5g = 23u; r_59 = 0u; r_14 = 0u; r_yp = 0u; goto l_capnp_gh; }
+    if (t_pa) goto l_arm_mf;
+    if (!(ld8(a_7) == 1u)) goto l_arm_mf;
+    r_rq_1 = away(a_7, 8ull);
+    r_52_2 = ld64(r_rq_1);
+    if (r_52_2 < r_lc_1) { r_xv = 0ull; r_qr = 0ull; r_b6 = 0u; r_r6 = 0u; r_ka = 0ull; r_28 = 1u; r_5g = 30u; r_59 = 0u; r_14 = 0u; r_yp = 0u; goto l_capnp_gh; }
+    st64(a_7, 1ull);
+    st64(r_rq_1, (r_52_2 - r_lc_1));
+l_arm_mf:;
+    r_xv = r_t9;
+    r_qr = r_v8;
+    r_b6 = r_2w;
+    r_r6 = r_7d;
+    r_ka = r_7a;
+    r_28 = 0u;
+    r_5g = 2u;
+    r_59 = 0u;
+    r_14 = ((u32)((u32)r_y6 << 16u) | ((u32)r_ep & 65535u));
+    r_yp = 0u;
+    goto l_capnp_gh;
+l_arm_z2:;
+    r_ep_1 = (u64)(r_0m >> 32ull);
+    switch_wl = (u8)((u8)r_ep_1 & 7u);
+    r_ij = (u64)(r_0m >> 35ull);
+    switch (switch_wl) {
+    case 7u: goto l_arm_gg;
+    case 6u: goto l_arm_0w;
+    case 0u: goto l_arm_0w_1;
+    case 1u: goto l_arm_0w_2;
+    case 2u: goto l_arm_0w_2;
+    case 3u: goto l_arm_0w_2;
+    case 4u: goto l_arm_0w_2;
+    case 5u: goto l_arm_0w_2;
+    default: goto l_default_e1;
+    }
+l_arm_gg:;
+    if ((i32)a_6 < (i32)1u) { r_xv = 0ull; r_qr = 0ull; r_b6 = 0u; r_r6 = 0u; r_ka = 0ull; r_28 = 1u; r_5g = 26u; r_59 = 0u; r_14 = 0u; r_yp = 0u; goto l_capnp_gh; }
+    r_c4_1 = (r_ij + 1ull);
+    r_24_1 = (u64)r_2w;
+    r_gw_2 = (u64)(r_v8 >> 3ull);
+    if ((r_gw_2 & 0xffffffffull) < (r_c4_1 + r_24_1)) { r_xv = 0ull; r_qr = 0ull; r_b6 = 0u; r_r6 = 0u; r_ka = 0ull; r_28 = 1u; r_5g = 23u; r_59 = 0u; r_14 = 0u; r_yp = 0u; goto l_capnp_gh; }
+    if (t_pa) goto l_arm_ga;
+    if (!(ld8(a_7) == 1u)) goto l_arm_ga;
+    r_rq_2 = away(a_7, 8ull);
+    r_52_3 = ld64(r_rq_2);
+    if (!(r_52_3 > r_ij)) { r_xv = 0ull; r_qr = 0ull; r_b6 = 0u; r_r6 = 0u; r_ka = 0ull; r_28 = 1u; r_5g = 30u; r_59 = 0u; r_14 = 0u; r_yp = 0u; goto l_capnp_gh; }
+    st64(a_7, 1ull);
+    st64(r_rq_2, (r_52_3 - r_c4_1));
+l_arm_ga:;
+    if (!(r_gw_2 > r_24_1)) { r_eh = 0ull; goto l_join_qm; }
+    u64 r_qw_1 = ld64((((u8 *)(uptr)r_t9) + (i64)((u64)(r_24_1 << 3ull))));
+    if ((r_qw_1 & 3ull) == 0ull) { r_eh = r_qw_1; goto l_join_qm; }
+    r_xv = 0ull;
+    r_qr = 0ull;
+    r_b6 = 0u;
+    r_r6 = 0u;
+    r_ka = 0ull;
+    r_28 = 1u;
+    r_5g = 11u;
+    r_59 = 0u;
+    r_14 = 0u;
+    r_yp = 0u;
+    goto l_capnp_gh;
+l_join_qm:;
+    t_c8 = (u32)((u32)r_eh >> 2u);
+    r_12_1 = (u32)(u64)(r_eh >> 48ull);
+    r_az_1 = ((u32)(u64)(r_eh >> 32ull) & 65535u);
+    r_68 = (r_az_1 + r_12_1);
+    r_c0 = (u64)t_c8;
+    if (r_ij < ((u64)r_68 * r_c0)) { r_xv = 0ull; r_qr = 0ull; r_b6 = 0u; r_r6 = 0u; r_ka = 0ull; r_28 = 1u; r_5g = 10u; r_59 = 0u; r_14 = 0u; r_yp = 0u; goto l_capnp_gh; }
+    if ((u8)((u8)t_pa | (u8)(r_68 != 0u))) goto l_arm_o2;
+    if (!(ld8(a_7) == 1u)) goto l_arm_o2;
+    r_rq_3 = away(a_7, 8ull);
+    r_52_4 = ld64(r_rq_3);
+    if (r_52_4 < r_c0) { r_xv = 0ull; r_qr = 0ull; r_b6 = 0u; r_r6 = 0u; r_ka = 0ull; r_28 = 1u; r_5g = 30u; r_59 = 0u; r_14 = 0u; r_yp = 0u; goto l_capnp_gh; }
+    st64(a_7, 1ull);
+    st64(r_rq_3, (r_52_4 - r_c0));
+l_arm_o2:;
+    r_xv = r_t9;
+    r_qr = r_v8;
+    r_b6 = (r_2w + 1u);
+    r_r6 = 0u;
+    r_ka = r_7a;
+    r_28 = 0u;
+    r_5g = 5u;
+    r_59 = 0u;
+    r_14 = ((u32)(r_12_1 << 16u) | r_az_1);
+    r_yp = t_c8;
+    goto l_capnp_gh;
+l_arm_0w:;
+    r_12_2 = (u32)r_ij;
+    if ((i32)a_6 < (i32)1u) { r_xv = 0ull; r_qr = 0ull; r_b6 = 0u; r_r6 = 0u; r_ka = 0ull; r_28 = 1u; r_5g = 26u; r_59 = 0u; r_14 = 0u; r_yp = 0u; goto l_capnp_gh; }
+    if (((u64)(r_v8 >> 3ull) & 0xffffffffull) < (r_ij + (u64)r_2w)) { r_xv = 0ull; r_qr = 0ull; r_b6 = 0u; r_r6 = 0u; r_ka = 0ull; r_28 = 1u; r_5g = 23u; r_59 = 0u; r_14 = 0u; r_yp = 0u; goto l_capnp_gh; }
+    if (t_pa) { r_xv = r_t9; r_qr = r_v8; r_b6 = r_2w; r_r6 = r_7d; r_ka = r_7a; r_28 = 0u; r_5g = 4u; r_59 = 0u; r_14 = r_12_2; r_yp = 0u; goto l_capnp_gh; }
+    if (!(ld8(a_7) == 1u)) { r_xv = r_t9; r_qr = r_v8; r_b6 = r_2w; r_r6 = r_7d; r_ka = r_7a; r_28 = 0u; r_5g = 4u; r_59 = 0u; r_14 = r_12_2; r_yp = 0u; goto l_capnp_gh; }
+    r_rq_4 = away(a_7, 8ull);
+    r_52_5 = ld64(r_rq_4);
+    if (r_52_5 < r_ij) { r_xv = 0ull; r_qr = 0ull; r_b6 = 0u; r_r6 = 0u; r_ka = 0ull; r_28 = 1u; r_5g = 30u; r_59 = 0u; r_14 = 0u; r_yp = 0u; goto l_capnp_gh; }
+    st64(a_7, 1ull);
+    st64(r_rq_4, (r_52_5 - r_ij));
+    r_xv = r_t9;
+    r_qr = r_v8;
+    r_b6 = r_2w;
+    r_r6 = r_7d;
+    r_ka = r_7a;
+    r_28 = 0u;
+    r_5g = 4u;
+    r_59 = 0u;
+    r_14 = r_12_2;
+    r_yp = 0u;
+    goto l_capnp_gh;
+l_arm_0w_1:;
+    r_12_3 = (u32)r_ij;
+    if ((i32)a_6 < (i32)1u) { r_xv = 0ull; r_qr = 0ull; r_b6 = 0u; r_r6 = 0u; r_ka = 0ull; r_28 = 1u; r_5g = 26u; r_59 = 0u; r_14 = 0u; r_yp = 0u; goto l_capnp_gh; }
+    if (((u64)(r_v8 >> 3ull) & 0xffffffffull) < (u64)r_2w) { r_xv = 0ull; r_qr = 0ull; r_b6 = 0u; r_r6 = 0u; r_ka = 0ull; r_28 = 1u; r_5g = 23u; r_59 = 0u; r_14 = 0u; r_yp = 0u; goto l_capnp_gh; }
+    if (t_pa) { r_xv = r_t9; r_qr = r_v8; r_b6 = r_2w; r_r6 = r_7d; r_ka = r_7a; r_28 = 0u; r_5g = 3u; r_59 = 0u; r_14 = 0u; r_yp = r_12_3; goto l_capnp_gh; }
+    if (!(ld8(a_7) == 1u)) { r_xv = r_t9; r_qr = r_v8; r_b6 = r_2w; r_r6 = r_7d; r_ka = r_7a; r_28 = 0u; r_5g = 3u; r_59 = 0u; r_14 = 0u; r_yp = r_12_3; goto l_capnp_gh; }
+    st64(a_7, 1ull);
+    r_rq_5 = away(a_7, 8ull);
+    r_52_6 = ld64(r_rq_5);
+    if (r_52_6 < r_ij) { r_xv = 0ull; r_qr = 0ull; r_b6 = 0u; r_r6 = 0u; r_ka = 0ull; r_28 = 1u; r_5g = 30u; r_59 = 0u; r_14 = 0u; r_yp = 0u; goto l_capnp_gh; }
+    st64(r_rq_5, (r_52_6 - r_ij));
+    r_xv = r_t9;
+    r_qr = r_v8;
+    r_b6 = r_2w;
+    r_r6 = r_7d;
+    r_ka = r_7a;
+    r_28 = 0u;
+    r_5g = 3u;
+    r_59 = 0u;
+    r_14 = 0u;
+    r_yp = r_12_3;
+    goto l_capnp_gh;
+l_arm_0w_2:;
+    r_12_4 = (u32)r_ij;
+    if ((i32)a_6 < (i32)1u) { r_xv = 0ull; r_qr = 0ull; r_b6 = 0u; r_r6 = 0u; r_ka = 0ull; r_28 = 1u; r_5g = 26u; r_59 = 0u; r_14 = 0u; r_yp = 0u; goto l_capnp_gh; }
+    r_c6 = (u64)(((ld64(away(away(((u8 *)switch_table_capnp_pointers_pointers_validate_validate_8439008b), 8 * (r_ep_1 & 7ull)), 0xfffffffffffffff8ull)) * r_ij) + 63ull) >> 6ull);
+    if (((u64)(r_v8 >> 3ull) & 0xffffffffull) < (r_c6 + (u64)r_2w)) { r_xv = 0ull; r_qr = 0ull; r_b6 = 0u; r_r6 = 0u; r_ka = 0ull; r_28 = 1u; r_5g = 23u; r_59 = 0u; r_14 = 0u; r_yp = 0u; goto l_capnp_gh; }
+    if (t_pa) goto l_arm_zg;
+    if (!(ld8(a_7) == 1u)) goto l_arm_zg;
+    r_rq_6 = away(a_7, 8ull);
+    r_52_7 = ld64(r_rq_6);
+    if (r_52_7 < r_c6) { r_xv = 0ull; r_qr = 0ull; r_b6 = 0u; r_r6 = 0u; r_ka = 0ull; r_28 = 1u; r_5g = 30u; r_59 = 0u; r_14 = 0u; r_yp = 0u; goto l_capnp_gh; }
+    st64(a_7, 1ull);
+    st64(r_rq_6, (r_52_7 - r_c6));
+l_arm_zg:;
+    r_xv = r_t9;
+    r_qr = r_v8;
+    r_b6 = r_2w;
+    r_r6 = r_7d;
+    r_ka = r_7a;
+    r_28 = 0u;
+    r_5g = 3u;
+    r_59 = 0u;
+    r_14 = (u32)switch_wl;
+    r_yp = r_12_4;
+    goto l_capnp_gh;
+l_arm_37:;
+    u8 r_ml = ((r_0m & 0xffffffffull) != 3ull);
+    r_xv = 0ull;
+    r_qr = 0ull;
+    r_b6 = 0u;
+    r_r6 = 0u;
+    r_ka = 0ull;
+    r_28 = (u8)r_ml;
+    r_5g = (r_ml ? 34u : 1u);
+    r_59 = (r_ml ? 0u : (u32)(u64)(r_0m >> 32ull));
+    r_14 = 0u;
+    r_yp = 0u;
+    goto l_capnp_gh;
+l_default_e1:;
+    UNREACHABLE();
+l_arm_5s:;
+    r_ut = 0ull;
+    r_dj = r_r4;
+l_arm_qe:;
+    r_xv = 0ull;
+    r_qr = 0ull;
+    r_b6 = 0u;
+    r_r6 = 0u;
+    r_ka = r_ut;
+    r_28 = 1u;
+    r_5g = (u8)r_dj;
+    r_59 = (u32)(u64)(r_dj >> 32ull);
+    r_14 = 0u;
+    r_yp = 0u;
+l_capnp_gh:;
+    st64((slot_2 + 24), r_xv);
+    st64((slot_2 + 32), r_qr);
+    st32((slot_2 + 40), r_b6);
+    st32((slot_2 + 44), r_r6);
+    r_8p = r_yp;
+    r_fj = r_14;
+    r_k5 = r_ka;
+    r_q1 = r_59;
+    r_ll_1 = r_5g;
+    r_h2 = r_28;
+    goto l_capnp_09;
+l_arm_xm:;
+    st64(slot_3, (u64)r_y8);
+    stp((slot_3 + 8), r_xw_1);
+    st64((slot_3 + 16), r_38_1);
+    st64(slot_4, r_52);
+    stp((slot_4 + 8), r_xw);
+    st64((slot_4 + 16), r_38);
+    st32((slot_4 + 24), a_5);
+    st32((slot_4 + 28), 0u);
+    capnp_objects_source_Source_measure_object_9fb2c9fcfadbb7fb(slot_2, slot_3, slot_4, a_6, a_7);
+    r_8p = ld32((slot_2 + 52));
+    r_fj = ld32((slot_2 + 48));
+    r_k5 = ld64((slot_2 + 16));
+    r_q1 = ld32((slot_2 + 12));
+    r_ll_1 = ld8((slot_2 + 8));
+    r_h2 = ld8(slot_2);
+l_capnp_09:;
+    mv24(slot_8, (slot_2 + 24));
+    if (!(r_h2 == 0u)) goto l_arm_1g;
+    r_5d = (u32)(r_fj >> 16u);
+    if ((u8)((u8)(r_ll_1 != 1u) | (u8)(u8)(a_3 & 1))) goto l_join_gz;
+    r_vt = 1ull;
+    r_8t = r_52;
+    r_49 = a_5;
+    r_1t = 0u;
+    r_a3_1 = 1u;
+    r_wr = 0u;
+    r_hb = 0ull;
+l_common_s8:;
+    st64(a_1, r_vt);
+    st64(away(a_1, 8ull), r_8t);
+    st32(away(a_1, 16ull), r_49);
+    st32(away(a_1, 20ull), r_1t);
+    st32(away(a_1, 24ull), r_a3_1);
+    st32(away(a_1, 28ull), r_wr);
+    st64(away(a_1, 32ull), r_hb);
+    return;
+l_arm_1g:;
+    r_vt = 1ull;
+    r_8t = r_52;
+    r_49 = a_5;
+    r_1t = 0u;
+    r_a3_1 = (u32)r_ll_1;
+    r_wr = r_q1;
+    r_hb = r_k5;
+    goto l_common_s8;
+l_join_gz:;
+    r_mx = ((a_6 == 0x80000000u) ? 0x80000000u : (a_6 + 0xffffffffu));
+    switch (r_ll_1) {
+    case 0u: goto l_arm_c3;
+    case 1u: goto l_arm_c3_1;
+    case 3u: goto l_arm_c3_2;
+    case 2u: goto l_arm_eo;
+    case 4u: goto l_arm_eo_1;
+    case 5u: goto l_arm_eo_2;
+    default: goto l_noarm_e1;
+    }
+l_arm_c3:;
+    st64(slot_9, 0ull);
+    goto l_join_c0;
+l_arm_c3_1:;
+    st64(slot_9, 0ull);
+    goto l_join_c0;
+l_arm_c3_2:;
+    st64(slot_9, 0ull);
+    goto l_join_c0;
+l_arm_eo:;
+    st64(slot_5, (u64)ld8(a_4));
+    mv16((slot_5 + 8), r_rq);
+    st64((slot_5 + 24), r_k5);
+    mv24((slot_5 + 32), slot_8);
+    st32((slot_5 + 56), r_mx);
+    capnp_refusals_refusals_search_search_elements_9fb2c9fcfadbb7fb(slot_9, a_2, a_3, slot_5, (r_fj & 65535u), r_5d, 1u, a_7);
+    goto l_join_c0;
+l_arm_eo_1:;
+    st64(slot_6, (u64)ld8(a_4));
+    mv16((slot_6 + 8), r_rq);
+    st64((slot_6 + 24), r_k5);
+    mv24((slot_6 + 32), slot_8);
+    st32((slot_6 + 56), r_mx);
+    capnp_refusals_refusals_search_search_elements_9fb2c9fcfadbb7fb(slot_9, a_2, a_3, slot_6, 0u, r_fj, 1u, a_7);
+    goto l_join_c0;
+l_arm_eo_2:;
+    st64(slot_7, (u64)ld8(a_4));
+    mv16((slot_7 + 8), r_rq);
+    st64((slot_7 + 24), r_k5);
+    mv24((slot_7 + 32), slot_8);
+    st32((slot_7 + 56), r_mx);
+    capnp_refusals_refusals_search_search_elements_9fb2c9fcfadbb7fb(slot_9, a_2, a_3, slot_7, (r_fj & 65535u), r_5d, r_8p, a_7);
+l_join_c0:;
+    r_vt = (u64)ld8(slot_9);
+    r_8t = ld64((slot_9 + 8));
+    r_49 = ld32((slot_9 + 16));
+    r_1t = ld32((slot_9 + 20));
+    r_a3_1 = ld32((slot_9 + 24));
+    r_wr = ld32((slot_9 + 28));
+    r_hb = ld64((slot_9 + 32));
+    goto l_common_s8;
+l_noarm_e1:;
+    UNREACHABLE();
+}
+
+/* capnp_objects::source::Source::measure_object::<#9fb2c9fcfadbb7fb> */
+static NEVER void capnp_objects_source_Source_measure_object_9fb2c9fcfadbb7fb(u8 *a_1, u8 *a_2, u8 *a_3, u32 a_4, u8 *a_5)
+{
+    A(8) u8 slot_1[56];
+    u8 r_dh;
+    u8 *r_rv;
+    u64 r_tp;
+    u8 *r_rv_1;
+    u64 r_qw;
+    u64 r_24;
+    u64 r_gw;
+    u64 r_qw_1;
+    u64 t_al;
+    u8 t_0c;
+    u64 r_lc;
+    u64 r_nb;
+    u64 r_yz;
+    u32 r_mk;
+    u32 r_qj;
+    u64 r_vj;
+    u64 r_at;
+    u64 r_nl;
+    u64 r_b2;
+    u64 r_ep;
+    u64 r_y6;
+    u64 r_lc_1;
+    u8 *r_rq_1;
+    u64 r_52_1;
+    u64 r_ep_1;
+    u8 switch_wl;
+    u64 r_ij;
+    u64 r_c4_1;
+    u64 r_24_2;
+    u64 r_gw_2;
+    u8 *r_rq_2;
+    u64 r_52_2;
+    u64 r_o0;
+    u32 t_c8;
+    u64 r_ep_2;
+    u64 r_y6_1;
+    u32 r_12_2;
+    u8 *r_rq_3;
+    u64 r_52_3;
+    u32 r_12_4;
+    u64 r_c6;
+    u8 *r_rq_4;
+    u64 r_52_4;
+    u64 r_r4;
+    u64 r_9r;
+    u64 r_xy;
+    u64 r_6f;
+    u64 r_3l;
+    u32 r_rk;
+    u32 r_7q;
+    u64 r_yr;
+    u64 r_c1;
+    u32 r_g3;
+    u32 r_vx;
+    u32 r_7j;
+    u32 r_p8;
+    r_dh = ld8(a_2);
+    r_rv = ldp(away(a_2, 8ull));
+    r_tp = ld64(a_3);
+    r_rv_1 = ldp((a_3 + 8));
+    r_qw = ld64((a_3 + 16));
+    r_24 = (u64)ld32((a_3 + 24));
+    r_gw = (u64)(r_qw >> 3ull);
+    if (!(r_gw > r_24)) { r_6f = 0ull; r_3l = 0ull; r_rk = 0u; r_7q = 0u; r_yr = 0ull; r_c1 = 0ull; r_g3 = 0u; r_vx = 0u; r_7j = 0u; r_p8 = 0u; goto l_capnp_6f; }
+    r_qw_1 = ld64((r_rv_1 + (i64)((u64)(r_24 << 3ull))));
+    if (r_qw_1 == 0ull) { r_6f = 0ull; r_3l = 0ull; r_rk = 0u; r_7q = 0u; r_yr = 0ull; r_c1 = 0ull; r_g3 = 0u; r_vx = 0u; r_7j = 0u; r_p8 = 0u; goto l_capnp_6f; }
+    if ((i32)a_4 < (i32)1u) { r_6f = 0ull; r_3l = 0ull; r_rk = 0u; r_7q = 0u; r_yr = 0ull; r_c1 = 1ull; r_g3 = 25u; r_vx = 0u; r_7j = 0u; r_p8 = 0u; goto l_capnp_6f; }
+    t_al = (u64)(uptr)r_rv_1;
+    memset(slot_1, 0u, 56);
+    t_0c = (r_dh == 0u);
+    if (!t_0c) goto l_capnp_sm;
+    u8 *r_08 = away(a_5, 16ull);
+    st64(r_08, uadd_sat64(ld64(r_08), 1ull));
+    if ((r_qw_1 & 3ull) == 2ull) goto l_capnp_hn;
+    goto l_join_bd;
+l_capnp_sm:;
+    if (!((r_qw_1 & 3ull) == 2ull)) goto l_join_bd;
+    st32((slot_1 + 8), 32u);
+    r_r4 = ld64((slot_1 + 8));
+    goto l_arm_5s;
+l_join_bd:;
+    u64 r_m6 = ((u64)(r_qw_1 >> 2ull) & 0x3fffffffull);
+    r_lc = ((r_24 + 1ull) + r_m6);
+    r_nb = (r_gw & 0xffffffffull);
+    if (!(r_m6 < 0x20000000ull)) goto l_else_70;
+    if (r_lc > r_nb) { r_r4 = 23ull; goto l_arm_5s; }
+    r_yz = r_lc;
+    goto l_capnp_i5;
+l_else_70:;
+    u64 r_3o = (r_lc + 0xffffffffc0000000ull);
+    if ((r_lc < 0x40000000ull) ? 1u : (r_3o > r_nb)) { r_r4 = 23ull; goto l_arm_5s; }
+    r_yz = r_3o;
+l_capnp_i5:;
+    r_mk = 0u;
+    r_qj = (u32)r_yz;
+    r_vj = r_tp;
+    r_at = r_qw_1;
+    r_nl = r_qw;
+    r_b2 = t_al;
+    goto l_arm_xs;
+l_capnp_hn:;
+    capnp_objects_source_follow_far_9fb2c9fcfadbb7fb(slot_1, r_rv, r_qw_1, a_5);
+    u64 r_38_1 = ld64((slot_1 + 16));
+    u64 r_38_2 = ld64((slot_1 + 8));
+    if (ld8(slot_1) == 0u) { r_mk = ld32((slot_1 + 44)); r_qj = ld32((slot_1 + 40)); r_vj = r_38_1; r_at = r_38_2; r_nl = ld64((slot_1 + 32)); r_b2 = ld64((slot_1 + 24)); goto l_arm_xs; }
+    r_9r = r_38_1;
+    r_xy = r_38_2;
+    goto l_arm_i4;
+l_arm_xs:;
+    switch ((u8)((u8)r_at & 3u)) {
+    case 0u: goto l_join_yh;
+    case 1u: goto l_arm_z2;
+    case 2u: { r_6f = 0ull; r_3l = 0ull; r_rk = 0u; r_7q = 0u; r_yr = 0ull; r_c1 = 1ull; r_g3 = 13u; r_vx = 0u; r_7j = 0u; r_p8 = 0u; goto l_capnp_6f; }
+    case 3u: goto l_arm_37;
+    default: goto l_default_e1;
+    }
+l_join_yh:;
+    r_ep = (u64)(r_at >> 32ull);
+    r_y6 = (u64)(r_at >> 48ull);
+    r_lc_1 = ((r_ep & 65535ull) + r_y6);
+    if (((u64)(r_nl >> 3ull) & 0xffffffffull) < (r_lc_1 + (u64)r_qj)) { r_6f = 0ull; r_3l = 0ull; r_rk = 0u; r_7q = 0u; r_yr = 0ull; r_c1 = 1ull; r_g3 = 23u; r_vx = 0u; r_7j = 0u; r_p8 = 0u; goto l_capnp_6f; }
+    if (!t_0c) goto l_arm_mf;
+    if (!(ld8(a_5) == 1u)) goto l_arm_mf;
+    r_rq_1 = away(a_5, 8ull);
+    r_52_1 = ld64(r_rq_1);
+    if (r_52_1 < r_lc_1) { r_6f = 0ull; r_3l = 0ull; r_rk = 0u; r_7q = 0u; r_yr = 0ull; r_c1 = 1ull; r_g3 = 30u; r_vx = 0u; r_7j = 0u; r_p8 = 0u; goto l_capnp_6f; }
+    st64(a_5, 1ull);
+    st64(r_rq_1, (r_52_1 - r_lc_1));
+l_arm_mf:;
+    r_6f = r_b2;
+    r_3l = r_nl;
+    r_rk = r_qj;
+    r_7q = r_mk;
+    r_yr = r_vj;
+    r_c1 = 0ull;
+    r_g3 = 2u;
+    r_vx = 0u;
+    r_7j = ((u32)((u32)r_y6 << 16u) | ((u32)r_ep & 65535u));
+    r_p8 = 0u;
+    goto l_capnp_6f;
+l_arm_z2:;
+    r_ep_1 = (u64)(r_at >> 32ull);
+    switch_wl = (u8)((u8)r_ep_1 & 7u);
+    r_ij = (u64)(r_at >> 35ull);
+    switch (switch_wl) {
+    case 7u: goto l_join_vn;
+    case 6u: goto l_join_10;
+    case 0u: goto l_arm_ps;
+    case 1u: goto l_arm_sm;
+    case 2u: goto l_arm_sm;
+    case 3u: goto l_arm_sm;
+    case 4u: goto l_arm_sm;
+    case 5u: goto l_arm_sm;
+    default: goto l_default_e1;
+    }
+l_join_vn:;
+    r_c4_1 = (r_ij + 1ull);
+    r_24_2 = (u64)r_qj;
+    r_gw_2 = (u64)(r_nl >> 3ull);
+    if ((r_gw_2 & 0xffffffffull) < (r_c4_1 + r_24_2)) { r_6f = 0ull; r_3l = 0ull; r_rk = 0u; r_7q = 0u; r_yr = 0ull; r_c1 = 1ull; r_g3 = 23u; r_vx = 0u; r_7j = 0u; r_p8 = 0u; goto l_capnp_6f; }
+    if (!t_0c) goto l_arm_ga;
+    if (!(ld8(a_5) == 1u)) goto l_arm_ga;
+    r_rq_2 = away(a_5, 8ull);
+    r_52_2 = ld64(r_rq_2);
+    if (!(r_52_2 > r_ij)) { r_6f = 0ull; r_3l = 0ull; r_rk = 0u; r_7q = 0u; r_yr = 0ull; r_c1 = 1ull; r_g3 = 30u; r_vx = 0u; r_7j = 0u; r_p8 = 0u; goto l_capnp_6f; }
+    st64(a_5, 1ull);
+    st64(r_rq_2, (r_52_2 - r_c4_1));
+l_arm_ga:;
+    if (!(r_gw_2 > r_24_2)) { r_o0 = 0ull; goto l_join_8m; }
+    u64 r_qw_2 = ld64((((u8 *)(uptr)r_b2) + (i64)((u64)(r_24_2 << 3ull))));
+    if ((r_qw_2 & 3ull) == 0ull) { r_o0 = r_qw_2; goto l_join_8m; }
+    r_6f = 0ull;
+    r_3l = 0ull;
+    r_rk = 0u;
+    r_7q = 0u;
+    r_yr = 0ull;
+    r_c1 = 1ull;
+    r_g3 = 2u;
+    r_vx = 0u;
+    r_7j = 0u;
+    r_p8 = 0u;
+    goto l_capnp_6f;
+l_join_8m:;
+    t_c8 = (u32)((u32)r_o0 >> 2u);
+    r_ep_2 = (u64)(r_o0 >> 32ull);
+    r_y6_1 = (u64)(r_o0 >> 48ull);
+    if (r_ij < (((r_ep_2 & 65535ull) + r_y6_1) * (u64)t_c8)) { r_6f = 0ull; r_3l = 0ull; r_rk = 0u; r_7q = 0u; r_yr = 0ull; r_c1 = 1ull; r_g3 = 10u; r_vx = 0u; r_7j = 0u; r_p8 = 0u; goto l_capnp_6f; }
+    r_6f = r_b2;
+    r_3l = r_nl;
+    r_rk = (r_qj + 1u);
+    r_7q = 0u;
+    r_yr = r_vj;
+    r_c1 = 0ull;
+    r_g3 = 5u;
+    r_vx = 0u;
+    r_7j = ((u32)((u32)r_y6_1 << 16u) | ((u32)r_ep_2 & 65535u));
+    r_p8 = t_c8;
+    goto l_capnp_6f;
+l_join_10:;
+    r_12_2 = (u32)r_ij;
+    if (((u64)(r_nl >> 3ull) & 0xffffffffull) < (r_ij + (u64)r_qj)) { r_6f = 0ull; r_3l = 0ull; r_rk = 0u; r_7q = 0u; r_yr = 0ull; r_c1 = 1ull; r_g3 = 23u; r_vx = 0u; r_7j = 0u; r_p8 = 0u; goto l_capnp_6f; }
+    if (!t_0c) { r_6f = r_b2; r_3l = r_nl; r_rk = r_qj; r_7q = r_mk; r_yr = r_vj; r_c1 = 0ull; r_g3 = 4u; r_vx = 0u; r_7j = r_12_2; r_p8 = 0u; goto l_capnp_6f; }
+    if (!(ld8(a_5) == 1u)) { r_6f = r_b2; r_3l = r_nl; r_rk = r_qj; r_7q = r_mk; r_yr = r_vj; r_c1 = 0ull; r_g3 = 4u; r_vx = 0u; r_7j = r_12_2; r_p8 = 0u; goto l_capnp_6f; }
+    r_rq_3 = away(a_5, 8ull);
+    r_52_3 = ld64(r_rq_3);
+    if (r_52_3 < r_ij) { r_6f = 0ull; r_3l = 0ull; r_rk = 0u; r_7q = 0u; r_yr = 0ull; r_c1 = 1ull; r_g3 = 30u; r_vx = 0u; r_7j = 0u; r_p8 = 0u; goto l_capnp_6f; }
+    st64(a_5, 1ull);
+    st64(r_rq_3, (r_52_3 - r_ij));
+    r_6f = r_b2;
+    r_3l = r_nl;
+    r_rk = r_qj;
+    r_7q = r_mk;
+    r_yr = r_vj;
+    r_c1 = 0ull;
+    r_g3 = 4u;
+    r_vx = 0u;
+    r_7j = r_12_2;
+    r_p8 = 0u;
+    goto l_capnp_6f;
+l_arm_ps:;
+    r_6f = r_b2;
+    r_3l = r_nl;
+    r_rk = r_qj;
+    r_7q = r_mk;
+    r_yr = r_vj;
+    r_c1 = 0ull;
+    r_g3 = 3u;
+    r_vx = 0u;
+    r_7j = 0u;
+    r_p8 = (u32)r_ij;
+    goto l_capnp_6f;
+l_arm_sm:;
+    r_12_4 = (u32)r_ij;
+    r_c6 = (u64)(((ld64(away(away(((u8 *)switch_table_capnp_pointers_pointers_validate_validate_8439008b), 8 * (r_ep_1 & 7ull)), 0xfffffffffffffff8ull)) * r_ij) + 63ull) >> 6ull);
+    if (((u64)(r_nl >> 3ull) & 0xffffffffull) < (r_c6 + (u64)r_qj)) { r_6f = 0ull; r_3l = 0ull; r_rk = 0u; r_7q = 0u; r_yr = 0ull; r_c1 = 1ull; r_g3 = 23u; r_vx = 0u; r_7j = 0u; r_p8 = 0u; goto l_capnp_6f; }
+    if (!t_0c) goto l_arm_zg;
+    if (!(ld8(a_5) == 1u)) goto l_arm_zg;
+    r_rq_4 = away(a_5, 8ull);
+    r_52_4 = ld64(r_rq_4);
+    if (r_52_4 < r_c6) { r_6f = 0ull; r_3l = 0ull; r_rk = 0u; r_7q = 0u; r_yr = 0ull; r_c1 = 1ull; r_g3 = 30u; r_vx = 0u; r_7j = 0u; r_p8 = 0u; goto l_capnp_6f; }
+    st64(a_5, 1ull);
+    st64(r_rq_4, (r_52_4 - r_c6));
+l_arm_zg:;
+    r_6f = r_b2;
+    r_3l = r_nl;
+    r_rk = r_qj;
+    r_7q = r_mk;
+    r_yr = r_vj;
+    r_c1 = 0ull;
+    r_g3 = 3u;
+    r_vx = 0u;
+    r_7j = (u32)switch_wl;
+    r_p8 = r_12_4;
+    goto l_capnp_6f;
+l_arm_37:;
+    u8 r_ml = ((r_at & 0xffffffffull) != 3ull);
+    r_6f = 0ull;
+    r_3l = 0ull;
+    r_rk = 0u;
+    r_7q = 0u;
+    r_yr = 0ull;
+    r_c1 = (u64)r_ml;
+    r_g3 = (r_ml ? 34u : 1u);
+    r_vx = (r_ml ? 0u : (u32)(u64)(r_at >> 32ull));
+    r_7j = 0u;
+    r_p8 = 0u;
+    goto l_capnp_6f;
+l_default_e1:;
+    UNREACHABLE();
+l_arm_5s:;
+    r_9r = 0ull;
+    r_xy = r_r4;
+l_arm_i4:;
+    r_6f = 0ull;
+    r_3l = 0ull;
+    r_rk = 0u;
+    r_7q = 0u;
+    r_yr = r_9r;
+    r_c1 = 1ull;
+    r_g3 = ((u32)r_xy & 255u);
+    r_vx = (u32)(u64)(r_xy >> 32ull);
+    r_7j = 0u;
+    r_p8 = 0u;
+l_capnp_6f:;
+    st64(a_1, r_c1);
+    st32(away(a_1, 8ull), r_g3);
+    st32(away(a_1, 12ull), r_vx);
+    st64(away(a_1, 16ull), r_yr);
+    st64(away(a_1, 24ull), r_6f);
+    st64(away(a_1, 32ull), r_3l);
+    st32(away(a_1, 40ull), r_rk);
+    st32(away(a_1, 44ull), r_7q);
+    st32(away(a_1, 48ull), r_7j);
+    st32(away(a_1, 52ull), r_p8);
+    return;
+}
+
+/* capnp_refusals::refusals::search::search_elements::<#9fb2c9fcfadbb7fb> */
+static void capnp_refusals_refusals_search_search_elements_9fb2c9fcfadbb7fb(u8 *a_1, u8 a_2, u8 a_3, u8 *a_4, u32 a_5, u32 a_6, u32 a_7, u8 *a_8)
+{
+    A(8) u8 slot_1[40];
+    u32 r_yg;
+    u8 *r_t9;
+    u8 *r_r2;
+    u32 r_sv;
+    memset(slot_1, 0u, 40);
+    if (a_6 == 0u) goto l_then_h9;
+    goto l_join_a3;
+l_common_68:;
+    return;
+l_then_h9:;
+    memset(a_1, 0u, 40);
+    goto l_common_68;
+l_join_a3:;
+    r_yg = (a_6 + a_5);
+    if (a_7 == 0u) goto l_after_h9;
+    r_t9 = away(a_4, 48ull);
+    r_r2 = away(a_4, 56ull);
+    r_sv = 0u;
+    goto l_join_tm;
+l_loop_0k:;
+    u32 r_7t = (r_sv + 1u);
+    if (r_7t == a_7) goto l_after_h9;
+    r_sv = r_7t;
+l_join_tm:;
+    capnp_refusals_refusals_search_search_pointers_9fb2c9fcfadbb7fb(slot_1, a_2, a_3, a_4, (((r_sv * r_yg) + a_5) + ld32(r_t9)), a_6, ld32(r_r2), a_8);
+    if (!(ld8(slot_1) == 1u)) goto l_loop_0k;
+    st64(a_1, 1ull);
+    mv32(away(a_1, 8ull), (slot_1 + 8));
+    goto l_common_68;
+l_after_h9:;
+    memset(a_1, 0u, 40);
+    goto l_common_68;
+}
+
+/* capnp_refusals::refusals::search::search_pointers::<#9fb2c9fcfadbb7fb> */
+static NEVER void capnp_refusals_refusals_search_search_pointers_9fb2c9fcfadbb7fb(u8 *a_1, u8 a_2, u8 a_3, u8 *a_4, u32 a_5, u32 a_6, u32 a_7, u8 *a_8)
+{
+    A(8) u8 slot_1[40];
+    u32 r_uq;
+    memset(slot_1, 0u, 40);
+    r_uq = 0u;
+    goto l_join_j5;
+l_loop_0k:;
+    u32 r_7t = (r_uq + 1u);
+    if (r_7t == a_6) goto l_after_h9;
+    r_uq = r_7t;
+l_join_j5:;
+    capnp_refusals_refusals_search_search_object_9fb2c9fcfadbb7fb(slot_1, a_2, a_3, a_4, (r_uq + a_5), a_7, a_8);
+    if (ld8(slot_1) == 1u) goto l_arm_os;
+    goto l_loop_0k;
+l_common_68:;
+    return;
+l_arm_os:;
+    st64(a_1, 1ull);
+    mv32(away(a_1, 8ull), (slot_1 + 8));
+    goto l_common_68;
+l_after_h9:;
+    memset(a_1, 0u, 40);
+    goto l_common_68;
+}
+
 /* capnp_pointers::pointers::sizes::add_object::<#1e87a151ef20e12e> */
 static NEVER u8 capnp_pointers_pointers_sizes_add_object_1e87a151ef20e12e(u8 *a_1, u32 a_2, u32 a_3, u8 *a_4)
 {
@@ -18132,307 +19804,6 @@ l_arm_ki:;
     goto l_join_85;
 l_return_ri:;
     return r_fk;
-}
-
-/* capnp_objects::source::Source::measure_object::<#1e87a151ef20e12e> */
-static NEVER void capnp_objects_source_Source_measure_object_1e87a151ef20e12e(u8 *a_1, u8 *a_2, u8 *a_3, u32 a_4, u8 *a_5)
-{
-    A(8) u8 slot_1[56];
-    u8 r_dh;
-    u8 *r_rv;
-    u64 r_tp;
-    u8 *r_rv_1;
-    u64 r_qw;
-    u64 r_24;
-    u64 r_gw;
-    u64 r_qw_1;
-    u64 t_al;
-    u8 t_0c;
-    u64 r_lc;
-    u64 r_nb;
-    u64 r_yz;
-    u32 r_mk;
-    u32 r_qj;
-    u64 r_vj;
-    u64 r_at;
-    u64 r_nl;
-    u64 r_b2;
-    u64 r_ep;
-    u64 r_y6;
-    u64 r_lc_1;
-    u8 *r_rq_1;
-    u64 r_52_1;
-    u64 r_ep_1;
-    u8 switch_wl;
-    u64 r_ij;
-    u64 r_c4_1;
-    u64 r_24_2;
-    u64 r_gw_2;
-    u8 *r_rq_2;
-    u64 r_52_2;
-    u64 r_o0;
-    u32 t_c8;
-    u64 r_ep_2;
-    u64 r_y6_1;
-    u32 r_12_2;
-    u8 *r_rq_3;
-    u64 r_52_3;
-    u32 r_12_4;
-    u64 r_c6;
-    u8 *r_rq_4;
-    u64 r_52_4;
-    u64 r_r4;
-    u64 r_9r;
-    u64 r_xy;
-    u64 r_6f;
-    u64 r_3l;
-    u32 r_rk;
-    u32 r_7q;
-    u64 r_yr;
-    u64 r_c1;
-    u32 r_g3;
-    u32 r_vx;
-    u32 r_7j;
-    u32 r_p8;
-    r_dh = ld8(a_2);
-    r_rv = ldp(away(a_2, 8ull));
-    r_tp = ld64(a_3);
-    r_rv_1 = ldp((a_3 + 8));
-    r_qw = ld64((a_3 + 16));
-    r_24 = (u64)ld32((a_3 + 24));
-    r_gw = (u64)(r_qw >> 3ull);
-    if (!(r_gw > r_24)) { r_6f = 0ull; r_3l = 0ull; r_rk = 0u; r_7q = 0u; r_yr = 0ull; r_c1 = 0ull; r_g3 = 0u; r_vx = 0u; r_7j = 0u; r_p8 = 0u; goto l_capnp_6f; }
-    r_qw_1 = ld64((r_rv_1 + (i64)((u64)(r_24 << 3ull))));
-    if (r_qw_1 == 0ull) { r_6f = 0ull; r_3l = 0ull; r_rk = 0u; r_7q = 0u; r_yr = 0ull; r_c1 = 0ull; r_g3 = 0u; r_vx = 0u; r_7j = 0u; r_p8 = 0u; goto l_capnp_6f; }
-    if ((i32)a_4 < (i32)1u) { r_6f = 0ull; r_3l = 0ull; r_rk = 0u; r_7q = 0u; r_yr = 0ull; r_c1 = 1ull; r_g3 = 25u; r_vx = 0u; r_7j = 0u; r_p8 = 0u; goto l_capnp_6f; }
-    t_al = (u64)(uptr)r_rv_1;
-    memset(slot_1, 0u, 56);
-    t_0c = (r_dh == 0u);
-    if (!t_0c) goto l_capnp_sm;
-    u8 *r_08 = away(a_5, 16ull);
-    st64(r_08, uadd_sat64(ld64(r_08), 1ull));
-    if ((r_qw_1 & 3ull) == 2ull) goto l_capnp_q3;
-    goto l_join_bd;
-l_capnp_sm:;
-    if (!((r_qw_1 & 3ull) == 2ull)) goto l_join_bd;
-    st32((slot_1 + 8), 32u);
-    r_r4 = ld64((slot_1 + 8));
-    goto l_arm_5s;
-l_join_bd:;
-    u64 r_m6 = ((u64)(r_qw_1 >> 2ull) & 0x3fffffffull);
-    r_lc = ((r_24 + 1ull) + r_m6);
-    r_nb = (r_gw & 0xffffffffull);
-    if (!(r_m6 < 0x20000000ull)) goto l_else_70;
-    if (r_lc > r_nb) { r_r4 = 23ull; goto l_arm_5s; }
-    r_yz = r_lc;
-    goto l_capnp_i5;
-l_else_70:;
-    u64 r_3o = (r_lc + 0xffffffffc0000000ull);
-    if ((r_lc < 0x40000000ull) ? 1u : (r_3o > r_nb)) { r_r4 = 23ull; goto l_arm_5s; }
-    r_yz = r_3o;
-l_capnp_i5:;
-    r_mk = 0u;
-    r_qj = (u32)r_yz;
-    r_vj = r_tp;
-    r_at = r_qw_1;
-    r_nl = r_qw;
-    r_b2 = t_al;
-    goto l_arm_xs;
-l_capnp_q3:;
-    capnp_objects_source_follow_far_1e87a151ef20e12e(slot_1, r_rv, r_qw_1, a_5);
-    u64 r_38_1 = ld64((slot_1 + 16));
-    u64 r_38_2 = ld64((slot_1 + 8));
-    if (ld8(slot_1) == 0u) { r_mk = ld32((slot_1 + 44)); r_qj = ld32((slot_1 + 40)); r_vj = r_38_1; r_at = r_38_2; r_nl = ld64((slot_1 + 32)); r_b2 = ld64((slot_1 + 24)); goto l_arm_xs; }
-    r_9r = r_38_1;
-    r_xy = r_38_2;
-    goto l_arm_i4;
-l_arm_xs:;
-    switch ((u8)((u8)r_at & 3u)) {
-    case 0u: goto l_join_yh;
-    case 1u: goto l_arm_z2;
-    case 2u: { r_6f = 0ull; r_3l = 0ull; r_rk = 0u; r_7q = 0u; r_yr = 0ull; r_c1 = 1ull; r_g3 = 13u; r_vx = 0u; r_7j = 0u; r_p8 = 0u; goto l_capnp_6f; }
-    case 3u: goto l_arm_37;
-    default: goto l_default_e1;
-    }
-l_join_yh:;
-    r_ep = (u64)(r_at >> 32ull);
-    r_y6 = (u64)(r_at >> 48ull);
-    r_lc_1 = ((r_ep & 65535ull) + r_y6);
-    if (((u64)(r_nl >> 3ull) & 0xffffffffull) < (r_lc_1 + (u64)r_qj)) { r_6f = 0ull; r_3l = 0ull; r_rk = 0u; r_7q = 0u; r_yr = 0ull; r_c1 = 1ull; r_g3 = 23u; r_vx = 0u; r_7j = 0u; r_p8 = 0u; goto l_capnp_6f; }
-    if (!t_0c) goto l_arm_mf;
-    if (!(ld8(a_5) == 1u)) goto l_arm_mf;
-    r_rq_1 = away(a_5, 8ull);
-    r_52_1 = ld64(r_rq_1);
-    if (r_52_1 < r_lc_1) { r_6f = 0ull; r_3l = 0ull; r_rk = 0u; r_7q = 0u; r_yr = 0ull; r_c1 = 1ull; r_g3 = 30u; r_vx = 0u; r_7j = 0u; r_p8 = 0u; goto l_capnp_6f; }
-    st64(a_5, 1ull);
-    st64(r_rq_1, (r_52_1 - r_lc_1));
-l_arm_mf:;
-    r_6f = r_b2;
-    r_3l = r_nl;
-    r_rk = r_qj;
-    r_7q = r_mk;
-    r_yr = r_vj;
-    r_c1 = 0ull;
-    r_g3 = 2u;
-    r_vx = 0u;
-    r_7j = ((u32)((u32)r_y6 << 16u) | ((u32)r_ep & 65535u));
-    r_p8 = 0u;
-    goto l_capnp_6f;
-l_arm_z2:;
-    r_ep_1 = (u64)(r_at >> 32ull);
-    switch_wl = (u8)((u8)r_ep_1 & 7u);
-    r_ij = (u64)(r_at >> 35ull);
-    switch (switch_wl) {
-    case 7u: goto l_join_vn;
-    case 6u: goto l_join_10;
-    case 0u: goto l_arm_ps;
-    case 1u: goto l_arm_sm;
-    case 2u: goto l_arm_sm;
-    case 3u: goto l_arm_sm;
-    case 4u: goto l_arm_sm;
-    case 5u: goto l_arm_sm;
-    default: goto l_default_e1;
-    }
-l_join_vn:;
-    r_c4_1 = (r_ij + 1ull);
-    r_24_2 = (u64)r_qj;
-    r_gw_2 = (u64)(r_nl >> 3ull);
-    if ((r_gw_2 & 0xffffffffull) < (r_c4_1 + r_24_2)) { r_6f = 0ull; r_3l = 0ull; r_rk = 0u; r_7q = 0u; r_yr = 0ull; r_c1 = 1ull; r_g3 = 23u; r_vx = 0u; r_7j = 0u; r_p8 = 0u; goto l_capnp_6f; }
-    if (!t_0c) goto l_arm_ga;
-    if (!(ld8(a_5) == 1u)) goto l_arm_ga;
-    r_rq_2 = away(a_5, 8ull);
-    r_52_2 = ld64(r_rq_2);
-    if (!(r_52_2 > r_ij)) { r_6f = 0ull; r_3l = 0ull; r_rk = 0u; r_7q = 0u; r_yr = 0ull; r_c1 = 1ull; r_g3 = 30u; r_vx = 0u; r_7j = 0u; r_p8 = 0u; goto l_capnp_6f; }
-    st64(a_5, 1ull);
-    st64(r_rq_2, (r_52_2 - r_c4_1));
-l_arm_ga:;
-    if (!(r_gw_2 > r_24_2)) { r_o0 = 0ull; goto l_join_8m; }
-    u64 r_qw_2 = ld64((((u8 *)(uptr)r_b2) + (i64)((u64)(r_24_2 << 3ull))));
-    if ((r_qw_2 & 3ull) == 0ull) { r_o0 = r_qw_2; goto l_join_8m; }
-    r_6f = 0ull;
-    r_3l = 0ull;
-    r_rk = 0u;
-    r_7q = 0u;
-    r_yr = 0ull;
-    r_c1 = 1ull;
-    r_g3 = 2u;
-    r_vx = 0u;
-    r_7j = 0u;
-    r_p8 = 0u;
-    goto l_capnp_6f;
-l_join_8m:;
-    t_c8 = (u32)((u32)r_o0 >> 2u);
-    r_ep_2 = (u64)(r_o0 >> 32ull);
-    r_y6_1 = (u64)(r_o0 >> 48ull);
-    if (r_ij < (((r_ep_2 & 65535ull) + r_y6_1) * (u64)t_c8)) { r_6f = 0ull; r_3l = 0ull; r_rk = 0u; r_7q = 0u; r_yr = 0ull; r_c1 = 1ull; r_g3 = 10u; r_vx = 0u; r_7j = 0u; r_p8 = 0u; goto l_capnp_6f; }
-    r_6f = r_b2;
-    r_3l = r_nl;
-    r_rk = (r_qj + 1u);
-    r_7q = 0u;
-    r_yr = r_vj;
-    r_c1 = 0ull;
-    r_g3 = 5u;
-    r_vx = 0u;
-    r_7j = ((u32)((u32)r_y6_1 << 16u) | ((u32)r_ep_2 & 65535u));
-    r_p8 = t_c8;
-    goto l_capnp_6f;
-l_join_10:;
-    r_12_2 = (u32)r_ij;
-    if (((u64)(r_nl >> 3ull) & 0xffffffffull) < (r_ij + (u64)r_qj)) { r_6f = 0ull; r_3l = 0ull; r_rk = 0u; r_7q = 0u; r_yr = 0ull; r_c1 = 1ull; r_g3 = 23u; r_vx = 0u; r_7j = 0u; r_p8 = 0u; goto l_capnp_6f; }
-    if (!t_0c) { r_6f = r_b2; r_3l = r_nl; r_rk = r_qj; r_7q = r_mk; r_yr = r_vj; r_c1 = 0ull; r_g3 = 4u; r_vx = 0u; r_7j = r_12_2; r_p8 = 0u; goto l_capnp_6f; }
-    if (!(ld8(a_5) == 1u)) { r_6f = r_b2; r_3l = r_nl; r_rk = r_qj; r_7q = r_mk; r_yr = r_vj; r_c1 = 0ull; r_g3 = 4u; r_vx = 0u; r_7j = r_12_2; r_p8 = 0u; goto l_capnp_6f; }
-    r_rq_3 = away(a_5, 8ull);
-    r_52_3 = ld64(r_rq_3);
-    if (r_52_3 < r_ij) { r_6f = 0ull; r_3l = 0ull; r_rk = 0u; r_7q = 0u; r_yr = 0ull; r_c1 = 1ull; r_g3 = 30u; r_vx = 0u; r_7j = 0u; r_p8 = 0u; goto l_capnp_6f; }
-    st64(a_5, 1ull);
-    st64(r_rq_3, (r_52_3 - r_ij));
-    r_6f = r_b2;
-    r_3l = r_nl;
-    r_rk = r_qj;
-    r_7q = r_mk;
-    r_yr = r_vj;
-    r_c1 = 0ull;
-    r_g3 = 4u;
-    r_vx = 0u;
-    r_7j = r_12_2;
-    r_p8 = 0u;
-    goto l_capnp_6f;
-l_arm_ps:;
-    r_6f = r_b2;
-    r_3l = r_nl;
-    r_rk = r_qj;
-    r_7q = r_mk;
-    r_yr = r_vj;
-    r_c1 = 0ull;
-    r_g3 = 3u;
-    r_vx = 0u;
-    r_7j = 0u;
-    r_p8 = (u32)r_ij;
-    goto l_capnp_6f;
-l_arm_sm:;
-    r_12_4 = (u32)r_ij;
-    r_c6 = (u64)(((ld64(away(away(((u8 *)switch_table_capnp_pointers_pointers_validate_validate_8439008b), 8 * (r_ep_1 & 7ull)), 0xfffffffffffffff8ull)) * r_ij) + 63ull) >> 6ull);
-    if (((u64)(r_nl >> 3ull) & 0xffffffffull) < (r_c6 + (u64)r_qj)) { r_6f = 0ull; r_3l = 0ull; r_rk = 0u; r_7q = 0u; r_yr = 0ull; r_c1 = 1ull; r_g3 = 23u; r_vx = 0u; r_7j = 0u; r_p8 = 0u; goto l_capnp_6f; }
-    if (!t_0c) goto l_arm_zg;
-    if (!(ld8(a_5) == 1u)) goto l_arm_zg;
-    r_rq_4 = away(a_5, 8ull);
-    r_52_4 = ld64(r_rq_4);
-    if (r_52_4 < r_c6) { r_6f = 0ull; r_3l = 0ull; r_rk = 0u; r_7q = 0u; r_yr = 0ull; r_c1 = 1ull; r_g3 = 30u; r_vx = 0u; r_7j = 0u; r_p8 = 0u; goto l_capnp_6f; }
-    st64(a_5, 1ull);
-    st64(r_rq_4, (r_52_4 - r_c6));
-l_arm_zg:;
-    r_6f = r_b2;
-    r_3l = r_nl;
-    r_rk = r_qj;
-    r_7q = r_mk;
-    r_yr = r_vj;
-    r_c1 = 0ull;
-    r_g3 = 3u;
-    r_vx = 0u;
-    r_7j = (u32)switch_wl;
-    r_p8 = r_12_4;
-    goto l_capnp_6f;
-l_arm_37:;
-    u8 r_ml = ((r_at & 0xffffffffull) != 3ull);
-    r_6f = 0ull;
-    r_3l = 0ull;
-    r_rk = 0u;
-    r_7q = 0u;
-    r_yr = 0ull;
-    r_c1 = (u64)r_ml;
-    r_g3 = (r_ml ? 34u : 1u);
-    r_vx = (r_ml ? 0u : (u32)(u64)(r_at >> 32ull));
-    r_7j = 0u;
-    r_p8 = 0u;
-    goto l_capnp_6f;
-l_default_e1:;
-    UNREACHABLE();
-l_arm_5s:;
-    r_9r = 0ull;
-    r_xy = r_r4;
-l_arm_i4:;
-    r_6f = 0ull;
-    r_3l = 0ull;
-    r_rk = 0u;
-    r_7q = 0u;
-    r_yr = r_9r;
-    r_c1 = 1ull;
-    r_g3 = ((u32)r_xy & 255u);
-    r_vx = (u32)(u64)(r_xy >> 32ull);
-    r_7j = 0u;
-    r_p8 = 0u;
-l_capnp_6f:;
-    st64(a_1, r_c1);
-    st32(away(a_1, 8ull), r_g3);
-    st32(away(a_1, 12ull), r_vx);
-    st64(away(a_1, 16ull), r_yr);
-    st64(away(a_1, 24ull), r_6f);
-    st64(away(a_1, 32ull), r_3l);
-    st32(away(a_1, 40ull), r_rk);
-    st32(away(a_1, 44ull), r_7q);
-    st32(away(a_1, 48ull), r_7j);
-    st32(away(a_1, 52ull), r_p8);
-    return;
 }
 
 /* capnp_pointers::pointers::sizes::add_pointers::<#1e87a151ef20e12e> */
@@ -18940,307 +20311,6 @@ l_return_ri:;
     return r_fk;
 }
 
-/* capnp_objects::source::Source::measure_object::<#9fb2c9fcfadbb7fb> */
-static NEVER void capnp_objects_source_Source_measure_object_9fb2c9fcfadbb7fb(u8 *a_1, u8 *a_2, u8 *a_3, u32 a_4, u8 *a_5)
-{
-    A(8) u8 slot_1[56];
-    u8 r_dh;
-    u8 *r_rv;
-    u64 r_tp;
-    u8 *r_rv_1;
-    u64 r_qw;
-    u64 r_24;
-    u64 r_gw;
-    u64 r_qw_1;
-    u64 t_al;
-    u8 t_0c;
-    u64 r_lc;
-    u64 r_nb;
-    u64 r_yz;
-    u32 r_mk;
-    u32 r_qj;
-    u64 r_vj;
-    u64 r_at;
-    u64 r_nl;
-    u64 r_b2;
-    u64 r_ep;
-    u64 r_y6;
-    u64 r_lc_1;
-    u8 *r_rq_1;
-    u64 r_52_1;
-    u64 r_ep_1;
-    u8 switch_wl;
-    u64 r_ij;
-    u64 r_c4_1;
-    u64 r_24_2;
-    u64 r_gw_2;
-    u8 *r_rq_2;
-    u64 r_52_2;
-    u64 r_o0;
-    u32 t_c8;
-    u64 r_ep_2;
-    u64 r_y6_1;
-    u32 r_12_2;
-    u8 *r_rq_3;
-    u64 r_52_3;
-    u32 r_12_4;
-    u64 r_c6;
-    u8 *r_rq_4;
-    u64 r_52_4;
-    u64 r_r4;
-    u64 r_9r;
-    u64 r_xy;
-    u64 r_6f;
-    u64 r_3l;
-    u32 r_rk;
-    u32 r_7q;
-    u64 r_yr;
-    u64 r_c1;
-    u32 r_g3;
-    u32 r_vx;
-    u32 r_7j;
-    u32 r_p8;
-    r_dh = ld8(a_2);
-    r_rv = ldp(away(a_2, 8ull));
-    r_tp = ld64(a_3);
-    r_rv_1 = ldp((a_3 + 8));
-    r_qw = ld64((a_3 + 16));
-    r_24 = (u64)ld32((a_3 + 24));
-    r_gw = (u64)(r_qw >> 3ull);
-    if (!(r_gw > r_24)) { r_6f = 0ull; r_3l = 0ull; r_rk = 0u; r_7q = 0u; r_yr = 0ull; r_c1 = 0ull; r_g3 = 0u; r_vx = 0u; r_7j = 0u; r_p8 = 0u; goto l_capnp_6f; }
-    r_qw_1 = ld64((r_rv_1 + (i64)((u64)(r_24 << 3ull))));
-    if (r_qw_1 == 0ull) { r_6f = 0ull; r_3l = 0ull; r_rk = 0u; r_7q = 0u; r_yr = 0ull; r_c1 = 0ull; r_g3 = 0u; r_vx = 0u; r_7j = 0u; r_p8 = 0u; goto l_capnp_6f; }
-    if ((i32)a_4 < (i32)1u) { r_6f = 0ull; r_3l = 0ull; r_rk = 0u; r_7q = 0u; r_yr = 0ull; r_c1 = 1ull; r_g3 = 25u; r_vx = 0u; r_7j = 0u; r_p8 = 0u; goto l_capnp_6f; }
-    t_al = (u64)(uptr)r_rv_1;
-    memset(slot_1, 0u, 56);
-    t_0c = (r_dh == 0u);
-    if (!t_0c) goto l_capnp_sm;
-    u8 *r_08 = away(a_5, 16ull);
-    st64(r_08, uadd_sat64(ld64(r_08), 1ull));
-    if ((r_qw_1 & 3ull) == 2ull) goto l_capnp_hn;
-    goto l_join_bd;
-l_capnp_sm:;
-    if (!((r_qw_1 & 3ull) == 2ull)) goto l_join_bd;
-    st32((slot_1 + 8), 32u);
-    r_r4 = ld64((slot_1 + 8));
-    goto l_arm_5s;
-l_join_bd:;
-    u64 r_m6 = ((u64)(r_qw_1 >> 2ull) & 0x3fffffffull);
-    r_lc = ((r_24 + 1ull) + r_m6);
-    r_nb = (r_gw & 0xffffffffull);
-    if (!(r_m6 < 0x20000000ull)) goto l_else_70;
-    if (r_lc > r_nb) { r_r4 = 23ull; goto l_arm_5s; }
-    r_yz = r_lc;
-    goto l_capnp_i5;
-l_else_70:;
-    u64 r_3o = (r_lc + 0xffffffffc0000000ull);
-    if ((r_lc < 0x40000000ull) ? 1u : (r_3o > r_nb)) { r_r4 = 23ull; goto l_arm_5s; }
-    r_yz = r_3o;
-l_capnp_i5:;
-    r_mk = 0u;
-    r_qj = (u32)r_yz;
-    r_vj = r_tp;
-    r_at = r_qw_1;
-    r_nl = r_qw;
-    r_b2 = t_al;
-    goto l_arm_xs;
-l_capnp_hn:;
-    capnp_objects_source_follow_far_9fb2c9fcfadbb7fb(slot_1, r_rv, r_qw_1, a_5);
-    u64 r_38_1 = ld64((slot_1 + 16));
-    u64 r_38_2 = ld64((slot_1 + 8));
-    if (ld8(slot_1) == 0u) { r_mk = ld32((slot_1 + 44)); r_qj = ld32((slot_1 + 40)); r_vj = r_38_1; r_at = r_38_2; r_nl = ld64((slot_1 + 32)); r_b2 = ld64((slot_1 + 24)); goto l_arm_xs; }
-    r_9r = r_38_1;
-    r_xy = r_38_2;
-    goto l_arm_i4;
-l_arm_xs:;
-    switch ((u8)((u8)r_at & 3u)) {
-    case 0u: goto l_join_yh;
-    case 1u: goto l_arm_z2;
-    case 2u: { r_6f = 0ull; r_3l = 0ull; r_rk = 0u; r_7q = 0u; r_yr = 0ull; r_c1 = 1ull; r_g3 = 13u; r_vx = 0u; r_7j = 0u; r_p8 = 0u; goto l_capnp_6f; }
-    case 3u: goto l_arm_37;
-    default: goto l_default_e1;
-    }
-l_join_yh:;
-    r_ep = (u64)(r_at >> 32ull);
-    r_y6 = (u64)(r_at >> 48ull);
-    r_lc_1 = ((r_ep & 65535ull) + r_y6);
-    if (((u64)(r_nl >> 3ull) & 0xffffffffull) < (r_lc_1 + (u64)r_qj)) { r_6f = 0ull; r_3l = 0ull; r_rk = 0u; r_7q = 0u; r_yr = 0ull; r_c1 = 1ull; r_g3 = 23u; r_vx = 0u; r_7j = 0u; r_p8 = 0u; goto l_capnp_6f; }
-    if (!t_0c) goto l_arm_mf;
-    if (!(ld8(a_5) == 1u)) goto l_arm_mf;
-    r_rq_1 = away(a_5, 8ull);
-    r_52_1 = ld64(r_rq_1);
-    if (r_52_1 < r_lc_1) { r_6f = 0ull; r_3l = 0ull; r_rk = 0u; r_7q = 0u; r_yr = 0ull; r_c1 = 1ull; r_g3 = 30u; r_vx = 0u; r_7j = 0u; r_p8 = 0u; goto l_capnp_6f; }
-    st64(a_5, 1ull);
-    st64(r_rq_1, (r_52_1 - r_lc_1));
-l_arm_mf:;
-    r_6f = r_b2;
-    r_3l = r_nl;
-    r_rk = r_qj;
-    r_7q = r_mk;
-    r_yr = r_vj;
-    r_c1 = 0ull;
-    r_g3 = 2u;
-    r_vx = 0u;
-    r_7j = ((u32)((u32)r_y6 << 16u) | ((u32)r_ep & 65535u));
-    r_p8 = 0u;
-    goto l_capnp_6f;
-l_arm_z2:;
-    r_ep_1 = (u64)(r_at >> 32ull);
-    switch_wl = (u8)((u8)r_ep_1 & 7u);
-    r_ij = (u64)(r_at >> 35ull);
-    switch (switch_wl) {
-    case 7u: goto l_join_vn;
-    case 6u: goto l_join_10;
-    case 0u: goto l_arm_ps;
-    case 1u: goto l_arm_sm;
-    case 2u: goto l_arm_sm;
-    case 3u: goto l_arm_sm;
-    case 4u: goto l_arm_sm;
-    case 5u: goto l_arm_sm;
-    default: goto l_default_e1;
-    }
-l_join_vn:;
-    r_c4_1 = (r_ij + 1ull);
-    r_24_2 = (u64)r_qj;
-    r_gw_2 = (u64)(r_nl >> 3ull);
-    if ((r_gw_2 & 0xffffffffull) < (r_c4_1 + r_24_2)) { r_6f = 0ull; r_3l = 0ull; r_rk = 0u; r_7q = 0u; r_yr = 0ull; r_c1 = 1ull; r_g3 = 23u; r_vx = 0u; r_7j = 0u; r_p8 = 0u; goto l_capnp_6f; }
-    if (!t_0c) goto l_arm_ga;
-    if (!(ld8(a_5) == 1u)) goto l_arm_ga;
-    r_rq_2 = away(a_5, 8ull);
-    r_52_2 = ld64(r_rq_2);
-    if (!(r_52_2 > r_ij)) { r_6f = 0ull; r_3l = 0ull; r_rk = 0u; r_7q = 0u; r_yr = 0ull; r_c1 = 1ull; r_g3 = 30u; r_vx = 0u; r_7j = 0u; r_p8 = 0u; goto l_capnp_6f; }
-    st64(a_5, 1ull);
-    st64(r_rq_2, (r_52_2 - r_c4_1));
-l_arm_ga:;
-    if (!(r_gw_2 > r_24_2)) { r_o0 = 0ull; goto l_join_8m; }
-    u64 r_qw_2 = ld64((((u8 *)(uptr)r_b2) + (i64)((u64)(r_24_2 << 3ull))));
-    if ((r_qw_2 & 3ull) == 0ull) { r_o0 = r_qw_2; goto l_join_8m; }
-    r_6f = 0ull;
-    r_3l = 0ull;
-    r_rk = 0u;
-    r_7q = 0u;
-    r_yr = 0ull;
-    r_c1 = 1ull;
-    r_g3 = 2u;
-    r_vx = 0u;
-    r_7j = 0u;
-    r_p8 = 0u;
-    goto l_capnp_6f;
-l_join_8m:;
-    t_c8 = (u32)((u32)r_o0 >> 2u);
-    r_ep_2 = (u64)(r_o0 >> 32ull);
-    r_y6_1 = (u64)(r_o0 >> 48ull);
-    if (r_ij < (((r_ep_2 & 65535ull) + r_y6_1) * (u64)t_c8)) { r_6f = 0ull; r_3l = 0ull; r_rk = 0u; r_7q = 0u; r_yr = 0ull; r_c1 = 1ull; r_g3 = 10u; r_vx = 0u; r_7j = 0u; r_p8 = 0u; goto l_capnp_6f; }
-    r_6f = r_b2;
-    r_3l = r_nl;
-    r_rk = (r_qj + 1u);
-    r_7q = 0u;
-    r_yr = r_vj;
-    r_c1 = 0ull;
-    r_g3 = 5u;
-    r_vx = 0u;
-    r_7j = ((u32)((u32)r_y6_1 << 16u) | ((u32)r_ep_2 & 65535u));
-    r_p8 = t_c8;
-    goto l_capnp_6f;
-l_join_10:;
-    r_12_2 = (u32)r_ij;
-    if (((u64)(r_nl >> 3ull) & 0xffffffffull) < (r_ij + (u64)r_qj)) { r_6f = 0ull; r_3l = 0ull; r_rk = 0u; r_7q = 0u; r_yr = 0ull; r_c1 = 1ull; r_g3 = 23u; r_vx = 0u; r_7j = 0u; r_p8 = 0u; goto l_capnp_6f; }
-    if (!t_0c) { r_6f = r_b2; r_3l = r_nl; r_rk = r_qj; r_7q = r_mk; r_yr = r_vj; r_c1 = 0ull; r_g3 = 4u; r_vx = 0u; r_7j = r_12_2; r_p8 = 0u; goto l_capnp_6f; }
-    if (!(ld8(a_5) == 1u)) { r_6f = r_b2; r_3l = r_nl; r_rk = r_qj; r_7q = r_mk; r_yr = r_vj; r_c1 = 0ull; r_g3 = 4u; r_vx = 0u; r_7j = r_12_2; r_p8 = 0u; goto l_capnp_6f; }
-    r_rq_3 = away(a_5, 8ull);
-    r_52_3 = ld64(r_rq_3);
-    if (r_52_3 < r_ij) { r_6f = 0ull; r_3l = 0ull; r_rk = 0u; r_7q = 0u; r_yr = 0ull; r_c1 = 1ull; r_g3 = 30u; r_vx = 0u; r_7j = 0u; r_p8 = 0u; goto l_capnp_6f; }
-    st64(a_5, 1ull);
-    st64(r_rq_3, (r_52_3 - r_ij));
-    r_6f = r_b2;
-    r_3l = r_nl;
-    r_rk = r_qj;
-    r_7q = r_mk;
-    r_yr = r_vj;
-    r_c1 = 0ull;
-    r_g3 = 4u;
-    r_vx = 0u;
-    r_7j = r_12_2;
-    r_p8 = 0u;
-    goto l_capnp_6f;
-l_arm_ps:;
-    r_6f = r_b2;
-    r_3l = r_nl;
-    r_rk = r_qj;
-    r_7q = r_mk;
-    r_yr = r_vj;
-    r_c1 = 0ull;
-    r_g3 = 3u;
-    r_vx = 0u;
-    r_7j = 0u;
-    r_p8 = (u32)r_ij;
-    goto l_capnp_6f;
-l_arm_sm:;
-    r_12_4 = (u32)r_ij;
-    r_c6 = (u64)(((ld64(away(away(((u8 *)switch_table_capnp_pointers_pointers_validate_validate_8439008b), 8 * (r_ep_1 & 7ull)), 0xfffffffffffffff8ull)) * r_ij) + 63ull) >> 6ull);
-    if (((u64)(r_nl >> 3ull) & 0xffffffffull) < (r_c6 + (u64)r_qj)) { r_6f = 0ull; r_3l = 0ull; r_rk = 0u; r_7q = 0u; r_yr = 0ull; r_c1 = 1ull; r_g3 = 23u; r_vx = 0u; r_7j = 0u; r_p8 = 0u; goto l_capnp_6f; }
-    if (!t_0c) goto l_arm_zg;
-    if (!(ld8(a_5) == 1u)) goto l_arm_zg;
-    r_rq_4 = away(a_5, 8ull);
-    r_52_4 = ld64(r_rq_4);
-    if (r_52_4 < r_c6) { r_6f = 0ull; r_3l = 0ull; r_rk = 0u; r_7q = 0u; r_yr = 0ull; r_c1 = 1ull; r_g3 = 30u; r_vx = 0u; r_7j = 0u; r_p8 = 0u; goto l_capnp_6f; }
-    st64(a_5, 1ull);
-    st64(r_rq_4, (r_52_4 - r_c6));
-l_arm_zg:;
-    r_6f = r_b2;
-    r_3l = r_nl;
-    r_rk = r_qj;
-    r_7q = r_mk;
-    r_yr = r_vj;
-    r_c1 = 0ull;
-    r_g3 = 3u;
-    r_vx = 0u;
-    r_7j = (u32)switch_wl;
-    r_p8 = r_12_4;
-    goto l_capnp_6f;
-l_arm_37:;
-    u8 r_ml = ((r_at & 0xffffffffull) != 3ull);
-    r_6f = 0ull;
-    r_3l = 0ull;
-    r_rk = 0u;
-    r_7q = 0u;
-    r_yr = 0ull;
-    r_c1 = (u64)r_ml;
-    r_g3 = (r_ml ? 34u : 1u);
-    r_vx = (r_ml ? 0u : (u32)(u64)(r_at >> 32ull));
-    r_7j = 0u;
-    r_p8 = 0u;
-    goto l_capnp_6f;
-l_default_e1:;
-    UNREACHABLE();
-l_arm_5s:;
-    r_9r = 0ull;
-    r_xy = r_r4;
-l_arm_i4:;
-    r_6f = 0ull;
-    r_3l = 0ull;
-    r_rk = 0u;
-    r_7q = 0u;
-    r_yr = r_9r;
-    r_c1 = 1ull;
-    r_g3 = ((u32)r_xy & 255u);
-    r_vx = (u32)(u64)(r_xy >> 32ull);
-    r_7j = 0u;
-    r_p8 = 0u;
-l_capnp_6f:;
-    st64(a_1, r_c1);
-    st32(away(a_1, 8ull), r_g3);
-    st32(away(a_1, 12ull), r_vx);
-    st64(away(a_1, 16ull), r_yr);
-    st64(away(a_1, 24ull), r_6f);
-    st64(away(a_1, 32ull), r_3l);
-    st32(away(a_1, 40ull), r_rk);
-    st32(away(a_1, 44ull), r_7q);
-    st32(away(a_1, 48ull), r_7j);
-    st32(away(a_1, 52ull), r_p8);
-    return;
-}
-
 /* capnp_pointers::pointers::sizes::add_pointers::<#9fb2c9fcfadbb7fb> */
 static NEVER u8 capnp_pointers_pointers_sizes_add_pointers_9fb2c9fcfadbb7fb(u8 *a_1, u32 a_2, u32 a_3, u32 a_4, u8 *a_5)
 {
@@ -19412,6 +20482,300 @@ l_capnp_y7:;
     r_fk = 1u;
 l_capnp_ri:;
     return r_fk;
+}
+
+/* capnp_packing::packing::unpacking::unpack_words */
+static void capnp_packing_packing_unpacking_unpack_words(u8 *a_1, u8 *a_2, u64 a_3, u8 *a_4, u64 a_5)
+{
+    u64 r_g5;
+    u64 r_xg;
+    u64 r_95;
+    u64 r_0j;
+    u8 *r_8z;
+    u8 *r_8z_1;
+    u8 r_47;
+    u8 *r_62;
+    u8 r_47_1;
+    u64 r_4k;
+    u64 a_a0;
+    u64 r_x4;
+    u64 r_vz;
+    u64 r_il;
+    u64 r_z6_1;
+    u64 r_4k_1;
+    u8 *r_ps;
+    u64 r_1d;
+    u8 *r_a2;
+    u64 r_il_1;
+    u8 *r_bb_1;
+    u8 *r_2b;
+    u32 t_8m;
+    u64 r_d2;
+    u64 r_ag;
+    u64 r_lk;
+    u64 r_pe;
+    u64 r_1i_1;
+    u64 r_53_1;
+    u16 r_6i;
+    u8 r_1f;
+    u16 r_en;
+    u64 r_1i;
+    u64 r_53;
+    r_g5 = a_3;
+    r_xg = 0ull;
+    r_95 = 0ull;
+l_then_1l:;
+    r_0j = (a_5 - r_95);
+    if (!(r_0j > 7ull)) { r_1i = r_95; r_53 = r_xg; goto l_after_iu; }
+    r_8z = away(a_2, r_xg);
+    r_8z_1 = away(a_4, r_95);
+    r_47 = ld8(r_8z);
+    r_62 = away(r_8z, 1ull);
+    switch (r_47) {
+    case 0u: goto l_then_1v;
+    case 255u: goto l_then_rv;
+    default: goto l_else_x1;
+    }
+l_then_1v:;
+    r_47_1 = ld8(r_62);
+    if (!(r_47_1 == 0u)) goto l_join_hp;
+    st64(r_8z_1, 0ull);
+    r_d2 = 2ull;
+    r_ag = 8ull;
+    goto l_else_rw;
+l_join_hp:;
+    r_4k = ((u64)((u64)r_47_1 << 3ull) + 8ull);
+    a_a0 = umin64(r_4k, r_0j);
+    memset_or_none(r_8z_1, 0u, a_a0);
+    r_x4 = (r_xg + 2ull);
+    r_vz = (a_a0 + r_95);
+    if (r_4k > r_0j) goto l_join_ph;
+    r_lk = r_x4;
+    r_pe = r_vz;
+    goto l_else_j9;
+l_then_rv:;
+    if (((u64)(uptr)r_8z_1 - (u64)(uptr)r_62) < 8ull) { r_il = 0ull; goto l_join_fh; }
+    st64(r_8z_1, ld64(r_62));
+    goto l_core_v5;
+l_join_fh:;
+    st8((r_8z_1 + (i64)(r_il)), ld8((r_62 + (i64)(r_il))));
+    u64 r_c4 = (r_il + 1ull);
+    if (!(r_c4 == 8ull)) { r_il = r_c4; goto l_join_fh; }
+l_core_v5:;
+    u8 r_47_3 = ld8((r_8z + 9));
+    r_z6_1 = (u64)((u64)r_47_3 << 3ull);
+    if (r_47_3 == 0u) { r_d2 = 10ull; r_ag = 8ull; goto l_else_rw; }
+    if ((u8)((u8)((r_g5 + 0xfffffffffffffff6ull) < r_z6_1) | (u8)((r_0j + 0xfffffffffffffff8ull) < r_z6_1))) goto l_thread_pw;
+    r_4k_1 = (r_z6_1 + 8ull);
+    r_ps = away(r_8z_1, 8ull);
+    r_1d = (r_z6_1 + 10ull);
+    r_a2 = away(r_8z, 10ull);
+    if (((u64)(uptr)r_ps - (u64)(uptr)r_a2) < r_z6_1) { r_il_1 = 0ull; goto l_join_fh_1; }
+    memmove_or_none(r_ps, r_a2, r_z6_1);
+    r_d2 = r_1d;
+    r_ag = r_4k_1;
+    goto l_else_rw;
+l_join_fh_1:;
+    st8((r_ps + (i64)(r_il_1)), ld8((r_a2 + (i64)(r_il_1))));
+    u64 r_c4_1 = (r_il_1 + 1ull);
+    if (r_c4_1 == r_z6_1) { r_d2 = r_1d; r_ag = r_4k_1; goto l_else_rw; }
+    r_il_1 = r_c4_1;
+    goto l_join_fh_1;
+l_else_x1:;
+    u8 r_aj = (u8)(r_47 & 15u);
+    u8 *r_pk = away(((u8 *)g_static_67), (u64)(u8)((u32)r_aj << 4u));
+    st32(r_8z_1, ((((ld32((r_pk + 4)) * (u32)ld8(away(r_8z, 2ull))) + (ld32(r_pk) * (u32)ld8(r_62))) + (ld32((r_pk + 8)) * (u32)ld8(away(r_8z, 3ull)))) + (ld32((r_pk + 12)) * (u32)ld8(away(r_8z, 4ull)))));
+    r_bb_1 = away(r_8z_1, 4ull);
+    r_2b = away(r_62, (u64)ctpop8(r_aj));
+    if (!(r_47 < 32u)) goto l_join_j1;
+    t_8m = (u32)(u8)((u32)ld8(r_2b) * (u8)((u32)r_47 >> 4u));
+    goto l_capnp_q3;
+l_join_j1:;
+    u8 *r_pk_1 = away(((u8 *)g_static_67), (u64)(u8)(r_47 & 240u));
+    t_8m = ((((ld32((r_pk_1 + 4)) * (u32)ld8((r_2b + 1))) + (ld32(r_pk_1) * (u32)ld8(r_2b))) + (ld32((r_pk_1 + 8)) * (u32)ld8((r_2b + 2)))) + (ld32((r_pk_1 + 12)) * (u32)ld8((r_2b + 3))));
+l_capnp_q3:;
+    st32(r_bb_1, t_8m);
+    r_d2 = (u64)(u8)(ctpop8(r_47) + 1u);
+    r_ag = 8ull;
+l_else_rw:;
+    r_lk = (r_d2 + r_xg);
+    r_pe = (r_ag + r_95);
+    goto l_else_j9;
+l_thread_pw:;
+    r_1i_1 = (r_95 + 8ull);
+    r_53_1 = (r_xg + 10ull);
+    r_6i = (u16)((u16)r_z6_1 + 65535u);
+    r_1f = 5u;
+    r_en = 0u;
+    goto l_join_iu;
+l_else_j9:;
+    u64 r_0j_1 = (a_3 - r_lk);
+    if (r_0j_1 > 9ull) { r_g5 = r_0j_1; r_xg = r_lk; r_95 = r_pe; goto l_then_1l; }
+    r_1i = r_pe;
+    r_53 = r_lk;
+    goto l_after_iu;
+l_common_68:;
+    return;
+l_join_ph:;
+    r_1i_1 = r_vz;
+    r_53_1 = r_x4;
+    r_6i = 0u;
+    r_1f = 0u;
+    r_en = (u16)(r_4k - a_a0);
+l_join_iu:;
+    st64(a_1, r_53_1);
+    st64((a_1 + 8), r_1i_1);
+    st16((a_1 + 16), r_en);
+    st8((a_1 + 18), r_1f);
+    st8((a_1 + 19), 0u);
+    st16((a_1 + 20), r_6i);
+    st16((a_1 + 22), 0u);
+    goto l_common_68;
+l_after_iu:;
+    st64(a_1, r_53);
+    st64((a_1 + 8), r_1i);
+    st64((a_1 + 16), 0ull);
+    goto l_common_68;
+}
+
+/* capnp_packing::packing::place::step */
+static void capnp_packing_packing_place_step(u8 *a_1, u8 *a_2, u8 a_3)
+{
+    A(2) u8 slot_1[6];
+    u8 r_dd;
+    u16 r_br;
+    u64 r_rh;
+    u8 r_hg;
+    u8 r_je;
+    u16 r_s2;
+    u16 r_d1;
+    u8 r_pr;
+    u8 r_iv;
+    u64 r_42;
+    u8 r_1m;
+    u64 r_4c;
+    r_dd = ld8(away(a_2, 1ull));
+    r_br = ld16(away(a_2, 2ull));
+    switch (ld8(a_2)) {
+    case 0u: goto l_arm_yr;
+    case 1u: goto l_arm_cf;
+    case 2u: goto l_arm_w4;
+    case 3u: goto l_arm_vp;
+    case 4u: goto l_arm_gw;
+    case 5u: goto l_arm_2k;
+    default: goto l_noarm_e1;
+    }
+l_arm_yr:;
+    memset(slot_1, 0u, 6);
+    switch (a_3) {
+    case 0u: { r_rh = 8ull; r_hg = 2u; r_je = a_3; r_s2 = 0u; goto l_capnp_nb; }
+    case 255u: goto l_then_h9;
+    default: goto l_join_vn;
+    }
+l_then_h9:;
+    r_rh = 0ull;
+    r_hg = 3u;
+    r_je = 7u;
+    r_s2 = 0u;
+    goto l_capnp_nb;
+l_join_vn:;
+    capnp_packing_packing_place_within_word(slot_1, a_3, 8u);
+    r_rh = (u64)ld8(slot_1);
+    r_hg = ld8((slot_1 + 2));
+    r_je = ld8((slot_1 + 3));
+    r_s2 = ld16((slot_1 + 4));
+l_capnp_nb:;
+    r_d1 = r_s2;
+    r_pr = r_je;
+    r_iv = r_hg;
+    r_42 = r_rh;
+    r_1m = 0u;
+    r_4c = 0ull;
+    goto l_join_4w;
+l_arm_cf:;
+    memset(slot_1, 0u, 6);
+    capnp_packing_packing_place_within_word(slot_1, r_dd, (u8)r_br);
+    r_d1 = ld16((slot_1 + 4));
+    r_pr = ld8((slot_1 + 3));
+    r_iv = ld8((slot_1 + 2));
+    r_42 = (u64)ld8(slot_1);
+    r_1m = a_3;
+    r_4c = 1ull;
+    goto l_join_4w;
+l_arm_w4:;
+    r_d1 = 0u;
+    r_pr = 0u;
+    r_iv = 0u;
+    r_42 = (u64)((u64)a_3 << 3ull);
+    r_1m = 0u;
+    r_4c = 0ull;
+    goto l_join_4w;
+l_arm_vp:;
+    r_d1 = 0u;
+    r_pr = usub_sat8(r_dd, 1u);
+    r_iv = ((r_dd == 0u) ? 4u : 3u);
+    r_42 = 0ull;
+    r_1m = a_3;
+    r_4c = 1ull;
+    goto l_join_4w;
+l_arm_gw:;
+    u8 r_mm = (a_3 == 0u);
+    r_d1 = (r_mm ? 0u : (u16)((u16)((u32)(u16)a_3 << 3u) + 65535u));
+    r_pr = 0u;
+    r_iv = (r_mm ? 0u : 5u);
+    r_42 = 0ull;
+    r_1m = 0u;
+    r_4c = 0ull;
+    goto l_join_4w;
+l_arm_2k:;
+    r_d1 = usub_sat16(r_br, 1u);
+    r_pr = 0u;
+    r_iv = ((r_br == 0u) ? 0u : 5u);
+    r_42 = 0ull;
+    r_1m = a_3;
+    r_4c = 1ull;
+l_join_4w:;
+    st64(a_1, ((((((u64)((u64)r_pr << 40ull) | (u64)((u64)r_d1 << 48ull)) | (u64)((u64)r_iv << 32ull)) | ((u64)(r_42 << 16ull) & 0xffff0000ull)) | (u64)((u64)r_1m << 8ull)) | r_4c));
+    return;
+l_noarm_e1:;
+    UNREACHABLE();
+}
+
+/* capnp_packing::packing::place::within_word */
+static void capnp_packing_packing_place_within_word(u8 *a_1, u8 a_2, u8 a_3)
+{
+    A(2) u8 slot_1[6];
+    u8 r_q1;
+    u8 r_66;
+    u8 r_66_1;
+    u16 r_p1;
+    u8 r_df;
+    u8 r_07;
+    memset(slot_1, 0u, 6);
+    if (a_3 == 0u) { r_q1 = 0u; r_66 = 0u; r_66_1 = 0u; r_p1 = 0u; goto l_common_a2; }
+    goto l_join_o4;
+l_common_a2:;
+    st8(a_1, r_q1);
+    st8(away(a_1, 2ull), r_66);
+    st8(away(a_1, 3ull), r_66_1);
+    st16(away(a_1, 4ull), r_p1);
+    return;
+l_join_o4:;
+    r_df = (u8)((u32)a_2 >> 1u);
+    r_07 = (u8)(a_3 + 255u);
+    if ((u8)(a_2 & 1u) == 0u) goto l_join_yh;
+    r_q1 = 0u;
+    r_66 = 1u;
+    r_66_1 = r_df;
+    r_p1 = (u16)r_07;
+    goto l_common_a2;
+l_join_yh:;
+    capnp_packing_packing_place_within_word(slot_1, r_df, r_07);
+    r_q1 = (u8)(ld8(slot_1) + 1u);
+    r_66 = ld8((slot_1 + 2));
+    r_66_1 = ld8((slot_1 + 3));
+    r_p1 = ld16((slot_1 + 4));
+    goto l_common_a2;
 }
 
 /* capnp_pointers::pointers::validate::validate_object::<#1e87a151ef20e12e> */
@@ -27385,146 +28749,6 @@ l_join_p1:;
     st64(away(a_1, 16ull), ((u64)((u64)r_ca << 32ull) | (r_d1 & 0xffffffffull)));
     st64(away(a_1, 24ull), r_pz);
     return;
-}
-
-/* capnp_packing::packing::place::step */
-static void capnp_packing_packing_place_step(u8 *a_1, u8 *a_2, u8 a_3)
-{
-    A(2) u8 slot_1[6];
-    u8 r_dd;
-    u16 r_br;
-    u64 r_rh;
-    u8 r_hg;
-    u8 r_je;
-    u16 r_s2;
-    u16 r_d1;
-    u8 r_pr;
-    u8 r_iv;
-    u64 r_42;
-    u8 r_1m;
-    u64 r_4c;
-    r_dd = ld8(away(a_2, 1ull));
-    r_br = ld16(away(a_2, 2ull));
-    switch (ld8(a_2)) {
-    case 0u: goto l_arm_yr;
-    case 1u: goto l_arm_cf;
-    case 2u: goto l_arm_w4;
-    case 3u: goto l_arm_vp;
-    case 4u: goto l_arm_gw;
-    case 5u: goto l_arm_2k;
-    default: goto l_noarm_e1;
-    }
-l_arm_yr:;
-    memset(slot_1, 0u, 6);
-    switch (a_3) {
-    case 0u: { r_rh = 8ull; r_hg = 2u; r_je = a_3; r_s2 = 0u; goto l_capnp_nb; }
-    case 255u: goto l_then_h9;
-    default: goto l_join_vn;
-    }
-l_then_h9:;
-    r_rh = 0ull;
-    r_hg = 3u;
-    r_je = 7u;
-    r_s2 = 0u;
-    goto l_capnp_nb;
-l_join_vn:;
-    capnp_packing_packing_place_within_word(slot_1, a_3, 8u);
-    r_rh = (u64)ld8(slot_1);
-    r_hg = ld8((slot_1 + 2));
-    r_je = ld8((slot_1 + 3));
-    r_s2 = ld16((slot_1 + 4));
-l_capnp_nb:;
-    r_d1 = r_s2;
-    r_pr = r_je;
-    r_iv = r_hg;
-    r_42 = r_rh;
-    r_1m = 0u;
-    r_4c = 0ull;
-    goto l_join_4w;
-l_arm_cf:;
-    memset(slot_1, 0u, 6);
-    capnp_packing_packing_place_within_word(slot_1, r_dd, (u8)r_br);
-    r_d1 = ld16((slot_1 + 4));
-    r_pr = ld8((slot_1 + 3));
-    r_iv = ld8((slot_1 + 2));
-    r_42 = (u64)ld8(slot_1);
-    r_1m = a_3;
-    r_4c = 1ull;
-    goto l_join_4w;
-l_arm_w4:;
-    r_d1 = 0u;
-    r_pr = 0u;
-    r_iv = 0u;
-    r_42 = (u64)((u64)a_3 << 3ull);
-    r_1m = 0u;
-    r_4c = 0ull;
-    goto l_join_4w;
-l_arm_vp:;
-    r_d1 = 0u;
-    r_pr = usub_sat8(r_dd, 1u);
-    r_iv = ((r_dd == 0u) ? 4u : 3u);
-    r_42 = 0ull;
-    r_1m = a_3;
-    r_4c = 1ull;
-    goto l_join_4w;
-l_arm_gw:;
-    u8 r_mm = (a_3 == 0u);
-    r_d1 = (r_mm ? 0u : (u16)((u16)((u32)(u16)a_3 << 3u) + 65535u));
-    r_pr = 0u;
-    r_iv = (r_mm ? 0u : 5u);
-    r_42 = 0ull;
-    r_1m = 0u;
-    r_4c = 0ull;
-    goto l_join_4w;
-l_arm_2k:;
-    r_d1 = usub_sat16(r_br, 1u);
-    r_pr = 0u;
-    r_iv = ((r_br == 0u) ? 0u : 5u);
-    r_42 = 0ull;
-    r_1m = a_3;
-    r_4c = 1ull;
-l_join_4w:;
-    st64(a_1, ((((((u64)((u64)r_pr << 40ull) | (u64)((u64)r_d1 << 48ull)) | (u64)((u64)r_iv << 32ull)) | ((u64)(r_42 << 16ull) & 0xffff0000ull)) | (u64)((u64)r_1m << 8ull)) | r_4c));
-    return;
-l_noarm_e1:;
-    UNREACHABLE();
-}
-
-/* capnp_packing::packing::place::within_word */
-static void capnp_packing_packing_place_within_word(u8 *a_1, u8 a_2, u8 a_3)
-{
-    A(2) u8 slot_1[6];
-    u8 r_q1;
-    u8 r_66;
-    u8 r_66_1;
-    u16 r_p1;
-    u8 r_df;
-    u8 r_07;
-    memset(slot_1, 0u, 6);
-    if (a_3 == 0u) { r_q1 = 0u; r_66 = 0u; r_66_1 = 0u; r_p1 = 0u; goto l_common_a2; }
-    goto l_join_o4;
-l_common_a2:;
-    st8(a_1, r_q1);
-    st8(away(a_1, 2ull), r_66);
-    st8(away(a_1, 3ull), r_66_1);
-    st16(away(a_1, 4ull), r_p1);
-    return;
-l_join_o4:;
-    r_df = (u8)((u32)a_2 >> 1u);
-    r_07 = (u8)(a_3 + 255u);
-    if ((u8)(a_2 & 1u) == 0u) goto l_join_yh;
-    r_q1 = 0u;
-    r_66 = 1u;
-    r_66_1 = r_df;
-    r_p1 = (u16)r_07;
-    goto l_common_a2;
-l_join_yh:;
-    capnp_packing_packing_place_within_word(slot_1, r_df, r_07);
-    r_q1 = (u8)(ld8(slot_1) + 1u);
-    r_66 = ld8((slot_1 + 2));
-    r_66_1 = ld8((slot_1 + 3));
-    r_p1 = ld16((slot_1 + 4));
-    goto l_common_a2;
 }
 
 /* capnp_messages::messages::message_fault::canonical_fault::<#767a861cc050e0a5> */
@@ -36380,6 +37604,837 @@ l_join_zd:;
     return;
 }
 
+/* capnp_refusals::refusals::search::search_object::<#4d6e045afdcb38e0> */
+static void capnp_refusals_refusals_search_search_object_4d6e045afdcb38e0(u8 *a_1, u8 a_2, u8 a_3, u8 *a_4, u32 a_5, u32 a_6, u8 *a_7)
+{
+    A(8) u8 slot_1[56];
+    A(8) u8 slot_2[56];
+    A(8) u8 slot_3[24];
+    A(8) u8 slot_4[32];
+    A(8) u8 slot_5[64];
+    A(8) u8 slot_6[64];
+    A(8) u8 slot_7[64];
+    A(8) u8 slot_8[24];
+    A(8) u8 slot_9[40];
+    u64 r_52;
+    u8 *r_xw;
+    u64 r_38;
+    u8 r_y8;
+    u8 *r_rq;
+    u8 *r_xw_1;
+    u64 r_38_1;
+    u64 r_7l;
+    u64 r_gw;
+    u64 r_qw;
+    u64 t_al;
+    u8 t_pa;
+    u64 r_lc;
+    u64 r_nb;
+    u64 r_yz;
+    u32 r_7d;
+    u32 r_2w;
+    u64 r_7a;
+    u64 r_0m;
+    u64 r_v8;
+    u64 r_t9;
+    u64 r_ep;
+    u64 r_y6;
+    u64 r_lc_1;
+    u8 *r_rq_1;
+    u64 r_52_2;
+    u64 r_ep_1;
+    u8 switch_wl;
+    u64 r_ij;
+    u64 r_c4_1;
+    u64 r_24_1;
+    u64 r_gw_2;
+    u8 *r_rq_2;
+    u64 r_52_3;
+    u64 r_eh;
+    u32 t_c8;
+    u32 r_12_1;
+    u32 r_az_1;
+    u32 r_68;
+    u64 r_c0;
+    u8 *r_rq_3;
+    u64 r_52_4;
+    u32 r_12_2;
+    u8 *r_rq_4;
+    u64 r_52_5;
+    u32 r_12_3;
+    u8 *r_rq_5;
+    u64 r_52_6;
+    u32 r_12_4;
+    u64 r_c6;
+    u8 *r_rq_6;
+    u64 r_52_7;
+    u64 r_r4;
+    u64 r_ut;
+    u64 r_dj;
+    u64 r_xv;
+    u64 r_qr;
+    u32 r_b6;
+    u32 r_r6;
+    u64 r_ka;
+    u8 r_28;
+    u8 r_5g;
+    u32 r_59;
+    u32 r_14;
+    u32 r_yp;
+    u32 r_8p;
+    u32 r_fj;
+    u64 r_k5;
+    u32 r_q1;
+    u8 r_ll_1;
+    u8 r_h2;
+    u32 r_5d;
+    u64 r_vt;
+    u64 r_8t;
+    u32 r_49;
+    u32 r_1t;
+    u32 r_a3_1;
+    u32 r_wr;
+    u64 r_hb;
+    u32 r_mx;
+    memset(slot_5, 0u, 64);
+    memset(slot_6, 0u, 64);
+    memset(slot_7, 0u, 64);
+    memset(slot_8, 0u, 24);
+    memset(slot_9, 0u, 40);
+    r_52 = ld64(away(a_4, 24ull));
+    r_xw = ldp(away(a_4, 32ull));
+    r_38 = ld64(away(a_4, 40ull));
+    r_y8 = ld8(a_4);
+    r_rq = away(a_4, 8ull);
+    r_xw_1 = ldp(r_rq);
+    r_38_1 = ld64(away(a_4, 16ull));
+    memset(slot_2, 0u, 56);
+    if ((u8)(a_2 & 1)) goto l_arm_xm;
+    r_7l = (u64)a_5;
+    r_gw = (u64)(r_38 >> 3ull);
+    if (!(r_gw > r_7l)) { r_xv = 0ull; r_qr = 0ull; r_b6 = 0u; r_r6 = 0u; r_ka = 0ull; r_28 = 0u; r_5g = 0u; r_59 = 0u; r_14 = 0u; r_yp = 0u; goto l_capnp_gh; }
+    r_qw = ld64((r_xw + (i64)((u64)(r_7l << 3ull))));
+    if (r_qw == 0ull) { r_xv = 0ull; r_qr = 0ull; r_b6 = 0u; r_r6 = 0u; r_ka = 0ull; r_28 = 0u; r_5g = 0u; r_59 = 0u; r_14 = 0u; r_yp = 0u; goto l_capnp_gh; }
+    t_al = (u64)(uptr)r_xw;
+    memset(slot_1, 0u, 56);
+    t_pa = (r_y8 != 0u);
+    if (t_pa) goto l_capnp_sm;
+    u8 *r_08_1 = away(a_7, 16ull);
+    st64(r_08_1, uadd_sat64(ld64(r_08_1), 1ull));
+    if ((r_qw & 3ull) == 2ull) goto l_capnp_ln;
+    goto l_join_bd;
+l_capnp_sm:;
+    if (!((r_qw & 3ull) == 2ull)) goto l_join_bd;
+    st32((slot_1 + 8), 32u);
+    r_r4 = ld64((slot_1 + 8));
+    goto l_arm_5s;
+l_join_bd:;
+    u64 r_m6 = ((u64)(r_qw >> 2ull) & 0x3fffffffull);
+    r_lc = ((r_7l + 1ull) + r_m6);
+    r_nb = (r_gw & 0xffffffffull);
+    if (!(r_m6 < 0x20000000ull)) goto l_else_70;
+    if (r_lc > r_nb) { r_r4 = 23ull; goto l_arm_5s; }
+    r_yz = r_lc;
+    goto l_capnp_i5;
+l_else_70:;
+    u64 r_3o = (r_lc + 0xffffffffc0000000ull);
+    if ((r_lc < 0x40000000ull) ? 1u : (r_3o > r_nb)) { r_r4 = 23ull; goto l_arm_5s; }
+    r_yz = r_3o;
+l_capnp_i5:;
+    r_7d = 0u;
+    r_2w = (u32)r_yz;
+    r_7a = r_52;
+    r_0m = r_qw;
+    r_v8 = r_38;
+    r_t9 = t_al;
+    goto l_arm_nn;
+l_capnp_ln:;
+    capnp_objects_source_follow_far_4d6e045afdcb38e0(slot_1, r_xw_1, r_qw, a_7);
+    u64 r_38_3 = ld64((slot_1 + 16));
+    u64 r_38_4 = ld64((slot_1 + 8));
+    if (ld8(slot_1) == 0u) { r_7d = ld32((slot_1 + 44)); r_2w = ld32((slot_1 + 40)); r_7a = r_38_3; r_0m = r_38_4; r_v8 = ld64((slot_1 + 32)); r_t9 = ld64((slot_1 + 24)); goto l_arm_nn; }
+    r_ut = r_38_3;
+    r_dj = r_38_4;
+    goto l_arm_qe;
+l_arm_nn:;
+    switch ((u8)((u8)r_0m & 3u)) {
+    case 0u: goto l_arm_62;
+    case 1u: goto l_arm_z2;
+    case 2u: { r_xv = 0ull; r_qr = 0ull; r_b6 = 0u; r_r6 = 0u; r_ka = 0ull; r_28 = 1u; r_5g = 13u; r_59 = 0u; r_14 = 0u; r_yp = 0u; goto l_capnp_gh; }
+    case 3u: goto l_arm_37;
+    default: goto l_default_e1;
+    }
+l_arm_62:;
+    r_ep = (u64)(r_0m >> 32ull);
+    r_y6 = (u64)(r_0m >> 48ull);
+    if ((i32)a_6 < (i32)1u) { r_xv = 0ull; r_qr = 0ull; r_b6 = 0u; r_r6 = 0u; r_ka = 0ull; r_28 = 1u; r_5g = 26u; r_59 = 0u; r_14 = 0u; r_yp = 0u; goto l_capnp_gh; }
+    r_lc_1 = ((r_ep & 65535ull) + r_y6);
+    if (((u64)(r_v8 >> 3ull) & 0xffffffffull) < (r_lc_1 + (u64)r_2w)) { r_xv = 0ull; r_qr = 0ull; r_b6 = 0u; r_r6 = 0u; r_ka = 0ull; r_28 = 1u; r_5g = 23u; r_59 = 0u; r_14 = 0u; r_yp = 0u; goto l_capnp_gh; }
+    if (t_pa) goto l_arm_mf;
+    if (!(ld8(a_7) == 1u)) goto l_arm_mf;
+    r_rq_1 = away(a_7, 8ull);
+    r_52_2 = ld64(r_rq_1);
+    if (r_52_2 < r_lc_1) { r_xv = 0ull; r_qr = 0ull; r_b6 = 0u; r_r6 = 0u; r_ka = 0ull; r_28 = 1u; r_5g = 30u; r_59 = 0u; r_14 = 0u; r_yp = 0u; goto l_capnp_gh; }
+    st64(a_7, 1ull);
+    st64(r_rq_1, (r_52_2 - r_lc_1));
+l_arm_mf:;
+    r_xv = r_t9;
+    r_qr = r_v8;
+    r_b6 = r_2w;
+    r_r6 = r_7d;
+    r_ka = r_7a;
+    r_28 = 0u;
+    r_5g = 2u;
+    r_59 = 0u;
+    r_14 = ((u32)((u32)r_y6 << 16u) | ((u32)r_ep & 65535u));
+    r_yp = 0u;
+    goto l_capnp_gh;
+l_arm_z2:;
+    r_ep_1 = (u64)(r_0m >> 32ull);
+    switch_wl = (u8)((u8)r_ep_1 & 7u);
+    r_ij = (u64)(r_0m >> 35ull);
+    switch (switch_wl) {
+    case 7u: goto l_arm_gg;
+    case 6u: goto l_arm_0w;
+    case 0u: goto l_arm_0w_1;
+    case 1u: goto l_arm_0w_2;
+    case 2u: goto l_arm_0w_2;
+    case 3u: goto l_arm_0w_2;
+    case 4u: goto l_arm_0w_2;
+    case 5u: goto l_arm_0w_2;
+    default: goto l_default_e1;
+    }
+l_arm_gg:;
+    if ((i32)a_6 < (i32)1u) { r_xv = 0ull; r_qr = 0ull; r_b6 = 0u; r_r6 = 0u; r_ka = 0ull; r_28 = 1u; r_5g = 26u; r_59 = 0u; r_14 = 0u; r_yp = 0u; goto l_capnp_gh; }
+    r_c4_1 = (r_ij + 1ull);
+    r_24_1 = (u64)r_2w;
+    r_gw_2 = (u64)(r_v8 >> 3ull);
+    if ((r_gw_2 & 0xffffffffull) < (r_c4_1 + r_24_1)) { r_xv = 0ull; r_qr = 0ull; r_b6 = 0u; r_r6 = 0u; r_ka = 0ull; r_28 = 1u; r_5g = 23u; r_59 = 0u; r_14 = 0u; r_yp = 0u; goto l_capnp_gh; }
+    if (t_pa) goto l_arm_ga;
+    if (!(ld8(a_7) == 1u)) goto l_arm_ga;
+    r_rq_2 = away(a_7, 8ull);
+    r_52_3 = ld64(r_rq_2);
+    if (!(r_52_3 > r_ij)) { r_xv = 0ull; r_qr = 0ull; r_b6 = 0u; r_r6 = 0u; r_ka = 0ull; r_28 = 1u; r_5g = 30u; r_59 = 0u; r_14 = 0u; r_yp = 0u; goto l_capnp_gh; }
+    st64(a_7, 1ull);
+    st64(r_rq_2, (r_52_3 - r_c4_1));
+l_arm_ga:;
+    if (!(r_gw_2 > r_24_1)) { r_eh = 0ull; goto l_join_qm; }
+    u64 r_qw_1 = ld64((((u8 *)(uptr)r_t9) + (i64)((u64)(r_24_1 << 3ull))));
+    if ((r_qw_1 & 3ull) == 0ull) { r_eh = r_qw_1; goto l_join_qm; }
+    r_xv = 0ull;
+    r_qr = 0ull;
+    r_b6 = 0u;
+    r_r6 = 0u;
+    r_ka = 0ull;
+    r_28 = 1u;
+    r_5g = 11u;
+    r_59 = 0u;
+    r_14 = 0u;
+    r_yp = 0u;
+    goto l_capnp_gh;
+l_join_qm:;
+    t_c8 = (u32)((u32)r_eh >> 2u);
+    r_12_1 = (u32)(u64)(r_eh >> 48ull);
+    r_az_1 = ((u32)(u64)(r_eh >> 32ull) & 65535u);
+    r_68 = (r_az_1 + r_12_1);
+    r_c0 = (u64)t_c8;
+    if (r_ij < ((u64)r_68 * r_c0)) { r_xv = 0ull; r_qr = 0ull; r_b6 = 0u; r_r6 = 0u; r_ka = 0ull; r_28 = 1u; r_5g = 10u; r_59 = 0u; r_14 = 0u; r_yp = 0u; goto l_capnp_gh; }
+    if ((u8)((u8)t_pa | (u8)(r_68 != 0u))) goto l_arm_o2;
+    if (!(ld8(a_7) == 1u)) goto l_arm_o2;
+    r_rq_3 = away(a_7, 8ull);
+    r_52_4 = ld64(r_rq_3);
+    if (r_52_4 < r_c0) { r_xv = 0ull; r_qr = 0ull; r_b6 = 0u; r_r6 = 0u; r_ka = 0ull; r_28 = 1u; r_5g = 30u; r_59 = 0u; r_14 = 0u; r_yp = 0u; goto l_capnp_gh; }
+    st64(a_7, 1ull);
+    st64(r_rq_3, (r_52_4 - r_c0));
+l_arm_o2:;
+    r_xv = r_t9;
+    r_qr = r_v8;
+    r_b6 = (r_2w + 1u);
+    r_r6 = 0u;
+    r_ka = r_7a;
+    r_28 = 0u;
+    r_5g = 5u;
+    r_59 = 0u;
+    r_14 = ((u32)(r_12_1 << 16u) | r_az_1);
+    r_yp = t_c8;
+    goto l_capnp_gh;
+l_arm_0w:;
+    r_12_2 = (u32)r_ij;
+    if ((i32)a_6 < (i32)1u) { r_xv = 0ull; r_qr = 0ull; r_b6 = 0u; r_r6 = 0u; r_ka = 0ull; r_28 = 1u; r_5g = 26u; r_59 = 0u; r_14 = 0u; r_yp = 0u; goto l_capnp_gh; }
+    if (((u64)(r_v8 >> 3ull) & 0xffffffffull) < (r_ij + (u64)r_2w)) { r_xv = 0ull; r_qr = 0ull; r_b6 = 0u; r_r6 = 0u; r_ka = 0ull; r_28 = 1u; r_5g = 23u; r_59 = 0u; r_14 = 0u; r_yp = 0u; goto l_capnp_gh; }
+    if (t_pa) { r_xv = r_t9; r_qr = r_v8; r_b6 = r_2w; r_r6 = r_7d; r_ka = r_7a; r_28 = 0u; r_5g = 4u; r_59 = 0u; r_14 = r_12_2; r_yp = 0u; goto l_capnp_gh; }
+    if (!(ld8(a_7) == 1u)) { r_xv = r_t9; r_qr = r_v8; r_b6 = r_2w; r_r6 = r_7d; r_ka = r_7a; r_28 = 0u; r_5g = 4u; r_59 = 0u; r_14 = r_12_2; r_yp = 0u; goto l_capnp_gh; }
+    r_rq_4 = away(a_7, 8ull);
+    r_52_5 = ld64(r_rq_4);
+    if (r_52_5 < r_ij) { r_xv = 0ull; r_qr = 0ull; r_b6 = 0u; r_r6 = 0u; r_ka = 0ull; r_28 = 1u; r_5g = 30u; r_59 = 0u; r_14 = 0u; r_yp = 0u; goto l_capnp_gh; }
+    st64(a_7, 1ull);
+    st64(r_rq_4, (r_52_5 - r_ij));
+    r_xv = r_t9;
+    r_qr = r_v8;
+    r_b6 = r_2w;
+    r_r6 = r_7d;
+    r_ka = r_7a;
+    r_28 = 0u;
+    r_5g = 4u;
+    r_59 = 0u;
+    r_14 = r_12_2;
+    r_yp = 0u;
+    goto l_capnp_gh;
+l_arm_0w_1:;
+    r_12_3 = (u32)r_ij;
+    if ((i32)a_6 < (i32)1u) { r_xv = 0ull; r_qr = 0ull; r_b6 = 0u; r_r6 = 0u; r_ka = 0ull; r_28 = 1u; r_5g = 26u; r_59 = 0u; r_14 = 0u; r_yp = 0u; goto l_capnp_gh; }
+    if (((u64)(r_v8 >> 3ull) & 0xffffffffull) < (u64)r_2w) { r_xv = 0ull; r_qr = 0ull; r_b6 = 0u; r_r6 = 0u; r_ka = 0ull; r_28 = 1u; r_5g = 23u; r_59 = 0u; r_14 = 0u; r_yp = 0u; goto l_capnp_gh; }
+    if (t_pa) { r_xv = r_t9; r_qr = r_v8; r_b6 = r_2w; r_r6 = r_7d; r_ka = r_7a; r_28 = 0u; r_5g = 3u; r_59 = 0u; r_14 = 0u; r_yp = r_12_3; goto l_capnp_gh; }
+    if (!(ld8(a_7) == 1u)) { r_xv = r_t9; r_qr = r_v8; r_b6 = r_2w; r_r6 = r_7d; r_ka = r_7a; r_28 = 0u; r_5g = 3u; r_59 = 0u; r_14 = 0u; r_yp = r_12_3; goto l_capnp_gh; }
+    st64(a_7, 1ull);
+    r_rq_5 = away(a_7, 8ull);
+    r_52_6 = ld64(r_rq_5);
+    if (r_52_6 < r_ij) { r_xv = 0ull; r_qr = 0ull; r_b6 = 0u; r_r6 = 0u; r_ka = 0ull; r_28 = 1u; r_5g = 30u; r_59 = 0u; r_14 = 0u; r_yp = 0u; goto l_capnp_gh; }
+    st64(r_rq_5, (r_52_6 - r_ij));
+    r_xv = r_t9;
+    r_qr = r_v8;
+    r_b6 = r_2w;
+    r_r6 = r_7d;
+    r_ka = r_7a;
+    r_28 = 0u;
+    r_5g = 3u;
+    r_59 = 0u;
+    r_14 = 0u;
+    r_yp = r_12_3;
+    goto l_capnp_gh;
+l_arm_0w_2:;
+    r_12_4 = (u32)r_ij;
+    if ((i32)a_6 < (i32)1u) { r_xv = 0ull; r_qr = 0ull; r_b6 = 0u; r_r6 = 0u; r_ka = 0ull; r_28 = 1u; r_5g = 26u; r_59 = 0u; r_14 = 0u; r_yp = 0u; goto l_capnp_gh; }
+    r_c6 = (u64)(((ld64(away(away(((u8 *)switch_table_capnp_pointers_pointers_validate_validate_8439008b), 8 * (r_ep_1 & 7ull)), 0xfffffffffffffff8ull)) * r_ij) + 63ull) >> 6ull);
+    if (((u64)(r_v8 >> 3ull) & 0xffffffffull) < (r_c6 + (u64)r_2w)) { r_xv = 0ull; r_qr = 0ull; r_b6 = 0u; r_r6 = 0u; r_ka = 0ull; r_28 = 1u; r_5g = 23u; r_59 = 0u; r_14 = 0u; r_yp = 0u; goto l_capnp_gh; }
+    if (t_pa) goto l_arm_zg;
+    if (!(ld8(a_7) == 1u)) goto l_arm_zg;
+    r_rq_6 = away(a_7, 8ull);
+    r_52_7 = ld64(r_rq_6);
+    if (r_52_7 < r_c6) { r_xv = 0ull; r_qr = 0ull; r_b6 = 0u; r_r6 = 0u; r_ka = 0ull; r_28 = 1u; r_5g = 30u; r_59 = 0u; r_14 = 0u; r_yp = 0u; goto l_capnp_gh; }
+    st64(a_7, 1ull);
+    st64(r_rq_6, (r_52_7 - r_c6));
+l_arm_zg:;
+    r_xv = r_t9;
+    r_qr = r_v8;
+    r_b6 = r_2w;
+    r_r6 = r_7d;
+    r_ka = r_7a;
+    r_28 = 0u;
+    r_5g = 3u;
+    r_59 = 0u;
+    r_14 = (u32)switch_wl;
+    r_yp = r_12_4;
+    goto l_capnp_gh;
+l_arm_37:;
+    u8 r_ml = ((r_0m & 0xffffffffull) != 3ull);
+    r_xv = 0ull;
+    r_qr = 0ull;
+    r_b6 = 0u;
+    r_r6 = 0u;
+    r_ka = 0ull;
+    r_28 = (u8)r_ml;
+    r_5g = (r_ml ? 34u : 1u);
+    r_59 = (r_ml ? 0u : (u32)(u64)(r_0m >> 32ull));
+    r_14 = 0u;
+    r_yp = 0u;
+    goto l_capnp_gh;
+l_default_e1:;
+    UNREACHABLE();
+l_arm_5s:;
+    r_ut = 0ull;
+    r_dj = r_r4;
+l_arm_qe:;
+    r_xv = 0ull;
+    r_qr = 0ull;
+    r_b6 = 0u;
+    r_r6 = 0u;
+    r_ka = r_ut;
+    r_28 = 1u;
+    r_5g = (u8)r_dj;
+    r_59 = (u32)(u64)(r_dj >> 32ull);
+    r_14 = 0u;
+    r_yp = 0u;
+l_capnp_gh:;
+    st64((slot_2 + 24), r_xv);
+    st64((slot_2 + 32), r_qr);
+    st32((slot_2 + 40), r_b6);
+    st32((slot_2 + 44), r_r6);
+    r_8p = r_yp;
+    r_fj = r_14;
+    r_k5 = r_ka;
+    r_q1 = r_59;
+    r_ll_1 = r_5g;
+    r_h2 = r_28;
+    goto l_capnp_09;
+l_arm_xm:;
+    st64(slot_3, (u64)r_y8);
+    stp((slot_3 + 8), r_xw_1);
+    st64((slot_3 + 16), r_38_1);
+    st64(slot_4, r_52);
+    stp((slot_4 + 8), r_xw);
+    st64((slot_4 + 16), r_38);
+    st32((slot_4 + 24), a_5);
+    st32((slot_4 + 28), 0u);
+    capnp_objects_source_Source_measure_object_4d6e045afdcb38e0(slot_2, slot_3, slot_4, a_6, a_7);
+    r_8p = ld32((slot_2 + 52));
+    r_fj = ld32((slot_2 + 48));
+    r_k5 = ld64((slot_2 + 16));
+    r_q1 = ld32((slot_2 + 12));
+    r_ll_1 = ld8((slot_2 + 8));
+    r_h2 = ld8(slot_2);
+l_capnp_09:;
+    mv24(slot_8, (slot_2 + 24));
+    if (!(r_h2 == 0u)) goto l_arm_1g;
+    r_5d = (u32)(r_fj >> 16u);
+    if ((u8)((u8)(r_ll_1 != 1u) | (u8)(u8)(a_3 & 1))) goto l_join_gz;
+    r_vt = 1ull;
+    r_8t = r_52;
+    r_49 = a_5;
+    r_1t = 0u;
+    r_a3_1 = 1u;
+    r_wr = 0u;
+    r_hb = 0ull;
+l_common_s8:;
+    st64(a_1, r_vt);
+    st64(away(a_1, 8ull), r_8t);
+    st32(away(a_1, 16ull), r_49);
+    st32(away(a_1, 20ull), r_1t);
+    st32(away(a_1, 24ull), r_a3_1);
+    st32(away(a_1, 28ull), r_wr);
+    st64(away(a_1, 32ull), r_hb);
+    return;
+l_arm_1g:;
+    r_vt = 1ull;
+    r_8t = r_52;
+    r_49 = a_5;
+    r_1t = 0u;
+    r_a3_1 = (u32)r_ll_1;
+    r_wr = r_q1;
+    r_hb = r_k5;
+    goto l_common_s8;
+l_join_gz:;
+    r_mx = ((a_6 == 0x80000000u) ? 0x80000000u : (a_6 + 0xffffffffu));
+    switch (r_ll_1) {
+    case 0u: goto l_arm_c3;
+    case 1u: goto l_arm_c3_1;
+    case 3u: goto l_arm_c3_2;
+    case 2u: goto l_arm_eo;
+    case 4u: goto l_arm_eo_1;
+    case 5u: goto l_arm_eo_2;
+    default: goto l_noarm_e1;
+    }
+l_arm_c3:;
+    st64(slot_9, 0ull);
+    goto l_join_c0;
+l_arm_c3_1:;
+    st64(slot_9, 0ull);
+    goto l_join_c0;
+l_arm_c3_2:;
+    st64(slot_9, 0ull);
+    goto l_join_c0;
+l_arm_eo:;
+    st64(slot_5, (u64)ld8(a_4));
+    mv16((slot_5 + 8), r_rq);
+    st64((slot_5 + 24), r_k5);
+    mv24((slot_5 + 32), slot_8);
+    st32((slot_5 + 56), r_mx);
+    capnp_refusals_refusals_search_search_elements_4d6e045afdcb38e0(slot_9, a_2, a_3, slot_5, (r_fj & 65535u), r_5d, 1u, a_7);
+    goto l_join_c0;
+l_arm_eo_1:;
+    st64(slot_6, (u64)ld8(a_4));
+    mv16((slot_6 + 8), r_rq);
+    st64((slot_6 + 24), r_k5);
+    mv24((slot_6 + 32), slot_8);
+    st32((slot_6 + 56), r_mx);
+    capnp_refusals_refusals_search_search_elements_4d6e045afdcb38e0(slot_9, a_2, a_3, slot_6, 0u, r_fj, 1u, a_7);
+    goto l_join_c0;
+l_arm_eo_2:;
+    st64(slot_7, (u64)ld8(a_4));
+    mv16((slot_7 + 8), r_rq);
+    st64((slot_7 + 24), r_k5);
+    mv24((slot_7 + 32), slot_8);
+    st32((slot_7 + 56), r_mx);
+    capnp_refusals_refusals_search_search_elements_4d6e045afdcb38e0(slot_9, a_2, a_3, slot_7, (r_fj & 65535u), r_5d, r_8p, a_7);
+l_join_c0:;
+    r_vt = (u64)ld8(slot_9);
+    r_8t = ld64((slot_9 + 8));
+    r_49 = ld32((slot_9 + 16));
+    r_1t = ld32((slot_9 + 20));
+    r_a3_1 = ld32((slot_9 + 24));
+    r_wr = ld32((slot_9 + 28));
+    r_hb = ld64((slot_9 + 32));
+    goto l_common_s8;
+l_noarm_e1:;
+    UNREACHABLE();
+}
+
+/* capnp_objects::source::Source::measure_object::<#4d6e045afdcb38e0> */
+static NEVER void capnp_objects_source_Source_measure_object_4d6e045afdcb38e0(u8 *a_1, u8 *a_2, u8 *a_3, u32 a_4, u8 *a_5)
+{
+    A(8) u8 slot_1[56];
+    u8 r_dh;
+    u8 *r_rv;
+    u64 r_tp;
+    u8 *r_rv_1;
+    u64 r_qw;
+    u64 r_24;
+    u64 r_gw;
+    u64 r_qw_1;
+    u64 t_al;
+    u8 t_0c;
+    u64 r_lc;
+    u64 r_nb;
+    u64 r_yz;
+    u32 r_mk;
+    u32 r_qj;
+    u64 r_vj;
+    u64 r_at;
+    u64 r_nl;
+    u64 r_b2;
+    u64 r_ep;
+    u64 r_y6;
+    u64 r_lc_1;
+    u8 *r_rq_1;
+    u64 r_52_1;
+    u64 r_ep_1;
+    u8 switch_wl;
+    u64 r_ij;
+    u64 r_c4_1;
+    u64 r_24_2;
+    u64 r_gw_2;
+    u8 *r_rq_2;
+    u64 r_52_2;
+    u64 r_o0;
+    u32 t_c8;
+    u64 r_ep_2;
+    u64 r_y6_1;
+    u32 r_12_2;
+    u8 *r_rq_3;
+    u64 r_52_3;
+    u32 r_12_4;
+    u64 r_c6;
+    u8 *r_rq_4;
+    u64 r_52_4;
+    u64 r_r4;
+    u64 r_9r;
+    u64 r_xy;
+    u64 r_6f;
+    u64 r_3l;
+    u32 r_rk;
+    u32 r_7q;
+    u64 r_yr;
+    u64 r_c1;
+    u32 r_g3;
+    u32 r_vx;
+    u32 r_7j;
+    u32 r_p8;
+    r_dh = ld8(a_2);
+    r_rv = ldp(away(a_2, 8ull));
+    r_tp = ld64(a_3);
+    r_rv_1 = ldp((a_3 + 8));
+    r_qw = ld64((a_3 + 16));
+    r_24 = (u64)ld32((a_3 + 24));
+    r_gw = (u64)(r_qw >> 3ull);
+    if (!(r_gw > r_24)) { r_6f = 0ull; r_3l = 0ull; r_rk = 0u; r_7q = 0u; r_yr = 0ull; r_c1 = 0ull; r_g3 = 0u; r_vx = 0u; r_7j = 0u; r_p8 = 0u; goto l_capnp_6f; }
+    r_qw_1 = ld64((r_rv_1 + (i64)((u64)(r_24 << 3ull))));
+    if (r_qw_1 == 0ull) { r_6f = 0ull; r_3l = 0ull; r_rk = 0u; r_7q = 0u; r_yr = 0ull; r_c1 = 0ull; r_g3 = 0u; r_vx = 0u; r_7j = 0u; r_p8 = 0u; goto l_capnp_6f; }
+    if ((i32)a_4 < (i32)1u) { r_6f = 0ull; r_3l = 0ull; r_rk = 0u; r_7q = 0u; r_yr = 0ull; r_c1 = 1ull; r_g3 = 25u; r_vx = 0u; r_7j = 0u; r_p8 = 0u; goto l_capnp_6f; }
+    t_al = (u64)(uptr)r_rv_1;
+    memset(slot_1, 0u, 56);
+    t_0c = (r_dh == 0u);
+    if (!t_0c) goto l_capnp_sm;
+    u8 *r_08 = away(a_5, 16ull);
+    st64(r_08, uadd_sat64(ld64(r_08), 1ull));
+    if ((r_qw_1 & 3ull) == 2ull) goto l_capnp_ln;
+    goto l_join_bd;
+l_capnp_sm:;
+    if (!((r_qw_1 & 3ull) == 2ull)) goto l_join_bd;
+    st32((slot_1 + 8), 32u);
+    r_r4 = ld64((slot_1 + 8));
+    goto l_arm_5s;
+l_join_bd:;
+    u64 r_m6 = ((u64)(r_qw_1 >> 2ull) & 0x3fffffffull);
+    r_lc = ((r_24 + 1ull) + r_m6);
+    r_nb = (r_gw & 0xffffffffull);
+    if (!(r_m6 < 0x20000000ull)) goto l_else_70;
+    if (r_lc > r_nb) { r_r4 = 23ull; goto l_arm_5s; }
+    r_yz = r_lc;
+    goto l_capnp_i5;
+l_else_70:;
+    u64 r_3o = (r_lc + 0xffffffffc0000000ull);
+    if ((r_lc < 0x40000000ull) ? 1u : (r_3o > r_nb)) { r_r4 = 23ull; goto l_arm_5s; }
+    r_yz = r_3o;
+l_capnp_i5:;
+    r_mk = 0u;
+    r_qj = (u32)r_yz;
+    r_vj = r_tp;
+    r_at = r_qw_1;
+    r_nl = r_qw;
+    r_b2 = t_al;
+    goto l_arm_xs;
+l_capnp_ln:;
+    capnp_objects_source_follow_far_4d6e045afdcb38e0(slot_1, r_rv, r_qw_1, a_5);
+    u64 r_38_1 = ld64((slot_1 + 16));
+    u64 r_38_2 = ld64((slot_1 + 8));
+    if (ld8(slot_1) == 0u) { r_mk = ld32((slot_1 + 44)); r_qj = ld32((slot_1 + 40)); r_vj = r_38_1; r_at = r_38_2; r_nl = ld64((slot_1 + 32)); r_b2 = ld64((slot_1 + 24)); goto l_arm_xs; }
+    r_9r = r_38_1;
+    r_xy = r_38_2;
+    goto l_arm_i4;
+l_arm_xs:;
+    switch ((u8)((u8)r_at & 3u)) {
+    case 0u: goto l_join_yh;
+    case 1u: goto l_arm_z2;
+    case 2u: { r_6f = 0ull; r_3l = 0ull; r_rk = 0u; r_7q = 0u; r_yr = 0ull; r_c1 = 1ull; r_g3 = 13u; r_vx = 0u; r_7j = 0u; r_p8 = 0u; goto l_capnp_6f; }
+    case 3u: goto l_arm_37;
+    default: goto l_default_e1;
+    }
+l_join_yh:;
+    r_ep = (u64)(r_at >> 32ull);
+    r_y6 = (u64)(r_at >> 48ull);
+    r_lc_1 = ((r_ep & 65535ull) + r_y6);
+    if (((u64)(r_nl >> 3ull) & 0xffffffffull) < (r_lc_1 + (u64)r_qj)) { r_6f = 0ull; r_3l = 0ull; r_rk = 0u; r_7q = 0u; r_yr = 0ull; r_c1 = 1ull; r_g3 = 23u; r_vx = 0u; r_7j = 0u; r_p8 = 0u; goto l_capnp_6f; }
+    if (!t_0c) goto l_arm_mf;
+    if (!(ld8(a_5) == 1u)) goto l_arm_mf;
+    r_rq_1 = away(a_5, 8ull);
+    r_52_1 = ld64(r_rq_1);
+    if (r_52_1 < r_lc_1) { r_6f = 0ull; r_3l = 0ull; r_rk = 0u; r_7q = 0u; r_yr = 0ull; r_c1 = 1ull; r_g3 = 30u; r_vx = 0u; r_7j = 0u; r_p8 = 0u; goto l_capnp_6f; }
+    st64(a_5, 1ull);
+    st64(r_rq_1, (r_52_1 - r_lc_1));
+l_arm_mf:;
+    r_6f = r_b2;
+    r_3l = r_nl;
+    r_rk = r_qj;
+    r_7q = r_mk;
+    r_yr = r_vj;
+    r_c1 = 0ull;
+    r_g3 = 2u;
+    r_vx = 0u;
+    r_7j = ((u32)((u32)r_y6 << 16u) | ((u32)r_ep & 65535u));
+    r_p8 = 0u;
+    goto l_capnp_6f;
+l_arm_z2:;
+    r_ep_1 = (u64)(r_at >> 32ull);
+    switch_wl = (u8)((u8)r_ep_1 & 7u);
+    r_ij = (u64)(r_at >> 35ull);
+    switch (switch_wl) {
+    case 7u: goto l_join_vn;
+    case 6u: goto l_join_10;
+    case 0u: goto l_arm_ps;
+    case 1u: goto l_arm_sm;
+    case 2u: goto l_arm_sm;
+    case 3u: goto l_arm_sm;
+    case 4u: goto l_arm_sm;
+    case 5u: goto l_arm_sm;
+    default: goto l_default_e1;
+    }
+l_join_vn:;
+    r_c4_1 = (r_ij + 1ull);
+    r_24_2 = (u64)r_qj;
+    r_gw_2 = (u64)(r_nl >> 3ull);
+    if ((r_gw_2 & 0xffffffffull) < (r_c4_1 + r_24_2)) { r_6f = 0ull; r_3l = 0ull; r_rk = 0u; r_7q = 0u; r_yr = 0ull; r_c1 = 1ull; r_g3 = 23u; r_vx = 0u; r_7j = 0u; r_p8 = 0u; goto l_capnp_6f; }
+    if (!t_0c) goto l_arm_ga;
+    if (!(ld8(a_5) == 1u)) goto l_arm_ga;
+    r_rq_2 = away(a_5, 8ull);
+    r_52_2 = ld64(r_rq_2);
+    if (!(r_52_2 > r_ij)) { r_6f = 0ull; r_3l = 0ull; r_rk = 0u; r_7q = 0u; r_yr = 0ull; r_c1 = 1ull; r_g3 = 30u; r_vx = 0u; r_7j = 0u; r_p8 = 0u; goto l_capnp_6f; }
+    st64(a_5, 1ull);
+    st64(r_rq_2, (r_52_2 - r_c4_1));
+l_arm_ga:;
+    if (!(r_gw_2 > r_24_2)) { r_o0 = 0ull; goto l_join_8m; }
+    u64 r_qw_2 = ld64((((u8 *)(uptr)r_b2) + (i64)((u64)(r_24_2 << 3ull))));
+    if ((r_qw_2 & 3ull) == 0ull) { r_o0 = r_qw_2; goto l_join_8m; }
+    r_6f = 0ull;
+    r_3l = 0ull;
+    r_rk = 0u;
+    r_7q = 0u;
+    r_yr = 0ull;
+    r_c1 = 1ull;
+    r_g3 = 2u;
+    r_vx = 0u;
+    r_7j = 0u;
+    r_p8 = 0u;
+    goto l_capnp_6f;
+l_join_8m:;
+    t_c8 = (u32)((u32)r_o0 >> 2u);
+    r_ep_2 = (u64)(r_o0 >> 32ull);
+    r_y6_1 = (u64)(r_o0 >> 48ull);
+    if (r_ij < (((r_ep_2 & 65535ull) + r_y6_1) * (u64)t_c8)) { r_6f = 0ull; r_3l = 0ull; r_rk = 0u; r_7q = 0u; r_yr = 0ull; r_c1 = 1ull; r_g3 = 10u; r_vx = 0u; r_7j = 0u; r_p8 = 0u; goto l_capnp_6f; }
+    r_6f = r_b2;
+    r_3l = r_nl;
+    r_rk = (r_qj + 1u);
+    r_7q = 0u;
+    r_yr = r_vj;
+    r_c1 = 0ull;
+    r_g3 = 5u;
+    r_vx = 0u;
+    r_7j = ((u32)((u32)r_y6_1 << 16u) | ((u32)r_ep_2 & 65535u));
+    r_p8 = t_c8;
+    goto l_capnp_6f;
+l_join_10:;
+    r_12_2 = (u32)r_ij;
+    if (((u64)(r_nl >> 3ull) & 0xffffffffull) < (r_ij + (u64)r_qj)) { r_6f = 0ull; r_3l = 0ull; r_rk = 0u; r_7q = 0u; r_yr = 0ull; r_c1 = 1ull; r_g3 = 23u; r_vx = 0u; r_7j = 0u; r_p8 = 0u; goto l_capnp_6f; }
+    if (!t_0c) { r_6f = r_b2; r_3l = r_nl; r_rk = r_qj; r_7q = r_mk; r_yr = r_vj; r_c1 = 0ull; r_g3 = 4u; r_vx = 0u; r_7j = r_12_2; r_p8 = 0u; goto l_capnp_6f; }
+    if (!(ld8(a_5) == 1u)) { r_6f = r_b2; r_3l = r_nl; r_rk = r_qj; r_7q = r_mk; r_yr = r_vj; r_c1 = 0ull; r_g3 = 4u; r_vx = 0u; r_7j = r_12_2; r_p8 = 0u; goto l_capnp_6f; }
+    r_rq_3 = away(a_5, 8ull);
+    r_52_3 = ld64(r_rq_3);
+    if (r_52_3 < r_ij) { r_6f = 0ull; r_3l = 0ull; r_rk = 0u; r_7q = 0u; r_yr = 0ull; r_c1 = 1ull; r_g3 = 30u; r_vx = 0u; r_7j = 0u; r_p8 = 0u; goto l_capnp_6f; }
+    st64(a_5, 1ull);
+    st64(r_rq_3, (r_52_3 - r_ij));
+    r_6f = r_b2;
+    r_3l = r_nl;
+    r_rk = r_qj;
+    r_7q = r_mk;
+    r_yr = r_vj;
+    r_c1 = 0ull;
+    r_g3 = 4u;
+    r_vx = 0u;
+    r_7j = r_12_2;
+    r_p8 = 0u;
+    goto l_capnp_6f;
+l_arm_ps:;
+    r_6f = r_b2;
+    r_3l = r_nl;
+    r_rk = r_qj;
+    r_7q = r_mk;
+    r_yr = r_vj;
+    r_c1 = 0ull;
+    r_g3 = 3u;
+    r_vx = 0u;
+    r_7j = 0u;
+    r_p8 = (u32)r_ij;
+    goto l_capnp_6f;
+l_arm_sm:;
+    r_12_4 = (u32)r_ij;
+    r_c6 = (u64)(((ld64(away(away(((u8 *)switch_table_capnp_pointers_pointers_validate_validate_8439008b), 8 * (r_ep_1 & 7ull)), 0xfffffffffffffff8ull)) * r_ij) + 63ull) >> 6ull);
+    if (((u64)(r_nl >> 3ull) & 0xffffffffull) < (r_c6 + (u64)r_qj)) { r_6f = 0ull; r_3l = 0ull; r_rk = 0u; r_7q = 0u; r_yr = 0ull; r_c1 = 1ull; r_g3 = 23u; r_vx = 0u; r_7j = 0u; r_p8 = 0u; goto l_capnp_6f; }
+    if (!t_0c) goto l_arm_zg;
+    if (!(ld8(a_5) == 1u)) goto l_arm_zg;
+    r_rq_4 = away(a_5, 8ull);
+    r_52_4 = ld64(r_rq_4);
+    if (r_52_4 < r_c6) { r_6f = 0ull; r_3l = 0ull; r_rk = 0u; r_7q = 0u; r_yr = 0ull; r_c1 = 1ull; r_g3 = 30u; r_vx = 0u; r_7j = 0u; r_p8 = 0u; goto l_capnp_6f; }
+    st64(a_5, 1ull);
+    st64(r_rq_4, (r_52_4 - r_c6));
+l_arm_zg:;
+    r_6f = r_b2;
+    r_3l = r_nl;
+    r_rk = r_qj;
+    r_7q = r_mk;
+    r_yr = r_vj;
+    r_c1 = 0ull;
+    r_g3 = 3u;
+    r_vx = 0u;
+    r_7j = (u32)switch_wl;
+    r_p8 = r_12_4;
+    goto l_capnp_6f;
+l_arm_37:;
+    u8 r_ml = ((r_at & 0xffffffffull) != 3ull);
+    r_6f = 0ull;
+    r_3l = 0ull;
+    r_rk = 0u;
+    r_7q = 0u;
+    r_yr = 0ull;
+    r_c1 = (u64)r_ml;
+    r_g3 = (r_ml ? 34u : 1u);
+    r_vx = (r_ml ? 0u : (u32)(u64)(r_at >> 32ull));
+    r_7j = 0u;
+    r_p8 = 0u;
+    goto l_capnp_6f;
+l_default_e1:;
+    UNREACHABLE();
+l_arm_5s:;
+    r_9r = 0ull;
+    r_xy = r_r4;
+l_arm_i4:;
+    r_6f = 0ull;
+    r_3l = 0ull;
+    r_rk = 0u;
+    r_7q = 0u;
+    r_yr = r_9r;
+    r_c1 = 1ull;
+    r_g3 = ((u32)r_xy & 255u);
+    r_vx = (u32)(u64)(r_xy >> 32ull);
+    r_7j = 0u;
+    r_p8 = 0u;
+l_capnp_6f:;
+    st64(a_1, r_c1);
+    st32(away(a_1, 8ull), r_g3);
+    st32(away(a_1, 12ull), r_vx);
+    st64(away(a_1, 16ull), r_yr);
+    st64(away(a_1, 24ull), r_6f);
+    st64(away(a_1, 32ull), r_3l);
+    st32(away(a_1, 40ull), r_rk);
+    st32(away(a_1, 44ull), r_7q);
+    st32(away(a_1, 48ull), r_7j);
+    st32(away(a_1, 52ull), r_p8);
+    return;
+}
+
+/* capnp_refusals::refusals::search::search_elements::<#4d6e045afdcb38e0> */
+static void capnp_refusals_refusals_search_search_elements_4d6e045afdcb38e0(u8 *a_1, u8 a_2, u8 a_3, u8 *a_4, u32 a_5, u32 a_6, u32 a_7, u8 *a_8)
+{
+    A(8) u8 slot_1[40];
+    u32 r_yg;
+    u8 *r_t9;
+    u8 *r_r2;
+    u32 r_sv;
+    memset(slot_1, 0u, 40);
+    if (a_6 == 0u) goto l_then_h9;
+    goto l_join_a3;
+l_common_68:;
+    return;
+l_then_h9:;
+    memset(a_1, 0u, 40);
+    goto l_common_68;
+l_join_a3:;
+    r_yg = (a_6 + a_5);
+    if (a_7 == 0u) goto l_after_h9;
+    r_t9 = away(a_4, 48ull);
+    r_r2 = away(a_4, 56ull);
+    r_sv = 0u;
+    goto l_join_tm;
+l_loop_0k:;
+    u32 r_7t = (r_sv + 1u);
+    if (r_7t == a_7) goto l_after_h9;
+    r_sv = r_7t;
+l_join_tm:;
+    capnp_refusals_refusals_search_search_pointers_4d6e045afdcb38e0(slot_1, a_2, a_3, a_4, (((r_sv * r_yg) + a_5) + ld32(r_t9)), a_6, ld32(r_r2), a_8);
+    if (!(ld8(slot_1) == 1u)) goto l_loop_0k;
+    st64(a_1, 1ull);
+    mv32(away(a_1, 8ull), (slot_1 + 8));
+    goto l_common_68;
+l_after_h9:;
+    memset(a_1, 0u, 40);
+    goto l_common_68;
+}
+
+/* capnp_refusals::refusals::search::search_pointers::<#4d6e045afdcb38e0> */
+static NEVER void capnp_refusals_refusals_search_search_pointers_4d6e045afdcb38e0(u8 *a_1, u8 a_2, u8 a_3, u8 *a_4, u32 a_5, u32 a_6, u32 a_7, u8 *a_8)
+{
+    A(8) u8 slot_1[40];
+    u32 r_9j;
+    memset(slot_1, 0u, 40);
+    r_9j = 0u;
+    goto l_join_01;
+l_loop_0k:;
+    u32 r_7t = (r_9j + 1u);
+    if (r_7t == a_6) goto l_after_h9;
+    r_9j = r_7t;
+l_join_01:;
+    capnp_refusals_refusals_search_search_object_4d6e045afdcb38e0(slot_1, a_2, a_3, a_4, (r_9j + a_5), a_7, a_8);
+    if (ld8(slot_1) == 1u) goto l_arm_os;
+    goto l_loop_0k;
+l_common_68:;
+    return;
+l_arm_os:;
+    st64(a_1, 1ull);
+    mv32(away(a_1, 8ull), (slot_1 + 8));
+    goto l_common_68;
+l_after_h9:;
+    memset(a_1, 0u, 40);
+    goto l_common_68;
+}
+
 /* capnp_pointers::pointers::sizes::add_object::<#4d6e045afdcb38e0> */
 static NEVER u8 capnp_pointers_pointers_sizes_add_object_4d6e045afdcb38e0(u8 *a_1, u32 a_2, u32 a_3, u8 *a_4)
 {
@@ -36710,307 +38765,6 @@ l_arm_ki:;
     goto l_join_85;
 l_return_ri:;
     return r_fk;
-}
-
-/* capnp_objects::source::Source::measure_object::<#4d6e045afdcb38e0> */
-static NEVER void capnp_objects_source_Source_measure_object_4d6e045afdcb38e0(u8 *a_1, u8 *a_2, u8 *a_3, u32 a_4, u8 *a_5)
-{
-    A(8) u8 slot_1[56];
-    u8 r_dh;
-    u8 *r_rv;
-    u64 r_tp;
-    u8 *r_rv_1;
-    u64 r_qw;
-    u64 r_24;
-    u64 r_gw;
-    u64 r_qw_1;
-    u64 t_al;
-    u8 t_0c;
-    u64 r_lc;
-    u64 r_nb;
-    u64 r_yz;
-    u32 r_mk;
-    u32 r_qj;
-    u64 r_vj;
-    u64 r_at;
-    u64 r_nl;
-    u64 r_b2;
-    u64 r_ep;
-    u64 r_y6;
-    u64 r_lc_1;
-    u8 *r_rq_1;
-    u64 r_52_1;
-    u64 r_ep_1;
-    u8 switch_wl;
-    u64 r_ij;
-    u64 r_c4_1;
-    u64 r_24_2;
-    u64 r_gw_2;
-    u8 *r_rq_2;
-    u64 r_52_2;
-    u64 r_o0;
-    u32 t_c8;
-    u64 r_ep_2;
-    u64 r_y6_1;
-    u32 r_12_2;
-    u8 *r_rq_3;
-    u64 r_52_3;
-    u32 r_12_4;
-    u64 r_c6;
-    u8 *r_rq_4;
-    u64 r_52_4;
-    u64 r_r4;
-    u64 r_9r;
-    u64 r_xy;
-    u64 r_6f;
-    u64 r_3l;
-    u32 r_rk;
-    u32 r_7q;
-    u64 r_yr;
-    u64 r_c1;
-    u32 r_g3;
-    u32 r_vx;
-    u32 r_7j;
-    u32 r_p8;
-    r_dh = ld8(a_2);
-    r_rv = ldp(away(a_2, 8ull));
-    r_tp = ld64(a_3);
-    r_rv_1 = ldp((a_3 + 8));
-    r_qw = ld64((a_3 + 16));
-    r_24 = (u64)ld32((a_3 + 24));
-    r_gw = (u64)(r_qw >> 3ull);
-    if (!(r_gw > r_24)) { r_6f = 0ull; r_3l = 0ull; r_rk = 0u; r_7q = 0u; r_yr = 0ull; r_c1 = 0ull; r_g3 = 0u; r_vx = 0u; r_7j = 0u; r_p8 = 0u; goto l_capnp_6f; }
-    r_qw_1 = ld64((r_rv_1 + (i64)((u64)(r_24 << 3ull))));
-    if (r_qw_1 == 0ull) { r_6f = 0ull; r_3l = 0ull; r_rk = 0u; r_7q = 0u; r_yr = 0ull; r_c1 = 0ull; r_g3 = 0u; r_vx = 0u; r_7j = 0u; r_p8 = 0u; goto l_capnp_6f; }
-    if ((i32)a_4 < (i32)1u) { r_6f = 0ull; r_3l = 0ull; r_rk = 0u; r_7q = 0u; r_yr = 0ull; r_c1 = 1ull; r_g3 = 25u; r_vx = 0u; r_7j = 0u; r_p8 = 0u; goto l_capnp_6f; }
-    t_al = (u64)(uptr)r_rv_1;
-    memset(slot_1, 0u, 56);
-    t_0c = (r_dh == 0u);
-    if (!t_0c) goto l_capnp_sm;
-    u8 *r_08 = away(a_5, 16ull);
-    st64(r_08, uadd_sat64(ld64(r_08), 1ull));
-    if ((r_qw_1 & 3ull) == 2ull) goto l_capnp_ln;
-    goto l_join_bd;
-l_capnp_sm:;
-    if (!((r_qw_1 & 3ull) == 2ull)) goto l_join_bd;
-    st32((slot_1 + 8), 32u);
-    r_r4 = ld64((slot_1 + 8));
-    goto l_arm_5s;
-l_join_bd:;
-    u64 r_m6 = ((u64)(r_qw_1 >> 2ull) & 0x3fffffffull);
-    r_lc = ((r_24 + 1ull) + r_m6);
-    r_nb = (r_gw & 0xffffffffull);
-    if (!(r_m6 < 0x20000000ull)) goto l_else_70;
-    if (r_lc > r_nb) { r_r4 = 23ull; goto l_arm_5s; }
-    r_yz = r_lc;
-    goto l_capnp_i5;
-l_else_70:;
-    u64 r_3o = (r_lc + 0xffffffffc0000000ull);
-    if ((r_lc < 0x40000000ull) ? 1u : (r_3o > r_nb)) { r_r4 = 23ull; goto l_arm_5s; }
-    r_yz = r_3o;
-l_capnp_i5:;
-    r_mk = 0u;
-    r_qj = (u32)r_yz;
-    r_vj = r_tp;
-    r_at = r_qw_1;
-    r_nl = r_qw;
-    r_b2 = t_al;
-    goto l_arm_xs;
-l_capnp_ln:;
-    capnp_objects_source_follow_far_4d6e045afdcb38e0(slot_1, r_rv, r_qw_1, a_5);
-    u64 r_38_1 = ld64((slot_1 + 16));
-    u64 r_38_2 = ld64((slot_1 + 8));
-    if (ld8(slot_1) == 0u) { r_mk = ld32((slot_1 + 44)); r_qj = ld32((slot_1 + 40)); r_vj = r_38_1; r_at = r_38_2; r_nl = ld64((slot_1 + 32)); r_b2 = ld64((slot_1 + 24)); goto l_arm_xs; }
-    r_9r = r_38_1;
-    r_xy = r_38_2;
-    goto l_arm_i4;
-l_arm_xs:;
-    switch ((u8)((u8)r_at & 3u)) {
-    case 0u: goto l_join_yh;
-    case 1u: goto l_arm_z2;
-    case 2u: { r_6f = 0ull; r_3l = 0ull; r_rk = 0u; r_7q = 0u; r_yr = 0ull; r_c1 = 1ull; r_g3 = 13u; r_vx = 0u; r_7j = 0u; r_p8 = 0u; goto l_capnp_6f; }
-    case 3u: goto l_arm_37;
-    default: goto l_default_e1;
-    }
-l_join_yh:;
-    r_ep = (u64)(r_at >> 32ull);
-    r_y6 = (u64)(r_at >> 48ull);
-    r_lc_1 = ((r_ep & 65535ull) + r_y6);
-    if (((u64)(r_nl >> 3ull) & 0xffffffffull) < (r_lc_1 + (u64)r_qj)) { r_6f = 0ull; r_3l = 0ull; r_rk = 0u; r_7q = 0u; r_yr = 0ull; r_c1 = 1ull; r_g3 = 23u; r_vx = 0u; r_7j = 0u; r_p8 = 0u; goto l_capnp_6f; }
-    if (!t_0c) goto l_arm_mf;
-    if (!(ld8(a_5) == 1u)) goto l_arm_mf;
-    r_rq_1 = away(a_5, 8ull);
-    r_52_1 = ld64(r_rq_1);
-    if (r_52_1 < r_lc_1) { r_6f = 0ull; r_3l = 0ull; r_rk = 0u; r_7q = 0u; r_yr = 0ull; r_c1 = 1ull; r_g3 = 30u; r_vx = 0u; r_7j = 0u; r_p8 = 0u; goto l_capnp_6f; }
-    st64(a_5, 1ull);
-    st64(r_rq_1, (r_52_1 - r_lc_1));
-l_arm_mf:;
-    r_6f = r_b2;
-    r_3l = r_nl;
-    r_rk = r_qj;
-    r_7q = r_mk;
-    r_yr = r_vj;
-    r_c1 = 0ull;
-    r_g3 = 2u;
-    r_vx = 0u;
-    r_7j = ((u32)((u32)r_y6 << 16u) | ((u32)r_ep & 65535u));
-    r_p8 = 0u;
-    goto l_capnp_6f;
-l_arm_z2:;
-    r_ep_1 = (u64)(r_at >> 32ull);
-    switch_wl = (u8)((u8)r_ep_1 & 7u);
-    r_ij = (u64)(r_at >> 35ull);
-    switch (switch_wl) {
-    case 7u: goto l_join_vn;
-    case 6u: goto l_join_10;
-    case 0u: goto l_arm_ps;
-    case 1u: goto l_arm_sm;
-    case 2u: goto l_arm_sm;
-    case 3u: goto l_arm_sm;
-    case 4u: goto l_arm_sm;
-    case 5u: goto l_arm_sm;
-    default: goto l_default_e1;
-    }
-l_join_vn:;
-    r_c4_1 = (r_ij + 1ull);
-    r_24_2 = (u64)r_qj;
-    r_gw_2 = (u64)(r_nl >> 3ull);
-    if ((r_gw_2 & 0xffffffffull) < (r_c4_1 + r_24_2)) { r_6f = 0ull; r_3l = 0ull; r_rk = 0u; r_7q = 0u; r_yr = 0ull; r_c1 = 1ull; r_g3 = 23u; r_vx = 0u; r_7j = 0u; r_p8 = 0u; goto l_capnp_6f; }
-    if (!t_0c) goto l_arm_ga;
-    if (!(ld8(a_5) == 1u)) goto l_arm_ga;
-    r_rq_2 = away(a_5, 8ull);
-    r_52_2 = ld64(r_rq_2);
-    if (!(r_52_2 > r_ij)) { r_6f = 0ull; r_3l = 0ull; r_rk = 0u; r_7q = 0u; r_yr = 0ull; r_c1 = 1ull; r_g3 = 30u; r_vx = 0u; r_7j = 0u; r_p8 = 0u; goto l_capnp_6f; }
-    st64(a_5, 1ull);
-    st64(r_rq_2, (r_52_2 - r_c4_1));
-l_arm_ga:;
-    if (!(r_gw_2 > r_24_2)) { r_o0 = 0ull; goto l_join_8m; }
-    u64 r_qw_2 = ld64((((u8 *)(uptr)r_b2) + (i64)((u64)(r_24_2 << 3ull))));
-    if ((r_qw_2 & 3ull) == 0ull) { r_o0 = r_qw_2; goto l_join_8m; }
-    r_6f = 0ull;
-    r_3l = 0ull;
-    r_rk = 0u;
-    r_7q = 0u;
-    r_yr = 0ull;
-    r_c1 = 1ull;
-    r_g3 = 2u;
-    r_vx = 0u;
-    r_7j = 0u;
-    r_p8 = 0u;
-    goto l_capnp_6f;
-l_join_8m:;
-    t_c8 = (u32)((u32)r_o0 >> 2u);
-    r_ep_2 = (u64)(r_o0 >> 32ull);
-    r_y6_1 = (u64)(r_o0 >> 48ull);
-    if (r_ij < (((r_ep_2 & 65535ull) + r_y6_1) * (u64)t_c8)) { r_6f = 0ull; r_3l = 0ull; r_rk = 0u; r_7q = 0u; r_yr = 0ull; r_c1 = 1ull; r_g3 = 10u; r_vx = 0u; r_7j = 0u; r_p8 = 0u; goto l_capnp_6f; }
-    r_6f = r_b2;
-    r_3l = r_nl;
-    r_rk = (r_qj + 1u);
-    r_7q = 0u;
-    r_yr = r_vj;
-    r_c1 = 0ull;
-    r_g3 = 5u;
-    r_vx = 0u;
-    r_7j = ((u32)((u32)r_y6_1 << 16u) | ((u32)r_ep_2 & 65535u));
-    r_p8 = t_c8;
-    goto l_capnp_6f;
-l_join_10:;
-    r_12_2 = (u32)r_ij;
-    if (((u64)(r_nl >> 3ull) & 0xffffffffull) < (r_ij + (u64)r_qj)) { r_6f = 0ull; r_3l = 0ull; r_rk = 0u; r_7q = 0u; r_yr = 0ull; r_c1 = 1ull; r_g3 = 23u; r_vx = 0u; r_7j = 0u; r_p8 = 0u; goto l_capnp_6f; }
-    if (!t_0c) { r_6f = r_b2; r_3l = r_nl; r_rk = r_qj; r_7q = r_mk; r_yr = r_vj; r_c1 = 0ull; r_g3 = 4u; r_vx = 0u; r_7j = r_12_2; r_p8 = 0u; goto l_capnp_6f; }
-    if (!(ld8(a_5) == 1u)) { r_6f = r_b2; r_3l = r_nl; r_rk = r_qj; r_7q = r_mk; r_yr = r_vj; r_c1 = 0ull; r_g3 = 4u; r_vx = 0u; r_7j = r_12_2; r_p8 = 0u; goto l_capnp_6f; }
-    r_rq_3 = away(a_5, 8ull);
-    r_52_3 = ld64(r_rq_3);
-    if (r_52_3 < r_ij) { r_6f = 0ull; r_3l = 0ull; r_rk = 0u; r_7q = 0u; r_yr = 0ull; r_c1 = 1ull; r_g3 = 30u; r_vx = 0u; r_7j = 0u; r_p8 = 0u; goto l_capnp_6f; }
-    st64(a_5, 1ull);
-    st64(r_rq_3, (r_52_3 - r_ij));
-    r_6f = r_b2;
-    r_3l = r_nl;
-    r_rk = r_qj;
-    r_7q = r_mk;
-    r_yr = r_vj;
-    r_c1 = 0ull;
-    r_g3 = 4u;
-    r_vx = 0u;
-    r_7j = r_12_2;
-    r_p8 = 0u;
-    goto l_capnp_6f;
-l_arm_ps:;
-    r_6f = r_b2;
-    r_3l = r_nl;
-    r_rk = r_qj;
-    r_7q = r_mk;
-    r_yr = r_vj;
-    r_c1 = 0ull;
-    r_g3 = 3u;
-    r_vx = 0u;
-    r_7j = 0u;
-    r_p8 = (u32)r_ij;
-    goto l_capnp_6f;
-l_arm_sm:;
-    r_12_4 = (u32)r_ij;
-    r_c6 = (u64)(((ld64(away(away(((u8 *)switch_table_capnp_pointers_pointers_validate_validate_8439008b), 8 * (r_ep_1 & 7ull)), 0xfffffffffffffff8ull)) * r_ij) + 63ull) >> 6ull);
-    if (((u64)(r_nl >> 3ull) & 0xffffffffull) < (r_c6 + (u64)r_qj)) { r_6f = 0ull; r_3l = 0ull; r_rk = 0u; r_7q = 0u; r_yr = 0ull; r_c1 = 1ull; r_g3 = 23u; r_vx = 0u; r_7j = 0u; r_p8 = 0u; goto l_capnp_6f; }
-    if (!t_0c) goto l_arm_zg;
-    if (!(ld8(a_5) == 1u)) goto l_arm_zg;
-    r_rq_4 = away(a_5, 8ull);
-    r_52_4 = ld64(r_rq_4);
-    if (r_52_4 < r_c6) { r_6f = 0ull; r_3l = 0ull; r_rk = 0u; r_7q = 0u; r_yr = 0ull; r_c1 = 1ull; r_g3 = 30u; r_vx = 0u; r_7j = 0u; r_p8 = 0u; goto l_capnp_6f; }
-    st64(a_5, 1ull);
-    st64(r_rq_4, (r_52_4 - r_c6));
-l_arm_zg:;
-    r_6f = r_b2;
-    r_3l = r_nl;
-    r_rk = r_qj;
-    r_7q = r_mk;
-    r_yr = r_vj;
-    r_c1 = 0ull;
-    r_g3 = 3u;
-    r_vx = 0u;
-    r_7j = (u32)switch_wl;
-    r_p8 = r_12_4;
-    goto l_capnp_6f;
-l_arm_37:;
-    u8 r_ml = ((r_at & 0xffffffffull) != 3ull);
-    r_6f = 0ull;
-    r_3l = 0ull;
-    r_rk = 0u;
-    r_7q = 0u;
-    r_yr = 0ull;
-    r_c1 = (u64)r_ml;
-    r_g3 = (r_ml ? 34u : 1u);
-    r_vx = (r_ml ? 0u : (u32)(u64)(r_at >> 32ull));
-    r_7j = 0u;
-    r_p8 = 0u;
-    goto l_capnp_6f;
-l_default_e1:;
-    UNREACHABLE();
-l_arm_5s:;
-    r_9r = 0ull;
-    r_xy = r_r4;
-l_arm_i4:;
-    r_6f = 0ull;
-    r_3l = 0ull;
-    r_rk = 0u;
-    r_7q = 0u;
-    r_yr = r_9r;
-    r_c1 = 1ull;
-    r_g3 = ((u32)r_xy & 255u);
-    r_vx = (u32)(u64)(r_xy >> 32ull);
-    r_7j = 0u;
-    r_p8 = 0u;
-l_capnp_6f:;
-    st64(a_1, r_c1);
-    st32(away(a_1, 8ull), r_g3);
-    st32(away(a_1, 12ull), r_vx);
-    st64(away(a_1, 16ull), r_yr);
-    st64(away(a_1, 24ull), r_6f);
-    st64(away(a_1, 32ull), r_3l);
-    st32(away(a_1, 40ull), r_rk);
-    st32(away(a_1, 44ull), r_7q);
-    st32(away(a_1, 48ull), r_7j);
-    st32(away(a_1, 52ull), r_p8);
-    return;
 }
 
 /* capnp_pointers::pointers::sizes::add_pointers::<#4d6e045afdcb38e0> */
@@ -38907,6 +40661,260 @@ l_capnp_rt:;
     return r_8i;
 }
 
+uint32_t capnp_canonical_locate(const uint8_t *frame, size_t frame_size, int32_t nesting, uint64_t words, uint32_t reading, struct capnp_canonical_pointer *pointer)
+{
+    u8 *a_1 = (u8 *)frame;
+    u64 a_2 = (u64)frame_size;
+    u32 a_3 = (u32)nesting;
+    u64 a_4 = (u64)words;
+    u32 a_5 = (u32)reading;
+    u8 *a_6 = (u8 *)pointer;
+    A(8) u8 slot_1[128];
+    A(8) u8 slot_2[192];
+    A(8) u8 slot_3[24];
+    A(8) u8 slot_4[64];
+    A(8) u8 slot_5[128];
+    u8 *r_8z;
+    u64 r_24;
+    u64 r_c4;
+    u64 r_lc;
+    u8 *r_bb;
+    u64 r_ya;
+    u64 r_9x;
+    u64 r_4a;
+    u64 a_n9;
+    u64 r_l5;
+    u64 r_rx;
+    u64 r_0x;
+    u64 r_5q_1;
+    u64 r_ox;
+    u64 r_0j;
+    u8 *t_6c;
+    u64 r_l5_1;
+    u64 r_rx_1;
+    u64 r_5q_2;
+    u8 *r_2b;
+    u8 switch_yy;
+    u8 *r_a8;
+    u8 *r_x5_1;
+    u32 r_5k_3;
+    u32 r_3u;
+    u32 r_yw;
+    u32 r_ht;
+    u64 r_wk;
+    u64 r_l3;
+    u64 r_5z;
+    u32 r_8s;
+    u32 r_gw_1;
+    r_8z = away(a_1, (((uptr)a_1 == (uptr)((u8 *)0)) ? 4096ull : 0ull));
+    if (a_2 == 0ull) goto l_arm_pt;
+    if (a_2 < 4ull) { r_8s = 19u; goto l_arm_pt_1; }
+    u32 r_5k = ld32(r_8z);
+    r_24 = (u64)r_5k;
+    r_c4 = (r_24 + 1ull);
+    if (r_5k > 511u) { r_8s = 17u; goto l_arm_pt_1; }
+    r_lc = (((u64)(r_c4 << 2ull) + 4ull) + ((u64)(r_24 << 2ull) & 4ull));
+    if (a_2 < r_lc) { r_8s = 19u; goto l_arm_pt_1; }
+    r_bb = away(r_8z, 4ull);
+    memset(slot_1, 0u, 128);
+    r_ya = (u64)((r_24 + 32ull) >> 5ull);
+    r_9x = 0ull;
+    r_4a = 0ull;
+l_join_1x:;
+    st64((slot_1 + (i64)((u64)(r_4a << 3ull))), r_9x);
+    u64 r_vp = (u64)(r_4a << 5ull);
+    a_n9 = umin64((r_vp + 32ull), r_c4);
+    if (r_vp > r_24) { r_0x = 0ull; goto l_capnp_a1; }
+    r_l5 = 0ull;
+    r_rx = r_vp;
+l_join_rl:;
+    u64 r_5q = (r_l5 + (u64)ld32((r_bb + (i64)((u64)(r_rx << 2ull)))));
+    u64 r_36 = (r_rx + 1ull);
+    if (r_36 == a_n9) { r_0x = r_5q; goto l_capnp_a1; }
+    r_l5 = r_5q;
+    r_rx = r_36;
+    goto l_join_rl;
+l_capnp_a1:;
+    r_5q_1 = (r_0x + r_9x);
+    u64 r_c4_1 = (r_4a + 1ull);
+    if (!(r_c4_1 == r_ya)) { r_9x = r_5q_1; r_4a = r_c4_1; goto l_join_1x; }
+    r_ox = (a_2 + 0xfffffffffffffffcull);
+    if (a_4 < r_5q_1) { r_8s = 18u; goto l_arm_pt_1; }
+    r_0j = (a_2 - r_lc);
+    if ((u64)(r_0j >> 3ull) < r_5q_1) { r_8s = 19u; goto l_arm_pt_1; }
+    memcpy(slot_5, slot_1, 128);
+    t_6c = (slot_4 + 56);
+    st64(t_6c, 0ull);
+    r_l5_1 = 0ull;
+    r_rx_1 = 0ull;
+l_join_rl_1:;
+    r_5q_2 = (r_l5_1 + (u64)ld32((r_bb + (i64)((u64)(r_rx_1 << 2ull)))));
+    if (!(r_rx_1 == r_24)) { u64 r_1 = r_5q_2; u64 r_2 = (r_rx_1 + 1ull); r_l5_1 = r_1; r_rx_1 = r_2; goto l_join_rl_1; }
+    r_2b = away(r_8z, r_lc);
+    switch_yy = ((a_5 == 1u) ? 0u : ((a_5 == 2u) ? 2u : 4u));
+    st64(slot_2, r_c4);
+    stp((slot_2 + 8), r_bb);
+    st64((slot_2 + 16), r_ox);
+    stp((slot_2 + 24), r_2b);
+    st64((slot_2 + 32), r_0j);
+    r_a8 = (slot_2 + 40);
+    memcpy(r_a8, slot_5, 128);
+    st64((slot_2 + 168), ((u64)(r_5q_1 << 3ull) + r_lc));
+    st32((slot_2 + 176), a_3);
+    st32((slot_2 + 180), 0u);
+    st64((slot_2 + 184), r_5q_2);
+    r_x5_1 = (slot_3 + 8);
+    st64((slot_3 + 16), 0ull);
+    r_5k_3 = ld32(r_bb);
+    if (r_5k_3 == 0u) { r_3u = 23u; goto l_capnp_uw; }
+    if (a_4 == 0ull) { r_3u = 30u; goto l_capnp_uw; }
+    st64(slot_3, 1ull);
+    st64(r_x5_1, (a_4 + 0xffffffffffffffffull));
+    u8 *r_2b_1 = away(r_2b, (u64)(ld64(r_a8) << 3ull));
+    st64(slot_4, 0ull);
+    st64((slot_4 + 8), (u64)(uptr)slot_2);
+    memset((slot_4 + 16), 0u, 16);
+    stp((slot_4 + 32), r_2b_1);
+    st64((slot_4 + 40), (u64)((u64)r_5k_3 << 3ull));
+    st32((slot_4 + 48), 0u);
+    st32((slot_4 + 52), 0u);
+    st32(t_6c, a_3);
+    memset(slot_1, 0u, 40);
+    capnp_refusals_refusals_search_search_object_1e87a151ef20e12e(slot_1, (u8)((0x10000u >> ((u64)(u8)((u32)switch_yy << 3u) & 63u))), (u8)((0x100010000u >> ((u64)(u8)((u32)switch_yy << 3u) & 63u))), slot_4, 0u, a_3, slot_3);
+    if (ld8(slot_1) == 1u) { r_yw = ld32((slot_1 + 24)); r_ht = ld32((slot_1 + 16)); r_wk = ld64((slot_1 + 8)); goto l_capnp_r7; }
+    r_l3 = 0ull;
+    r_5z = 0ull;
+    goto l_arm_m9;
+l_capnp_uw:;
+    r_yw = r_3u;
+    r_ht = 0u;
+    r_wk = 0ull;
+l_capnp_r7:;
+    r_l3 = ((u64)((u64)r_ht << 32ull) | (u64)((r_yw & 255u) + 32u));
+    r_5z = r_wk;
+l_arm_m9:;
+    st64(a_6, r_l3);
+    st64((a_6 + 8), r_5z);
+    r_gw_1 = 0u;
+    goto l_capnp_ti;
+l_arm_pt:;
+    memset(a_6, 0u, 16);
+    r_gw_1 = 2u;
+    goto l_capnp_ti;
+l_arm_pt_1:;
+    memset(a_6, 0u, 16);
+    r_gw_1 = r_8s;
+l_capnp_ti:;
+    return r_gw_1;
+}
+
+uint32_t capnp_canonical_segments_locate(const struct capnp_canonical_segment *segments, size_t count, int32_t nesting, uint64_t words, uint32_t reading, struct capnp_canonical_pointer *pointer)
+{
+    u8 *a_1 = (u8 *)segments;
+    u64 a_2 = (u64)count;
+    u32 a_3 = (u32)nesting;
+    u64 a_4 = (u64)words;
+    u32 a_5 = (u32)reading;
+    u8 *a_6 = (u8 *)pointer;
+    A(8) u8 slot_1[40];
+    A(8) u8 slot_2[32];
+    A(8) u8 slot_3[24];
+    A(8) u8 slot_4[64];
+    u8 *r_8z;
+    u8 *r_m1;
+    u64 r_vt;
+    u8 *r_5a;
+    u64 r_2l;
+    u8 switch_yy;
+    u8 *t_6c;
+    u64 r_nj;
+    u64 r_s5;
+    u64 r_kh;
+    u8 *r_x5_2;
+    u64 r_qw_1;
+    u32 r_3u;
+    u32 r_yw;
+    u32 r_ht;
+    u64 r_wk;
+    u64 r_es;
+    u64 r_89_1;
+    u32 r_gw;
+    r_8z = away(a_1, (((uptr)a_1 == (uptr)((u8 *)0)) ? 4096ull : 0ull));
+    r_m1 = r_8z;
+    r_vt = a_2;
+l_loop_mq:;
+    if (r_vt == 0ull) goto l_join_2u;
+    if ((ld64(away(r_m1, 8ull)) & 7ull) == 0ull) { u8 *r_1 = away(r_m1, 16ull); u64 r_2 = (r_vt + 0xffffffffffffffffull); r_m1 = r_1; r_vt = r_2; goto l_loop_mq; }
+    goto l_arm_hb;
+l_join_2u:;
+    if (a_2 > 0xffffffffull) goto l_arm_hb_1;
+    r_5a = r_8z;
+    r_2l = a_2;
+l_loop_7z:;
+    if (r_2l == 0ull) goto l_arm_zj;
+    if (ld64(away(r_5a, 8ull)) < 0x800000000ull) { u8 *r_3 = away(r_5a, 16ull); u64 r_4 = (r_2l + 0xffffffffffffffffull); r_5a = r_3; r_2l = r_4; goto l_loop_7z; }
+    goto l_arm_hb_1;
+l_arm_zj:;
+    switch_yy = ((a_5 == 1u) ? 0u : ((a_5 == 2u) ? 2u : 4u));
+    t_6c = (slot_4 + 56);
+    st64(t_6c, 0ull);
+    if (a_2 == 0ull) { r_3u = 12u; goto l_capnp_uw; }
+    r_nj = 0ull;
+    r_s5 = 0ull;
+l_arm_2d:;
+    r_kh = ((u64)(ld64((away(r_8z, (u64)(r_s5 << 4ull)) + 8)) >> 3ull) + r_nj);
+    u64 r_c4 = (r_s5 + 1ull);
+    if (!(r_c4 == a_2)) { r_nj = r_kh; r_s5 = r_c4; goto l_arm_2d; }
+    stp(slot_2, r_8z);
+    st64((slot_2 + 8), a_2);
+    st32((slot_2 + 16), a_3);
+    st32((slot_2 + 20), 0u);
+    st64((slot_2 + 24), r_kh);
+    r_x5_2 = (slot_3 + 8);
+    st64((slot_3 + 16), 0ull);
+    r_qw_1 = ld64((r_8z + 8));
+    if (r_qw_1 < 8ull) { r_3u = 23u; goto l_capnp_uw; }
+    if (a_4 == 0ull) { r_3u = 30u; goto l_capnp_uw; }
+    st64(slot_3, 1ull);
+    st64(r_x5_2, (a_4 + 0xffffffffffffffffull));
+    u8 *r_rv = ldp(r_8z);
+    st64(slot_4, 0ull);
+    st64((slot_4 + 8), (u64)(uptr)slot_2);
+    memset((slot_4 + 16), 0u, 16);
+    stp((slot_4 + 32), r_rv);
+    st64((slot_4 + 40), (r_qw_1 & 0xfffffffffffffff8ull));
+    st32((slot_4 + 48), 0u);
+    st32((slot_4 + 52), 0u);
+    st32(t_6c, a_3);
+    memset(slot_1, 0u, 40);
+    capnp_refusals_refusals_search_search_object_9fb2c9fcfadbb7fb(slot_1, (u8)((0x10000u >> ((u64)(u8)((u32)switch_yy << 3u) & 63u))), (u8)((0x100010000u >> ((u64)(u8)((u32)switch_yy << 3u) & 63u))), slot_4, 0u, a_3, slot_3);
+    if (ld8(slot_1) == 1u) { r_yw = ld32((slot_1 + 24)); r_ht = ld32((slot_1 + 16)); r_wk = ld64((slot_1 + 8)); goto l_capnp_r7; }
+    r_es = 0ull;
+    r_89_1 = 0ull;
+    goto l_arm_jk;
+l_capnp_uw:;
+    r_yw = r_3u;
+    r_ht = 0u;
+    r_wk = 0ull;
+l_capnp_r7:;
+    r_es = ((u64)((u64)r_ht << 32ull) | (u64)((r_yw & 255u) + 32u));
+    r_89_1 = r_wk;
+l_arm_jk:;
+    st64(a_6, r_es);
+    st64((a_6 + 8), r_89_1);
+    r_gw = 0u;
+    goto l_capnp_ti;
+l_arm_hb:;
+    memset(a_6, 0u, 16);
+    r_gw = 3u;
+    goto l_capnp_ti;
+l_arm_hb_1:;
+    memset(a_6, 0u, 16);
+    r_gw = 59u;
+l_capnp_ti:;
+    return r_gw;
+}
+
 size_t capnp_canonical_version_text(char *to, size_t room)
 {
     u8 *a_1 = (u8 *)to;
@@ -39455,6 +41463,287 @@ l_core_81:;
     st8((r_8z + (i64)(a_zh)), 0u);
 l_capnp_91:;
     return r_5x;
+}
+
+size_t capnp_canonical_unpack_piece(struct capnp_canonical_unpacking *unpacking, const uint8_t *packed, size_t packed_size, uint8_t *to, size_t room, size_t *taken)
+{
+    u8 *a_1 = (u8 *)unpacking;
+    u8 *a_2 = (u8 *)packed;
+    u64 a_3 = (u64)packed_size;
+    u8 *a_4 = (u8 *)to;
+    u64 a_5 = (u64)room;
+    u8 *a_6 = (u8 *)taken;
+    A(2) u8 slot_1[4];
+    A(8) u8 slot_2[8];
+    A(8) u8 slot_3[24];
+    u8 *r_8z;
+    u8 *r_8z_1;
+    u16 r_qc;
+    u8 *r_k3;
+    u16 r_br;
+    u8 *r_sl;
+    u8 r_dd;
+    u8 *r_3l;
+    u8 r_na;
+    u8 r_6q;
+    u16 r_o5;
+    u64 a_cg;
+    u8 *r_p9;
+    u8 *r_u0;
+    u8 *r_ix;
+    u8 *r_0v;
+    u8 *r_g0;
+    u8 *r_u0_1;
+    u8 *r_p9_1;
+    u8 *r_x5;
+    u8 *r_zd;
+    u8 *r_3o;
+    u8 *r_p9_2;
+    u8 *r_zo;
+    u16 r_qu;
+    u8 r_7o;
+    u8 r_64;
+    u64 r_q0;
+    u64 r_hy;
+    u8 *r_2b_2;
+    u64 r_0j_1;
+    u8 *r_2b_3;
+    u64 r_17;
+    u64 a_f1;
+    u64 r_u7_1;
+    u64 a_cg_1;
+    u64 r_il;
+    u8 *r_7s;
+    u8 *r_sb;
+    u64 r_bs;
+    u8 t_yi;
+    u8 t_dd;
+    u16 t_f4;
+    u16 r_15;
+    u64 a_f1_1;
+    u8 t_yi_1;
+    u8 t_dd_1;
+    u16 t_f4_1;
+    u16 r_15_1;
+    u64 a_f1_2;
+    u64 r_2b_4;
+    u16 r_qh_2;
+    u8 r_ip;
+    u8 r_wq;
+    u16 r_py;
+    u16 r_8f;
+    u8 r_z9;
+    u8 r_0l;
+    u16 r_7a;
+    u64 r_yg;
+    u64 r_re;
+    u64 r_ax;
+    u64 r_s6;
+    u16 r_yp;
+    u8 r_t0;
+    u8 r_s8;
+    u16 r_nh;
+    u16 r_1l;
+    u8 r_bs_1;
+    r_8z = away(a_2, (((uptr)a_2 == (uptr)((u8 *)0)) ? 4096ull : 0ull));
+    r_8z_1 = away(a_4, (((uptr)a_4 == (uptr)((u8 *)0)) ? 4096ull : 0ull));
+    r_qc = ld16(a_1);
+    r_k3 = (a_1 + 2);
+    r_br = ld16(r_k3);
+    r_sl = (a_1 + 4);
+    r_dd = ld8(r_sl);
+    r_3l = (a_1 + 5);
+    switch (r_dd) {
+    case 0u: { r_na = r_dd; r_6q = r_dd; r_o5 = 0u; goto l_capnp_tl; }
+    case 1u: goto l_arm_4h;
+    case 2u: goto l_arm_h9;
+    case 3u: goto l_arm_48;
+    case 4u: goto l_arm_h9;
+    default: goto l_default_h9;
+    }
+l_arm_4h:;
+    r_na = 1u;
+    r_6q = ld8(r_3l);
+    r_o5 = (u16)(r_br & 255u);
+    goto l_capnp_tl;
+l_arm_h9:;
+    r_na = r_dd;
+    r_6q = 0u;
+    r_o5 = 0u;
+    goto l_capnp_tl;
+l_arm_48:;
+    r_na = 3u;
+    r_6q = (u8)r_br;
+    r_o5 = 0u;
+    goto l_capnp_tl;
+l_default_h9:;
+    r_na = 5u;
+    r_6q = 0u;
+    r_o5 = r_br;
+l_capnp_tl:;
+    a_cg = umin64((u64)r_qc, a_5);
+    if (a_cg == 0ull) goto l_capnp_2x;
+    memset_or_none(r_8z_1, 0u, a_cg);
+l_capnp_2x:;
+    u16 r_to = (u16)(r_qc - (u16)a_cg);
+    if (!(u8)((u8)(a_3 != 0ull) & (u8)(r_to == 0u))) { r_ax = 0ull; r_s6 = a_cg; r_yp = r_to; r_t0 = r_na; r_s8 = r_6q; r_nh = r_o5; goto l_capnp_mc; }
+    r_p9 = (slot_1 + 1);
+    r_u0 = (slot_1 + 2);
+    r_ix = (slot_2 + 4);
+    r_0v = (slot_2 + 5);
+    r_g0 = (slot_2 + 6);
+    r_u0_1 = (slot_2 + 2);
+    r_p9_1 = (slot_2 + 1);
+    r_x5 = (slot_3 + 8);
+    r_zd = (slot_3 + 16);
+    r_3o = (slot_3 + 18);
+    r_p9_2 = (slot_3 + 19);
+    r_zo = (slot_3 + 20);
+    r_qu = r_o5;
+    r_7o = r_6q;
+    r_64 = r_na;
+    r_q0 = a_cg;
+    r_hy = 0ull;
+l_then_q8:;
+    if (r_q0 < a_5) goto l_join_g7;
+    switch (r_64) {
+    case 2u: goto l_join_9j;
+    case 4u: goto l_join_9j;
+    case 0u: { r_ax = r_hy; r_s6 = r_q0; r_yp = 0u; r_t0 = r_64; r_s8 = r_7o; r_nh = r_qu; goto l_capnp_mc; }
+    case 1u: { r_ax = r_hy; r_s6 = r_q0; r_yp = 0u; r_t0 = r_64; r_s8 = r_7o; r_nh = r_qu; goto l_capnp_mc; }
+    case 3u: { r_ax = r_hy; r_s6 = r_q0; r_yp = 0u; r_t0 = r_64; r_s8 = r_7o; r_nh = r_qu; goto l_capnp_mc; }
+    case 5u: { r_ax = r_hy; r_s6 = r_q0; r_yp = 0u; r_t0 = r_64; r_s8 = r_7o; r_nh = r_qu; goto l_capnp_mc; }
+    default: goto l_noarm_e1;
+    }
+l_noarm_e1:;
+    UNREACHABLE();
+l_join_9j:;
+    memset(slot_3, 0u, 24);
+    r_7s = away(r_8z, r_hy);
+    r_sb = away(r_8z_1, r_q0);
+    r_bs = (a_5 - r_q0);
+    goto l_after_uj;
+l_join_g7:;
+    r_2b_2 = away(r_8z, r_hy);
+    r_0j_1 = (a_3 - r_hy);
+    r_2b_3 = away(r_8z_1, r_q0);
+    r_17 = (a_5 - r_q0);
+    memset(slot_3, 0u, 24);
+    if (!(r_64 == 5u)) goto l_join_ko;
+    a_f1 = umin64(r_17, r_0j_1);
+    r_u7_1 = (u64)r_qu;
+    a_cg_1 = umin64((r_u7_1 + 1ull), a_f1);
+    if (((u64)(uptr)r_2b_3 - (u64)(uptr)r_2b_2) < a_cg_1) { r_il = 0ull; goto l_join_fh; }
+    memmove_or_none(r_2b_3, r_2b_2, a_cg_1);
+    goto l_capnp_cy;
+l_join_fh:;
+    st8((r_2b_3 + (i64)(r_il)), ld8((r_2b_2 + (i64)(r_il))));
+    u64 r_c4_1 = (r_il + 1ull);
+    if (!(r_c4_1 == a_cg_1)) { r_il = r_c4_1; goto l_join_fh; }
+l_capnp_cy:;
+    u8 r_g3 = (a_f1 > r_u7_1);
+    r_8f = (r_g3 ? 0u : (u16)(r_qu - (u16)a_cg_1));
+    r_z9 = 0u;
+    r_0l = (r_g3 ? 0u : 5u);
+    r_7a = 0u;
+    r_yg = a_cg_1;
+    r_re = a_cg_1;
+    goto l_capnp_yr;
+l_join_ko:;
+    if (!(u8)((u8)(r_17 > 7ull) & (u8)(u8)((u8)(r_64 == 0u) & (u8)(r_0j_1 > 9ull)))) { r_7s = r_2b_2; r_sb = r_2b_3; r_bs = r_17; goto l_after_uj; }
+    capnp_packing_packing_unpacking_unpack_words(slot_3, r_2b_2, r_0j_1, r_2b_3, r_17);
+    r_8f = ld16(r_zo);
+    r_z9 = ld8(r_p9_2);
+    r_0l = ld8(r_3o);
+    r_7a = ld16(r_zd);
+    r_yg = ld64(r_x5);
+    r_re = ld64(slot_3);
+    goto l_capnp_yr;
+l_after_uj:;
+    u8 r_47_1 = ld8(r_7s);
+    st8(slot_1, r_64);
+    st8(r_p9, r_7o);
+    st16(r_u0, r_qu);
+    st64(slot_2, 0ull);
+    capnp_packing_packing_place_step(slot_2, slot_1, r_47_1);
+    if (!(ld8(slot_2) == 1u)) goto l_arm_uc;
+    st8(r_sb, ld8(r_p9_1));
+    t_yi = ld8(r_ix);
+    t_dd = ld8(r_0v);
+    t_f4 = ld16(r_g0);
+    r_15 = ld16(r_u0_1);
+    a_f1_1 = umin64((u64)r_15, (r_bs + 0xffffffffffffffffull));
+    if (a_f1_1 == 0ull) goto l_capnp_6m;
+    memset_or_none(away(away(r_8z_1, r_q0), 1ull), 0u, a_f1_1);
+l_capnp_6m:;
+    r_2b_4 = (a_f1_1 + 1ull);
+    r_qh_2 = (u16)(r_15 - (u16)a_f1_1);
+    r_ip = t_yi;
+    r_wq = t_dd;
+    r_py = t_f4;
+    goto l_capnp_no;
+l_arm_uc:;
+    t_yi_1 = ld8(r_ix);
+    t_dd_1 = ld8(r_0v);
+    t_f4_1 = ld16(r_g0);
+    r_15_1 = ld16(r_u0_1);
+    a_f1_2 = umin64((u64)r_15_1, r_bs);
+    if (a_f1_2 == 0ull) goto l_capnp_5t;
+    memset_or_none(r_sb, 0u, a_f1_2);
+l_capnp_5t:;
+    r_2b_4 = a_f1_2;
+    r_qh_2 = (u16)(r_15_1 - (u16)a_f1_2);
+    r_ip = t_yi_1;
+    r_wq = t_dd_1;
+    r_py = t_f4_1;
+l_capnp_no:;
+    r_8f = r_py;
+    r_z9 = r_wq;
+    r_0l = r_ip;
+    r_7a = r_qh_2;
+    r_yg = r_2b_4;
+    r_re = 1ull;
+l_capnp_yr:;
+    u64 r_5q = (r_re + r_hy);
+    u64 r_5q_1 = (r_yg + r_q0);
+    if ((r_7a == 0u) ? (r_5q < a_3) : 0u) { r_qu = r_8f; r_7o = r_z9; r_64 = r_0l; r_q0 = r_5q_1; r_hy = r_5q; goto l_then_q8; }
+    r_ax = r_5q;
+    r_s6 = r_5q_1;
+    r_yp = r_7a;
+    r_t0 = r_0l;
+    r_s8 = r_z9;
+    r_nh = r_8f;
+l_capnp_mc:;
+    switch (r_t0) {
+    case 0u: { r_1l = 0u; r_bs_1 = 0u; goto l_capnp_ig; }
+    case 1u: goto l_arm_dn;
+    case 2u: { r_1l = 0u; r_bs_1 = 0u; goto l_capnp_ig; }
+    case 3u: goto l_arm_kb;
+    case 4u: { r_1l = 0u; r_bs_1 = 0u; goto l_capnp_ig; }
+    case 5u: goto l_arm_h9_1;
+    default: goto l_noarm_e1_1;
+    }
+l_arm_dn:;
+    r_1l = (u16)(r_nh & 255u);
+    r_bs_1 = r_s8;
+    goto l_capnp_ig;
+l_arm_kb:;
+    r_1l = (u16)r_s8;
+    r_bs_1 = 0u;
+    goto l_capnp_ig;
+l_arm_h9_1:;
+    r_1l = r_nh;
+    r_bs_1 = 0u;
+    goto l_capnp_ig;
+l_noarm_e1_1:;
+    UNREACHABLE();
+l_capnp_ig:;
+    st16(a_1, r_yp);
+    st16(r_k3, r_1l);
+    st8(r_sl, r_t0);
+    st8(r_3l, r_bs_1);
+    st64(a_6, r_ax);
+    return r_s6;
 }
 
 uint32_t capnp_canonical_validate(const uint8_t *frame, size_t frame_size, int32_t nesting, uint64_t words, struct capnp_canonical_extent *extent)
@@ -40196,6 +42485,7 @@ uint32_t capnp_canonical_unpack(const uint8_t *packed, size_t packed_size, uint8
     u8 *a_5 = (u8 *)written;
     A(2) u8 slot_1[4];
     A(8) u8 slot_2[8];
+    A(8) u8 slot_3[24];
     u8 *r_8z;
     u8 *r_8z_1;
     u8 *r_p9;
@@ -40237,46 +42527,16 @@ uint32_t capnp_canonical_unpack(const uint8_t *packed, size_t packed_size, uint8
     u64 a_8p;
     u64 a_f1_1;
     u64 r_ea;
-    u64 r_42;
-    u64 r_gq;
-    u64 r_xd;
-    u64 r_t9_1;
-    u8 *r_2b_3;
-    u8 *r_2b_4;
-    u8 r_47_3;
-    u8 *r_62;
-    u8 r_47_4;
-    u64 r_4k;
-    u64 a_a0;
-    u64 r_x4;
-    u64 r_vz;
-    u64 r_il;
-    u64 r_eg_1;
-    u64 r_z6_1;
-    u64 r_4k_1;
-    u8 *r_ps;
-    u64 r_1d;
-    u8 *r_a2;
-    u64 r_il_1;
-    u8 *r_bb_1;
-    u8 *r_2b_5;
-    u32 t_8m;
-    u64 r_d2;
-    u64 r_ag;
-    u64 r_g3;
-    u64 r_pa;
-    u64 r_qt;
-    u64 r_6z;
-    u64 r_o6;
+    u64 r_52;
     u64 a_f1_2;
-    u8 *r_2b_7;
-    u64 r_0j_2;
+    u8 *r_2b_4;
+    u64 r_0j_1;
     u8 *r_ud_1;
     u64 r_nr;
     u8 *r_p9_4;
+    u8 *r_u0_4;
     u8 *r_u0_5;
-    u8 *r_u0_6;
-    u8 *r_ix_4;
+    u8 *r_ix_2;
     u8 *r_0v_2;
     u8 *r_g0_2;
     u8 *r_p9_5;
@@ -40285,9 +42545,9 @@ uint32_t capnp_canonical_unpack(const uint8_t *packed, size_t packed_size, uint8
     u16 r_hm_1;
     u8 r_j2_1;
     u8 r_4v_1;
-    u8 *r_2b_9;
-    u64 r_t9_4;
-    u64 r_u7_2;
+    u8 *r_2b_6;
+    u64 r_t9_1;
+    u64 r_u7_3;
     u8 r_yi_2;
     u8 r_dd_2;
     u16 r_f4_2;
@@ -40295,11 +42555,15 @@ uint32_t capnp_canonical_unpack(const uint8_t *packed, size_t packed_size, uint8
     u64 a_8p_1;
     u64 a_f1_4;
     u64 r_ea_1;
+    u64 r_2g;
     u64 sink_s6;
     u32 r_2j;
     r_8z = away(a_1, (((uptr)a_1 == (uptr)((u8 *)0)) ? 4096ull : 0ull));
     r_8z_1 = away(a_3, (((uptr)a_3 == (uptr)((u8 *)0)) ? 4096ull : 0ull));
-    if (a_2 == 0ull) { sink_s6 = 0ull; r_2j = 0u; goto l_capnp_dq; }
+    if (!(a_2 == 0ull)) goto l_join_8f;
+    r_2g = 0ull;
+    goto l_arm_8g;
+l_join_8f:;
     r_p9 = (slot_1 + 1);
     r_u0 = (slot_1 + 2);
     r_u0_1 = (slot_2 + 2);
@@ -40329,7 +42593,8 @@ l_join_kx:;
     if (!(r_36 == a_2)) { r_4c = r_36; r_hc = r_5q; r_t1 = r_f4; r_22 = r_lt; r_yg = r_dd; goto l_join_kx; }
     if (!(r_lt == 0u)) { sink_s6 = 0ull; r_2j = 19u; goto l_capnp_dq; }
     if (a_4 < r_5q) { sink_s6 = r_5q; r_2j = 1u; goto l_capnp_dq; }
-    if (!(u8)((u8)(a_2 < 10ull) | (u8)(r_5q < 8ull))) { r_42 = a_2; r_gq = 0ull; r_xd = 0ull; goto l_then_in; }
+    memset(slot_3, 0u, 24);
+    if (!(u8)((u8)(a_2 < 10ull) | (u8)(r_5q < 8ull))) goto l_after_y3;
     r_p9_1 = (slot_1 + 1);
     r_u0_2 = (slot_1 + 2);
     r_u0_3 = (slot_2 + 2);
@@ -40372,7 +42637,7 @@ l_arm_cu:;
     r_ea = a_f1_1;
 l_capnp_oi:;
     u64 r_36_1 = (r_so + 1ull);
-    if (r_36_1 == a_2) { sink_s6 = r_5q; r_2j = 0u; goto l_capnp_dq; }
+    if (r_36_1 == a_2) { r_2g = r_5q; goto l_arm_8g; }
     u64 r_1 = (r_ea + r_rc);
     u64 r_2 = r_36_1;
     u16 r_3 = r_f4_1;
@@ -40384,153 +42649,62 @@ l_capnp_oi:;
     r_j2 = r_4;
     r_4v = r_5;
     goto l_join_yh;
-l_then_in:;
-    r_t9_1 = (r_5q - r_xd);
-    if (!(r_t9_1 > 7ull)) { r_qt = 0ull; r_6z = r_xd; r_o6 = r_gq; goto l_capnp_j8; }
-    r_2b_3 = away(r_8z, r_gq);
-    r_2b_4 = away(r_8z_1, r_xd);
-    r_47_3 = ld8(r_2b_3);
-    r_62 = away(r_2b_3, 1ull);
-    switch (r_47_3) {
-    case 0u: goto l_then_1v;
-    case 255u: goto l_then_rv;
-    default: goto l_else_x1;
-    }
-l_then_1v:;
-    r_47_4 = ld8(r_62);
-    if (!(r_47_4 == 0u)) goto l_join_hp;
-    st64(r_2b_4, 0ull);
-    r_d2 = 2ull;
-    r_ag = 8ull;
-    goto l_else_rw;
-l_join_hp:;
-    r_4k = ((u64)((u64)r_47_4 << 3ull) + 8ull);
-    a_a0 = umin64(r_4k, r_t9_1);
-    memset_or_none(r_2b_4, 0u, a_a0);
-    r_x4 = (r_gq + 2ull);
-    r_vz = (a_a0 + r_xd);
-    if (r_4k > r_t9_1) goto l_join_4i;
-    r_g3 = r_x4;
-    r_pa = r_vz;
-    goto l_else_c8;
-l_then_rv:;
-    if (((u64)(uptr)r_2b_4 - (u64)(uptr)r_62) < 8ull) { r_il = 0ull; goto l_join_fh; }
-    st64(r_2b_4, ld64(r_62));
-    goto l_core_v5;
-l_join_fh:;
-    st8((r_2b_4 + (i64)(r_il)), ld8((r_62 + (i64)(r_il))));
-    u64 r_c4_1 = (r_il + 1ull);
-    if (!(r_c4_1 == 8ull)) { r_il = r_c4_1; goto l_join_fh; }
-l_core_v5:;
-    u8 r_47_6 = ld8((r_2b_3 + 9));
-    r_eg_1 = (u64)r_47_6;
-    r_z6_1 = (u64)(r_eg_1 << 3ull);
-    if (r_47_6 == 0u) { r_d2 = 10ull; r_ag = 8ull; goto l_else_rw; }
-    if ((u8)((u8)((r_42 + 0xfffffffffffffff6ull) < r_z6_1) | (u8)((r_t9_1 + 0xfffffffffffffff8ull) < r_z6_1))) goto l_thread_nb;
-    r_4k_1 = (r_z6_1 + 8ull);
-    r_ps = away(r_2b_4, 8ull);
-    r_1d = (r_z6_1 + 10ull);
-    r_a2 = away(r_2b_3, 10ull);
-    if (((u64)(uptr)r_ps - (u64)(uptr)r_a2) < r_z6_1) { r_il_1 = 0ull; goto l_join_fh_1; }
-    memmove_or_none(r_ps, r_a2, r_z6_1);
-    r_d2 = r_1d;
-    r_ag = r_4k_1;
-    goto l_else_rw;
-l_join_fh_1:;
-    st8((r_ps + (i64)(r_il_1)), ld8((r_a2 + (i64)(r_il_1))));
-    u64 r_c4_2 = (r_il_1 + 1ull);
-    if (r_c4_2 == r_z6_1) { r_d2 = r_1d; r_ag = r_4k_1; goto l_else_rw; }
-    r_il_1 = r_c4_2;
-    goto l_join_fh_1;
-l_else_x1:;
-    u8 r_aj = (u8)(r_47_3 & 15u);
-    u8 *r_pk = away(((u8 *)g_static_67), (u64)(u8)((u32)r_aj << 4u));
-    st32(r_2b_4, ((((ld32((r_pk + 4)) * (u32)ld8(away(r_2b_3, 2ull))) + (ld32(r_pk) * (u32)ld8(r_62))) + (ld32((r_pk + 8)) * (u32)ld8(away(r_2b_3, 3ull)))) + (ld32((r_pk + 12)) * (u32)ld8(away(r_2b_3, 4ull)))));
-    r_bb_1 = away(r_2b_4, 4ull);
-    r_2b_5 = away(r_62, (u64)ctpop8(r_aj));
-    if (!(r_47_3 < 32u)) goto l_join_j1;
-    t_8m = (u32)(u8)((u32)ld8(r_2b_5) * (u8)((u32)r_47_3 >> 4u));
-    goto l_capnp_q3;
-l_join_j1:;
-    u8 *r_pk_1 = away(((u8 *)g_static_67), (u64)(u8)(r_47_3 & 240u));
-    t_8m = ((((ld32((r_pk_1 + 4)) * (u32)ld8((r_2b_5 + 1))) + (ld32(r_pk_1) * (u32)ld8(r_2b_5))) + (ld32((r_pk_1 + 8)) * (u32)ld8((r_2b_5 + 2)))) + (ld32((r_pk_1 + 12)) * (u32)ld8((r_2b_5 + 3))));
-l_capnp_q3:;
-    st32(r_bb_1, t_8m);
-    r_d2 = (u64)(u8)(ctpop8(r_47_3) + 1u);
-    r_ag = 8ull;
-l_else_rw:;
-    r_g3 = (r_d2 + r_gq);
-    r_pa = (r_ag + r_xd);
-    goto l_else_c8;
-l_thread_nb:;
-    r_qt = ((((u64)(r_eg_1 << 35ull) + 0xffff00000000ull) & 0xffff00000000ull) | 0x50000ull);
-    r_6z = (r_xd + 8ull);
-    r_o6 = (r_gq + 10ull);
-    goto l_capnp_j8;
-l_else_c8:;
-    u64 r_0j = (a_2 - r_g3);
-    if (r_0j > 9ull) { r_42 = r_0j; r_gq = r_g3; r_xd = r_pa; goto l_then_in; }
-    r_qt = 0ull;
-    r_6z = r_pa;
-    r_o6 = r_g3;
-    goto l_capnp_j8;
-l_join_4i:;
-    r_qt = ((r_4k - a_a0) & 65535ull);
-    r_6z = r_vz;
-    r_o6 = r_x4;
-l_capnp_j8:;
-    a_f1_2 = umin64(r_5q, (r_6z + (r_qt & 65535ull)));
-    if (a_f1_2 == r_6z) goto l_capnp_xc;
-    memset_or_none(away(r_8z_1, r_6z), 0u, (a_f1_2 - r_6z));
-l_capnp_xc:;
-    r_2b_7 = away(r_8z, r_o6);
-    r_0j_2 = (a_2 - r_o6);
+l_after_y3:;
+    capnp_packing_packing_unpacking_unpack_words(slot_3, r_8z, a_2, r_8z_1, r_5q);
+    r_52 = ld64((slot_3 + 8));
+    a_f1_2 = umin64(r_5q, (r_52 + (u64)ld16((slot_3 + 16))));
+    if (a_f1_2 == r_52) goto l_capnp_az;
+    memset_or_none(away(r_8z_1, r_52), 0u, (a_f1_2 - r_52));
+l_capnp_az:;
+    u64 r_52_1 = ld64(slot_3);
+    r_2b_4 = away(r_8z, r_52_1);
+    r_0j_1 = (a_2 - r_52_1);
     r_ud_1 = away(r_8z_1, a_f1_2);
     r_nr = (r_5q - a_f1_2);
-    if (a_2 == r_o6) { sink_s6 = r_5q; r_2j = 0u; goto l_capnp_dq; }
+    if (a_2 == r_52_1) { r_2g = r_5q; goto l_arm_8g; }
     r_p9_4 = (slot_1 + 1);
-    r_u0_5 = (slot_1 + 2);
-    r_u0_6 = (slot_2 + 2);
-    r_ix_4 = (slot_2 + 4);
+    r_u0_4 = (slot_1 + 2);
+    r_u0_5 = (slot_2 + 2);
+    r_ix_2 = (slot_2 + 4);
     r_0v_2 = (slot_2 + 5);
     r_g0_2 = (slot_2 + 6);
     r_p9_5 = (slot_2 + 1);
     r_rc_1 = 0ull;
     r_so_1 = 0ull;
-    r_hm_1 = (u16)(u64)(r_qt >> 32ull);
-    r_j2_1 = (u8)(u64)(r_qt >> 16ull);
-    r_4v_1 = (u8)(u64)(r_qt >> 24ull);
+    r_hm_1 = ld16((slot_3 + 20));
+    r_j2_1 = ld8((slot_3 + 18));
+    r_4v_1 = ld8((slot_3 + 19));
 l_join_yh_1:;
-    r_2b_9 = away(r_ud_1, r_rc_1);
-    r_t9_4 = (r_nr - r_rc_1);
-    u8 r_47_17 = ld8(away(r_2b_7, r_so_1));
+    r_2b_6 = away(r_ud_1, r_rc_1);
+    r_t9_1 = (r_nr - r_rc_1);
+    u8 r_47_3 = ld8(away(r_2b_4, r_so_1));
     st8(slot_1, r_j2_1);
     st8(r_p9_4, r_4v_1);
-    st16(r_u0_5, r_hm_1);
+    st16(r_u0_4, r_hm_1);
     st64(slot_2, 0ull);
-    capnp_packing_packing_place_step(slot_2, slot_1, r_47_17);
-    r_u7_2 = (u64)ld16(r_u0_6);
-    r_yi_2 = ld8(r_ix_4);
+    capnp_packing_packing_place_step(slot_2, slot_1, r_47_3);
+    r_u7_3 = (u64)ld16(r_u0_5);
+    r_yi_2 = ld8(r_ix_2);
     r_dd_2 = ld8(r_0v_2);
     r_f4_2 = ld16(r_g0_2);
     if (!(ld8(slot_2) == 1u)) goto l_arm_cu_1;
-    a_f1_3 = umin64(r_t9_4, (r_u7_2 + 1ull));
+    a_f1_3 = umin64(r_t9_1, (r_u7_3 + 1ull));
     if (r_nr == r_rc_1) goto l_capnp_p2_1;
-    st8(r_2b_9, ld8(r_p9_5));
+    st8(r_2b_6, ld8(r_p9_5));
 l_capnp_p2_1:;
     a_8p_1 = (u64)(r_nr != r_rc_1);
     if (a_f1_3 == a_8p_1) { r_ea_1 = a_f1_3; goto l_capnp_oi_1; }
-    memset_or_none(away(r_2b_9, a_8p_1), 0u, (a_f1_3 - a_8p_1));
+    memset_or_none(away(r_2b_6, a_8p_1), 0u, (a_f1_3 - a_8p_1));
     r_ea_1 = a_f1_3;
     goto l_capnp_oi_1;
 l_arm_cu_1:;
-    a_f1_4 = umin64(r_t9_4, r_u7_2);
+    a_f1_4 = umin64(r_t9_1, r_u7_3);
     if (a_f1_4 == 0ull) { r_ea_1 = 0ull; goto l_capnp_oi_1; }
-    memset_or_none(r_2b_9, 0u, a_f1_4);
+    memset_or_none(r_2b_6, 0u, a_f1_4);
     r_ea_1 = a_f1_4;
 l_capnp_oi_1:;
     u64 r_36_2 = (r_so_1 + 1ull);
-    if (r_36_2 == r_0j_2) { sink_s6 = r_5q; r_2j = 0u; goto l_capnp_dq; }
+    if (r_36_2 == r_0j_1) { r_2g = r_5q; goto l_arm_8g; }
     u64 r_6 = (r_ea_1 + r_rc_1);
     u64 r_7 = r_36_2;
     u16 r_8 = r_f4_2;
@@ -40542,6 +42716,9 @@ l_capnp_oi_1:;
     r_j2_1 = r_9;
     r_4v_1 = r_10;
     goto l_join_yh_1;
+l_arm_8g:;
+    sink_s6 = r_2g;
+    r_2j = 0u;
 l_capnp_dq:;
     st64(a_5, sink_s6);
     return r_2j;
@@ -41261,6 +43438,105 @@ l_arm_q1:;
     r_8i = r_2d;
 l_capnp_rt:;
     return r_8i;
+}
+
+uint32_t capnp_canonical_words_locate(const uint8_t *message, size_t size, int32_t nesting, uint64_t words, uint32_t reading, struct capnp_canonical_pointer *pointer)
+{
+    u8 *a_1 = (u8 *)message;
+    u64 a_2 = (u64)size;
+    u32 a_3 = (u32)nesting;
+    u64 a_4 = (u64)words;
+    u32 a_5 = (u32)reading;
+    u8 *a_6 = (u8 *)pointer;
+    A(8) u8 slot_1[40];
+    A(8) u8 slot_2[48];
+    A(8) u8 slot_3[24];
+    A(8) u8 slot_4[64];
+    u8 *r_8z;
+    u8 *t_6c;
+    u8 *t_gz;
+    u8 switch_yy;
+    u8 *r_x5;
+    u8 *r_lk;
+    u8 *r_x5_1;
+    u8 r_r5;
+    u64 r_38;
+    u32 r_z4;
+    u32 r_z4_1;
+    u32 r_3u;
+    u32 r_yw;
+    u32 r_ht;
+    u64 r_wk;
+    u64 r_es;
+    u64 r_89_1;
+    u32 r_gw;
+    r_8z = away(a_1, (((uptr)a_1 == (uptr)((u8 *)0)) ? 4096ull : 0ull));
+    if (!((a_2 & 7ull) == 0ull)) goto l_arm_hb;
+    if (a_2 > 0x7fffffff8ull) goto l_arm_hb_1;
+    u8 *t_89 = (slot_2 + 32);
+    st64(t_89, 0ull);
+    t_6c = (slot_4 + 56);
+    st64(t_6c, 0ull);
+    t_gz = ((u8 *)(uptr)((a_2 == 0ull) ? (u64)(uptr)((u8 *)g_static_0) : (u64)(uptr)r_8z));
+    switch_yy = ((a_5 == 1u) ? 0u : ((a_5 == 2u) ? 2u : 4u));
+    st64(slot_2, 0ull);
+    r_x5 = (slot_2 + 8);
+    stp(r_x5, t_gz);
+    st64((slot_2 + 16), a_2);
+    r_lk = (slot_2 + 24);
+    st64(r_lk, 0ull);
+    st32(t_89, a_3);
+    st64((slot_2 + 40), (u64)(a_2 >> 3ull));
+    r_x5_1 = (slot_3 + 8);
+    st64((slot_3 + 16), 0ull);
+    if (a_2 < 8ull) { r_3u = 23u; goto l_capnp_uw; }
+    if (a_4 == 0ull) { r_3u = 30u; goto l_capnp_uw; }
+    st64(slot_3, 1ull);
+    st64(r_x5_1, (a_4 + 0xffffffffffffffffull));
+    st64(slot_4, 0ull);
+    st64((slot_4 + 8), (u64)(uptr)slot_2);
+    memset((slot_4 + 16), 0u, 16);
+    stp((slot_4 + 32), t_gz);
+    st64((slot_4 + 40), a_2);
+    st32((slot_4 + 48), 0u);
+    st32((slot_4 + 52), 0u);
+    st32(t_6c, a_3);
+    memset(slot_1, 0u, 40);
+    capnp_refusals_refusals_search_search_object_4d6e045afdcb38e0(slot_1, (u8)((0x10000u >> ((u64)(u8)((u32)switch_yy << 3u) & 63u))), (u8)((0x100010000u >> ((u64)(u8)((u32)switch_yy << 3u) & 63u))), slot_4, 0u, a_3, slot_3);
+    r_r5 = ld8(slot_1);
+    r_38 = ld64((slot_1 + 8));
+    r_z4 = ld32((slot_1 + 16));
+    r_z4_1 = ld32((slot_1 + 24));
+    if ((ld8(slot_2) == 0u) ? 1u : (ld64(r_lk) == 0ull)) goto l_capnp_7g;
+    rattle_dealloc(ldp(r_x5));
+    goto l_capnp_7g;
+l_capnp_uw:;
+    r_yw = r_3u;
+    r_ht = 0u;
+    r_wk = 0ull;
+    goto l_capnp_r7;
+l_capnp_7g:;
+    if (r_r5 == 1u) { r_yw = r_z4_1; r_ht = r_z4; r_wk = r_38; goto l_capnp_r7; }
+    r_es = 0ull;
+    r_89_1 = 0ull;
+    goto l_arm_jk;
+l_capnp_r7:;
+    r_es = ((u64)((u64)r_ht << 32ull) | (u64)((r_yw & 255u) + 32u));
+    r_89_1 = r_wk;
+l_arm_jk:;
+    st64(a_6, r_es);
+    st64((a_6 + 8), r_89_1);
+    r_gw = 0u;
+    goto l_capnp_ti;
+l_arm_hb:;
+    memset(a_6, 0u, 16);
+    r_gw = 3u;
+    goto l_capnp_ti;
+l_arm_hb_1:;
+    memset(a_6, 0u, 16);
+    r_gw = 59u;
+l_capnp_ti:;
+    return r_gw;
 }
 
 uint32_t capnp_canonical_words_size(const uint8_t *message, size_t size, int32_t nesting, uint64_t words, uint64_t *word_count, uint32_t *cap_count)
