@@ -167,7 +167,7 @@ def remembering(cases):
                   lambda a, b, w=width: max(a, b) % 2**w | b >> w << w, edges(64)[:40])
         cases.add(f'%x = alloca i64, align 8\nstore i64 %a, ptr %x, align 8\nstore i{width} 0, ptr %x, align 1\n%r = load i64, ptr %x, align 8\nret i64 %r', lambda a, b, w=width: a >> w << w, edges(64)[:12])
         cases.add(f'%v = trunc i64 %a to i{width}\n%r = zext i{width} %v to i64\nret i64 %r', lambda a, b, w=width: a % 2**w, edges(64)[:12])
-        # a table of few bytes in such a number, as LLVM makes it of a choice: a byte of it, by a shift
+        # a table of few bytes in such a number, which LLVM makes of a choice: a byte of it, by a shift
         for word, by in ('lshr', 5), ('shl', 7), ('mul', 8):
             count = BINARY[word]
             cases.add(f'%v = trunc i64 %a to i{width}\n%w = {word} i{width} %v, {by}\n%r = zext i{width} %w to i64\nret i64 %r', lambda a, b, w=width, count=count, by=by: count(a % 2**w, by, w) % 2**w, edges(64)[:12])
