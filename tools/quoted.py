@@ -13,13 +13,15 @@ NOT_NAMES = {'abbrev', 'unfoldable', 'pub', 'mutual', 'where', 'record', 'data',
 
 @dataclasses.dataclass(frozen=True)
 class Definition:
-    """One definition, or several that cite one another: their comments and their text."""
+    """One definition, or several that cite one another: their comments and their text. `inside` is the line `module _ .. where`
+    that the definition is indented below, if it is."""
 
     crate: str
     module: str
     names: tuple
     text: str
     line: int
+    inside: str = ''
 
     @property
     def comments(self):
@@ -28,6 +30,10 @@ class Definition:
     @property
     def code(self):
         return '\n'.join(line for line in self.text.split('\n') if not line.strip().startswith('--'))
+
+    @property
+    def cites(self):
+        return f'{self.inside}\n{self.code}'
 
 
 def imported(text):
@@ -72,30 +78,45 @@ class Specs:
     imports: dict
 
 
+def blocks_of(lines, start, indent):
+    """The blocks of lines from `start` on, each with the number of its first line. After a blank line, a line with this indent or
+    with a smaller one begins a block."""
+    block, begun = [], start
+    for number, line in enumerate(lines[start:], start):
+        if line.strip() and len(line) - len(line.lstrip(' ')) <= indent and block and not block[-1].strip():
+            yield begun, block
+            block = []
+        if not block:
+            begun = number
+        if block or line.strip():
+            block.append(line)
+    yield begun, block
+
+
+def definitions_in(lines, start):
+    """The blocks of a file of specs/, each with the number of its first line and the line `module _ .. where` around it."""
+    for begun, block in blocks_of(lines, start, 0):
+        head = next((i for i, line in enumerate(block) if not line.startswith('--')), 0)
+        if block and block[head].startswith('module _'):
+            yield from ((begun + at, inner, block[head]) for at, inner in blocks_of(block, head + 1, 2))
+        else:
+            yield begun, block, ''
+
+
 @functools.cache
 def specs(crate, module):
     text = (TOP / f'crates/{crate}/specs/{module}.antt').read_text(encoding='utf-8')
     lines = text.split('\n')
     start = max((i for i, line in enumerate(lines) if line.startswith('use ')), default=-1) + 1
     heading = [line for line in lines[:start] if line.startswith('--')]
-    blocks, block, begun = [], [], start
-    for number, line in enumerate(lines[start:], start):
-        if line.strip() and not line.startswith(' ') and block and not block[-1].strip():
-            blocks.append((begun, block))
-            block = []
-        if not block:
-            begun = number
-        if block or line.strip():
-            block.append(line)
-    blocks.append((begun, block))
     found = []
-    for begun, block in blocks:
+    for begun, block, inside in definitions_in(lines, start):
         while block and not block[-1].strip():
             block = block[:-1]
         code = [line for line in block if not line.strip().startswith('--')]
         names = tuple(dict.fromkeys(names_of(code)))
         if names:
-            found.append(Definition(crate, module, names, '\n'.join(block), begun + 1))
+            found.append(Definition(crate, module, names, '\n'.join(block), begun + 1, inside))
     return Specs(crate, module, '\n'.join(heading), tuple(found), imported(text))
 
 
@@ -157,7 +178,7 @@ def closure(begin, without=frozenset()):
             continue
         found.add(definition)
         own = specs(definition.crate, definition.module)
-        more, named, used = cited(definition.code, own.imports, own)
+        more, named, used = cited(definition.cites, own.imports, own)
         waiting += more
         types |= named
         words |= used

@@ -205,7 +205,7 @@ def in_order(found, number):
 
 def renamed(file, found):
     """A line about the names that a file imports under another name, if its definitions use them."""
-    used = set().union(*(quoted.words_in(definition.code) for definition in found if (definition.crate, definition.module) == file))
+    used = set().union(*(quoted.words_in(definition.cites) for definition in found if (definition.crate, definition.module) == file))
     names = [(here, there, module) for here, (_, module, there) in quoted.specs(*file).imports.items() if here != there and here in used]
     names = [f'`{here}` is {origin(module, there)}' for here, there, module in sorted(names)]
     return [f'Here {", ".join(names)}.', ''] if names else []
@@ -220,7 +220,7 @@ def origin(module, name):
 
 
 def definitions(number):
-    lines, file = [], None
+    lines, file, inside = [], None, ''
     found = parts()[number][0]
     for definition in in_order(found, number):
         if (definition.crate, definition.module) != file:
@@ -229,8 +229,12 @@ def definitions(number):
             file = definition.crate, definition.module
             heading = re.sub(r'^-- ?', '', quoted.specs(*file).heading, flags=re.M).replace('\n', ' ')
             lines += [f'### `{definition.crate}/specs/{definition.module}.antt`', '', *([heading, ''] if heading else []), *renamed(file, found), '```antt']
+            inside = ''
         else:
             lines.append('')
+        if definition.inside != inside:
+            lines += [definition.inside] if definition.inside else []
+            inside = definition.inside
         lines += definition.text.split('\n')
     return [*lines, '```']
 
@@ -255,7 +259,8 @@ def notation():
 
 
 def length(definitions_found):
-    return sum(1 for definition in definitions_found for line in definition.code.split('\n') if line.strip())
+    around = {(definition.crate, definition.module, definition.inside) for definition in definitions_found if definition.inside}
+    return len(around) + sum(1 for definition in definitions_found for line in definition.code.split('\n') if line.strip())
 
 
 def count(number):
@@ -359,9 +364,10 @@ def contract(path):
     found = dict.fromkeys(waiting)
     while waiting:
         definition = waiting.pop(0)
-        yield from ('', f'-- {definition.crate}/specs/{definition.module}.antt', *definition.text.split('\n'))
+        around = [definition.inside] if definition.inside else []
+        yield from ('', f'-- {definition.crate}/specs/{definition.module}.antt', *around, *definition.text.split('\n'))
         own = quoted.specs(definition.crate, definition.module)
-        more = [it for it in quoted.cited(definition.code, own.imports, own)[0] if it not in found]
+        more = [it for it in quoted.cited(definition.cites, own.imports, own)[0] if it not in found]
         more.sort(key=lambda it: (it.crate, it.module, it.line))
         found.update(dict.fromkeys(more))
         waiting += more
