@@ -42,21 +42,30 @@ export const Reason = Object.freeze({
   WordsBehind: 14,
 });
 
+export const Reading = Object.freeze({ Value: 0, Canonical: 1, Size: 2 });
+
+/** What a refusal says, with the place of a pointer if it is one's. */
+function sentence(number, code, pointer) {
+  const where = pointer ? ` at segment ${pointer.segment}, word ${pointer.word}` : '';
+  return code ? `${code}${where}: ${textOf('write_error_text', number)}` : `refusal ${number}${where}`;
+}
+
 export class CanonicalError extends Error {
-  constructor(number, { place, looksLike } = {}) {
+  constructor(number, { place, looksLike, pointer } = {}) {
     const code = textOf('name', number);
     let text = place ? `message ${place.message} at byte ${place.byte}: ` : '';
-    text += code ? `${code}: ${textOf('write_error_text', number)}` : `refusal ${number}`;
+    text += sentence(number, code, pointer);
     if (looksLike) text += `; they look like ${looksLike}`;
     super(text);
     this.number = number;
     this.code = code;
     this.place = place;
     this.looksLike = looksLike;
+    this.pointer = pointer;
   }
 
   at(message, byte) {
-    return new CanonicalError(this.number, { place: { message, byte }, looksLike: this.looksLike });
+    return new CanonicalError(this.number, { place: { message, byte }, looksLike: this.looksLike, pointer: this.pointer });
   }
 }
 
@@ -77,5 +86,26 @@ export class Fault {
 
   toString() {
     return `${this.text} at segment ${this.segment}, word ${this.word}`;
+  }
+}
+
+export class Broken {
+  constructor(number, segment, word) {
+    this.number = number;
+    this.segment = segment;
+    this.word = word;
+    Object.freeze(this);
+  }
+
+  get code() {
+    return textOf('name', this.number);
+  }
+
+  get text() {
+    return textOf('write_error_text', this.number);
+  }
+
+  toString() {
+    return sentence(this.number, this.code, this);
   }
 }

@@ -8,12 +8,12 @@ to=$(cd "${2:-$here}" && pwd)
 header=$here/../c/capnp_canonical.h
 work=$(mktemp -d)
 trap 'rm -rf "$work"' EXIT
-# a stack of 512 KB: MAX_NESTING levels of library.js take half of it
+# a stack of 768 KB: MAX_NESTING levels of library.js take at most three fifths of it (tests/js/bench/stack.mjs)
 clang --target=wasm32 -std=c11 -O2 -Wall -Wextra -Wno-unused-function -nostdlib -ffreestanding -fno-builtin-malloc -fvisibility=hidden \
     -mbulk-memory -msign-ext -mmutable-globals -I"$here/native/include" -I"$from" -I"$here/../c" -c -o "$work/wasm.o" "$here/native/wasm.c"
 exports=$(sed -n 's/^[a-z].*[ *]\(capnp_canonical_[a-z_]*\)(.*);$/--export=\1/p' "$header" | sort -u)
 # shellcheck disable=SC2086 # the exports are words
-wasm-ld --no-entry --strip-all --stack-first -z stack-size=524288 --gc-sections $exports -o "$work/capnp_canonical.wasm" "$work/wasm.o"
+wasm-ld --no-entry --strip-all --stack-first -z stack-size=786432 --gc-sections $exports -o "$work/capnp_canonical.wasm" "$work/wasm.o"
 sum() {
     sha256sum "$1" | cut -d ' ' -f 1
 }

@@ -1,8 +1,8 @@
 // The calls. index.d.ts says what each takes, returns and throws.
-import { CanonicalError, Fault, Reason, Refusal } from './answers.js';
+import { Broken, CanonicalError, Fault, Reading, Reason, Refusal } from './answers.js';
 import { MAX_NESTING, MOST, Refused, called, lend, lendFew, lendPath, lendSegments, number64, reaches, seen } from './library.js';
 
-export { CanonicalError, Fault, MAX_NESTING, Reason, Refusal };
+export { Broken, CanonicalError, Fault, MAX_NESTING, Reading, Reason, Refusal };
 
 // What is passed.
 
@@ -35,6 +35,11 @@ function pathOf(path) {
     if (index < 0 || index >= 2 ** 32) throw new RangeError(`an index of ${index}`);
     return index;
   });
+}
+
+function readingOf(reading) {
+  if (!Object.values(Reading).includes(reading)) throw new TypeError('a reading must be one of `Reading`');
+  return reading;
 }
 
 function limitsOf(given) {
@@ -113,6 +118,16 @@ function validated(lib, call, given, limits) {
   return { depth, words: number64(lib, base), capabilities: number64(lib, base + 8), cost: number64(lib, base + 16) };
 }
 
+/** The pointer at which the message is broken if it is read in this way, or null. */
+function located(lib, call, given, limits, reading) {
+  if (!given) throw noMemory();
+  const { base } = lib;
+  const answer = call(given.first, given.second, limits.nesting, limits.words, reading, base) >>> 0;
+  if (answer !== 0) throw new Refused(answer);
+  const { view } = seen(lib), number = view.getUint32(base, true);
+  return number === 0 ? null : new Broken(number, number64(lib, base + 8), view.getUint32(base + 4, true));
+}
+
 /** A call for a part of the message: with a path, which is in the memory in front of the message. */
 function callAt(lib, call, path) {
   return (first, second, ...more) => call(first, second, lendPath(lib, path), path.length, ...more);
@@ -159,138 +174,143 @@ function answered(run, bytes) {
     return called(run);
   } catch (error) {
     if (!(error instanceof Refused)) throw error;
-    const { number } = error;
+    const { number, pointer } = error;
     const isOfFrame = bytes && (number === Refusal.TooManySegments || number === Refusal.MessageTooLong || number === Refusal.Truncated);
-    throw new CanonicalError(number, { looksLike: isOfFrame ? looksLike(bytes) : undefined });
+    throw new CanonicalError(number, { looksLike: isOfFrame ? looksLike(bytes) : undefined, pointer });
   }
 }
 
-// Messages in frames.
+// The forms of a message: what is passed, how it gets into the memory, and the call that finds a broken pointer in it.
 
-export function canonicalize(frame, limits) {
-  const bytes = bytesOf(frame, 'a frame'), within = limitsOf(limits);
-  return answered((lib) => copied(lib, lib.calls.copy, lendFrame(lib, bytes, within.words), within), bytes);
-}
+const FRAME = { passed: (frame) => bytesOf(frame, 'a frame'), lent: (lib, bytes, words) => lendFrame(lib, bytes, words), locate: 'locate' };
+const SEGMENTS = { passed: partsOf, lent: (lib, parts) => lendSegments(lib, parts), locate: 'segments_locate' };
+const WORDS = { passed: (message) => bytesOf(message, 'a message'), lent: (lib, bytes) => lend(lib, bytes), locate: 'words_locate' };
 
-export function canonicalizeFlat(frame, limits) {
-  const bytes = bytesOf(frame, 'a frame'), within = limitsOf(limits);
-  return answered((lib) => copied(lib, lib.calls.copy_flat, lendFrame(lib, bytes, within.words), within), bytes);
-}
+/** The bytes that may look like something else if they aren't a frame. */
+const suspected = (form, passed) => (form === FRAME ? passed : undefined);
 
-export function digest(frame, limits) {
-  const bytes = bytesOf(frame, 'a frame'), within = limitsOf(limits);
-  return answered((lib) => digested(lib, lib.calls.digest, lendFrame(lib, bytes, within.words), within), bytes);
-}
+/** The refusals that are never a pointer's. */
+const OF_NO_POINTER = new Set([Refusal.NoRoom, Refusal.AllocationFailed, Refusal.MessageTooLarge]);
 
-export function check(frame, limits) {
-  const bytes = bytesOf(frame, 'a frame'), within = limitsOf(limits);
-  return answered((lib) => checked(lib, lib.calls.check, lendFrame(lib, bytes, within.words), within), bytes);
-}
-
-export function size(frame, limits) {
-  const bytes = bytesOf(frame, 'a frame'), within = limitsOf(limits);
-  return answered((lib) => sized(lib, lib.calls.size, lendFrame(lib, bytes, within.words), within), bytes);
-}
-
-export function validate(frame, limits) {
-  const bytes = bytesOf(frame, 'a frame'), within = limitsOf(limits);
-  return answered((lib) => validated(lib, lib.calls.validate, lendFrame(lib, bytes, within.words), within), bytes);
-}
-
-/** Runs a call for the part of the message at the end of a path. */
-function answeredAt(run, name, frame, path, limits) {
-  const bytes = bytesOf(frame, 'a frame'), indexes = pathOf(path), within = limitsOf(limits);
-  return answered((lib) => {
-    const given = lendFrame(lib, bytes, within.words, 4 * indexes.length);
-    return run(lib, callAt(lib, lib.calls[name], indexes), given, within);
-  }, bytes);
-}
-
-export function canonicalizeFlatAt(frame, path, limits) {
-  return answeredAt(copied, 'copy_flat_at', frame, path, limits);
-}
-
-export function digestAt(frame, path, limits) {
-  return answeredAt(digested, 'digest_at', frame, path, limits);
-}
-
-export function sizeAt(frame, path, limits) {
-  return answeredAt(sized, 'size_at', frame, path, limits);
-}
-
-/** False also if the message is refused. */
-function isYes(run) {
+/** The place of the pointer at which a call refused a message that it read in this way. Undefined if the refusal is no pointer's. */
+function refusedPointer(lib, number, form, given, limits, reading) {
+  if (OF_NO_POINTER.has(number)) return undefined;
   try {
-    return called(run) === null;
+    const broken = located(lib, lib.calls[form.locate], given, limits, reading);
+    return broken ? { segment: broken.segment, word: broken.word } : undefined;
+  } catch (error) {
+    if (error instanceof Refused) return undefined;
+    throw error;
+  }
+}
+
+/** Runs the call of this name for a message. `answer` makes the call, and reads what it wrote. */
+function asked(form, answer, name, reading, message, limits) {
+  const passed = form.passed(message), within = limitsOf(limits);
+  return answered((lib) => {
+    const given = form.lent(lib, passed, within.words);
+    try {
+      return answer(lib, lib.calls[name], given, within);
+    } catch (error) {
+      // the message is still in the memory
+      if (error instanceof Refused) error.pointer = refusedPointer(lib, error.number, form, given, within, reading);
+      throw error;
+    }
+  }, suspected(form, passed));
+}
+
+/** Whether a message is canonical. False also if it is refused. */
+function isYes(form, name, message, limits) {
+  const passed = form.passed(message), within = limitsOf(limits);
+  try {
+    return called((lib) => checked(lib, lib.calls[name], form.lent(lib, passed, within.words), within)) === null;
   } catch (error) {
     if (error instanceof Refused) return false;
     throw error;
   }
 }
 
+function locatedIn(form, message, reading, limits) {
+  const passed = form.passed(message), way = readingOf(reading), within = limitsOf(limits);
+  return answered((lib) => located(lib, lib.calls[form.locate], form.lent(lib, passed, within.words), within, way), suspected(form, passed));
+}
+
+// Messages in frames.
+
+export function canonicalize(frame, limits) {
+  return asked(FRAME, copied, 'copy', Reading.Canonical, frame, limits);
+}
+
+export function canonicalizeFlat(frame, limits) {
+  return asked(FRAME, copied, 'copy_flat', Reading.Canonical, frame, limits);
+}
+
+export function digest(frame, limits) {
+  return asked(FRAME, digested, 'digest', Reading.Canonical, frame, limits);
+}
+
+export function check(frame, limits) {
+  return asked(FRAME, checked, 'check', Reading.Value, frame, limits);
+}
+
 export function isCanonical(frame, limits) {
-  const bytes = bytesOf(frame, 'a frame'), within = limitsOf(limits);
-  return isYes((lib) => checked(lib, lib.calls.check, lendFrame(lib, bytes, within.words), within));
+  return isYes(FRAME, 'check', frame, limits);
+}
+
+export function size(frame, limits) {
+  return asked(FRAME, sized, 'size', Reading.Size, frame, limits);
+}
+
+export function validate(frame, limits) {
+  return asked(FRAME, validated, 'validate', Reading.Value, frame, limits);
+}
+
+export function locate(frame, reading, limits) {
+  return locatedIn(FRAME, frame, reading, limits);
+}
+
+/** Runs a call for the part of the message at the end of a path. */
+function askedAt(answer, name, frame, path, limits) {
+  const bytes = bytesOf(frame, 'a frame'), indexes = pathOf(path), within = limitsOf(limits);
+  return answered((lib) => {
+    const given = lendFrame(lib, bytes, within.words, 4 * indexes.length);
+    return answer(lib, callAt(lib, lib.calls[name], indexes), given, within);
+  }, bytes);
+}
+
+export function canonicalizeFlatAt(frame, path, limits) {
+  return askedAt(copied, 'copy_flat_at', frame, path, limits);
+}
+
+export function digestAt(frame, path, limits) {
+  return askedAt(digested, 'digest_at', frame, path, limits);
+}
+
+export function sizeAt(frame, path, limits) {
+  return askedAt(sized, 'size_at', frame, path, limits);
 }
 
 // Messages in segments, and in raw words.
 
 export const segments = Object.freeze({
-  canonicalize(list, limits) {
-    const parts = partsOf(list), within = limitsOf(limits);
-    return answered((lib) => copied(lib, lib.calls.segments_copy, lendSegments(lib, parts), within));
-  },
-  canonicalizeFlat(list, limits) {
-    const parts = partsOf(list), within = limitsOf(limits);
-    return answered((lib) => copied(lib, lib.calls.segments_copy_flat, lendSegments(lib, parts), within));
-  },
-  digest(list, limits) {
-    const parts = partsOf(list), within = limitsOf(limits);
-    return answered((lib) => digested(lib, lib.calls.segments_digest, lendSegments(lib, parts), within));
-  },
-  check(list, limits) {
-    const parts = partsOf(list), within = limitsOf(limits);
-    return answered((lib) => checked(lib, lib.calls.segments_check, lendSegments(lib, parts), within));
-  },
-  isCanonical(list, limits) {
-    const parts = partsOf(list), within = limitsOf(limits);
-    return isYes((lib) => checked(lib, lib.calls.segments_check, lendSegments(lib, parts), within));
-  },
-  size(list, limits) {
-    const parts = partsOf(list), within = limitsOf(limits);
-    return answered((lib) => sized(lib, lib.calls.segments_size, lendSegments(lib, parts), within));
-  },
-  validate(list, limits) {
-    const parts = partsOf(list), within = limitsOf(limits);
-    return answered((lib) => validated(lib, lib.calls.segments_validate, lendSegments(lib, parts), within));
-  },
+  canonicalize: (list, limits) => asked(SEGMENTS, copied, 'segments_copy', Reading.Canonical, list, limits),
+  canonicalizeFlat: (list, limits) => asked(SEGMENTS, copied, 'segments_copy_flat', Reading.Canonical, list, limits),
+  digest: (list, limits) => asked(SEGMENTS, digested, 'segments_digest', Reading.Canonical, list, limits),
+  check: (list, limits) => asked(SEGMENTS, checked, 'segments_check', Reading.Value, list, limits),
+  isCanonical: (list, limits) => isYes(SEGMENTS, 'segments_check', list, limits),
+  size: (list, limits) => asked(SEGMENTS, sized, 'segments_size', Reading.Size, list, limits),
+  validate: (list, limits) => asked(SEGMENTS, validated, 'segments_validate', Reading.Value, list, limits),
+  locate: (list, reading, limits) => locatedIn(SEGMENTS, list, reading, limits),
 });
 
 export const words = Object.freeze({
-  canonicalize(message, limits) {
-    const bytes = bytesOf(message, 'a message'), within = limitsOf(limits);
-    return answered((lib) => copied(lib, lib.calls.words_copy, lend(lib, bytes), within));
-  },
-  digest(message, limits) {
-    const bytes = bytesOf(message, 'a message'), within = limitsOf(limits);
-    return answered((lib) => digested(lib, lib.calls.words_digest, lend(lib, bytes), within));
-  },
-  check(message, limits) {
-    const bytes = bytesOf(message, 'a message'), within = limitsOf(limits);
-    return answered((lib) => checked(lib, lib.calls.words_check, lend(lib, bytes), within));
-  },
-  isCanonical(message, limits) {
-    const bytes = bytesOf(message, 'a message'), within = limitsOf(limits);
-    return isYes((lib) => checked(lib, lib.calls.words_check, lend(lib, bytes), within));
-  },
-  size(message, limits) {
-    const bytes = bytesOf(message, 'a message'), within = limitsOf(limits);
-    return answered((lib) => sized(lib, lib.calls.words_size, lend(lib, bytes), within));
-  },
-  validate(message, limits) {
-    const bytes = bytesOf(message, 'a message'), within = limitsOf(limits);
-    return answered((lib) => validated(lib, lib.calls.words_validate, lend(lib, bytes), within));
-  },
+  canonicalize: (message, limits) => asked(WORDS, copied, 'words_copy', Reading.Canonical, message, limits),
+  digest: (message, limits) => asked(WORDS, digested, 'words_digest', Reading.Canonical, message, limits),
+  check: (message, limits) => asked(WORDS, checked, 'words_check', Reading.Value, message, limits),
+  isCanonical: (message, limits) => isYes(WORDS, 'words_check', message, limits),
+  size: (message, limits) => asked(WORDS, sized, 'words_size', Reading.Size, message, limits),
+  validate: (message, limits) => asked(WORDS, validated, 'words_validate', Reading.Value, message, limits),
+  locate: (message, reading, limits) => locatedIn(WORDS, message, reading, limits),
 });
 
 // Streams, and packed bytes.
@@ -331,6 +351,27 @@ export function framesFrom(pieces, limits) {
   return framesOfPieces(pieces, limitsOf(limits).words);
 }
 
+/** What `for await` goes through. A ReadableStream has no iterator in each browser. */
+function iterable(pieces) {
+  if (pieces?.[Symbol.asyncIterator] || pieces?.[Symbol.iterator] || typeof pieces?.getReader !== 'function') return pieces;
+  return piecesOf(pieces.getReader());
+}
+
+async function* piecesOf(reader) {
+  let hasEnded = false;
+  try {
+    for (;;) {
+      const { done, value } = await reader.read();
+      hasEnded = done;
+      if (done) return;
+      yield value;
+    }
+  } finally {
+    if (!hasEnded) await reader.cancel();
+    reader.releaseLock();
+  }
+}
+
 /** A frame can be refused by its first 4 bytes. */
 const FEWEST = 4;
 
@@ -347,7 +388,7 @@ async function* framesOfPieces(pieces, words) {
     held = joined;
     more = [];
   };
-  for await (const piece of pieces) {
+  for await (const piece of iterable(pieces)) {
     // a copy, because the caller may use the memory of a piece again
     more.push(bytesOf(piece, 'a piece of a stream').slice());
     count += more[more.length - 1].length;
@@ -384,6 +425,120 @@ export function unpack(packed, limits) {
       if (written <= room || written >= MOST || !reaches(lib, given.end + (room = written))) throw noMemory();
     }
   });
+}
+
+// Packed streams.
+
+/** The size of the smallest table of a frame. */
+const SMALLEST = 8;
+/** The most bytes that a call unpacks, and the most room for a frame that is made at first: what its table announces may never come. */
+const PIECE = 1 << 18;
+/** The size of `struct capnp_canonical_unpacking`, which says how far a stream is unpacked. */
+const UNPACKING = 6;
+
+/** Unpacks the next of these packed bytes to the front of `to`. Returns how many packed bytes that took, and how many bytes it wrote. */
+function unpackedPiece(lib, unpacking, packed, to) {
+  const given = lend(lib, packed);
+  if (!given || !reaches(lib, given.end + to.length)) throw noMemory();
+  const { base } = lib, state = base + 8;
+  lib.bytes.set(unpacking, state);
+  const written = lib.calls.unpack_piece(state, given.first, given.second, given.end, to.length, base) >>> 0;
+  unpacking.set(lib.bytes.subarray(state, state + UNPACKING));
+  to.set(lib.bytes.subarray(given.end, given.end + written));
+  return { taken: number64(lib, base), written };
+}
+
+/** The frames of a packed stream, one after another. */
+class Unpacked {
+  constructor(words) {
+    this.words = words;
+    this.unpacking = new Uint8Array(UNPACKING);
+    this.message = 0;
+    this.byte = 0;
+    this.begin();
+  }
+
+  /** Begins the next frame: none of it is there. */
+  begin() {
+    this.message++;
+    this.frame = new Uint8Array(SMALLEST);
+    this.held = 0;
+    this.wanted = SMALLEST;
+  }
+
+  /** Runs a call for this frame. */
+  run(call) {
+    try {
+      return called(call);
+    } catch (error) {
+      throw error instanceof Refused ? this.refused(error.number) : error;
+    }
+  }
+
+  refused(number) {
+    return new CanonicalError(number, { place: { message: this.message, byte: this.byte } });
+  }
+
+  /** Makes room for more of the frame, at most for as much as is there. */
+  grow() {
+    const larger = new Uint8Array(Math.min(this.wanted, this.held + Math.max(this.held, PIECE)));
+    larger.set(this.frame);
+    this.frame = larger;
+  }
+
+  /** Unpacks packed bytes from `at` on until the frame is whole or no bytes are left. Returns where it stopped. */
+  goOn(packed, at) {
+    while (this.held < this.wanted) {
+      if (this.held === this.frame.length) this.grow();
+      const to = this.frame.subarray(this.held, this.held + PIECE);
+      // a word takes at most ten packed bytes; more of them are copied only if they are needed
+      const next = packed.subarray(at, at + 2 + 10 * Math.ceil(to.length / 8));
+      const { taken, written } = this.run((lib) => unpackedPiece(lib, this.unpacking, next, to));
+      at += taken;
+      this.held += written;
+      if (written < to.length && at === packed.length) return at;
+      if (this.held === this.wanted) this.wanted = this.run((lib) => announced(lib, this.frame, this.words));
+    }
+    return at;
+  }
+
+  /** The frames that are whole after these packed bytes. */
+  *of(packed) {
+    for (let at = 0; ;) {
+      at = this.goOn(packed, at);
+      if (this.held < this.wanted) return;
+      const { frame } = this;
+      this.byte += frame.length;
+      this.begin();
+      yield frame;
+    }
+  }
+
+  /** Refuses what has begun, because no more packed bytes come. */
+  end() {
+    const [zeros, more, , , place] = this.unpacking;
+    if (this.held || zeros || more || place) throw this.refused(Refusal.Truncated);
+  }
+}
+
+export function packedFrames(packed, limits) {
+  return packedFramesOf(bytesOf(packed, 'packed bytes'), limitsOf(limits).words);
+}
+
+function* packedFramesOf(packed, words) {
+  const unpacked = new Unpacked(words);
+  yield* unpacked.of(packed);
+  unpacked.end();
+}
+
+export function packedFramesFrom(pieces, limits) {
+  return packedFramesOfPieces(pieces, limitsOf(limits).words);
+}
+
+async function* packedFramesOfPieces(pieces, words) {
+  const unpacked = new Unpacked(words);
+  for await (const piece of iterable(pieces)) yield* unpacked.of(bytesOf(piece, 'a piece of a stream'));
+  unpacked.end();
 }
 
 // Help for people.

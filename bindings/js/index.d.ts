@@ -5,7 +5,8 @@
  *     const name = Buffer.from(digest(frame)).toString('hex');  // the SHA-256 of the canonical words
  *
  * You pass a message as a frame, which is what `capnp encode`, capnp::writeMessage and pycapnp's `to_bytes` write, as its segments
- * (`segments`), or as its raw words (`words`). Bytes after a frame are ignored. Unpack packed bytes first, with `unpack`.
+ * (`segments`), or as its raw words (`words`). Bytes after a frame are ignored. Packed bytes are unpacked first, by `unpack` or
+ * `packedFrames`.
  *
  * Raw words aren't a frame. Read back what `canonicalizeFlat` returns with the calls of `words`. A call that takes a frame may
  * SUCCEED on raw words, and then reads ANOTHER value, because the pointer to a root without pointers is also the table of a frame.
@@ -71,9 +72,28 @@ export const Reason: {
   readonly WordsBehind: 14;
 };
 
-/** A call was refused. The message is a sentence, such as `message 2 at byte 40: Truncated: the bytes end within a frame`. */
+/** How `locate` reads a message: `Value` as `validate` and `check` do; `Canonical` as the calls that copy and `digest`; `Size` as `size`. */
+export const Reading: {
+  readonly Value: 0;
+  readonly Canonical: 1;
+  readonly Size: 2;
+};
+export type Reading = (typeof Reading)[keyof typeof Reading];
+
+/** The place of a pointer in a message. */
+export interface Pointer {
+  readonly segment: number;
+  /** The position in the segment, in words. */
+  readonly word: number;
+}
+
+/**
+ * A call was refused. The message is a sentence, such as
+ * `message 2 at byte 40: Truncated: the bytes end inside a frame or a packed word`, or
+ * `MessageContainsOutOfBoundsPointer at segment 0, word 17: a pointer points outside its segment`.
+ */
 export class CanonicalError extends Error {
-  constructor(number: number, more?: { place?: { message: number; byte: number }; looksLike?: string });
+  constructor(number: number, more?: { place?: { message: number; byte: number }; looksLike?: string; pointer?: Pointer });
   /** A number of `Refusal`, or one that a later library returns. */
   readonly number: number;
   /** The name, such as `Truncated`; empty if the number has none. */
@@ -82,6 +102,11 @@ export class CanonicalError extends Error {
   readonly place?: { message: number; byte: number };
   /** If the bytes are no frame, a guess at what they look like, such as `gzip`. */
   readonly looksLike?: string;
+  /**
+   * The pointer at which the message is broken. Undefined if the bytes aren't a frame or whole words, if there is no memory, or if the
+   * message is too large; and from the calls for a part.
+   */
+  readonly pointer?: Pointer;
   /** The same error for the message with this number, at this byte of a stream. */
   at(message: number, byte: number): CanonicalError;
 }
@@ -95,6 +120,19 @@ export class Fault {
   readonly text: string;
   readonly segment: number;
   /** The position in the segment, in words. */
+  readonly word: number;
+}
+
+/** The pointer at which a message is broken. `String` gives a sentence like that of `CanonicalError`. */
+export class Broken implements Pointer {
+  private constructor();
+  /** Why the pointer is refused: a number of `Refusal`, or one that a later library returns. */
+  readonly number: number;
+  /** The name of the refusal. */
+  readonly code: keyof typeof Refusal | '';
+  /** The refusal in words, such as `a pointer points outside its segment`. */
+  readonly text: string;
+  readonly segment: number;
   readonly word: number;
 }
 
@@ -146,6 +184,13 @@ export function size(frame: Bytes, limits?: Limits): Size;
 export function validate(frame: Bytes, limits?: Limits): Extent;
 
 /**
+ * Finds the pointer at which the message is broken, after another call has refused it: the first pointer, in the order of reading, whose
+ * object can't be read. `reading` says which call. Returns null if the whole value is read; so also if there was no memory, or the
+ * message is too large. A refused call throws an error that has the place already, as its `pointer`.
+ */
+export function locate(frame: Bytes, reading: Reading, limits?: Limits): Broken | null;
+
+/**
  * `canonicalizeFlat` for a part of the message: for the value of the pointer at the end of a path. In `struct Signed { payload @0
  * :Payload; signature @1 :Data; }` the path `[0]` leads to the payload, whose words can be signed.
  *
@@ -171,6 +216,7 @@ export const segments: {
   isCanonical(list: Iterable<Bytes>, limits?: Limits): boolean;
   size(list: Iterable<Bytes>, limits?: Limits): Size;
   validate(list: Iterable<Bytes>, limits?: Limits): Extent;
+  locate(list: Iterable<Bytes>, reading: Reading, limits?: Limits): Broken | null;
 };
 
 /** The same calls for a message given as its raw words. The copy is raw words too. */
@@ -181,6 +227,7 @@ export const words: {
   isCanonical(message: Bytes, limits?: Limits): boolean;
   size(message: Bytes, limits?: Limits): Size;
   validate(message: Bytes, limits?: Limits): Extent;
+  locate(message: Bytes, reading: Reading, limits?: Limits): Broken | null;
 };
 
 /** The size in bytes of the frame at the front. Reads only its table. */
@@ -197,11 +244,28 @@ export function frameSizeFromPrefix(prefix: Bytes, limits?: Limits): number;
 /** Iterates over the frames of a stream, as views of its bytes. An error says which message it is, and at which byte. */
 export function frames(stream: Bytes, limits?: Limits): Generator<Uint8Array, void, undefined>;
 
-/** The same for a stream that comes in pieces, such as a file of node or the body of a response. The pieces are copied. */
-export function framesFrom(pieces: AsyncIterable<Bytes> | Iterable<Bytes>, limits?: Limits): AsyncGenerator<Uint8Array, void, undefined>;
+/**
+ * A stream that comes in pieces: a stream of node, a ReadableStream such as the body of a response, or anything that `for await` goes
+ * through. When the next piece is requested, the memory of the last one may be used again.
+ */
+export type Pieces = AsyncIterable<Bytes> | Iterable<Bytes> | {
+  getReader(): { read(): Promise<{ done: boolean; value?: Bytes }>; cancel(): Promise<void>; releaseLock(): void };
+};
+
+/** The same for a stream that comes in pieces. A frame is there as soon as its last byte is. */
+export function framesFrom(pieces: Pieces, limits?: Limits): AsyncGenerator<Uint8Array, void, undefined>;
 
 /** Unpacks packed bytes to the frames of one or more messages. Refuses with `MessageTooLong` if these are more than `words` words. */
 export function unpack(packed: Bytes, limits?: Limits): Uint8Array;
+
+/**
+ * Iterates over the frames of packed bytes. Unpacks them one by one; each has at most `words` words. An error says which message it is,
+ * and at which byte of the unpacked stream.
+ */
+export function packedFrames(packed: Bytes, limits?: Limits): Generator<Uint8Array, void, undefined>;
+
+/** The same for a packed stream that comes in pieces. A frame is there as soon as the packed bytes that it takes are. */
+export function packedFramesFrom(pieces: Pieces, limits?: Limits): AsyncGenerator<Uint8Array, void, undefined>;
 
 /** Guesses what bytes are that were refused as a frame, such as `gzip`. `CanonicalError` has the guess already. */
 export function looksLike(bytes: Bytes): string | undefined;

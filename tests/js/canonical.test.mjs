@@ -8,7 +8,7 @@ import { called } from '../../bindings/js/library.js';
 import * as capnp from '../../bindings/js/node.js';
 import { framed, hex, hexOf, jsonl, passed, rowsOf, said, vectors } from './data.mjs';
 
-const { CanonicalError, MAX_NESTING, Reason, Refusal } = capnp;
+const { CanonicalError, MAX_NESTING, Reading, Reason, Refusal } = capnp;
 const refusal = (text) => (/^[A-Z]/.test(text) ? `!${text}` : text);
 const faultOf = (fault) => (fault ? `${fault.reason},${fault.segment},${fault.word}` : 'yes');
 
@@ -146,6 +146,63 @@ test('vectors', () => {
   assert.ok(count > 8900);
 });
 
+test('places of broken pointers', () => {
+  const calls = [['validate'], ['canonicalize', 'digest'], ['size']];
+  let count = 0;
+  for (const [name, frame, reading, nesting, words, code, segment, word] of rowsOf('library/places.txt')) {
+    const bytes = hex(frame), segments = segmentsOf(bytes), isSound = code === 'Done', way = Number(reading);
+    const limits = { nesting: Number(nesting), words: Number(words) }, wanted = isSound ? 'sound' : `${code} ${segment} ${word}`;
+    const messages = [[capnp.segments, segments]];
+    if (segments.length === 1) messages.push([capnp.words, segments[0]]);
+    // the limit on words holds for the frame too
+    if (limits.words >= segments.reduce((sum, it) => sum + it.length / 8, 0)) messages.push([capnp, bytes]);
+    for (const [form, message, call] of messages.flatMap(([form, message]) => calls[way].map((it) => [form, message, form[it]]))) {
+      const broken = form.locate(message, way, limits);
+      assert.equal(broken ? `${broken.code} ${broken.segment} ${broken.word}` : 'sound', wanted, `${name} ${reading}`);
+      let thrown;
+      try {
+        call(message, limits);
+      } catch (error) {
+        thrown = error;
+      }
+      assert.equal(thrown ? `${thrown.code} ${thrown.pointer.segment} ${thrown.pointer.word}` : 'sound', wanted, `${name} ${reading}`);
+      if (broken) {
+        assert.equal(`${broken}`, thrown.message);
+        assert.equal(thrown.message, `${code} at segment ${segment}, word ${word}: ${broken.text}`);
+        assert.equal(thrown.number, Refusal[code]);
+        assert.ok(thrown instanceof CanonicalError && broken instanceof capnp.Broken);
+      }
+      count++;
+    }
+  }
+  passed('places of broken pointers', count);
+  assert.ok(count > 1400);
+});
+
+test('refusals of no pointer', () => {
+  const frame = person(), cut = frame.subarray(0, 20), half = [frame.subarray(0, 12)];
+  for (const call of [capnp.canonicalize, capnp.canonicalizeFlat, capnp.digest, capnp.check, capnp.size, capnp.validate]) {
+    assert.throws(() => call(cut), { code: 'Truncated', pointer: undefined, message: /^Truncated: / });
+    assert.throws(() => call(new Uint8Array(0)), { code: 'NoMessage', pointer: undefined });
+  }
+  for (const reading of Object.values(Reading)) {
+    assert.throws(() => capnp.locate(cut, reading), { code: 'Truncated', pointer: undefined });
+    assert.throws(() => capnp.locate(frame, reading, { words: 3 }), { code: 'MessageTooLong', pointer: undefined });
+    assert.throws(() => capnp.segments.locate(half, reading), { code: 'SegmentIsNotWholeWords', pointer: undefined });
+    assert.equal(capnp.locate(frame, reading), null);
+    assert.equal(`${capnp.segments.locate([], reading)}`, `${new CanonicalError(44, { pointer: { segment: 0, word: 0 } }).message}`);
+  }
+  assert.throws(() => capnp.canonicalizeFlatAt(frame, [7]), { code: 'NoSuchPlace', pointer: undefined });
+  // more bytes than an address has room for
+  assert.throws(() => capnp.words.validate(new Uint8Array(2 ** 31)), { code: 'AllocationFailed', pointer: undefined });
+  for (const it of [undefined, null, 3, -1, '0', 'Value', frame]) assert.throws(() => capnp.locate(frame, it), TypeError);
+  const error = new CanonicalError(55, { pointer: { segment: 2, word: 17 } });
+  assert.equal(error.message, 'MessageContainsOutOfBoundsPointer at segment 2, word 17: a pointer points outside its segment');
+  assert.deepEqual(error.at(3, 40).pointer, { segment: 2, word: 17 });
+  assert.equal(error.at(3, 40).message, `message 3 at byte 40: ${error.message}`);
+  passed('refusals of no pointer', 1);
+});
+
 /** What capnp_canon writes for the message in a frame, which has this number; and whether it is a yes. */
 function answerTo({ command, isFlat, path, limits }, frame, number) {
   switch (command) {
@@ -188,7 +245,7 @@ function run(args, input) {
   let isYes = true, message = 1, at = 0;
   const done = (status, error) => ({ output: Buffer.concat(output).toString('hex'), status, error });
   try {
-    for (const frame of capnp.frames(isPacked ? capnp.unpack(input, { words: Infinity }) : input, limits)) {
+    for (const frame of isPacked ? capnp.packedFrames(input, limits) : capnp.frames(input, limits)) {
       try {
         const [written, isGood] = answerTo({ command, isFlat, path, limits }, frame, message);
         output.push(Buffer.from(written));
@@ -210,8 +267,7 @@ test('streams', () => {
   let count = 0, left = 0;
   for (const it of ['peer', 'worked', 'validate'].flatMap((name) => jsonl(`streams/${name}.jsonl`))) {
     const isPlain = ['canon', 'check', 'size', 'digest', 'validate'].includes(it.args[0]) && !it.files && it.input !== undefined;
-    // unpacking is all or nothing here, and message by message there
-    const isAlike = it.status !== 2 || (!it.args.includes('--packed') && /^capnp_canon: message \d+ at byte \d+: refused \w+\n/.test(it.stderr));
+    const isAlike = it.status !== 2 || /^capnp_canon: message \d+ at byte \d+: refused /.test(it.stderr);
     const got = isPlain && isAlike ? run(it.args, hex(it.input)) : undefined;
     if (!got) {
       left++;
@@ -223,9 +279,11 @@ test('streams', () => {
     assert.equal(shown(got.output), shown(it.output), it.name);
     assert.equal(got.status, it.status, it.name);
     if (got.error) {
-      const { place, code, looksLike } = got.error;
-      assert.equal(`capnp_canon: message ${place.message} at byte ${place.byte}: refused ${code}`, it.stderr.split('\n')[0], it.name);
-      assert.ok(got.error.message.startsWith(`message ${place.message} at byte ${place.byte}: ${code}: `), it.name);
+      const { place, code, looksLike, pointer } = got.error, where = pointer ? ` at segment ${pointer.segment}, word ${pointer.word}` : '';
+      const said = it.stderr.split('\n')[0], refused = `capnp_canon: message ${place.message} at byte ${place.byte}: refused ${code}`;
+      // not each row has the pointer
+      assert.equal(said.includes(' at segment ') ? refused + where : refused, said, it.name);
+      assert.ok(got.error.message.startsWith(`message ${place.message} at byte ${place.byte}: ${code}${where}: `), it.name);
       const looks = /look(?:s)? like ([^\n,;.]*)/.exec(it.stderr);
       if (looks && looksLike) assert.ok(looks[1].includes(looksLike.replace('canonical ', '').replace(' canonical', '')), `${it.name}: ${it.stderr} ${looksLike}`);
     }
@@ -360,6 +418,172 @@ test('streams in pieces', async () => {
   passed('streams in pieces', 1);
 });
 
+/** Packs words, one run after another, as the specification says; `most` is the largest count. */
+function packed(bytes, most = 255) {
+  const to = [];
+  const zero = (at) => bytes.subarray(at, at + 8).every((it) => it === 0), whole = (at) => bytes.subarray(at, at + 8).every((it) => it !== 0);
+  for (let at = 0; at < bytes.length;) {
+    const word = bytes.subarray(at, at + 8), tag = word.reduce((sum, it, bit) => sum | (it ? 1 << bit : 0), 0), is = tag === 0 ? zero : whole;
+    let count = 0;
+    at += 8;
+    to.push(tag, ...word.filter((it) => it));
+    if (tag !== 0 && tag !== 255) continue;
+    while (count < most && at + 8 * count < bytes.length && is(at + 8 * count)) count++;
+    to.push(count, ...(tag ? bytes.subarray(at, at + 8 * count) : []));
+    at += 8 * count;
+  }
+  return new Uint8Array(to);
+}
+
+/** What has only the reader of a ReadableStream, and no iterator. */
+const readerOnly = (stream) => ({ getReader: () => stream.getReader() });
+const collected = async (pieces, limits) => {
+  const found = [];
+  for await (const it of capnp.packedFramesFrom(pieces, limits)) found.push(hexOf(it));
+  return found;
+};
+
+test('packed streams', async () => {
+  let count = 0;
+  const rows = rowsOf('library/streams.txt');
+  assert.equal(rows.length, 18);
+  for (const [name, shown, wanted, end] of rows) {
+    const parts = shown.split(',').map(hex), stream = hex(shown.replaceAll(',', '')), frames = wanted === '-' ? [] : wanted.split(',');
+    const byte = frames.reduce((sum, it) => sum + it.length / 2, 0);
+    const checked = async (what, iterated) => {
+      const found = [];
+      let said = 'Done';
+      try {
+        for await (const it of iterated) found.push(hexOf(it));
+      } catch (error) {
+        if (!(error instanceof CanonicalError)) throw error;
+        said = error.code;
+        assert.deepEqual(error.place, { message: frames.length + 1, byte }, `${name}, ${what}`);
+      }
+      assert.deepEqual([found, said], [frames, end], `${name}, ${what}`);
+      count++;
+    };
+    await checked('at once', capnp.packedFrames(stream));
+    for (const step of [1, 2, 3, 7, 64]) await checked(`by ${step}`, capnp.packedFramesFrom(Array.from({ length: Math.ceil(stream.length / step) }, (_, i) => stream.subarray(i * step, (i + 1) * step))));
+    await checked('as a stream', capnp.packedFramesFrom(new Blob([stream]).stream()));
+    await checked('as a reader', capnp.packedFramesFrom(readerOnly(new Blob([stream]).stream())));
+    // a frame is there before the packed bytes after it are requested, and not before its own are
+    let given = 0;
+    const slowly = function* () {
+      for (const it of stream) {
+        given++;
+        yield Uint8Array.of(it);
+      }
+    };
+    let number = 0, before = 0;
+    try {
+      for await (const it of capnp.packedFramesFrom(slowly())) {
+        before += parts[number++].length;
+        // the count after its last word needn't be there
+        assert.ok(given === before || given === before - 1, `${name}: ${given} of ${before}`);
+        assert.equal(hexOf(it), frames[number - 1]);
+      }
+    } catch (error) {
+      assert.equal(error.code, end);
+    }
+    assert.equal(number, frames.length);
+  }
+  passed('packed streams', count);
+});
+
+test('packed streams of any messages', async () => {
+  let count = 0, state = 7;
+  const drawn = (below) => (state = (state * 48271) % 2147483647) % below;
+  const frames = rowsOf('library/messages.txt').map(([, frame]) => hex(frame)).filter((it) => said(() => capnp.frameSize(it)) === it.length);
+  for (let time = 0; time < 200; time++) {
+    const chosen = Array.from({ length: 1 + drawn(12) }, () => frames[drawn(frames.length)]), all = Buffer.concat(chosen), most = drawn(3) ? 255 : drawn(4);
+    // each message is packed by itself, or runs go over from one to the next
+    const stream = drawn(2) ? packed(all, most) : Buffer.concat(chosen.map((it) => packed(it, most))), pieces = [];
+    for (let at = 0; at < stream.length;) pieces.push(stream.subarray(at, (at += drawn(1 + drawn(100)))));
+    const wanted = chosen.map(hexOf);
+    assert.equal(hexOf(capnp.unpack(stream)), hexOf(all));
+    assert.deepEqual(Array.from(capnp.packedFrames(stream), hexOf), wanted);
+    assert.deepEqual(await collected(pieces), wanted);
+    count++;
+  }
+  passed('packed streams of any messages', count);
+});
+
+test('long packed streams', async () => {
+  const words = 500_000, frame = framed([new Uint8Array(8 * words)]), limits = { words };
+  for (let at = 16, state = 1; at < frame.length; at++) frame[at] = at % 4096 < 2048 ? (state = (state * 48271) % 2147483647) : 0;
+  const stream = Buffer.concat([packed(frame), packed(frame), packed(person())]), wanted = [frame, frame, person()];
+  for (const step of [stream.length, 1 << 16, 999_999]) {
+    const pieces = Array.from({ length: Math.ceil(stream.length / step) }, (_, i) => stream.subarray(i * step, (i + 1) * step));
+    let number = 0;
+    for await (const it of capnp.packedFramesFrom(pieces, limits)) assert.equal(Buffer.compare(it, wanted[number++]), 0);
+    assert.equal(number, 3);
+  }
+  assert.throws(() => Array.from(capnp.packedFrames(stream, { words: words - 1 })), { message: /^message 1 at byte 0: MessageTooLong: / });
+  // what a table announces may never come
+  const before = process.memoryUsage().arrayBuffers;
+  assert.throws(() => Array.from(capnp.packedFrames(hex('f0ffffffff0000'), { words: Infinity })), { code: 'Truncated', place: { message: 1, byte: 0 } });
+  await assert.rejects(collected([hex('f0ffffffff'), hex('0000')], { words: Infinity }), { code: 'Truncated' });
+  assert.ok(process.memoryUsage().arrayBuffers - before < 1 << 22);
+  assert.throws(() => Array.from(capnp.packedFrames(hex('0affff7f'))), { code: 'TooManySegments', place: { message: 1, byte: 0 } });
+  // two packed bytes stand for frames without end, one by one
+  const zeros = hex('00ff'.repeat(1000));
+  let number = 0;
+  for (const it of capnp.packedFrames(zeros)) number += it.length === 8;
+  assert.equal(number, 256_000);
+  passed('long packed streams', 1);
+});
+
+test('two packed streams at the same time', () => {
+  // a call with a large message in between makes the package take another instance
+  const large = framed([new Uint8Array(10_000_000)]), frame = person(), stream = Buffer.concat(Array(6).fill(packed(frame)));
+  large.set(hex('01000000' + '05004800'), 8);
+  const one = capnp.packedFrames(stream), other = capnp.packedFrames(stream.subarray(0, stream.length - 1));
+  for (let time = 0; time < 6; time++) {
+    assert.equal(hexOf(one.next().value), hexOf(frame));
+    assert.equal(hexOf(other.next().value), hexOf(frame));
+    assert.throws(() => capnp.canonicalize(large, { words: 3_000_000, nesting: 0 }), CanonicalError);
+  }
+  assert.ok(one.next().done);
+  // the frame is whole, but not the count after its last word
+  assert.throws(() => other.next(), { code: 'Truncated', place: { message: 7, byte: 6 * frame.length } });
+  passed('two packed streams at the same time', 1);
+});
+
+test('streams that end early', async () => {
+  const frame = person(), frames = Buffer.concat([frame, frame]), both = { framesFrom: frames, packedFramesFrom: packed(frames) };
+  for (const [name, bytes] of Object.entries(both)) {
+    for (const wrapped of [(it) => it, readerOnly]) {
+      // leaving the loop cancels the stream
+      let cancelled = 0;
+      const endless = new ReadableStream({ pull: (controller) => controller.enqueue(bytes), cancel: () => void cancelled++ });
+      for await (const it of capnp[name](wrapped(endless))) {
+        assert.equal(hexOf(it), hexOf(frame));
+        break;
+      }
+      assert.equal(cancelled, 1, name);
+      assert.equal(endless.locked, false, name);
+      // an error of the stream is the caller's
+      let times = 0;
+      const broken = new ReadableStream({ pull: (controller) => (times++ ? controller.error(new Error('gone')) : controller.enqueue(bytes)) });
+      const found = [];
+      await assert.rejects(async () => {
+        for await (const it of capnp[name](wrapped(broken))) found.push(hexOf(it));
+      }, { message: 'gone' });
+      assert.deepEqual(found, [hexOf(frame), hexOf(frame)]);
+    }
+    for (const it of [undefined, null, 7, {}, bytes, ['text'], [7]]) {
+      await assert.rejects(async () => {
+        for await (const frame of capnp[name](it)) assert.fail(frame);
+      }, TypeError);
+    }
+    for (const limits of [{ nesting: 'x' }, 7]) assert.throws(() => capnp[name]([], limits), TypeError);
+    assert.throws(() => capnp[name]([], { words: -1 }), RangeError);
+  }
+  for (const it of ['text', undefined, [1]]) assert.throws(() => capnp.packedFrames(it), TypeError);
+  passed('streams that end early', 1);
+});
+
 test('the size of a frame from its first bytes', async () => {
   let count = 0;
   for (const [name, frame] of rowsOf('library/messages.txt')) {
@@ -430,6 +654,13 @@ test('the deepest messages', () => {
         else assert.throws(() => call(message, limits), { code: /Nest/ }, name);
       }
       said(() => capnp.words.check(message, limits));
+      // the pointer below the last level
+      const place = { segment: 0, word: (MAX_NESTING * word.length) / 16 };
+      for (const reading of Object.values(Reading)) {
+        const broken = capnp.words.locate(message, reading, limits);
+        assert.deepEqual(broken && { segment: broken.segment, word: broken.word }, isRead ? null : place, name);
+      }
+      if (!isRead) assert.throws(() => capnp.words.canonicalize(message, limits), { pointer: place });
     }
   }
   // a call from deep within the stack of a caller ends with an error of the engine, and the next one works

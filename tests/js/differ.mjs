@@ -1,6 +1,6 @@
 // differ.mjs COUNT: prints altered frames and what the package answers, a line each. differ.py compares the native library's answers.
 import * as capnp from '../../bindings/js/node.js';
-import { framed, hex, hexOf, rowsOf, said, vectors } from './data.mjs';
+import { framed, hex, hexOf, rowsOf, vectors } from './data.mjs';
 
 let state = 0x9e3779b9 | 0;
 const drawn = (below) => {
@@ -9,6 +9,26 @@ const drawn = (below) => {
   state ^= state << 5;
   return (state >>> 0) % below;
 };
+/** What a call returns, or `!` and the name of its refusal, with the place of the pointer that is refused. */
+function said(run) {
+  try {
+    return run();
+  } catch (error) {
+    if (!(error instanceof capnp.CanonicalError)) throw error;
+    return `!${error.code}${error.pointer ? `@${error.pointer.segment},${error.pointer.word}` : ''}`;
+  }
+}
+
+/** The frames in packed bytes, and after them the refusal, if there is one. */
+function unpacked(bytes, words) {
+  const found = [];
+  const end = said(() => {
+    for (const it of capnp.packedFrames(bytes, { words })) found.push(hexOf(it));
+    return '.';
+  });
+  return [...found, end].join();
+}
+
 const sources = rowsOf('library/messages.txt').map((it) => hex(it[1]));
 for (const [command, , , parts] of vectors()) {
   if (parts === '-' || parts.length > 20000) continue;
@@ -36,6 +56,8 @@ for (let i = 0; i < Number(process.argv[2]); i++) {
     () => hexOf(capnp.canonicalizeFlatAt(bytes, path, limits)),
     () => hexOf(capnp.digestAt(bytes, path, limits)),
     () => Object.values(capnp.sizeAt(bytes, path, limits)).join(),
+    () => hexOf(capnp.digest(bytes, limits)),
+    () => unpacked(bytes, limits.words),
   ];
   lines.push([hexOf(bytes), limits.nesting, limits.words, path.join('.') || '-', ...answers.map(said)].join(' '));
   if (lines.length === 1000) process.stdout.write(`${lines.splice(0).join('\n')}\n`);

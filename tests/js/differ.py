@@ -9,7 +9,19 @@ def said(call):
     try:
         return call()
     except native.Error as error:
-        return f'!{error.name}'
+        return f'!{error.name}' + (f'@{error.pointer[0]},{error.pointer[1]}' if error.pointer else '')
+
+
+def unpacked(packed, words):
+    found = []
+
+    def frames():
+        for it in native.packed_frames(packed, words):
+            found.append(it.hex())
+        return '.'
+
+    end = said(frames)
+    return ','.join([*found, end])
 
 
 def main():
@@ -40,6 +52,7 @@ def main():
             said(lambda: native.copy(frame, limits).hex() or '-'), said(lambda: native.copy_flat(frame, limits).hex() or '-'), said(check), said(size),
             said(lambda: str(native.frame_size(frame, limits.words))), said(lambda: native.unpack(frame, 1000).hex() or '-'),
             said(extent), said(lambda: native.copy_flat_at(frame, path, limits).hex() or '-'), said(lambda: native.digest_at(frame, path, limits).hex()), said(size_at),
+            said(lambda: native.digest(frame, limits).hex()), unpacked(frame, limits.words),
         ]
         passed += got == answers
         failed += got != answers

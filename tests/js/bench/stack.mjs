@@ -1,13 +1,15 @@
 // stack.mjs: how many bytes of the module's stack a level of nesting takes, and how many levels the engine's own stack has room for.
 import { readFileSync } from 'node:fs';
 
-const STACK = 524288, LIMIT = 1n << 40n;
+const STACK = 786432, LIMIT = 1n << 40n;
 const module = new WebAssembly.Module(readFileSync(new URL('../../../bindings/js/capnp_canonical.wasm', import.meta.url)));
 const chains = { structs: '0000000000000100', 'lists of pointers': '010000000e000000', 'lists of structs': '010000000f0000000400000000000100' };
 const calls = {
   copy: (exports, at, size, base, to) => exports.capnp_canonical_words_copy(at, size, 1 << 30, LIMIT, to, size + 64, base),
   check: (exports, at, size, base) => exports.capnp_canonical_words_check(at, size, 1 << 30, LIMIT, base + 16, base),
   size: (exports, at, size, base) => exports.capnp_canonical_words_size(at, size, 1 << 30, LIMIT, base, base + 8),
+  validate: (exports, at, size, base) => exports.capnp_canonical_words_validate(at, size, 1 << 30, LIMIT, base),
+  locate: (exports, at, size, base) => exports.capnp_canonical_words_locate(at, size, 1 << 30, LIMIT, 1, base),
 };
 
 /** The bytes of the stack that a call over a chain wrote. */
