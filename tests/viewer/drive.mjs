@@ -129,12 +129,18 @@ function frame(...segments) {
 }
 const words = (...row) => Buffer.from(BigUint64Array.from(row).buffer);
 
+/** Where the pointer is at which the value of a message is refused; nothing if the bytes are no frame. */
+function placeOf(name) {
+  const place = linesOf('places.txt').find(([it, , reading, nesting, limit]) => it === name && reading === '0' && nesting === '64' && limit === '8388608');
+  return place ? ` at segment ${place[6]}, word ${place[7]}` : '';
+}
+
 async function messages() {
   for (const [name, [, given, copy, flat, canonical]] of Object.entries(rows)) {
     if (given === '-') continue;
     await goto(given);
     const said = await title(), body = await text('copy');
-    if (/^[A-Z]/.test(canonical)) check(name, said, new RegExp(`^Refused\\|${canonical}: `));
+    if (/^[A-Z]/.test(canonical)) check(name, said, new RegExp(`^Refused\\|${canonical}${placeOf(name)}: `));
     else if (canonical === 'yes') check(name, said, /^Canonical\|/);
     else check(name, said, new RegExp(`^Not canonical\\|.*segment ${canonical.split(',')[1]}, word ${canonical.split(',')[2]}\\.$`));
     if (copy === 'Done') check(`${name}, canonical form`, body, new RegExp(`${(flat.length / 16).toLocaleString('en')} words?, .*SHA-256`, 's'));
