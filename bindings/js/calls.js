@@ -168,15 +168,18 @@ function lendFrame(lib, bytes, words, before = 0) {
   return lend(lib, bytes.length > 4096 ? bytes.subarray(0, measured(lib, bytes, words)) : bytes, before);
 }
 
+/** The error of a refusal. `bytes` are those that may not be a frame, and `pointer` is the one that is refused. */
+function errorOf(number, bytes, pointer) {
+  const isOfFrame = bytes && (number === Refusal.TooManySegments || number === Refusal.MessageTooLong || number === Refusal.Truncated);
+  return new CanonicalError(number, { looksLike: isOfFrame ? looksLike(bytes) : undefined, pointer });
+}
+
 /** Runs a call. Its refusal is thrown as an error. */
 function answered(run, bytes) {
   try {
     return called(run);
   } catch (error) {
-    if (!(error instanceof Refused)) throw error;
-    const { number, pointer } = error;
-    const isOfFrame = bytes && (number === Refusal.TooManySegments || number === Refusal.MessageTooLong || number === Refusal.Truncated);
-    throw new CanonicalError(number, { looksLike: isOfFrame ? looksLike(bytes) : undefined, pointer });
+    throw error instanceof Refused ? errorOf(error.number, bytes) : error;
   }
 }
 
@@ -189,14 +192,19 @@ const WORDS = { passed: (message) => bytesOf(message, 'a message'), lent: (lib, 
 /** The bytes that may look like something else if they aren't a frame. */
 const suspected = (form, passed) => (form === FRAME ? passed : undefined);
 
+/** Finds the pointer at which a message is broken that is read in this way. */
+function brokenPointer(form, passed, within, reading) {
+  return called((lib) => located(lib, lib.calls[form.locate], form.lent(lib, passed, within.words), within, reading));
+}
+
 /** The refusals that are never a pointer's. */
 const OF_NO_POINTER = new Set([Refusal.NoRoom, Refusal.AllocationFailed, Refusal.MessageTooLarge]);
 
 /** The place of the pointer at which a call refused a message that it read in this way. Undefined if the refusal is no pointer's. */
-function refusedPointer(lib, number, form, given, limits, reading) {
+function refusedPointer(number, form, passed, within, reading) {
   if (OF_NO_POINTER.has(number)) return undefined;
   try {
-    const broken = located(lib, lib.calls[form.locate], given, limits, reading);
+    const broken = brokenPointer(form, passed, within, reading);
     return broken ? { segment: broken.segment, word: broken.word } : undefined;
   } catch (error) {
     if (error instanceof Refused) return undefined;
@@ -204,26 +212,22 @@ function refusedPointer(lib, number, form, given, limits, reading) {
   }
 }
 
-/** Runs the call of this name for a message. `answer` makes the call, and reads what it wrote. */
-function asked(form, answer, name, reading, message, limits) {
+/** Runs a call for a message, which it reads in this way. */
+function asked(form, reading, message, limits, run) {
   const passed = form.passed(message), within = limitsOf(limits);
-  return answered((lib) => {
-    const given = form.lent(lib, passed, within.words);
-    try {
-      return answer(lib, lib.calls[name], given, within);
-    } catch (error) {
-      // the message is still in the memory
-      if (error instanceof Refused) error.pointer = refusedPointer(lib, error.number, form, given, within, reading);
-      throw error;
-    }
-  }, suspected(form, passed));
+  try {
+    return called((lib) => run(lib, form.lent(lib, passed, within.words), within));
+  } catch (error) {
+    if (!(error instanceof Refused)) throw error;
+    throw errorOf(error.number, suspected(form, passed), refusedPointer(error.number, form, passed, within, reading));
+  }
 }
 
 /** Whether a message is canonical. False also if it is refused. */
-function isYes(form, name, message, limits) {
+function isYes(form, message, limits, run) {
   const passed = form.passed(message), within = limitsOf(limits);
   try {
-    return called((lib) => checked(lib, lib.calls[name], form.lent(lib, passed, within.words), within)) === null;
+    return called((lib) => run(lib, form.lent(lib, passed, within.words), within)) === null;
   } catch (error) {
     if (error instanceof Refused) return false;
     throw error;
@@ -232,37 +236,41 @@ function isYes(form, name, message, limits) {
 
 function locatedIn(form, message, reading, limits) {
   const passed = form.passed(message), way = readingOf(reading), within = limitsOf(limits);
-  return answered((lib) => located(lib, lib.calls[form.locate], form.lent(lib, passed, within.words), within, way), suspected(form, passed));
+  try {
+    return brokenPointer(form, passed, within, way);
+  } catch (error) {
+    throw error instanceof Refused ? errorOf(error.number, suspected(form, passed)) : error;
+  }
 }
 
 // Messages in frames.
 
 export function canonicalize(frame, limits) {
-  return asked(FRAME, copied, 'copy', Reading.Canonical, frame, limits);
+  return asked(FRAME, Reading.Canonical, frame, limits, (lib, given, within) => copied(lib, lib.calls.copy, given, within));
 }
 
 export function canonicalizeFlat(frame, limits) {
-  return asked(FRAME, copied, 'copy_flat', Reading.Canonical, frame, limits);
+  return asked(FRAME, Reading.Canonical, frame, limits, (lib, given, within) => copied(lib, lib.calls.copy_flat, given, within));
 }
 
 export function digest(frame, limits) {
-  return asked(FRAME, digested, 'digest', Reading.Canonical, frame, limits);
+  return asked(FRAME, Reading.Canonical, frame, limits, (lib, given, within) => digested(lib, lib.calls.digest, given, within));
 }
 
 export function check(frame, limits) {
-  return asked(FRAME, checked, 'check', Reading.Value, frame, limits);
+  return asked(FRAME, Reading.Value, frame, limits, (lib, given, within) => checked(lib, lib.calls.check, given, within));
 }
 
 export function isCanonical(frame, limits) {
-  return isYes(FRAME, 'check', frame, limits);
+  return isYes(FRAME, frame, limits, (lib, given, within) => checked(lib, lib.calls.check, given, within));
 }
 
 export function size(frame, limits) {
-  return asked(FRAME, sized, 'size', Reading.Size, frame, limits);
+  return asked(FRAME, Reading.Size, frame, limits, (lib, given, within) => sized(lib, lib.calls.size, given, within));
 }
 
 export function validate(frame, limits) {
-  return asked(FRAME, validated, 'validate', Reading.Value, frame, limits);
+  return asked(FRAME, Reading.Value, frame, limits, (lib, given, within) => validated(lib, lib.calls.validate, given, within));
 }
 
 export function locate(frame, reading, limits) {
@@ -293,23 +301,23 @@ export function sizeAt(frame, path, limits) {
 // Messages in segments, and in raw words.
 
 export const segments = Object.freeze({
-  canonicalize: (list, limits) => asked(SEGMENTS, copied, 'segments_copy', Reading.Canonical, list, limits),
-  canonicalizeFlat: (list, limits) => asked(SEGMENTS, copied, 'segments_copy_flat', Reading.Canonical, list, limits),
-  digest: (list, limits) => asked(SEGMENTS, digested, 'segments_digest', Reading.Canonical, list, limits),
-  check: (list, limits) => asked(SEGMENTS, checked, 'segments_check', Reading.Value, list, limits),
-  isCanonical: (list, limits) => isYes(SEGMENTS, 'segments_check', list, limits),
-  size: (list, limits) => asked(SEGMENTS, sized, 'segments_size', Reading.Size, list, limits),
-  validate: (list, limits) => asked(SEGMENTS, validated, 'segments_validate', Reading.Value, list, limits),
+  canonicalize: (list, limits) => asked(SEGMENTS, Reading.Canonical, list, limits, (lib, given, within) => copied(lib, lib.calls.segments_copy, given, within)),
+  canonicalizeFlat: (list, limits) => asked(SEGMENTS, Reading.Canonical, list, limits, (lib, given, within) => copied(lib, lib.calls.segments_copy_flat, given, within)),
+  digest: (list, limits) => asked(SEGMENTS, Reading.Canonical, list, limits, (lib, given, within) => digested(lib, lib.calls.segments_digest, given, within)),
+  check: (list, limits) => asked(SEGMENTS, Reading.Value, list, limits, (lib, given, within) => checked(lib, lib.calls.segments_check, given, within)),
+  isCanonical: (list, limits) => isYes(SEGMENTS, list, limits, (lib, given, within) => checked(lib, lib.calls.segments_check, given, within)),
+  size: (list, limits) => asked(SEGMENTS, Reading.Size, list, limits, (lib, given, within) => sized(lib, lib.calls.segments_size, given, within)),
+  validate: (list, limits) => asked(SEGMENTS, Reading.Value, list, limits, (lib, given, within) => validated(lib, lib.calls.segments_validate, given, within)),
   locate: (list, reading, limits) => locatedIn(SEGMENTS, list, reading, limits),
 });
 
 export const words = Object.freeze({
-  canonicalize: (message, limits) => asked(WORDS, copied, 'words_copy', Reading.Canonical, message, limits),
-  digest: (message, limits) => asked(WORDS, digested, 'words_digest', Reading.Canonical, message, limits),
-  check: (message, limits) => asked(WORDS, checked, 'words_check', Reading.Value, message, limits),
-  isCanonical: (message, limits) => isYes(WORDS, 'words_check', message, limits),
-  size: (message, limits) => asked(WORDS, sized, 'words_size', Reading.Size, message, limits),
-  validate: (message, limits) => asked(WORDS, validated, 'words_validate', Reading.Value, message, limits),
+  canonicalize: (message, limits) => asked(WORDS, Reading.Canonical, message, limits, (lib, given, within) => copied(lib, lib.calls.words_copy, given, within)),
+  digest: (message, limits) => asked(WORDS, Reading.Canonical, message, limits, (lib, given, within) => digested(lib, lib.calls.words_digest, given, within)),
+  check: (message, limits) => asked(WORDS, Reading.Value, message, limits, (lib, given, within) => checked(lib, lib.calls.words_check, given, within)),
+  isCanonical: (message, limits) => isYes(WORDS, message, limits, (lib, given, within) => checked(lib, lib.calls.words_check, given, within)),
+  size: (message, limits) => asked(WORDS, Reading.Size, message, limits, (lib, given, within) => sized(lib, lib.calls.words_size, given, within)),
+  validate: (message, limits) => asked(WORDS, Reading.Value, message, limits, (lib, given, within) => validated(lib, lib.calls.words_validate, given, within)),
   locate: (message, reading, limits) => locatedIn(WORDS, message, reading, limits),
 });
 
