@@ -13,18 +13,16 @@ ghost use Rattle.capnp_framing.specs.Frames.{IsFrameOf};
 ghost use Rattle.capnp_framing.specs.Prefix.{size_from_prefix};
 ghost use Rattle.capnp_framing.specs.Reading.{total};
 ghost use Rattle.capnp_messages.specs.Digests.{IsDigestOf};
-ghost use Rattle.capnp_messages.specs.MessageParts.{IsDigestOfPart};
 ghost use Rattle.capnp_messages.specs.Messages.{HasSizeOf, IsReadable};
 ghost use Rattle.capnp_messages.specs.Commands.{HasAnswerWithin};
 ghost use Rattle.capnp_messages.specs.declared.messages.command.Command.{Command};
 ghost use Rattle.capnp_messages.specs.declared.messages.command.Form.{Form};
 ghost use Rattle.capnp_packing.specs.Packing.{IsWhole, Packs, unpacked_bytes};
 ghost use Rattle.capnp_packing.specs.Pieces.{unpacked_piece};
-ghost use Rattle.capnp_canonical.specs.Calls.{FillsByNumber, InFrame, InSegments, InWords, IsCopyOf, IsGranted, IsNumberWhere, RefusesBytes, RefusesMeaning, RefusesPacked, RefusesPrefix, RefusesRoom, RefusesSegments, RefusesSegment, TestIs, limits_of, no_fault};
+ghost use Rattle.capnp_canonical.specs.Calls.{FillsByNumber, InFrame, IsCopyOf, IsGranted, IsNumberWhere, RefusesBytes, RefusesMeaning, RefusesPacked, RefusesPrefix, RefusesRoom, TestIs, limits_of, no_fault};
 ghost use Rattle.capnp_canonical.specs.Validation.{ExtentIs, RefusesExtent, no_extent};
 ghost use Rattle.capnp_canonical.specs.Pieces.{next_place, written_piece};
 ghost use Rattle.capnp_canonical.specs.Locating.{PointerIs, no_pointer};
-ghost use Rattle.capnp_canonical.specs.Parts.{HasPart, HasPartSize, IsCopyOfPart, RefusesPartOf, RefusesPartRoom, RefusesPartSize};
 ghost use Rattle.capnp_pointers.specs.Faults.{fault_reason_text};
 ghost use Rattle.capnp_canonical.specs.Numbers.{answer_name, answer_number, reason_number, wanted_room};
 ghost use Rattle.capnp_canonical.specs.Texts.{PutsText, IsTextOf};
@@ -37,26 +35,26 @@ mod frames;
 mod locating;
 mod names;
 mod packed;
+mod part_exports;
 mod parts;
 mod refusal;
+mod segment_exports;
 mod segments;
+mod word_exports;
 mod words;
 
 use calls::Limits;
 use capnp_messages::messages::Form;
 use capnp_packing::packing::Place;
-use extent::{NOT_SOUND, SoundMessage, validate_frame, validate_segments, validate_words};
+use extent::{NOT_SOUND, SoundMessage, validate_frame};
 use fault::{Fault, NO_FAULT};
 use frames::{
     check_frame, copy_frame, digest_frame, frame_size, frame_size_from_prefix, size_frame,
 };
-use locating::{BrokenPointer, NO_POINTER, locate_in_frame, locate_in_segments, locate_in_words};
+use locating::{BrokenPointer, NO_POINTER, locate_in_frame};
 use names::{name_of_number, put_text, text_of_reason};
 use packed::{Unpacking, unpack, unpack_further};
-use parts::{copy_frame_part, digest_frame_part, size_frame_part};
-use segments::{check_segments, copy_segments, digest_segments, size_segments};
 use std::alloc::Global;
-use words::{check_words, copy_words, digest_words, size_words};
 
 /// Makes a canonical copy of the message whose frame is at the front of `frame`, writes the copy to
 /// the front of `to`, as a frame of one segment, and stores the number of bytes written in
@@ -304,113 +302,6 @@ pub extern "C" fn capnp_canonical_digest(
     }
 }
 
-/// Makes the canonical copy of a part of the message whose frame is at the front of `frame`: of the
-/// value of the pointer to which `path` leads. Writes the canonical words to the front of `to`,
-/// without a frame, and stores the number of bytes written in `written`. `nesting` and `words` are
-/// the limits of `capnp_canonical_check`. The rest of the message isn't read.
-///
-/// `path` is a list of indexes. From the root pointer on, an index leads from a struct to one of
-/// its pointers; from a list of pointers, to an element; from a list of structs, to an element,
-/// from which the next index leads to one of its pointers. Refuses with `NoSuchPlace` if an index
-/// leads nowhere, or if the path ends at an element of a list of structs.
-///
-/// If `to` is too small, stores the number of bytes needed in `written`; for any other refusal, 0.
-/// The bytes of `to` after the copy are unchanged. If the call is refused, all bytes of `to` are
-/// unchanged.
-#[unsafe(no_mangle)]
-pub extern "C" fn capnp_canonical_copy_flat_at(
-    alloc: Global,
-    frame: &[u8],
-    path: &[u32],
-    nesting: i32,
-    words: u64,
-    to: &mut [u8],
-    written: &mut usize,
-) -> u32
-    ensures done { FillsByNumber result written.new to.old to.new (λ bytes. InFrame frame.now words
-        (λ S. IsCopyOfPart (limits_of nesting words) path.now S bytes)) }
-    ensures refused { result ≢ 0 → IsNumberWhere result (λ r. (written.new ≡ wanted_room r)
-        × (RefusesBytes frame.now words r ⊎ InFrame frame.now words
-        (λ S. RefusesPartRoom (limits_of nesting words) path.now (length to.old) S r))) }
-    ensures granted { InFrame frame.now words (HasPart (limits_of nesting words) path.now)
-        → IsGranted result }
-{
-    match copy_frame_part(alloc, frame, path, Limits { nesting, words }, to) {
-        Ok(size) => {
-            *written = size;
-            0
-        }
-        Err(refusal) => {
-            *written = refusal.wanted_room();
-            refusal.number()
-        }
-    }
-}
-
-/// Stores in `digest` the SHA-256 of the bytes that `capnp_canonical_copy_flat_at` writes. After a
-/// refusal `digest` is all 0. The refusals are those of `capnp_canonical_copy_flat_at`, except that
-/// there is always room.
-#[unsafe(no_mangle)]
-pub extern "C" fn capnp_canonical_digest_at(
-    alloc: Global,
-    frame: &[u8],
-    path: &[u32],
-    nesting: i32,
-    words: u64,
-    digest: &mut [u8; 32],
-) -> u32
-    ensures done { result ≡ 0 → InFrame frame.now words
-        (λ S. IsDigestOfPart S (limits_of nesting words) path.now digest.new) }
-    ensures refused { result ≢ 0 → IsNumberWhere result (λ r. RefusesBytes frame.now words r
-        ⊎ InFrame frame.now words (λ S. RefusesPartOf (limits_of nesting words) path.now S r)) }
-    ensures none { result ≢ 0 → digest.new ≡ replicate 32 0 }
-    ensures granted { InFrame frame.now words (HasPart (limits_of nesting words) path.now)
-        → (result ≡ 0) ⊎ (result ≡ 32) }
-{
-    match digest_frame_part(alloc, frame, path, Limits { nesting, words }) {
-        Ok(made) => {
-            *digest = made;
-            0
-        }
-        Err(refusal) => {
-            *digest = [0; 32];
-            refusal.number()
-        }
-    }
-}
-
-/// Counts the words and capabilities of the part of the message to which `path` leads, without
-/// landing pads. Follows `path` like `capnp_canonical_copy_flat_at`. Stores the numbers in
-/// `word_count` and `cap_count`; after a refusal both are 0.
-#[unsafe(no_mangle)]
-pub extern "C" fn capnp_canonical_size_at(
-    frame: &[u8],
-    path: &[u32],
-    nesting: i32,
-    words: u64,
-    word_count: &mut u64,
-    cap_count: &mut u32,
-) -> u32
-    ensures done { result ≡ 0 → InFrame frame.now words (λ S.
-        HasPartSize (limits_of nesting words) path.now S word_count.new cap_count.new) }
-    ensures refused { result ≢ 0 → IsNumberWhere result (λ r. RefusesBytes frame.now words r
-        ⊎ InFrame frame.now words (λ S. RefusesPartSize (limits_of nesting words) path.now S r)) }
-    ensures none { result ≢ 0 → (word_count.new ≡ 0) × (cap_count.new ≡ 0) }
-{
-    match size_frame_part(frame, path, Limits { nesting, words }) {
-        Ok(size) => {
-            *word_count = size.word_count;
-            *cap_count = size.cap_count;
-            0
-        }
-        Err(refusal) => {
-            *word_count = 0;
-            *cap_count = 0;
-            refusal.number()
-        }
-    }
-}
-
 /// Stores in `bytes` the size in bytes of the frame at the front of `frame`; after a refusal
 /// `bytes` is 0. Refuses a message of more than `words` words.
 #[unsafe(no_mangle)]
@@ -459,406 +350,6 @@ pub extern "C" fn capnp_canonical_frame_size_from_prefix(
         }
         Err(refusal) => {
             *bytes = 0;
-            refusal.number()
-        }
-    }
-}
-
-/// Like `capnp_canonical_copy`, for a message that the caller passes as `segments`, without a
-/// frame.
-#[unsafe(no_mangle)]
-pub extern "C" fn capnp_canonical_segments_copy(
-    alloc: Global,
-    segments: &[&[u8]],
-    nesting: i32,
-    words: u64,
-    to: &mut [u8],
-    written: &mut usize,
-) -> u32
-    ensures done { FillsByNumber result written.new to.old to.new (λ bytes. InSegments segments.now
-        (λ S. IsCopyOf Form.Framed (limits_of nesting words) S bytes)) }
-    ensures refused { result ≢ 0 → IsNumberWhere result (λ r. (written.new ≡ wanted_room r)
-        × (RefusesSegments segments.now r ⊎ InSegments segments.now
-        (λ S. RefusesRoom Form.Framed (limits_of nesting words) (length to.old) S r))) }
-    ensures granted { InSegments segments.now
-        (HasAnswerWithin (Command.Canon Form.Framed) (limits_of nesting words))
-        → IsGranted result }
-{
-    match copy_segments(alloc, Form::Framed, segments, Limits { nesting, words }, to) {
-        Ok(size) => {
-            *written = size;
-            0
-        }
-        Err(refusal) => {
-            *written = refusal.wanted_room();
-            refusal.number()
-        }
-    }
-}
-
-/// Like `capnp_canonical_copy_flat`, for a message that the caller passes as `segments`, without a
-/// frame.
-#[unsafe(no_mangle)]
-pub extern "C" fn capnp_canonical_segments_copy_flat(
-    alloc: Global,
-    segments: &[&[u8]],
-    nesting: i32,
-    words: u64,
-    to: &mut [u8],
-    written: &mut usize,
-) -> u32
-    ensures done { FillsByNumber result written.new to.old to.new (λ bytes. InSegments segments.now
-        (λ S. IsCopyOf Form.Flat (limits_of nesting words) S bytes)) }
-    ensures refused { result ≢ 0 → IsNumberWhere result (λ r. (written.new ≡ wanted_room r)
-        × (RefusesSegments segments.now r ⊎ InSegments segments.now
-        (λ S. RefusesRoom Form.Flat (limits_of nesting words) (length to.old) S r))) }
-    ensures granted { InSegments segments.now
-        (HasAnswerWithin (Command.Canon Form.Flat) (limits_of nesting words))
-        → IsGranted result }
-{
-    match copy_segments(alloc, Form::Flat, segments, Limits { nesting, words }, to) {
-        Ok(size) => {
-            *written = size;
-            0
-        }
-        Err(refusal) => {
-            *written = refusal.wanted_room();
-            refusal.number()
-        }
-    }
-}
-
-/// Like `capnp_canonical_check`, for a message that the caller passes as `segments`, without a
-/// frame.
-#[unsafe(no_mangle)]
-pub extern "C" fn capnp_canonical_segments_check(
-    segments: &[&[u8]],
-    nesting: i32,
-    words: u64,
-    is_canonical: &mut bool,
-    fault: &mut Fault,
-) -> u32
-    ensures done { result ≡ 0 → InSegments segments.now
-        (TestIs (limits_of nesting words) is_canonical.new fault.new) }
-    ensures refused { result ≢ 0 → IsNumberWhere result (λ r. RefusesSegments segments.now r
-        ⊎ InSegments segments.now
-        (λ S. RefusesMeaning Command.Check (limits_of nesting words) S r)) }
-    ensures none { result ≢ 0 → (is_canonical.new ≡ false) × (fault.new ≡ no_fault) }
-    ensures granted { InSegments segments.now
-        (HasAnswerWithin Command.Check (limits_of nesting words)) → result ≡ 0 }
-{
-    match check_segments(segments, Limits { nesting, words }) {
-        Ok(found) => {
-            *is_canonical = found.is_none();
-            *fault = Fault::of(found);
-            0
-        }
-        Err(refusal) => {
-            *is_canonical = false;
-            *fault = NO_FAULT;
-            refusal.number()
-        }
-    }
-}
-
-/// Like `capnp_canonical_size`, for a message that the caller passes as `segments`, without a
-/// frame.
-#[unsafe(no_mangle)]
-pub extern "C" fn capnp_canonical_segments_size(
-    segments: &[&[u8]],
-    nesting: i32,
-    words: u64,
-    word_count: &mut u64,
-    cap_count: &mut u32,
-) -> u32
-    ensures done { result ≡ 0 → InSegments segments.now
-        (λ S. HasSizeOf S (limits_of nesting words) word_count.new cap_count.new) }
-    ensures refused { result ≢ 0 → IsNumberWhere result (λ r. RefusesSegments segments.now r
-        ⊎ InSegments segments.now
-        (λ S. RefusesMeaning Command.Size (limits_of nesting words) S r)) }
-    ensures none { result ≢ 0 → (word_count.new ≡ 0) × (cap_count.new ≡ 0) }
-    ensures granted { InSegments segments.now
-        (HasAnswerWithin Command.Size (limits_of nesting words)) → result ≡ 0 }
-{
-    match size_segments(segments, Limits { nesting, words }) {
-        Ok(size) => {
-            *word_count = size.word_count;
-            *cap_count = size.cap_count;
-            0
-        }
-        Err(refusal) => {
-            *word_count = 0;
-            *cap_count = 0;
-            refusal.number()
-        }
-    }
-}
-
-/// Like `capnp_canonical_validate`, for the message of these segments.
-#[unsafe(no_mangle)]
-pub extern "C" fn capnp_canonical_segments_validate(
-    segments: &[&[u8]],
-    nesting: i32,
-    words: u64,
-    extent: &mut SoundMessage,
-) -> u32
-    ensures done { result ≡ 0 → InSegments segments.now
-        (ExtentIs (limits_of nesting words) extent.new) }
-    ensures refused { result ≢ 0 → IsNumberWhere result (λ r. RefusesSegments segments.now r
-        ⊎ InSegments segments.now (λ S. RefusesExtent (limits_of nesting words) S r)) }
-    ensures none { result ≢ 0 → extent.new ≡ no_extent }
-    ensures granted { InSegments segments.now (λ S. IsReadable S (limits_of nesting words))
-        → result ≡ 0 }
-{
-    match validate_segments(segments, Limits { nesting, words }) {
-        Ok(found) => {
-            *extent = found;
-            0
-        }
-        Err(refusal) => {
-            *extent = NOT_SOUND;
-            refusal.number()
-        }
-    }
-}
-
-/// Like `capnp_canonical_locate`, for the message of these segments.
-#[unsafe(no_mangle)]
-pub extern "C" fn capnp_canonical_segments_locate(
-    segments: &[&[u8]],
-    nesting: i32,
-    words: u64,
-    reading: u32,
-    pointer: &mut BrokenPointer,
-) -> u32
-    ensures done { result ≡ 0 → InSegments segments.now
-        (PointerIs reading (limits_of nesting words) pointer.new) }
-    ensures refused { result ≢ 0 → IsNumberWhere result (RefusesSegments segments.now) }
-    ensures none { result ≢ 0 → pointer.new ≡ no_pointer }
-    ensures granted { InSegments segments.now (λ _. ⊤) → result ≡ 0 }
-{
-    match locate_in_segments(segments, Limits { nesting, words }, reading) {
-        Ok(found) => {
-            *pointer = found;
-            0
-        }
-        Err(refusal) => {
-            *pointer = NO_POINTER;
-            refusal.number()
-        }
-    }
-}
-
-/// Like `capnp_canonical_digest`, for a message that the caller passes as `segments`, without a
-/// frame.
-#[unsafe(no_mangle)]
-pub extern "C" fn capnp_canonical_segments_digest(
-    alloc: Global,
-    segments: &[&[u8]],
-    nesting: i32,
-    words: u64,
-    digest: &mut [u8; 32],
-) -> u32
-    ensures done { result ≡ 0 → InSegments segments.now
-        (λ S. IsDigestOf S (limits_of nesting words) digest.new) }
-    ensures refused { result ≢ 0 → IsNumberWhere result (λ r. RefusesSegments segments.now r
-        ⊎ InSegments segments.now
-        (λ S. RefusesMeaning (Command.Canon Form.Flat) (limits_of nesting words) S r)) }
-    ensures none { result ≢ 0 → digest.new ≡ replicate 32 0 }
-    ensures granted { InSegments segments.now
-        (HasAnswerWithin (Command.Canon Form.Flat) (limits_of nesting words))
-        → (result ≡ 0) ⊎ (result ≡ 32) }
-{
-    match digest_segments(alloc, segments, Limits { nesting, words }) {
-        Ok(made) => {
-            *digest = made;
-            0
-        }
-        Err(refusal) => {
-            *digest = [0; 32];
-            refusal.number()
-        }
-    }
-}
-
-/// Like `capnp_canonical_copy_flat`, for a message with one segment, whose words the caller passes
-/// as `bytes`, without a frame.
-#[unsafe(no_mangle)]
-pub extern "C" fn capnp_canonical_words_copy(
-    alloc: Global,
-    bytes: &[u8],
-    nesting: i32,
-    words: u64,
-    to: &mut [u8],
-    written: &mut usize,
-) -> u32
-    ensures done { FillsByNumber result written.new to.old to.new (λ copy. InWords bytes.now
-        (λ S. IsCopyOf Form.Flat (limits_of nesting words) S copy)) }
-    ensures refused { result ≢ 0 → IsNumberWhere result (λ r. (written.new ≡ wanted_room r)
-        × (RefusesSegment bytes.now r ⊎ InWords bytes.now
-        (λ S. RefusesRoom Form.Flat (limits_of nesting words) (length to.old) S r))) }
-    ensures granted { InWords bytes.now
-        (HasAnswerWithin (Command.Canon Form.Flat) (limits_of nesting words))
-        → IsGranted result }
-{
-    match copy_words(alloc, bytes, Limits { nesting, words }, to) {
-        Ok(size) => {
-            *written = size;
-            0
-        }
-        Err(refusal) => {
-            *written = refusal.wanted_room();
-            refusal.number()
-        }
-    }
-}
-
-/// Like `capnp_canonical_check`, for a message with one segment, whose words the caller passes as
-/// `bytes`, without a frame.
-#[unsafe(no_mangle)]
-pub extern "C" fn capnp_canonical_words_check(
-    bytes: &[u8],
-    nesting: i32,
-    words: u64,
-    is_canonical: &mut bool,
-    fault: &mut Fault,
-) -> u32
-    ensures done { result ≡ 0 → InWords bytes.now
-        (TestIs (limits_of nesting words) is_canonical.new fault.new) }
-    ensures refused { result ≢ 0 → IsNumberWhere result (λ r. RefusesSegment bytes.now r
-        ⊎ InWords bytes.now (λ S. RefusesMeaning Command.Check (limits_of nesting words) S r)) }
-    ensures none { result ≢ 0 → (is_canonical.new ≡ false) × (fault.new ≡ no_fault) }
-    ensures granted { InWords bytes.now (HasAnswerWithin Command.Check (limits_of nesting words))
-        → result ≡ 0 }
-{
-    match check_words(bytes, Limits { nesting, words }) {
-        Ok(found) => {
-            *is_canonical = found.is_none();
-            *fault = Fault::of(found);
-            0
-        }
-        Err(refusal) => {
-            *is_canonical = false;
-            *fault = NO_FAULT;
-            refusal.number()
-        }
-    }
-}
-
-/// Like `capnp_canonical_size`, for a message with one segment, whose words the caller passes as
-/// `bytes`, without a frame.
-#[unsafe(no_mangle)]
-pub extern "C" fn capnp_canonical_words_size(
-    bytes: &[u8],
-    nesting: i32,
-    words: u64,
-    word_count: &mut u64,
-    cap_count: &mut u32,
-) -> u32
-    ensures done { result ≡ 0 → InWords bytes.now
-        (λ S. HasSizeOf S (limits_of nesting words) word_count.new cap_count.new) }
-    ensures refused { result ≢ 0 → IsNumberWhere result (λ r. RefusesSegment bytes.now r
-        ⊎ InWords bytes.now (λ S. RefusesMeaning Command.Size (limits_of nesting words) S r)) }
-    ensures none { result ≢ 0 → (word_count.new ≡ 0) × (cap_count.new ≡ 0) }
-    ensures granted { InWords bytes.now (HasAnswerWithin Command.Size (limits_of nesting words))
-        → result ≡ 0 }
-{
-    match size_words(bytes, Limits { nesting, words }) {
-        Ok(size) => {
-            *word_count = size.word_count;
-            *cap_count = size.cap_count;
-            0
-        }
-        Err(refusal) => {
-            *word_count = 0;
-            *cap_count = 0;
-            refusal.number()
-        }
-    }
-}
-
-/// Like `capnp_canonical_validate`, for the message whose only segment has the words in `bytes`.
-#[unsafe(no_mangle)]
-pub extern "C" fn capnp_canonical_words_validate(
-    bytes: &[u8],
-    nesting: i32,
-    words: u64,
-    extent: &mut SoundMessage,
-) -> u32
-    ensures done { result ≡ 0 → InWords bytes.now
-        (ExtentIs (limits_of nesting words) extent.new) }
-    ensures refused { result ≢ 0 → IsNumberWhere result (λ r. RefusesSegment bytes.now r
-        ⊎ InWords bytes.now (λ S. RefusesExtent (limits_of nesting words) S r)) }
-    ensures none { result ≢ 0 → extent.new ≡ no_extent }
-    ensures granted { InWords bytes.now (λ S. IsReadable S (limits_of nesting words))
-        → result ≡ 0 }
-{
-    match validate_words(bytes, Limits { nesting, words }) {
-        Ok(found) => {
-            *extent = found;
-            0
-        }
-        Err(refusal) => {
-            *extent = NOT_SOUND;
-            refusal.number()
-        }
-    }
-}
-
-/// Like `capnp_canonical_locate`, for the message whose only segment has the words in `bytes`.
-#[unsafe(no_mangle)]
-pub extern "C" fn capnp_canonical_words_locate(
-    bytes: &[u8],
-    nesting: i32,
-    words: u64,
-    reading: u32,
-    pointer: &mut BrokenPointer,
-) -> u32
-    ensures done { result ≡ 0 → InWords bytes.now
-        (PointerIs reading (limits_of nesting words) pointer.new) }
-    ensures refused { result ≢ 0 → IsNumberWhere result (RefusesSegment bytes.now) }
-    ensures none { result ≢ 0 → pointer.new ≡ no_pointer }
-    ensures granted { InWords bytes.now (λ _. ⊤) → result ≡ 0 }
-{
-    match locate_in_words(bytes, Limits { nesting, words }, reading) {
-        Ok(found) => {
-            *pointer = found;
-            0
-        }
-        Err(refusal) => {
-            *pointer = NO_POINTER;
-            refusal.number()
-        }
-    }
-}
-
-/// Like `capnp_canonical_digest`, for a message with one segment, whose words the caller passes as
-/// `bytes`, without a frame.
-#[unsafe(no_mangle)]
-pub extern "C" fn capnp_canonical_words_digest(
-    alloc: Global,
-    bytes: &[u8],
-    nesting: i32,
-    words: u64,
-    digest: &mut [u8; 32],
-) -> u32
-    ensures done { result ≡ 0 → InWords bytes.now
-        (λ S. IsDigestOf S (limits_of nesting words) digest.new) }
-    ensures refused { result ≢ 0 → IsNumberWhere result (λ r. RefusesSegment bytes.now r
-        ⊎ InWords bytes.now
-        (λ S. RefusesMeaning (Command.Canon Form.Flat) (limits_of nesting words) S r)) }
-    ensures none { result ≢ 0 → digest.new ≡ replicate 32 0 }
-    ensures granted { InWords bytes.now
-        (HasAnswerWithin (Command.Canon Form.Flat) (limits_of nesting words))
-        → (result ≡ 0) ⊎ (result ≡ 32) }
-{
-    match digest_words(alloc, bytes, Limits { nesting, words }) {
-        Ok(made) => {
-            *digest = made;
-            0
-        }
-        Err(refusal) => {
-            *digest = [0; 32];
             refusal.number()
         }
     }

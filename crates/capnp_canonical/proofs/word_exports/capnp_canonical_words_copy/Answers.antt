@@ -1,18 +1,18 @@
-use Rattle.std.proofs.Common.{◌∙◌, inr}
+use Rattle.std.proofs.Common.{sym, subst}
 use Rattle.std.proofs.lemmas.Int.{to_z-of_z}
 use mir.Syntax.{w32}
-use Rattle.capnp_canonical.specs.Calls.{limits_of}
-use Rattle.capnp_canonical.proofs.CallLemmas.{where_framed}
-use Rattle.capnp_canonical.proofs.PartLemmas.{part_out_of_memory}
-use Rattle.capnp_canonical.proofs.capnp_canonical_digest_at.Goals as goal
+use Rattle.capnp_messages.specs.declared.messages.command.Form.TheVariants.{Flat}
+use Rattle.capnp_canonical.specs.Calls.{IsGranted, limits_of}
+use Rattle.capnp_canonical.proofs.CallLemmas.{room_granted, where_words}
+use Rattle.capnp_canonical.proofs.word_exports.capnp_canonical_words_copy.Goals as goal
 
 pub returns-in-Err-clause-refused : goal.returns-in-Err-clause-refused
 returns-in-Err-clause-refused c = λ some.
     let refused = rw (to_z-of_z w32 c.args.nesting c.ranges.nesting) at c.in-Err.ensures.refused in
-    (c.in-Err.refusal, c.number.ensures.number, refused)
+    (c.in-Err.refusal, c.number.ensures.number, (c.wanted_room.ensures, refused))
 
 pub returns-in-Err-clause-granted : goal.returns-in-Err-clause-granted
 returns-in-Err-clause-granted c = λ can.
     let limits = limits_of c.args.nesting c.args.words in
     let refused = rw (to_z-of_z w32 c.args.nesting c.ranges.nesting) at c.in-Err.ensures.refused in
-    inr (c.number.ensures.number ∙ where_framed (λ S words. part_out_of_memory limits c.args.path.now S) refused can)
+    subst IsGranted (sym c.number.ensures.number) (where_words c.args.bytes.now (room_granted Flat limits _ _) refused can)

@@ -1,10 +1,10 @@
+use Rattle.std.proofs.Common.{◌∙◌, inr}
 use Rattle.std.proofs.lemmas.Int.{to_z-of_z}
 use mir.Syntax.{w32}
-use Rattle.std.proofs.Common.{◌∷◌, []}
-use Rattle.capnp_format.specs.Bytes.{message}
+use Rattle.capnp_messages.specs.declared.messages.command.Form.TheVariants.{Flat}
 use Rattle.capnp_canonical.specs.Calls.{limits_of}
-use Rattle.capnp_canonical.proofs.CallLemmas.{size_granted, where_words}
-use Rattle.capnp_canonical.proofs.capnp_canonical_words_size.Goals as goal
+use Rattle.capnp_canonical.proofs.CallLemmas.{meaning_granted, where_words}
+use Rattle.capnp_canonical.proofs.word_exports.capnp_canonical_words_digest.Goals as goal
 
 pub returns-in-Err-clause-refused : goal.returns-in-Err-clause-refused
 returns-in-Err-clause-refused c = λ some.
@@ -15,4 +15,4 @@ pub returns-in-Err-clause-granted : goal.returns-in-Err-clause-granted
 returns-in-Err-clause-granted c = λ can.
     let limits = limits_of c.args.nesting c.args.words in
     let refused = rw (to_z-of_z w32 c.args.nesting c.ranges.nesting) at c.in-Err.ensures.refused in
-    absurd (where_words c.args.bytes.now (size_granted limits (message (c.args.bytes.now ∷ []))) refused can)
+    inr (c.number.ensures.number ∙ where_words c.args.bytes.now (meaning_granted Flat limits _) refused can)

@@ -2,8 +2,9 @@ use Rattle.std.proofs.lemmas.Int.{to_z-of_z}
 use mir.Syntax.{w32}
 use Rattle.capnp_format.specs.Bytes.{message}
 use Rattle.capnp_canonical.specs.Calls.{lent_bytes, limits_of}
-use Rattle.capnp_canonical.proofs.CallLemmas.{size_granted, where_lent}
-use Rattle.capnp_canonical.proofs.capnp_canonical_segments_size.Goals as goal
+use Rattle.capnp_canonical.proofs.CallLemmas.{where_lent}
+use Rattle.capnp_canonical.proofs.ExtentLemmas.{extent_granted}
+use Rattle.capnp_canonical.proofs.segment_exports.capnp_canonical_segments_validate.Goals as goal
 
 pub returns-in-Err-clause-refused : goal.returns-in-Err-clause-refused
 returns-in-Err-clause-refused c = λ some.
@@ -14,4 +15,4 @@ pub returns-in-Err-clause-granted : goal.returns-in-Err-clause-granted
 returns-in-Err-clause-granted c = λ can.
     let limits = limits_of c.args.nesting c.args.words in
     let refused = rw (to_z-of_z w32 c.args.nesting c.ranges.nesting) at c.in-Err.ensures.refused in
-    absurd (where_lent c.args.segments.now (size_granted limits (message (lent_bytes c.args.segments.now))) refused can)
+    absurd (where_lent c.args.segments.now (extent_granted limits (message (lent_bytes c.args.segments.now))) refused can)

@@ -4,7 +4,7 @@ use mir.Syntax.{w32}
 use Rattle.capnp_canonical.specs.Calls.{IsGranted, limits_of}
 use Rattle.capnp_canonical.proofs.CallLemmas.{where_framed}
 use Rattle.capnp_canonical.proofs.PartLemmas.{part_room_granted}
-use Rattle.capnp_canonical.proofs.capnp_canonical_copy_flat_at.Goals as goal
+use Rattle.capnp_canonical.proofs.part_exports.capnp_canonical_copy_flat_at.Goals as goal
 
 pub returns-in-Err-clause-refused : goal.returns-in-Err-clause-refused
 returns-in-Err-clause-refused c = λ some.

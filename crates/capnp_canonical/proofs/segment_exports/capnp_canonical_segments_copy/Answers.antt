@@ -1,10 +1,10 @@
 use Rattle.std.proofs.Common.{sym, subst}
 use Rattle.std.proofs.lemmas.Int.{to_z-of_z}
 use mir.Syntax.{w32}
-use Rattle.capnp_messages.specs.declared.messages.command.Form.TheVariants.{Flat}
+use Rattle.capnp_messages.specs.declared.messages.command.Form.TheVariants.{Framed}
 use Rattle.capnp_canonical.specs.Calls.{IsGranted, limits_of}
 use Rattle.capnp_canonical.proofs.CallLemmas.{room_granted, where_lent}
-use Rattle.capnp_canonical.proofs.capnp_canonical_segments_copy_flat.Goals as goal
+use Rattle.capnp_canonical.proofs.segment_exports.capnp_canonical_segments_copy.Goals as goal
 
 pub returns-in-Err-clause-refused : goal.returns-in-Err-clause-refused
 returns-in-Err-clause-refused c = λ some.
@@ -15,4 +15,4 @@ pub returns-in-Err-clause-granted : goal.returns-in-Err-clause-granted
 returns-in-Err-clause-granted c = λ can.
     let limits = limits_of c.args.nesting c.args.words in
     let refused = rw (to_z-of_z w32 c.args.nesting c.ranges.nesting) at c.in-Err.ensures.refused in
-    subst IsGranted (sym c.number.ensures.number) (where_lent c.args.segments.now (room_granted Flat limits _ _) refused can)
+    subst IsGranted (sym c.number.ensures.number) (where_lent c.args.segments.now (room_granted Framed limits _ _) refused can)

@@ -1,0 +1,118 @@
+//! The functions for C that work on a part of a message: on the value of the pointer to which a path
+//! leads.
+ghost use Rattle.std.specs.Prelude.{◌≡◌, ◌≢◌, ◌⊎◌, length, replicate, take, drop};
+ghost use Rattle.capnp_messages.specs.MessageParts.{IsDigestOfPart};
+ghost use Rattle.capnp_canonical.specs.Calls.{FillsByNumber, InFrame, IsGranted, IsNumberWhere, RefusesBytes, limits_of};
+ghost use Rattle.capnp_canonical.specs.Parts.{HasPart, HasPartSize, IsCopyOfPart, RefusesPartOf, RefusesPartRoom, RefusesPartSize};
+ghost use Rattle.capnp_canonical.specs.Numbers.{wanted_room};
+
+use crate::calls::Limits;
+use crate::parts::{copy_frame_part, digest_frame_part, size_frame_part};
+use std::alloc::Global;
+
+/// Makes the canonical copy of a part of the message whose frame is at the front of `frame`: of the
+/// value of the pointer to which `path` leads. Writes the canonical words to the front of `to`,
+/// without a frame, and stores the number of bytes written in `written`. `nesting` and `words` are
+/// the limits of `capnp_canonical_check`. The rest of the message isn't read.
+///
+/// `path` is a list of indexes. From the root pointer on, an index leads from a struct to one of
+/// its pointers; from a list of pointers, to an element; from a list of structs, to an element,
+/// from which the next index leads to one of its pointers. Refuses with `NoSuchPlace` if an index
+/// leads nowhere, or if the path ends at an element of a list of structs.
+///
+/// If `to` is too small, stores the number of bytes needed in `written`; for any other refusal, 0.
+/// The bytes of `to` after the copy are unchanged. If the call is refused, all bytes of `to` are
+/// unchanged.
+#[unsafe(no_mangle)]
+pub extern "C" fn capnp_canonical_copy_flat_at(
+    alloc: Global,
+    frame: &[u8],
+    path: &[u32],
+    nesting: i32,
+    words: u64,
+    to: &mut [u8],
+    written: &mut usize,
+) -> u32
+    ensures done { FillsByNumber result written.new to.old to.new (λ bytes. InFrame frame.now words
+        (λ S. IsCopyOfPart (limits_of nesting words) path.now S bytes)) }
+    ensures refused { result ≢ 0 → IsNumberWhere result (λ r. (written.new ≡ wanted_room r)
+        × (RefusesBytes frame.now words r ⊎ InFrame frame.now words
+        (λ S. RefusesPartRoom (limits_of nesting words) path.now (length to.old) S r))) }
+    ensures granted { InFrame frame.now words (HasPart (limits_of nesting words) path.now)
+        → IsGranted result }
+{
+    match copy_frame_part(alloc, frame, path, Limits { nesting, words }, to) {
+        Ok(size) => {
+            *written = size;
+            0
+        }
+        Err(refusal) => {
+            *written = refusal.wanted_room();
+            refusal.number()
+        }
+    }
+}
+
+/// Stores in `digest` the SHA-256 of the bytes that `capnp_canonical_copy_flat_at` writes. After a
+/// refusal `digest` is all 0. The refusals are those of `capnp_canonical_copy_flat_at`, except that
+/// there is always room.
+#[unsafe(no_mangle)]
+pub extern "C" fn capnp_canonical_digest_at(
+    alloc: Global,
+    frame: &[u8],
+    path: &[u32],
+    nesting: i32,
+    words: u64,
+    digest: &mut [u8; 32],
+) -> u32
+    ensures done { result ≡ 0 → InFrame frame.now words
+        (λ S. IsDigestOfPart S (limits_of nesting words) path.now digest.new) }
+    ensures refused { result ≢ 0 → IsNumberWhere result (λ r. RefusesBytes frame.now words r
+        ⊎ InFrame frame.now words (λ S. RefusesPartOf (limits_of nesting words) path.now S r)) }
+    ensures none { result ≢ 0 → digest.new ≡ replicate 32 0 }
+    ensures granted { InFrame frame.now words (HasPart (limits_of nesting words) path.now)
+        → (result ≡ 0) ⊎ (result ≡ 32) }
+{
+    match digest_frame_part(alloc, frame, path, Limits { nesting, words }) {
+        Ok(made) => {
+            *digest = made;
+            0
+        }
+        Err(refusal) => {
+            *digest = [0; 32];
+            refusal.number()
+        }
+    }
+}
+
+/// Counts the words and capabilities of the part of the message to which `path` leads, without
+/// landing pads. Follows `path` like `capnp_canonical_copy_flat_at`. Stores the numbers in
+/// `word_count` and `cap_count`; after a refusal both are 0.
+#[unsafe(no_mangle)]
+pub extern "C" fn capnp_canonical_size_at(
+    frame: &[u8],
+    path: &[u32],
+    nesting: i32,
+    words: u64,
+    word_count: &mut u64,
+    cap_count: &mut u32,
+) -> u32
+    ensures done { result ≡ 0 → InFrame frame.now words (λ S.
+        HasPartSize (limits_of nesting words) path.now S word_count.new cap_count.new) }
+    ensures refused { result ≢ 0 → IsNumberWhere result (λ r. RefusesBytes frame.now words r
+        ⊎ InFrame frame.now words (λ S. RefusesPartSize (limits_of nesting words) path.now S r)) }
+    ensures none { result ≢ 0 → (word_count.new ≡ 0) × (cap_count.new ≡ 0) }
+{
+    match size_frame_part(frame, path, Limits { nesting, words }) {
+        Ok(size) => {
+            *word_count = size.word_count;
+            *cap_count = size.cap_count;
+            0
+        }
+        Err(refusal) => {
+            *word_count = 0;
+            *cap_count = 0;
+            refusal.number()
+        }
+    }
+}

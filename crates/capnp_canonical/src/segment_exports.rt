@@ -1,0 +1,236 @@
+//! The functions for C that take a message as segments, without a frame.
+ghost use Rattle.std.specs.Prelude.{◌≡◌, ◌≢◌, ◌⊎◌, ⊤, false, length, replicate, take, drop};
+ghost use Rattle.capnp_messages.specs.Digests.{IsDigestOf};
+ghost use Rattle.capnp_messages.specs.Messages.{HasSizeOf, IsReadable};
+ghost use Rattle.capnp_messages.specs.Commands.{HasAnswerWithin};
+ghost use Rattle.capnp_messages.specs.declared.messages.command.Command.{Command};
+ghost use Rattle.capnp_messages.specs.declared.messages.command.Form.{Form};
+ghost use Rattle.capnp_canonical.specs.Calls.{FillsByNumber, InSegments, IsCopyOf, IsGranted, IsNumberWhere, RefusesMeaning, RefusesRoom, RefusesSegments, TestIs, limits_of, no_fault};
+ghost use Rattle.capnp_canonical.specs.Validation.{ExtentIs, RefusesExtent, no_extent};
+ghost use Rattle.capnp_canonical.specs.Locating.{PointerIs, no_pointer};
+ghost use Rattle.capnp_canonical.specs.Numbers.{wanted_room};
+
+use crate::calls::Limits;
+use crate::extent::{NOT_SOUND, SoundMessage, validate_segments};
+use crate::fault::{Fault, NO_FAULT};
+use crate::locating::{BrokenPointer, NO_POINTER, locate_in_segments};
+use crate::segments::{check_segments, copy_segments, digest_segments, size_segments};
+use capnp_messages::messages::Form;
+use std::alloc::Global;
+
+/// Like `capnp_canonical_copy`, for a message that the caller passes as `segments`, without a
+/// frame.
+#[unsafe(no_mangle)]
+pub extern "C" fn capnp_canonical_segments_copy(
+    alloc: Global,
+    segments: &[&[u8]],
+    nesting: i32,
+    words: u64,
+    to: &mut [u8],
+    written: &mut usize,
+) -> u32
+    ensures done { FillsByNumber result written.new to.old to.new (λ bytes. InSegments segments.now
+        (λ S. IsCopyOf Form.Framed (limits_of nesting words) S bytes)) }
+    ensures refused { result ≢ 0 → IsNumberWhere result (λ r. (written.new ≡ wanted_room r)
+        × (RefusesSegments segments.now r ⊎ InSegments segments.now
+        (λ S. RefusesRoom Form.Framed (limits_of nesting words) (length to.old) S r))) }
+    ensures granted { InSegments segments.now
+        (HasAnswerWithin (Command.Canon Form.Framed) (limits_of nesting words))
+        → IsGranted result }
+{
+    match copy_segments(alloc, Form::Framed, segments, Limits { nesting, words }, to) {
+        Ok(size) => {
+            *written = size;
+            0
+        }
+        Err(refusal) => {
+            *written = refusal.wanted_room();
+            refusal.number()
+        }
+    }
+}
+
+/// Like `capnp_canonical_copy_flat`, for a message that the caller passes as `segments`, without a
+/// frame.
+#[unsafe(no_mangle)]
+pub extern "C" fn capnp_canonical_segments_copy_flat(
+    alloc: Global,
+    segments: &[&[u8]],
+    nesting: i32,
+    words: u64,
+    to: &mut [u8],
+    written: &mut usize,
+) -> u32
+    ensures done { FillsByNumber result written.new to.old to.new (λ bytes. InSegments segments.now
+        (λ S. IsCopyOf Form.Flat (limits_of nesting words) S bytes)) }
+    ensures refused { result ≢ 0 → IsNumberWhere result (λ r. (written.new ≡ wanted_room r)
+        × (RefusesSegments segments.now r ⊎ InSegments segments.now
+        (λ S. RefusesRoom Form.Flat (limits_of nesting words) (length to.old) S r))) }
+    ensures granted { InSegments segments.now
+        (HasAnswerWithin (Command.Canon Form.Flat) (limits_of nesting words))
+        → IsGranted result }
+{
+    match copy_segments(alloc, Form::Flat, segments, Limits { nesting, words }, to) {
+        Ok(size) => {
+            *written = size;
+            0
+        }
+        Err(refusal) => {
+            *written = refusal.wanted_room();
+            refusal.number()
+        }
+    }
+}
+
+/// Like `capnp_canonical_check`, for a message that the caller passes as `segments`, without a
+/// frame.
+#[unsafe(no_mangle)]
+pub extern "C" fn capnp_canonical_segments_check(
+    segments: &[&[u8]],
+    nesting: i32,
+    words: u64,
+    is_canonical: &mut bool,
+    fault: &mut Fault,
+) -> u32
+    ensures done { result ≡ 0 → InSegments segments.now
+        (TestIs (limits_of nesting words) is_canonical.new fault.new) }
+    ensures refused { result ≢ 0 → IsNumberWhere result (λ r. RefusesSegments segments.now r
+        ⊎ InSegments segments.now
+        (λ S. RefusesMeaning Command.Check (limits_of nesting words) S r)) }
+    ensures none { result ≢ 0 → (is_canonical.new ≡ false) × (fault.new ≡ no_fault) }
+    ensures granted { InSegments segments.now
+        (HasAnswerWithin Command.Check (limits_of nesting words)) → result ≡ 0 }
+{
+    match check_segments(segments, Limits { nesting, words }) {
+        Ok(found) => {
+            *is_canonical = found.is_none();
+            *fault = Fault::of(found);
+            0
+        }
+        Err(refusal) => {
+            *is_canonical = false;
+            *fault = NO_FAULT;
+            refusal.number()
+        }
+    }
+}
+
+/// Like `capnp_canonical_size`, for a message that the caller passes as `segments`, without a
+/// frame.
+#[unsafe(no_mangle)]
+pub extern "C" fn capnp_canonical_segments_size(
+    segments: &[&[u8]],
+    nesting: i32,
+    words: u64,
+    word_count: &mut u64,
+    cap_count: &mut u32,
+) -> u32
+    ensures done { result ≡ 0 → InSegments segments.now
+        (λ S. HasSizeOf S (limits_of nesting words) word_count.new cap_count.new) }
+    ensures refused { result ≢ 0 → IsNumberWhere result (λ r. RefusesSegments segments.now r
+        ⊎ InSegments segments.now
+        (λ S. RefusesMeaning Command.Size (limits_of nesting words) S r)) }
+    ensures none { result ≢ 0 → (word_count.new ≡ 0) × (cap_count.new ≡ 0) }
+    ensures granted { InSegments segments.now
+        (HasAnswerWithin Command.Size (limits_of nesting words)) → result ≡ 0 }
+{
+    match size_segments(segments, Limits { nesting, words }) {
+        Ok(size) => {
+            *word_count = size.word_count;
+            *cap_count = size.cap_count;
+            0
+        }
+        Err(refusal) => {
+            *word_count = 0;
+            *cap_count = 0;
+            refusal.number()
+        }
+    }
+}
+
+/// Like `capnp_canonical_validate`, for the message of these segments.
+#[unsafe(no_mangle)]
+pub extern "C" fn capnp_canonical_segments_validate(
+    segments: &[&[u8]],
+    nesting: i32,
+    words: u64,
+    extent: &mut SoundMessage,
+) -> u32
+    ensures done { result ≡ 0 → InSegments segments.now
+        (ExtentIs (limits_of nesting words) extent.new) }
+    ensures refused { result ≢ 0 → IsNumberWhere result (λ r. RefusesSegments segments.now r
+        ⊎ InSegments segments.now (λ S. RefusesExtent (limits_of nesting words) S r)) }
+    ensures none { result ≢ 0 → extent.new ≡ no_extent }
+    ensures granted { InSegments segments.now (λ S. IsReadable S (limits_of nesting words))
+        → result ≡ 0 }
+{
+    match validate_segments(segments, Limits { nesting, words }) {
+        Ok(found) => {
+            *extent = found;
+            0
+        }
+        Err(refusal) => {
+            *extent = NOT_SOUND;
+            refusal.number()
+        }
+    }
+}
+
+/// Like `capnp_canonical_locate`, for the message of these segments.
+#[unsafe(no_mangle)]
+pub extern "C" fn capnp_canonical_segments_locate(
+    segments: &[&[u8]],
+    nesting: i32,
+    words: u64,
+    reading: u32,
+    pointer: &mut BrokenPointer,
+) -> u32
+    ensures done { result ≡ 0 → InSegments segments.now
+        (PointerIs reading (limits_of nesting words) pointer.new) }
+    ensures refused { result ≢ 0 → IsNumberWhere result (RefusesSegments segments.now) }
+    ensures none { result ≢ 0 → pointer.new ≡ no_pointer }
+    ensures granted { InSegments segments.now (λ _. ⊤) → result ≡ 0 }
+{
+    match locate_in_segments(segments, Limits { nesting, words }, reading) {
+        Ok(found) => {
+            *pointer = found;
+            0
+        }
+        Err(refusal) => {
+            *pointer = NO_POINTER;
+            refusal.number()
+        }
+    }
+}
+
+/// Like `capnp_canonical_digest`, for a message that the caller passes as `segments`, without a
+/// frame.
+#[unsafe(no_mangle)]
+pub extern "C" fn capnp_canonical_segments_digest(
+    alloc: Global,
+    segments: &[&[u8]],
+    nesting: i32,
+    words: u64,
+    digest: &mut [u8; 32],
+) -> u32
+    ensures done { result ≡ 0 → InSegments segments.now
+        (λ S. IsDigestOf S (limits_of nesting words) digest.new) }
+    ensures refused { result ≢ 0 → IsNumberWhere result (λ r. RefusesSegments segments.now r
+        ⊎ InSegments segments.now
+        (λ S. RefusesMeaning (Command.Canon Form.Flat) (limits_of nesting words) S r)) }
+    ensures none { result ≢ 0 → digest.new ≡ replicate 32 0 }
+    ensures granted { InSegments segments.now
+        (HasAnswerWithin (Command.Canon Form.Flat) (limits_of nesting words))
+        → (result ≡ 0) ⊎ (result ≡ 32) }
+{
+    match digest_segments(alloc, segments, Limits { nesting, words }) {
+        Ok(made) => {
+            *digest = made;
+            0
+        }
+        Err(refusal) => {
+            *digest = [0; 32];
+            refusal.number()
+        }
+    }
+}
