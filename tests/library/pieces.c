@@ -8,17 +8,9 @@
  * passed, M failed`: a count is one comparison. */
 #include "capnp_canonical.h"
 #include "blocks.h"
+#include "counted.h"
 
 enum { MOST = 1 << 15, PARTS = 20, RANDOM = 20000 };
-/* How often malloc and realloc were called, where they are wrapped. */
-static unsigned long blocks;
-
-#ifdef WRAP
-void *__real_malloc(size_t size);
-void *__real_realloc(void *block, size_t size);
-void *__wrap_malloc(size_t size) { return blocks++, __real_malloc(size); }
-void *__wrap_realloc(void *block, size_t size) { return blocks++, __real_realloc(block, size); }
-#endif
 
 static size_t least(size_t a, size_t b) {
     return a < b ? a : b;

@@ -9,21 +9,13 @@
 #define _DEFAULT_SOURCE
 #include "capnp_canonical.h"
 #include "blocks.h"
+#include "counted.h"
 #include <setjmp.h>
 #include <signal.h>
 #include <sys/mman.h>
 #include <unistd.h>
 
 enum { MOST = 1 << 15, RANDOM = 20000, RUNS = 1000, OVERLAPS = 100000 };
-/* How often malloc and realloc were called, where they are wrapped. */
-static unsigned long blocks;
-
-#ifdef WRAP
-void *__real_malloc(size_t size);
-void *__real_realloc(void *block, size_t size);
-void *__wrap_malloc(size_t size) { return blocks++, __real_malloc(size); }
-void *__wrap_realloc(void *block, size_t size) { return blocks++, __real_realloc(block, size); }
-#endif
 
 /* What packed bytes stand for, by the words of the specification; the size SIZE_MAX where they are cut. */
 static struct bytes wanted_of(struct bytes packed) {

@@ -40,6 +40,8 @@ extern crate std;
 
 mod answers;
 mod ffi;
+#[cfg(feature = "std")]
+mod incoming;
 mod looks;
 mod packed;
 #[cfg(feature = "std")]

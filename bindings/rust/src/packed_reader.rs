@@ -1,9 +1,9 @@
 //! The frames of a packed stream that is read as it comes.
 use crate::ffi::{self, RawUnpacking};
-use crate::reader::{PIECE, SMALLEST};
-use crate::{frame_size_from_prefix, Error, Frame};
+use crate::incoming::{read_some, Came, Incoming};
+use crate::{Error, Frame};
 use alloc::vec::Vec;
-use std::io::{self, ErrorKind, Read};
+use std::io::{self, Read};
 
 /// The most packed bytes that are read ahead.
 const AHEAD: usize = 1 << 16;
@@ -27,33 +27,35 @@ const AHEAD: usize = 1 << 16;
 /// ```
 #[derive(Debug)]
 pub struct PackedFrameReader<R> {
+    stream: Unpacked<R>,
+    incoming: Incoming,
+}
+
+/// The bytes that a packed stream stands for.
+#[derive(Debug)]
+struct Unpacked<R> {
     reader: R,
-    words: u64,
     unpacking: RawUnpacking,
     // The packed bytes that were read and not yet unpacked are from `first` to `end`.
     packed: Vec<u8>,
     first: usize,
     end: usize,
     packed_bytes: u64,
-    buffer: Vec<u8>,
-    message: u64,
-    byte: u64,
 }
 
 impl<R: Read> PackedFrameReader<R> {
     /// A reader of frames of at most `words` words each.
     pub fn new(reader: R, words: u64) -> Self {
         PackedFrameReader {
-            reader,
-            words,
-            unpacking: RawUnpacking::default(),
-            packed: Vec::new(),
-            first: 0,
-            end: 0,
-            packed_bytes: 0,
-            buffer: Vec::new(),
-            message: 0,
-            byte: 0,
+            stream: Unpacked {
+                reader,
+                unpacking: RawUnpacking::default(),
+                packed: Vec::new(),
+                first: 0,
+                end: 0,
+                packed_bytes: 0,
+            },
+            incoming: Incoming::new(words),
         }
     }
 
@@ -61,51 +63,41 @@ impl<R: Read> PackedFrameReader<R> {
     /// `Error::TRUNCATED` also if the stream ends before the count after a word. After an error, the reader isn't at the
     /// start of a frame any more.
     pub fn next_frame(&mut self) -> io::Result<Option<Frame<'_>>> {
-        self.message += 1;
-        let (mut held, mut wanted) = (0, SMALLEST);
-        while held < wanted {
-            let room = wanted.min(held + held.max(PIECE));
-            held += self.unpack(held, room);
-            if held < room && !self.read_more()? {
-                if held == 0 && self.is_unpacked() {
-                    return Ok(None);
-                }
-                return Err(self.refused(Error::TRUNCATED));
-            }
-            if held == wanted {
-                wanted = frame_size_from_prefix(&self.buffer[..held], self.words)
-                    .map_err(|error| self.refused(error))?;
-            }
+        let stream = &mut self.stream;
+        match self.incoming.next(|to| stream.read(to))? {
+            Came::Whole(size) => Ok(Some(self.incoming.frame(size))),
+            Came::Part(0) if self.stream.is_whole() => Ok(None),
+            Came::Part(_) => Err(self.incoming.refused(Error::TRUNCATED).into()),
+            Came::Refused(_, error) => Err(self.incoming.refused(error).into()),
         }
-        let frame = Frame {
-            bytes: &self.buffer[..held],
-            message: self.message,
-            byte: self.byte,
-        };
-        self.byte += held as u64;
-        Ok(Some(frame))
     }
 
     /// The number of packed bytes that the frames so far took.
     pub fn packed_bytes(&self) -> u64 {
-        self.packed_bytes
+        self.stream.packed_bytes
     }
 
     /// The reader that the stream comes from. Packed bytes that were read ahead are lost.
     pub fn into_inner(self) -> R {
-        self.reader
+        self.stream.reader
+    }
+}
+
+impl<R: Read> Unpacked<R> {
+    /// Unpacks bytes to the front of `to`, which isn't empty, and returns how many; 0 only at the end of the stream.
+    fn read(&mut self, to: &mut [u8]) -> io::Result<usize> {
+        loop {
+            let written = self.unpack(to);
+            if written > 0 || !self.read_more()? {
+                return Ok(written);
+            }
+        }
     }
 
-    /// Unpacks the bytes from `held` to `room` of the frame, or as many as the packed bytes stand for, and returns how
-    /// many that are.
-    fn unpack(&mut self, held: usize, room: usize) -> usize {
-        if self.buffer.len() < room {
-            self.buffer.resize(room, 0);
-        }
-        let (packed, to) = (
-            &self.packed[self.first..self.end],
-            &mut self.buffer[held..room],
-        );
+    /// Unpacks packed bytes that were read to the front of `to`, until `to` is full or none are left. Returns the number
+    /// of bytes written.
+    fn unpack(&mut self, to: &mut [u8]) -> usize {
+        let packed = &self.packed[self.first..self.end];
         let mut taken = 0;
         // SAFETY: the slices are pointers and their lengths, and they don't overlap.
         let written = unsafe {
@@ -123,27 +115,16 @@ impl<R: Read> PackedFrameReader<R> {
         written
     }
 
-    /// Reads packed bytes, if none are left. Returns whether some came.
+    /// Reads more packed bytes, over those that are unpacked. Returns whether some came.
     fn read_more(&mut self) -> io::Result<bool> {
         self.packed.resize(AHEAD, 0);
         (self.first, self.end) = (0, 0);
-        loop {
-            match self.reader.read(&mut self.packed) {
-                Err(error) if error.kind() == ErrorKind::Interrupted => {}
-                came => {
-                    self.end = came?;
-                    return Ok(self.end > 0);
-                }
-            }
-        }
+        self.end = read_some(&mut self.reader, &mut self.packed)?;
+        Ok(self.end > 0)
     }
 
     /// Whether the packed bytes so far may be all.
-    fn is_unpacked(&self) -> bool {
+    fn is_whole(&self) -> bool {
         self.unpacking.zeros == 0 && self.unpacking.place == 0
-    }
-
-    fn refused(&self, error: Error) -> io::Error {
-        error.at(self.message, self.byte).into()
     }
 }

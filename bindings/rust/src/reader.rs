@@ -1,12 +1,7 @@
 //! The frames of a stream that is read as it comes.
-use crate::{frame_size_from_prefix, looks_like, Error, Frame};
-use alloc::vec::Vec;
-use std::io::{self, ErrorKind, Read};
-
-/// The size in bytes of the smallest segment table.
-pub(crate) const SMALLEST: usize = 8;
-/// The room that is made before any byte has come.
-pub(crate) const PIECE: usize = 1 << 18;
+use crate::incoming::{read_some, Came, Incoming};
+use crate::{looks_like, Error, Frame};
+use std::io::{self, Read};
 
 /// The frames of a stream that is read as it comes, such as a socket or a file. Reads no byte after the frame that it
 /// returns, and makes room for at most as many bytes as have come, or for 256 KiB.
@@ -27,10 +22,7 @@ pub(crate) const PIECE: usize = 1 << 18;
 #[derive(Debug)]
 pub struct FrameReader<R> {
     reader: R,
-    words: u64,
-    buffer: Vec<u8>,
-    message: u64,
-    byte: u64,
+    incoming: Incoming,
 }
 
 impl<R: Read> FrameReader<R> {
@@ -38,48 +30,20 @@ impl<R: Read> FrameReader<R> {
     pub fn new(reader: R, words: u64) -> Self {
         FrameReader {
             reader,
-            words,
-            buffer: Vec::new(),
-            message: 0,
-            byte: 0,
+            incoming: Incoming::new(words),
         }
     }
 
     /// The next frame; `None` at the end of the stream. A refusal is an error with a `StreamError` inside. After an
     /// error, the reader isn't at the start of a frame any more.
     pub fn next_frame(&mut self) -> io::Result<Option<Frame<'_>>> {
-        self.message += 1;
-        let (mut held, mut wanted) = (0, SMALLEST);
-        while held < wanted {
-            let room = wanted.min(held + held.max(PIECE));
-            if self.buffer.len() < room {
-                self.buffer.resize(room, 0);
-            }
-            let came = match self.reader.read(&mut self.buffer[held..room]) {
-                Err(error) if error.kind() == ErrorKind::Interrupted => continue,
-                came => came?,
-            };
-            if came == 0 && held == 0 {
-                return Ok(None);
-            }
-            if came == 0 {
-                return Err(self.refused(Error::TRUNCATED, held));
-            }
-            held += came;
-            if held == wanted {
-                wanted = match frame_size_from_prefix(&self.buffer[..held], self.words) {
-                    Ok(size) => size,
-                    Err(error) => return Err(self.refused(error, held)),
-                };
-            }
+        let reader = &mut self.reader;
+        match self.incoming.next(|to| read_some(reader, to))? {
+            Came::Whole(size) => Ok(Some(self.incoming.frame(size))),
+            Came::Part(0) => Ok(None),
+            Came::Part(held) => Err(self.refused(Error::TRUNCATED, held)),
+            Came::Refused(held, error) => Err(self.refused(error, held)),
         }
-        let frame = Frame {
-            bytes: &self.buffer[..held],
-            message: self.message,
-            byte: self.byte,
-        };
-        self.byte += held as u64;
-        Ok(Some(frame))
     }
 
     /// The reader that the stream comes from.
@@ -89,8 +53,8 @@ impl<R: Read> FrameReader<R> {
 
     /// The error for a frame that has sent `held` bytes so far.
     fn refused(&self, error: Error, held: usize) -> io::Error {
-        let mut error = error.at(self.message, self.byte);
-        error.looks_like = looks_like(&self.buffer[..held]);
+        let mut error = self.incoming.refused(error);
+        error.looks_like = looks_like(self.incoming.prefix(held));
         error.into()
     }
 }

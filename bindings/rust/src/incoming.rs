@@ -1,0 +1,100 @@
+//! The frame of a stream whose bytes come piece by piece.
+use crate::{frame_size_from_prefix, Error, Frame, StreamError};
+use alloc::vec::Vec;
+use std::io::{self, ErrorKind, Read};
+
+/// The size in bytes of the smallest segment table.
+const SMALLEST: usize = 8;
+/// The room that is made before any byte has come.
+const PIECE: usize = 1 << 18;
+
+/// What came of a frame.
+pub(crate) enum Came {
+    /// All of it: this many bytes.
+    Whole(usize),
+    /// This many bytes, and then the end of the stream.
+    Part(usize),
+    /// This many bytes, which tell that it is refused.
+    Refused(usize, Error),
+}
+
+/// The frame that a reader of a stream holds, and where in the stream it is. Makes room for at most as many bytes as
+/// have come, or for 256 KiB.
+#[derive(Debug)]
+pub(crate) struct Incoming {
+    words: u64,
+    buffer: Vec<u8>,
+    message: u64,
+    byte: u64,
+}
+
+impl Incoming {
+    /// The start of a stream of frames of at most `words` words each.
+    pub(crate) fn new(words: u64) -> Self {
+        Incoming {
+            words,
+            buffer: Vec::new(),
+            message: 0,
+            byte: 0,
+        }
+    }
+
+    /// Reads the next frame. `read` works like `Read::read`: it writes bytes to the front of a slice, and returns how
+    /// many; 0 only at the end of the stream. It never gets more room than the frame has bytes left.
+    pub(crate) fn next(
+        &mut self,
+        mut read: impl FnMut(&mut [u8]) -> io::Result<usize>,
+    ) -> io::Result<Came> {
+        self.message += 1;
+        let (mut held, mut wanted) = (0, SMALLEST);
+        while held < wanted {
+            let room = wanted.min(held + held.max(PIECE));
+            if self.buffer.len() < room {
+                self.buffer.resize(room, 0);
+            }
+            let came = read(&mut self.buffer[held..room])?;
+            if came == 0 {
+                return Ok(Came::Part(held));
+            }
+            held += came;
+            if held == wanted {
+                match frame_size_from_prefix(&self.buffer[..held], self.words) {
+                    Ok(size) => wanted = size,
+                    Err(error) => return Ok(Came::Refused(held, error)),
+                }
+            }
+        }
+        Ok(Came::Whole(held))
+    }
+
+    /// The frame of `size` bytes that has come. The next one starts after it.
+    pub(crate) fn frame(&mut self, size: usize) -> Frame<'_> {
+        let byte = self.byte;
+        self.byte += size as u64;
+        Frame {
+            bytes: &self.buffer[..size],
+            message: self.message,
+            byte,
+        }
+    }
+
+    /// The first `held` bytes of the frame.
+    pub(crate) fn prefix(&self, held: usize) -> &[u8] {
+        &self.buffer[..held]
+    }
+
+    /// The error of the frame.
+    pub(crate) fn refused(&self, error: Error) -> StreamError {
+        error.at(self.message, self.byte)
+    }
+}
+
+/// Reads like `Read::read`, and again if it was interrupted.
+pub(crate) fn read_some(reader: &mut impl Read, to: &mut [u8]) -> io::Result<usize> {
+    loop {
+        match reader.read(to) {
+            Err(error) if error.kind() == ErrorKind::Interrupted => {}
+            came => return came,
+        }
+    }
+}
