@@ -275,7 +275,8 @@ uint32_t capnp_canonical_locate(const uint8_t *frame, size_t frame_size, int32_t
  * isn't there is refused, not taken as null.
  *
  * Reading the path and the part has the limits of the other calls. The rest of the message isn't read, so it needn't be
- * sound. The words of the part are those that the other calls give for a message with this value at its root. */
+ * sound. The words of the part are those that the other calls give for a message with this value at its root. 8 bytes,
+ * plus 8 for each word that capnp_canonical_size_at gives, are always enough for them. */
 uint32_t capnp_canonical_copy_flat_at(const uint8_t *frame, size_t frame_size, const uint32_t *path, size_t steps, int32_t nesting, uint64_t words, uint8_t *to, size_t room, size_t *written);
 
 uint32_t capnp_canonical_digest_at(const uint8_t *frame, size_t frame_size, const uint32_t *path, size_t steps, int32_t nesting, uint64_t words, uint8_t digest[32]);
@@ -294,8 +295,9 @@ uint32_t capnp_canonical_frame_size(const uint8_t *frame, size_t size, uint64_t 
  * for what has arrived, not for what is announced. */
 uint32_t capnp_canonical_frame_size_from_prefix(const uint8_t *prefix, size_t size, uint64_t words, size_t *bytes);
 
-/* copy, copy_flat, digest, check, size, validate and locate, for a message of `count` segments. There may be more segments than a frame can
- * have. If there are none there is no root, and the call is refused with CAPNP_CANONICAL_INVALID_SEGMENT_ID. */
+/* copy, copy_flat, digest, check, size, validate and locate, and the three calls for a part, for a message of `count`
+ * segments. There may be more segments than a frame can have. If there are none there is no root, and the call is refused
+ * with CAPNP_CANONICAL_INVALID_SEGMENT_ID. */
 uint32_t capnp_canonical_segments_copy(const struct capnp_canonical_segment *segments, size_t count, int32_t nesting, uint64_t words, uint8_t *to, size_t room, size_t *written);
 
 uint32_t capnp_canonical_segments_copy_flat(const struct capnp_canonical_segment *segments, size_t count, int32_t nesting, uint64_t words, uint8_t *to, size_t room, size_t *written);
@@ -309,6 +311,12 @@ uint32_t capnp_canonical_segments_size(const struct capnp_canonical_segment *seg
 uint32_t capnp_canonical_segments_validate(const struct capnp_canonical_segment *segments, size_t count, int32_t nesting, uint64_t words, struct capnp_canonical_extent *extent);
 
 uint32_t capnp_canonical_segments_locate(const struct capnp_canonical_segment *segments, size_t count, int32_t nesting, uint64_t words, uint32_t reading, struct capnp_canonical_pointer *pointer);
+
+uint32_t capnp_canonical_segments_copy_flat_at(const struct capnp_canonical_segment *segments, size_t count, const uint32_t *path, size_t steps, int32_t nesting, uint64_t words, uint8_t *to, size_t room, size_t *written);
+
+uint32_t capnp_canonical_segments_digest_at(const struct capnp_canonical_segment *segments, size_t count, const uint32_t *path, size_t steps, int32_t nesting, uint64_t words, uint8_t digest[32]);
+
+uint32_t capnp_canonical_segments_size_at(const struct capnp_canonical_segment *segments, size_t count, const uint32_t *path, size_t steps, int32_t nesting, uint64_t words, uint64_t *word_count, uint32_t *cap_count);
 
 /* The same, for a message given as the raw words that copy_flat writes: all `size` bytes at `message` are its one
  * segment. The copy is raw words too. If you pass a frame here, its bytes are read as raw words and mean another
@@ -325,6 +333,12 @@ uint32_t capnp_canonical_words_size(const uint8_t *message, size_t size, int32_t
 uint32_t capnp_canonical_words_validate(const uint8_t *message, size_t size, int32_t nesting, uint64_t words, struct capnp_canonical_extent *extent);
 
 uint32_t capnp_canonical_words_locate(const uint8_t *message, size_t size, int32_t nesting, uint64_t words, uint32_t reading, struct capnp_canonical_pointer *pointer);
+
+uint32_t capnp_canonical_words_copy_at(const uint8_t *message, size_t size, const uint32_t *path, size_t steps, int32_t nesting, uint64_t words, uint8_t *to, size_t room, size_t *written);
+
+uint32_t capnp_canonical_words_digest_at(const uint8_t *message, size_t size, const uint32_t *path, size_t steps, int32_t nesting, uint64_t words, uint8_t digest[32]);
+
+uint32_t capnp_canonical_words_size_at(const uint8_t *message, size_t size, const uint32_t *path, size_t steps, int32_t nesting, uint64_t words, uint64_t *word_count, uint32_t *cap_count);
 
 /* Unpacks all `packed_size` packed bytes to the front of the `room` bytes at `to`, and writes to `*written` how many
  * bytes they stand for, which are whole words. This turns what capnp::writePackedMessage, `capnp encode --packed` and
@@ -422,9 +436,9 @@ CAPNP_CANONICAL_INLINE bool capnp_canonical_words_is_canonical(const uint8_t *me
 }
 
 /* How many bytes are always enough for a copy within a traversal limit of `words`, as a frame or as raw words. The
- * message isn't looked at. For untrusted messages, set the limit to twice the words of the largest message that you accept. The size
- * of a message alone gives no bound: an object that several pointers lead to is copied for each of them, so the
- * canonical form may be larger than its message by any factor, up to this limit. */
+ * message isn't looked at. For untrusted messages, set the limit to twice the words of the largest message that you
+ * accept. The size of a message alone gives no bound: an object that several pointers lead to is copied for each of
+ * them, so the canonical form may be larger than its message by any factor, up to this limit. */
 CAPNP_CANONICAL_INLINE uint64_t capnp_canonical_bound(uint64_t words) {
     const uint64_t most = UINT64_C(536870911);
     return 8 + 8 * (words < most ? words : most);

@@ -403,9 +403,9 @@ private:
 };
 
 // A part of the message whose frame is at the front of some bytes. Its copies are raw words.
-class PartSource {
+class FramePart {
 public:
-    PartSource(Bytes stream, Path path, Limits limits)
+    FramePart(Bytes stream, Path path, Limits limits)
         : frame_(stream.data(), frame_size(stream, limits.words), stream.place()), path_(path), limits_(limits) {}
 
     std::size_t bytes() const noexcept { return frame_.size(); }
@@ -472,6 +472,36 @@ private:
     const capnp_canonical_segment* segments_;
     std::size_t count_;
     std::size_t bytes_;
+    Limits limits_;
+};
+
+// A part of a message of these segments.
+class SegmentPart {
+public:
+    SegmentPart(const Segments& segments, Path path, Limits limits) noexcept
+        : segments_(segments), path_(path), limits_(limits) {}
+
+    std::size_t bytes() const noexcept { return segments_.bytes(); }
+    Place place() const noexcept { return {}; }
+
+    std::uint32_t copy(Form, std::uint8_t* to, std::size_t room, std::size_t* written) const noexcept {
+        return capnp_canonical_segments_copy_flat_at(segments_.data(), segments_.size(), path_.data(), path_.size(),
+                                                     limits_.nesting, limits_.words, to, room, written);
+    }
+    std::uint32_t digest(std::uint8_t* to) const noexcept {
+        return capnp_canonical_segments_digest_at(segments_.data(), segments_.size(), path_.data(), path_.size(),
+                                                  limits_.nesting, limits_.words, to);
+    }
+    std::uint32_t size(std::uint64_t* words, std::uint32_t* capabilities) const noexcept {
+        return capnp_canonical_segments_size_at(segments_.data(), segments_.size(), path_.data(), path_.size(),
+                                                limits_.nesting, limits_.words, words, capabilities);
+    }
+    // Not known: a refusal may be of the path.
+    std::optional<Pointer> refused(std::uint32_t) const noexcept { return std::nullopt; }
+
+private:
+    const Segments& segments_;
+    Path path_;
     Limits limits_;
 };
 
@@ -684,13 +714,22 @@ inline Extent validate(const Segments& segments, Limits limits = {}) {
 // copy_flat, digest and size for a part of a message: the value of the pointer at the end of a path. If
 // the path leads to no pointer, throws Error with CAPNP_CANONICAL_NO_SUCH_PLACE.
 inline std::vector<std::uint8_t> copy_flat_at(Bytes frame, Path path, Limits limits = {}) {
-    return detail::copy_of(detail::PartSource(frame, path, limits), detail::Form::flat);
+    return detail::copy_of(detail::FramePart(frame, path, limits), detail::Form::flat);
+}
+inline std::vector<std::uint8_t> copy_flat_at(const Segments& segments, Path path, Limits limits = {}) {
+    return detail::copy_of(detail::SegmentPart(segments, path, limits), detail::Form::flat);
 }
 [[nodiscard]] inline Digest digest_at(Bytes frame, Path path, Limits limits = {}) {
-    return detail::digest_of(detail::PartSource(frame, path, limits));
+    return detail::digest_of(detail::FramePart(frame, path, limits));
+}
+[[nodiscard]] inline Digest digest_at(const Segments& segments, Path path, Limits limits = {}) {
+    return detail::digest_of(detail::SegmentPart(segments, path, limits));
 }
 inline Size size_at(Bytes frame, Path path, Limits limits = {}) {
-    return detail::size_of(detail::PartSource(frame, path, limits));
+    return detail::size_of(detail::FramePart(frame, path, limits));
+}
+inline Size size_at(const Segments& segments, Path path, Limits limits = {}) {
+    return detail::size_of(detail::SegmentPart(segments, path, limits));
 }
 
 // The same, for a message passed as raw words: all of the bytes are its one segment, and its copy is raw words too.
@@ -704,6 +743,15 @@ inline std::vector<std::uint8_t> words_copy(Bytes words, Limits limits = {}) {
 }
 inline Size words_size(Bytes words, Limits limits = {}) { return size(Segments{words}, limits); }
 inline Extent words_validate(Bytes words, Limits limits = {}) { return validate(Segments{words}, limits); }
+inline std::vector<std::uint8_t> words_copy_at(Bytes words, Path path, Limits limits = {}) {
+    return copy_flat_at(Segments{words}, path, limits);
+}
+[[nodiscard]] inline Digest words_digest_at(Bytes words, Path path, Limits limits = {}) {
+    return digest_at(Segments{words}, path, limits);
+}
+inline Size words_size_at(Bytes words, Path path, Limits limits = {}) {
+    return size_at(Segments{words}, path, limits);
+}
 
 // Unpacks what capnp::writePackedMessage writes: the frames of one or more messages, which the calls above take, and
 // Frames one by one. Two packed bytes stand for up to 2,048. If there are more words than the limit, this throws Error

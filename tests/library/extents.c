@@ -6,14 +6,9 @@
  * The last line is `N passed, M failed`: a count is one comparison. */
 #include "capnp_canonical.h"
 #include "blocks.h"
+#include "messages.h"
 
-enum { MOST_SEGMENTS = 512, LINE = 1 << 20 };
-
-static int is_named(uint32_t answer, const char *name) {
-    char text[CAPNP_CANONICAL_TEXT_ROOM];
-    capnp_canonical_name(answer, text, sizeof text);
-    return answer == CAPNP_CANONICAL_DONE ? strcmp(name, "Done") == 0 : strcmp(text, name) == 0;
-}
+enum { LINE = 1 << 20 };
 
 static int is_same(const struct capnp_canonical_extent *a, const struct capnp_canonical_extent *b) {
     return a->words == b->words && a->capabilities == b->capabilities && a->cost == b->cost && a->depth == b->depth;
@@ -26,20 +21,11 @@ static struct capnp_canonical_extent unwritten(void) {
     return extent;
 }
 
-static uint32_t number_at(const uint8_t *at) {
-    return at[0] | (uint32_t)at[1] << 8 | (uint32_t)at[2] << 16 | (uint32_t)at[3] << 24;
-}
-
 /* The message as segments, and as raw words if there is only one. */
 static void test_segments(struct bytes frame, const char *answer, const struct capnp_canonical_extent *wanted) {
     struct capnp_canonical_segment segments[MOST_SEGMENTS];
-    size_t count = (size_t)number_at(frame.at) + 1, at = (4 * count + 4 + 7) / 8 * 8;
-    if (count > MOST_SEGMENTS) return;
-    for (size_t id = 0; id < count; id++) {
-        segments[id].bytes = frame.at + at;
-        segments[id].size = (size_t)number_at(frame.at + 4 + 4 * id) * 8;
-        at += segments[id].size;
-    }
+    size_t count = segments_of(frame.at, segments);
+    if (count == 0) return;
     struct capnp_canonical_extent found = unwritten();
     expect(is_named(capnp_canonical_segments_validate(segments, count, CAPNP_CANONICAL_NESTING, CAPNP_CANONICAL_WORDS, &found), answer), "the answer for segments");
     expect(is_same(&found, wanted), "the extent of segments");

@@ -22,7 +22,7 @@ VERSIONS = {
     'bindings/rust/capnp/Cargo.toml': r'^version = "(.*)"$', 'share/capnp_canon.1': r'"capnp_canon (.*)"$',
 }
 # The files of the repository that the package for cargo has a copy of.
-PACKAGED = {'LICENSE': 'LICENSE', **{f'tests/{it}': f'tests/library/{it}' for it in ('messages.txt', 'packed.txt', 'streams.txt')}}
+PACKAGED = {'LICENSE': 'LICENSE', **{f'tests/{it}': f'tests/library/{it}' for it in ('messages.txt', 'packed.txt', 'parts.txt', 'streams.txt')}}
 
 
 def in_capitals(name):

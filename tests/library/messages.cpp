@@ -428,6 +428,18 @@ void test_packed_frame_reader(const std::string& file) {
     require(count == 18, std::to_string(count) + " rows");
 }
 
+// A part of a message that is given as its segments or, if there is only one, also as raw words.
+void test_part_of(const Segments& segments, capnp_canonical::Path path, const std::string& copied, const std::string& hashed, const std::string& what) {
+    require_same(what + " of segments, copied", answer([&] { return digits_of(capnp_canonical::copy_flat_at(segments, path)); }), copied);
+    require_same(what + " of segments, hashed", answer([&] { return digits_of(capnp_canonical::digest_at(segments, path)); }), hashed);
+    const std::string measured = answer([&] { return std::to_string(capnp_canonical::size_at(segments, path).words); });
+    if (segments.size() != 1) return;
+    const capnp_canonical::Bytes words(segments.data()->bytes, segments.data()->size);
+    require_same(what + " of raw words, copied", answer([&] { return digits_of(capnp_canonical::words_copy_at(words, path)); }), copied);
+    require_same(what + " of raw words, hashed", answer([&] { return digits_of(capnp_canonical::words_digest_at(words, path)); }), hashed);
+    require_same(what + " of raw words, measured", answer([&] { return std::to_string(capnp_canonical::words_size_at(words, path).words); }), measured);
+}
+
 // Parts of messages: rows of parts.txt, which says what they are.
 void test_parts(const std::string& file) {
     std::ifstream rows(file);
@@ -444,7 +456,11 @@ void test_parts(const std::string& file) {
         const bool done = wanted == "Done";
         require_same(name + ", copied", answer([&] { return digits_of(capnp_canonical::copy_flat_at(bytes, indexes)); }), done ? flat : wanted);
         require_same(name + ", hashed", answer([&] { return digits_of(capnp_canonical::digest_at(bytes, indexes)); }), done ? digest : wanted);
-        if (done) require(8 * capnp_canonical::size_at(bytes, indexes).words + 8 >= bytes_of(flat).size(), name + ", measured");
+        const std::string measured = answer([&] { return std::to_string(capnp_canonical::size_at(bytes, indexes).words); });
+        if (done) require(8 * std::stoull(measured) + 8 >= bytes_of(flat).size(), name + ", measured");
+        const Segments segments = segments_in(bytes);
+        require_same(name + " of segments, measured", answer([&] { return std::to_string(capnp_canonical::size_at(segments, indexes).words); }), measured);
+        test_part_of(segments, indexes, done ? flat : wanted, done ? digest : wanted, name);
         count++;
     }
     require(count > 60, "too few parts");

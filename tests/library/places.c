@@ -6,8 +6,9 @@
  * The last line is `N passed, M failed`: a count is one comparison. */
 #include "capnp_canonical.h"
 #include "blocks.h"
+#include "messages.h"
 
-enum { MOST_SEGMENTS = 512, LINE = 1 << 20 };
+enum { LINE = 1 << 20 };
 
 static int is_as_wanted(uint32_t answer, const struct capnp_canonical_pointer *found, const char *name, const struct capnp_canonical_pointer *wanted) {
     char text[CAPNP_CANONICAL_TEXT_ROOM] = "Done";
@@ -22,25 +23,16 @@ static struct capnp_canonical_pointer unwritten(void) {
     return pointer;
 }
 
-static uint32_t number_at(const uint8_t *at) {
-    return at[0] | (uint32_t)at[1] << 8 | (uint32_t)at[2] << 16 | (uint32_t)at[3] << 24;
-}
-
 static void test_message(struct bytes frame, int32_t nesting, uint64_t words, uint32_t reading, const char *name, const struct capnp_canonical_pointer *wanted) {
     struct capnp_canonical_segment segments[MOST_SEGMENTS];
     struct capnp_canonical_pointer found = unwritten();
-    size_t count = (size_t)number_at(frame.at) + 1, at = (4 * count + 4 + 7) / 8 * 8;
+    size_t count = segments_of(frame.at, segments);
     /* the limit on words holds for the frame too */
     if (words >= frame.size / 8) {
         uint32_t answer = capnp_canonical_locate(frame.at, frame.size, nesting, words, reading, &found);
         expect(is_as_wanted(answer, &found, name, wanted), "the pointer of a frame");
     }
-    if (count > MOST_SEGMENTS) return;
-    for (size_t id = 0; id < count; id++) {
-        segments[id].bytes = frame.at + at;
-        segments[id].size = (size_t)number_at(frame.at + 4 + 4 * id) * 8;
-        at += segments[id].size;
-    }
+    if (count == 0) return;
     found = unwritten();
     uint32_t answer = capnp_canonical_segments_locate(segments, count, nesting, words, reading, &found);
     expect(is_as_wanted(answer, &found, name, wanted), "the pointer of segments");

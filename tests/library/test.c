@@ -7,8 +7,8 @@
  * last line is `N passed, M failed`: a count is one comparison. */
 #include "capnp_canonical.h"
 #include "blocks.h"
+#include "messages.h"
 
-enum { MOST_SEGMENTS = 512 };
 static const int32_t NESTING = CAPNP_CANONICAL_NESTING;
 static const uint64_t WORDS = CAPNP_CANONICAL_WORDS;
 
@@ -46,14 +46,6 @@ void *__wrap_realloc(void *block, size_t size) { return is_refused() ? NULL : __
 static int are_same(const uint8_t *one, size_t size, struct bytes other) {
     return size == other.size && (size == 0 || memcmp(one, other.at, size) == 0);
 }
-
-static int is_named(uint32_t answer, const char *name) {
-    char text[CAPNP_CANONICAL_TEXT_ROOM];
-    capnp_canonical_name(answer, text, sizeof text);
-    return answer == CAPNP_CANONICAL_DONE ? strcmp(name, "Done") == 0 : strcmp(text, name) == 0;
-}
-
-static uint32_t number_at(const uint8_t *from) { return from[0] | from[1] << 8 | from[2] << 16 | (uint32_t)from[3] << 24; }
 
 /* The segments of a whole frame, each at an odd address of a block of its own where `odd` is 1. */
 static void take_apart(struct bytes frame, struct parts *parts, int odd) {

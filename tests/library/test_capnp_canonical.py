@@ -108,16 +108,24 @@ class Parts(unittest.TestCase):
     def test_parts(self):
         lines = [line.split() for line in PARTS.read_text().splitlines() if not line.startswith('#')]
         self.assertEqual(len(lines), 66)
+        module = capnp_canonical
+        of_frames = module.copy_flat_at, module.digest_at, module.size_at
+        of_segments = module.segments_copy_flat_at, module.segments_digest_at, module.segments_size_at
+        of_words = module.words_copy_at, module.words_digest_at, module.words_size_at
         for name, frame, path, wanted, flat, digest in lines:
             given, indexes = bytes.fromhex(frame), [int(it) for it in path.strip('-').split('.') if it]
-            with self.subTest(name, path=path):
-                done = wanted == 'Done'
-                self.assertEqual(answer(bytes.hex, capnp_canonical.copy_flat_at, given, indexes), flat if done else wanted)
-                self.assertEqual(answer(bytes.hex, capnp_canonical.digest_at, given, indexes), digest if done else wanted)
-                if done:
-                    self.assertGreaterEqual(8 + 8 * capnp_canonical.size_at(given, indexes).words, len(flat) // 2)
-                else:
-                    self.assertEqual(answer(size_text, capnp_canonical.size_at, given, indexes), wanted)
+            segments = list(segments_in(given))
+            messages = [(given, of_frames), (segments, of_segments)] + [(it, of_words) for it in segments if len(segments) == 1]
+            for message, (copy, hash, size) in messages:
+                with self.subTest(name, path=path, call=copy.__name__):
+                    done = wanted == 'Done'
+                    self.assertEqual(answer(bytes.hex, copy, message, indexes), flat if done else wanted)
+                    self.assertEqual(answer(bytes.hex, hash, message, indexes), digest if done else wanted)
+                    if done:
+                        self.assertGreaterEqual(8 + 8 * size(message, indexes).words, len(flat) // 2)
+                        self.assertEqual(size(message, indexes), module.size_at(given, indexes))
+                    else:
+                        self.assertEqual(answer(size_text, size, message, indexes), wanted)
 
     def test_paths(self):
         self.assertEqual(capnp_canonical.copy_flat_at(SHARED, ()), SHARED_FLAT)

@@ -135,9 +135,11 @@ def _written_of_frame(
         return _written(call, given, limits, size + 8, reading)
 
 
-def _written_of_segments(call: _Call, segments: Iterable[ReadableBuffer], limits: Limits) -> bytes:
+def _written_of_segments(
+    call: _Call, segments: Iterable[ReadableBuffer], limits: Limits, reading: _Reading = _CANONICAL
+) -> bytes:
     with _segments(segments) as given:
-        return _written(call, given, limits, given.size + 8, _CANONICAL)
+        return _written(call, given, limits, given.size + 8, reading)
 
 
 def _must_be_apart(to: Lent, given: _Given) -> None:
@@ -300,6 +302,21 @@ def segments_digest(segments: Iterable[ReadableBuffer], limits: Limits = LIMITS)
     return _digest(library.capnp_canonical_segments_digest, _segments(segments), limits)
 
 
+def segments_copy_flat_at(segments: Iterable[ReadableBuffer], path: Iterable[int], limits: Limits = LIMITS) -> bytes:
+    """Like `copy_flat_at`, for a message of these segments."""
+    return _written_of_segments(_at(library.capnp_canonical_segments_copy_flat_at, path), segments, limits, None)
+
+
+def segments_digest_at(segments: Iterable[ReadableBuffer], path: Iterable[int], limits: Limits = LIMITS) -> bytes:
+    """Like `digest_at`, for a message of these segments."""
+    return _digest(_at(library.capnp_canonical_segments_digest_at, path), _segments(segments), limits, None)
+
+
+def segments_size_at(segments: Iterable[ReadableBuffer], path: Iterable[int], limits: Limits = LIMITS) -> Size:
+    """Like `size_at`, for a message of these segments."""
+    return _sized(_at(library.capnp_canonical_segments_size_at, path), _segments(segments), limits, None)
+
+
 def segments_check(segments: Iterable[ReadableBuffer], limits: Limits = LIMITS) -> Optional[Fault]:
     """Like `check`, for a message of these segments."""
     return _checked(library.capnp_canonical_segments_check, _segments(segments), limits)
@@ -328,6 +345,21 @@ def words_copy(words: ReadableBuffer, limits: Limits = LIMITS) -> bytes:
 def words_digest(words: ReadableBuffer, limits: Limits = LIMITS) -> bytes:
     """Like `digest`, for a message passed as raw words."""
     return segments_digest([words], limits)
+
+
+def words_copy_at(words: ReadableBuffer, path: Iterable[int], limits: Limits = LIMITS) -> bytes:
+    """Like `copy_flat_at`, for a message passed as raw words."""
+    return segments_copy_flat_at([words], path, limits)
+
+
+def words_digest_at(words: ReadableBuffer, path: Iterable[int], limits: Limits = LIMITS) -> bytes:
+    """Like `digest_at`, for a message passed as raw words."""
+    return segments_digest_at([words], path, limits)
+
+
+def words_size_at(words: ReadableBuffer, path: Iterable[int], limits: Limits = LIMITS) -> Size:
+    """Like `size_at`, for a message passed as raw words."""
+    return segments_size_at([words], path, limits)
 
 
 def words_check(words: ReadableBuffer, limits: Limits = LIMITS) -> Optional[Fault]:

@@ -111,18 +111,14 @@ def _load() -> ctypes.CDLL:
         ('locate', [u32, pointer(RawPointer)]),
     )
     messages: Any = ('', at), ('segments_', pointer(RawSegment))
+    parts = 'copy_flat', 'digest', 'size'
     for message, first in messages:
         for call, outputs in calls:
             function = getattr(library, f'capnp_canonical_{message}{call}')
             function.argtypes, function.restype = [first, size, *limits, *outputs], u32
-    parts: Any = (
-        ('copy_flat_at', [at, size, pointer(size)]),
-        ('digest_at', [ctypes.c_char_p]),
-        ('size_at', [pointer(u64), pointer(u32)]),
-    )
-    for call, outputs in parts:
-        function = getattr(library, f'capnp_canonical_{call}')
-        function.argtypes, function.restype = [at, size, pointer(u32), size, *limits, *outputs], u32
+            if call in parts:
+                function = getattr(library, f'capnp_canonical_{message}{call}_at')
+                function.argtypes, function.restype = [first, size, pointer(u32), size, *limits, *outputs], u32
     others: Any = (
         ('frame_size', [at, size, u64, pointer(size)], u32),
         ('frame_size_from_prefix', [ctypes.c_char_p, size, u64, pointer(size)], u32),

@@ -62,6 +62,9 @@ extern "C" {
     pub fn capnp_canonical_segments_digest(segments: *const RawSegment, count: usize, nesting: i32, words: u64, digest: *mut u8) -> u32;
     pub fn capnp_canonical_segments_check(segments: *const RawSegment, count: usize, nesting: i32, words: u64, is_canonical: *mut bool, fault: *mut RawFault) -> u32;
     pub fn capnp_canonical_segments_size(segments: *const RawSegment, count: usize, nesting: i32, words: u64, word_count: *mut u64, cap_count: *mut u32) -> u32;
+    pub fn capnp_canonical_segments_copy_flat_at(segments: *const RawSegment, count: usize, path: *const u32, steps: usize, nesting: i32, words: u64, to: *mut u8, room: usize, written: *mut usize) -> u32;
+    pub fn capnp_canonical_segments_digest_at(segments: *const RawSegment, count: usize, path: *const u32, steps: usize, nesting: i32, words: u64, digest: *mut u8) -> u32;
+    pub fn capnp_canonical_segments_size_at(segments: *const RawSegment, count: usize, path: *const u32, steps: usize, nesting: i32, words: u64, word_count: *mut u64, cap_count: *mut u32) -> u32;
     pub fn capnp_canonical_unpack(packed: *const u8, packed_size: usize, to: *mut u8, room: usize, written: *mut usize) -> u32;
     #[cfg(feature = "std")]
     pub fn capnp_canonical_unpack_piece(unpacking: *mut RawUnpacking, packed: *const u8, packed_size: usize, to: *mut u8, room: usize, taken: *mut usize) -> usize;

@@ -148,6 +148,80 @@ pub fn digest<S: Segments + ?Sized>(segments: &S, limits: Limits) -> Result<[u8;
     })
 }
 
+/// Makes a part of the message canonical, and returns its raw words, like `canonical_words_at` of the crate.
+pub fn canonical_words_at<S: Segments + ?Sized>(
+    segments: &S,
+    path: &[u32],
+    limits: Limits,
+) -> Result<Vec<u8>, Error> {
+    let raw = Raw::of(segments)?;
+    let mut words = Vec::new();
+    append(&mut words, raw.bytes.min(4096), |to, room, written| {
+        // SAFETY: the segments and the path are pointers and lengths, and `to` has this room.
+        unsafe {
+            ffi::capnp_canonical_segments_copy_flat_at(
+                raw.segments.as_ptr(),
+                raw.segments.len(),
+                path.as_ptr(),
+                path.len(),
+                limits.nesting,
+                limits.words,
+                to,
+                room,
+                written,
+            )
+        }
+    })?;
+    Ok(words)
+}
+
+/// The SHA-256 of the bytes that [`canonical_words_at`] returns.
+pub fn digest_at<S: Segments + ?Sized>(
+    segments: &S,
+    path: &[u32],
+    limits: Limits,
+) -> Result<[u8; 32], Error> {
+    let raw = Raw::of(segments)?;
+    digest_of(|to| {
+        // SAFETY: the segments and the path are pointers and lengths, and `to` has room for 32 bytes.
+        unsafe {
+            ffi::capnp_canonical_segments_digest_at(
+                raw.segments.as_ptr(),
+                raw.segments.len(),
+                path.as_ptr(),
+                path.len(),
+                limits.nesting,
+                limits.words,
+                to,
+            )
+        }
+    })
+}
+
+/// The size of the part of the message that [`canonical_words_at`] copies.
+pub fn size_at<S: Segments + ?Sized>(
+    segments: &S,
+    path: &[u32],
+    limits: Limits,
+) -> Result<Size, Error> {
+    let raw = Raw::of(segments)?;
+    size_of(|words, capabilities| {
+        // SAFETY: the segments and the path are pointers and lengths.
+        unsafe {
+            ffi::capnp_canonical_segments_size_at(
+                raw.segments.as_ptr(),
+                raw.segments.len(),
+                path.as_ptr(),
+                path.len(),
+                limits.nesting,
+                limits.words,
+                words,
+                capabilities,
+            )
+        }
+    })
+}
+
 /// Says why and where the message isn't canonical; `None` if it is: one segment that holds the canonical words of a
 /// value and nothing else.
 pub fn check<S: Segments + ?Sized>(segments: &S, limits: Limits) -> Result<Option<Fault>, Error> {

@@ -25,6 +25,25 @@ pub fn digest(words: impl AsRef<[u8]>, limits: Limits) -> Result<[u8; 32], Error
     segments::digest(&[words], limits)
 }
 
+/// Makes a part of the value canonical, and returns its raw words, like `canonical_words_at` of the crate.
+pub fn canonical_words_at(
+    words: impl AsRef<[u8]>,
+    path: &[u32],
+    limits: Limits,
+) -> Result<Vec<u8>, Error> {
+    segments::canonical_words_at(&[words], path, limits)
+}
+
+/// The SHA-256 of the bytes that [`canonical_words_at`] returns.
+pub fn digest_at(words: impl AsRef<[u8]>, path: &[u32], limits: Limits) -> Result<[u8; 32], Error> {
+    segments::digest_at(&[words], path, limits)
+}
+
+/// The size of the part of the value that [`canonical_words_at`] copies.
+pub fn size_at(words: impl AsRef<[u8]>, path: &[u32], limits: Limits) -> Result<Size, Error> {
+    segments::size_at(&[words], path, limits)
+}
+
 /// Says why and where the words aren't canonical; `None` if they are the canonical words of a value and nothing else.
 pub fn check(words: impl AsRef<[u8]>, limits: Limits) -> Result<Option<Fault>, Error> {
     segments::check(&[words], limits)

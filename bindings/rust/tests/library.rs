@@ -9,6 +9,7 @@ use std::fs;
 
 const MESSAGES: &str = concat!(env!("CARGO_MANIFEST_DIR"), "/tests/messages.txt");
 const PACKED: &str = concat!(env!("CARGO_MANIFEST_DIR"), "/tests/packed.txt");
+const PARTS: &str = concat!(env!("CARGO_MANIFEST_DIR"), "/tests/parts.txt");
 const STREAMS: &str = concat!(env!("CARGO_MANIFEST_DIR"), "/tests/streams.txt");
 /// A struct of three words, of which the last is zero.
 const ZERO_WORD: &str =
@@ -584,6 +585,75 @@ fn parts_are_copied() {
         assert_eq!(digest_at(&frame, path, limits), Err(nowhere));
         assert_eq!(size_at(&frame, path, limits).err(), Some(nowhere));
     }
+}
+
+/// What the calls for a part of a message give: its words, their digest, and its size.
+type Part = (
+    Result<Vec<u8>, Error>,
+    Result<[u8; 32], Error>,
+    Result<Size, Error>,
+);
+
+/// The part of a frame, of its segments, and of the words of its only segment.
+fn parts_at(frame: &[u8], path: &[u32]) -> Vec<Part> {
+    let limits = Limits::default();
+    let parts = segments_in(frame);
+    let mut found = vec![
+        (
+            canonical_words_at(frame, path, limits),
+            digest_at(frame, path, limits),
+            size_at(frame, path, limits),
+        ),
+        (
+            segments::canonical_words_at(&parts, path, limits),
+            segments::digest_at(&parts, path, limits),
+            segments::size_at(&parts, path, limits),
+        ),
+    ];
+    if let [it] = parts[..] {
+        found.push((
+            words::canonical_words_at(it, path, limits),
+            words::digest_at(it, path, limits),
+            words::size_at(it, path, limits),
+        ));
+    }
+    found
+}
+
+#[test]
+fn parts() -> Tested {
+    let text = fs::read_to_string(PARTS)?;
+    let mut count = 0;
+    for line in text.lines().filter(|line| !line.starts_with('#')) {
+        let [name, frame, path, wanted, flat, hash] = line
+            .split(' ')
+            .collect::<Vec<_>>()
+            .try_into()
+            .map_err(|_| format!("not six words: {line}"))?;
+        let place = format!("{name} {path}");
+        let path = path
+            .split_terminator(['.', '-'])
+            .filter(|it| !it.is_empty())
+            .map(str::parse)
+            .collect::<Result<Vec<u32>, _>>()?;
+        for (copied, hashed, measured) in parts_at(&bytes_of(frame), &path) {
+            let name = answer(copied.clone(), |_| "Done".into());
+            assert_eq!(name, wanted, "{place}");
+            assert_eq!(copied.unwrap_or_default(), bytes_of(flat), "{place}");
+            assert_eq!(answer(hashed, |_| "Done".into()), wanted, "{place}");
+            assert_eq!(
+                hashed.map(Vec::from).unwrap_or_default(),
+                bytes_of(hash),
+                "{place}"
+            );
+            assert_eq!(answer(measured, |_| "Done".into()), wanted, "{place}");
+            let words = measured.map_or(0, |size| size.words);
+            assert!(8 * words + 8 >= bytes_of(flat).len() as u64, "{place}");
+        }
+        count += 1;
+    }
+    assert_eq!(count, 66);
+    Ok(())
 }
 
 #[test]

@@ -1,5 +1,6 @@
 pub mod FrameLemmas
 pub mod NumberLemmas
 pub mod CallLemmas
+pub mod PartSizeLemmas
 pub mod PartLemmas
 pub mod ExtentLemmas

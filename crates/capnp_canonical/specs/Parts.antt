@@ -1,5 +1,5 @@
 -- What a call returns for a part of a message, and why it is refused.
-use Rattle.std.specs.Prelude.{◌≡◌, ◌⊎◌, ℕ, ◌+◌, ◌<◌, ◌≤◌, List, Ok, Err, length}
+use Rattle.std.specs.Prelude.{◌≡◌, ◌⊎◌, ℕ, ◌+◌, ◌<◌, ◌≤◌, List, Ok, Err, IsOk, length}
 use Rattle.capnp_words.specs.declared.error.ErrorKind.{ErrorKind}
 use Rattle.capnp_words.specs.declared.error.ErrorKind.TheVariants.{AllocationFailed}
 use Rattle.capnp_format.specs.Canonical.{encoding, trim, word_count}
@@ -41,6 +41,10 @@ RefusesPartRoom limits path room S r =
 abbrev pub HasPartSize : ReaderOptions → List ℕ → Segments → ℕ → ℕ → Type 0
 HasPartSize limits path S words caps =
     part_size S limits path ≡ Ok (record { word_count = words; cap_count = caps })
+
+-- The part has a size within the limits.
+abbrev pub HasPartSizeWithin : ReaderOptions → List ℕ → Segments → Type 0
+HasPartSizeWithin limits path S = IsOk (part_size S limits path)
 
 -- The size of a part is refused.
 abbrev pub RefusesPartSize : ReaderOptions → List ℕ → Segments → Refusal → Type 0

@@ -1,13 +1,16 @@
-//! The functions for C that work on a part of a message: on the value of the pointer to which a path
-//! leads.
-ghost use Rattle.std.specs.Prelude.{◌≡◌, ◌≢◌, ◌⊎◌, length, replicate, take, drop};
+//! The functions for C that work on a part of a message: on the value of the pointer to which a
+//! path leads.
+ghost use Rattle.std.specs.Prelude.{◌≡◌, ◌≢◌, ◌⊎◌, ◌≤◌, ◌+◌, ◌*◌, ℕ, length, replicate, take, drop};
 ghost use Rattle.capnp_messages.specs.MessageParts.{IsDigestOfPart};
-ghost use Rattle.capnp_canonical.specs.Calls.{FillsByNumber, InFrame, IsGranted, IsNumberWhere, RefusesBytes, limits_of};
-ghost use Rattle.capnp_canonical.specs.Parts.{HasPart, HasPartSize, IsCopyOfPart, RefusesPartOf, RefusesPartRoom, RefusesPartSize};
+ghost use Rattle.capnp_canonical.specs.Calls.{FillsByNumber, InFrame, InSegments, InWords, IsGranted, IsNumberWhere, RefusesBytes, RefusesSegment, RefusesSegments, limits_of};
+ghost use Rattle.capnp_canonical.specs.Parts.{HasPart, HasPartSize, HasPartSizeWithin, IsCopyOfPart, RefusesPartOf, RefusesPartRoom, RefusesPartSize};
 ghost use Rattle.capnp_canonical.specs.Numbers.{wanted_room};
 
 use crate::calls::Limits;
-use crate::parts::{copy_frame_part, digest_frame_part, size_frame_part};
+use crate::parts::{
+    copy_frame_part, copy_segments_part, copy_words_part, digest_frame_part, digest_segments_part,
+    digest_words_part, size_frame_part, size_segments_part, size_words_part,
+};
 use std::alloc::Global;
 
 /// Makes the canonical copy of a part of the message whose frame is at the front of `frame`: of the
@@ -40,6 +43,9 @@ pub extern "C" fn capnp_canonical_copy_flat_at(
         (λ S. RefusesPartRoom (limits_of nesting words) path.now (length to.old) S r))) }
     ensures granted { InFrame frame.now words (HasPart (limits_of nesting words) path.now)
         → IsGranted result }
+    ensures enough { (n caps : ℕ) → InFrame frame.now words
+        (λ S. HasPartSize (limits_of nesting words) path.now S n caps)
+        → 8 + 8 * n ≤ length to.old → result ≢ 1 }
 {
     match copy_frame_part(alloc, frame, path, Limits { nesting, words }, to) {
         Ok(size) => {
@@ -102,8 +108,202 @@ pub extern "C" fn capnp_canonical_size_at(
     ensures refused { result ≢ 0 → IsNumberWhere result (λ r. RefusesBytes frame.now words r
         ⊎ InFrame frame.now words (λ S. RefusesPartSize (limits_of nesting words) path.now S r)) }
     ensures none { result ≢ 0 → (word_count.new ≡ 0) × (cap_count.new ≡ 0) }
+    ensures granted { InFrame frame.now words (HasPartSizeWithin (limits_of nesting words) path.now)
+        → result ≡ 0 }
 {
     match size_frame_part(frame, path, Limits { nesting, words }) {
+        Ok(size) => {
+            *word_count = size.word_count;
+            *cap_count = size.cap_count;
+            0
+        }
+        Err(refusal) => {
+            *word_count = 0;
+            *cap_count = 0;
+            refusal.number()
+        }
+    }
+}
+
+/// Like `capnp_canonical_copy_flat_at`, for a message that the caller passes as `segments`, without
+/// a frame.
+#[unsafe(no_mangle)]
+pub extern "C" fn capnp_canonical_segments_copy_flat_at(
+    alloc: Global,
+    segments: &[&[u8]],
+    path: &[u32],
+    nesting: i32,
+    words: u64,
+    to: &mut [u8],
+    written: &mut usize,
+) -> u32
+    ensures done { FillsByNumber result written.new to.old to.new (λ bytes. InSegments segments.now
+        (λ S. IsCopyOfPart (limits_of nesting words) path.now S bytes)) }
+    ensures refused { result ≢ 0 → IsNumberWhere result (λ r. (written.new ≡ wanted_room r)
+        × (RefusesSegments segments.now r ⊎ InSegments segments.now
+        (λ S. RefusesPartRoom (limits_of nesting words) path.now (length to.old) S r))) }
+    ensures granted { InSegments segments.now (HasPart (limits_of nesting words) path.now)
+        → IsGranted result }
+{
+    match copy_segments_part(alloc, segments, path, Limits { nesting, words }, to) {
+        Ok(size) => {
+            *written = size;
+            0
+        }
+        Err(refusal) => {
+            *written = refusal.wanted_room();
+            refusal.number()
+        }
+    }
+}
+
+/// Like `capnp_canonical_digest_at`, for a message that the caller passes as `segments`, without a
+/// frame.
+#[unsafe(no_mangle)]
+pub extern "C" fn capnp_canonical_segments_digest_at(
+    alloc: Global,
+    segments: &[&[u8]],
+    path: &[u32],
+    nesting: i32,
+    words: u64,
+    digest: &mut [u8; 32],
+) -> u32
+    ensures done { result ≡ 0 → InSegments segments.now
+        (λ S. IsDigestOfPart S (limits_of nesting words) path.now digest.new) }
+    ensures refused { result ≢ 0 → IsNumberWhere result (λ r. RefusesSegments segments.now r
+        ⊎ InSegments segments.now (λ S. RefusesPartOf (limits_of nesting words) path.now S r)) }
+    ensures none { result ≢ 0 → digest.new ≡ replicate 32 0 }
+    ensures granted { InSegments segments.now (HasPart (limits_of nesting words) path.now)
+        → (result ≡ 0) ⊎ (result ≡ 32) }
+{
+    match digest_segments_part(alloc, segments, path, Limits { nesting, words }) {
+        Ok(made) => {
+            *digest = made;
+            0
+        }
+        Err(refusal) => {
+            *digest = [0; 32];
+            refusal.number()
+        }
+    }
+}
+
+/// Like `capnp_canonical_size_at`, for a message that the caller passes as `segments`, without a
+/// frame.
+#[unsafe(no_mangle)]
+pub extern "C" fn capnp_canonical_segments_size_at(
+    segments: &[&[u8]],
+    path: &[u32],
+    nesting: i32,
+    words: u64,
+    word_count: &mut u64,
+    cap_count: &mut u32,
+) -> u32
+    ensures done { result ≡ 0 → InSegments segments.now (λ S.
+        HasPartSize (limits_of nesting words) path.now S word_count.new cap_count.new) }
+    ensures refused { result ≢ 0 → IsNumberWhere result (λ r. RefusesSegments segments.now r
+        ⊎ InSegments segments.now (λ S. RefusesPartSize (limits_of nesting words) path.now S r)) }
+    ensures none { result ≢ 0 → (word_count.new ≡ 0) × (cap_count.new ≡ 0) }
+    ensures granted { InSegments segments.now (HasPartSizeWithin (limits_of nesting words) path.now)
+        → result ≡ 0 }
+{
+    match size_segments_part(segments, path, Limits { nesting, words }) {
+        Ok(size) => {
+            *word_count = size.word_count;
+            *cap_count = size.cap_count;
+            0
+        }
+        Err(refusal) => {
+            *word_count = 0;
+            *cap_count = 0;
+            refusal.number()
+        }
+    }
+}
+
+/// Like `capnp_canonical_copy_flat_at`, for a message with one segment, whose words the caller
+/// passes as `bytes`, without a frame.
+#[unsafe(no_mangle)]
+pub extern "C" fn capnp_canonical_words_copy_at(
+    alloc: Global,
+    bytes: &[u8],
+    path: &[u32],
+    nesting: i32,
+    words: u64,
+    to: &mut [u8],
+    written: &mut usize,
+) -> u32
+    ensures done { FillsByNumber result written.new to.old to.new (λ copy. InWords bytes.now
+        (λ S. IsCopyOfPart (limits_of nesting words) path.now S copy)) }
+    ensures refused { result ≢ 0 → IsNumberWhere result (λ r. (written.new ≡ wanted_room r)
+        × (RefusesSegment bytes.now r ⊎ InWords bytes.now
+        (λ S. RefusesPartRoom (limits_of nesting words) path.now (length to.old) S r))) }
+    ensures granted { InWords bytes.now (HasPart (limits_of nesting words) path.now)
+        → IsGranted result }
+{
+    match copy_words_part(alloc, bytes, path, Limits { nesting, words }, to) {
+        Ok(size) => {
+            *written = size;
+            0
+        }
+        Err(refusal) => {
+            *written = refusal.wanted_room();
+            refusal.number()
+        }
+    }
+}
+
+/// Like `capnp_canonical_digest_at`, for a message with one segment, whose words the caller passes
+/// as `bytes`, without a frame.
+#[unsafe(no_mangle)]
+pub extern "C" fn capnp_canonical_words_digest_at(
+    alloc: Global,
+    bytes: &[u8],
+    path: &[u32],
+    nesting: i32,
+    words: u64,
+    digest: &mut [u8; 32],
+) -> u32
+    ensures done { result ≡ 0 → InWords bytes.now
+        (λ S. IsDigestOfPart S (limits_of nesting words) path.now digest.new) }
+    ensures refused { result ≢ 0 → IsNumberWhere result (λ r. RefusesSegment bytes.now r
+        ⊎ InWords bytes.now (λ S. RefusesPartOf (limits_of nesting words) path.now S r)) }
+    ensures none { result ≢ 0 → digest.new ≡ replicate 32 0 }
+    ensures granted { InWords bytes.now (HasPart (limits_of nesting words) path.now)
+        → (result ≡ 0) ⊎ (result ≡ 32) }
+{
+    match digest_words_part(alloc, bytes, path, Limits { nesting, words }) {
+        Ok(made) => {
+            *digest = made;
+            0
+        }
+        Err(refusal) => {
+            *digest = [0; 32];
+            refusal.number()
+        }
+    }
+}
+
+/// Like `capnp_canonical_size_at`, for a message with one segment, whose words the caller passes as
+/// `bytes`, without a frame.
+#[unsafe(no_mangle)]
+pub extern "C" fn capnp_canonical_words_size_at(
+    bytes: &[u8],
+    path: &[u32],
+    nesting: i32,
+    words: u64,
+    word_count: &mut u64,
+    cap_count: &mut u32,
+) -> u32
+    ensures done { result ≡ 0 → InWords bytes.now (λ S.
+        HasPartSize (limits_of nesting words) path.now S word_count.new cap_count.new) }
+    ensures refused { result ≢ 0 → IsNumberWhere result (λ r. RefusesSegment bytes.now r
+        ⊎ InWords bytes.now (λ S. RefusesPartSize (limits_of nesting words) path.now S r)) }
+    ensures none { result ≢ 0 → (word_count.new ≡ 0) × (cap_count.new ≡ 0) }
+    ensures granted { InWords bytes.now (HasPartSizeWithin (limits_of nesting words) path.now)
+        → result ≡ 0 }
+{
+    match size_words_part(bytes, path, Limits { nesting, words }) {
         Ok(size) => {
             *word_count = size.word_count;
             *cap_count = size.cap_count;

@@ -1,28 +1,25 @@
-use Rattle.std.proofs.Common.{◌≡◌, inr, refl, subst}
+use Rattle.std.proofs.Common.{◌≡◌, refl, subst}
 use Rattle.capnp_format.specs.Bytes.{message}
 use Rattle.capnp_format.specs.Segments.{Segments}
 use Rattle.capnp_arena.specs.declared.arena.reader_arena_impl.ReaderOptions.{ReaderOptions}
-use Rattle.capnp_framing.specs.Flat.{parts}
 use Rattle.capnp_messages.specs.MessageParts.{IsDigestOfPart}
 use Rattle.capnp_messages.proofs.CanonLemmas.{or_memory}
 use Rattle.capnp_canonical.specs.Calls.{limits_of}
 use Rattle.capnp_canonical.specs.Parts.{RefusesPartOf}
 use Rattle.capnp_canonical.specs.declared.refusal.Refusal.TheVariants.{Layout}
-use Rattle.capnp_canonical.proofs.parts.digest_frame_part.Goals as goal
+use Rattle.capnp_canonical.proofs.parts.digest_at.Goals as goal
 
 pub returns-in-Ok-clause-digest : goal.returns-in-Ok-clause-digest
-returns-in-Ok-clause-digest c =
+returns-in-Ok-clause-digest g c =
     let limits : c.options-options.result ≡ limits_of c.args.limits.nesting c.args.limits.words = c.options-options.ensures in
-    let S : Segments =
-    message (parts c.in_ok-segments.segments.count c.in_ok-segments.segments.table.now c.in_ok-segments.segments.words.now) in
+    let S : Segments = message (g.S.ReaderSegments.segments c.args.segments) in
     let made = rw (c.in-Ok.is, c.new-source.ensures.words) at c.digest_of_part-digest.ensures.digest in
-    (S, c.in_ok-segments.ensures.begins, subst (λ (l : ReaderOptions). IsDigestOfPart S l c.args.path.now c.in-Ok.digest) limits made)
+    subst (λ (l : ReaderOptions). IsDigestOfPart S l c.args.path.now c.in-Ok.digest) limits made
 
-pub returns-in-Err-clause-refused : goal.returns-in-Err-clause-refused
-returns-in-Err-clause-refused c =
+pub returns-clause-refused : goal.returns-clause-refused
+returns-clause-refused g c =
     let limits : c.options-options.result ≡ limits_of c.args.limits.nesting c.args.limits.words = c.options-options.ensures in
-    let S : Segments =
-    message (parts c.in_ok-segments.segments.count c.in_ok-segments.segments.table.now c.in_ok-segments.segments.words.now) in
+    let S : Segments = message (g.S.ReaderSegments.segments c.args.segments) in
     let refused = rw (c.in-Err.is, c.new-source.ensures.words) at c.digest_of_part-digest.ensures.refused in
     let no : RefusesPartOf c.options-options.result c.args.path.now S (Layout c.in-Err.kind) = (c.in-Err.kind, refl, or_memory refused) in
-    inr (S, c.in_ok-segments.ensures.begins, subst (λ (l : ReaderOptions). RefusesPartOf l c.args.path.now S (Layout c.in-Err.kind)) limits no)
+    subst (λ (l : ReaderOptions). RefusesPartOf l c.args.path.now S (Layout c.in-Err.kind)) limits no

@@ -1,0 +1,19 @@
+use Rattle.std.proofs.Common.{◌∷◌, [], sym, subst}
+use Rattle.std.proofs.lemmas.Int.{to_z-of_z}
+use mir.Syntax.{w32}
+use Rattle.capnp_format.specs.Bytes.{message}
+use Rattle.capnp_canonical.specs.Calls.{IsGranted, limits_of}
+use Rattle.capnp_canonical.proofs.CallLemmas.{where_words}
+use Rattle.capnp_canonical.proofs.PartLemmas.{part_room_granted}
+use Rattle.capnp_canonical.proofs.part_exports.capnp_canonical_words_copy_at.Goals as goal
+
+pub returns-in-Err-clause-refused : goal.returns-in-Err-clause-refused
+returns-in-Err-clause-refused c = λ some.
+    let refused = rw (to_z-of_z w32 c.args.nesting c.ranges.nesting) at c.in-Err.ensures.refused in
+    (c.in-Err.refusal, c.number.ensures.number, (c.wanted_room.ensures, refused))
+
+pub returns-in-Err-clause-granted : goal.returns-in-Err-clause-granted
+returns-in-Err-clause-granted c = λ can.
+    let limits = limits_of c.args.nesting c.args.words in
+    let refused = rw (to_z-of_z w32 c.args.nesting c.ranges.nesting) at c.in-Err.ensures.refused in
+    subst IsGranted (sym c.number.ensures.number) (where_words c.args.bytes.now (part_room_granted limits c.args.path.now _ (message (c.args.bytes.now ∷ []))) refused can)

@@ -1,0 +1,18 @@
+use Rattle.std.proofs.Common.{List, ℕ, inr, length, subst}
+use Rattle.std.proofs.lemmas.Result.{IfErr-weaker}
+use Rattle.capnp_format.specs.Bytes.{message}
+use Rattle.capnp_canonical.specs.Calls.{limits_of}
+use Rattle.capnp_canonical.specs.Parts.{IsCopyOfPart, RefusesPartRoom}
+use Rattle.capnp_canonical.proofs.CallLemmas.{fills_weaker}
+use Rattle.capnp_canonical.proofs.parts.copy_segments_part.Goals as goal
+
+pub returns-clause-copied : goal.returns-clause-copied
+returns-clause-copied c =
+    let limits = limits_of c.args.limits.nesting c.args.limits.words in
+    fills_weaker (λ bytes is. (c.in_ok-lent.ensures.whole.0, c.in_ok-lent.ensures.whole.1, subst (λ (B : List (List ℕ)). IsCopyOfPart limits c.args.path.now (message B) bytes) c.in_ok-lent.ensures.segments is)) c.copy_at.ensures.copied
+
+pub returns-clause-refused : goal.returns-clause-refused
+returns-clause-refused c =
+    let limits = limits_of c.args.limits.nesting c.args.limits.words in
+    IfErr-weaker c.copy_at.result _ _ (λ r no.
+    inr (c.in_ok-lent.ensures.whole.0, c.in_ok-lent.ensures.whole.1, subst (λ (B : List (List ℕ)). RefusesPartRoom limits c.args.path.now (length c.args.to.now) (message B) r) c.in_ok-lent.ensures.segments no)) c.copy_at.ensures.refused
