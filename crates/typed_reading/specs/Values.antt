@@ -1,9 +1,10 @@
 -- What typed code reads of a value. What a struct doesn't have reads as zero bits, or as null.
-use Rattle.std.specs.Prelude.{ℕ, List}
+use Rattle.std.specs.Prelude.{ℕ, List, ◌-◌, ◌^◌, false, true}
 use Rattle.capnp_format.specs.Tree.{Tree, Null}
 use Rattle.capnp_format.specs.Fields.{field_in}
 use Rattle.capnp_format.specs.Path.{Child, next}
-use Rattle.capnp_readers.specs.Values.{list_numbers, struct_data, struct_element, text_bytes}
+use Rattle.capnp_objects.specs.Source.{default_segment, default_segments}
+use Rattle.capnp_readers.specs.Values.{HasValue, list_numbers, struct_data, struct_element, text_bytes}
 
 -- The w bits of a struct's data from bit b on, which are in one word.
 abbrev pub bits_in : ℕ → ℕ → Tree → ℕ
@@ -26,3 +27,17 @@ text_or default t = text_bytes t
 abbrev pub data_or : List ℕ → Tree → List ℕ
 data_or default Null = default
 data_or default t = list_numbers t
+
+-- The bytes, which are one segment, mean d: the default value of a field that is a struct or a list.
+abbrev pub IsDefault : List ℕ → Tree → Type 0
+IsDefault bytes d =
+    HasValue
+    (record {
+      segments = default_segments bytes;
+      charging = false;
+      of_default = true;
+      levels = 2 ^ 31 - 1;
+      segment = default_segment;
+      at = 0;
+    })
+    d

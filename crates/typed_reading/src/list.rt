@@ -1,5 +1,5 @@
 //! Lists of structs, of numbers and of texts that are read.
-ghost use Rattle.std.specs.Prelude.{◌≡◌, ◌≢◌, ◌<◌, ◌≤◌, ◌-◌, ◌%◌, ◌^◌, ℕ, List, IfOk, IsOk, OnOk, slice_index, ⊤};
+ghost use Rattle.std.specs.Prelude.{◌≡◌, ◌≢◌, ◌<◌, ◌≤◌, ◌-◌, ◌%◌, ◌/◌, ◌^◌, ℕ, List, length, IfOk, IsOk, OnOk, slice_index, ⊤};
 ghost use Rattle.capnp_format.specs.Numbers.{element_bits};
 ghost use Rattle.capnp_format.specs.Segments.{AreWords};
 ghost use Rattle.capnp_format.specs.Tree.{Tree, Null, Flat};
@@ -10,10 +10,11 @@ ghost use Rattle.capnp_objects.specs.Reading.{source_start};
 ghost use Rattle.capnp_objects.specs.Spending.{Paid};
 ghost use Rattle.capnp_readers.specs.Sections.{data_bits};
 ghost use Rattle.capnp_readers.specs.Values.{ShowsListOf, ShowsNumber, ShowsStructOf, StaysIn, FitsElements, FitsSize, HasStructs, IsBytes, IsText, child_cost, element_number, list_length, list_numbers, pointer_cost, struct_element, text_bytes};
-ghost use Rattle.typed_reading.specs.Values.{child, pointer_element};
+ghost use Rattle.typed_reading.specs.Values.{IsDefault, child, pointer_element};
 
+use crate::value::is_null;
 use capnp_arena_traits::arena::ReaderArena;
-use capnp_readers::readers::{ListReader, PrimitiveElement, StructReader};
+use capnp_readers::readers::{ListReader, PointerReader, PrimitiveElement, StructReader};
 use capnp_words::error::ErrorKind;
 use capnp_words::read_limiter::ReadLimiter;
 use capnp_words::wire_pointer::ElementSize;
@@ -414,5 +415,173 @@ pub fn get_pointers<'a, A: ReaderArena>(
         (source_start A.ReaderArena list.reader.source)) }
 {
     let reader = get_list(reader, index, ElementSize::Pointer, lim)?;
+    Ok(PointersReader { reader })
+}
+
+// The list that a pointer of a struct leads to; that of `default` if the pointer is null.
+fn get_list_or<'a, A: ReaderArena>(
+    reader: &StructReader<'a, A>,
+    index: usize,
+    expected: ElementSize,
+    default: &'a [u8],
+    lim: &mut ReadLimiter,
+) -> Result<ListReader<'a, A>, ErrorKind>
+    requires { length default.now / 8 < 2 ^ 32 }
+    ensures value { (t : Tree) → ShowsStructOf A.ReaderArena reader.now t → child index t ≢ Null
+        → IfOk result (λ list. ShowsListOf A.ReaderArena list (child index t)) }
+    ensures default { (t d : Tree) → ShowsStructOf A.ReaderArena reader.now t
+        → child index t ≡ Null → IsDefault default.now d
+        → IfOk result (λ list. ShowsListOf A.ReaderArena list d) }
+    ensures answered { let start = source_start A.ReaderArena reader.now.source in
+        (t : Tree) (shows : ShowsStructOf A.ReaderArena reader.now t)
+        → child index t ≢ Null → FitsSize expected (child index t)
+        → Affords start.charging lim.old (child_cost A.ReaderArena shows index) → IsOk result }
+    ensures default_answered { (t d : Tree) → ShowsStructOf A.ReaderArena reader.now t
+        → child index t ≡ Null → IsDefault default.now d → FitsSize expected d
+        → 8 ≤ length default.now → IsOk result }
+    ensures fits { IfOk result (FitsElements A.ReaderArena expected) }
+{
+    if is_null(reader, index) {
+        let field = PointerReader::from_default(default)?;
+        return field.get_list(lim, expected, None);
+    }
+    get_list(reader, index, expected, lim)
+}
+
+/// Returns the list of structs that a pointer of a struct leads to, like `get_structs`; that of
+/// `default`, which is one segment with its pointer in the first word, if the pointer is null.
+/// Reading the default charges nothing. Precondition: `default` has fewer than 2^32 words.
+pub fn get_structs_or<'a, A: ReaderArena>(
+    reader: &StructReader<'a, A>,
+    index: usize,
+    default: &'a [u8],
+    lim: &mut ReadLimiter,
+) -> Result<StructsReader<'a, A>, ErrorKind>
+    requires { length default.now / 8 < 2 ^ 32 }
+    ensures value { (t : Tree) → ShowsStructOf A.ReaderArena reader.now t → child index t ≢ Null
+        → IfOk result (λ list. ShowsListOf A.ReaderArena list.reader (child index t)) }
+    ensures default { (t d : Tree) → ShowsStructOf A.ReaderArena reader.now t
+        → child index t ≡ Null → IsDefault default.now d
+        → IfOk result (λ list. ShowsListOf A.ReaderArena list.reader d) }
+    ensures answered { let start = source_start A.ReaderArena reader.now.source in
+        (t : Tree) (shows : ShowsStructOf A.ReaderArena reader.now t)
+        → child index t ≢ Null → FitsSize InlineComposite (child index t)
+        → Affords start.charging lim.old (child_cost A.ReaderArena shows index) → IsOk result }
+    ensures default_answered { (t d : Tree) → ShowsStructOf A.ReaderArena reader.now t
+        → child index t ≡ Null → IsDefault default.now d → FitsSize InlineComposite d
+        → 8 ≤ length default.now → IsOk result }
+{
+    let reader = get_list_or(reader, index, ElementSize::InlineComposite, default, lim)?;
+    Ok(StructsReader { reader })
+}
+
+/// Returns the list of numbers that a pointer of a struct leads to, like `get_numbers`; that of
+/// `default`, which is one segment with its pointer in the first word, if the pointer is null.
+/// Reading the default charges nothing. Precondition: `default` has fewer than 2^32 words.
+pub fn get_numbers_or<'a, A: ReaderArena, T: PrimitiveElement>(
+    reader: &StructReader<'a, A>,
+    index: usize,
+    default: &'a [u8],
+    lim: &mut ReadLimiter,
+) -> Result<NumbersReader<'a, A, T>, ErrorKind>
+    requires { length default.now / 8 < 2 ^ 32 }
+    ensures value { (t : Tree) → ShowsStructOf A.ReaderArena reader.now t → child index t ≢ Null
+        → IfOk result (λ list. ShowsListOf A.ReaderArena list.reader (child index t)) }
+    ensures default { (t d : Tree) → ShowsStructOf A.ReaderArena reader.now t
+        → child index t ≡ Null → IsDefault default.now d
+        → IfOk result (λ list. ShowsListOf A.ReaderArena list.reader d) }
+    ensures answered { let start = source_start A.ReaderArena reader.now.source in
+        (t : Tree) (shows : ShowsStructOf A.ReaderArena reader.now t)
+        → child index t ≢ Null → FitsSize T.size (child index t)
+        → Affords start.charging lim.old (child_cost A.ReaderArena shows index) → IsOk result }
+    ensures default_answered { (t d : Tree) → ShowsStructOf A.ReaderArena reader.now t
+        → child index t ≡ Null → IsDefault default.now d → FitsSize T.size d
+        → 8 ≤ length default.now → IsOk result }
+{
+    let reader = get_list_or(reader, index, T::element_size(), default, lim)?;
+    Ok(NumbersReader {
+        reader,
+        of: PhantomData,
+    })
+}
+
+/// Returns the list of texts that a pointer of a struct leads to, like `get_texts`; that of
+/// `default`, which is one segment with its pointer in the first word, if the pointer is null.
+/// Reading the default charges nothing. Precondition: `default` has fewer than 2^32 words.
+pub fn get_texts_or<'a, A: ReaderArena>(
+    reader: &StructReader<'a, A>,
+    index: usize,
+    default: &'a [u8],
+    lim: &mut ReadLimiter,
+) -> Result<TextsReader<'a, A>, ErrorKind>
+    requires { length default.now / 8 < 2 ^ 32 }
+    ensures value { (t : Tree) → ShowsStructOf A.ReaderArena reader.now t → child index t ≢ Null
+        → IfOk result (λ list. ShowsListOf A.ReaderArena list.reader (child index t)) }
+    ensures default { (t d : Tree) → ShowsStructOf A.ReaderArena reader.now t
+        → child index t ≡ Null → IsDefault default.now d
+        → IfOk result (λ list. ShowsListOf A.ReaderArena list.reader d) }
+    ensures answered { let start = source_start A.ReaderArena reader.now.source in
+        (t : Tree) (shows : ShowsStructOf A.ReaderArena reader.now t)
+        → child index t ≢ Null → FitsSize Pointer (child index t)
+        → Affords start.charging lim.old (child_cost A.ReaderArena shows index) → IsOk result }
+    ensures default_answered { (t d : Tree) → ShowsStructOf A.ReaderArena reader.now t
+        → child index t ≡ Null → IsDefault default.now d → FitsSize Pointer d
+        → 8 ≤ length default.now → IsOk result }
+{
+    let reader = get_list_or(reader, index, ElementSize::Pointer, default, lim)?;
+    Ok(TextsReader { reader })
+}
+
+/// Returns the list of data that a pointer of a struct leads to, like `get_data_list`; that of
+/// `default`, which is one segment with its pointer in the first word, if the pointer is null.
+/// Reading the default charges nothing. Precondition: `default` has fewer than 2^32 words.
+pub fn get_data_list_or<'a, A: ReaderArena>(
+    reader: &StructReader<'a, A>,
+    index: usize,
+    default: &'a [u8],
+    lim: &mut ReadLimiter,
+) -> Result<DataListReader<'a, A>, ErrorKind>
+    requires { length default.now / 8 < 2 ^ 32 }
+    ensures value { (t : Tree) → ShowsStructOf A.ReaderArena reader.now t → child index t ≢ Null
+        → IfOk result (λ list. ShowsListOf A.ReaderArena list.reader (child index t)) }
+    ensures default { (t d : Tree) → ShowsStructOf A.ReaderArena reader.now t
+        → child index t ≡ Null → IsDefault default.now d
+        → IfOk result (λ list. ShowsListOf A.ReaderArena list.reader d) }
+    ensures answered { let start = source_start A.ReaderArena reader.now.source in
+        (t : Tree) (shows : ShowsStructOf A.ReaderArena reader.now t)
+        → child index t ≢ Null → FitsSize Pointer (child index t)
+        → Affords start.charging lim.old (child_cost A.ReaderArena shows index) → IsOk result }
+    ensures default_answered { (t d : Tree) → ShowsStructOf A.ReaderArena reader.now t
+        → child index t ≡ Null → IsDefault default.now d → FitsSize Pointer d
+        → 8 ≤ length default.now → IsOk result }
+{
+    let reader = get_list_or(reader, index, ElementSize::Pointer, default, lim)?;
+    Ok(DataListReader { reader })
+}
+
+/// Returns the list of pointers that a pointer of a struct leads to, like `get_pointers`; that of
+/// `default`, which is one segment with its pointer in the first word, if the pointer is null.
+/// Reading the default charges nothing. Precondition: `default` has fewer than 2^32 words.
+pub fn get_pointers_or<'a, A: ReaderArena>(
+    reader: &StructReader<'a, A>,
+    index: usize,
+    default: &'a [u8],
+    lim: &mut ReadLimiter,
+) -> Result<PointersReader<'a, A>, ErrorKind>
+    requires { length default.now / 8 < 2 ^ 32 }
+    ensures value { (t : Tree) → ShowsStructOf A.ReaderArena reader.now t → child index t ≢ Null
+        → IfOk result (λ list. ShowsListOf A.ReaderArena list.reader (child index t)) }
+    ensures default { (t d : Tree) → ShowsStructOf A.ReaderArena reader.now t
+        → child index t ≡ Null → IsDefault default.now d
+        → IfOk result (λ list. ShowsListOf A.ReaderArena list.reader d) }
+    ensures answered { let start = source_start A.ReaderArena reader.now.source in
+        (t : Tree) (shows : ShowsStructOf A.ReaderArena reader.now t)
+        → child index t ≢ Null → FitsSize Pointer (child index t)
+        → Affords start.charging lim.old (child_cost A.ReaderArena shows index) → IsOk result }
+    ensures default_answered { (t d : Tree) → ShowsStructOf A.ReaderArena reader.now t
+        → child index t ≡ Null → IsDefault default.now d → FitsSize Pointer d
+        → 8 ≤ length default.now → IsOk result }
+{
+    let reader = get_list_or(reader, index, ElementSize::Pointer, default, lim)?;
     Ok(PointersReader { reader })
 }

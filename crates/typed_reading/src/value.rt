@@ -1,5 +1,5 @@
 //! The root of a message, and the fields of a struct that is read.
-ghost use Rattle.std.specs.Prelude.{◌≡◌, ◌≢◌, ◌+◌, ◌-◌, ◌*◌, ◌↔◌, ℕ, true, false, bit_xor, IsTrue, IfOk, IsOk, OnOk, Err};
+ghost use Rattle.std.specs.Prelude.{◌≡◌, ◌≢◌, ◌+◌, ◌-◌, ◌*◌, ◌/◌, ◌^◌, ◌<◌, ◌≤◌, ◌↔◌, ℕ, true, false, bit_xor, length, IsTrue, IfOk, IsOk, OnOk, Err};
 ghost use Rattle.capnp_format.specs.Bytes.{message};
 ghost use Rattle.capnp_format.specs.Means.{Means};
 ghost use Rattle.capnp_format.specs.Segments.{AreWords};
@@ -12,7 +12,7 @@ ghost use Rattle.capnp_objects.specs.Source.{levels};
 ghost use Rattle.capnp_objects.specs.Spending.{Paid};
 ghost use Rattle.capnp_readers.specs.Readers.{read_by};
 ghost use Rattle.capnp_readers.specs.Values.{HasValue, ShowsNumber, ShowsStructOf, StaysIn, IsBytes, IsStructOrNull, IsText, child_cost, field_of_number, list_numbers, text_bytes};
-ghost use Rattle.typed_reading.specs.Values.{bits_in, child, data_or, text_or};
+ghost use Rattle.typed_reading.specs.Values.{IsDefault, bits_in, child, data_or, text_or};
 
 use capnp_arena_traits::arena::ReaderArena;
 use capnp_objects::source::Source;
@@ -251,6 +251,36 @@ pub fn get_struct<'a, A: ReaderArena>(
         (source_start A.ReaderArena r.source)) }
 {
     reader.get_pointer_field(index).get_struct(lim, None)
+}
+
+/// Returns the struct that a pointer of a struct leads to, like `get_struct`; that of `default`, which
+/// is one segment with its pointer in the first word, if the pointer is null. Reading the default
+/// charges nothing. Precondition: `default` has fewer than 2^32 words.
+pub fn get_struct_or<'a, A: ReaderArena>(
+    reader: &StructReader<'a, A>,
+    index: usize,
+    default: &'a [u8],
+    lim: &mut ReadLimiter,
+) -> Result<StructReader<'a, A>, ErrorKind>
+    requires { length default.now / 8 < 2 ^ 32 }
+    ensures value { (t : Tree) → ShowsStructOf A.ReaderArena reader.now t → child index t ≢ Null
+        → IfOk result (λ r. ShowsStructOf A.ReaderArena r (child index t)) }
+    ensures default { (t d : Tree) → ShowsStructOf A.ReaderArena reader.now t
+        → child index t ≡ Null → IsDefault default.now d
+        → IfOk result (λ r. ShowsStructOf A.ReaderArena r d) }
+    ensures answered { let start = source_start A.ReaderArena reader.now.source in
+        (t : Tree) (shows : ShowsStructOf A.ReaderArena reader.now t)
+        → child index t ≢ Null → IsStructOrNull (child index t)
+        → Affords start.charging lim.old (child_cost A.ReaderArena shows index) → IsOk result }
+    ensures default_answered { (t d : Tree) → ShowsStructOf A.ReaderArena reader.now t
+        → child index t ≡ Null → IsDefault default.now d → IsStructOrNull d
+        → 8 ≤ length default.now → IsOk result }
+{
+    if is_null(reader, index) {
+        let field = PointerReader::from_default(default)?;
+        return field.get_struct(lim, None);
+    }
+    get_struct(reader, index, lim)
 }
 
 /// Returns the index, in the message's capability table, of the capability that a pointer of a
