@@ -22,7 +22,10 @@ class Reading:
     """Reads the value of a message; `command` is canon, digest, check, validate or size."""
 
     def __init__(self, command, segments, nesting, words):
-        self.command, self.segments, self.nesting, self.left = command, segments, nesting, words
+        self.command, self.segments, self.nesting, self.most, self.spent = command, segments, nesting, words, 0
+        # What the values cost that were read to their end, by the place of their pointer and the levels left there. A value that
+        # is reached again within the limit is charged for, and not read once more.
+        self.costs = {}
         self.is_size, self.is_canonical = command == 'size', command in ('canon', 'digest')
 
     def length(self, segment):
@@ -35,10 +38,9 @@ class Reading:
         raise Refused(name, *self.pointer)
 
     def charge(self, words):
-        if self.left is not None:
-            if words > self.left:
-                self.refuse('ReadLimitExceeded')
-            self.left -= words
+        if self.most is not None and self.spent + words > self.most:
+            self.refuse('ReadLimitExceeded')
+        self.spent += words
 
     def root(self):
         self.pointer = 0, 0
@@ -90,8 +92,14 @@ class Reading:
         self.list_here = word & 3 == 1
         if levels == 0:
             self.refuse(TESTED[TOO_DEEP] if self.command == 'check' and self.list_here else TOO_DEEP)
-        for place in list(self.entered(word, to, start)) if word & 3 == 0 or word >> 32 & 7 != 7 else self.elements(word, to, start):
-            self.value(to, place, levels - 1)
+        for place in self.entered(word, to, start) if word & 3 == 0 or word >> 32 & 7 != 7 else self.elements(word, to, start):
+            cost = self.costs.get((to, place, levels - 1))
+            if cost is None or self.most is not None and self.spent + cost > self.most:
+                before = self.spent
+                self.value(to, place, levels - 1)
+                self.costs[to, place, levels - 1] = self.spent - before
+            else:
+                self.spent += cost
 
     def claim(self, to, start, words):
         if start + words > self.length(to):

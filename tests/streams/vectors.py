@@ -9,12 +9,16 @@ from concurrent.futures import ThreadPoolExecutor
 
 from frames import MOST_SEGMENTS, framed
 from packing import packed
+from places import segments_of
+from places import told as told_place
 from runs import same
 
 FILES = pathlib.Path(__file__).resolve().parents[1] / 'vectors'
 COMMANDS = {'canon': ['canon'], 'size': ['size'], 'framed-check': ['check']}
 CHECKED = {'canonical message\n': b'canonical\n', 'not a canonical message\n': b'not canonical\n'}
 MOST_MESSAGES = 40
+# Refusals of no pointer, because no message is read.
+OF_FRAMES = 'Truncated', 'MessageTooLong', 'TooManySegments', 'NoMessage'
 
 
 def messages():
@@ -42,16 +46,23 @@ def length(frame):
     return start + 8 * words, words
 
 
-def answered(command, limit, frame, text):
-    """The frame without the bytes after it, and what a stream answers to it: bytes, or the name of a refusal. A frame of more
-    words than the limit is refused for that."""
-    told = length(frame)
+def place(command, limits, frame, name):
+    """The text after the name of a refusal: the segment and word of the pointer that is refused, if one is."""
+    nesting, words = limits
+    read = 'check' if command == 'framed-check' else command
+    return '' if name in OF_FRAMES else told_place(name, read, segments_of(frame), int(nesting), None if words == 'none' else int(words))
+
+
+def answered(command, limits, frame, text):
+    """The frame without the bytes after it, and what a stream answers to it: bytes, or the name and place of a refusal. A frame
+    of more words than the limit is refused for that."""
+    limit, told = limits[1], length(frame)
     if told and limit != 'none' and told[1] > int(limit):
         return frame, 'MessageTooLong'
     if told and len(frame) > told[0]:
         frame = frame[:told[0]]
     if text.startswith('refused '):
-        return frame, text.split()[1]
+        return frame, text.split()[1] + place(command, limits, frame, text.split()[1])
     if command == 'canon':
         return frame, bytes.fromhex(framed([bytes.fromhex(text)]))
     return frame, text.encode() if command == 'size' else CHECKED[text]
@@ -84,7 +95,7 @@ def runs():
     """Each run: its arguments, its input and the expected answer; plain, and also packed if the input is whole words."""
     given = sorted(messages(), key=lambda it: it[:2])
     for (command, (nesting, words)), group in itertools.groupby(given, key=lambda it: it[:2]):
-        found = [answered(command, words, frame, text) for _, _, frame, text in group if frame]
+        found = [answered(command, (nesting, words), frame, text) for _, _, frame, text in group if frame]
         for chain in chains(found):
             data, wanted = stream(chain)
             args = [*COMMANDS[command], '--nesting', nesting, '--words', words]

@@ -9,6 +9,7 @@ use crate::texts::NO_MEMORY;
 use capnp_framing::devices::Output;
 use capnp_framing::framing::FrameError;
 use capnp_packing::buffered::{BufferedInput, BufferedOutput};
+use capnp_refusals::refusals::RefusedPointer;
 use capnp_streams::devices::{BufReaderInput, NamedLines, NumberedLines};
 use capnp_streams::looks::{InputForm, looks_like};
 use capnp_streams::seen::{Seen, Watched};
@@ -245,9 +246,9 @@ fn only(answered: Result<bool, Fault>) -> Result<Summary, Stop> {
     }
 }
 
-/// Reports which message is refused, counted from 1, at which byte of the input it begins, and why
-/// it is refused. If this is the first message, and the input doesn't look like what `form` says,
-/// also reports what the input looks like.
+/// Reports which message is refused, counted from 1, at which byte of the input it begins, why it is
+/// refused, and at which of its pointers, if it is at one. If this is the first message, and the
+/// input doesn't look like what `form` says, also reports what the input looks like.
 fn refuse(rt: &HostRuntime, form: InputForm, name: Option<&str>, stop: Stop, seen: &Seen) {
     let (name, colon) = match name {
         Some(name) => (name, ": "),
@@ -257,9 +258,14 @@ fn refuse(rt: &HostRuntime, form: InputForm, name: Option<&str>, stop: Stop, see
     let byte = stop.byte;
     let reason = stop.fault.name();
     let _ = match seen.fault() {
-        None => eprintln!(rt;
-            "capnp_canon: {name}{colon}message {number} at byte {byte}: refused {reason}"
-        ),
+        None => match stop.fault.pointer() {
+            None => eprintln!(rt;
+                "capnp_canon: {name}{colon}message {number} at byte {byte}: refused {reason}"
+            ),
+            Some(RefusedPointer { segment, word, .. }) => eprintln!(rt;
+                "capnp_canon: {name}{colon}message {number} at byte {byte}: refused {reason} at segment {segment}, word {word}"
+            ),
+        },
         Some(error) => match said(rt.alloc(), &error) {
             Ok(why) => {
                 eprintln!(rt;

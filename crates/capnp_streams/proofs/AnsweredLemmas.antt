@@ -51,7 +51,7 @@ stops_so task more left after failed (Frame e) framed all (inl memory) = inl mem
 stops_so task more left after failed (Frame e) framed all (inr (inl (named, device))) = inr (inl named)
 stops_so task more left after failed (Frame e) framed all (inr (inr none)) =
     absurd (frame_is_there (most_words task.limits) more left e framed none)
-stops_so task more left after failed (Layout k) framed all (S, bytes, is, short, consumed, refused) =
+stops_so task more left after failed (Layout k p) framed all (S, bytes, is, short, consumed, refused, told) =
     let P : Segments → Type 0 = HasAskedAnswer task.command task in
     asked_refused task.command task S
     (first_has P (most_words task.limits) more left S framed all (begins (Some left) after consumed is short)) refused
@@ -110,7 +110,7 @@ answer_written g from to q (Err e) holds bytes writes is failed answer =
 
 -- a command refuses a message, and nothing was written of it
 pub answer_refuses : {W : Type 0} (g : Ghosts W) (from : W) (q : Question) (k : ErrorKind) →
-    RefusesAsked q.command q.task q.asked_of k → Answers g from from q (Err (Layout k))
+    RefusesAsked q.command q.task q.asked_of k → Answers g from from q (Err (Layout k None))
 answer_refuses g from q k why = record {
   answered = tt;
   works = tt;

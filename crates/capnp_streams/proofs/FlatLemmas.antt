@@ -1,15 +1,14 @@
 -- An input that is one message without a frame is answered, or is not.
-use Rattle.std.proofs.Common.{◌≡◌, ◌⊎◌, inl, inr, ℕ, List, [], ◌∷◌, Bool, Option, Some, None, IfSome, IsSomeAnd, refl, sym, subst}
+use Rattle.std.proofs.Common.{◌≡◌, ◌⊎◌, inl, inr, ℕ, List, [], ◌∷◌, Bool, Option, Some, None, IfSome, IsSomeAnd, refl, sym, ap, subst}
 use Rattle.std.specs.Io.KnownBytes.{Appends, Consumes, IsAtEnd}
 use Rattle.capnp_format.specs.Bytes.{message}
 use Rattle.capnp_framing.proofs.BareLemmas.{all_so, bare_words_are_read}
 use Rattle.capnp_framing.specs.Bare.{AreBareWords}
-use Rattle.capnp_framing.specs.declared.devices.Input.{Ghosts}
 use Rattle.capnp_framing.specs.declared.framing.frame_error.FrameError.TheVariants.{WriteFailed}
 use Rattle.capnp_streams.proofs.AskedLemmas.{asked_refused}
-use Rattle.capnp_streams.specs.Asked.{RefusesAsked}
-use Rattle.capnp_streams.specs.Flat.{CanFlatBeAnswered, HasTakenFlat, IsFlatDone, StopsFlat}
-use Rattle.capnp_streams.specs.Streams.{AnswerIs, IsOfDevices, RefusesBy, most_words}
+use Rattle.capnp_streams.specs.Asked.{RefusesAsked, pointer_asked}
+use Rattle.capnp_streams.specs.Flat.{CanFlatBeAnswered, IsFlatDone, StopsFlat}
+use Rattle.capnp_streams.specs.Streams.{AnswerIs, IsOfDevices, RefusesBy, most_words, with_pointer}
 use Rattle.capnp_streams.specs.declared.streams.fault.Fault.{Fault}
 use Rattle.capnp_streams.specs.declared.streams.fault.Fault.TheVariants.{Frame, Layout, TooManyMessages}
 use Rattle.capnp_streams.specs.declared.streams.task.Task.{Task}
@@ -29,26 +28,18 @@ flat_done task holds from to before after segments bytes bare consumed only (ans
 }
 
 -- the message is refused
-pub flat_refused : {P Q : Type 0} (task : Task) (from to : Option (List ℕ)) (segments : List (List ℕ)) (bytes : List ℕ) (failed : Bool) (fault : Fault) →
+pub flat_refused : {R Q : Type 0} (task : Task) (from to : Option (List ℕ)) (segments : List (List ℕ)) (bytes : List ℕ) (failed : Bool) (fault : Fault) →
     AreBareWords bytes (most_words task.limits) → Consumes from to bytes → IsAtEnd to → segments ≡ bytes ∷ [] →
-    P ⊎ (RefusesBy task.command task (message segments) fault × Q) → P ⊎ (StopsFlat task from failed fault × Q)
-flat_refused task from to segments bytes failed fault bare consumed end only (inl written) = inl written
+    ((fault ≡ Frame WriteFailed) × R) ⊎ (RefusesBy task.command task (message segments) fault × Q) →
+    ((with_pointer task (message segments) fault ≡ Frame WriteFailed) × R) ⊎ (StopsFlat task from failed (with_pointer task (message segments) fault) × Q)
+flat_refused task from to segments bytes failed fault bare consumed end only (inl (named, device)) = inl (ap (with_pointer task (message segments)) named, device)
 flat_refused task from to segments bytes failed (Frame e) bare consumed end only (inr (refused, kept)) = absurd refused
-flat_refused task from to segments bytes failed (Layout k) bare consumed end only (inr (refused, kept)) =
+flat_refused task from to segments bytes failed (Layout k p) bare consumed end only (inr (refused, kept)) =
     let all : IfSome from (λ all. all ≡ bytes) = all_so from to bytes (λ all. all ≡ bytes) consumed end refl in
     let why = subst (λ (B : List (List ℕ)). RefusesAsked task.command task (message B) k) only refused in
-    inr ((bytes, all, bare, why), kept)
+    let told = ap (λ (B : List (List ℕ)). pointer_asked k task (message B)) only in
+    inr ((bytes, all, bare, why, told), kept)
 flat_refused task from to segments bytes failed TooManyMessages bare consumed end only (inr (refused, kept)) = absurd refused
-
--- the whole input was consumed
-pub flat_taken : {R P Q : Type 0} (g : Ghosts R) (task : Task) (from to : R) (segments : List (List ℕ)) (bytes : List ℕ) (fault : Fault) →
-    IsAtEnd (g.remaining to) → segments ≡ bytes ∷ [] →
-    ((fault ≡ Frame WriteFailed) × P) ⊎ (RefusesBy task.command task (message segments) fault × Q) →
-    HasTakenFlat g from to fault
-flat_taken g task from to segments bytes fault end only (inl (named, device)) = subst (HasTakenFlat g from to) (sym named) tt
-flat_taken g task from to segments bytes (Frame e) end only (inr (refused, kept)) = absurd refused
-flat_taken g task from to segments bytes (Layout k) end only (inr (refused, kept)) = end
-flat_taken g task from to segments bytes TooManyMessages end only (inr (refused, kept)) = absurd refused
 
 -- a message that has an answer is never refused for what it holds
 answerable_so : (task : Task) (bytes : List ℕ) (failed : Bool) (fault : Fault) → CanFlatBeAnswered task bytes →
@@ -57,7 +48,7 @@ answerable_so task bytes failed (Frame e) can (inl memory) = inl memory
 answerable_so task bytes failed (Frame e) can (inr (inl (named, device))) = inr (inl named)
 answerable_so task bytes failed (Frame e) (bare, has) (inr (inr none)) =
     absurd (bare_words_are_read bytes (most_words task.limits) e bare none)
-answerable_so task bytes failed (Layout k) (bare, has) (all, same, are, refused) =
+answerable_so task bytes failed (Layout k p) (bare, has) (all, same, are, refused, told) =
     let why = subst (λ (bs : List ℕ). RefusesAsked task.command task (message (bs ∷ [])) k) (sym same) refused in
     asked_refused task.command task (message (bytes ∷ [])) has why
 answerable_so task bytes failed TooManyMessages can stops = absurd stops

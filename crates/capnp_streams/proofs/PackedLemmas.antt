@@ -73,7 +73,7 @@ stops_failed : (task : Task) (left after : Option (List ℕ)) (failed : Bool) (f
 stops_failed task left after failed (Frame e) (inl memory) = inl memory
 stops_failed task left after failed (Frame e) (inr (inl (named, device))) = inr (inl (named, refl))
 stops_failed task left after failed (Frame e) (inr (inr none)) = inr (inr none)
-stops_failed task left after failed (Layout k) stops = stops
+stops_failed task left after failed (Layout k p) stops = stops
 stops_failed task left after failed TooManyMessages stops = absurd stops
 
 pub ends_packed : {P : Type 0} {Q : Stage → Type 0} {task : Task} (packed given output left after : Option (List ℕ)) (failed : Bool) (stop : Stop) →

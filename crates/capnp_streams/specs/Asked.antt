@@ -1,6 +1,7 @@
 -- What a task asks of a message: of its whole value, or of the part to which a path leads. A path
 -- without indexes leads to the whole.
 use Rattle.std.specs.Prelude.{◌≡◌, ◌⊎◌, ℕ, ◌+◌, ◌≤◌, List, [], ◌∷◌, Ok, Err, IsOk}
+use Rattle.std.specs.Prelude.{Option, None, if◌then◌else◌}
 use Rattle.capnp_words.specs.declared.error.ErrorKind.{ErrorKind}
 use Rattle.capnp_words.specs.declared.error.ErrorKind.TheVariants.{AllocationFailed}
 use Rattle.capnp_format.specs.Canonical.{trim, word_count}
@@ -14,7 +15,9 @@ use Rattle.capnp_messages.specs.MessageParts.{IsDigestOfPart, IsPartOf, RefusesP
 use Rattle.capnp_messages.specs.Messages.{HasCanonicalCopy, HasSizeOf, HasSizeWithin, IsValueOf, RefusesCanon, RefusesSize}
 use Rattle.capnp_messages.specs.declared.messages.command.Command.{Command}
 use Rattle.capnp_messages.specs.declared.messages.command.Command.TheVariants.{Canon, Check, Size, Digest, Validate}
-use Rattle.capnp_streams.specs.Paths.{path_indexes}
+use Rattle.capnp_refusals.specs.RefusedPointers.{pointer_of_refusal}
+use Rattle.capnp_refusals.specs.declared.refusals.search.RefusedPointer.{RefusedPointer}
+use Rattle.capnp_streams.specs.Paths.{is_whole_path, path_indexes}
 use Rattle.capnp_streams.specs.declared.streams.task.Task.{Task}
 
 -- The whole value of S, or the value of its part, is t, without capabilities and within the limits.
@@ -72,3 +75,9 @@ HasAskedAnswer Check task S = HasAnswerWithin Check task.limits S
 HasAskedAnswer Size task S = HasSomeSizeAt S task.limits (path_indexes task.path)
 HasAskedAnswer Digest task S = HasCopyAt S task.limits (path_indexes task.path)
 HasAskedAnswer Validate task S = HasAnswerWithin Validate task.limits S
+
+-- The pointer at which S was refused with k, if k is the refusal of a pointer. With a path, none is
+-- told: the refusal may be of a pointer on the way to the part.
+abbrev pub pointer_asked : ErrorKind → Task → Segments → Option RefusedPointer
+pointer_asked k task S =
+    if is_whole_path task.path then pointer_of_refusal k task.command S task.limits else None

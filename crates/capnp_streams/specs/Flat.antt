@@ -7,7 +7,7 @@ use Rattle.capnp_framing.specs.Bare.{AreBareWords, HasTakenBare, NoBareWords}
 use Rattle.capnp_framing.specs.declared.devices.Input.{Ghosts}
 use Rattle.capnp_framing.specs.declared.framing.frame_error.FrameError.TheVariants.{AllocationFailed as NoMemory}
 use Rattle.capnp_framing.specs.declared.framing.frame_error.FrameError.TheVariants.{ReadFailed}
-use Rattle.capnp_streams.specs.Asked.{HasAskedAnswer, RefusesAsked}
+use Rattle.capnp_streams.specs.Asked.{HasAskedAnswer, RefusesAsked, pointer_asked}
 use Rattle.capnp_streams.specs.Streams.{AnswerIs, Stage, most_words}
 use Rattle.capnp_streams.specs.declared.streams.fault.Fault.{Fault}
 use Rattle.capnp_streams.specs.declared.streams.fault.Fault.TheVariants.{Frame, Layout, TooManyMessages}
@@ -24,21 +24,22 @@ pub record IsFlatDone (task : Task) (old new : Stage) (holds : Bool) : Type 0 wh
   pub written : Appends old.output new.output answer
 
 -- Why the message whose raw words the input has isn't answered: they are cut short or too many,
--- the task refuses the message, or memory or the input fails.
+-- the task refuses the message, at the pointer that is told, or memory or the input fails.
 abbrev pub StopsFlat : Task → Option (List ℕ) → Bool → Fault → Type 0
 StopsFlat task input failed (Frame e) =
     (e ≡ NoMemory) ⊎ ((e ≡ ReadFailed) × (failed ≡ true))
     ⊎ IfSome input (λ bytes. NoBareWords bytes (most_words task.limits) e)
-StopsFlat task input failed (Layout k) =
+StopsFlat task input failed (Layout k p) =
     (bytes : List ℕ) × IfSome input (λ all. all ≡ bytes) × AreBareWords bytes (most_words task.limits)
     × RefusesAsked task.command task (message (bytes ∷ [])) k
+    × (p ≡ pointer_asked k task (message (bytes ∷ [])))
 StopsFlat task input failed TooManyMessages = ⊥
 
 module _ {R : Type 0} (g : Ghosts R) where
   -- What a stop has taken of an input: all of it, if the message is refused.
   abbrev pub HasTakenFlat : R → R → Fault → Type 0
   HasTakenFlat from to (Frame e) = HasTakenBare g from to e
-  HasTakenFlat from to (Layout k) = IsAtEnd (g.remaining to)
+  HasTakenFlat from to (Layout k p) = IsAtEnd (g.remaining to)
   HasTakenFlat from to TooManyMessages = ⊥
 
 -- The bytes are raw words of a message that the task has an answer to.

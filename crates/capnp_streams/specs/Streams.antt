@@ -1,6 +1,6 @@
 -- The messages of a stream, one frame after the other, and what a task answers to them.
 use Rattle.std.specs.Prelude.{◌≡◌, ◌⊎◌, ℕ, ◌-◌, ◌^◌, ◌≤◌, min, List, [], ◌∷◌, ◌++◌, All, length, codes, ⊤}
-use Rattle.std.specs.Prelude.{Bool, true, false, ◌&&◌, Option, IsSome, IfSome, unwrap_or, Result, OnOk, IfOk, IfErr}
+use Rattle.std.specs.Prelude.{Bool, true, false, ◌&&◌, Option, None, IsSome, IfSome, unwrap_or, Result, OnOk, IfOk, IfErr}
 use Rattle.std.specs.Option.{option_map_or}
 use Rattle.std.specs.Fmt.{decimal}
 use Rattle.std.specs.Io.KnownBytes.{Appends, Consumes, IsAtEnd, Keeps}
@@ -40,14 +40,20 @@ use Rattle.capnp_messages.specs.declared.messages.command.Form.{Form}
 use Rattle.capnp_messages.specs.declared.messages.validation.MessageExtent.{MessageExtent}
 use Rattle.capnp_streams.specs.declared.streams.task.Task.{Task}
 use Rattle.capnp_messages.specs.Commands.{form_bytes}
-use Rattle.capnp_streams.specs.Asked.{HasAskedAnswer, HasSizeAt, IsDigestAt, IsValueAt, RefusesAsked}
+use Rattle.capnp_streams.specs.Asked.{HasAskedAnswer, HasSizeAt, IsDigestAt, IsValueAt, RefusesAsked, pointer_asked}
 use Rattle.capnp_streams.specs.Paths.{path_indexes}
+use Rattle.capnp_refusals.specs.declared.refusals.search.RefusedPointer.{RefusedPointer}
 
 -- The name of a refusal.
 abbrev pub fault_name : Fault → List ℕ
 fault_name (Frame e) = frame_error_name e
-fault_name (Layout k) = name_of k
+fault_name (Layout k p) = name_of k
 fault_name TooManyMessages = codes "TooManyMessages"
+
+-- The pointer of a refusal, if it is that of a pointer.
+abbrev pub fault_pointer : Fault → Option RefusedPointer
+fault_pointer (Layout k p) = p
+fault_pointer f = None
 
 -- How many words a message may have whose frame is read: those of the traversal limit.
 abbrev pub most_words : ReaderOptions → ℕ
@@ -103,19 +109,24 @@ AnswerIs Validate task S holds bytes =
 
 -- The fault says why a command has no answer to S.
 abbrev pub RefusesBy : Command → Task → Segments → Fault → Type 0
-RefusesBy command task S (Layout k) = RefusesAsked command task S k
+RefusesBy command task S (Layout k p) = RefusesAsked command task S k
 RefusesBy command task S _ = ⊥
+
+-- The fault with the pointer at which S is refused, if the fault is a refusal of S.
+abbrev pub with_pointer : Task → Segments → Fault → Fault
+with_pointer task S (Layout k p) = Layout k (pointer_asked k task S)
+with_pointer task S f = f
 
 -- How often memory was refused after a fault, if it was n times before: one more if there was none
 -- for the frame that is read, or for a canonical copy or its digest; otherwise n.
 abbrev pub refusals_behind : Command → Fault → ℕ → ℕ
 refusals_behind command (Frame e) n = frame_refusals e n
 refusals_behind command TooManyMessages n = n
-refusals_behind (Canon form) (Layout k) n = refusals_for k n
-refusals_behind Check (Layout k) n = n
-refusals_behind Size (Layout k) n = n
-refusals_behind Digest (Layout k) n = refusals_for k n
-refusals_behind Validate (Layout k) n = n
+refusals_behind (Canon form) (Layout k p) n = refusals_for k n
+refusals_behind Check (Layout k p) n = n
+refusals_behind Size (Layout k p) n = n
+refusals_behind Digest (Layout k p) n = refusals_for k n
+refusals_behind Validate (Layout k p) n = n
 
 -- The allocator is there after a command, and has counted one more refusal if there was no memory,
 -- and otherwise none.
@@ -215,14 +226,15 @@ WereAnswered task old new stop =
 
 -- Why the message at the front of the remaining input isn't answered. Either there is no frame, or
 -- memory runs out, or the input fails; or its frame is read, and nothing after it, and the task
--- refuses the message.
+-- refuses the message, at the pointer that is told.
 abbrev pub StopsAt : Task → Option (List ℕ) → Option (List ℕ) → Bool → Fault → Type 0
 StopsAt task old new failed (Frame e) =
     (e ≡ NoMemory) ⊎ ((e ≡ ReadFailed) × (failed ≡ true))
     ⊎ IfSome old (λ bytes. NoFrame bytes (most_words task.limits) e)
-StopsAt task old new failed (Layout k) =
+StopsAt task old new failed (Layout k p) =
     (S : Segments) × (bytes : List ℕ) × IsFrameOf S bytes × (total S ≤ most_words task.limits)
     × Consumes old new bytes × RefusesAsked task.command task S k
+    × (p ≡ pointer_asked k task S)
 StopsAt task old new failed TooManyMessages = ⊥
 
 -- Why no message is answered after a stage, and nothing more is written: the one at the front
@@ -242,5 +254,5 @@ CanBeAnswered task bytes =
 -- A fault of no message: memory or a device fails, or there are too many messages to count.
 abbrev pub IsOfDevices : Fault → Type 0
 IsOfDevices (Frame e) = (e ≡ NoMemory) ⊎ (e ≡ ReadFailed) ⊎ (e ≡ WriteFailed)
-IsOfDevices (Layout k) = k ≡ AllocationFailed
+IsOfDevices (Layout k p) = k ≡ AllocationFailed
 IsOfDevices TooManyMessages = ⊤

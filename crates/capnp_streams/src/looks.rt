@@ -117,7 +117,7 @@ fn is_of_devices(fault: Fault) -> bool {
             error,
             FrameError::ReadFailed | FrameError::WriteFailed | FrameError::AllocationFailed
         ),
-        Fault::Layout(kind) => matches!(kind, ErrorKind::AllocationFailed),
+        Fault::Layout(kind, _) => matches!(kind, ErrorKind::AllocationFailed),
         Fault::TooManyMessages => true,
     }
 }

@@ -2,7 +2,8 @@
 ghost use Rattle.std.specs.Prelude.{◌≡◌, Some, Ok, Err, false, IsSome, OnOk, OnErr};
 ghost use Rattle.capnp_arena_traits.specs.Limits.{IsSmall};
 ghost use Rattle.capnp_framing.specs.declared.framing.frame_error.FrameError.TheVariants.{WriteFailed};
-ghost use Rattle.capnp_streams.specs.Streams.{Answers, CountsRefusals, question_on};
+ghost use Rattle.capnp_format.specs.Bytes.{message};
+ghost use Rattle.capnp_streams.specs.Streams.{Answers, CountsRefusals, question_on, with_pointer};
 
 use super::fault::Fault;
 use super::parts::{copy_asked, digest_asked, size_asked};
@@ -15,6 +16,7 @@ use capnp_messages::messages::{
     Command, Form, canonical_bytes, canonical_fault_of, canonical_segment, validate_of,
 };
 use capnp_messages::text::{write_extent, write_size};
+use capnp_refusals::refusals::pointer_of_refusal;
 use std::alloc::Global;
 
 /// The fault if writing to the output fails.
@@ -109,7 +111,7 @@ fn canon_copy<A: Allocator, S: ReaderSegments, W: Output>(
         }
         Err((kind, allocator)) => {
             memory.allocator = Some(allocator);
-            Err(Fault::Layout(kind))
+            Err(Fault::Layout(kind, None))
         }
     }
 }
@@ -164,7 +166,7 @@ fn digest<A: Allocator, S: ReaderSegments + Drop, W: Output>(
     memory.allocator = Some(allocator);
     match digest {
         Ok(digest) => if_written(write_hex_line(output, &digest), true),
-        Err(kind) => Err(Fault::Layout(kind)),
+        Err(kind) => Err(Fault::Layout(kind, None)),
     }
 }
 
@@ -189,16 +191,36 @@ pub(super) fn answer<A: Allocator, S: ReaderSegments + Drop, W: Output>(
         Command::Check => match canonical_fault_of(segments, task.limits) {
             Ok(None) => if_written(write_canonical(output), true),
             Ok(Some(fault)) => if_written(write_fault(output, fault), false),
-            Err(kind) => Err(Fault::Layout(kind)),
+            Err(kind) => Err(Fault::Layout(kind, None)),
         },
         Command::Size => match size_asked(segments, task) {
             Ok(size) => if_written(write_size(output, size), true),
-            Err(kind) => Err(Fault::Layout(kind)),
+            Err(kind) => Err(Fault::Layout(kind, None)),
         },
         Command::Digest => digest(memory, task, segments, output),
         Command::Validate => match validate_of(segments, task.limits) {
             Ok(extent) => if_written(write_extent(output, extent.value), true),
-            Err(kind) => Err(Fault::Layout(kind)),
+            Err(kind) => Err(Fault::Layout(kind, None)),
         },
+    }
+}
+
+/// Adds to `fault` the pointer at which the message in `segments` is refused, if `fault` is the
+/// refusal of a pointer and `task` is about the whole message. The message is read once more for
+/// this.
+pub(super) fn located<S: ReaderSegments + Drop>(fault: Fault, task: Task, segments: S) -> Fault
+    requires { IsSmall (S.segments segments) }
+    ensures { result ≡ with_pointer task (message (S.segments segments)) fault }
+{
+    match fault {
+        Fault::Layout(kind, _) => {
+            let pointer = if task.path.is_whole() {
+                pointer_of_refusal(kind, task.command, segments, task.limits)
+            } else {
+                None
+            };
+            Fault::Layout(kind, pointer)
+        }
+        other => other,
     }
 }

@@ -1,8 +1,9 @@
 //! Why a stream isn't answered to its end.
 ghost use Rattle.std.specs.Prelude.{◌≡◌};
-ghost use Rattle.capnp_streams.specs.Streams.{fault_name};
+ghost use Rattle.capnp_streams.specs.Streams.{fault_name, fault_pointer};
 
 use capnp_framing::framing::FrameError;
+use capnp_refusals::refusals::RefusedPointer;
 use capnp_words::error::ErrorKind;
 
 /// Why a message of a stream isn't answered.
@@ -10,8 +11,9 @@ use capnp_words::error::ErrorKind;
 pub enum Fault {
     /// The message's frame can't be read, or the answer can't be written.
     Frame(FrameError),
-    /// The message can't be copied, tested or measured.
-    Layout(ErrorKind),
+    /// The message can't be copied, tested or measured: why, and at which of its pointers, if it is at
+    /// one.
+    Layout(ErrorKind, Option<RefusedPointer>),
     /// There are more messages than a `u64` can count.
     TooManyMessages,
 }
@@ -23,8 +25,18 @@ impl Fault {
     {
         match self {
             Fault::Frame(error) => error.name(),
-            Fault::Layout(kind) => kind.name(),
+            Fault::Layout(kind, _) => kind.name(),
             Fault::TooManyMessages => "TooManyMessages",
+        }
+    }
+
+    /// The pointer at which the message is refused; `None` if the fault isn't that of a pointer.
+    pub fn pointer(&self) -> Option<RefusedPointer>
+        ensures { result ≡ fault_pointer self.now }
+    {
+        match self {
+            Fault::Layout(_, pointer) => *pointer,
+            Fault::Frame(_) | Fault::TooManyMessages => None,
         }
     }
 }

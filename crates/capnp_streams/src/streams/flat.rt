@@ -5,7 +5,7 @@ ghost use Rattle.capnp_framing.specs.Writing.{IsUnwritten};
 ghost use Rattle.capnp_streams.specs.Flat.{CanFlatBeAnswered, HasTakenFlat, IsFlatDone, StopsFlat};
 ghost use Rattle.capnp_streams.specs.Streams.{AreWorking, IsOfDevices, IsWriteFault, RunsToEnd, refusals_behind, stage_of};
 
-use super::answers::{Memory, answer};
+use super::answers::{Memory, answer, located};
 use super::fault::Fault;
 use super::runs::words_of;
 use super::task::Task;
@@ -64,8 +64,13 @@ pub fn run_flat_with<A: Allocator, R: Input, W: Output>(
     match read_segment_into_with(&mut allocator, input, words_of(task.limits), &mut segments) {
         Ok(()) => {
             let mut memory = Memory::new(alloc, allocator);
-            let answered = answer(&mut memory, task, &segments, output);
-            (answered, memory.into_allocator())
+            match answer(&mut memory, task, &segments, output) {
+                Ok(holds) => (Ok(holds), memory.into_allocator()),
+                Err(fault) => {
+                    let fault = located(fault, task, &segments);
+                    (Err(fault), memory.into_allocator())
+                }
+            }
         }
         Err(error) => (Err(Fault::Frame(error)), allocator),
     }

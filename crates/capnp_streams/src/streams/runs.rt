@@ -5,7 +5,7 @@ ghost use Rattle.capnp_framing.specs.declared.framing.frame_error.FrameError.The
 ghost use Rattle.capnp_framing.specs.Wholeness.{KeepsWhole};
 ghost use Rattle.capnp_streams.specs.Streams.{AreDone, AreWorking, CanBeAnswered, CountsRefusals, EndsBehind, IsOfDevices, IsWriteFault, RunsToEnd, Stage, StopsAt, WereAnswered, most_words, refusals_behind, stage_of};
 
-use super::answers::{Memory, answer};
+use super::answers::{Memory, answer, located};
 use super::fault::Fault;
 use super::task::Task;
 use capnp_arena::arena::{Allocator, ReaderOptions};
@@ -99,7 +99,7 @@ fn answer_next<A: Allocator, R: BufferedInput, W: BufferedOutput>(
                 holds,
                 bytes: segments.size_in_bytes() as u64,
             })),
-            Err(fault) => Err(fault),
+            Err(fault) => Err(located(fault, task, &*segments)),
         },
         Err(error) => Err(Fault::Frame(error)),
     }
