@@ -1,0 +1,88 @@
+-- What calls that are made of two do to a struct: the tag of a union, and then its member.
+use Rattle.std.proofs.Common.{◌≡◌, ℕ, ◌+◌, ◌<◌, Bool, true, false, cond, not, refl, List, [], ◌∷◌, Result, Ok, Err, subst}
+use Rattle.capnp_words.specs.declared.error.ErrorKind.{ErrorKind}
+use Rattle.capnp_format.specs.Path.{put_tree, tree_at}
+use Rattle.capnp_format.specs.Segments.{Segments}
+use Rattle.capnp_format.specs.Tree.{Tree, Null, Trees}
+use Rattle.capnp_making.specs.Stored.{Puts}
+use Rattle.capnp_making.proofs.Replaced.{replaced_again}
+use Rattle.capnp_readers.specs.declared.readers.struct_reader.StructPlace.{StructPlace}
+use Rattle.capnp_builders.specs.Held.{CallIn, HasStruct, Holder, MakesChild, ReplacesChild, ReplacesField, SetsChild, SetsField, call_in, held_tree}
+use Rattle.capnp_builders.proofs.HeldStructs.{child_replaced, child_set, child_stored}
+use Rattle.capnp_builders.specs.Places.{Field, field}
+use Rattle.typed_building.specs.Members.{MakesMember, ReplacesMember, SetsMember, tag_field, with_data}
+use Rattle.typed_building.specs.Slots.{BeginsGroup, ReplacesGroup, ReplacesSlots, ZeroesSlots, null_child, null_children, zero_all_data, zero_data}
+use Rattle.typed_building.specs.declared.slots.Slot.{Slot}
+use Rattle.typed_building.specs.declared.tag.Tag.{Tag}
+
+-- the opposite of a bit
+pub cond_not : (b : Bool) → ◌≡◌ {A = ℕ} (cond (not b) 1 0) (cond b 0 1)
+cond_not true = refl
+cond_not false = refl
+
+-- the value that is written comes out of another call
+pub sets_as : (c : CallIn) (start bits v u : ℕ) → SetsField c (field start bits v) → v ≡ u → SetsField c (field start bits u)
+sets_as c start bits v u h e = subst (λ z. SetsField c (field start bits z)) e h
+
+pub replaces_as : (c : CallIn) (start bits v u : ℕ) → ReplacesField c (field start bits v) → v ≡ u → ReplacesField c (field start bits u)
+replaces_as c start bits v u h e = subst (λ z. ReplacesField c (field start bits z)) e h
+
+pub sets_member_as : (c : CallIn) (tag : Tag) (start bits v u : ℕ) → SetsMember c tag (field start bits v) → v ≡ u → SetsMember c tag (field start bits u)
+sets_member_as c tag start bits v u h e = subst (λ z. SetsMember c tag (field start bits z)) e h
+
+pub replaces_member_as : (c : CallIn) (tag : Tag) (start bits v u : ℕ) → ReplacesMember c tag (field start bits v) → v ≡ u → ReplacesMember c tag (field start bits u)
+replaces_member_as c tag start bits v u h e = subst (λ z. ReplacesMember c tag (field start bits z)) e h
+
+-- a member that is a number
+pub sets_member : (S M R : Segments) (place : StructPlace) (tag : Tag) (f : Field) → SetsField (call_in place S M) (tag_field tag) → SetsField (call_in place M R) f → SetsMember (call_in place S R) tag f
+sets_member S M R place tag f first then = λ x ws ts h. then x (with_data ws (tag_field tag)) ts (first x ws ts h)
+
+pub replaces_member : (S M R : Segments) (place : StructPlace) (tag : Tag) (f : Field) → SetsField (call_in place S M) (tag_field tag) → ReplacesField (call_in place S M) (tag_field tag) → ReplacesField (call_in place M R) f → ReplacesMember (call_in place S R) tag f
+replaces_member S M R place tag f first replaced then = λ x ws ts h.
+    (let vs : List ℕ = with_data ws (tag_field tag) in
+    replaced_again S M R x.segment x.at (held_tree x.lead ws ts) (held_tree x.lead vs ts) (held_tree x.lead (with_data vs f) ts) (replaced x ws ts h) (then x vs ts (first x ws ts h)))
+
+-- a member that is an object
+pub makes_member : {V : Type 0} (r : Result V ErrorKind) (S M R : Segments) (place : StructPlace) (tag : Tag) (i : ℕ) (u : Tree) → SetsField (call_in place S M) (tag_field tag) → ReplacesField (call_in place S M) (tag_field tag) → MakesChild r (call_in place M R) i u → MakesMember r (call_in place S R) tag i u
+makes_member (Ok v) S M R place tag i u first replaced then = record {
+  sets = λ x ws ts h. then.sets x (with_data ws (tag_field tag)) ts (first x ws ts h);
+  replaces = λ x ws ts h. replaced_again S M R x.segment x.at (held_tree x.lead ws ts) (held_tree x.lead (with_data ws (tag_field tag)) ts) (held_tree x.lead (with_data ws (tag_field tag)) (put_tree ts i u)) (replaced x ws ts h) (then.replaces x (with_data ws (tag_field tag)) ts (first x ws ts h));
+  refused = λ x ws ts h. tt;
+  emptied = λ x ws ts h. tt;
+}
+makes_member (Err k) S M R place tag i u first replaced then = record {
+  sets = λ x ws ts h. tt;
+  replaces = λ x ws ts h. tt;
+  refused = λ x ws ts h. then.refused x (with_data ws (tag_field tag)) ts (first x ws ts h);
+  emptied = λ x ws ts h. replaced_again S M R x.segment x.at (held_tree x.lead ws ts) (held_tree x.lead (with_data ws (tag_field tag)) ts) (held_tree x.lead (with_data ws (tag_field tag)) (put_tree ts i Null)) (replaced x ws ts h) (then.emptied x (with_data ws (tag_field tag)) ts (first x ws ts h));
+}
+
+-- a pointer that always gets its new value
+pub sets_child : (S R : Segments) (place : StructPlace) (i at : ℕ) (u : Tree) → Puts S R place.segment at u → at ≡ place.pointers_at + i → i < place.pointers → SetsChild (λ z. z) (call_in place S R) i u
+sets_child S R place i at u puts is inside = λ x ws ts h.
+    (let there : Puts S R place.segment (place.pointers_at + i) u = subst (λ z. Puts S R place.segment z u) is puts in
+    child_set S R x place ws ts i u inside (there (tree_at ts i) (child_stored S x place ws ts i inside h)) h)
+
+pub replaces_child : (S R : Segments) (place : StructPlace) (i at : ℕ) (u : Tree) → Puts S R place.segment at u → at ≡ place.pointers_at + i → i < place.pointers → ReplacesChild (λ z. z) (call_in place S R) i u
+replaces_child S R place i at u puts is inside = λ x ws ts h.
+    (let there : Puts S R place.segment (place.pointers_at + i) u = subst (λ z. Puts S R place.segment z u) is puts in
+    child_replaced S R x place ws ts i u inside (there (tree_at ts i) (child_stored S x place ws ts i inside h)) h)
+
+-- several parts that become zero, one after another
+pub zeroes_first : (S M R : Segments) (place : StructPlace) (slot : Slot) (slots : List Slot) → ZeroesSlots (call_in place S M) (slot ∷ []) → ZeroesSlots (call_in place M R) slots → ZeroesSlots (call_in place S R) (slot ∷ slots)
+zeroes_first S M R place slot slots one rest = λ x ws ts h. rest x (zero_data ws slot) (null_child ts slot) (one x ws ts h)
+
+pub replaces_first : (S M R : Segments) (place : StructPlace) (slot : Slot) (slots : List Slot) → ZeroesSlots (call_in place S M) (slot ∷ []) → ReplacesSlots (call_in place S M) (slot ∷ []) → ReplacesSlots (call_in place M R) slots → ReplacesSlots (call_in place S R) (slot ∷ slots)
+replaces_first S M R place slot slots set one rest = λ x ws ts h.
+    (let vs : List ℕ = zero_data ws slot in
+    let us : Trees = null_child ts slot in
+    replaced_again S M R x.segment x.at (held_tree x.lead ws ts) (held_tree x.lead vs us) (held_tree x.lead (zero_all_data vs slots) (null_children us slots)) (one x ws ts h) (rest x vs us (set x ws ts h)))
+
+-- the tag of a group, and then its parts
+pub begins_group : (S M R : Segments) (place : StructPlace) (tag : Tag) (slots : List Slot) → SetsField (call_in place S M) (tag_field tag) → ZeroesSlots (call_in place M R) slots → BeginsGroup (call_in place S R) tag slots
+begins_group S M R place tag slots first rest = λ x ws ts h. rest x (with_data ws (tag_field tag)) ts (first x ws ts h)
+
+pub replaces_group : (S M R : Segments) (place : StructPlace) (tag : Tag) (slots : List Slot) → SetsField (call_in place S M) (tag_field tag) → ReplacesField (call_in place S M) (tag_field tag) → ReplacesSlots (call_in place M R) slots → ReplacesGroup (call_in place S R) tag slots
+replaces_group S M R place tag slots first replaced rest = λ x ws ts h.
+    (let vs : List ℕ = with_data ws (tag_field tag) in
+    replaced_again S M R x.segment x.at (held_tree x.lead ws ts) (held_tree x.lead vs ts) (held_tree x.lead (zero_all_data vs slots) (null_children ts slots)) (replaced x ws ts h) (rest x vs ts (first x ws ts h)))

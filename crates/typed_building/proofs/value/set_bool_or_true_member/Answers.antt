@@ -1,0 +1,10 @@
+use Rattle.std.proofs.Common.{cond}
+use Rattle.capnp_builders.specs.Places.{field}
+use Rattle.typed_building.proofs.Sets.{replaces_member, sets_member}
+use Rattle.typed_building.proofs.value.set_bool_or_true_member.Goals as goal
+
+pub returns-clause-sets : goal.returns-clause-sets
+returns-clause-sets g c = sets_member (g.A.BuilderArena.view c.args.arena.now).words (g.A.BuilderArena.view c.set_tag.new.arena).words (g.A.BuilderArena.view c.set_bool_or_true.new.arena).words c.args.place c.args.tag (field c.args.offset 1 (cond c.args.value 0 1)) c.set_tag.ensures.sets c.set_bool_or_true.ensures.sets
+
+pub returns-clause-replaces : goal.returns-clause-replaces
+returns-clause-replaces g c = replaces_member (g.A.BuilderArena.view c.args.arena.now).words (g.A.BuilderArena.view c.set_tag.new.arena).words (g.A.BuilderArena.view c.set_bool_or_true.new.arena).words c.args.place c.args.tag (field c.args.offset 1 (cond c.args.value 0 1)) c.set_tag.ensures.sets c.set_tag.ensures.replaces c.set_bool_or_true.ensures.replaces

@@ -1,0 +1,9 @@
+use Rattle.capnp_builders.specs.Places.{number_field}
+use Rattle.typed_building.proofs.Sets.{replaces_member, sets_member}
+use Rattle.typed_building.proofs.value.set_number_member.Goals as goal
+
+pub returns-clause-sets : goal.returns-clause-sets
+returns-clause-sets g c = sets_member (g.A.BuilderArena.view c.args.arena.now).words (g.A.BuilderArena.view c.set_tag.new.arena).words (g.A.BuilderArena.view c.set_number.new.arena).words c.args.place c.args.tag (number_field g.T.Primitive.BYTES c.args.offset (g.T.Primitive.bits_of c.args.value)) c.set_tag.ensures.sets c.set_number.ensures.sets
+
+pub returns-clause-replaces : goal.returns-clause-replaces
+returns-clause-replaces g c = replaces_member (g.A.BuilderArena.view c.args.arena.now).words (g.A.BuilderArena.view c.set_tag.new.arena).words (g.A.BuilderArena.view c.set_number.new.arena).words c.args.place c.args.tag (number_field g.T.Primitive.BYTES c.args.offset (g.T.Primitive.bits_of c.args.value)) c.set_tag.ensures.sets c.set_tag.ensures.replaces c.set_number.ensures.replaces

@@ -1,0 +1,4 @@
+pub mod There
+pub mod Members
+pub mod Elements
+pub mod Slots
