@@ -98,7 +98,10 @@ pub const GHOST_IMPORTS: &[ImportsOf] = &[
             ("(struct_element ", "struct_element"),
         ],
     ),
-    ("Rattle.typed_reading.specs.Values", &[("(child ", "child")]),
+    (
+        "Rattle.typed_reading.specs.Values",
+        &[(" IsDefault ", "IsDefault"), ("(child ", "child")],
+    ),
 ];
 
 /// Names of code.

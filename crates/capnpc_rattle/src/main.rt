@@ -3,6 +3,7 @@
 //! needs no proof of its own.
 #![tactic(auto)]
 
+mod defaults;
 mod imports;
 mod model;
 mod modules;

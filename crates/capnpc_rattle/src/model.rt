@@ -119,8 +119,10 @@ pub enum Default {
     Number { literal: String, bits: u64 },
     /// The bytes of a text, or data.
     Bytes(Vec<u8>),
-    /// A struct, a list, or any pointer.
-    Pointer,
+    /// The words of a struct or a list: one segment, with its pointer in the first word.
+    Words(Vec<u8>),
+    /// Something that this program doesn't know.
+    Unknown,
 }
 
 /// A field that isn't a group.
