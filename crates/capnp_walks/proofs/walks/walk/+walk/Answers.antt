@@ -1,0 +1,126 @@
+use Rattle.std.proofs.Common.{◌≡◌, ℕ, suc, ◌+◌, ◌*◌, ◌-◌, None, Ok, refl, ap, ap₂, ◌∙◌, subst, arith, rules}
+use Rattle.std.proofs.lemmas.Int.{to_z-of_z}
+use mir.Syntax.{w32}
+use Rattle.capnp_objects.specs.declared.object.Purpose.TheVariants.{Value}
+use Rattle.capnp_objects.specs.Objects.{IsObject}
+use Rattle.capnp_objects.specs.Reading.{Reading, behind}
+use Rattle.capnp_pointers.specs.Measure.{fold_pointers}
+use Rattle.capnp_pointers.specs.Pointers.{reading, reading_on}
+use Rattle.capnp_pointers.proofs.Falls.{falls_in}
+use Rattle.capnp_pointers.proofs.Measured.{no_pointers, one_more, row_more}
+use Rattle.capnp_pointers.proofs.Returned.{inner_levels}
+use Rattle.capnp_refusals.proofs.Searched.{structs_inside, structs_level}
+use Rattle.capnp_walks.specs.Listing.{into_array}
+use Rattle.capnp_walks.specs.Walks.{unless_stopped, walk_elements, walk_within}
+use Rattle.capnp_walks.proofs.Stepped.{leaf_object, pointer_stops, pointers_open, refusal_stops, row_stops, struct_opens, structs_open}
+use Rattle.capnp_walks.proofs.walks.walk.+walk.Goals as goal
+
+pub walk_pointers-returns-in-Some : goal.walk_pointers-returns-in-Some
+walk_pointers-returns-in-Some g t c =
+    let nl = to_z-of_z w32 c.args.from.now.nesting_limit (search rules) in
+    let r : Reading = reading_on g.A.ReaderArena c.args.from.now c.args.at c.args.from.now.nesting_limit in
+    c.loop-i.invariant (suc (c.args.pointers - c.loop-i.i - 1)) (omega (arith, c.loop-i-test.true))
+    ∙ pointer_stops (walk_within into_array r.levels c.args.parent) (behind r c.loop-i.i) (c.args.pointers - c.loop-i.i - 1) (c.loop-i.objects, c.loop-i.count) _ _ _ _ (rw nl at c.in-Some.ensures)
+
+pub walk_pointers-loop-i-preserved : goal.walk_pointers-loop-i-preserved
+walk_pointers-loop-i-preserved g t c =
+    let nl = to_z-of_z w32 c.args.from.now.nesting_limit (search rules) in
+    let r : Reading = reading_on g.A.ReaderArena c.args.from.now c.args.at c.args.from.now.nesting_limit in
+    λ k e. c.loop-i.invariant (suc k) (omega (arith, e)) ∙ one_more (unless_stopped (walk_within into_array r.levels c.args.parent)) r c.loop-i.i (c.loop-i.i + 1) k ((c.loop-i.objects, c.loop-i.count), None) _ _ _ refl (rw nl at c.in-None.ensures)
+
+pub walk_pointers-returns : goal.walk_pointers-returns
+walk_pointers-returns g t c = c.loop-i.invariant 0 (omega (arith, c.loop-i-test.false, c.loop-i.auto.i-end))
+
+pub walk_elements-returns-then-pointers-eq0 : goal.walk_elements-returns-then-pointers-eq0
+walk_elements-returns-then-pointers-eq0 g t c =
+    let r : Reading = reading g.A.ReaderArena c.args.from.now in
+    let d : ℕ = c.args.data_words in
+    rw c.if-pointers-eq0.true (no_pointers (unless_stopped (walk_within into_array r.levels c.args.parent)) r d c.args.elements ((c.args.objects.now, c.args.count.now), None) c.args.lim.now)
+
+pub walk_elements-returns-in-Some : goal.walk_elements-returns-in-Some
+walk_elements-returns-in-Some g t c =
+    let r : Reading = reading g.A.ReaderArena c.args.from.now in
+    let d : ℕ = c.args.data_words in
+    let q : ℕ = c.args.pointers in
+    let f = walk_within into_array r.levels c.args.parent in
+    let there : c.from-in-loop-i.result + c.from-in-loop-i-2.result * (c.from.result + c.from-2.result) + c.from-in-loop-i-3.result ≡ r.at + (c.loop-i.i * (d + q) + d) =
+    ap₂ (λ x y. x + y) (ap₂ (λ x y. x + y) c.from-in-loop-i.ensures (ap₂ (λ x y. x * y) c.from-in-loop-i-2.ensures (ap₂ (λ x y. x + y) c.from.ensures c.from-2.ensures))) c.from-in-loop-i-3.ensures ∙ omega arith in
+    let i : ℕ = c.loop-i.i in
+    let found = ap (λ p. fold_pointers (unless_stopped f) q (record r { at = p }) ((c.loop-i.objects, c.loop-i.count), None) c.loop-i.lim) (omega arith) ∙ rw there at c.in-Some.ensures in
+    c.loop-i.invariant (suc (c.args.elements - i - 1)) (omega (arith, c.loop-i-test.true))
+    ∙ row_stops f (behind r (i * (d + q))) d q (c.args.elements - i - 1) (c.loop-i.objects, c.loop-i.count) _ _ _ _ found
+
+pub walk_elements-loop-i-preserved : goal.walk_elements-loop-i-preserved
+walk_elements-loop-i-preserved g t c =
+    let r : Reading = reading g.A.ReaderArena c.args.from.now in
+    let d : ℕ = c.args.data_words in
+    let q : ℕ = c.args.pointers in
+    let f = walk_within into_array r.levels c.args.parent in
+    let there : c.from-in-loop-i.result + c.from-in-loop-i-2.result * (c.from.result + c.from-2.result) + c.from-in-loop-i-3.result ≡ r.at + (c.loop-i.i * (d + q) + d) =
+    ap₂ (λ x y. x + y) (ap₂ (λ x y. x + y) c.from-in-loop-i.ensures (ap₂ (λ x y. x * y) c.from-in-loop-i-2.ensures (ap₂ (λ x y. x + y) c.from.ensures c.from-2.ensures))) c.from-in-loop-i-3.ensures ∙ omega arith in
+    λ k e. c.loop-i.invariant (suc k) (omega (arith, e)) ∙ row_more (unless_stopped f) r d q c.loop-i.i (c.loop-i.i + 1) k ((c.loop-i.objects, c.loop-i.count), None) _ _ _ refl (rw there at c.in-None.ensures)
+
+pub walk_elements-returns : goal.walk_elements-returns
+walk_elements-returns g t c =
+    c.loop-i.invariant 0 (omega (arith, c.loop-i-test.false, c.loop-i.auto.i-end))
+
+pub walk_object-returns-in-Err : goal.walk_object-returns-in-Err
+walk_object-returns-in-Err g t c =
+    let r : Reading = reading_on g.A.ReaderArena c.args.from.now c.args.at c.args.nesting_limit in
+    let nl = to_z-of_z w32 c.args.nesting_limit c.ranges.nesting_limit in
+    refusal_stops into_array c.args.parent r (c.args.objects.now, c.args.count.now) c.args.lim.now c.read_object.new.lim c.in-Err.refusal (rw nl at c.in-Err.ensures.refused)
+
+pub walk_object-returns-in-Null : goal.walk_object-returns-in-Null
+walk_object-returns-in-Null g t c =
+    let r : Reading = reading_on g.A.ReaderArena c.args.from.now c.args.at c.args.nesting_limit in
+    let nl = to_z-of_z w32 c.args.nesting_limit c.ranges.nesting_limit in
+    leaf_object into_array c.args.parent r (c.args.objects.now, c.args.count.now) _ c.args.lim.now c.read_object.new.lim c.in-Ok.object _ c.in-Null.is (λ f s y. refl) (rw nl at c.in-Ok.ensures.object) c.add_object.ensures
+
+pub walk_object-returns-in-Capability : goal.walk_object-returns-in-Capability
+walk_object-returns-in-Capability g t c =
+    let r : Reading = reading_on g.A.ReaderArena c.args.from.now c.args.at c.args.nesting_limit in
+    let nl = to_z-of_z w32 c.args.nesting_limit c.ranges.nesting_limit in
+    leaf_object into_array c.args.parent r (c.args.objects.now, c.args.count.now) _ c.args.lim.now c.read_object.new.lim c.in-Ok.object _ c.in-Capability.is (λ f s y. refl) (rw nl at c.in-Ok.ensures.object) c.add_object.ensures
+
+pub walk_object-returns-in-Flat : goal.walk_object-returns-in-Flat
+walk_object-returns-in-Flat g t c =
+    let r : Reading = reading_on g.A.ReaderArena c.args.from.now c.args.at c.args.nesting_limit in
+    let nl = to_z-of_z w32 c.args.nesting_limit c.ranges.nesting_limit in
+    leaf_object into_array c.args.parent r (c.args.objects.now, c.args.count.now) _ c.args.lim.now c.read_object.new.lim c.in-Ok.object _ c.in-Flat.is (λ f s y. refl) (rw nl at c.in-Ok.ensures.object) c.add_object.ensures
+
+pub walk_object-returns-in-Struct : goal.walk_object-returns-in-Struct
+walk_object-returns-in-Struct g t c =
+    let r : Reading = reading_on g.A.ReaderArena c.args.from.now c.args.at c.args.nesting_limit in
+    let nl = to_z-of_z w32 c.args.nesting_limit c.ranges.nesting_limit in
+    let inner = inner_levels c.args.nesting_limit c.less-inner.result c.ranges.nesting_limit (record { sfits = c.less-inner.type_inv }) c.less-inner.ensures in
+    let object : IsObject Value r c.args.lim.now c.read_object.new.lim c.in-Ok.object = rw nl at c.in-Ok.ensures.object in
+    struct_opens into_array c.args.parent r (c.args.objects.now, c.args.count.now) (c.add_object.new.objects, c.add_object.new.count) c.args.lim.now c.read_object.new.lim c.in-Ok.object c.in-Struct.start c.in-Struct.size c.from-words.result c.from-pointers.result c.in-Struct.is c.from-words.ensures c.from-pointers.ensures object c.add_object.ensures
+    ∙ subst (λ n. walk_elements into_array c.args.count.now c.from-words.result c.from-pointers.result 1 (record r { levels = n; segment = c.in-Struct.start.segment; at = c.in-Struct.start.at }) (c.add_object.new.objects, c.add_object.new.count) c.read_object.new.lim ≡ (Ok ((c.walk_elements.new.objects, c.walk_elements.new.count), c.walk_elements.result), c.walk_elements.new.lim)) inner c.walk_elements.ensures
+
+pub walk_object-returns-in-Pointers : goal.walk_object-returns-in-Pointers
+walk_object-returns-in-Pointers g t c =
+    let r : Reading = reading_on g.A.ReaderArena c.args.from.now c.args.at c.args.nesting_limit in
+    let nl = to_z-of_z w32 c.args.nesting_limit c.ranges.nesting_limit in
+    let inner = inner_levels c.args.nesting_limit c.less-inner.result c.ranges.nesting_limit (record { sfits = c.less-inner.type_inv }) c.less-inner.ensures in
+    let object : IsObject Value r c.args.lim.now c.read_object.new.lim c.in-Ok.object = rw nl at c.in-Ok.ensures.object in
+    pointers_open into_array c.args.parent r (c.args.objects.now, c.args.count.now) (c.add_object.new.objects, c.add_object.new.count) c.args.lim.now c.read_object.new.lim c.in-Ok.object c.in-Pointers.start c.in-Pointers.pointers c.in-Pointers.is object c.add_object.ensures
+    ∙ subst (λ n. walk_elements into_array c.args.count.now 0 c.in-Pointers.pointers 1 (record r { levels = n; segment = c.in-Pointers.start.segment; at = c.in-Pointers.start.at }) (c.add_object.new.objects, c.add_object.new.count) c.read_object.new.lim ≡ (Ok ((c.walk_elements-in-Pointers.new.objects, c.walk_elements-in-Pointers.new.count), c.walk_elements-in-Pointers.result), c.walk_elements-in-Pointers.new.lim)) inner c.walk_elements-in-Pointers.ensures
+
+pub walk_object-returns-in-Structs : goal.walk_object-returns-in-Structs
+walk_object-returns-in-Structs g t c =
+    let r : Reading = reading_on g.A.ReaderArena c.args.from.now c.args.at c.args.nesting_limit in
+    let nl = to_z-of_z w32 c.args.nesting_limit c.ranges.nesting_limit in
+    let inner = inner_levels c.args.nesting_limit c.less-inner.result c.ranges.nesting_limit (record { sfits = c.less-inner.type_inv }) c.less-inner.ensures in
+    let object : IsObject Value r c.args.lim.now c.read_object.new.lim c.in-Ok.object = rw nl at c.in-Ok.ensures.object in
+    structs_open into_array c.args.parent r (c.args.objects.now, c.args.count.now) (c.add_object.new.objects, c.add_object.new.count) c.args.lim.now c.read_object.new.lim c.in-Ok.object c.in-Structs.start c.in-Structs.size c.in-Structs.elements c.from-data.result c.from-each.result c.in-Structs.is c.from-data.ensures c.from-each.ensures object c.add_object.ensures
+    ∙ rw inner at c.walk_elements-in-Structs.ensures
+
+pub walk_object-walk_elements-requires-in-Structs : goal.walk_object-walk_elements-requires-in-Structs
+walk_object-walk_elements-requires-in-Structs g t c =
+    let r : Reading = reading_on g.A.ReaderArena c.args.from.now c.args.at c.args.nesting_limit in
+    let nl = to_z-of_z w32 c.args.nesting_limit c.ranges.nesting_limit in
+    let inner = inner_levels c.args.nesting_limit c.less-inner.result c.ranges.nesting_limit (record { sfits = c.less-inner.type_inv }) c.less-inner.ensures in
+    let object : IsObject Value r c.args.lim.now c.read_object.new.lim c.in-Ok.object = rw nl at c.in-Ok.ensures.object in
+    let inside = structs_inside Value r c.args.lim.now c.read_object.new.lim c.in-Ok.object c.in-Structs.start c.in-Structs.size c.in-Structs.elements c.from-data.result c.from-each.result c.in-Structs.is c.from-data.ensures c.from-each.ensures object in
+    let level = structs_level Value r c.args.lim.now c.read_object.new.lim c.in-Ok.object c.in-Structs.start c.in-Structs.size c.in-Structs.elements c.in-Structs.is object in
+    λ κs le. (falls_in 2 (search rules) inner level c.decreases, (le, inside))
