@@ -202,6 +202,48 @@ struct capnp_canonical_pointer {
     uint64_t segment;
 };
 
+/* What an object of a message is. A list has the format's number of its element size ("Lists"). */
+enum capnp_canonical_kind {
+    CAPNP_CANONICAL_KIND_LIST_OF_VOID = 0,
+    CAPNP_CANONICAL_KIND_LIST_OF_BITS = 1,
+    CAPNP_CANONICAL_KIND_LIST_OF_BYTES = 2,
+    CAPNP_CANONICAL_KIND_LIST_OF_TWO_BYTES = 3,
+    CAPNP_CANONICAL_KIND_LIST_OF_FOUR_BYTES = 4,
+    CAPNP_CANONICAL_KIND_LIST_OF_EIGHT_BYTES = 5,
+    CAPNP_CANONICAL_KIND_LIST_OF_POINTERS = 6,
+    CAPNP_CANONICAL_KIND_LIST_OF_STRUCTS = 7,
+    CAPNP_CANONICAL_KIND_STRUCT = 8,
+    CAPNP_CANONICAL_KIND_CAPABILITY = 9
+};
+
+/* The parent of the object that the root pointer leads to. */
+#define CAPNP_CANONICAL_NO_PARENT UINT64_MAX
+
+/* An object of a message: its kind and place, and the place of the pointer that leads to it. */
+struct capnp_canonical_object {
+    /* The index of the object that the pointer is in; CAPNP_CANONICAL_NO_PARENT for the root pointer. */
+    uint64_t parent;
+    /* The number of the pointer's segment. */
+    uint64_t pointer_segment;
+    /* The number of the object's segment; 0 for a capability. */
+    uint64_t segment;
+    /* The position of the pointer in its segment, in words. */
+    uint32_t pointer_word;
+    /* The position of the object in its segment, in words: of its first word, but of the first word after the tag for a list
+     * of structs; 0 for a capability. */
+    uint32_t word;
+    /* A number of enum capnp_canonical_kind. */
+    uint32_t kind;
+    /* The number of elements of a list; otherwise 0. */
+    uint32_t count;
+    /* The index of a capability; otherwise 0. */
+    uint32_t capability;
+    /* The number of data words of a struct, or of each element of a list of structs; otherwise 0. */
+    uint16_t data_words;
+    /* The number of pointers of a struct, or of each element of a list of structs; otherwise 0. */
+    uint16_t pointers;
+};
+
 /* A segment of a message. */
 struct capnp_canonical_segment {
     /* Its first byte, at any address; may be null if `size` is 0. */
@@ -261,6 +303,19 @@ uint32_t capnp_canonical_validate(const uint8_t *frame, size_t frame_size, int32
  * the calls that take a path. */
 uint32_t capnp_canonical_locate(const uint8_t *frame, size_t frame_size, int32_t nesting, uint64_t words, uint32_t reading, struct capnp_canonical_pointer *pointer);
 
+/* Lists the objects of the message: writes one entry to the array at `objects`, which has room for `room` of them, for each
+ * struct, list and capability, and their number to `*count`. An object comes before those that its own pointers lead to,
+ * and these come in the order of the pointers. Null pointers have no entry, and neither has an element of a list of
+ * structs: `parent` is then the list, and the place of the pointer tells the element. An object that several pointers lead
+ * to has an entry for each. The frame is at the front of `frame_size` bytes. Takes no memory.
+ *
+ * CAPNP_CANONICAL_NO_ROOM means that there are more than `room` objects; those that fit are written, and `*count` is the
+ * number of all of them. It is at most `words`, since each pointer that is read takes a word of the limit. So pass null and
+ * 0 to ask for the number. A message that isn't sound is refused as capnp_canonical_validate refuses it. The objects before
+ * the broken pointer, in the order of the list, are still written and counted; capnp_canonical_locate finds that pointer.
+ * `*count` is 0 if there is no such frame. Entries after those that are written stay as they are. */
+uint32_t capnp_canonical_walk(const uint8_t *frame, size_t frame_size, int32_t nesting, uint64_t words, struct capnp_canonical_object *objects, size_t room, size_t *count);
+
 /* copy_flat, digest and size for a part of the message: for the value of the pointer at the end of a path. If
  * `struct Signed { payload @0 :Payload; signature @1 :Data; }` is the root, the path {0} leads to the payload, whose words
  * can be signed. `path` is `steps` indexes; it may be null if `steps` is 0, which leads to the root pointer. An index
@@ -295,9 +350,9 @@ uint32_t capnp_canonical_frame_size(const uint8_t *frame, size_t size, uint64_t 
  * for what has arrived, not for what is announced. */
 uint32_t capnp_canonical_frame_size_from_prefix(const uint8_t *prefix, size_t size, uint64_t words, size_t *bytes);
 
-/* copy, copy_flat, digest, check, size, validate and locate, and the three calls for a part, for a message of `count`
- * segments. There may be more segments than a frame can have. If there are none there is no root, and the call is refused
- * with CAPNP_CANONICAL_INVALID_SEGMENT_ID. */
+/* copy, copy_flat, digest, check, size, validate, locate and walk, and the three calls for a part, for a message of
+ * `count` segments. There may be more segments than a frame can have. If there are none there is no root, and the call is
+ * refused with CAPNP_CANONICAL_INVALID_SEGMENT_ID. */
 uint32_t capnp_canonical_segments_copy(const struct capnp_canonical_segment *segments, size_t count, int32_t nesting, uint64_t words, uint8_t *to, size_t room, size_t *written);
 
 uint32_t capnp_canonical_segments_copy_flat(const struct capnp_canonical_segment *segments, size_t count, int32_t nesting, uint64_t words, uint8_t *to, size_t room, size_t *written);
@@ -311,6 +366,8 @@ uint32_t capnp_canonical_segments_size(const struct capnp_canonical_segment *seg
 uint32_t capnp_canonical_segments_validate(const struct capnp_canonical_segment *segments, size_t count, int32_t nesting, uint64_t words, struct capnp_canonical_extent *extent);
 
 uint32_t capnp_canonical_segments_locate(const struct capnp_canonical_segment *segments, size_t count, int32_t nesting, uint64_t words, uint32_t reading, struct capnp_canonical_pointer *pointer);
+
+uint32_t capnp_canonical_segments_walk(const struct capnp_canonical_segment *segments, size_t count, int32_t nesting, uint64_t words, struct capnp_canonical_object *objects, size_t room, size_t *found);
 
 uint32_t capnp_canonical_segments_copy_flat_at(const struct capnp_canonical_segment *segments, size_t count, const uint32_t *path, size_t steps, int32_t nesting, uint64_t words, uint8_t *to, size_t room, size_t *written);
 
@@ -333,6 +390,8 @@ uint32_t capnp_canonical_words_size(const uint8_t *message, size_t size, int32_t
 uint32_t capnp_canonical_words_validate(const uint8_t *message, size_t size, int32_t nesting, uint64_t words, struct capnp_canonical_extent *extent);
 
 uint32_t capnp_canonical_words_locate(const uint8_t *message, size_t size, int32_t nesting, uint64_t words, uint32_t reading, struct capnp_canonical_pointer *pointer);
+
+uint32_t capnp_canonical_words_walk(const uint8_t *message, size_t size, int32_t nesting, uint64_t words, struct capnp_canonical_object *objects, size_t room, size_t *count);
 
 uint32_t capnp_canonical_words_copy_at(const uint8_t *message, size_t size, const uint32_t *path, size_t steps, int32_t nesting, uint64_t words, uint8_t *to, size_t room, size_t *written);
 

@@ -320,6 +320,20 @@ struct Extent {
     std::uint32_t depth;
 };
 
+// An object of a message: its kind and place, and the pointer that leads to it. capnp_canonical.h says what each number is.
+using Object = capnp_canonical_object;
+
+// The objects of a message.
+struct Walk {
+    // Each object before those that its own pointers lead to. Null pointers and elements of lists of structs aren't among
+    // them.
+    std::vector<Object> objects;
+    // The number of all objects, which may be more than `most`.
+    std::size_t count = 0;
+    // The refusal of the broken pointer, with its place; the objects are then those before it.
+    std::optional<Error> refused;
+};
+
 // The size in bytes of the frame at the front. Its message isn't read.
 inline std::size_t frame_size(Bytes stream, std::uint64_t words = CAPNP_CANONICAL_WORDS) {
     std::size_t size = 0;
@@ -392,6 +406,9 @@ public:
     std::uint32_t validate(capnp_canonical_extent* extent) const noexcept {
         return capnp_canonical_validate(frame_.data(), frame_.size(), limits_.nesting, limits_.words, extent);
     }
+    std::uint32_t walk(Object* objects, std::size_t room, std::size_t* count) const noexcept {
+        return capnp_canonical_walk(frame_.data(), frame_.size(), limits_.nesting, limits_.words, objects, room, count);
+    }
     std::optional<Pointer> refused(std::uint32_t reading) const noexcept {
         capnp_canonical_pointer it = {};
         return found(capnp_canonical_locate(frame_.data(), frame_.size(), limits_.nesting, limits_.words, reading, &it), it);
@@ -462,6 +479,9 @@ public:
     }
     std::uint32_t validate(capnp_canonical_extent* extent) const noexcept {
         return capnp_canonical_segments_validate(segments_, count_, limits_.nesting, limits_.words, extent);
+    }
+    std::uint32_t walk(Object* objects, std::size_t room, std::size_t* count) const noexcept {
+        return capnp_canonical_segments_walk(segments_, count_, limits_.nesting, limits_.words, objects, room, count);
     }
     std::optional<Pointer> refused(std::uint32_t reading) const noexcept {
         capnp_canonical_pointer it = {};
@@ -623,6 +643,18 @@ Extent extent_of(const Source& source) {
 }
 
 template <typename Source>
+Walk walk_of(const Source& source, std::size_t most) {
+    Walk found;
+    found.objects.resize(most);
+    std::uint32_t answer = source.walk(found.objects.data(), most, &found.count);
+    if (found.count < most) found.objects.resize(found.count);
+    if (answer == CAPNP_CANONICAL_DONE || answer == CAPNP_CANONICAL_NO_ROOM) return found;
+    found.refused = error_of(source, answer, CAPNP_CANONICAL_READING_VALUE);
+    if (!found.refused->pointer()) throw *found.refused;
+    return found;
+}
+
+template <typename Source>
 Size size_of(const Source& source) {
     Size size = {};
     std::uint32_t answer = source.size(&size.words, &size.capabilities);
@@ -711,6 +743,15 @@ inline Extent validate(const Segments& segments, Limits limits = {}) {
     return detail::extent_of(detail::SegmentSource(segments, limits));
 }
 
+// The structs, lists and capabilities of the message, at most `most` of them. A broken message is listed up to its first
+// broken pointer. Throws Error only if the bytes aren't a message. No message has more objects than the limit on words.
+inline Walk walk(Bytes frame, std::size_t most, Limits limits = {}) {
+    return detail::walk_of(detail::FrameSource(frame, limits), most);
+}
+inline Walk walk(const Segments& segments, std::size_t most, Limits limits = {}) {
+    return detail::walk_of(detail::SegmentSource(segments, limits), most);
+}
+
 // copy_flat, digest and size for a part of a message: the value of the pointer at the end of a path. If
 // the path leads to no pointer, throws Error with CAPNP_CANONICAL_NO_SUCH_PLACE.
 inline std::vector<std::uint8_t> copy_flat_at(Bytes frame, Path path, Limits limits = {}) {
@@ -743,6 +784,9 @@ inline std::vector<std::uint8_t> words_copy(Bytes words, Limits limits = {}) {
 }
 inline Size words_size(Bytes words, Limits limits = {}) { return size(Segments{words}, limits); }
 inline Extent words_validate(Bytes words, Limits limits = {}) { return validate(Segments{words}, limits); }
+inline Walk words_walk(Bytes words, std::size_t most, Limits limits = {}) {
+    return walk(Segments{words}, most, limits);
+}
 inline std::vector<std::uint8_t> words_copy_at(Bytes words, Path path, Limits limits = {}) {
     return copy_flat_at(Segments{words}, path, limits);
 }

@@ -111,6 +111,8 @@ for which in static shared; do
     part "sound messages, $which" "$folder/extents_$which" "$here/extents.txt"
     part "places of broken pointers, $which, built" build "places_$which" tests/library/places.c "$which"
     part "places of broken pointers, $which" "$folder/places_$which" "$here/places.txt"
+    part "objects of messages, $which, built" build "walks_$which" tests/library/walks.c "$which"
+    part "objects of messages, $which" "$folder/walks_$which" "$here/walks.txt"
 done
 part "test with the address sanitizer, built" build sanitized tests/library/test.c static -fsanitize=address,undefined -fno-sanitize-recover
 part "test with the address sanitizer" "$folder/sanitized" "$here/messages.txt"
@@ -126,6 +128,8 @@ part "sound messages with the address sanitizer, built" build extents_sanitized 
 part "sound messages with the address sanitizer" "$folder/extents_sanitized" "$here/extents.txt"
 part "places of broken pointers with the address sanitizer, built" build places_sanitized tests/library/places.c static -fsanitize=address,undefined -fno-sanitize-recover
 part "places of broken pointers with the address sanitizer" "$folder/places_sanitized" "$here/places.txt"
+part "objects of messages with the address sanitizer, built" build walks_sanitized tests/library/walks.c static -fsanitize=address,undefined -fno-sanitize-recover
+part "objects of messages with the address sanitizer" "$folder/walks_sanitized" "$here/walks.txt"
 part "packed bytes where malloc is counted, built" build unpack_counting tests/library/unpack.c static -DWRAP -Wl,--wrap=malloc -Wl,--wrap=realloc
 part "packed bytes where malloc is counted" "$folder/unpack_counting" "$here/packed.txt"
 part "pieces of packed streams where malloc is counted, built" build pieces_counting tests/library/pieces.c static -DWRAP -Wl,--wrap=malloc -Wl,--wrap=realloc

@@ -601,6 +601,30 @@ void test_errors() {
                  "NoRoom: the buffer is too small, and 24 bytes are wanted");
 }
 
+// Two pointers to one text of 16 bytes: each has an entry. A broken pointer ends the list.
+void test_walk() {
+    Vector frame = bytes_of("000000000500000000000000000002000500000082000000010000008200000061626364656667686162636465666700");
+    auto told = [](const capnp_canonical::Walk& walk) {
+        std::string text = std::to_string(walk.count);
+        for (const auto& it : walk.objects) {
+            text += " " + std::to_string(it.kind) + ":" + std::to_string(it.pointer_word) + ":" + std::to_string(it.word);
+            text += ":" + std::to_string(it.count) + ":" + std::to_string(it.pointers);
+            text += it.parent == CAPNP_CANONICAL_NO_PARENT ? "" : ":" + std::to_string(it.parent);
+        }
+        return text + (walk.refused ? std::string(" ") + walk.refused->name() + " at " + walk.refused->pointer()->text() : "");
+    };
+    const std::string all = "3 8:0:1:0:2 2:1:3:16:0:0 2:2:3:16:0:0";
+    require_same("a frame", told(capnp_canonical::walk(frame, 100)), all);
+    require_same("segments", told(capnp_canonical::walk(capnp_canonical::Segments{Bytes(frame.data() + 8, 40)}, 100)), all);
+    require_same("words", told(capnp_canonical::words_walk(Bytes(frame.data() + 8, 40), 100)), all);
+    require_same("one object", told(capnp_canonical::walk(frame, 1)), "3 8:0:1:0:2");
+    frame[24] = 0x41;
+    require_same("a broken pointer", told(capnp_canonical::walk(frame, 100)),
+                 "2 8:0:1:0:2 2:1:3:16:0:0 MessageContainsOutOfBoundsPointer at segment 0, word 2");
+    frame.resize(20);
+    require_same("no frame", what([&] { capnp_canonical::walk(frame, 100); }).substr(0, 9), "Truncated");
+}
+
 int main(int count, char** words) {
     if (count != 6) return 2;
     test_messages(words[1]);
@@ -623,6 +647,7 @@ int main(int count, char** words) {
     test("frames of a packed reader", [&] { test_packed_frame_reader(words[4]); });
     test("parts of messages", [&] { test_parts(words[3]); });
     test("places of broken pointers", [&] { test_places(words[5]); });
+    test("objects of messages", test_walk);
     test("errors", test_errors);
     test("version", [] { require(capnp_canonical::version() == CAPNP_CANONICAL_VERSION, "another than the header's"); });
     return failed ? 1 : 0;

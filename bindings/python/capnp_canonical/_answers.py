@@ -4,7 +4,7 @@ from __future__ import annotations
 import enum
 from dataclasses import dataclass
 from operator import index
-from typing import Optional, Tuple, Union
+from typing import List, Optional, Tuple, Union
 
 from capnp_canonical._library import library, text_of
 
@@ -192,3 +192,55 @@ class Extent:
     """The number of capabilities."""
     cost: int
     """Words that reading the whole value once takes from the traversal limit, with one for the root pointer."""
+
+
+class Kind(enum.IntEnum):
+    """What an object of a message is. A list has the format's number of its element size."""
+
+    LIST_OF_VOID = 0
+    LIST_OF_BITS = 1
+    LIST_OF_BYTES = 2
+    LIST_OF_TWO_BYTES = 3
+    LIST_OF_FOUR_BYTES = 4
+    LIST_OF_EIGHT_BYTES = 5
+    LIST_OF_POINTERS = 6
+    LIST_OF_STRUCTS = 7
+    STRUCT = 8
+    CAPABILITY = 9
+
+
+@dataclass(frozen=True)
+class Object:
+    """An object of a message: its kind and place, and the pointer that leads to it."""
+
+    kind: Kind
+    """What it is."""
+    parent: Optional[int]
+    """The index of the object that the pointer is in; None for the root pointer."""
+    pointer: Tuple[int, int]
+    """The number of the pointer's segment, and the pointer's position there in words."""
+    segment: int
+    """The number of the object's segment; 0 for a capability."""
+    word: int
+    """The position of the object in its segment, in words; that of the first word after the tag for a list of structs; 0 for a
+    capability."""
+    count: int
+    """The number of elements of a list; otherwise 0."""
+    capability: int
+    """The index of a capability; otherwise 0."""
+    data_words: int
+    """The number of data words of a struct, or of each element of a list of structs; otherwise 0."""
+    pointers: int
+    """The number of pointers of a struct, or of each element of a list of structs; otherwise 0."""
+
+
+@dataclass(frozen=True)
+class Walk:
+    """The objects of a message."""
+
+    objects: List[Object]
+    """Each before those that its own pointers lead to. Null pointers and elements of lists of structs aren't among them."""
+    count: int
+    """The number of all objects, which may be more than `most`."""
+    refused: Optional[Error]
+    """The refusal of the broken pointer, with its place; the objects are then those before it. Otherwise None."""

@@ -5,8 +5,8 @@ import ctypes
 from array import array
 from typing import TYPE_CHECKING, Any, Callable, Iterable, List, Optional, Sequence, Tuple
 
-from capnp_canonical._answers import Error, Extent, Fault, Limits, Reason, Refusal, Size
-from capnp_canonical._library import Lent, RawExtent, RawFault, RawPointer, RawSegment, library
+from capnp_canonical._answers import Error, Extent, Fault, Kind, Limits, Object, Reason, Refusal, Size, Walk
+from capnp_canonical._library import Lent, RawExtent, RawFault, RawObject, RawPointer, RawSegment, library
 from capnp_canonical._library import frame_size as raw_frame_size
 from capnp_canonical._looks import looks_like
 
@@ -15,6 +15,8 @@ if TYPE_CHECKING:
 
 DONE = 0
 LIMITS = Limits()
+# The default of `most`: how many objects a call lists.
+MOST_OBJECTS = 65_536
 # Up to this size the room for a copy is as large as all bytes passed, and the frame isn't measured first.
 _SMALL = 4096
 # The most bytes of a table, which has up to 512 segments.
@@ -211,6 +213,27 @@ def _validated(call: _Call, given: _Given, limits: Limits) -> Extent:
     return Extent(extent.depth, extent.words, extent.capabilities, extent.cost)
 
 
+def _object_of(raw: RawObject) -> Object:
+    parent = None if raw.parent == 2**64 - 1 else raw.parent
+    return Object(
+        Kind(raw.kind), parent, (raw.pointer_segment, raw.pointer_word), raw.segment, raw.word, raw.count, raw.capability,
+        raw.data_words, raw.pointers
+    )
+
+
+def _walked(call: _Call, given: _Given, most: int, limits: Limits) -> Walk:
+    count = ctypes.c_size_t()
+    with given:
+        nesting, words = _limits(limits)
+        # no message has more objects than it may have words
+        objects = (RawObject * min(most, words))()
+        answer = call(given.first, given.second, nesting, words, objects, len(objects), count)
+        refused = None if answer in (DONE, Refusal.NO_ROOM) else _error_of(answer, given, limits, _VALUE)
+    if refused and refused.pointer is None:
+        raise refused
+    return Walk([_object_of(it) for it in objects[:count.value]], count.value, refused)
+
+
 def _at(call: _Call, path: Iterable[int]) -> _Call:
     """The call for a part of the message, with a path whose indexes fit 32 bits."""
     indexes = array('I', list(path))
@@ -282,6 +305,12 @@ def validate(frame: ReadableBuffer, limits: Limits = LIMITS) -> Extent:
     return _validated(library.capnp_canonical_validate, _frame(frame), limits)
 
 
+def walk(frame: ReadableBuffer, most: int = MOST_OBJECTS, limits: Limits = LIMITS) -> Walk:
+    """List the structs, lists and capabilities of the message, at most `most` of them. A broken message is listed up to its
+    first broken pointer. Raises `Error` only if the bytes aren't a message."""
+    return _walked(library.capnp_canonical_walk, _frame(frame), most, limits)
+
+
 def size_at(frame: ReadableBuffer, path: Iterable[int], limits: Limits = LIMITS) -> Size:
     """Like `size`, for the part of the message that `copy_flat_at` copies."""
     return _sized(_at(library.capnp_canonical_size_at, path), _frame(frame), limits, None)
@@ -337,6 +366,13 @@ def segments_validate(segments: Iterable[ReadableBuffer], limits: Limits = LIMIT
     return _validated(library.capnp_canonical_segments_validate, _segments(segments), limits)
 
 
+def segments_walk(
+    segments: Iterable[ReadableBuffer], most: int = MOST_OBJECTS, limits: Limits = LIMITS
+) -> Walk:
+    """Like `walk`, for a message of these segments."""
+    return _walked(library.capnp_canonical_segments_walk, _segments(segments), most, limits)
+
+
 def words_copy(words: ReadableBuffer, limits: Limits = LIMITS) -> bytes:
     """Like `copy_flat`, for a message passed as raw words: all of them are its one segment."""
     return segments_copy_flat([words], limits)
@@ -380,6 +416,11 @@ def words_size(words: ReadableBuffer, limits: Limits = LIMITS) -> Size:
 def words_validate(words: ReadableBuffer, limits: Limits = LIMITS) -> Extent:
     """Like `validate`, for a message passed as raw words."""
     return segments_validate([words], limits)
+
+
+def words_walk(words: ReadableBuffer, most: int = MOST_OBJECTS, limits: Limits = LIMITS) -> Walk:
+    """Like `walk`, for a message passed as raw words."""
+    return segments_walk([words], most, limits)
 
 
 def bytes_wanted(held: bytes) -> int:

@@ -37,6 +37,15 @@ class RawPointer(ctypes.Structure):
     _fields_ = [('refusal', ctypes.c_uint32), ('word', ctypes.c_uint32), ('segment', ctypes.c_uint64)]
 
 
+class RawObject(ctypes.Structure):
+    _fields_ = [
+        ('parent', ctypes.c_uint64), ('pointer_segment', ctypes.c_uint64), ('segment', ctypes.c_uint64),
+        ('pointer_word', ctypes.c_uint32), ('word', ctypes.c_uint32), ('kind', ctypes.c_uint32),
+        ('count', ctypes.c_uint32), ('capability', ctypes.c_uint32), ('data_words', ctypes.c_uint16),
+        ('pointers', ctypes.c_uint16),
+    ]
+
+
 class RawSegment(ctypes.Structure):
     _fields_ = [('bytes', ctypes.c_void_p), ('size', ctypes.c_size_t)]
 
@@ -109,6 +118,7 @@ def _load() -> ctypes.CDLL:
         ('size', [pointer(u64), pointer(u32)]),
         ('validate', [pointer(RawExtent)]),
         ('locate', [u32, pointer(RawPointer)]),
+        ('walk', [pointer(RawObject), size, pointer(size)]),
     )
     messages: Any = ('', at), ('segments_', pointer(RawSegment))
     parts = 'copy_flat', 'digest', 'size'

@@ -36,6 +36,21 @@ pub(crate) struct RawPointer {
 }
 
 #[repr(C)]
+#[derive(Clone, Copy, Default)]
+pub(crate) struct RawObject {
+    pub parent: u64,
+    pub pointer_segment: u64,
+    pub segment: u64,
+    pub pointer_word: u32,
+    pub word: u32,
+    pub kind: u32,
+    pub count: u32,
+    pub capability: u32,
+    pub data_words: u16,
+    pub pointers: u16,
+}
+
+#[repr(C)]
 pub(crate) struct RawSegment {
     pub bytes: *const u8,
     pub size: usize,
@@ -55,6 +70,8 @@ extern "C" {
     pub fn capnp_canonical_segments_validate(segments: *const RawSegment, count: usize, nesting: i32, words: u64, extent: *mut RawExtent) -> u32;
     pub fn capnp_canonical_locate(frame: *const u8, frame_size: usize, nesting: i32, words: u64, reading: u32, pointer: *mut RawPointer) -> u32;
     pub fn capnp_canonical_segments_locate(segments: *const RawSegment, count: usize, nesting: i32, words: u64, reading: u32, pointer: *mut RawPointer) -> u32;
+    pub fn capnp_canonical_walk(frame: *const u8, frame_size: usize, nesting: i32, words: u64, objects: *mut RawObject, room: usize, count: *mut usize) -> u32;
+    pub fn capnp_canonical_segments_walk(segments: *const RawSegment, count: usize, nesting: i32, words: u64, objects: *mut RawObject, room: usize, found: *mut usize) -> u32;
     pub fn capnp_canonical_frame_size(frame: *const u8, size: usize, words: u64, bytes: *mut usize) -> u32;
     pub fn capnp_canonical_frame_size_from_prefix(prefix: *const u8, size: usize, words: u64, bytes: *mut usize) -> u32;
     pub fn capnp_canonical_segments_copy(segments: *const RawSegment, count: usize, nesting: i32, words: u64, to: *mut u8, room: usize, written: *mut usize) -> u32;

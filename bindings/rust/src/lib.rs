@@ -51,6 +51,7 @@ mod reader;
 pub mod segments;
 mod stream;
 mod texts;
+mod walk;
 pub mod words;
 
 use alloc::vec::Vec;
@@ -63,6 +64,8 @@ pub use packed_reader::PackedFrameReader;
 #[cfg(feature = "std")]
 pub use reader::FrameReader;
 pub use stream::{frames, Frame, Frames, StreamError};
+use walk::walk_of;
+pub use walk::{Kind, Object, Walk};
 
 /// The limits for reading a message. The defaults are those of `capnp::message::ReaderOptions`.
 #[derive(Clone, Copy, Debug, PartialEq, Eq, Hash)]
@@ -330,6 +333,40 @@ pub fn locate(
             )
         }
     })
+}
+
+/// The structs, lists and capabilities of the message, at most `most` of them. A broken message is listed up to its first
+/// broken pointer. Refused only if the bytes aren't a message. No message has more objects than `limits.words`.
+///
+/// ```
+/// use capnp_canonical::{walk, Kind, Limits};
+///
+/// // The root is a struct of one word.
+/// let frame = [[0, 0, 0, 0, 2, 0, 0, 0], [0, 0, 0, 0, 1, 0, 0, 0], [0x11; 8]].concat();
+/// let found = walk(&frame, 100, Limits::default())?;
+/// assert_eq!((found.count, found.objects[0].kind, found.objects[0].word), (1, Kind::Struct, 1));
+/// # Ok::<(), capnp_canonical::Error>(())
+/// ```
+pub fn walk(frame: impl AsRef<[u8]>, most: usize, limits: Limits) -> Result<Walk, Error> {
+    let frame = frame.as_ref();
+    walk_of(
+        most,
+        |objects, count| {
+            // SAFETY: the slices are pointers and their lengths.
+            unsafe {
+                ffi::capnp_canonical_walk(
+                    frame.as_ptr(),
+                    frame.len(),
+                    limits.nesting,
+                    limits.words,
+                    objects.as_mut_ptr(),
+                    objects.len(),
+                    count,
+                )
+            }
+        },
+        || locate(frame, Reading::Value, limits),
+    )
 }
 
 /// The size in bytes of the frame at the front, which may have at most `words` words. Its message isn't read.

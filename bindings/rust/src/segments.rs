@@ -1,7 +1,8 @@
 //! The same calls, for a message whose segments you have. The length of each segment is a multiple of 8 bytes.
 use crate::answers::{append, broken_of, digest_of, extent_of, fault_of, size_of};
 use crate::ffi::{self, RawSegment};
-use crate::{Broken, Error, Extent, Fault, Limits, Reading, Size};
+use crate::walk::walk_of;
+use crate::{Broken, Error, Extent, Fault, Limits, Reading, Size, Walk};
 use alloc::vec::Vec;
 
 /// Something that holds the segments of a message, like `capnp::message::ReaderSegments`: for example a slice or a
@@ -301,4 +302,31 @@ pub fn locate<S: Segments + ?Sized>(
             )
         }
     })
+}
+
+/// The structs, lists and capabilities of the message, at most `most` of them, like `walk` of the crate.
+pub fn walk<S: Segments + ?Sized>(
+    segments: &S,
+    most: usize,
+    limits: Limits,
+) -> Result<Walk, Error> {
+    let raw = Raw::of(segments)?;
+    walk_of(
+        most,
+        |objects, count| {
+            // SAFETY: the segments are pointers and lengths, and so are the objects.
+            unsafe {
+                ffi::capnp_canonical_segments_walk(
+                    raw.segments.as_ptr(),
+                    raw.segments.len(),
+                    limits.nesting,
+                    limits.words,
+                    objects.as_mut_ptr(),
+                    objects.len(),
+                    count,
+                )
+            }
+        },
+        || locate(segments, Reading::Value, limits),
+    )
 }

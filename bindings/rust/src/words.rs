@@ -2,7 +2,7 @@
 //! them and you have stored them. If you pass a frame here it is read as words, and is another value.
 //!
 //! [`canonical_words`]: crate::canonical_words
-use crate::{segments, Broken, Error, Extent, Fault, Limits, Reading, Size};
+use crate::{segments, Broken, Error, Extent, Fault, Limits, Reading, Size, Walk};
 use alloc::vec::Vec;
 
 /// The canonical words of the value that the words hold.
@@ -72,4 +72,9 @@ pub fn locate(
     limits: Limits,
 ) -> Result<Option<Broken>, Error> {
     segments::locate(&[words], reading, limits)
+}
+
+/// The structs, lists and capabilities of the message, at most `most` of them, like `walk` of the crate.
+pub fn walk(words: impl AsRef<[u8]>, most: usize, limits: Limits) -> Result<Walk, Error> {
+    segments::walk(&[words], most, limits)
 }

@@ -2,8 +2,8 @@
 use capnp_canonical::{
     canonical_copy, canonical_words, canonical_words_at, canonical_words_into, check, digest,
     digest_at, frame_size, frames, is_canonical, locate, looks_like, segments, size, size_at,
-    unpack, unpack_into, version, words, Error, Fault, FrameReader, Limits, PackedFrameReader,
-    Reading, Reason, Size,
+    unpack, unpack_into, version, walk, words, Error, Fault, FrameReader, Kind, Limits, Object,
+    PackedFrameReader, Reading, Reason, Size,
 };
 use std::fs;
 
@@ -749,4 +749,44 @@ fn version_is_of_this_crate() {
         .collect();
     assert_eq!(version() / 10000, numbers[0]);
     assert!(version() >= numbers[0] * 10000 + numbers[1] * 100);
+}
+
+/// Each pointer to the text has an entry. A broken pointer ends the list.
+#[test]
+fn objects_of_a_message() -> Tested {
+    let mut frame = bytes_of(SHARED);
+    let limits = Limits::default();
+    let found = walk(&frame, 100, limits)?;
+    let is = |it: &Object| {
+        (
+            it.kind,
+            it.parent,
+            it.pointer_word,
+            it.word,
+            it.count,
+            it.pointers,
+        )
+    };
+    let wanted = [
+        (Kind::Struct, None, 0, 1, 0, 2),
+        (Kind::ListOfBytes, Some(0), 1, 3, 16, 0),
+        (Kind::ListOfBytes, Some(0), 2, 3, 16, 0),
+    ];
+    assert_eq!(found.objects.iter().map(is).collect::<Vec<_>>(), wanted);
+    assert_eq!((found.count, found.broken), (3, None));
+    assert_eq!(words::walk(&frame[8..], 100, limits)?, found);
+    assert_eq!(segments::walk(&[&frame[8..]], 100, limits)?, found);
+    let few = walk(&frame, 1, limits)?;
+    assert_eq!((few.objects, few.count), (found.objects[..1].to_vec(), 3));
+    // the second pointer leads out of the segment
+    frame[24] = 0x41;
+    let broken = walk(&frame, 100, limits)?;
+    assert_eq!(broken.objects, found.objects[..2]);
+    let pointer = broken.broken.ok_or("a broken pointer")?;
+    assert_eq!(
+        (pointer.error, pointer.word),
+        (Error::MESSAGE_CONTAINS_OUT_OF_BOUNDS_POINTER, 2)
+    );
+    assert_eq!(walk(&frame[..20], 100, limits), Err(Error::TRUNCATED));
+    Ok(())
 }

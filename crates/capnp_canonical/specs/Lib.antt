@@ -5,3 +5,4 @@ pub mod Parts
 pub mod Validation
 pub mod Pieces
 pub mod Locating
+pub mod Walking

@@ -40,6 +40,7 @@ mod parts;
 mod refusal;
 mod segment_exports;
 mod segments;
+mod walk_exports;
 mod word_exports;
 mod words;
 
