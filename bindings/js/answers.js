@@ -42,6 +42,19 @@ export const Reason = Object.freeze({
   WordsBehind: 14,
 });
 
+export const Kind = Object.freeze({
+  ListOfVoid: 0,
+  ListOfBits: 1,
+  ListOfBytes: 2,
+  ListOfTwoBytes: 3,
+  ListOfFourBytes: 4,
+  ListOfEightBytes: 5,
+  ListOfPointers: 6,
+  ListOfStructs: 7,
+  Struct: 8,
+  Capability: 9,
+});
+
 export const Reading = Object.freeze({ Value: 0, Canonical: 1, Size: 2 });
 
 /** What a refusal says, with the place of a pointer if it is one's. */

@@ -1,8 +1,8 @@
 // The calls. index.d.ts says what each takes, returns and throws.
-import { Broken, CanonicalError, Fault, Reading, Reason, Refusal } from './answers.js';
+import { Broken, CanonicalError, Fault, Kind, Reading, Reason, Refusal } from './answers.js';
 import { MAX_NESTING, MOST, Refused, called, lend, lendFew, lendPath, lendSegments, number64, reaches, seen } from './library.js';
 
-export { Broken, CanonicalError, Fault, MAX_NESTING, Reading, Reason, Refusal };
+export { Broken, CanonicalError, Fault, Kind, MAX_NESTING, Reading, Reason, Refusal };
 
 // What is passed.
 
@@ -128,6 +128,38 @@ function located(lib, call, given, limits, reading) {
   return number === 0 ? null : new Broken(number, number64(lib, base + 8), view.getUint32(base + 4, true));
 }
 
+/** The size of an entry of the list of objects, in bytes. */
+const ENTRY = 48;
+
+/** The entry at this address. */
+function objectAt({ view }, at) {
+  const number = (offset) => view.getUint32(at + offset, true);
+  return {
+    // all bits of the number are set if there is no parent
+    parent: number(4) === 0xffffffff ? -1 : number(0) + number(4) * 2 ** 32,
+    pointer: { segment: number(8), word: number(24) },
+    segment: number(16),
+    word: number(28),
+    kind: number(32),
+    count: number(36),
+    capability: number(40),
+    dataWords: view.getUint16(at + 44, true),
+    pointers: view.getUint16(at + 46, true),
+  };
+}
+
+/** The objects of a message, at most `most` of them, the number of all, and the pointer at which the message is broken, or null. */
+function walked(lib, form, given, limits, most) {
+  if (!given || !reaches(lib, given.end + ENTRY * most)) throw noMemory();
+  const { base } = lib;
+  const answer = lib.calls[form.walk](given.first, given.second, limits.nesting, limits.words, given.end, most, base) >>> 0;
+  const count = number64(lib, base);
+  const objects = Array.from({ length: Math.min(count, most) }, (_, number) => objectAt(seen(lib), given.end + ENTRY * number));
+  if (answer === 0 || answer === Refusal.NoRoom) return { objects, count, broken: null };
+  // refuses if the bytes are no message
+  return { objects, count, broken: located(lib, lib.calls[form.locate], given, limits, Reading.Value) };
+}
+
 /** A call for a part of the message: with a path, which is in the memory in front of the message. */
 function callAt(lib, call, path) {
   return (first, second, ...more) => call(first, second, lendPath(lib, path), path.length, ...more);
@@ -185,9 +217,9 @@ function answered(run, bytes) {
 
 // The forms of a message: what is passed, how it gets into the memory, and the call that finds a broken pointer in it.
 
-const FRAME = { passed: (frame) => bytesOf(frame, 'a frame'), lent: (lib, bytes, words) => lendFrame(lib, bytes, words), locate: 'locate' };
-const SEGMENTS = { passed: partsOf, lent: (lib, parts) => lendSegments(lib, parts), locate: 'segments_locate' };
-const WORDS = { passed: (message) => bytesOf(message, 'a message'), lent: (lib, bytes) => lend(lib, bytes), locate: 'words_locate' };
+const FRAME = { passed: (frame) => bytesOf(frame, 'a frame'), lent: (lib, bytes, words) => lendFrame(lib, bytes, words), locate: 'locate', walk: 'walk' };
+const SEGMENTS = { passed: partsOf, lent: (lib, parts) => lendSegments(lib, parts), locate: 'segments_locate', walk: 'segments_walk' };
+const WORDS = { passed: (message) => bytesOf(message, 'a message'), lent: (lib, bytes) => lend(lib, bytes), locate: 'words_locate', walk: 'words_walk' };
 
 /** The bytes that may look like something else if they aren't a frame. */
 const suspected = (form, passed) => (form === FRAME ? passed : undefined);
@@ -243,6 +275,17 @@ function locatedIn(form, message, reading, limits) {
   }
 }
 
+function mostOf(most) {
+  if (!Number.isInteger(most)) throw new TypeError(`a number of objects must be a whole number, not ${String(most)}`);
+  if (most < 0 || ENTRY * most >= MOST) throw new RangeError(`${most} objects`);
+  return most;
+}
+
+function walkedIn(form, message, most, limits) {
+  const passed = form.passed(message), room = mostOf(most), within = limitsOf(limits);
+  return answered((lib) => walked(lib, form, form.lent(lib, passed, within.words), within, room), suspected(form, passed));
+}
+
 // Messages in frames.
 
 export function canonicalize(frame, limits) {
@@ -277,6 +320,10 @@ export function locate(frame, reading, limits) {
   return locatedIn(FRAME, frame, reading, limits);
 }
 
+export function walk(frame, most, limits) {
+  return walkedIn(FRAME, frame, most, limits);
+}
+
 /** Runs a call for the part of the message at the end of a path. */
 function askedAt(answer, name, frame, path, limits) {
   const bytes = bytesOf(frame, 'a frame'), indexes = pathOf(path), within = limitsOf(limits);
@@ -309,6 +356,7 @@ export const segments = Object.freeze({
   size: (list, limits) => asked(SEGMENTS, Reading.Size, list, limits, (lib, given, within) => sized(lib, lib.calls.segments_size, given, within)),
   validate: (list, limits) => asked(SEGMENTS, Reading.Value, list, limits, (lib, given, within) => validated(lib, lib.calls.segments_validate, given, within)),
   locate: (list, reading, limits) => locatedIn(SEGMENTS, list, reading, limits),
+  walk: (list, most, limits) => walkedIn(SEGMENTS, list, most, limits),
 });
 
 export const words = Object.freeze({
@@ -319,6 +367,7 @@ export const words = Object.freeze({
   size: (message, limits) => asked(WORDS, Reading.Size, message, limits, (lib, given, within) => sized(lib, lib.calls.words_size, given, within)),
   validate: (message, limits) => asked(WORDS, Reading.Value, message, limits, (lib, given, within) => validated(lib, lib.calls.words_validate, given, within)),
   locate: (message, reading, limits) => locatedIn(WORDS, message, reading, limits),
+  walk: (message, most, limits) => walkedIn(WORDS, message, most, limits),
 });
 
 // Streams, and packed bytes.

@@ -80,6 +80,52 @@ export const Reading: {
 };
 export type Reading = (typeof Reading)[keyof typeof Reading];
 
+/** What an object of a message is. A list has the format's number of its element size. */
+export const Kind: {
+  readonly ListOfVoid: 0;
+  readonly ListOfBits: 1;
+  readonly ListOfBytes: 2;
+  readonly ListOfTwoBytes: 3;
+  readonly ListOfFourBytes: 4;
+  readonly ListOfEightBytes: 5;
+  readonly ListOfPointers: 6;
+  readonly ListOfStructs: 7;
+  readonly Struct: 8;
+  readonly Capability: 9;
+};
+export type Kind = (typeof Kind)[keyof typeof Kind];
+
+/** An object of a message: its kind and place, and the pointer that leads to it. */
+export interface MessageObject {
+  /** The index of the object that the pointer is in; -1 for the root pointer. */
+  readonly parent: number;
+  /** The place of the pointer. */
+  readonly pointer: Pointer;
+  /** The object's segment; 0 for a capability. */
+  readonly segment: number;
+  /** The position of the object in its segment, in words; in a list of structs, that of the first word after the tag; 0 for a capability. */
+  readonly word: number;
+  readonly kind: Kind;
+  /** The number of elements of a list; otherwise 0. */
+  readonly count: number;
+  /** The index of a capability; otherwise 0. */
+  readonly capability: number;
+  /** The number of data words of a struct, or of each element of a list of structs; otherwise 0. */
+  readonly dataWords: number;
+  /** The number of pointers of a struct, or of each element of a list of structs; otherwise 0. */
+  readonly pointers: number;
+}
+
+/** The objects of a message. */
+export interface Walk {
+  /** Each object before those that its own pointers lead to; null pointers and elements of lists of structs aren't among them. */
+  readonly objects: MessageObject[];
+  /** The number of all objects, which may be more than `most`. */
+  readonly count: number;
+  /** The pointer at which the message is broken; then the objects are those before it. Otherwise null. */
+  readonly broken: Broken | null;
+}
+
 /** The place of a pointer in a message. */
 export interface Pointer {
   readonly segment: number;
@@ -191,6 +237,12 @@ export function validate(frame: Bytes, limits?: Limits): Extent;
 export function locate(frame: Bytes, reading: Reading, limits?: Limits): Broken | null;
 
 /**
+ * Lists the structs, lists and capabilities of a message, at most `most` of them. A broken message is listed up to its first broken
+ * pointer. Throws only if the bytes are no message, or if there is no memory.
+ */
+export function walk(frame: Bytes, most: number, limits?: Limits): Walk;
+
+/**
  * `canonicalizeFlat` for a part of the message: for the value of the pointer at the end of a path. In `struct Signed { payload @0
  * :Payload; signature @1 :Data; }` the path `[0]` leads to the payload, whose words can be signed.
  *
@@ -217,6 +269,7 @@ export const segments: {
   size(list: Iterable<Bytes>, limits?: Limits): Size;
   validate(list: Iterable<Bytes>, limits?: Limits): Extent;
   locate(list: Iterable<Bytes>, reading: Reading, limits?: Limits): Broken | null;
+  walk(list: Iterable<Bytes>, most: number, limits?: Limits): Walk;
 };
 
 /** The same calls for a message given as its raw words. The copy is raw words too. */
@@ -228,6 +281,7 @@ export const words: {
   size(message: Bytes, limits?: Limits): Size;
   validate(message: Bytes, limits?: Limits): Extent;
   locate(message: Bytes, reading: Reading, limits?: Limits): Broken | null;
+  walk(message: Bytes, most: number, limits?: Limits): Walk;
 };
 
 /** The size in bytes of the frame at the front. Reads only its table. */
