@@ -16,7 +16,7 @@ TESTS = HERE.parent / 'tests/library'
 # The modules of the package, each after those that it imports.
 PACKAGE = 'library.js', 'answers.js', 'calls.js'
 # What the page uses of them, and of walk.js.
-CALLS = 'CanonicalError', 'canonicalizeFlat', 'check', 'frames', 'looksLike', 'size', 'unpack', 'use', 'version', 'words'
+CALLS = 'CanonicalError', 'canonicalizeFlat', 'check', 'frames', 'looksLike', 'segments', 'size', 'unpack', 'use', 'version', 'words'
 WALK = 'Role', 'segmentsOf', 'walk'
 EXAMPLES = [
     ('an address book, by capnp encode', 'messages', 'book'),

@@ -1,13 +1,17 @@
-// Walks a message without its schema: finds what each byte is, and the tree of structs and lists. Nothing in this file is proved.
-// Whether a message is canonical, and its canonical words, come from the library.
+// Finds what each byte of a message is, and the tree of structs and lists, without a schema. The objects come from the library, whose
+// list of them is proved; so do the canonical words, and whether a message is canonical. What this file adds isn't proved: landing
+// pads, null pointers, texts, elements of lists of structs, and what a byte is.
 //
-// Each pointer is followed once. Where objects overlap, a byte is visited once for each of them, up to a limit.
+// An object is shown once, though the library lists it for each pointer to it. Where objects overlap, a byte is visited once for each
+// of them, up to a limit.
 
 /** What a byte is. */
 export const Role = Object.freeze({
   unreached: 0, root: 1, pointer: 2, far: 3, pad: 4, capability: 5, null: 6, tag: 7, data: 8, list: 9, text: 10, padding: 11, dropped: 12, broken: 13,
 });
 
+// Kinds of objects as the library numbers them; a list has the number of its element size.
+const STRUCT = 8, CAPABILITY = 9;
 const ELEMENTS = ['void', 'bit', 'byte', 'two bytes', 'four bytes', 'eight bytes', 'pointer', 'struct'];
 const BITS = [0, 1, 8, 16, 32, 64, 64];
 
@@ -26,18 +30,17 @@ export function textOf(bytes) {
   }
 }
 
-class Refused extends Error {}
-
 class Enough extends Error {}
 
 /**
- * Walks the message of these segments, down to `nesting` levels and with about `most` nodes.
+ * Walks the message of these segments, down to `nesting` levels and within `words` words, with about `most` nodes. `listOf` is the call
+ * of the library that lists the objects of segments.
  *
  * A node is { id, kind, at, via, segment, word, words, .. }: `at` is the place of its pointer, `via` the landing pads on the way, and
  * `segment`, `word` and `words` are where its object is. Kinds: null, struct, list, capability, broken, again (another node of the
- * tree has the same object), deep (not followed).
+ * tree has the same object), unread (after the broken pointer, or more than `most`).
  */
-export function walk(segments, { nesting = 64, most = 200000 } = {}) {
+export function walk(segments, listOf, { nesting = 64, words = 8388608, most = 200000 } = {}) {
   const views = segments.map((it) => new DataView(it.buffer, it.byteOffset, it.byteLength));
   const counts = segments.map((it) => Math.floor(it.length / 8));
   const roles = segments.map((it) => new Uint8Array(8 * Math.ceil(it.length / 8)));
@@ -50,9 +53,6 @@ export function walk(segments, { nesting = 64, most = 200000 } = {}) {
     left -= words;
     if (left < 0) throw new Enough();
   }
-
-  // Pointers that haven't been followed. The last one is followed next.
-  const ahead = [];
 
   const low = (segment, word) => views[segment].getUint32(8 * word, true);
   const high = (segment, word) => views[segment].getUint32(8 * word + 4, true);
@@ -87,37 +87,28 @@ export function walk(segments, { nesting = 64, most = 200000 } = {}) {
     return node;
   }
 
-  const signed = (lo) => (lo | 0) >> 2;
+  /** How many words the elements of a list of structs may take, by the word that describes the list. */
+  function claimedBy({ at, via }) {
+    if (!via.length) return high(at.segment, at.word) >>> 3;
+    return high(via[0].segment, via[0].word + via[0].words - 1) >>> 3;
+  }
 
-  /** Where a pointer leads, over far pointers: the pointer that describes the object, and the object's first word. */
-  function led(node) {
-    let { segment, word } = node.at;
-    let lo = low(segment, word), hi = high(segment, word);
-    if ((lo & 3) !== 2) return { segment, word: word + 1 + signed(lo), lo, hi };
+  /** Marks the landing pads on the way of a pointer that the library has followed. */
+  function passPads(node) {
+    const { segment, word } = node.at;
+    if ((low(segment, word) & 3) !== 2) return;
     all.far++;
-    mark(segment, 8 * word, 8, Role.far);
-    const isDouble = (lo >>> 2) & 1, pad = { segment: hi, word: lo >>> 3 };
-    if (pad.segment >= counts.length) throw new Refused(`far pointer to segment ${pad.segment}, which the message doesn't have`);
-    if (!has(pad.segment, pad.word, 1 + isDouble)) throw new Refused('landing pad outside of its segment');
-    mark(pad.segment, 8 * pad.word, 8 * (1 + isDouble), Role.pad);
-    own(node, pad.segment, pad.word, 1 + isDouble);
-    node.via.push({ ...pad, words: 1 + isDouble });
-    all.pads += 1 + isDouble;
-    ({ segment, word } = pad);
-    lo = low(segment, word);
-    hi = high(segment, word);
-    if (!isDouble) {
-      if ((lo & 3) === 2) throw new Refused('far pointer to a landing pad that is itself a far pointer');
-      return { segment, word: word + 1 + signed(lo), lo, hi };
-    }
-    // the kind of its first word is ignored, as in the library and in Rust
-    if (hi >= counts.length) throw new Refused(`landing pad to segment ${hi}, which the message doesn't have`);
-    return { segment: hi, word: lo >>> 3, lo: low(segment, word + 1), hi: high(segment, word + 1) };
+    const words = 1 + ((low(segment, word) >>> 2) & 1), pad = { segment: high(segment, word), word: low(segment, word) >>> 3, words };
+    mark(pad.segment, 8 * pad.word, 8 * words, Role.pad);
+    own(node, pad.segment, pad.word, words);
+    node.via.push(pad);
+    all.pads += words;
   }
 
   /** Marks the pointer word itself. */
-  function markPointer(node, role) {
-    const { segment, word } = node.at;
+  function markPointer(node) {
+    const { segment, word } = node.at, kind = low(segment, word) & 3;
+    const role = node.isDropped ? Role.dropped : node.kind === 'null' ? Role.null : kind === 2 ? Role.far : kind === 3 ? Role.capability : Role.pointer;
     mark(segment, 8 * word, 8, node.parent < 0 ? Role.root : role);
     own(node, segment, word, 1);
   }
@@ -126,28 +117,18 @@ export function walk(segments, { nesting = 64, most = 200000 } = {}) {
     return low(segment, word) === 0 && high(segment, word) === 0;
   }
 
-  function follow(node) {
-    const { segment, word } = node.at;
-    if (isNull(segment, word)) {
-      node.kind = 'null';
-      return markPointer(node, Role.null);
-    }
-    markPointer(node, (low(segment, word) & 3) === 2 ? Role.far : (low(segment, word) & 3) === 3 ? Role.capability : Role.pointer);
-    const to = led(node);
-    const kind = to.lo & 3;
-    node.segment = to.segment;
-    node.word = to.word;
-    // a landing pad of zero describes an empty struct
-    if (kind === 3) {
-      if (to.lo !== 3) throw new Refused('pointer of no known kind');
+  /** Shows the object that a pointer leads to, which the library has listed. */
+  function follow(node, object) {
+    passPads(node);
+    node.segment = object.segment;
+    node.word = object.word;
+    if (object.kind === CAPABILITY) {
       node.kind = 'capability';
-      node.index = to.hi;
-    } else if (kind === 0) {
-      struct(node, to.hi & 0xffff, to.hi >>> 16);
-    } else if (kind === 1) {
-      list(node, to.hi & 7, to.hi >>> 3);
+      node.index = object.capability;
+    } else if (object.kind === STRUCT) {
+      struct(node, object);
     } else {
-      throw new Refused('landing pad that is a far pointer');
+      list(node, object);
     }
   }
 
@@ -164,15 +145,12 @@ export function walk(segments, { nesting = 64, most = 200000 } = {}) {
     return true;
   }
 
-  function struct(node, data, pointers) {
+  function struct(node, { dataWords: data, pointers }) {
     node.kind = 'struct';
     Object.assign(node, { data, pointers, words: data + pointers });
-    if (node.level >= nesting) return void (node.kind = 'deep');
-    if (!has(node.segment, node.word, node.words)) throw new Refused('struct outside of its segment');
     if (node.words === 0) return;
     if (again(node, `s${node.segment}.${node.word}.${data}.${pointers}`)) return;
-    const used = usedOf(node.segment, node.word, data, pointers);
-    fields(node, used);
+    fields(node, usedOf(node.segment, node.word, data, pointers));
   }
 
   /** The number of data words and pointers of a struct before the zeros and nulls at the ends. */
@@ -184,7 +162,7 @@ export function walk(segments, { nesting = 64, most = 200000 } = {}) {
     return { data: d, pointers: p };
   }
 
-  /** Marks the sections of a struct, and puts its pointers ahead. */
+  /** Marks the sections of a struct, and makes a node for each of its pointers. */
   function fields(node, used) {
     const { segment, word, data, pointers } = node;
     node.used = used;
@@ -194,39 +172,30 @@ export function walk(segments, { nesting = 64, most = 200000 } = {}) {
     own(node, segment, word, data);
     node.children = [];
     for (let number = 0; number < pointers; number++) {
-      if (nodes.length > most) throw new Enough();
-      const at = { segment, word: word + data + number };
-      const child = made({ kind: 'null', parent: node.id, name: number, at, via: [], depth: node.depth + 1, level: node.level + 1, words: 0 });
-      node.children.push(child.id);
-      if (number >= used.pointers) {
-        mark(segment, 8 * at.word, 8, Role.dropped);
-        own(child, segment, at.word, 1);
-        child.isDropped = true;
-      } else {
-        ahead.push(child);
-      }
+      pointer(node, number, { segment, word: word + data + number }, number >= used.pointers);
     }
   }
 
-  function list(node, size, count) {
+  /** Makes the node of a pointer, and marks the pointer. It is null, or unread until its object comes. */
+  function pointer(node, number, at, isDropped = false) {
+    if (nodes.length > most) throw new Enough();
+    const child = made({ kind: isNull(at.segment, at.word) ? 'null' : 'unread', parent: node.id, name: number, at, via: [], depth: node.depth + 1, words: 0 });
+    node.children.push(child.id);
+    if (isDropped) child.isDropped = true;
+    markPointer(child);
+  }
+
+  function list(node, { kind: size, count, dataWords: data, pointers }) {
     node.kind = 'list';
     node.element = ELEMENTS[size];
-    if (node.level >= nesting) return void (node.kind = 'deep');
-    if (size === 7) return structs(node, count);
+    if (size === 7) return structs(node, count, data, pointers);
     const bits = BITS[size] * count;
     Object.assign(node, { count, bits: BITS[size], words: Math.ceil(bits / 64) });
-    if (!has(node.segment, node.word, node.words)) throw new Refused('list outside of its segment');
     if (node.words && again(node, `l${node.segment}.${node.word}.${size}.${count}`)) return;
     own(node, node.segment, node.word, node.words);
     if (size === 6) {
       node.children = [];
-      for (let number = 0; number < count; number++) {
-        const at = { segment: node.segment, word: node.word + number };
-        const child = made({ kind: 'null', parent: node.id, name: number, at, via: [], depth: node.depth + 1, level: node.level + 1, words: 0 });
-        node.children.push(child.id);
-        ahead.push(child);
-        if (nodes.length > most) return;
-      }
+      for (let number = 0; number < count; number++) pointer(node, number, { segment: node.segment, word: node.word + number });
       return;
     }
     const bytes = Math.ceil(bits / 8), start = 8 * node.word;
@@ -240,17 +209,14 @@ export function walk(segments, { nesting = 64, most = 200000 } = {}) {
     node.hasPadding = last !== 0 || segments[node.segment].subarray(start + bytes, start + 8 * node.words).some((it) => it !== 0);
   }
 
-  function structs(node, words) {
-    Object.assign(node, { words: words + 1, claimed: words });
-    if (!has(node.segment, node.word, words + 1)) throw new Refused('list of structs outside of its segment');
-    const lo = low(node.segment, node.word), hi = high(node.segment, node.word);
-    if ((lo & 3) !== 0) throw new Refused("tag of a list of structs that isn't that of a struct");
-    Object.assign(node, { count: lo >>> 2, data: hi & 0xffff, pointers: hi >>> 16 });
-    const step = node.data + node.pointers;
-    if (node.count * step > words) throw new Refused('elements of a list of structs that take more words than its pointer claims');
-    if (again(node, `c${node.segment}.${node.word}.${words}`)) return;
+  function structs(node, count, data, pointers) {
+    // the library gives the place after the tag, and the words of the elements
+    node.word -= 1;
+    const claimed = claimedBy(node), step = data + pointers;
+    Object.assign(node, { words: claimed + 1, claimed, count, data, pointers });
+    if (again(node, `c${node.segment}.${node.word}.${claimed}`)) return;
     mark(node.segment, 8 * node.word, 8, Role.tag);
-    own(node, node.segment, node.word, words + 1);
+    own(node, node.segment, node.word, claimed + 1);
     node.children = [];
     const used = { data: 0, pointers: 0 };
     for (let number = 0; step && number < node.count; number++) {
@@ -261,13 +227,10 @@ export function walk(segments, { nesting = 64, most = 200000 } = {}) {
     node.used = used;
     const elements = [];
     for (let number = 0; step && number < node.count; number++) {
-      if (nodes.length > most) {
-        all.whole = false;
-        break;
-      }
+      if (nodes.length > most) throw new Enough();
       const word = node.word + 1 + number * step;
       const element = made({
-        kind: 'struct', parent: node.id, name: number, at: null, via: [], depth: node.depth + 1, level: node.level, segment: node.segment, word,
+        kind: 'struct', parent: node.id, name: number, at: null, via: [], depth: node.depth + 1, segment: node.segment, word,
         data: node.data, pointers: node.pointers, words: step, isElement: true,
       });
       node.children.push(element.id);
@@ -277,33 +240,46 @@ export function walk(segments, { nesting = 64, most = 200000 } = {}) {
     for (const element of elements) fields(element, used);
   }
 
+  /** The node of the pointer at this word, among those of a node. */
+  function childAt(node, word) {
+    if (node.kind !== 'list') return node.children?.[word - node.word - node.data];
+    if (node.element !== 'struct') return node.children?.[word - node.word];
+    const element = nodes[node.children[Math.floor((word - node.word - 1) / (node.data + node.pointers))]];
+    return element && childAt(element, word);
+  }
+
+  /** Shows the objects of the list. An object whose parent isn't shown, because it was shown before, isn't shown either. */
+  function show(objects) {
+    const shown = [];
+    for (const object of objects) {
+      const parent = shown[object.parent], node = shown.length === 0 ? result.root : parent && nodes[childAt(parent, object.pointer.word)];
+      if (node) follow(node, object);
+      shown.push(node?.kind === 'again' ? undefined : node);
+    }
+  }
+
+  /** Marks the pointer at which the library stopped. */
+  function breakAt({ segment, word, text }) {
+    const node = nodes.find((it) => it.kind === 'unread' && it.at.segment === segment && it.at.word === word);
+    if (!node) return;
+    node.kind = 'broken';
+    node.why = text;
+    roles[segment].fill(Role.broken, 8 * word, 8 * word + 8);
+  }
+
   const result = { roles, owners, nodes, segments, counts, all, root: null };
   if (!has(0, 0, 1)) return result;
-  result.root = made({ kind: 'null', parent: -1, name: 'root', at: { segment: 0, word: 0 }, via: [], depth: 0, level: 0, words: 0 });
-  ahead.push(result.root);
-  while (ahead.length) {
-    const node = ahead.pop();
-    if (nodes.length > most) {
-      all.whole = false;
-      break;
-    }
-    const before = ahead.length;
-    try {
-      follow(node);
-    } catch (error) {
-      if (error instanceof Enough) {
-        all.whole = false;
-        break;
-      }
-      if (!(error instanceof Refused)) throw error;
-      node.kind = 'broken';
-      node.why = error.message;
-      const { segment, word } = node.at;
-      roles[segment].fill(Role.broken, 8 * word, 8 * word + 8);
-    }
-    // the first child first
-    if (ahead.length - before > 1) ahead.push(...ahead.splice(before).reverse());
+  result.root = made({ kind: isNull(0, 0) ? 'null' : 'unread', parent: -1, name: 'root', at: { segment: 0, word: 0 }, via: [], depth: 0, words: 0 });
+  markPointer(result.root);
+  const { objects, count, broken } = listOf(segments, most, { nesting, words });
+  all.whole = !broken && objects.length === count;
+  try {
+    show(objects);
+  } catch (error) {
+    if (!(error instanceof Enough)) throw error;
+    all.whole = false;
   }
+  if (broken) breakAt(broken);
   all.unreached = roles.reduce((sum, row, segment) => {
     let words = 0;
     for (let word = 0; word < counts[segment]; word++) if (row[8 * word] === Role.unreached && row[8 * word + 7] === Role.unreached) words++;
@@ -319,7 +295,7 @@ export function canonicalWords({ nodes, root, all }) {
   const of = (id) => {
     if (memo.has(id)) return memo.get(id);
     const node = nodes[id];
-    if (['broken', 'deep', 'capability'].includes(node.kind) || open.has(id)) return NaN;
+    if (['broken', 'unread', 'capability'].includes(node.kind) || open.has(id)) return NaN;
     open.add(id);
     let words = 0;
     if (node.kind === 'again') words = of(node.of);

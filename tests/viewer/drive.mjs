@@ -160,7 +160,7 @@ async function views() {
   await shot('fault');
   await goto(rows.out_of_bounds[1]);
   check('a broken pointer', await evaluate(`document.querySelectorAll('.word .r13').length`), 8);
-  check('a broken pointer in the tree', await text('tree'), /broken.*outside of its segment/s);
+  check('a broken pointer in the tree', await text('tree'), /broken.*outside its segment/s);
   await goto(frame(words(0xfffffffcn, 0x4242n)).toString('hex'));
   check('a word that nothing leads to', await evaluate(`document.querySelectorAll('.word .r0').length`), 8);
   check('a word that nothing leads to, counted', await text('verdict'), /1 word that nothing leads to/);

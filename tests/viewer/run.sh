@@ -11,7 +11,7 @@ fi
 package=${1:-bindings/js}
 work=$(mktemp -d)
 trap 'rm -rf "$work"' EXIT
-node --no-warnings tests/viewer/walk.mjs >"$work/walk"
+node --no-warnings tests/viewer/walk.mjs "$package" >"$work/walk"
 cp viewer/capnp_view.html "$work/built.html" 2>/dev/null
 if python3 viewer/build.py "$package" "$work/built.html"; then
     if cmp -s "$work/built.html" viewer/capnp_view.html; then

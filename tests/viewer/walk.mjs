@@ -1,7 +1,12 @@
-// walk.mjs: compares viewer/walk.js, which isn't proved, with the corpus of tests/corpus: how many words canonical form has, what has no
-// canonical form, and that nothing in canonical words is dropped, broken or unreachable. The last line is `N passed, M failed`.
+// walk.mjs [PACKAGE]: compares viewer/walk.js, which isn't proved, with the corpus of tests/corpus: how many words canonical form has, what
+// has no canonical form, and that nothing in canonical words is dropped, broken or unreachable. The objects come from the JavaScript package
+// in PACKAGE, bindings/js of this folder if it is left out. The last line is `N passed, M failed`.
 import { readFileSync } from 'node:fs';
+import { resolve } from 'node:path';
+import { pathToFileURL } from 'node:url';
 import { Role, canonicalWords, segmentsOf, walk } from '../../viewer/walk.js';
+
+const { segments: messages } = await import(pathToFileURL(resolve(process.argv[2] ?? 'bindings/js', 'node.js')));
 
 let passed = 0, failed = 0;
 function check(id, what, got, wanted) {
@@ -19,7 +24,7 @@ for (const text of readFileSync(new URL('../corpus/corpus.jsonl', import.meta.ur
     if (frame.length > 8 && !of) check(id, 'no frame', of, undefined);
     continue;
   }
-  const found = walk(of.segments);
+  const found = walk(of.segments, messages.walk);
   // a walk has no limit of words
   if (kind === 'limit') continue;
   check(id, kind ?? 'words', canonicalWords(found), canonical === null ? undefined : canonical.length / 16);
@@ -27,7 +32,7 @@ for (const text of readFileSync(new URL('../corpus/corpus.jsonl', import.meta.ur
   if (kind === 'capability') check(id, 'capability', found.nodes.some((it) => it.kind === 'capability'), true);
   if (canonical !== null && canonical.length) {
     const copy = Uint8Array.from(Buffer.from(canonical, 'hex'));
-    check(id, 'canonical words', [...walk([copy]).roles[0]].find((it) => superfluous.has(it)), undefined);
+    check(id, 'canonical words', [...walk([copy], messages.walk).roles[0]].find((it) => superfluous.has(it)), undefined);
   }
   if (isCanonical) check(id, 'superfluous', found.all.dropped + found.all.unreached + found.all.far, 0);
 }
