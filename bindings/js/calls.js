@@ -325,24 +325,33 @@ export function walk(frame, most, limits) {
 }
 
 /** Runs a call for the part of the message at the end of a path. */
-function askedAt(answer, name, frame, path, limits) {
-  const bytes = bytesOf(frame, 'a frame'), indexes = pathOf(path), within = limitsOf(limits);
+function askedAt(form, answer, name, message, path, limits) {
+  const passed = form.passed(message), indexes = pathOf(path), within = limitsOf(limits);
   return answered((lib) => {
-    const given = lendFrame(lib, bytes, within.words, 4 * indexes.length);
+    const given = lentAfter(4 * indexes.length, lib, form, passed, within.words);
     return answer(lib, callAt(lib, lib.calls[name], indexes), given, within);
-  }, bytes);
+  }, suspected(form, passed));
+}
+
+/** Copies a message into the memory, after `before` bytes for a path. */
+function lentAfter(before, lib, form, passed, words) {
+  switch (form) {
+    case FRAME: return lendFrame(lib, passed, words, before);
+    case SEGMENTS: return lendSegments(lib, passed, before);
+    default: return lend(lib, passed, before);
+  }
 }
 
 export function canonicalizeFlatAt(frame, path, limits) {
-  return askedAt(copied, 'copy_flat_at', frame, path, limits);
+  return askedAt(FRAME, copied, 'copy_flat_at', frame, path, limits);
 }
 
 export function digestAt(frame, path, limits) {
-  return askedAt(digested, 'digest_at', frame, path, limits);
+  return askedAt(FRAME, digested, 'digest_at', frame, path, limits);
 }
 
 export function sizeAt(frame, path, limits) {
-  return askedAt(sized, 'size_at', frame, path, limits);
+  return askedAt(FRAME, sized, 'size_at', frame, path, limits);
 }
 
 // Messages in segments, and in raw words.
@@ -355,6 +364,9 @@ export const segments = Object.freeze({
   isCanonical: (list, limits) => isYes(SEGMENTS, list, limits, (lib, given, within) => checked(lib, lib.calls.segments_check, given, within)),
   size: (list, limits) => asked(SEGMENTS, Reading.Size, list, limits, (lib, given, within) => sized(lib, lib.calls.segments_size, given, within)),
   validate: (list, limits) => asked(SEGMENTS, Reading.Value, list, limits, (lib, given, within) => validated(lib, lib.calls.segments_validate, given, within)),
+  canonicalizeFlatAt: (list, path, limits) => askedAt(SEGMENTS, copied, 'segments_copy_flat_at', list, path, limits),
+  digestAt: (list, path, limits) => askedAt(SEGMENTS, digested, 'segments_digest_at', list, path, limits),
+  sizeAt: (list, path, limits) => askedAt(SEGMENTS, sized, 'segments_size_at', list, path, limits),
   locate: (list, reading, limits) => locatedIn(SEGMENTS, list, reading, limits),
   walk: (list, most, limits) => walkedIn(SEGMENTS, list, most, limits),
 });
@@ -366,6 +378,9 @@ export const words = Object.freeze({
   isCanonical: (message, limits) => isYes(WORDS, message, limits, (lib, given, within) => checked(lib, lib.calls.words_check, given, within)),
   size: (message, limits) => asked(WORDS, Reading.Size, message, limits, (lib, given, within) => sized(lib, lib.calls.words_size, given, within)),
   validate: (message, limits) => asked(WORDS, Reading.Value, message, limits, (lib, given, within) => validated(lib, lib.calls.words_validate, given, within)),
+  canonicalizeFlatAt: (message, path, limits) => askedAt(WORDS, copied, 'words_copy_at', message, path, limits),
+  digestAt: (message, path, limits) => askedAt(WORDS, digested, 'words_digest_at', message, path, limits),
+  sizeAt: (message, path, limits) => askedAt(WORDS, sized, 'words_size_at', message, path, limits),
   locate: (message, reading, limits) => locatedIn(WORDS, message, reading, limits),
   walk: (message, most, limits) => walkedIn(WORDS, message, most, limits),
 });

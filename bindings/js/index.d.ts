@@ -268,6 +268,9 @@ export const segments: {
   isCanonical(list: Iterable<Bytes>, limits?: Limits): boolean;
   size(list: Iterable<Bytes>, limits?: Limits): Size;
   validate(list: Iterable<Bytes>, limits?: Limits): Extent;
+  canonicalizeFlatAt(list: Iterable<Bytes>, path: Iterable<number>, limits?: Limits): Uint8Array;
+  digestAt(list: Iterable<Bytes>, path: Iterable<number>, limits?: Limits): Uint8Array;
+  sizeAt(list: Iterable<Bytes>, path: Iterable<number>, limits?: Limits): Size;
   locate(list: Iterable<Bytes>, reading: Reading, limits?: Limits): Broken | null;
   walk(list: Iterable<Bytes>, most: number, limits?: Limits): Walk;
 };
@@ -280,6 +283,9 @@ export const words: {
   isCanonical(message: Bytes, limits?: Limits): boolean;
   size(message: Bytes, limits?: Limits): Size;
   validate(message: Bytes, limits?: Limits): Extent;
+  canonicalizeFlatAt(message: Bytes, path: Iterable<number>, limits?: Limits): Uint8Array;
+  digestAt(message: Bytes, path: Iterable<number>, limits?: Limits): Uint8Array;
+  sizeAt(message: Bytes, path: Iterable<number>, limits?: Limits): Size;
   locate(message: Bytes, reading: Reading, limits?: Limits): Broken | null;
   walk(message: Bytes, most: number, limits?: Limits): Walk;
 };

@@ -88,9 +88,12 @@ export function lendPath(lib, path) {
   return at;
 }
 
-/** Copies segments into the memory, after a table of them. An entry is two numbers of 64 bits: the address, and the size. */
-export function lendSegments(lib, segments) {
-  const table = lib.base + ANSWERS, start = up(table + 16 * segments.length);
+/**
+ * Copies segments into the memory, after `before` bytes that the caller fills and a table of the segments. An entry is two numbers of
+ * 64 bits: the address, and the size.
+ */
+export function lendSegments(lib, segments, before = 0) {
+  const table = up(lib.base + ANSWERS + before), start = up(table + 16 * segments.length);
   const end = segments.reduce((sum, it) => up(sum + it.length), start), room = Math.min(end - start + 16, MOST - 1);
   if (segments.some((it) => it.length >= MOST) || !reaches(lib, end + room)) return undefined;
   let at = start;

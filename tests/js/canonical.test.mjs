@@ -48,31 +48,69 @@ test('messages', () => {
   passed('messages', count);
 });
 
+/** The words of the value of a row's part, as `size` counts them. */
+const wordsOfPart = (flat) => `${hex(flat).length / 8 - 1},0`;
+
 test('parts of messages', () => {
   let count = 0;
+  const forms = new Map([[capnp, 0], [capnp.segments, 0], [capnp.words, 0]]);
   for (const [name, frame, path, answer, flat, digest] of rowsOf('library/parts.txt')) {
-    const bytes = hex(frame), indexes = path === '-' ? [] : path.split('.').slice(0, -1).map(Number);
-    const wanted = (text) => (answer === 'Done' ? text : `!${answer}`);
-    assert.equal(said(() => hexOf(capnp.canonicalizeFlatAt(bytes, indexes))), wanted(flat), `${name} ${path}`);
-    assert.equal(said(() => hexOf(capnp.digestAt(bytes, new Uint32Array(indexes)))), wanted(digest), `${name} ${path}`);
-    // the words of the message itself needn't be trimmed, so only the part's copy has a known size
-    const copy = answer === 'Done' ? framed([hex(flat)]) : bytes, inCopy = answer === 'Done' ? [] : indexes;
-    assert.equal(said(() => Object.values(capnp.sizeAt(copy, inCopy)).join()), wanted(`${hex(flat).length / 8 - 1},0`), `${name} ${path}`);
-    assert.equal(said(() => typeof capnp.sizeAt(bytes, indexes).words), wanted('number'), `${name} ${path}`);
+    const bytes = hex(frame), segments = segmentsOf(bytes), indexes = path === '-' ? [] : path.split('.').slice(0, -1).map(Number);
+    const wanted = (text) => (answer === 'Done' ? text : `!${answer}`), what = `${name} ${path}`;
+    const messages = [[capnp, bytes], [capnp.segments, segments], [capnp.segments, new Set(segments)]];
+    if (segments.length === 1) messages.push([capnp.segments, [segments[0].slice().buffer]], [capnp.words, segments[0]], [capnp.words, new DataView(segments[0].slice().buffer)]);
+    for (const [form, message] of messages) {
+      assert.equal(said(() => hexOf(form.canonicalizeFlatAt(message, indexes))), wanted(flat), what);
+      assert.equal(said(() => hexOf(form.digestAt(message, new Uint32Array(indexes)))), wanted(digest), what);
+      // the words of the message itself needn't be trimmed, so only the part's copy has a known size
+      assert.equal(said(() => typeof form.sizeAt(message, indexes.values()).words), wanted('number'), what);
+      assert.deepEqual(said(() => form.sizeAt(message, indexes)), said(() => capnp.sizeAt(bytes, indexes)), what);
+      forms.set(form, forms.get(form) + 1);
+    }
+    if (answer === 'Done') {
+      const copy = hex(flat);
+      for (const [form, message] of [[capnp, framed([copy])], [capnp.segments, [copy]], [capnp.words, copy]]) {
+        assert.equal(Object.values(form.sizeAt(message, [])).join(), wordsOfPart(flat), what);
+        assert.equal(hexOf(form.canonicalizeFlatAt(message, [])), flat, what);
+      }
+      // the least limit on words that a part fits: one word less is refused. A frame may have no more words than that, either
+      let least = 0;
+      while (said(() => capnp.segments.digestAt(segments, indexes, { words: least })) === '!ReadLimitExceeded') least++;
+      assert.equal(hexOf(capnp.segments.digestAt(segments, indexes, { words: least })), digest, what);
+      assert.ok(least > 0, what);
+      if (segments.length === 1) {
+        assert.equal(hexOf(capnp.words.canonicalizeFlatAt(segments[0], indexes, { words: least })), flat, what);
+        assert.throws(() => capnp.words.canonicalizeFlatAt(segments[0], indexes, { words: least - 1 }), { code: 'ReadLimitExceeded', pointer: undefined }, what);
+      }
+    }
     // bytes after the frame, and limits that the part doesn't fit
     const longer = new Uint8Array(bytes.length + 5000);
     longer.set(bytes);
-    assert.equal(said(() => hexOf(capnp.canonicalizeFlatAt(longer, indexes, { words: Infinity }))), wanted(flat), `${name} ${path}`);
+    assert.equal(said(() => hexOf(capnp.canonicalizeFlatAt(longer, indexes, { words: Infinity }))), wanted(flat), what);
     assert.throws(() => capnp.digestAt(bytes, indexes, { words: 0 }), { code: 'MessageTooLong' });
     count++;
   }
-  const frame = framed([hex('00000000000001000100000022000000' + '4164610000000000')]);
-  for (const path of ['0', 0, null, undefined, {}, [0.5], ['0'], [1n], [NaN]]) assert.throws(() => capnp.digestAt(frame, path), TypeError);
-  for (const path of [[-1], [2 ** 32], [0, 1e100]]) assert.throws(() => capnp.sizeAt(frame, path), RangeError);
-  assert.throws(() => capnp.canonicalizeFlatAt('text', [0]), TypeError);
-  assert.throws(() => capnp.canonicalizeFlatAt(frame, Array(100000).fill(0)), { code: 'NoSuchPlace' });
+  const one = hex('00000000000001000100000022000000' + '4164610000000000'), frame = framed([one]);
+  for (const [form, message] of [[capnp, frame], [capnp.segments, [one]], [capnp.words, one]]) {
+    for (const path of ['0', 0, null, undefined, {}, [0.5], ['0'], [1n], [NaN]]) assert.throws(() => form.digestAt(message, path), TypeError);
+    for (const path of [[-1], [2 ** 32], [0, 1e100]]) assert.throws(() => form.sizeAt(message, path), RangeError);
+    assert.throws(() => form.canonicalizeFlatAt('text', [0]), TypeError);
+    assert.throws(() => form.sizeAt(message, [0], { nesting: MAX_NESTING + 1 }), RangeError);
+    assert.throws(() => form.canonicalizeFlatAt(message, Array(100000).fill(0)), { code: 'NoSuchPlace', pointer: undefined });
+    assert.equal(hexOf(form.canonicalizeFlatAt(message, [0])), '01000000220000004164610000000000');
+  }
+  // what isn't a message of segments or of raw words
+  for (const call of [capnp.segments.canonicalizeFlatAt, capnp.segments.digestAt, capnp.segments.sizeAt]) {
+    assert.throws(() => call(one, [0]), TypeError);
+    assert.throws(() => call([], [0]), { code: 'InvalidSegmentId', pointer: undefined });
+    assert.throws(() => call([one, one.subarray(0, 12)], [0]), { code: 'SegmentIsNotWholeWords', pointer: undefined });
+  }
+  for (const call of [capnp.words.canonicalizeFlatAt, capnp.words.digestAt, capnp.words.sizeAt]) {
+    assert.throws(() => call([one], [0]), TypeError);
+    assert.throws(() => call(one.subarray(0, 12), [0]), { code: 'SegmentIsNotWholeWords', pointer: undefined });
+  }
   passed('parts of messages', count);
-  assert.equal(count, 66);
+  assert.deepEqual([count, ...forms.values()], [66, 66, 165, 66]);
 });
 
 test('the extent of messages', () => {

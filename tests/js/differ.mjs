@@ -42,6 +42,8 @@ for (let i = 0; i < Number(process.argv[2]); i++) {
   if (!drawn(8)) bytes = bytes.slice(0, drawn(bytes.length + 1));
   const limits = { nesting: drawn(3) ? 64 : drawn(8), words: drawn(3) ? 100000 : drawn(80) };
   const path = Array.from({ length: drawn(4) }, () => drawn(3));
+  // what is behind the table of a frame of one segment
+  const words = bytes.subarray(8);
   const answers = [
     () => hexOf(capnp.canonicalize(bytes, limits)),
     () => hexOf(capnp.canonicalizeFlat(bytes, limits)),
@@ -56,6 +58,12 @@ for (let i = 0; i < Number(process.argv[2]); i++) {
     () => hexOf(capnp.canonicalizeFlatAt(bytes, path, limits)),
     () => hexOf(capnp.digestAt(bytes, path, limits)),
     () => Object.values(capnp.sizeAt(bytes, path, limits)).join(),
+    () => hexOf(capnp.words.canonicalizeFlatAt(words, path, limits)),
+    () => hexOf(capnp.words.digestAt(words, path, limits)),
+    () => Object.values(capnp.words.sizeAt(words, path, limits)).join(),
+    () => hexOf(capnp.segments.canonicalizeFlatAt([words, bytes], path, limits)),
+    () => hexOf(capnp.segments.digestAt([words, bytes], path, limits)),
+    () => Object.values(capnp.segments.sizeAt([words, bytes], path, limits)).join(),
     () => hexOf(capnp.digest(bytes, limits)),
     () => unpacked(bytes, limits.words),
   ];

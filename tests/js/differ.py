@@ -27,9 +27,9 @@ def unpacked(packed, words):
 def main():
     passed = failed = refused = 0
     for line in sys.stdin:
-        shown, nesting, words, steps, *answers = line.rstrip('\n').split(' ')
+        shown, nesting, limit, steps, *answers = line.rstrip('\n').split(' ')
         frame = b'' if shown == '-' else bytes.fromhex(shown)
-        limits = native.Limits(int(nesting), int(words))
+        limits = native.Limits(int(nesting), int(limit))
         path = [] if steps == '-' else [int(it) for it in steps.split('.')]
 
         def check():
@@ -44,14 +44,22 @@ def main():
             found = native.validate(frame, limits)
             return f'{found.depth},{found.words},{found.capabilities},{found.cost}'
 
-        def size_at():
-            found = native.size_at(frame, path, limits)
+        def counts(size_at, message):
+            found = size_at(message, path, limits)
             return f'{found.words},{found.capabilities}'
 
+        # what is behind the table of a frame of one segment
+        words = frame[8:]
+        segments = [words, frame]
         got = [
             said(lambda: native.copy(frame, limits).hex() or '-'), said(lambda: native.copy_flat(frame, limits).hex() or '-'), said(check), said(size),
             said(lambda: str(native.frame_size(frame, limits.words))), said(lambda: native.unpack(frame, 1000).hex() or '-'),
-            said(extent), said(lambda: native.copy_flat_at(frame, path, limits).hex() or '-'), said(lambda: native.digest_at(frame, path, limits).hex()), said(size_at),
+            said(extent), said(lambda: native.copy_flat_at(frame, path, limits).hex() or '-'), said(lambda: native.digest_at(frame, path, limits).hex()),
+            said(lambda: counts(native.size_at, frame)),
+            said(lambda: native.words_copy_at(words, path, limits).hex() or '-'), said(lambda: native.words_digest_at(words, path, limits).hex()),
+            said(lambda: counts(native.words_size_at, words)),
+            said(lambda: native.segments_copy_flat_at(segments, path, limits).hex() or '-'), said(lambda: native.segments_digest_at(segments, path, limits).hex()),
+            said(lambda: counts(native.segments_size_at, segments)),
             said(lambda: native.digest(frame, limits).hex()), unpacked(frame, limits.words),
         ]
         passed += got == answers

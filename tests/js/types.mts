@@ -21,6 +21,8 @@ export async function all(frame: Uint8Array, buffer: ArrayBuffer, pieces: AsyncI
   const { depth, cost }: Extent = capnp.validate(frame, limits);
   text += `${depth} ${cost} ${capnp.segments.validate([frame]).words} ${capnp.words.validate(flat).capabilities} ${capnp.frameSizeFromPrefix(frame)}`;
   text += `${capnp.canonicalizeFlatAt(frame, [0, 1]).length} ${capnp.digestAt(frame, new Set([0]), limits).length} ${capnp.sizeAt(frame, []).words}`;
+  text += `${capnp.segments.canonicalizeFlatAt([frame], [0, 1]).length} ${capnp.segments.digestAt(new Set([buffer]), [], limits).length} ${capnp.segments.sizeAt([], []).words}`;
+  text += `${capnp.words.canonicalizeFlatAt(flat, [0, 1]).length} ${capnp.words.digestAt(buffer, new Set([0]), limits).length} ${capnp.words.sizeAt(flat, []).capabilities}`;
   const reading: Reading = Reading.Canonical, broken: Broken | null = capnp.locate(frame, reading, limits);
   const place: Pointer | null = capnp.segments.locate([frame], Reading.Size) ?? capnp.words.locate(frame, Reading.Value, limits) ?? broken;
   if (broken) text += `${broken.code === 'UnknownPointerType'} ${broken.number === Refusal.InvalidSegmentId} ${broken.text} ${broken} ${place?.segment} ${place?.word}`;
@@ -44,6 +46,10 @@ capnp.canonicalize('text');
 capnp.check(new Uint8Array(0), { depth: 7 });
 // @ts-expect-error a path of texts
 capnp.digestAt(new Uint8Array(0), ['0']);
+// @ts-expect-error bytes aren't segments
+capnp.segments.digestAt(new Uint8Array(0), [0]);
+// @ts-expect-error segments aren't raw words
+capnp.words.digestAt([new Uint8Array(0)], [0]);
 // @ts-expect-error there is no such reading
 capnp.locate(new Uint8Array(0), 3);
 // @ts-expect-error bytes aren't pieces
