@@ -1,0 +1,121 @@
+//! AddressBook
+ghost use Rattle.std.specs.Prelude.{IfOk, IsTrue, List, ℕ, ◌*◌, ◌+◌, ◌<◌, ◌^◌, ◌↔◌, ◌≡◌, ◌≢◌};
+ghost use Rattle.addressbook_building.specs.Sizes.{address_book_size, person_size};
+ghost use Rattle.capnp_builders.specs.Held.{HasStruct, Holder, MakesChild, call_in, element_of, pointer_to};
+ghost use Rattle.capnp_builders.specs.Places.{element_place};
+ghost use Rattle.capnp_format.specs.Segments.{Grows, IsPlace};
+ghost use Rattle.capnp_format.specs.Tree.{Null, Struct, Tree, Trees};
+ghost use Rattle.capnp_making.specs.Made.{nulls, words_of_zero, zero_elements, zero_struct, zero_structs};
+ghost use Rattle.capnp_making.specs.Makes.{MakesObject, call_at};
+ghost use Rattle.capnp_making.specs.Stored.{IsStored};
+ghost use Rattle.typed_building.specs.There.{HasStructsPlace, HasStructPlace, call_on};
+ghost use Rattle.typed_reading.specs.Values.{child};
+
+use crate::person;
+use capnp_arena_traits::arena::BuilderArena;
+use capnp_readers::readers::{ListPlace, StructPlace};
+use capnp_words::error::ErrorKind;
+use capnp_words::wire_pointer::StructSize;
+use typed_building::{list, reading, value};
+
+/// The sections of a AddressBook.
+pub const SIZE: StructSize = StructSize {
+    data_words: 0,
+    pointers: 1,
+};
+
+/// Where a AddressBook is.
+#[derive(Clone, Copy, Debug)]
+pub struct Builder {
+    /// The place of the struct.
+    pub place: StructPlace,
+}
+
+impl Builder {
+    /// Makes the root of a message a AddressBook, whose fields have their default values.
+    pub fn init_root<A: BuilderArena>(arena: &mut A) -> Result<Self, ErrorKind>
+        requires { IsPlace (A.view arena.old).words 0 0 }
+        ensures object { MakesObject result (call_at 0 0 (A.view arena.old) (A.view arena.new))
+            (zero_struct address_book_size) 1 }
+        ensures grows { Grows (A.view arena.old).words (A.view arena.new).words }
+        ensures there { IfOk result (λ b.
+            HasStructPlace (A.view arena.new).words address_book_size b.place) }
+        ensures made { (t : Tree) → IsStored (A.view arena.old).words 0 0 t
+            → IfOk result (λ b. HasStruct (A.view arena.new).words (pointer_to 0 0) b.place
+            (words_of_zero 0) (nulls 1)) }
+    {
+        match value::init_root(arena, SIZE) {
+            Ok(place) => Ok(Builder { place }),
+            Err(k) => Err(k),
+        }
+    }
+
+    /// people @0 :List(Person)
+    pub fn init_people<A: BuilderArena>(
+        self,
+        arena: &mut A,
+        count: u32,
+    ) -> Result<person::Builders, ErrorKind>
+        requires there { HasStructPlace (A.view arena.old).words address_book_size self.place }
+        requires few { count * 5 < 2 ^ 29 }
+        ensures object { MakesObject result
+            (call_on self.place 0 (A.view arena.old) (A.view arena.new))
+            (zero_structs count person_size) (1 + count * 5) }
+        ensures grows { Grows (A.view arena.old).words (A.view arena.new).words }
+        ensures there { IfOk result (λ list.
+            HasStructsPlace (A.view arena.new).words person_size list.place) }
+        ensures count { IfOk result (λ list. list.place.count ≡ count) }
+        ensures made { (x : Holder) (ws : List ℕ) (ts : Trees) (i : ℕ) → i < count
+            → HasStruct (A.view arena.old).words x self.place ws ts
+            → IfOk result (λ list. HasStruct (A.view arena.new).words
+            (element_of self.place.segment (self.place.pointers_at + 0) person_size
+            (zero_elements 1 4 count) i) (element_place list.place.size list.place i)
+            (words_of_zero 1) (nulls 4)) }
+        ensures child { MakesChild result
+            (call_in self.place (A.view arena.old).words (A.view arena.new).words) 0
+            (zero_structs count person_size) }
+    {
+        match value::init_struct_list(arena, self.place, 0, count, person::SIZE) {
+            Ok(place) => Ok(person::Builders { place }),
+            Err(k) => Err(k),
+        }
+    }
+
+    /// Whether the pointer of people is not null.
+    pub fn has_people<A: BuilderArena>(self, arena: &A) -> bool
+        requires { HasStructPlace (A.view arena.now).words address_book_size self.place }
+        ensures { (x : Holder) (ws : List ℕ) (ts : Trees)
+            → HasStruct (A.view arena.now).words x self.place ws ts
+            → (IsTrue result ↔ (child 0 (Struct ws ts) ≢ Null)) }
+    {
+        reading::has(arena, self.place, 0)
+    }
+}
+
+/// Where a list of AddressBook is.
+#[derive(Clone, Copy, Debug)]
+pub struct Builders {
+    /// The place of the list.
+    pub place: ListPlace,
+}
+
+impl Builders {
+    /// The number of elements.
+    pub fn len(self) -> u32
+        ensures { result ≡ self.place.count }
+    {
+        self.place.count
+    }
+
+    /// Returns element `index`. Precondition: `index` is below the number of elements.
+    pub fn get<A: BuilderArena>(self, arena: &A, index: u32) -> Builder
+        requires there { HasStructsPlace (A.view arena.now).words address_book_size self.place }
+        requires range { index < self.place.count }
+        ensures there { HasStructPlace (A.view arena.now).words address_book_size result.place }
+        ensures place { result.place ≡ element_place self.place.size self.place index }
+    {
+        Builder {
+            place: list::element(arena, self.place, SIZE, index),
+        }
+    }
+}

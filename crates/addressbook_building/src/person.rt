@@ -1,0 +1,204 @@
+//! Person
+ghost use Rattle.std.specs.Prelude.{IfOk, IsTrue, List, [], length, ℕ, ◌*◌, ◌++◌, ◌+◌, ◌<◌, ◌^◌, ◌↔◌, ◌∷◌, ◌≡◌, ◌≢◌};
+ghost use Rattle.addressbook_building.specs.Sizes.{person_phone_number_size, person_size};
+ghost use Rattle.addressbook_reading.specs.Schema.{person_id};
+ghost use Rattle.capnp_builders.specs.Held.{HasStruct, Holder, MakesChild, ReplacesField, SetsField, call_in, element_of, pointer_to};
+ghost use Rattle.capnp_builders.specs.Places.{element_place, field};
+ghost use Rattle.capnp_format.specs.Numbers.{words_for};
+ghost use Rattle.capnp_format.specs.Segments.{Grows, IsPlace};
+ghost use Rattle.capnp_format.specs.Tree.{Flat, Null, Struct, Tree, Trees};
+ghost use Rattle.capnp_making.specs.Made.{nulls, words_of_zero, zero_elements, zero_struct, zero_structs};
+ghost use Rattle.capnp_making.specs.Makes.{MakesObject, call_at};
+ghost use Rattle.capnp_making.specs.Stored.{IsStored};
+ghost use Rattle.typed_building.specs.There.{HasStructsPlace, HasStructPlace, call_on};
+ghost use Rattle.typed_reading.specs.Values.{child};
+
+use crate::{person_employment, person_phone_number};
+use capnp_arena_traits::arena::BuilderArena;
+use capnp_readers::readers::{ListPlace, StructPlace};
+use capnp_words::error::ErrorKind;
+use capnp_words::wire_pointer::StructSize;
+use typed_building::{list, reading, value};
+
+/// The sections of a Person.
+pub const SIZE: StructSize = StructSize {
+    data_words: 1,
+    pointers: 4,
+};
+
+/// Where a Person is.
+#[derive(Clone, Copy, Debug)]
+pub struct Builder {
+    /// The place of the struct.
+    pub place: StructPlace,
+}
+
+impl Builder {
+    /// Makes the root of a message a Person, whose fields have their default values.
+    pub fn init_root<A: BuilderArena>(arena: &mut A) -> Result<Self, ErrorKind>
+        requires { IsPlace (A.view arena.old).words 0 0 }
+        ensures object { MakesObject result (call_at 0 0 (A.view arena.old) (A.view arena.new))
+            (zero_struct person_size) 5 }
+        ensures grows { Grows (A.view arena.old).words (A.view arena.new).words }
+        ensures there { IfOk result (λ b.
+            HasStructPlace (A.view arena.new).words person_size b.place) }
+        ensures made { (t : Tree) → IsStored (A.view arena.old).words 0 0 t
+            → IfOk result (λ b. HasStruct (A.view arena.new).words (pointer_to 0 0) b.place
+            (words_of_zero 1) (nulls 4)) }
+    {
+        match value::init_root(arena, SIZE) {
+            Ok(place) => Ok(Builder { place }),
+            Err(k) => Err(k),
+        }
+    }
+
+    /// id @0 :UInt32
+    pub fn set_id<A: BuilderArena>(self, arena: &mut A, value: u32)
+        requires { HasStructPlace (A.view arena.old).words person_size self.place }
+        ensures grows { Grows (A.view arena.old).words (A.view arena.new).words }
+        ensures sets { SetsField
+            (call_in self.place (A.view arena.old).words (A.view arena.new).words)
+            (field 0 32 value) }
+        ensures replaces { ReplacesField
+            (call_in self.place (A.view arena.old).words (A.view arena.new).words)
+            (field 0 32 value) }
+    {
+        value::set_number(arena, self.place, 0, value);
+    }
+
+    /// Returns id.
+    pub fn get_id<A: BuilderArena>(self, arena: &A) -> u32
+        requires { HasStructPlace (A.view arena.now).words person_size self.place }
+        ensures { (x : Holder) (ws : List ℕ) (ts : Trees)
+            → HasStruct (A.view arena.now).words x self.place ws ts
+            → result ≡ person_id (Struct ws ts) }
+    {
+        reading::get_number(arena, self.place, 0)
+    }
+
+    /// name @1 :Text
+    pub fn set_name<A: BuilderArena>(self, arena: &mut A, text: &[u8]) -> Result<(), ErrorKind>
+        requires there { HasStructPlace (A.view arena.old).words person_size self.place }
+        requires few { length text.now + 1 < 2 ^ 29 }
+        ensures object { MakesObject result
+            (call_on self.place 0 (A.view arena.old) (A.view arena.new))
+            (Flat 2 (text.now ++ 0 ∷ [])) (words_for 2 (length text.now + 1)) }
+        ensures grows { Grows (A.view arena.old).words (A.view arena.new).words }
+        ensures child { MakesChild result
+            (call_in self.place (A.view arena.old).words (A.view arena.new).words) 0
+            (Flat 2 (text.now ++ 0 ∷ [])) }
+    {
+        value::set_text(arena, self.place, 0, text)
+    }
+
+    /// Whether the pointer of name is not null.
+    pub fn has_name<A: BuilderArena>(self, arena: &A) -> bool
+        requires { HasStructPlace (A.view arena.now).words person_size self.place }
+        ensures { (x : Holder) (ws : List ℕ) (ts : Trees)
+            → HasStruct (A.view arena.now).words x self.place ws ts
+            → (IsTrue result ↔ (child 0 (Struct ws ts) ≢ Null)) }
+    {
+        reading::has(arena, self.place, 0)
+    }
+
+    /// email @2 :Text
+    pub fn set_email<A: BuilderArena>(self, arena: &mut A, text: &[u8]) -> Result<(), ErrorKind>
+        requires there { HasStructPlace (A.view arena.old).words person_size self.place }
+        requires few { length text.now + 1 < 2 ^ 29 }
+        ensures object { MakesObject result
+            (call_on self.place 1 (A.view arena.old) (A.view arena.new))
+            (Flat 2 (text.now ++ 0 ∷ [])) (words_for 2 (length text.now + 1)) }
+        ensures grows { Grows (A.view arena.old).words (A.view arena.new).words }
+        ensures child { MakesChild result
+            (call_in self.place (A.view arena.old).words (A.view arena.new).words) 1
+            (Flat 2 (text.now ++ 0 ∷ [])) }
+    {
+        value::set_text(arena, self.place, 1, text)
+    }
+
+    /// Whether the pointer of email is not null.
+    pub fn has_email<A: BuilderArena>(self, arena: &A) -> bool
+        requires { HasStructPlace (A.view arena.now).words person_size self.place }
+        ensures { (x : Holder) (ws : List ℕ) (ts : Trees)
+            → HasStruct (A.view arena.now).words x self.place ws ts
+            → (IsTrue result ↔ (child 1 (Struct ws ts) ≢ Null)) }
+    {
+        reading::has(arena, self.place, 1)
+    }
+
+    /// phones @3 :List(Person.PhoneNumber)
+    pub fn init_phones<A: BuilderArena>(
+        self,
+        arena: &mut A,
+        count: u32,
+    ) -> Result<person_phone_number::Builders, ErrorKind>
+        requires there { HasStructPlace (A.view arena.old).words person_size self.place }
+        requires few { count * 2 < 2 ^ 29 }
+        ensures object { MakesObject result
+            (call_on self.place 2 (A.view arena.old) (A.view arena.new))
+            (zero_structs count person_phone_number_size) (1 + count * 2) }
+        ensures grows { Grows (A.view arena.old).words (A.view arena.new).words }
+        ensures there { IfOk result (λ list.
+            HasStructsPlace (A.view arena.new).words person_phone_number_size list.place) }
+        ensures count { IfOk result (λ list. list.place.count ≡ count) }
+        ensures made { (x : Holder) (ws : List ℕ) (ts : Trees) (i : ℕ) → i < count
+            → HasStruct (A.view arena.old).words x self.place ws ts
+            → IfOk result (λ list. HasStruct (A.view arena.new).words
+            (element_of self.place.segment (self.place.pointers_at + 2) person_phone_number_size
+            (zero_elements 1 1 count) i) (element_place list.place.size list.place i)
+            (words_of_zero 1) (nulls 1)) }
+        ensures child { MakesChild result
+            (call_in self.place (A.view arena.old).words (A.view arena.new).words) 2
+            (zero_structs count person_phone_number_size) }
+    {
+        match value::init_struct_list(arena, self.place, 2, count, person_phone_number::SIZE) {
+            Ok(place) => Ok(person_phone_number::Builders { place }),
+            Err(k) => Err(k),
+        }
+    }
+
+    /// Whether the pointer of phones is not null.
+    pub fn has_phones<A: BuilderArena>(self, arena: &A) -> bool
+        requires { HasStructPlace (A.view arena.now).words person_size self.place }
+        ensures { (x : Holder) (ws : List ℕ) (ts : Trees)
+            → HasStruct (A.view arena.now).words x self.place ws ts
+            → (IsTrue result ↔ (child 2 (Struct ws ts) ≢ Null)) }
+    {
+        reading::has(arena, self.place, 2)
+    }
+
+    /// employment :group
+    pub fn get_employment(self) -> person_employment::Builder
+        ensures { result.place ≡ self.place }
+    {
+        person_employment::Builder { place: self.place }
+    }
+}
+
+/// Where a list of Person is.
+#[derive(Clone, Copy, Debug)]
+pub struct Builders {
+    /// The place of the list.
+    pub place: ListPlace,
+}
+
+impl Builders {
+    /// The number of elements.
+    pub fn len(self) -> u32
+        ensures { result ≡ self.place.count }
+    {
+        self.place.count
+    }
+
+    /// Returns element `index`. Precondition: `index` is below the number of elements.
+    pub fn get<A: BuilderArena>(self, arena: &A, index: u32) -> Builder
+        requires there { HasStructsPlace (A.view arena.now).words person_size self.place }
+        requires range { index < self.place.count }
+        ensures there { HasStructPlace (A.view arena.now).words person_size result.place }
+        ensures place { result.place ≡ element_place self.place.size self.place index }
+    {
+        Builder {
+            place: list::element(arena, self.place, SIZE, index),
+        }
+    }
+}
