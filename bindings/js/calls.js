@@ -378,7 +378,7 @@ export const words = Object.freeze({
   isCanonical: (message, limits) => isYes(WORDS, message, limits, (lib, given, within) => checked(lib, lib.calls.words_check, given, within)),
   size: (message, limits) => asked(WORDS, Reading.Size, message, limits, (lib, given, within) => sized(lib, lib.calls.words_size, given, within)),
   validate: (message, limits) => asked(WORDS, Reading.Value, message, limits, (lib, given, within) => validated(lib, lib.calls.words_validate, given, within)),
-  canonicalizeFlatAt: (message, path, limits) => askedAt(WORDS, copied, 'words_copy_at', message, path, limits),
+  canonicalizeAt: (message, path, limits) => askedAt(WORDS, copied, 'words_copy_at', message, path, limits),
   digestAt: (message, path, limits) => askedAt(WORDS, digested, 'words_digest_at', message, path, limits),
   sizeAt: (message, path, limits) => askedAt(WORDS, sized, 'words_size_at', message, path, limits),
   locate: (message, reading, limits) => locatedIn(WORDS, message, reading, limits),

@@ -283,7 +283,7 @@ export const words: {
   isCanonical(message: Bytes, limits?: Limits): boolean;
   size(message: Bytes, limits?: Limits): Size;
   validate(message: Bytes, limits?: Limits): Extent;
-  canonicalizeFlatAt(message: Bytes, path: Iterable<number>, limits?: Limits): Uint8Array;
+  canonicalizeAt(message: Bytes, path: Iterable<number>, limits?: Limits): Uint8Array;
   digestAt(message: Bytes, path: Iterable<number>, limits?: Limits): Uint8Array;
   sizeAt(message: Bytes, path: Iterable<number>, limits?: Limits): Size;
   locate(message: Bytes, reading: Reading, limits?: Limits): Broken | null;

@@ -60,7 +60,7 @@ test('parts of messages', () => {
     const messages = [[capnp, bytes], [capnp.segments, segments], [capnp.segments, new Set(segments)]];
     if (segments.length === 1) messages.push([capnp.segments, [segments[0].slice().buffer]], [capnp.words, segments[0]], [capnp.words, new DataView(segments[0].slice().buffer)]);
     for (const [form, message] of messages) {
-      assert.equal(said(() => hexOf(form.canonicalizeFlatAt(message, indexes))), wanted(flat), what);
+      assert.equal(said(() => hexOf((form.canonicalizeFlatAt ?? form.canonicalizeAt)(message, indexes))), wanted(flat), what);
       assert.equal(said(() => hexOf(form.digestAt(message, new Uint32Array(indexes)))), wanted(digest), what);
       // the words of the message itself needn't be trimmed, so only the part's copy has a known size
       assert.equal(said(() => typeof form.sizeAt(message, indexes.values()).words), wanted('number'), what);
@@ -71,7 +71,7 @@ test('parts of messages', () => {
       const copy = hex(flat);
       for (const [form, message] of [[capnp, framed([copy])], [capnp.segments, [copy]], [capnp.words, copy]]) {
         assert.equal(Object.values(form.sizeAt(message, [])).join(), wordsOfPart(flat), what);
-        assert.equal(hexOf(form.canonicalizeFlatAt(message, [])), flat, what);
+        assert.equal(hexOf((form.canonicalizeFlatAt ?? form.canonicalizeAt)(message, [])), flat, what);
       }
       // the least limit on words that a part fits: one word less is refused. A frame may have no more words than that, either
       let least = 0;
@@ -79,8 +79,8 @@ test('parts of messages', () => {
       assert.equal(hexOf(capnp.segments.digestAt(segments, indexes, { words: least })), digest, what);
       assert.ok(least > 0, what);
       if (segments.length === 1) {
-        assert.equal(hexOf(capnp.words.canonicalizeFlatAt(segments[0], indexes, { words: least })), flat, what);
-        assert.throws(() => capnp.words.canonicalizeFlatAt(segments[0], indexes, { words: least - 1 }), { code: 'ReadLimitExceeded', pointer: undefined }, what);
+        assert.equal(hexOf(capnp.words.canonicalizeAt(segments[0], indexes, { words: least })), flat, what);
+        assert.throws(() => capnp.words.canonicalizeAt(segments[0], indexes, { words: least - 1 }), { code: 'ReadLimitExceeded', pointer: undefined }, what);
       }
     }
     // bytes after the frame, and limits that the part doesn't fit
@@ -94,10 +94,10 @@ test('parts of messages', () => {
   for (const [form, message] of [[capnp, frame], [capnp.segments, [one]], [capnp.words, one]]) {
     for (const path of ['0', 0, null, undefined, {}, [0.5], ['0'], [1n], [NaN]]) assert.throws(() => form.digestAt(message, path), TypeError);
     for (const path of [[-1], [2 ** 32], [0, 1e100]]) assert.throws(() => form.sizeAt(message, path), RangeError);
-    assert.throws(() => form.canonicalizeFlatAt('text', [0]), TypeError);
+    assert.throws(() => (form.canonicalizeFlatAt ?? form.canonicalizeAt)('text', [0]), TypeError);
     assert.throws(() => form.sizeAt(message, [0], { nesting: MAX_NESTING + 1 }), RangeError);
-    assert.throws(() => form.canonicalizeFlatAt(message, Array(100000).fill(0)), { code: 'NoSuchPlace', pointer: undefined });
-    assert.equal(hexOf(form.canonicalizeFlatAt(message, [0])), '01000000220000004164610000000000');
+    assert.throws(() => (form.canonicalizeFlatAt ?? form.canonicalizeAt)(message, Array(100000).fill(0)), { code: 'NoSuchPlace', pointer: undefined });
+    assert.equal(hexOf((form.canonicalizeFlatAt ?? form.canonicalizeAt)(message, [0])), '01000000220000004164610000000000');
   }
   // what isn't a message of segments or of raw words
   for (const call of [capnp.segments.canonicalizeFlatAt, capnp.segments.digestAt, capnp.segments.sizeAt]) {
@@ -105,7 +105,7 @@ test('parts of messages', () => {
     assert.throws(() => call([], [0]), { code: 'InvalidSegmentId', pointer: undefined });
     assert.throws(() => call([one, one.subarray(0, 12)], [0]), { code: 'SegmentIsNotWholeWords', pointer: undefined });
   }
-  for (const call of [capnp.words.canonicalizeFlatAt, capnp.words.digestAt, capnp.words.sizeAt]) {
+  for (const call of [capnp.words.canonicalizeAt, capnp.words.digestAt, capnp.words.sizeAt]) {
     assert.throws(() => call([one], [0]), TypeError);
     assert.throws(() => call(one.subarray(0, 12), [0]), { code: 'SegmentIsNotWholeWords', pointer: undefined });
   }

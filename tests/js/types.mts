@@ -22,7 +22,7 @@ export async function all(frame: Uint8Array, buffer: ArrayBuffer, pieces: AsyncI
   text += `${depth} ${cost} ${capnp.segments.validate([frame]).words} ${capnp.words.validate(flat).capabilities} ${capnp.frameSizeFromPrefix(frame)}`;
   text += `${capnp.canonicalizeFlatAt(frame, [0, 1]).length} ${capnp.digestAt(frame, new Set([0]), limits).length} ${capnp.sizeAt(frame, []).words}`;
   text += `${capnp.segments.canonicalizeFlatAt([frame], [0, 1]).length} ${capnp.segments.digestAt(new Set([buffer]), [], limits).length} ${capnp.segments.sizeAt([], []).words}`;
-  text += `${capnp.words.canonicalizeFlatAt(flat, [0, 1]).length} ${capnp.words.digestAt(buffer, new Set([0]), limits).length} ${capnp.words.sizeAt(flat, []).capabilities}`;
+  text += `${capnp.words.canonicalizeAt(flat, [0, 1]).length} ${capnp.words.digestAt(buffer, new Set([0]), limits).length} ${capnp.words.sizeAt(flat, []).capabilities}`;
   const reading: Reading = Reading.Canonical, broken: Broken | null = capnp.locate(frame, reading, limits);
   const place: Pointer | null = capnp.segments.locate([frame], Reading.Size) ?? capnp.words.locate(frame, Reading.Value, limits) ?? broken;
   if (broken) text += `${broken.code === 'UnknownPointerType'} ${broken.number === Refusal.InvalidSegmentId} ${broken.text} ${broken} ${place?.segment} ${place?.word}`;
