@@ -18,13 +18,13 @@ use capnp_words::error::ErrorKind;
 use capnp_words::wire_pointer::StructSize;
 use typed_building::{list, reading, value};
 
-/// The sections of a AddressBook.
+/// The sections of an AddressBook.
 pub const SIZE: StructSize = StructSize {
     data_words: 0,
     pointers: 1,
 };
 
-/// Where a AddressBook is.
+/// Where an AddressBook is.
 #[derive(Clone, Copy, Debug)]
 pub struct Builder {
     /// The place of the struct.
@@ -32,7 +32,7 @@ pub struct Builder {
 }
 
 impl Builder {
-    /// Makes the root of a message a AddressBook, whose fields have their default values.
+    /// Makes the root of a message an AddressBook, whose fields have their default values.
     pub fn init_root<A: BuilderArena>(arena: &mut A) -> Result<Self, ErrorKind>
         requires { IsPlace (A.view arena.old).words 0 0 }
         ensures object { MakesObject result (call_at 0 0 (A.view arena.old) (A.view arena.new))

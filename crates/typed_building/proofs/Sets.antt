@@ -11,7 +11,7 @@ use Rattle.capnp_builders.specs.Held.{CallIn, HasStruct, Holder, MakesChild, Rep
 use Rattle.capnp_builders.proofs.HeldStructs.{child_replaced, child_set, child_stored}
 use Rattle.capnp_builders.specs.Places.{Field, field}
 use Rattle.typed_building.specs.Members.{MakesMember, ReplacesMember, SetsMember, tag_field, with_data}
-use Rattle.typed_building.specs.Slots.{BeginsGroup, ReplacesGroup, ReplacesSlots, ZeroesSlots, null_child, null_children, zero_all_data, zero_data}
+use Rattle.typed_building.specs.Slots.{ReplacesSlots, ZeroesSlots, null_child, null_children, zero_all_data, zero_data}
 use Rattle.typed_building.specs.declared.slots.Slot.{Slot}
 use Rattle.typed_building.specs.declared.tag.Tag.{Tag}
 
@@ -77,12 +77,3 @@ replaces_first S M R place slot slots set one rest = λ x ws ts h.
     (let vs : List ℕ = zero_data ws slot in
     let us : Trees = null_child ts slot in
     replaced_again S M R x.segment x.at (held_tree x.lead ws ts) (held_tree x.lead vs us) (held_tree x.lead (zero_all_data vs slots) (null_children us slots)) (one x ws ts h) (rest x vs us (set x ws ts h)))
-
--- the tag of a group, and then its parts
-pub begins_group : (S M R : Segments) (place : StructPlace) (tag : Tag) (slots : List Slot) → SetsField (call_in place S M) (tag_field tag) → ZeroesSlots (call_in place M R) slots → BeginsGroup (call_in place S R) tag slots
-begins_group S M R place tag slots first rest = λ x ws ts h. rest x (with_data ws (tag_field tag)) ts (first x ws ts h)
-
-pub replaces_group : (S M R : Segments) (place : StructPlace) (tag : Tag) (slots : List Slot) → SetsField (call_in place S M) (tag_field tag) → ReplacesField (call_in place S M) (tag_field tag) → ReplacesSlots (call_in place M R) slots → ReplacesGroup (call_in place S R) tag slots
-replaces_group S M R place tag slots first replaced rest = λ x ws ts h.
-    (let vs : List ℕ = with_data ws (tag_field tag) in
-    replaced_again S M R x.segment x.at (held_tree x.lead ws ts) (held_tree x.lead vs ts) (held_tree x.lead (zero_all_data vs slots) (null_children ts slots)) (replaced x ws ts h) (rest x vs ts (first x ws ts h)))
