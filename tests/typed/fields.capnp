@@ -1,11 +1,6 @@
 @0xb6f5f0d4d9a3c1e7;
 # A field of each kind, with and without a default value, and names that are words of Rust or of the prover.
 
-const filledDefault :Inner = (match = 5, where = "there", type = "of");
-const countedDefault :List(UInt16) = [1, 2, 3];
-const listedDefault :List(Inner) = [(match = 7), (where = "x")];
-const namedDefault :List(Text) = ["a", "", "bcdefghij"];
-
 enum Colour { red @0; green @1; self @2; type @3; }
 
 struct Root {
@@ -49,24 +44,19 @@ struct Root {
   data @37 :UInt8;
   record @38 :UInt8;
 
-  filled @39 :Inner = .filledDefault;
-  counted @40 :List(UInt16) = .countedDefault;
-  listed @41 :List(Inner) = .listedDefault;
-  named @42 :List(Text) = .namedDefault;
-
   shape :union {
-    none @43 :Void;
-    radius @44 :Float64;
+    none @39 :Void;
+    radius @40 :Float64;
     side :group {
-      width @45 :UInt32;
-      height @46 :UInt32;
+      width @41 :UInt32;
+      height @42 :UInt32;
       unit :union {
-        metre @47 :Void;
-        foot @48 :Text;
+        metre @43 :Void;
+        foot @44 :Text;
       }
     }
-    corners @49 :List(Inner);
-    other @50 :Inner;
+    corners @45 :List(Inner);
+    other @46 :Inner;
   }
 }
 

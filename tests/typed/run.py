@@ -1,16 +1,13 @@
 #!/usr/bin/env python3
 """Tests `capnpc-rattle`, and what it generates.
 
-    run.py [--schemas N] [--structs S] [--messages M]
+    run.py [--schemas N] [--messages M]
 
 - For `schema.capnp` and `addressbook.capnp` it writes the crates `schema_reading` and `addressbook_reading`, byte for byte. It
   reads its own input by the first of them.
-- The readers of `fields.capnp`, and of N random schemas (by default 2) of S structs (by default 8), are proved at the first
-  check, without a proof.
+- The readers of `fields.capnp`, and of N random schemas (by default 2), are proved at the first check, without a proof.
 - A program over these readers prints M random messages of each (by default 200), made by `capnp encode`, as `capnp decode`
   prints them.
-- The same for an old version of a random schema, without the last fields of its structs, and for the new one: the readers of
-  each read messages of the other.
 - Planted bugs in the readers of `fields.capnp`, one for each kind of field, are refused by a clause of that field.
 
 The gate must have built the libraries of the crates below. The last line is `N passed, M failed`."""
@@ -18,7 +15,6 @@ import argparse
 import filecmp
 import pathlib
 import re
-import resource
 import shutil
 import subprocess
 import sys
@@ -46,8 +42,6 @@ BUGS = (
     ('default', 'text', r'value::get_text_or\(&self\.reader, (\d+), default, lim\)', lambda n: f'value::get_text_or(&self.reader, {n}, b"", lim)'),
     ('type', 'data', r'value::get_data\(&self\.reader, (\d+), lim\)', lambda n: f'value::get_text(&self.reader, {n}, lim)'),
     ('index', 'struct', r'value::get_struct\(&self\.reader, (\d+), lim\)', lambda n: f'value::get_struct(&self.reader, {int(n) + 1}, lim)'),
-    ('default', 'struct', r'value::get_struct_or\(&self\.reader, (\d+), default, lim\)', lambda n: f'value::get_struct(&self.reader, {n}, lim)'),
-    ('default', 'list', r'list::get_numbers_or\(&self\.reader, (\d+), default, lim\)', lambda n: f'list::get_numbers(&self.reader, {n}, lim)'),
     ('element', 'list', r'list::get_texts\(&self\.reader, (\d+), lim\)', lambda n: f'list::get_texts(&self.reader, {int(n) + 1}, lim)'),
     ('offset', 'enum', r'of_number\(value::get_number\(&self\.reader, (\d+)\)\)', lambda n: f'of_number(value::get_number(&self.reader, {int(n) + 1}))'),
     ('refusal', 'text', r'value::get_text\(&self\.reader, \d+, lim\)', lambda n: 'Err(ErrorKind::ReadLimitExceeded)'),
@@ -110,50 +104,15 @@ def same_as_ours(counts, path):
         counts.say(same, f'{name}: {len(files)} files are the same as in crates/{name}')
 
 
-def prover_seconds():
-    """The processor seconds of the commands that have ended."""
-    used = resource.getrusage(resource.RUSAGE_CHILDREN)
-    return used.ru_utime + used.ru_stime
-
-
-class Readers:
-    """The generated readers of a schema, in a repository of their own, and a program that prints messages by them."""
-
-    def __init__(self, folder, text, stem):
-        folder.mkdir(exist_ok=True)
-        path = folder / f'{stem}.capnp'
-        path.write_text(text, encoding='utf-8')
-        self.folder, self.file = folder, path.name
-        crates = tree(folder)
-        self.schema, self.name = Schema(str(path)), generate(str(path), str(crates))
-        add(folder, f'{self.name}: {READERS}')
-        self.program = f'{self.name}_printer'
-        (crates / self.program / 'src').mkdir(parents=True)
-        (crates / self.program / 'src/main.rt').write_text(printer.program(self.schema, self.name, 'Root'), encoding='utf-8')
-        add(folder, f'{self.program}: {PROGRAM} {self.name} anyhow')
-
-    def prove(self, counts):
-        """Proves the crate, and prints what a function costs."""
-        before = prover_seconds()
-        proved, said = check(self.folder, self.name)
-        functions, seconds = len(re.findall(r'^(?:fn|struct) .*: proved', said, re.MULTILINE)), prover_seconds() - before
-        cost = f'{functions} functions proved in {seconds:.0f} processor seconds, {seconds / max(functions, 1):.2f} each'
-        counts.say(proved, f'{self.file}: {cost if proved else said}')
-
-    def printed(self, frames):
-        """What the program prints for these messages. It gets 50 at a time."""
-        with tempfile.TemporaryDirectory() as cases:
-            for i in range(0, len(frames), 50):
-                (pathlib.Path(cases) / f'{i:08}').write_bytes(b''.join(frames[i:i + 50]))
-            run = subprocess.run(['rt', 'try', '--cases', cases], cwd=self.folder / 'crates' / self.program, stdout=subprocess.PIPE, stderr=subprocess.PIPE)
-        return '\n'.join(line for line in run.stdout.decode(errors='replace').splitlines() if line.startswith('('))
-
-    def read(self, frames, whose, counts):
-        """Compares what the program prints with what `capnp decode` prints. `whose` says who wrote the messages."""
-        ours = self.printed(frames)
-        theirs = subprocess.run(['capnp', 'decode', self.schema.path, 'Root'], input=b''.join(frames), stdout=subprocess.PIPE, check=True).stdout.decode()
-        same, fields, difference = messages.compared(self.schema, 'Root', ours, theirs)
-        counts.say(frames and not difference, f'{self.file}: {same} messages{whose} with {fields} fields' + (f', then {difference}' if difference else ''))
+def printed(folder, schema, name, root, frames):
+    """What a program over generated readers prints."""
+    program = f'{name}_printer'
+    (folder / 'crates' / program / 'src').mkdir(parents=True)
+    (folder / 'crates' / program / 'src/main.rt').write_text(printer.program(schema, name, root), encoding='utf-8')
+    add(folder, f'{program}: {PROGRAM} {name} anyhow')
+    run = subprocess.run(['rt', 'try'], cwd=folder / 'crates' / program, input=b''.join(frames), stdout=subprocess.PIPE, stderr=subprocess.PIPE)
+    lines = run.stdout.decode(errors='replace').splitlines()
+    return '\n'.join(line for line in lines if line.startswith('('))
 
 
 def getters(folder, schema, name, what):
@@ -184,26 +143,24 @@ def plant(folder, schema, name, counts):
 
 
 def trip(folder, text, stem, count, counts, seed=0):
-    """Proves the readers of a schema, and prints random messages by them. Returns the readers."""
-    readers = Readers(folder, text, stem)
-    readers.prove(counts)
-    readers.read(messages.frames(readers.schema, 'Root', count, seed), '', counts)
-    return readers
-
-
-def versions(folder, structs, count, counts):
-    """Proves the readers of an old and of a new version of a schema, and prints messages of each by the readers of the other."""
-    texts = messages.RandomSchema(1000, structs, 10)
-    new, old = (Readers(folder / stem, text, stem) for stem, text in (('new', texts.text), ('old', texts.old)))
-    for readers, other in ((new, old), (old, new)):
-        readers.prove(counts)
-        readers.read(messages.frames(other.schema, 'Root', count, 0), f' of {other.file}', counts)
+    """Proves the readers of a schema, and prints random messages by them. Returns the schema and the name of their crate."""
+    crates, path = tree(folder), folder / f'{stem}.capnp'
+    path.write_text(text, encoding='utf-8')
+    schema, name = Schema(str(path)), generate(str(path), str(crates))
+    add(folder, f'{name}: {READERS}')
+    proved, said = check(folder, name)
+    counts.say(proved, f'{path.name}: {said.splitlines()[-1] if said else "no answer"}')
+    frames = messages.frames(schema, 'Root', count, seed)
+    ours = printed(folder, schema, name, 'Root', frames)
+    theirs = subprocess.run(['capnp', 'decode', str(path), 'Root'], input=b''.join(frames), stdout=subprocess.PIPE, check=True).stdout.decode()
+    same, fields, difference = messages.compared(schema, 'Root', ours, theirs)
+    counts.say(frames and not difference, f'{path.name}: {same} messages with {fields} fields' + (f', then {difference}' if difference else ''))
+    return schema, name
 
 
 def main():
     arguments = argparse.ArgumentParser(description=__doc__, formatter_class=argparse.RawDescriptionHelpFormatter)
     arguments.add_argument('--schemas', type=int, default=2)
-    arguments.add_argument('--structs', type=int, default=8)
     arguments.add_argument('--messages', type=int, default=200)
     given = arguments.parse_args()
     counts = Counts()
@@ -211,13 +168,11 @@ def main():
     same_as_ours(counts, str(TOP / 'tests/typed/addressbook.capnp'))
     with tempfile.TemporaryDirectory() as there:
         folder = pathlib.Path(there)
-        readers = trip(folder, (TOP / 'tests/typed/fields.capnp').read_text(encoding='utf-8'), 'fields', given.messages, counts)
-        plant(folder, readers.schema, readers.name, counts)
+        schema, name = trip(folder, (TOP / 'tests/typed/fields.capnp').read_text(encoding='utf-8'), 'fields', given.messages, counts)
+        plant(folder, schema, name, counts)
     for seed in range(given.schemas):
         with tempfile.TemporaryDirectory() as there:
-            trip(pathlib.Path(there), messages.RandomSchema(seed, given.structs, 10).text, f'random{seed}', given.messages, counts, seed)
-    with tempfile.TemporaryDirectory() as there:
-        versions(pathlib.Path(there), given.structs, given.messages, counts)
+            trip(pathlib.Path(there), messages.RandomSchema(seed, 8, 10).text, f'random{seed}', given.messages, counts, seed)
     print(f'{counts.passed} passed, {counts.failed} failed')
     return 1 if counts.failed or not counts.passed else 0
 

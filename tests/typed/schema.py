@@ -28,10 +28,6 @@ def parsed(text):
     def value():
         nonlocal at
         token, at = tokens[at], at + 1
-        if token == '(' and tokens[at] != ')' and tokens[at + 1] == ')':
-            # a number of an enum that the schema has no name for
-            token, at = tokens[at], at + 2
-            return token
         if token == '(':
             found = {}
             while tokens[at] != ')':
@@ -99,11 +95,6 @@ def kind(of):
     return next(iter(of))
 
 
-def has_default(field):
-    """Whether a field is a struct or a list with a default value."""
-    return kind(field['slot']['type']) in ('struct', 'list') and field['slot']['hadExplicitDefault'] == 'true'
-
-
 def name_of(of):
     """The name of a field, or of an enumerant."""
     return unquoted(of['name']).decode()
@@ -163,11 +154,6 @@ class Schema:
             field['getter'] = take(used, snake_case(name_of(field)))
         for field in sorted(members(node), key=lambda it: int(it['discriminantValue'])):
             field['variant'] = take(variants, capitalized(name_of(field)))
-
-    def default(self, name):
-        """The default value of a field: a schema has a constant for each, which `capnp` prints."""
-        run = subprocess.run(['capnp', 'eval', self.path, f'{name}Default'], stdout=subprocess.PIPE, check=True)
-        return parsed(run.stdout.decode())
 
     def find(self, full):
         """The declaration with this name."""

@@ -98,10 +98,7 @@ pub const GHOST_IMPORTS: &[ImportsOf] = &[
             ("(struct_element ", "struct_element"),
         ],
     ),
-    (
-        "Rattle.typed_reading.specs.Values",
-        &[(" IsDefault ", "IsDefault"), ("(child ", "child")],
-    ),
+    ("Rattle.typed_reading.specs.Values", &[("(child ", "child")]),
 ];
 
 /// Names of code.

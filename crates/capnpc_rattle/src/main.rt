@@ -3,7 +3,6 @@
 //! needs no proof of its own.
 #![tactic(auto)]
 
-mod defaults;
 mod imports;
 mod model;
 mod modules;

@@ -119,10 +119,8 @@ pub enum Default {
     Number { literal: String, bits: u64 },
     /// The bytes of a text, or data.
     Bytes(Vec<u8>),
-    /// The words of a struct or a list: one segment, with its pointer in the first word.
-    Words(Vec<u8>),
-    /// Something that this program doesn't know.
-    Unknown,
+    /// A struct, a list, or any pointer.
+    Pointer,
 }
 
 /// A field that isn't a group.

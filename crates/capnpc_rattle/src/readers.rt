@@ -113,13 +113,13 @@ impl<'m> Readers<'m> {
 
     // Adds a definition: `values` has what it is about, its type, its value, and `spec_name`. Puts
     // its name as `spec`.
-    fn define(&mut self, module: &mut Module, template: &str, values: &mut Values) {
+    fn define(&mut self, module: &mut Module, values: &mut Values) {
         let mut spec = Text::new(self.alloc);
         spec.push(values.get("spec_name"));
         self.taken.take(self.alloc, SPEC_WORDS, &mut spec);
         module.specs.add(self.alloc, spec.as_str());
         values.put_text("spec", spec);
-        self.definitions.fill(template, values);
+        self.definitions.fill(templates::DEFINITION, values);
     }
 
     // Writes the module of a struct or a group, and that of its union.
@@ -181,7 +181,7 @@ impl<'m> Readers<'m> {
         values.put_number("index", u64::from(it.tag_offset));
         values.put_number("count", u64::from(it.members));
         values.put_filled("read", "value::get_number(&self.reader, ~index~)");
-        self.define(module, templates::DEFINITION, &mut values);
+        self.define(module, &mut values);
         module.begin();
         module.body.push("    /// Returns which member is set.\n");
         values.put("call", "which");
@@ -258,12 +258,8 @@ impl<'m> Readers<'m> {
 
     // Why a field has no getter; empty if it has one.
     fn unreadable(&self, slot: &Slot) -> &'static str {
-        match &slot.default {
-            Default::Unknown => return "its default value is unknown",
-            Default::Words(_) if slot.of.lists == 0 && slot.of.base != Base::Struct => {
-                return "it has a default value, and can lead to anything";
-            }
-            _ => {}
+        if let Default::Pointer = &slot.default {
+            return "its default value is a pointer";
         }
         match (slot.of.base, self.node(slot.of.id)) {
             (Base::Struct, None) => "its struct is unknown",
@@ -290,30 +286,12 @@ impl<'m> Readers<'m> {
         } else {
             put_pointer_field(self.alloc, slot, values);
         }
-        self.define(module, templates::DEFINITION, values);
+        self.define(module, values);
         if is_in_data(slot.of) {
             self.write_number(module, slot.of, values);
-            return;
+        } else {
+            self.write_pointer(module, slot.of, values);
         }
-        if let Default::Words(words) = &slot.default {
-            self.define_default(module, words.as_slice(), values);
-        }
-        self.write_pointer(module, slot.of, values);
-    }
-
-    // Adds the definition of the default value of a struct or a list. Puts its name as `default`, and
-    // the bytes as `literal`.
-    fn define_default(&mut self, module: &mut Module, words: &[u8], values: &mut Values) {
-        let mut default = Values::new(self.alloc);
-        default.put("full", values.get("full"));
-        default.put("name", values.get("name"));
-        default.put("field", values.get("spec"));
-        default.put_filled("about", "The default value of ~full~.~name~, as a message");
-        default.put_filled("spec_name", "~field~_default");
-        default.put_text("value", numbers_of(self.alloc, words));
-        self.define(module, templates::DEFAULT, &mut default);
-        values.put("default", default.get("spec"));
-        values.put_text("literal", literal_of(self.alloc, words));
     }
 
     // The name of a type in the schema.
@@ -630,10 +608,7 @@ fn write_one(module: &mut Module, base: Base, values: &mut Values) {
         matches!(base, Base::Text | Base::Data | Base::Struct),
         values,
     );
-    let has_default = !values.get("default").is_empty();
-    module
-        .body
-        .fill(pointer_template(base, has_default), values);
+    module.body.fill(pointer_template(base), values);
 }
 
 // What such a getter returns.
@@ -647,9 +622,8 @@ fn pointer_result(base: Base) -> &'static str {
 }
 
 // The template of such a getter.
-fn pointer_template(base: Base, has_default: bool) -> &'static str {
+fn pointer_template(base: Base) -> &'static str {
     match base {
-        Base::Struct if has_default => templates::STRUCT_OR,
         Base::Text => templates::TEXT,
         Base::Data => templates::DATA,
         Base::Struct => templates::STRUCT,
@@ -666,34 +640,15 @@ fn write_list(module: &mut Module, of: Type, values: &mut Values) {
     values.put("reader", reader);
     values.put("element", of.base.rust_type().unwrap_or("()"));
     values.put_filled("gives", list_result(function));
-    let has_default = !values.get("default").is_empty();
-    let of_structs = function == "get_structs";
-    values.put(
-        "list",
-        if of_structs {
-            "r.list.reader"
-        } else {
-            "r.reader"
-        },
-    );
-    values.put_filled("end", list_end(of_structs, has_default));
-    module.sign(true, values);
-    let template = if has_default {
-        templates::LIST_OR
+    if function == "get_structs" {
+        values.put("list", "r.list.reader");
+        values.put_filled("end", templates::STRUCT_LIST);
     } else {
-        templates::LIST
-    };
-    module.body.fill(template, values);
-}
-
-// How such a getter ends.
-fn list_end(of_structs: bool, has_default: bool) -> &'static str {
-    match (of_structs, has_default) {
-        (true, false) => templates::STRUCT_LIST,
-        (true, true) => templates::STRUCT_LIST_OR,
-        (false, false) => templates::OTHER_LIST,
-        (false, true) => templates::OTHER_LIST_OR,
+        values.put("list", "r.reader");
+        values.put_filled("end", templates::OTHER_LIST);
     }
+    module.sign(true, values);
+    module.body.fill(templates::LIST, values);
 }
 
 // The element size of a list.
@@ -739,11 +694,10 @@ fn numbers_of(alloc: Global, bytes: &[u8]) -> Text {
     numbers
 }
 
-// Bytes as a literal of Rust's, in the layout of `rt fmt` after `let default =`.
+// Bytes as a literal of Rust's.
 fn literal_of(alloc: Global, bytes: &[u8]) -> Text {
     let mut literal = Text::new(alloc);
-    let fits = bytes.len() <= 18;
-    literal.push(if fits { " b\"" } else { "\n            b\"" });
+    literal.push("b\"");
     for byte in bytes {
         literal.push_byte(*byte);
     }
