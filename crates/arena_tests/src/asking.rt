@@ -3,7 +3,7 @@
 use crate::steps::{take, take_of};
 use capnp_arena::arena::{
     Allocator, BuilderArena, BuilderArenaImpl, HeapAllocator, OutputSegments, ReaderArena,
-    ReaderSegments,
+    ReaderSegments, copy_words, set_word, zero_words,
 };
 use capnp_words::read_limiter::ReadLimiter;
 use std::process::Abort;
@@ -12,9 +12,9 @@ use test_support::{FirstInArena, NotingAllocator, Request};
 fn write_words<A: BuilderArena>(rt: &impl Abort, arena: &mut A) {
     assert!(rt; arena.get_segment(0).is_ok());
     assert!(rt; arena.allocate(0, 3) == Some(0));
-    arena.set_word(0, 1, 7);
-    arena.copy_words(0, 0, b"99999999");
-    arena.zero_words(0, 1, 1);
+    set_word(arena, 0, 1, 7);
+    copy_words(arena, 0, 0, b"99999999");
+    zero_words(arena, 0, 1, 1);
 }
 
 fn take_words<A: BuilderArena>(rt: &impl Abort, arena: &mut A) {

@@ -1,6 +1,7 @@
 //! Tests of messages being built.
 use capnp_arena::arena::{
     BuilderArena, BuilderArenaImpl, HeapAllocator, OutputSegments, ReaderArena, ReaderSegments,
+    copy_words, set_word, zero_words,
 };
 use std::alloc::Global;
 use std::process::Abort;
@@ -28,7 +29,7 @@ fn gives(rt: &impl Abort, arena: &BuilderArenaImpl<HeapAllocator>, want: &[&[u8]
 fn write_word<A: BuilderArena>(rt: &impl Abort, alloc: Global, arena: &mut A) {
     assert!(rt; arena.get_segment(0).is_ok());
     assert!(rt; arena.allocate(0, 2) == Some(0));
-    arena.set_word(0, 1, 0x0807_0605_0403_0201);
+    set_word(arena, 0, 1, 0x0807_0605_0403_0201);
     assert!(rt;
         has_words(
             alloc,
@@ -42,8 +43,8 @@ fn write_word<A: BuilderArena>(rt: &impl Abort, alloc: Global, arena: &mut A) {
 fn write_words<A: BuilderArena>(rt: &impl Abort, arena: &mut A) {
     let words = arena.get_segment(0).expect(rt, "a segment");
     assert!(rt; words.len() == 16);
-    arena.copy_words(0, 0, b"99999999");
-    arena.zero_words(0, 1, 1);
+    copy_words(arena, 0, 0, b"99999999");
+    zero_words(arena, 0, 1, 1);
 }
 
 /// Checks the output of an arena without segments, with one, and with two.

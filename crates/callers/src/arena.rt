@@ -8,7 +8,7 @@ ghost use Rattle.capnp_words.specs.declared.error.ErrorKind.TheVariants.{ReadLim
 ghost use Rattle.capnp_arena_traits.specs.Checks.{Holds, misplaced};
 ghost use Rattle.capnp_arena_traits.specs.Written.{with_more, with_segment, with_word};
 
-use capnp_arena::arena::{BuilderArena, ReaderArena};
+use capnp_arena::arena::{BuilderArena, ReaderArena, set_word};
 use capnp_words::error::ErrorKind;
 use capnp_words::read_limiter::ReadLimiter;
 
@@ -24,7 +24,7 @@ pub fn append<A: BuilderArena>(arena: &mut A, id: u32, word: u64) -> bool
 {
     match arena.allocate(id, 1) {
         Some(at) => {
-            arena.set_word(id, at, word);
+            set_word(arena, id, at, word);
             true
         }
         None => false,
@@ -56,8 +56,8 @@ pub fn put_two<A: BuilderArena>(arena: &mut A, id: u32, first: u64, second: u64)
         ≡ record (A.view arena.old)
         { words = with_word (with_word (A.view arena.old).words id 0 first) id 1 second } }
 {
-    arena.set_word(id, 0, first);
-    arena.set_word(id, 1, second);
+    set_word(arena, id, 0, first);
+    set_word(arena, id, 1, second);
 }
 
 /// If `word` is 7, writes nothing and returns 0; otherwise writes `word` over the second word of
@@ -72,7 +72,7 @@ pub fn put_either<A: BuilderArena>(arena: &mut A, id: u32, word: u64) -> u32
     if word == 7 {
         return 0;
     }
-    arena.set_word(id, 1, word);
+    set_word(arena, id, 1, word);
     1
 }
 
@@ -88,7 +88,7 @@ pub fn try_append<A: BuilderArena>(arena: &mut A, id: u32, word: u64) -> Option<
     ensures none { IsNone result → A.view arena.new ≡ A.view arena.old }
 {
     let at = arena.allocate(id, 1)?;
-    arena.set_word(id, at, word);
+    set_word(arena, id, at, word);
     Some(at)
 }
 

@@ -7,14 +7,14 @@ use Rattle.capnp_format.specs.Bytes.{words_of, message}
 use Rattle.capnp_format.specs.Segments.{segment}
 use Rattle.capnp_arena_traits.specs.Allocations.{max_segment_words}
 use Rattle.capnp_arena_traits.specs.Written.{with_segment}
-use Rattle.capnp_arena.specs.Rewritten.{RewritesRow, RewritesRows, RewritesList}
+use Rattle.capnp_arena.specs.Rewritten.{RewritesRow, RewritesList}
 use Rattle.capnp_arena.specs.Row.{allocated, capacity, capacity_at, shown}
 use Rattle.capnp_arena.specs.LendingLemmas.{each_same}
 use Rattle.capnp_arena.specs.Bounds.{IsBoundAt, IsBounded, HasBounds, HaveNoRoom, room, rooms, bounds}
 use Rattle.capnp_arena.specs.declared.arena.allocator.Segment.{Ghosts}
 use Rattle.capnp_arena.specs.declared.arena.row.Row.{Row}
 use Rattle.capnp_arena.proofs.RangeLemmas.{bounded_less, bounded_more, bounded_again}
-use Rattle.capnp_arena.proofs.RowsLemmas.{row_words, row_over, row_written, segment_row, room_row, room_same}
+use Rattle.capnp_arena.proofs.RowsLemmas.{row_words, row_over, segment_row, room_row, room_same}
 
 module _ {S : Type 0} (g : Ghosts S) where
   -- a row with no more room than before, and the same bound
@@ -64,11 +64,6 @@ module _ {S : Type 0} (g : Ghosts S) where
       bounded = bounded_over rows i old new e h.capacity h.used h.bound;
     };
   }
-
-  -- a rewritten row that was lent
-  pub rows_rewritten : (f : List ℕ → List ℕ) (rows : List (Row S g)) (i : ℕ) (old new : Row S g) → i < length rows → old ≡ get_or rows i old → RewritesRow g old new (f (words_of (allocated g old))) →
-      RewritesRows g rows (set rows i new) (with_segment (message (shown g rows)) i (f (segment (message (shown g rows)) i)))
-  rows_rewritten f rows i old new l e h = record { words = row_written g f rows i old new l e h.words; room = room_same g rows i old new e h.capacity }
 
   -- a row after the others
   rooms_small : (rows : List (Row S g)) (k : ℕ) → get_or (rooms g rows) k 0 ≤ max_segment_words

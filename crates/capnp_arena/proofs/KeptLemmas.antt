@@ -38,15 +38,6 @@ module _ {S : Type 0} (g : Ghosts S) where
   of_listed P false v b e p = p
   of_listed P true v b e p = absurd (false≢true (sym e))
 
-  -- what holds for rows of either way, before and after, holds for the arena's
-  pub over_apart : (P : List (Row S g) → List (Row S g) → Type 0) (f : Bool) (v : Listed S g) (old new : Rows S g) → f ≡ true → P (all g old) (all g new) → P (arena_rows g f v old) (arena_rows g f v new)
-  over_apart P false v old new e p = absurd (false≢true e)
-  over_apart P true v old new e p = p
-
-  pub over_listed : (P : List (Row S g) → List (Row S g) → Type 0) (f : Bool) (old new : Listed S g) (b : Rows S g) → f ≡ false → P old.rows.items new.rows.items → P (arena_rows g f old b) (arena_rows g f new b)
-  over_listed P false old new b e p = p
-  over_listed P true old new b e p = absurd (false≢true (sym e))
-
   -- an upper limit of the number of rows
   pub kept_few : (f : Bool) (v : Listed S g) (b : Rows S g) → length (arena_rows g f v b) ≤ max_segments
   kept_few false v b = v.few

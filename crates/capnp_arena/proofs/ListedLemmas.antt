@@ -2,7 +2,7 @@
 use Rattle.std.proofs.Common.{◌≡◌, ℕ, Bool, true, false, zero, suc, ◌+◌, ◌-◌, ◌<◌, ◌≤◌, List, [], ◌∷◌, length, replicate, slice_get, Option, Some, None, IsNone, IfSome, ◌++◌, refl, sym, ap, ◌∙◌, arith, subst}
 use Rattle.capnp_format.specs.Bytes.{words_of, message}
 use Rattle.capnp_format.specs.Segments.{segment}
-use Rattle.capnp_arena.specs.Rewritten.{RewritesRow, RewritesRows, RewritesList}
+use Rattle.capnp_arena.specs.Rewritten.{RewritesRows, RewritesList}
 use Rattle.capnp_arena.specs.Row.{allocated, capacity, capacity_at, with_first, most_others, shown}
 use Rattle.capnp_arena.specs.Bounds.{HasBounds, view_of_rows}
 use Rattle.capnp_arena_traits.specs.Taking.{IsFirstFit, IsFull}
@@ -102,11 +102,7 @@ module _ {S : Type 0} (g : Ghosts S) where
       (ap (λ xs. message (shown g xs)) items ∙ e ∙ ap (λ xs. with_segment (message (shown g xs)) (id - 1) (f (segment (message (shown g xs)) (id - 1)))) is)
       ∙ ap (λ ws. with_segment (message (shown g (with_first g t first v.items))) id (f ws)) (sym (other_words t first v.items id few some))
 
-  -- the first row is rewritten, or another
-  pub first_rewritten : (f : List ℕ → List ℕ) (t : Bool) (old new : Row S g) (others : List (Row S g)) (id : ℕ) → id ≡ 0 → id < length (with_first g t old others) → RewritesRow g old new (f (words_of (allocated g old))) →
-      RewritesRows g (with_first g t old others) (with_first g t new others) (with_segment (message (shown g (with_first g t old others))) id (f (segment (message (shown g (with_first g t old others))) id)))
-  first_rewritten f t old new others id e l h = record { words = first_written f t old new others id e l h.words; room = first_kept g t old new others h.capacity }
-
+  -- another row is rewritten
   pub others_rewritten : (t : Bool) (first : Row S g) (v : Vec (Row S g)) (old new : List (Row S g)) (id : ℕ) (f : List ℕ → List ℕ) → length v.items ≤ most_others t → old ≡ v.items → 0 < id →
       RewritesList g old new (with_segment (message (shown g old)) (id - 1) (f (segment (message (shown g old)) (id - 1)))) →
       RewritesRows g (with_first g t first v.items) (with_first g t first (with_items v new).items) (with_segment (message (shown g (with_first g t first v.items))) id (f (segment (message (shown g (with_first g t first v.items))) id)))

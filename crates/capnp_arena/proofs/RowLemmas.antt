@@ -6,22 +6,12 @@ use mathlib.Core.List.{is_set}
 use Rattle.capnp_arena.specs.declared.arena.row.Row.{Row}
 use Rattle.std.proofs.lemmas.List.{drop-append-le, drop-replicate, length-append, replicate-append-replicate, take-append-le, take-replicate, length-replicate}
 use Rattle.std.proofs.lemmas.Grind.{common_steps}
-use Rattle.std.proofs.lemmas.Slice.{drop-append-drop}
 use borrow.Rule.Slice.PartMut.{put_mid}
 use Rattle.capnp_format.specs.Bytes.{words_of}
 use Rattle.capnp_format.proofs.WordsOf.{words_of-append, words_of-zeros}
 use Rattle.capnp_arena_traits.specs.Allocations.{IsClearFrom, IsRow, max_segment_words}
-use Rattle.capnp_arena_traits.specs.Written.{overwritten, with_copied}
-use Rattle.capnp_arena.specs.Front.{RewritesFront}
-use Rattle.capnp_arena.specs.Rewritten.{RewritesRow}
+use Rattle.capnp_arena_traits.specs.Written.{with_copied}
 use Rattle.capnp_arena.specs.declared.arena.allocator.Segment.{Ghosts}
-
--- the first words, after others of the same length replaced them
-pub kept_part : (used : ℕ) (bytes new : List ℕ) → length new ≡ 8 * used → take (8 * used) (new ++ drop (8 * used) bytes) ≡ new
-kept_part used bytes new e = take_at new (drop (8 * used) bytes) (8 * used) e
-
-pub zeros_over : (xs : List ℕ) (at n : ℕ) → put_mid at n xs (replicate n 0) ≡ overwritten xs at (replicate n 0)
-zeros_over xs at n = ap (λ k. take at xs ++ (replicate n 0 ++ drop k (drop at xs))) (sym (length-replicate n 0))
 
 pub length_part : (xs : List ℕ) (from n : ℕ) → from + n ≤ length xs → length (take n (drop from xs)) ≡ n
 length_part xs from n l = omega (arith, length-take n (drop from xs), length-drop from xs)
@@ -29,22 +19,6 @@ length_part xs from n l = omega (arith, length-take n (drop from xs), length-dro
 -- words copied over others of the same row
 pub moved_over : (xs : List ℕ) (from to n : ℕ) → from + n ≤ length xs → put_mid to n xs (take n (drop from xs)) ≡ with_copied xs to xs from n
 moved_over xs from to n l = ap (λ k. take to xs ++ (take n (drop from xs) ++ drop k (drop to xs))) (sym (length_part xs from n l))
-
-pub same_row : (used long : ℕ) (bytes new : List ℕ) → IsRow used bytes long → length new ≡ length bytes → drop (8 * used) new ≡ drop (8 * used) bytes → IsRow used new long
-same_row used long bytes new row l e = (omega (arith, row.0, l), omega (arith, row.1, l), row.2, e ∙ row.3 ∙ ap (λ n. replicate (n - 8 * used) 0) (sym l))
-
-kept_rest : (n : ℕ) (bytes new : List ℕ) → length new ≡ n → drop n (new ++ drop n bytes) ≡ drop n bytes
-kept_rest n bytes new e = drop-append-drop n bytes new n (omega arith) e
-
--- words that overwrite the first ones
-pub front_rewritten : (end : ℕ) (bytes new : List ℕ) {ws : List ℕ} → 8 * end ≤ length bytes → length new ≡ length (take (8 * end) bytes) → words_of new ≡ ws → RewritesFront end bytes (new ++ drop (8 * end) bytes) ws
-front_rewritten end bytes new room same e =
-    let long : length new ≡ 8 * end = omega (arith, room, same, length-take (8 * end) bytes) in
-    record { words = ap words_of (kept_part end bytes new long) ∙ e; rest = kept_rest (8 * end) bytes new long }
-
-pub ruleset kept = (kept_part, same_row)
-
-pub ruleset kept_zeros = (kept_part, same_row, zeros_over)
 
 part_clear : (u m : ℕ) (bytes : List ℕ) → drop u bytes ≡ replicate (length bytes - u) 0 → u + m ≤ length bytes → drop (u + m) bytes ≡ replicate (length bytes - (u + m)) 0
 part_clear u m bytes clear fits = grind (arith, drop-drop m u bytes, clear, drop-replicate {X = ℕ} m (length bytes - u) 0)
@@ -120,29 +94,6 @@ module _ {S : Type 0} (g : Ghosts S) where
       ∙ words_more used more (g.content new) (subst (IsClearFrom used) (sym same) (segment_clear old used row)) (omega (arith, fits, ready_within new))
       ∙ ap (λ xs. words_of xs ++ replicate more 0) (ap (take (8 * used)) same ∙ ready_front old (8 * used) row.0)
 
-  -- a segment that ends with other bytes
-  pub content_row : (s : S) (used : ℕ) (new : List ℕ) → IsRow used (g.ready s) (length (g.content s)) → length new ≡ length (g.ready s) → drop (8 * used) new ≡ drop (8 * used) (g.ready s) →
-      IsRow used (g.ready (g.with_ready s new)) (length (g.content (g.with_ready s new)))
-  content_row s used new row l e =
-      subst (λ n. IsRow used (g.ready (g.with_ready s new)) n) (sym (g.as_long s new l))
-      (subst (λ xs. IsRow used xs (length (g.content s))) (sym (g.holds s new l)) (same_row used (length (g.content s)) (g.ready s) new row l e))
-
-  pub content_is : (s : S) (bytes new : List ℕ) → bytes ≡ g.ready s → length new ≡ length bytes → g.ready (g.with_ready s new) ≡ new
-  content_is s bytes new same l = g.holds s new (l ∙ ap length same)
-
-  pub long_is : (s : S) (bytes new : List ℕ) → bytes ≡ g.ready s → length new ≡ length bytes → length (g.content (g.with_ready s new)) ≡ length (g.content s)
-  long_is s bytes new same l = g.as_long s new (l ∙ ap length same)
-
-  -- a row whose first words were overwritten
-  pub row_rewritten : (r : Row S g) (bytes new : List ℕ) (f : List ℕ → List ℕ) {clear : IsRow r.used (g.ready (g.with_ready r.segment new)) (length (g.content (g.with_ready r.segment new)))} → bytes ≡ g.ready r.segment → length new ≡ length bytes →
-      RewritesFront r.used bytes new (f bytes) → RewritesRow g r (record { segment = g.with_ready r.segment new; used = r.used; bound = r.bound; clear = clear }) (f (g.ready r.segment))
-  row_rewritten r bytes new f same l h = record {
-    words = ap (λ xs. words_of (take (8 * r.used) xs)) (content_is r.segment bytes new same l) ∙ h.words ∙ ap f same;
-    used = refl;
-    bound = refl;
-    capacity = ap (λ n. n / 8) (long_is r.segment bytes new same l);
-  }
-
   -- a segment of zeros
   pub fresh_row : (s : S) → g.content s ≡ replicate (8 * (length (g.content s) / 8)) 0 → length (g.content s) / 8 ≤ max_segment_words → IsRow 0 (g.ready s) (length (g.content s))
   fresh_row s fresh small =
@@ -155,8 +106,6 @@ module _ {S : Type 0} (g : Ghosts S) where
 pub ruleset taking = (more_row, more_words)
 
 pub ruleset fresh_rows = (fresh_row, empty_row)
-
-pub ruleset written = (same_row, kept_part, content_row, content_is, long_is)
 
 -- there is at most one proof that a row is clear
 row_once : (used : ℕ) (bytes : List ℕ) (long : ℕ) (x y : IsRow used bytes long) → x ≡ y

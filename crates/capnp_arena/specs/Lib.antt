@@ -8,7 +8,6 @@ pub mod Another
 pub mod Bounds
 pub mod ClearLemmas
 pub mod Counted
-pub mod Front
 pub mod Heap
 pub mod HeapLemmas
 pub mod Kept

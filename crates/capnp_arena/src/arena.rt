@@ -18,7 +18,9 @@ mod scratch_allocator;
 
 pub use allocator::{Allocator, Segment, keep_in};
 pub use builder_arena_impl::BuilderArenaImpl;
-pub use capnp_arena_traits::arena::{BuilderArena, ReaderArena, SegmentId, WordPlace};
+pub use capnp_arena_traits::arena::{
+    BuilderArena, ReaderArena, SegmentId, WordPlace, copy_words, set_word, zero_words,
+};
 pub use heap_allocator::{HeapAllocator, HeapSegment};
 pub use null_allocator::NullAllocator;
 pub use null_arena::NullArena;

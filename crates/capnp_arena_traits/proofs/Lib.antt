@@ -1,3 +1,4 @@
 pub mod MessageLemmas
 mod Placed
+pub mod WordsLent
 pub mod WordsOver

@@ -4,9 +4,11 @@
 
 mod builder_arena;
 mod reader_arena;
+mod writing;
 
 pub use builder_arena::{BuilderArena, sealed};
 pub use reader_arena::ReaderArena;
+pub use writing::{copy_words, set_word, zero_words};
 
 /// The number of a segment, counted from 0.
 pub type SegmentId = u32;

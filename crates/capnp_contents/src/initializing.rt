@@ -14,7 +14,7 @@ ghost use Rattle.capnp_making.specs.Stored.{Puts};
 ghost use Rattle.capnp_making.specs.Zeroed.{IsPrunedBut};
 ghost use Rattle.capnp_contents.specs.Initialized.{GivesObject};
 
-use capnp_arena_traits::arena::BuilderArena;
+use capnp_arena_traits::arena::{BuilderArena, set_word};
 use capnp_making::making::{Start, make_list, make_struct, make_struct_list};
 use capnp_making::zeroing::zero_object;
 use capnp_words::error::ErrorKind;
@@ -30,7 +30,7 @@ pub fn set_capability<A: BuilderArena>(arena: &mut A, id: u32, at: u32, index: u
     ensures limits { KeepsLimits (A.view arena.old) (A.view arena.new) }
 {
     zero_object(arena, id, at);
-    arena.set_word(id, at, WirePointer::new_capability(index).0);
+    set_word(arena, id, at, WirePointer::new_capability(index).0);
 }
 
 /// Makes the pointer at `at` of segment `id` lead to a new struct, all zero. A struct without

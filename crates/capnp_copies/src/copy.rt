@@ -28,7 +28,7 @@ mod structs;
 
 use crate::form::{CopyForm, Destination};
 use crate::widths::StructList;
-use capnp_arena_traits::arena::{BuilderArena, ReaderArena};
+use capnp_arena_traits::arena::{BuilderArena, ReaderArena, set_word};
 use capnp_making::making::Start;
 use capnp_objects::object::Object;
 use capnp_pointers::pointers::Pointer;
@@ -158,7 +158,7 @@ fn copy_capability<A: BuilderArena>(
     match to.form {
         CopyForm::Plain => {
             let Start { segment, at } = to.place;
-            arena.set_word(segment, at, WirePointer::new_capability(index).0);
+            set_word(arena, segment, at, WirePointer::new_capability(index).0);
             Ok(())
         }
         CopyForm::Canonical => Err(ErrorKind::CannotCreateACanonicalMessageWithACapability),

@@ -26,7 +26,7 @@ ghost use Rattle.capnp_making.specs.Zeroed.{IsPruned};
 ghost use Rattle.capnp_arena_traits.specs.Written.{with_word};
 
 use crate::zeroing::zero_object;
-use capnp_arena_traits::arena::BuilderArena;
+use capnp_arena_traits::arena::{BuilderArena, set_word};
 use capnp_words::error::ErrorKind;
 use capnp_words::wire_pointer::{
     ElementSize, StructSize, WirePointer, data_bits_per_element, offset_between,
@@ -103,7 +103,7 @@ fn put_object<A: BuilderArena>(
     match arena.allocate(id, amount) {
         Some(start) => {
             let word = pointer_to(shape, at, start);
-            arena.set_word(id, at, word.0);
+            set_word(arena, id, at, word.0);
             Ok(Start {
                 segment: id,
                 at: start,
@@ -136,8 +136,8 @@ fn put_far<A: BuilderArena>(
     match arena.allocate_anywhere(amount + 1) {
         Ok((segment, pad)) => {
             let word = pointer_to(shape, pad, pad + 1);
-            arena.set_word(segment, pad, word.0);
-            arena.set_word(id, at, WirePointer::new_far(pad, segment).0);
+            set_word(arena, segment, pad, word.0);
+            set_word(arena, id, at, WirePointer::new_far(pad, segment).0);
             Ok(Start {
                 segment,
                 at: pad + 1,
@@ -193,7 +193,7 @@ pub fn make_struct<A: BuilderArena>(
 {
     let words = size.total();
     if words == 0 {
-        arena.set_word(id, at, WirePointer::empty_struct().0);
+        set_word(arena, id, at, WirePointer::empty_struct().0);
         return Ok(Start { segment: id, at });
     }
     put_object(arena, id, at, Shape::Struct(size), words)
@@ -285,6 +285,6 @@ pub fn make_struct_list<A: BuilderArena>(
     let shape = Shape::List(ElementSize::InlineComposite, words);
     let start = put_object(arena, id, at, shape, 1 + words)?;
     let tag = WirePointer::new_tag(count, size);
-    arena.set_word(start.segment, start.at, tag.0);
+    set_word(arena, start.segment, start.at, tag.0);
     Ok(start)
 }

@@ -12,7 +12,7 @@ ghost use Rattle.capnp_making.specs.Landings.{target_of};
 ghost use Rattle.capnp_making.specs.Zeroed.{IsZeroed, IsPruned, Zeroes, ZeroesPads, IsApart, IsObjectApart, AreApart, AreApartElements, IsStructListApart, element_extents, struct_list_cover};
 
 use crate::landing::{Landing, follow, length_of, word_of};
-use capnp_arena_traits::arena::BuilderArena;
+use capnp_arena_traits::arena::{BuilderArena, set_word, zero_words};
 use capnp_words::wire_pointer::{
     ElementSize, StructSize, WirePointer, WirePointerKind, data_bits_per_element,
 };
@@ -29,7 +29,7 @@ pub fn zero_part<A: BuilderArena>(arena: &mut A, id: u32, start: u32, n: u64)
     ensures limits { KeepsLimits (A.view arena.old) (A.view arena.new) }
 {
     if holds_some(arena, id, start, n) {
-        arena.zero_words(id, start, n as u32);
+        zero_words(arena, id, start, n as u32);
     }
 }
 
@@ -86,7 +86,7 @@ pub fn zero_object<A: BuilderArena>(arena: &mut A, id: u32, at: u32)
         return;
     }
     let landing = follow(arena, id, at);
-    arena.set_word(id, at, 0);
+    set_word(arena, id, at, 0);
     match landing {
         Some(landing) => {
             zero_landed(arena, landing);

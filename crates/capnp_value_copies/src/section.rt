@@ -9,7 +9,7 @@ ghost use Rattle.capnp_copies.specs.Forms.{form_of};
 ghost use Rattle.capnp_value_copies.specs.StructValues.{section_words};
 ghost use Rattle.capnp_copies.specs.Originals.{kept_count};
 
-use capnp_arena_traits::arena::BuilderArena;
+use capnp_arena_traits::arena::{BuilderArena, set_word};
 use capnp_copies::copy::put_words;
 use capnp_making::making::Start;
 use capnp_words::words::{part, used_part};
@@ -55,7 +55,7 @@ pub(crate) fn put_section<A: BuilderArena>(
         return;
     }
     put_words(arena, id, at, part(bytes, 0, whole as usize));
-    arena.set_word(id, at + whole, last_word(bytes, bits));
+    set_word(arena, id, at + whole, last_word(bytes, bits));
 }
 
 /// The bits after the last whole word of a data section, as a number; 0 if there are none.

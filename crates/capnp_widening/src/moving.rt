@@ -23,7 +23,7 @@ ghost use Rattle.capnp_widening.specs.Moved.{BothLieInside, RowsLieInside, row_o
 ghost use Rattle.capnp_widening.specs.Pointed.{HasPlainPads, PointsTo};
 ghost use Rattle.capnp_widening.specs.Rooms.{HasPadRoom, TakesPad};
 
-use capnp_arena_traits::arena::BuilderArena;
+use capnp_arena_traits::arena::{BuilderArena, set_word};
 use capnp_making::landing::{length_of, word_of};
 use capnp_making::making::{Shape, Start, pointer_to};
 use capnp_making::zeroing::zero_pads;
@@ -58,7 +58,7 @@ pub fn move_pointer<A: BuilderArena>(arena: &mut A, from: Start, to: Start) -> R
         return Ok(());
     }
     if !word.is_positional() {
-        arena.set_word(to.segment, to.at, word.0);
+        set_word(arena, to.segment, to.at, word.0);
         return Ok(());
     }
     match word.target(from.at, length_of(arena, from.segment)) {
@@ -115,25 +115,25 @@ fn point_to<A: BuilderArena>(
 {
     if object.segment == to.segment {
         let word = near_word(shape, to.at, object.at);
-        arena.set_word(to.segment, to.at, word.0);
+        set_word(arena, to.segment, to.at, word.0);
         return Ok(());
     }
     match arena.allocate(object.segment, 1) {
         Some(pad) => {
             let word = pointer_to(shape, pad, object.at);
-            arena.set_word(object.segment, pad, word.0);
+            set_word(arena, object.segment, pad, word.0);
             let far = WirePointer::new_far(pad, object.segment);
-            arena.set_word(to.segment, to.at, far.0);
+            set_word(arena, to.segment, to.at, far.0);
             Ok(())
         }
         None => {
             let (segment, pad) = arena.allocate_anywhere(2)?;
             let start = WirePointer::new_far(object.at, object.segment);
-            arena.set_word(segment, pad, start.0);
+            set_word(arena, segment, pad, start.0);
             let tag = tag_of(shape);
-            arena.set_word(segment, pad + 1, tag.0);
+            set_word(arena, segment, pad + 1, tag.0);
             let far = WirePointer::new_double_far(pad, segment);
-            arena.set_word(to.segment, to.at, far.0);
+            set_word(arena, to.segment, to.at, far.0);
             Ok(())
         }
     }

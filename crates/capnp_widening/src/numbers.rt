@@ -14,7 +14,7 @@ ghost use Rattle.capnp_widening.specs.RowsRemade.{AreNumbersCopied, IsList, Make
 
 use crate::remaking::begin_list;
 use crate::widening::settle;
-use capnp_arena_traits::arena::BuilderArena;
+use capnp_arena_traits::arena::{BuilderArena, set_word};
 use capnp_contents::existing::ExistingList;
 use capnp_making::landing::{length_of, word_of};
 use capnp_making::making::{Shape, Start};
@@ -122,7 +122,7 @@ fn copy_numbers<A: BuilderArena>(arena: &mut A, old: ExistingList, to: Start, st
     let mut place = to.at;
     for i in 0..old.count {
         let number = number_at(arena, old, i);
-        arena.set_word(to.segment, place, number);
+        set_word(arena, to.segment, place, number);
         place += step;
     }
 }

@@ -14,7 +14,7 @@ ghost use Rattle.capnp_making.specs.declared.making.Start.{Start};
 
 use crate::moving::{PointerRows, move_rows, unmove_rows};
 use crate::widening::{Room, copy_words, settle, take};
-use capnp_arena_traits::arena::BuilderArena;
+use capnp_arena_traits::arena::{BuilderArena, set_word};
 use capnp_contents::existing::ExistingList;
 use capnp_making::landing::{length_of, word_of};
 use capnp_making::making::{Shape, Start};
@@ -97,7 +97,7 @@ pub(crate) fn begin_list<A: BuilderArena>(
     let words = count * size.total();
     let room = take(arena, id, 1 + words)?;
     let tag = WirePointer::new_tag(count, size);
-    arena.set_word(room.segment, room.at + room.pads, tag.0);
+    set_word(arena, room.segment, room.at + room.pads, tag.0);
     Ok(room)
 }
 

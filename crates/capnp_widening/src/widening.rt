@@ -20,7 +20,7 @@ ghost use Rattle.capnp_widening.specs.Rooms.{GrowsByAtMost, HasPadRoom, HasRoomA
 ghost use Rattle.capnp_widening.specs.Widened.{IsStruct, widened};
 
 use crate::moving::{move_row, unmove_row};
-use capnp_arena_traits::arena::{BuilderArena, WordPlace};
+use capnp_arena_traits::arena::{BuilderArena, WordPlace, set_word};
 use capnp_contents::existing::ExistingStruct;
 use capnp_making::landing::word_of;
 use capnp_making::making::{Shape, Start, pointer_to};
@@ -79,7 +79,7 @@ pub(crate) fn copy_words<A: BuilderArena>(arena: &mut A, from: Start, to: Start,
 {
     if count == 1 {
         let word = word_of(arena, from.segment, from.at);
-        arena.set_word(to.segment, to.at, word.0);
+        set_word(arena, to.segment, to.at, word.0);
     } else {
         copy_many(arena, from, to, count);
     }
@@ -118,13 +118,13 @@ pub(crate) fn settle<A: BuilderArena>(arena: &mut A, id: u32, at: u32, room: Roo
 {
     if room.pads == 0 {
         let word = pointer_to(shape, at, room.at);
-        arena.set_word(id, at, word.0);
+        set_word(arena, id, at, word.0);
         return;
     }
     let word = pointer_to(shape, room.at, room.at + 1);
-    arena.set_word(room.segment, room.at, word.0);
+    set_word(arena, room.segment, room.at, word.0);
     let far = WirePointer::new_far(room.at, room.segment);
-    arena.set_word(id, at, far.0);
+    set_word(arena, id, at, far.0);
 }
 
 /// Widens the struct `old`, to which the pointer at `at` of segment `id` leads: moves it to new

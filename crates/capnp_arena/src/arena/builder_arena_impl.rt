@@ -28,6 +28,7 @@ use crate::arena::{
 };
 use capnp_arena_traits::arena::sealed::Closed;
 use capnp_words::error::ErrorKind;
+use capnp_words::words;
 use std::alloc::Global;
 
 /// A message being built, with 0 to 4,294,967,295 segments, which the allocator grants. The arena's
@@ -661,51 +662,17 @@ impl<A: Allocator> BuilderArena for BuilderArenaImpl<A> {
     }
 
     #[tactic(auto, using(crate::proofs::KeptLemmas::keeping))]
-    fn set_word(&mut self, id: u32, at: u32, word: u64) {
-        if A::keeps_first_in_arena() {
-            self.apart.set_word(id, at, word);
-        } else {
-            self.listed.set_word(id, at, word);
-        }
-    }
-
-    #[tactic(auto, using(crate::proofs::KeptLemmas::keeping))]
-    fn copy_words(&mut self, id: u32, at: u32, from: &[u8]) {
-        if !from.is_empty() {
-            if A::keeps_first_in_arena() {
-                self.apart.copy_words(id, at, from);
-            } else {
-                self.listed.copy_words(id, at, from);
-            }
-        }
-    }
-
-    #[tactic(auto, using(crate::proofs::KeptLemmas::keeping))]
     fn move_words(&mut self, from: WordPlace, to: WordPlace, n: u32) {
         if n == 0 {
             return;
         }
         if from.segment == to.segment {
-            if A::keeps_first_in_arena() {
-                self.apart.move_words(to.segment, from.at, to.at, n);
-            } else {
-                self.listed.move_words(to.segment, from.at, to.at, n);
-            }
+            let bytes = self.segment_mut(to.segment);
+            words::move_words(bytes, from.at as usize, to.at as usize, n as usize);
         } else if A::keeps_first_in_arena() {
             self.apart.copy_across(from, to, n);
         } else {
             self.listed.copy_across(from, to, n);
-        }
-    }
-
-    #[tactic(auto, using(crate::proofs::KeptLemmas::keeping))]
-    fn zero_words(&mut self, id: u32, at: u32, n: u32) {
-        if n > 0 {
-            if A::keeps_first_in_arena() {
-                self.apart.zero_words(id, at, n);
-            } else {
-                self.listed.zero_words(id, at, n);
-            }
         }
     }
 

@@ -1,13 +1,13 @@
 //! The rows of a builder arena, one for each segment, all in one list.
 ghost use Rattle.std.specs.Prelude.{◌≡◌, ◌≢◌, ◌<◌, ◌≤◌, ◌+◌, ◌*◌, ◌/◌, ◌↔◌, [], length, replicate, slice_get, Some, IsTrue, IsSome, IsNone, IfSome};
 ghost use Rattle.std.specs.Borrow.{sem, Lends, Array, u8 as byte};
-ghost use Rattle.capnp_format.specs.Bytes.{words_of, message};
+ghost use Rattle.capnp_format.specs.Bytes.{message};
 ghost use Rattle.capnp_format.specs.Segments.{segment, word_at, words_at, IsPlace};
 ghost use Rattle.capnp_arena_traits.specs.Allocations.{max_segments};
 ghost use Rattle.capnp_arena.specs.Bounds.{FindsFit, HasBounds};
 ghost use Rattle.capnp_arena.specs.Rewritten.{RewritesRows};
 ghost use Rattle.capnp_arena.specs.Row.{shown, capacity_at};
-ghost use Rattle.capnp_arena_traits.specs.Written.{extended, with_word, with_words};
+ghost use Rattle.capnp_arena_traits.specs.Written.{extended, with_words};
 
 use crate::arena::row::Row;
 use crate::arena::rows::{At, allocated_in, copy_across_in};
@@ -103,64 +103,6 @@ impl<S: Segment> Listed<S> {
         ensures { result ≡ word_at (message (shown S.Segment self.now.rows.items)) id at }
     {
         self.rows[id as usize].word(at)
-    }
-
-    /// Writes `word` at position `at` of row `id`.
-    #[inline(always)]
-    #[tactic(auto, using(crate::proofs::RowsLemmas::rows_written))]
-    pub(crate) fn set_word(&mut self, id: u32, at: u32, word: u64)
-        requires { IsPlace (message (shown S.Segment self.old.rows.items)) id at }
-        ensures { RewritesRows S.Segment self.old.rows.items self.new.rows.items
-            (with_word (message (shown S.Segment self.old.rows.items)) id at word) }
-    {
-        let row = &mut self.rows[id as usize];
-        row.set_word(at, word);
-    }
-
-    /// Writes the words of `from` over those of row `id` from position `at` on.
-    #[inline(always)]
-    #[tactic(auto, using(crate::proofs::RowsLemmas::rows_written))]
-    pub(crate) fn copy_words(&mut self, id: u32, at: u32, from: &[u8])
-        requires there { id < length self.old.rows.items }
-        requires whole { length from.now ≡ 8 * length (words_of from.now) }
-        requires inside { at + length (words_of from.now)
-            ≤ length (segment (message (shown S.Segment self.old.rows.items)) id) }
-        ensures { RewritesRows S.Segment self.old.rows.items self.new.rows.items
-            (with_words (message (shown S.Segment self.old.rows.items)) id at (words_of from.now)) }
-    {
-        let row = &mut self.rows[id as usize];
-        row.copy_words(at, from);
-    }
-
-    /// Zeroes `n` words of row `id` from position `at` on.
-    #[inline(always)]
-    #[tactic(auto, using(crate::proofs::RowsLemmas::rows_written))]
-    pub(crate) fn zero_words(&mut self, id: u32, at: u32, n: u32)
-        requires there { id < length self.old.rows.items }
-        requires inside { at + n
-            ≤ length (segment (message (shown S.Segment self.old.rows.items)) id) }
-        ensures { RewritesRows S.Segment self.old.rows.items self.new.rows.items
-            (with_words (message (shown S.Segment self.old.rows.items)) id at (replicate n 0)) }
-    {
-        let row = &mut self.rows[id as usize];
-        row.zero_words(at, n);
-    }
-
-    /// Copies `n` words of row `id` from position `from` to `to`; the two ranges may overlap.
-    #[inline(always)]
-    #[tactic(auto, using(crate::proofs::RowsLemmas::rows_written))]
-    pub(crate) fn move_words(&mut self, id: u32, from: u32, to: u32, n: u32)
-        requires row { id < length self.old.rows.items }
-        requires there { from + n
-            ≤ length (segment (message (shown S.Segment self.old.rows.items)) id) }
-        requires inside { to + n
-            ≤ length (segment (message (shown S.Segment self.old.rows.items)) id) }
-        ensures { RewritesRows S.Segment self.old.rows.items self.new.rows.items
-            (with_words (message (shown S.Segment self.old.rows.items)) id to
-            (words_at (message (shown S.Segment self.old.rows.items)) id from n)) }
-    {
-        let row = &mut self.rows[id as usize];
-        row.move_words(from, to, n);
     }
 
     /// Copies `n` words from place `from` to place `to`. Precondition: the two places are in

@@ -1,63 +1,12 @@
 //! A segment of a builder arena, and how much of it is allocated.
-ghost use Rattle.std.specs.Prelude.{◌≡◌, ◌<◌, ◌≤◌, ◌+◌, ◌-◌, ◌*◌, ◌/◌, ◌↔◌, ◌++◌, [], ℕ, List, length, take, replicate, slice_set, slice_index, IsTrue};
+ghost use Rattle.std.specs.Prelude.{◌≡◌, ◌<◌, ◌≤◌, ◌+◌, ◌-◌, ◌*◌, ◌/◌, ◌↔◌, ◌++◌, [], ℕ, List, length, take, replicate, slice_index, IsTrue};
 ghost use Rattle.capnp_format.specs.Bytes.{words_of};
 ghost use Rattle.capnp_arena_traits.specs.Allocations.{IsRow, max_segment_words, zeros};
-ghost use Rattle.capnp_arena_traits.specs.Written.{overwritten, with_copied, with_front};
+ghost use Rattle.capnp_arena_traits.specs.Written.{with_copied, with_front};
 ghost use Rattle.std.specs.Borrow.{sem, Lends, Array, u8 as byte};
-ghost use Rattle.capnp_arena.specs.Front.{RewritesFront};
 
 use crate::arena::{MAX_SEGMENT_WORDS, Segment};
 use capnp_words::words;
-
-/// Writes `word` at position `at` of `bytes`. Precondition: `at` is below `end`.
-#[tactic(auto, using(crate::proofs::RowLemmas::kept))]
-fn put_below(bytes: &mut [u8], end: usize, at: usize, word: u64)
-    requires inside { at < end }
-    requires room { 8 * end ≤ length bytes.old }
-    ensures { RewritesFront end bytes.old bytes.new
-        (slice_set (words_of (take (8 * end) bytes.old)) at word) }
-{
-    words::put_word(&mut bytes[..8 * end], at, word);
-}
-
-/// Writes the words of `from` to `bytes`, from position `at` on. Precondition: they end at position
-/// `end` or before it.
-#[tactic(auto, using(crate::proofs::RowLemmas::kept))]
-fn copy_below(bytes: &mut [u8], end: usize, at: usize, from: &[u8])
-    requires whole { length from.now ≡ 8 * length (words_of from.now) }
-    requires inside { at + length (words_of from.now) ≤ end }
-    requires room { 8 * end ≤ length bytes.old }
-    ensures { RewritesFront end bytes.old bytes.new
-        (overwritten (words_of (take (8 * end) bytes.old)) at (words_of from.now)) }
-{
-    words::copy_words(&mut bytes[..8 * end], at, from);
-}
-
-/// Zeroes `n` words of `bytes`, from position `at` on. Precondition: they end at position `end` or
-/// before it.
-#[tactic(auto, using(crate::proofs::RowLemmas::kept_zeros))]
-fn zero_below(bytes: &mut [u8], end: usize, at: usize, n: usize)
-    requires inside { at + n ≤ end }
-    requires room { 8 * end ≤ length bytes.old }
-    ensures { RewritesFront end bytes.old bytes.new
-        (overwritten (words_of (take (8 * end) bytes.old)) at (replicate n 0)) }
-{
-    words::zero_words(&mut bytes[..8 * end], at, n);
-}
-
-/// Copies `n` words of `bytes` from position `from` to position `to`; the two ranges may overlap.
-/// Precondition: both ranges end at position `end` or before it.
-#[tactic(auto, using(crate::proofs::RowLemmas::kept))]
-fn move_below(bytes: &mut [u8], end: usize, from: usize, to: usize, n: usize)
-    requires there { from + n ≤ end }
-    requires inside { to + n ≤ end }
-    requires room { 8 * end ≤ length bytes.old }
-    ensures { RewritesFront end bytes.old bytes.new
-        (with_copied (words_of (take (8 * end) bytes.old)) to
-        (words_of (take (8 * end) bytes.old)) from n) }
-{
-    words::move_words(&mut bytes[..8 * end], from, to, n);
-}
 
 /// Lends the first `n` bytes of `segment` for writing, and leaves the others unchanged.
 fn front_of<S: Segment>(segment: &mut S, n: usize) -> &mut [u8]
@@ -158,45 +107,6 @@ impl<S: Segment> Row<S> {
         words::word_at(self.allocated(), at as usize)
     }
 
-    #[tactic(auto, using(crate::proofs::RowLemmas::written))]
-    pub(crate) fn set_word(&mut self, at: u32, word: u64)
-        requires { at < self.old.used }
-        ensures { RewritesRow S.Segment self.old self.new
-            (slice_set (words_of (allocated S.Segment self.old)) at word) }
-    {
-        let end = self.used as usize;
-        put_below(self.segment.bytes_mut(), end, at as usize, word);
-    }
-
-    #[tactic(auto, using(crate::proofs::RowLemmas::written))]
-    pub(crate) fn copy_words(&mut self, at: u32, from: &[u8])
-        requires whole { length from.now ≡ 8 * length (words_of from.now) }
-        requires inside { at + length (words_of from.now) ≤ self.old.used }
-        ensures { RewritesRow S.Segment self.old self.new
-            (overwritten (words_of (allocated S.Segment self.old)) at (words_of from.now)) }
-    {
-        let end = self.used as usize;
-        copy_below(self.segment.bytes_mut(), end, at as usize, from);
-    }
-
-    #[tactic(auto, using(crate::proofs::RowLemmas::written))]
-    pub(crate) fn move_words(&mut self, from: u32, to: u32, n: u32)
-        requires there { from + n ≤ self.old.used }
-        requires inside { to + n ≤ self.old.used }
-        ensures { RewritesRow S.Segment self.old self.new
-            (with_copied (words_of (allocated S.Segment self.old)) to
-            (words_of (allocated S.Segment self.old)) from n) }
-    {
-        let end = self.used as usize;
-        move_below(
-            self.segment.bytes_mut(),
-            end,
-            from as usize,
-            to as usize,
-            n as usize,
-        );
-    }
-
     /// Copies `n` words from position `from` of `row` to position `at` of this row.
     #[tactic(auto, using(crate::proofs::RowsLemmas::reading))]
     pub(crate) fn copy_from(&mut self, at: u32, row: &Row<S>, from: u32, n: u32)
@@ -206,17 +116,7 @@ impl<S: Segment> Row<S> {
             (with_copied (words_of (allocated S.Segment self.old)) at
             (words_of (allocated S.Segment row.now)) from n) }
     {
-        let words = words::part(row.allocated(), from as usize, n as usize);
-        self.copy_words(at, words);
-    }
-
-    #[tactic(auto, using(crate::proofs::RowLemmas::written))]
-    pub(crate) fn zero_words(&mut self, at: u32, n: u32)
-        requires { at + n ≤ self.old.used }
-        ensures { RewritesRow S.Segment self.old self.new
-            (overwritten (words_of (allocated S.Segment self.old)) at (replicate n 0)) }
-    {
-        let end = self.used as usize;
-        zero_below(self.segment.bytes_mut(), end, at as usize, n as usize);
+        let copied = words::part(row.allocated(), from as usize, n as usize);
+        words::copy_words(self.allocated_mut(), at as usize, copied);
     }
 }

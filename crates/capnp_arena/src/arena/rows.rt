@@ -7,13 +7,13 @@
 //! inlined, and the code for other rows is in functions that aren't inlined.
 ghost use Rattle.std.specs.Prelude.{◌≡◌, ◌≢◌, ◌<◌, ◌≤◌, ◌+◌, ◌-◌, ◌*◌, ◌/◌, ◌↔◌, ◌∷◌, [], length, replicate, slice_get, Some, IsSome, IsNone, IfSome};
 ghost use Rattle.std.specs.Borrow.{sem, Lends, Array, u8 as byte};
-ghost use Rattle.capnp_format.specs.Bytes.{words_of, message};
+ghost use Rattle.capnp_format.specs.Bytes.{message};
 ghost use Rattle.capnp_format.specs.Segments.{segment, word_at, words_at, IsPlace};
 ghost use Rattle.capnp_arena_traits.specs.Allocations.{IsFresh};
 ghost use Rattle.capnp_arena.specs.Bounds.{FindsFit, HasBounds};
 ghost use Rattle.capnp_arena.specs.Rewritten.{KeepsList, RewritesList, RewritesRows};
 ghost use Rattle.capnp_arena.specs.Row.{GainsRow, most_others, shown, capacity_at};
-ghost use Rattle.capnp_arena_traits.specs.Written.{extended, with_word, with_words};
+ghost use Rattle.capnp_arena_traits.specs.Written.{extended, with_words};
 
 use crate::arena::row::Row;
 use crate::arena::{Segment, WordPlace, bounds};
@@ -69,65 +69,6 @@ fn word_in<S: Segment>(rows: &[Row<S>], id: usize, at: u32) -> u64
     ensures { result ≡ word_at (message (shown S.Segment rows.now)) id at }
 {
     rows[id].word(at)
-}
-
-/// Writes `word` at position `at` of row `id`.
-#[cold]
-#[inline(never)]
-#[tactic(auto, using(crate::proofs::RowsLemmas::rows_written))]
-fn set_word_in<S: Segment>(rows: &mut [Row<S>], id: usize, at: u32, word: u64)
-    requires { IsPlace (message (shown S.Segment rows.old)) id at }
-    ensures { RewritesList S.Segment rows.old rows.new
-        (with_word (message (shown S.Segment rows.old)) id at word) }
-{
-    let row = &mut rows[id];
-    row.set_word(at, word);
-}
-
-/// Writes the words of `from` over those of row `id` from position `at` on.
-#[cold]
-#[inline(never)]
-#[tactic(auto, using(crate::proofs::RowsLemmas::rows_written))]
-fn copy_words_in<S: Segment>(rows: &mut [Row<S>], id: usize, at: u32, from: &[u8])
-    requires there { id < length rows.old }
-    requires whole { length from.now ≡ 8 * length (words_of from.now) }
-    requires inside { at + length (words_of from.now)
-        ≤ length (segment (message (shown S.Segment rows.old)) id) }
-    ensures { RewritesList S.Segment rows.old rows.new
-        (with_words (message (shown S.Segment rows.old)) id at (words_of from.now)) }
-{
-    let row = &mut rows[id];
-    row.copy_words(at, from);
-}
-
-/// Zeroes `n` words of row `id` from position `at` on.
-#[cold]
-#[inline(never)]
-#[tactic(auto, using(crate::proofs::RowsLemmas::rows_written))]
-fn zero_words_in<S: Segment>(rows: &mut [Row<S>], id: usize, at: u32, n: u32)
-    requires there { id < length rows.old }
-    requires inside { at + n ≤ length (segment (message (shown S.Segment rows.old)) id) }
-    ensures { RewritesList S.Segment rows.old rows.new
-        (with_words (message (shown S.Segment rows.old)) id at (replicate n 0)) }
-{
-    let row = &mut rows[id];
-    row.zero_words(at, n);
-}
-
-/// Copies `n` words of row `id` from position `from` to `to`; the two ranges may overlap.
-#[cold]
-#[inline(never)]
-#[tactic(auto, using(crate::proofs::RowsLemmas::rows_written))]
-fn move_words_in<S: Segment>(rows: &mut [Row<S>], id: usize, from: u32, to: u32, n: u32)
-    requires room { id < length rows.old }
-    requires there { from + n ≤ length (segment (message (shown S.Segment rows.old)) id) }
-    requires inside { to + n ≤ length (segment (message (shown S.Segment rows.old)) id) }
-    ensures { RewritesList S.Segment rows.old rows.new
-        (with_words (message (shown S.Segment rows.old)) id to
-        (words_at (message (shown S.Segment rows.old)) id from n)) }
-{
-    let row = &mut rows[id];
-    row.move_words(from, to, n);
 }
 
 /// A place in a list of rows: a row, by its index in the list, and a position in that row, in
@@ -290,77 +231,6 @@ impl<S: Segment> Rows<S> {
             self.first.word(at)
         } else {
             word_in(&self.others, id as usize - 1, at)
-        }
-    }
-
-    /// Writes `word` at position `at` of row `id`.
-    #[inline(always)]
-    #[tactic(auto, using(crate::proofs::ListedLemmas::listing))]
-    pub(crate) fn set_word(&mut self, id: u32, at: u32, word: u64)
-        requires { IsPlace (message (shown S.Segment (all S.Segment self.old))) id at }
-        ensures { RewritesRows S.Segment (all S.Segment self.old) (all S.Segment self.new)
-            (with_word (message (shown S.Segment (all S.Segment self.old))) id at word) }
-    {
-        if id == 0 {
-            self.first.set_word(at, word)
-        } else {
-            set_word_in(&mut self.others, id as usize - 1, at, word);
-        }
-    }
-
-    /// Writes the words of `from` over those of row `id` from position `at` on.
-    #[inline(always)]
-    #[tactic(auto, using(crate::proofs::ListedLemmas::listing))]
-    pub(crate) fn copy_words(&mut self, id: u32, at: u32, from: &[u8])
-        requires there { id < length (all S.Segment self.old) }
-        requires whole { length from.now ≡ 8 * length (words_of from.now) }
-        requires inside { at + length (words_of from.now)
-            ≤ length (segment (message (shown S.Segment (all S.Segment self.old))) id) }
-        ensures { RewritesRows S.Segment (all S.Segment self.old) (all S.Segment self.new)
-            (with_words (message (shown S.Segment (all S.Segment self.old))) id at
-            (words_of from.now)) }
-    {
-        if id == 0 {
-            self.first.copy_words(at, from)
-        } else {
-            copy_words_in(&mut self.others, id as usize - 1, at, from);
-        }
-    }
-
-    /// Zeroes `n` words of row `id` from position `at` on.
-    #[inline(always)]
-    #[tactic(auto, using(crate::proofs::ListedLemmas::listing))]
-    pub(crate) fn zero_words(&mut self, id: u32, at: u32, n: u32)
-        requires there { id < length (all S.Segment self.old) }
-        requires inside { at + n
-            ≤ length (segment (message (shown S.Segment (all S.Segment self.old))) id) }
-        ensures { RewritesRows S.Segment (all S.Segment self.old) (all S.Segment self.new)
-            (with_words (message (shown S.Segment (all S.Segment self.old))) id at
-            (replicate n 0)) }
-    {
-        if id == 0 {
-            self.first.zero_words(at, n)
-        } else {
-            zero_words_in(&mut self.others, id as usize - 1, at, n);
-        }
-    }
-
-    /// Copies `n` words of row `id` from position `from` to `to`; the two ranges may overlap.
-    #[tactic(auto, using(crate::proofs::ListedLemmas::listing))]
-    pub(crate) fn move_words(&mut self, id: u32, from: u32, to: u32, n: u32)
-        requires row { id < length (all S.Segment self.old) }
-        requires there { from + n
-            ≤ length (segment (message (shown S.Segment (all S.Segment self.old))) id) }
-        requires inside { to + n
-            ≤ length (segment (message (shown S.Segment (all S.Segment self.old))) id) }
-        ensures { RewritesRows S.Segment (all S.Segment self.old) (all S.Segment self.new)
-            (with_words (message (shown S.Segment (all S.Segment self.old))) id to
-            (words_at (message (shown S.Segment (all S.Segment self.old))) id from n)) }
-    {
-        if id == 0 {
-            self.first.move_words(from, to, n)
-        } else {
-            move_words_in(&mut self.others, id as usize - 1, from, to, n);
         }
     }
 

@@ -7,7 +7,7 @@ ghost use Rattle.capnp_words.specs.declared.error.ErrorKind.TheVariants.{Invalid
 ghost use Rattle.capnp_arena_traits.specs.Allocations.{max_segments, max_segment_words};
 ghost use Rattle.capnp_arena_traits.specs.View.{View};
 ghost use Rattle.capnp_arena_traits.specs.Taking.{GrowsSegment, IsFull, GainsSegment, IsAllocationRefusal, IsFirstFit, IsTaken, SameRoomBelow};
-ghost use Rattle.capnp_arena_traits.specs.Written.{with_word, with_words};
+ghost use Rattle.capnp_arena_traits.specs.Written.{with_words};
 
 use crate::arena::{ReaderArena, SegmentId, WordPlace};
 use capnp_words::error::ErrorKind;
@@ -50,22 +50,6 @@ pub trait BuilderArena: ReaderArena + sealed::Closed {
         requires { IsPlace (view self.now).words id at }
         ensures { result ≡ word_at (view self.now).words id at };
 
-    /// Writes `word` at position `at` of segment `id`.
-    fn set_word(&mut self, id: u32, at: u32, word: u64)
-        requires { IsPlace (view self.old).words id at }
-        ensures { view self.new
-            ≡ record (view self.old) { words = with_word (view self.old).words id at word } };
-
-    /// Writes the words of `from` over those of segment `id` from position `at` on. If `from` is
-    /// empty, nothing changes.
-    fn copy_words(&mut self, id: u32, at: u32, from: &[u8])
-        requires whole { length from.now ≡ 8 * length (words_of from.now) }
-        requires inside { at + length (words_of from.now)
-            ≤ length (segment (view self.old).words id) }
-        ensures { view self.new
-            ≡ record (view self.old)
-            { words = with_words (view self.old).words id at (words_of from.now) } };
-
     /// Copies `n` words from place `from` to place `to`, in the same segment or another one; the
     /// two ranges may overlap. If `n` is 0, nothing changes.
     fn move_words(&mut self, from: WordPlace, to: WordPlace, n: u32)
@@ -76,13 +60,6 @@ pub trait BuilderArena: ReaderArena + sealed::Closed {
               words = with_words (view self.old).words to.segment to.at
                   (words_at (view self.old).words from.segment from.at n);
             } };
-
-    /// Zeroes `n` words of segment `id` from position `at` on. If `n` is 0, nothing changes.
-    fn zero_words(&mut self, id: u32, at: u32, n: u32)
-        requires { at + n ≤ length (segment (view self.old).words id) }
-        ensures { view self.new
-            ≡ record (view self.old)
-            { words = with_words (view self.old).words id at (replicate n 0) } };
 
     /// Allocates `amount` words after the allocated ones of segment `id`, and returns their
     /// position. The new words are zero. Returns `None`, and changes nothing, if the segment has no

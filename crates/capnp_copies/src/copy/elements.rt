@@ -15,7 +15,7 @@ ghost use Rattle.capnp_copies.specs.Widths.{widths_kept, IsAtMost};
 use super::children::copy_in_line;
 use crate::form::Destination;
 use crate::widths::ElementSizes;
-use capnp_arena_traits::arena::{BuilderArena, ReaderArena};
+use capnp_arena_traits::arena::{BuilderArena, ReaderArena, copy_words};
 use capnp_making::making::Start;
 use capnp_objects::object::Place;
 use capnp_pointers::pointers::Pointer;
@@ -103,5 +103,5 @@ pub fn put_words<A: BuilderArena>(arena: &mut A, id: u32, at: u32, words: &[u8])
     if count(words) == 0 {
         return;
     }
-    arena.copy_words(id, at, words);
+    copy_words(arena, id, at, words);
 }

@@ -13,7 +13,7 @@ ghost use Rattle.capnp_making.specs.Stored.{IsReplaced};
 ghost use Rattle.capnp_words.specs.Sizes.{size_number};
 ghost use Rattle.capnp_copies.specs.Changes.{IsCopiedInRoom};
 
-use capnp_arena_traits::arena::BuilderArena;
+use capnp_arena_traits::arena::{BuilderArena, copy_words, set_word};
 use capnp_making::making::{Start, make_list};
 use capnp_words::error::ErrorKind;
 use capnp_words::wire_pointer::{ElementSize, data_bits_per_element};
@@ -74,11 +74,11 @@ fn put_elements<A: BuilderArena>(arena: &mut A, id: u32, start: u32, elements: &
               (from_digits (2 ^ 64) (words_of elements.now) % 2 ^ bits));
         } }
 {
-    arena.copy_words(id, start, elements);
+    copy_words(arena, id, start, elements);
     let used = bits % 64;
     if used != 0 {
         let last = words::count(elements) - 1;
         let word = words::word_at(elements, last);
-        arena.set_word(id, start + last as u32, word & ((1 << used) - 1));
+        set_word(arena, id, start + last as u32, word & ((1 << used) - 1));
     }
 }

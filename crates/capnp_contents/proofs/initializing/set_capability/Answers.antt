@@ -15,7 +15,7 @@ pub returns-clause-made : goal.returns-clause-made
 returns-clause-made g c =
     let S : Segments = (g.A.BuilderArena.view c.args.arena.now).words in
     let M : Segments = (g.A.BuilderArena.view c.zero_object.new.arena).words in
-    let R : Segments = (g.A.BuilderArena.view c.set_word.new.self).words in
+    let R : Segments = (g.A.BuilderArena.view c.set_word.new.arena).words in
     let place = rw (sym (c.zero_object.ensures.zeroes.pruned.words c.args.id)) at c.requires.place in
     let set = ap words_in c.set_word.ensures ∙ ap (with_word M c.args.id c.args.at) c.new_capability.ensures.word in
     λ x stored. replaced_again S M R c.args.id c.args.at x Null _ (zeroed_replaced S M c.args.id c.args.at x c.zero_object.ensures.zeroes.zeroed stored)
@@ -25,7 +25,7 @@ pub returns-clause-only : goal.returns-clause-only
 returns-clause-only g c =
     let S : Segments = (g.A.BuilderArena.view c.args.arena.now).words in
     let M : Segments = (g.A.BuilderArena.view c.zero_object.new.arena).words in
-    let R : Segments = (g.A.BuilderArena.view c.set_word.new.self).words in
+    let R : Segments = (g.A.BuilderArena.view c.set_word.new.arena).words in
     let place = rw (sym (c.zero_object.ensures.zeroes.pruned.words c.args.id)) at c.requires.place in
     let set = ap words_in c.set_word.ensures ∙ ap (with_word M c.args.id c.args.at) c.new_capability.ensures.word in
     pruned_but S M R c.args.id c.args.at _ c.zero_object.ensures.zeroes.pruned (word_put M R c.args.id c.args.at _ place set)

@@ -5,7 +5,8 @@ use Rattle.capnp_format.proofs.WordsOf.{words}
 use Rattle.capnp_format.specs.Segments.{Segments}
 use Rattle.capnp_making.specs.Fields.{with_field}
 use Rattle.capnp_format.specs.Fields.{put_field}
-use Rattle.capnp_making.proofs.FieldBytes.{message_written, words_lent}
+use Rattle.capnp_arena_traits.proofs.WordsLent.{words_lent}
+use Rattle.capnp_making.proofs.FieldBytes.{message_written}
 use Rattle.capnp_format.proofs.FieldBytes.{in_one_word, length-put, words_of-put_field}
 use Rattle.capnp_contents.proofs.Growing.{field_grows}
 use Rattle.capnp_contents.proofs.numbers.set_number.Goals as goal

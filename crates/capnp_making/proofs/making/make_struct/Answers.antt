@@ -13,7 +13,7 @@ use Rattle.capnp_making.proofs.making.make_struct.Goals as goal
 pub returns-then-words-eq0-clause-made : goal.returns-then-words-eq0-clause-made
 returns-then-words-eq0-clause-made g c =
     let S : Segments = (g.A.BuilderArena.view c.args.arena.now).words in
-    let R : Segments = (g.A.BuilderArena.view c.set_word.new.self).words in
+    let R : Segments = (g.A.BuilderArena.view c.set_word.new.arena).words in
     let put = word_put S R c.args.id c.args.at c.empty_struct.result.0 c.requires.place (ap words_in c.set_word.ensures) in
     let none_d : 0 ≡ c.args.size.data_words = omega arith in
     let none_q : 0 ≡ c.args.size.pointers = omega arith in

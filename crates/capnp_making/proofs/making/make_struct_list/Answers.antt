@@ -16,7 +16,7 @@ pub returns-clause-made : goal.returns-clause-made
 returns-clause-made g c =
     let S : Segments = (g.A.BuilderArena.view c.args.arena.now).words in
     let M : Segments = (g.A.BuilderArena.view c.put_object.new.arena).words in
-    let R : Segments = (g.A.BuilderArena.view c.set_word.new.self).words in
+    let R : Segments = (g.A.BuilderArena.view c.set_word.new.arena).words in
     let (a, m, shape, is_segment, is_start) = c.in_ok-start.ensures.made in
     let x : ℕ = c.new_tag-tag.result.0 in
     let list : IsListMade S M c.args.id c.args.at a (c.args.count * (c.args.size.data_words + c.args.size.pointers)) =
@@ -42,7 +42,7 @@ pub returns-clause-memory : goal.returns-clause-memory
 returns-clause-memory g c =
     let (a, m, shape, is_segment, is_start) = c.in_ok-start.ensures.made in
     let M : Segments = (g.A.BuilderArena.view c.put_object.new.arena).words in
-    let put = word_put M (g.A.BuilderArena.view c.set_word.new.self).words c.in_ok-start.start.segment c.in_ok-start.start.at c.new_tag-tag.result.0 (rw (is_segment, is_start) (omega (arith, m.claims))) (ap words_in c.set_word.ensures) in
+    let put = word_put M (g.A.BuilderArena.view c.set_word.new.arena).words c.in_ok-start.start.segment c.in_ok-start.start.at c.new_tag-tag.result.0 (rw (is_segment, is_start) (omega (arith, m.claims))) (ap words_in c.set_word.ensures) in
     record {
       fits = λ room. refl;
       granted = search rules;

@@ -30,10 +30,10 @@ pub returns-in-Ok : goal.returns-in-Ok
 returns-in-Ok g c =
     let old : View = g.A.BuilderArena.view c.args.arena.now in
     let mid : View = g.A.BuilderArena.view c.allocate_anywhere.new.self in
-    let new : View = g.A.BuilderArena.view c.set_word-in-Ok.new.self in
+    let new : View = g.A.BuilderArena.view c.set_word-in-Ok.new.arena in
     let S : Segments = old.words in
     let T : Segments = mid.words in
-    let U : Segments = (g.A.BuilderArena.view c.set_word.new.self).words in
+    let U : Segments = (g.A.BuilderArena.view c.set_word.new.arena).words in
     let R : Segments = new.words in
     let k : ℕ = c.in-Ok.segment in
     let q : ℕ = c.in-Ok.pad in

@@ -25,7 +25,7 @@ pub returns-in-Some-clause-made : goal.returns-in-Some-clause-made
 returns-in-Some-clause-made g c =
     let S : Segments = (g.A.BuilderArena.view c.args.arena.now).words in
     let T : Segments = (g.A.BuilderArena.view c.allocate.new.self).words in
-    let R : Segments = (g.A.BuilderArena.view c.set_word.new.self).words in
+    let R : Segments = (g.A.BuilderArena.view c.set_word.new.arena).words in
     let id : ℕ = c.args.id in
     let n : ℕ = c.args.amount in
     let x : ℕ = c.pointer_to-word.result.0 in
@@ -80,7 +80,7 @@ far_allocates r c shape n full x = record {
 
 pub returns-in-Some-clause-memory : goal.returns-in-Some-clause-memory
 returns-in-Some-clause-memory g c =
-    near_allocates (g.A.BuilderArena.view c.args.arena.now) (g.A.BuilderArena.view c.allocate.new.self) (g.A.BuilderArena.view c.set_word.new.self) c.args.id c.args.at c.args.amount c.pointer_to-word.result.0 _
+    near_allocates (g.A.BuilderArena.view c.args.arena.now) (g.A.BuilderArena.view c.allocate.new.self) (g.A.BuilderArena.view c.set_word.new.arena) c.args.id c.args.at c.args.amount c.pointer_to-word.result.0 _
     c.requires.place (c.in-Some.ensures.exactly.0 refl) c.in-Some.ensures.taken.1 c.set_word.ensures
 
 too_few : {m n : ℕ} → m < n → n ≤ m → ⊥

@@ -21,7 +21,7 @@ zero_object-returns-then-is_null-clause-zeroes g t c =
 pub zero_object-zero_landed-requires : goal.zero_object-zero_landed-requires
 zero_object-zero_landed-requires g t c κs within =
     let S : Segments = (g.A.BuilderArena.view c.args.arena.now).words in
-    let R : Segments = (g.A.BuilderArena.view c.set_word.new.self).words in
+    let R : Segments = (g.A.BuilderArena.view c.set_word.new.arena).words in
     let some : word_at S c.args.id c.args.at ≢ 0 = search rules in
     let w = word_zeroed S R c.args.id c.args.at c.requires (ap words_in c.set_word.ensures) in
     let less : suc (nonzeros R) ≡ nonzeros S = w.2 some in
@@ -30,7 +30,7 @@ zero_object-zero_landed-requires g t c κs within =
 pub zero_object-returns-in-Some-clause-zeroes : goal.zero_object-returns-in-Some-clause-zeroes
 zero_object-returns-in-Some-clause-zeroes g t c =
     let S : Segments = (g.A.BuilderArena.view c.args.arena.now).words in
-    let R : Segments = (g.A.BuilderArena.view c.set_word.new.self).words in
+    let R : Segments = (g.A.BuilderArena.view c.set_word.new.arena).words in
     let some : word_at S c.args.id c.args.at ≢ 0 = search rules in
     let goes : (a : Target) → leads S c.args.id c.args.at ≡ Some a → Some (target_of c.in-Some.landing) ≡ Some a = λ a e. rw c.in-Some.is at (c.follow-landing.ensures a e) in
     let first = word_zeroed S R c.args.id c.args.at c.requires (ap words_in c.set_word.ensures) in
@@ -38,8 +38,8 @@ zero_object-returns-in-Some-clause-zeroes g t c =
       zeroed = λ u a. object_done S R (g.A.BuilderArena.view c.zero_landed.new.arena).words (g.A.BuilderArena.view c.zero_pads.new.arena).words c.args.id c.args.at u (target_of c.in-Some.landing) some goes
           first.0 c.zero_landed.ensures.zeroed (rw c.get_word.ensures at c.zero_pads.ensures.zeroed) a;
       pruned = pruned_again _ _ _ first.1 (pruned_again _ _ _ c.zero_landed.ensures.pruned c.zero_pads.ensures.pruned);
-      limits = limits_again (g.A.BuilderArena.view c.args.arena.now) (g.A.BuilderArena.view c.set_word.new.self) (g.A.BuilderArena.view c.zero_pads.new.arena) (limits_written (g.A.BuilderArena.view c.args.arena.now) (g.A.BuilderArena.view c.set_word.new.self) _ c.set_word.ensures)
-          (limits_again (g.A.BuilderArena.view c.set_word.new.self) (g.A.BuilderArena.view c.zero_landed.new.arena) (g.A.BuilderArena.view c.zero_pads.new.arena) c.zero_landed.ensures.limits c.zero_pads.ensures.limits);
+      limits = limits_again (g.A.BuilderArena.view c.args.arena.now) (g.A.BuilderArena.view c.set_word.new.arena) (g.A.BuilderArena.view c.zero_pads.new.arena) (limits_written (g.A.BuilderArena.view c.args.arena.now) (g.A.BuilderArena.view c.set_word.new.arena) _ c.set_word.ensures)
+          (limits_again (g.A.BuilderArena.view c.set_word.new.arena) (g.A.BuilderArena.view c.zero_landed.new.arena) (g.A.BuilderArena.view c.zero_pads.new.arena) c.zero_landed.ensures.limits c.zero_pads.ensures.limits);
     }
 
 pub zero_object-returns-in-None-clause-zeroes : goal.zero_object-returns-in-None-clause-zeroes
@@ -49,22 +49,22 @@ zero_object-returns-in-None-clause-zeroes g t c =
     let goes : (a : Target) → leads S c.args.id c.args.at ≡ Some a → None ≡ Some a = λ a e. rw c.in-None.is at (c.follow-landing.ensures a e) in
     record {
       zeroed = λ u a. absurd (nowhere_apart S c.args.id c.args.at u some goes a);
-      pruned = (word_zeroed S (g.A.BuilderArena.view c.set_word.new.self).words c.args.id c.args.at c.requires (ap words_in c.set_word.ensures)).1;
-      limits = limits_written (g.A.BuilderArena.view c.args.arena.now) (g.A.BuilderArena.view c.set_word.new.self) _ c.set_word.ensures;
+      pruned = (word_zeroed S (g.A.BuilderArena.view c.set_word.new.arena).words c.args.id c.args.at c.requires (ap words_in c.set_word.ensures)).1;
+      limits = limits_written (g.A.BuilderArena.view c.args.arena.now) (g.A.BuilderArena.view c.set_word.new.arena) _ c.set_word.ensures;
     }
 
 -- The pointer is zero once it was written, and stays zero.
 pub zero_object-returns-in-Some-clause-null : goal.zero_object-returns-in-Some-clause-null
 zero_object-returns-in-Some-clause-null g t c =
     let S : Segments = (g.A.BuilderArena.view c.args.arena.now).words in
-    let R : Segments = (g.A.BuilderArena.view c.set_word.new.self).words in
+    let R : Segments = (g.A.BuilderArena.view c.set_word.new.arena).words in
     let first : word_at R c.args.id c.args.at ≡ 0 = (word_zeroed S R c.args.id c.args.at c.requires (ap words_in c.set_word.ensures)).0.zero c.args.id c.args.at (here_once c.args.id c.args.at) in
     zero_stays R _ c.args.id c.args.at (pruned_again _ _ _ c.zero_landed.ensures.pruned c.zero_pads.ensures.pruned) first
 
 pub zero_object-returns-in-None-clause-null : goal.zero_object-returns-in-None-clause-null
 zero_object-returns-in-None-clause-null g t c =
     let S : Segments = (g.A.BuilderArena.view c.args.arena.now).words in
-    let R : Segments = (g.A.BuilderArena.view c.set_word.new.self).words in
+    let R : Segments = (g.A.BuilderArena.view c.set_word.new.arena).words in
     (word_zeroed S R c.args.id c.args.at c.requires (ap words_in c.set_word.ensures)).0.zero c.args.id c.args.at (here_once c.args.id c.args.at)
 
 pub zero_landed-returns-in-Struct : goal.zero_landed-returns-in-Struct

@@ -28,7 +28,7 @@ use Rattle.capnp_widening.proofs.moving.move_pointer.Goals as goal
 pub returns-then-not-is_positional-clause-moved : goal.returns-then-not-is_positional-clause-moved
 returns-then-not-is_positional-clause-moved g c =
     let S : Segments = (g.A.BuilderArena.view c.args.arena.now).words in
-    let R : Segments = (g.A.BuilderArena.view c.set_word.new.self).words in
+    let R : Segments = (g.A.BuilderArena.view c.set_word.new.arena).words in
     let x : ℕ = c.word_of-word.result.0 in
     let is : x ≡ word_at S c.args.from.segment c.args.from.at = c.word_of-word.ensures in
     let some : x ≢ 0 = λ e. search rules in
@@ -66,7 +66,7 @@ returns-in-None-clause-moved g c =
 
 pub returns-then-not-is_positional-clause-only : goal.returns-then-not-is_positional-clause-only
 returns-then-not-is_positional-clause-only g c = λ x y e l.
-    (word_put (g.A.BuilderArena.view c.args.arena.now).words (g.A.BuilderArena.view c.set_word.new.self).words c.args.to.segment c.args.to.at c.word_of-word.result.0 c.requires.to (ap words_in c.set_word.ensures)).kept x y e
+    (word_put (g.A.BuilderArena.view c.args.arena.now).words (g.A.BuilderArena.view c.set_word.new.arena).words c.args.to.segment c.args.to.at c.word_of-word.result.0 c.requires.to (ap words_in c.set_word.ensures)).kept x y e
 
 pub returns-in-Some-clause-only : goal.returns-in-Some-clause-only
 returns-in-Some-clause-only g c = on_made_so c.point_to.result _ _ c.point_to.ensures.points (λ w. λ x y e l. w.kept x y e l)
@@ -77,9 +77,9 @@ returns-then-not-is_positional-clause-memory g c = record {
   memory = search rules;
   full = search rules;
   refused = search rules;
-  longer = (let put = word_put (g.A.BuilderArena.view c.args.arena.now).words (g.A.BuilderArena.view c.set_word.new.self).words c.args.to.segment c.args.to.at c.word_of-word.result.0 c.requires.to (ap words_in c.set_word.ensures) in
+  longer = (let put = word_put (g.A.BuilderArena.view c.args.arena.now).words (g.A.BuilderArena.view c.set_word.new.arena).words c.args.to.segment c.args.to.at c.word_of-word.result.0 c.requires.to (ap words_in c.set_word.ensures) in
       record { segments = le_of_eq (sym put.segments); words = λ v. le_of_eq (sym (put.words v)) });
-  few = (omega (arith, words_put (g.A.BuilderArena.view c.args.arena.now).words (g.A.BuilderArena.view c.set_word.new.self).words c.args.to.segment c.args.to.at c.word_of-word.result.0 (ap words_in c.set_word.ensures)));
+  few = (omega (arith, words_put (g.A.BuilderArena.view c.args.arena.now).words (g.A.BuilderArena.view c.set_word.new.arena).words c.args.to.segment c.args.to.at c.word_of-word.result.0 (ap words_in c.set_word.ensures)));
 }
 
 -- Null stays null.
@@ -92,7 +92,7 @@ returns-then-is_null-clause-written g c =
 pub returns-then-not-is_positional-clause-written : goal.returns-then-not-is_positional-clause-written
 returns-then-not-is_positional-clause-written g c =
     let v : View = g.A.BuilderArena.view c.args.arena.now in
-    let R : View = g.A.BuilderArena.view c.set_word.new.self in
+    let R : View = g.A.BuilderArena.view c.set_word.new.arena in
     let x : ℕ = c.word_of-word.result.0 in
     let is : x ≡ word_at v.words c.args.from.segment c.args.from.at = c.word_of-word.ensures in
     let other : (kind x < 2 → ⊥) = λ e. search rules in
@@ -137,7 +137,7 @@ returns-then-is_null-clause-apart g c =
 pub returns-then-not-is_positional-clause-apart : goal.returns-then-not-is_positional-clause-apart
 returns-then-not-is_positional-clause-apart g c =
     let v : View = g.A.BuilderArena.view c.args.arena.now in
-    let R : View = g.A.BuilderArena.view c.set_word.new.self in
+    let R : View = g.A.BuilderArena.view c.set_word.new.arena in
     let x : ℕ = c.word_of-word.result.0 in
     let put = word_put v.words R.words c.args.to.segment c.args.to.at x c.requires.to (ap words_in c.set_word.ensures) in
     let only = put_writes v R c.args.to.segment c.args.to.at x c.requires.to c.set_word.ensures in

@@ -27,7 +27,7 @@ use Rattle.capnp_widening.proofs.moving.point_to.Goals as goal
 pub returns-then-object-to-clause-points : goal.returns-then-object-to-clause-points
 returns-then-object-to-clause-points g c =
     let S : Segments = (g.A.BuilderArena.view c.args.arena.now).words in
-    let R : Segments = (g.A.BuilderArena.view c.set_word.new.self).words in
+    let R : Segments = (g.A.BuilderArena.view c.set_word.new.arena).words in
     let v : ℕ = c.args.to.segment in
     let q : ℕ = c.args.to.at in
     let b : ℕ = c.args.object.at in
@@ -58,8 +58,8 @@ pub returns-in-Some-clause-points : goal.returns-in-Some-clause-points
 returns-in-Some-clause-points g c =
     let S : Segments = (g.A.BuilderArena.view c.args.arena.now).words in
     let T : Segments = (g.A.BuilderArena.view c.allocate.new.self).words in
-    let U : Segments = (g.A.BuilderArena.view c.set_word-in-Some.new.self).words in
-    let R : Segments = (g.A.BuilderArena.view c.set_word-in-Some-2.new.self).words in
+    let U : Segments = (g.A.BuilderArena.view c.set_word-in-Some.new.arena).words in
+    let R : Segments = (g.A.BuilderArena.view c.set_word-in-Some-2.new.arena).words in
     let v : ℕ = c.args.object.segment in
     let b : ℕ = c.args.object.at in
     let q : ℕ = c.in-Some.pad in
@@ -100,7 +100,7 @@ pub set_word-requires-in-None-3 : goal.set_word-requires-in-None-3
 set_word-requires-in-None-3 g c =
     let S : Segments = (g.A.BuilderArena.view c.args.arena.now).words in
     let T : Segments = (g.A.BuilderArena.view c.allocate_anywhere.new.self).words in
-    let U : Segments = (g.A.BuilderArena.view c.set_word-in-None.new.self).words in
+    let U : Segments = (g.A.BuilderArena.view c.set_word-in-None.new.arena).words in
     let k : ℕ = c.in_ok-segment-in-None.segment in
     let q : ℕ = c.in_ok-segment-in-None.pad in
     let same : (g.A.BuilderArena.view c.allocate.new.self).words ≡ S = ap words_in (c.in-None.ensures.none refl) in
@@ -113,9 +113,9 @@ pub returns-in_ok-segment-in-None-clause-points : goal.returns-in_ok-segment-in-
 returns-in_ok-segment-in-None-clause-points g c =
     let S : Segments = (g.A.BuilderArena.view c.args.arena.now).words in
     let T : Segments = (g.A.BuilderArena.view c.allocate_anywhere.new.self).words in
-    let U : Segments = (g.A.BuilderArena.view c.set_word-in-None.new.self).words in
-    let V : Segments = (g.A.BuilderArena.view c.set_word-in-None-2.new.self).words in
-    let R : Segments = (g.A.BuilderArena.view c.set_word-in-None-3.new.self).words in
+    let U : Segments = (g.A.BuilderArena.view c.set_word-in-None.new.arena).words in
+    let V : Segments = (g.A.BuilderArena.view c.set_word-in-None-2.new.arena).words in
+    let R : Segments = (g.A.BuilderArena.view c.set_word-in-None-3.new.arena).words in
     let v : ℕ = c.args.object.segment in
     let b : ℕ = c.args.object.at in
     let k : ℕ = c.in_ok-segment-in-None.segment in
@@ -137,7 +137,7 @@ pub returns-in_ok-segment-in-None-clause-memory : goal.returns-in_ok-segment-in-
 returns-in_ok-segment-in-None-clause-memory g c = record {
   granted = (let old : View = g.A.BuilderArena.view c.args.arena.now in
       let mid : View = g.A.BuilderArena.view c.allocate_anywhere.new.self in
-      let new : View = g.A.BuilderArena.view c.set_word-in-None-3.new.self in
+      let new : View = g.A.BuilderArena.view c.set_word-in-None-3.new.arena in
       let k : ℕ = c.in_ok-segment-in-None.segment in
       let q : ℕ = c.in_ok-segment-in-None.pad in
       let before : g.A.BuilderArena.view c.allocate.new.self ≡ old = c.in-None.ensures.none refl in
@@ -163,9 +163,9 @@ returns-in_ok-segment-in-None-clause-memory g c = record {
   longer = ((returns-in_ok-segment-in-None-clause-points g c).grows);
   few = (let S : Segments = (g.A.BuilderArena.view c.args.arena.now).words in
       let T : Segments = (g.A.BuilderArena.view c.allocate_anywhere.new.self).words in
-      let U : Segments = (g.A.BuilderArena.view c.set_word-in-None.new.self).words in
-      let V : Segments = (g.A.BuilderArena.view c.set_word-in-None-2.new.self).words in
-      let R : Segments = (g.A.BuilderArena.view c.set_word-in-None-3.new.self).words in
+      let U : Segments = (g.A.BuilderArena.view c.set_word-in-None.new.arena).words in
+      let V : Segments = (g.A.BuilderArena.view c.set_word-in-None-2.new.arena).words in
+      let R : Segments = (g.A.BuilderArena.view c.set_word-in-None-3.new.arena).words in
       let k : ℕ = c.in_ok-segment-in-None.segment in
       let q : ℕ = c.in_ok-segment-in-None.pad in
       let same : (g.A.BuilderArena.view c.allocate.new.self).words ≡ S = ap words_in (c.in-None.ensures.none refl) in
@@ -196,20 +196,20 @@ returns-in_err-segment-in-None-clause-memory g c = record {
 pub returns-then-object-to-clause-memory : goal.returns-then-object-to-clause-memory
 returns-then-object-to-clause-memory g c = record {
   granted = (let old : View = g.A.BuilderArena.view c.args.arena.now in
-      keeps_written old (g.A.BuilderArena.view c.set_word.new.self)
+      keeps_written old (g.A.BuilderArena.view c.set_word.new.arena)
       (with_word old.words c.args.to.segment c.args.to.at c.near_word-word.result.0) c.set_word.ensures);
   memory = search rules;
   full = search rules;
   refused = search rules;
   longer = ((returns-then-object-to-clause-points g c).grows);
   few = (let S : Segments = (g.A.BuilderArena.view c.args.arena.now).words in
-      omega (arith, words_put S (g.A.BuilderArena.view c.set_word.new.self).words c.args.to.segment c.args.to.at c.near_word-word.result.0 (ap words_in c.set_word.ensures)));
+      omega (arith, words_put S (g.A.BuilderArena.view c.set_word.new.arena).words c.args.to.segment c.args.to.at c.near_word-word.result.0 (ap words_in c.set_word.ensures)));
 }
 
 pub returns-in-Some-clause-memory : goal.returns-in-Some-clause-memory
 returns-in-Some-clause-memory g c = record {
   granted = (let old : View = g.A.BuilderArena.view c.args.arena.now in
-      let new : View = g.A.BuilderArena.view c.set_word-in-Some-2.new.self in
+      let new : View = g.A.BuilderArena.view c.set_word-in-Some-2.new.arena in
       let T : Segments = extended old.words c.args.object.segment (replicate 1 0) in
       let U : Segments = with_word T c.args.object.segment c.in-Some.pad c.pointer_to-word.result.0 in
       let W : Segments = with_word U c.args.to.segment c.args.to.at c.new_far-far.result.0 in
@@ -227,8 +227,8 @@ returns-in-Some-clause-memory g c = record {
   longer = ((returns-in-Some-clause-points g c).grows);
   few = (let S : Segments = (g.A.BuilderArena.view c.args.arena.now).words in
       let T : Segments = (g.A.BuilderArena.view c.allocate.new.self).words in
-      let U : Segments = (g.A.BuilderArena.view c.set_word-in-Some.new.self).words in
-      let R : Segments = (g.A.BuilderArena.view c.set_word-in-Some-2.new.self).words in
+      let U : Segments = (g.A.BuilderArena.view c.set_word-in-Some.new.arena).words in
+      let R : Segments = (g.A.BuilderArena.view c.set_word-in-Some-2.new.arena).words in
       let v : ℕ = c.args.object.segment in
       let (at, made) = c.in-Some.ensures.taken in
       let taken : T ≡ extended S v (replicate 1 0) = ap words_in made in
@@ -254,13 +254,13 @@ returns-in_err-segment-in-None-clause-fits g c = λ h.
 pub returns-then-object-to-clause-written : goal.returns-then-object-to-clause-written
 returns-then-object-to-clause-written g c =
     let here : c.args.object.segment ≡ c.args.to.segment = search rules in
-    λ x its some. (near_written (g.A.BuilderArena.view c.args.arena.now) (g.A.BuilderArena.view c.set_word.new.self) c.args.shape c.args.object.segment c.args.to.segment c.args.to.at c.near_word-word.result.0 here c.requires.there
+    λ x its some. (near_written (g.A.BuilderArena.view c.args.arena.now) (g.A.BuilderArena.view c.set_word.new.arena) c.args.shape c.args.object.segment c.args.to.segment c.args.to.at c.near_word-word.result.0 here c.requires.there
     (g.met.A.BuilderArena.within c.args.arena.now c.args.object.segment) c.requires.to c.set_word.ensures c.near_word-word.ensures.shape c.near_word-word.ensures.empty x its some).form
 
 pub returns-then-object-to-clause-taken : goal.returns-then-object-to-clause-taken
 returns-then-object-to-clause-taken g c =
     let here : c.args.object.segment ≡ c.args.to.segment = search rules in
-    λ x its some. (near_written (g.A.BuilderArena.view c.args.arena.now) (g.A.BuilderArena.view c.set_word.new.self) c.args.shape c.args.object.segment c.args.to.segment c.args.to.at c.near_word-word.result.0 here c.requires.there
+    λ x its some. (near_written (g.A.BuilderArena.view c.args.arena.now) (g.A.BuilderArena.view c.set_word.new.arena) c.args.shape c.args.object.segment c.args.to.segment c.args.to.at c.near_word-word.result.0 here c.requires.there
     (g.met.A.BuilderArena.within c.args.arena.now c.args.object.segment) c.requires.to c.set_word.ensures c.near_word-word.ensures.shape c.near_word-word.ensures.empty x its some).taken
 
 -- By a pad at the end of that segment.
@@ -268,8 +268,8 @@ pub returns-in-Some-clause-written : goal.returns-in-Some-clause-written
 returns-in-Some-clause-written g c = λ x its some.
     (let a : View = g.A.BuilderArena.view c.args.arena.now in
     let t : View = g.A.BuilderArena.view c.allocate.new.self in
-    let u : View = g.A.BuilderArena.view c.set_word-in-Some.new.self in
-    let b : View = g.A.BuilderArena.view c.set_word-in-Some-2.new.self in
+    let u : View = g.A.BuilderArena.view c.set_word-in-Some.new.arena in
+    let b : View = g.A.BuilderArena.view c.set_word-in-Some-2.new.arena in
     let v : ℕ = c.args.object.segment in
     let other : v ≢ c.args.to.segment = λ e. search rules in
     let (at, made) = c.in-Some.ensures.taken in
@@ -285,8 +285,8 @@ pub returns-in-Some-clause-taken : goal.returns-in-Some-clause-taken
 returns-in-Some-clause-taken g c = λ x its some.
     (let a : View = g.A.BuilderArena.view c.args.arena.now in
     let t : View = g.A.BuilderArena.view c.allocate.new.self in
-    let u : View = g.A.BuilderArena.view c.set_word-in-Some.new.self in
-    let b : View = g.A.BuilderArena.view c.set_word-in-Some-2.new.self in
+    let u : View = g.A.BuilderArena.view c.set_word-in-Some.new.arena in
+    let b : View = g.A.BuilderArena.view c.set_word-in-Some-2.new.arena in
     let v : ℕ = c.args.object.segment in
     let other : v ≢ c.args.to.segment = λ e. search rules in
     let (at, made) = c.in-Some.ensures.taken in
@@ -303,9 +303,9 @@ pub returns-in_ok-segment-in-None-clause-written : goal.returns-in_ok-segment-in
 returns-in_ok-segment-in-None-clause-written g c = λ x its some.
     (let a : View = g.A.BuilderArena.view c.args.arena.now in
     let t : View = g.A.BuilderArena.view c.allocate_anywhere.new.self in
-    let u : View = g.A.BuilderArena.view c.set_word-in-None.new.self in
-    let w : View = g.A.BuilderArena.view c.set_word-in-None-2.new.self in
-    let b : View = g.A.BuilderArena.view c.set_word-in-None-3.new.self in
+    let u : View = g.A.BuilderArena.view c.set_word-in-None.new.arena in
+    let w : View = g.A.BuilderArena.view c.set_word-in-None-2.new.arena in
+    let b : View = g.A.BuilderArena.view c.set_word-in-None-3.new.arena in
     let k : ℕ = c.in_ok-segment-in-None.segment in
     let q : ℕ = c.in_ok-segment-in-None.pad in
     let other : c.args.object.segment ≢ c.args.to.segment = λ e. search rules in
@@ -324,9 +324,9 @@ pub returns-in_ok-segment-in-None-clause-taken : goal.returns-in_ok-segment-in-N
 returns-in_ok-segment-in-None-clause-taken g c = λ x its some.
     (let a : View = g.A.BuilderArena.view c.args.arena.now in
     let t : View = g.A.BuilderArena.view c.allocate_anywhere.new.self in
-    let u : View = g.A.BuilderArena.view c.set_word-in-None.new.self in
-    let w : View = g.A.BuilderArena.view c.set_word-in-None-2.new.self in
-    let b : View = g.A.BuilderArena.view c.set_word-in-None-3.new.self in
+    let u : View = g.A.BuilderArena.view c.set_word-in-None.new.arena in
+    let w : View = g.A.BuilderArena.view c.set_word-in-None-2.new.arena in
+    let b : View = g.A.BuilderArena.view c.set_word-in-None-3.new.arena in
     let k : ℕ = c.in_ok-segment-in-None.segment in
     let q : ℕ = c.in_ok-segment-in-None.pad in
     let other : c.args.object.segment ≢ c.args.to.segment = λ e. search rules in
@@ -345,7 +345,7 @@ returns-in_ok-segment-in-None-clause-taken g c = λ x its some.
 pub returns-then-object-to-clause-pads : goal.returns-then-object-to-clause-pads
 returns-then-object-to-clause-pads g c =
     let S : Segments = (g.A.BuilderArena.view c.args.arena.now).words in
-    let R : Segments = (g.A.BuilderArena.view c.set_word.new.self).words in
+    let R : Segments = (g.A.BuilderArena.view c.set_word.new.arena).words in
     let x : ℕ = c.near_word-word.result.0 in
     let put = word_put S R c.args.to.segment c.args.to.at x c.requires.to (ap words_in c.set_word.ensures) in
     no_two_pads R x _ put.here (λ far double. shape_near c.args.shape x c.near_word-word.ensures.shape far)
@@ -354,8 +354,8 @@ pub returns-in-Some-clause-pads : goal.returns-in-Some-clause-pads
 returns-in-Some-clause-pads g c =
     let S : Segments = (g.A.BuilderArena.view c.args.arena.now).words in
     let T : Segments = (g.A.BuilderArena.view c.allocate.new.self).words in
-    let U : Segments = (g.A.BuilderArena.view c.set_word-in-Some.new.self).words in
-    let R : Segments = (g.A.BuilderArena.view c.set_word-in-Some-2.new.self).words in
+    let U : Segments = (g.A.BuilderArena.view c.set_word-in-Some.new.arena).words in
+    let R : Segments = (g.A.BuilderArena.view c.set_word-in-Some-2.new.arena).words in
     let v : ℕ = c.args.object.segment in
     let q : ℕ = c.in-Some.pad in
     let f : ℕ = c.new_far-far.result.0 in
@@ -370,9 +370,9 @@ pub returns-in_ok-segment-in-None-clause-pads : goal.returns-in_ok-segment-in-No
 returns-in_ok-segment-in-None-clause-pads g c =
     let S : Segments = (g.A.BuilderArena.view c.args.arena.now).words in
     let T : Segments = (g.A.BuilderArena.view c.allocate_anywhere.new.self).words in
-    let U : Segments = (g.A.BuilderArena.view c.set_word-in-None.new.self).words in
-    let V : Segments = (g.A.BuilderArena.view c.set_word-in-None-2.new.self).words in
-    let R : Segments = (g.A.BuilderArena.view c.set_word-in-None-3.new.self).words in
+    let U : Segments = (g.A.BuilderArena.view c.set_word-in-None.new.arena).words in
+    let V : Segments = (g.A.BuilderArena.view c.set_word-in-None-2.new.arena).words in
+    let R : Segments = (g.A.BuilderArena.view c.set_word-in-None-3.new.arena).words in
     let k : ℕ = c.in_ok-segment-in-None.segment in
     let q : ℕ = c.in_ok-segment-in-None.pad in
     let f : ℕ = c.new_far-start.result.0 in

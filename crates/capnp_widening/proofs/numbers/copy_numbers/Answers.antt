@@ -41,7 +41,7 @@ pub loop-i-preserved : goal.loop-i-preserved
 loop-i-preserved g c =
     let S : Segments = (g.A.BuilderArena.view c.args.arena.now).words in
     let M : Segments = (g.A.BuilderArena.view c.loop-i.arena).words in
-    let R : Segments = (g.A.BuilderArena.view c.set_word.new.self).words in
+    let R : Segments = (g.A.BuilderArena.view c.set_word.new.arena).words in
     let width : ℕ = element_bits (size_number c.args.old.size) in
     let i : ℕ = c.loop-i.i in
     let inner = in_words (size_number c.args.old.size) i c.args.old.count c.requires.kind.0 c.requires.kind.1 c.loop-i-test.true in
@@ -54,8 +54,8 @@ loop-i-preserved g c =
           (rw c.loop-i.invariant.place_at at (ap words_in c.set_word.ensures)) c.number_at-number.ensures;
       place_at = next_row c.args.to.at c.args.step i c.loop-i.place c.loop-i.invariant.place_at;
       limits = limits_again (g.A.BuilderArena.view c.args.arena.now) (g.A.BuilderArena.view c.loop-i.arena)
-          (g.A.BuilderArena.view c.set_word.new.self) c.loop-i.invariant.limits
-          (limits_written (g.A.BuilderArena.view c.loop-i.arena) (g.A.BuilderArena.view c.set_word.new.self) _
+          (g.A.BuilderArena.view c.set_word.new.arena) c.loop-i.invariant.limits
+          (limits_written (g.A.BuilderArena.view c.loop-i.arena) (g.A.BuilderArena.view c.set_word.new.arena) _
           c.set_word.ensures);
     }
 

@@ -16,7 +16,7 @@ use Rattle.capnp_widening.proofs.remaking.begin_list.Goals as goal
 pub returns-clause-begun : goal.returns-clause-begun
 returns-clause-begun g c =
     let T : Segments = (g.A.BuilderArena.view c.take.new.arena).words in
-    let R : Segments = (g.A.BuilderArena.view c.set_word.new.self).words in
+    let R : Segments = (g.A.BuilderArena.view c.set_word.new.arena).words in
     let room = rw c.total.ensures at c.in_ok-room.ensures.taken in
     let x : ℕ = c.new_tag-tag.result.0 in
     let tag : IsTag x c.args.count c.args.size.data_words c.args.size.pointers = record { is_struct = c.new_tag-tag.ensures.kind_of; counts = c.new_tag-tag.ensures.bits_of; data_of = c.new_tag-tag.ensures.data_of; pointers = c.new_tag-tag.ensures.pointers_of } in
@@ -45,7 +45,7 @@ pub returns-clause-room : goal.returns-clause-room
 returns-clause-room g c = record {
   words = (let S : View = g.A.BuilderArena.view c.args.arena.now in
       let T : View = g.A.BuilderArena.view c.take.new.arena in
-      let R : View = g.A.BuilderArena.view c.set_word.new.self in
+      let R : View = g.A.BuilderArena.view c.set_word.new.arena in
       let room = rw c.total.ensures at c.in_ok-room.ensures.taken in
       let inside : c.in_ok-room.room.at + c.in_ok-room.room.pads < length (segment T.words c.in_ok-room.room.segment) = omega (arith, room.0.room) in
       let n : ℕ = 1 + c.args.count * (c.args.size.data_words + c.args.size.pointers) in
@@ -57,13 +57,13 @@ returns-clause-room g c = record {
   full = search rules;
   refused = search rules;
   few = (let T : Segments = (g.A.BuilderArena.view c.take.new.arena).words in
-      let R : Segments = (g.A.BuilderArena.view c.set_word.new.self).words in
+      let R : Segments = (g.A.BuilderArena.view c.set_word.new.arena).words in
       let taken = rw c.total.ensures at c.take.ensures.room.few in
       omega (arith, taken, words_put T R c.in_ok-room.room.segment (c.in_ok-room.room.at + c.in_ok-room.room.pads) c.new_tag-tag.result.0 (ap words_in c.set_word.ensures)));
   fits = (λ k n h.
       (let S : View = g.A.BuilderArena.view c.args.arena.now in
       let T : View = g.A.BuilderArena.view c.take.new.arena in
-      let R : View = g.A.BuilderArena.view c.set_word.new.self in
+      let R : View = g.A.BuilderArena.view c.set_word.new.arena in
       let room = rw c.total.ensures at c.in_ok-room.ensures.taken in
       let inside : c.in_ok-room.room.at + c.in_ok-room.room.pads < length (segment T.words c.in_ok-room.room.segment) = omega (arith, room.0.room) in
       let put = put_writes T R c.in_ok-room.room.segment (c.in_ok-room.room.at + c.in_ok-room.room.pads) c.new_tag-tag.result.0 inside c.set_word.ensures in

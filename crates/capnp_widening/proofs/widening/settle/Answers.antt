@@ -14,7 +14,7 @@ use Rattle.capnp_widening.proofs.widening.settle.Goals as goal
 pub returns-then-room-eq0-clause-settled : goal.returns-then-room-eq0-clause-settled
 returns-then-room-eq0-clause-settled g c =
     let S : Segments = (g.A.BuilderArena.view c.args.arena.now).words in
-    let R : Segments = (g.A.BuilderArena.view c.set_word.new.self).words in
+    let R : Segments = (g.A.BuilderArena.view c.set_word.new.arena).words in
     let id : ℕ = c.args.id in
     let at : ℕ = c.args.at in
     let b : ℕ = c.args.room.at in
@@ -40,8 +40,8 @@ returns-then-room-eq0-clause-settled g c =
 pub returns-clause-settled : goal.returns-clause-settled
 returns-clause-settled g c =
     let S : Segments = (g.A.BuilderArena.view c.args.arena.now).words in
-    let U : Segments = (g.A.BuilderArena.view c.set_word-2.new.self).words in
-    let R : Segments = (g.A.BuilderArena.view c.set_word-3.new.self).words in
+    let U : Segments = (g.A.BuilderArena.view c.set_word-2.new.arena).words in
+    let R : Segments = (g.A.BuilderArena.view c.set_word-3.new.arena).words in
     let v : ℕ = c.args.room.segment in
     let r : ℕ = c.args.room.at in
     let x : ℕ = c.pointer_to-word-2.result.0 in

@@ -7,10 +7,10 @@ use Rattle.capnp_copies.proofs.copy.elements.put_words.Goals as goal
 
 pub returns-clause-taken : goal.returns-clause-taken
 returns-clause-taken g c =
-    none_written (g.A.BuilderArena.view c.args.arena.now) (g.A.BuilderArena.view c.copy_words.new.self) c.args.id c.args.at (words_of c.args.words.now) c.requires.inside c.copy_words.ensures
+    none_written (g.A.BuilderArena.view c.args.arena.now) (g.A.BuilderArena.view c.copy_words.new.arena) c.args.id c.args.at (words_of c.args.words.now) c.requires.inside c.copy_words.ensures
 
 pub returns-clause-behind : goal.returns-clause-behind
 returns-clause-behind g c = λ i l.
-    (let over : WrittenOver (g.A.BuilderArena.view c.args.arena.now).words (g.A.BuilderArena.view c.copy_words.new.self).words c.args.id c.args.at (words_of c.args.words.now) =
+    (let over : WrittenOver (g.A.BuilderArena.view c.args.arena.now).words (g.A.BuilderArena.view c.copy_words.new.arena).words c.args.id c.args.at (words_of c.args.words.now) =
     record { some = search rules; inside = c.requires.inside; written = ap (λ (v : View). v.words) c.copy_words.ensures } in
     behind_over i over l)

@@ -1,48 +1,62 @@
-use Rattle.std.proofs.Common.{◌+◌, ◌<◌, ◌≤◌, length, sym, ap, ◌∙◌, subst, arith}
-use Rattle.capnp_format.specs.Bytes.{message}
+use Rattle.std.proofs.Common.{◌+◌, ◌<◌, ◌≤◌, length, refl, sym, ap, ◌∙◌, subst, arith}
+use Rattle.capnp_format.specs.Bytes.{message, words_of}
 use Rattle.capnp_format.specs.Segments.{segment, words_at}
-use Rattle.capnp_arena_traits.specs.Written.{with_words}
-use Rattle.capnp_arena.specs.Kept.{arena_rows}
-use Rattle.capnp_arena.specs.Row.{shown}
-use Rattle.capnp_arena.specs.Rows.{all}
+use Rattle.capnp_format.proofs.WordsOf.{words}
+use Rattle.capnp_arena_traits.specs.View.{View, view_of}
+use Rattle.capnp_arena_traits.specs.Written.{with_copied, with_words}
+use Rattle.capnp_arena_traits.proofs.WordsLent.{lent_written, words_lent}
+use Rattle.capnp_arena.specs.Kept.{apart_with_bytes, arena_rows, listed_with_bytes}
+use Rattle.capnp_arena.specs.RoomLemmas.{same_room}
+use Rattle.capnp_arena.specs.Row.{capacity_at, shown}
+use Rattle.capnp_arena.specs.WithBytesLemmas.{kept_capacity, kept_shown}
 use Rattle.capnp_arena.proofs.KeptLemmas.{of_apart, of_listed, written_apart, written_listed}
+use Rattle.capnp_arena.proofs.RowLemmas.{moved_over}
 use Rattle.capnp_arena.proofs.RowsLemmas.{row_there}
 use Rattle.capnp_arena.proofs.arena.builder_arena_impl.BuilderArenaImplBuilderArena.move_words.Goals as goal
 
-pub move_words-requires-clause-row : goal.move_words-requires-clause-row
-move_words-requires-clause-row g c =
-    let seg = g.A.Segment.Segment in
-    let f = g.A.Allocator.first_in_arena in
-    let b = c.args.self.now in
-    of_apart seg (λ rows. c.args.to.segment < length rows) f b.listed b.apart (sym c.keeps_first_in_arena.ensures ∙ c.if-keeps_first_in_arena.true) (row_there seg (arena_rows seg f b.listed b.apart) c.args.to.segment c.args.to.at (omega (arith, c.requires.inside, c.if-n-eq0.false)))
-
+-- Words of one segment are moved through its bytes.
 pub move_words-requires-clause-there : goal.move_words-requires-clause-there
 move_words-requires-clause-there g c =
     let seg = g.A.Segment.Segment in
-    let f = g.A.Allocator.first_in_arena in
     let b = c.args.self.now in
-    of_apart seg (λ rows. c.args.from.at + c.args.n ≤ length (segment (message (shown seg rows)) c.args.to.segment)) f b.listed b.apart (sym c.keeps_first_in_arena.ensures ∙ c.if-keeps_first_in_arena.true) (subst (λ k. c.args.from.at + c.args.n ≤ length (segment (message (shown seg (arena_rows seg f b.listed b.apart))) k)) c.if-from-to.true c.requires.there)
+    let B = shown seg (arena_rows seg g.A.Allocator.first_in_arena b.listed b.apart) in
+    omega (arith, words_lent (message B) B c.args.to.segment c.segment_mut-bytes.result.now refl c.segment_mut-bytes.ensures.bytes, subst (λ k. c.args.from.at + c.args.n ≤ length (segment (message B) k)) c.if-from-to.true c.requires.there)
 
-pub move_words-requires-clause-inside : goal.move_words-requires-clause-inside
-move_words-requires-clause-inside g c =
+pub move_words-requires-clause-room : goal.move_words-requires-clause-room
+move_words-requires-clause-room g c =
+    let seg = g.A.Segment.Segment in
+    let b = c.args.self.now in
+    let B = shown seg (arena_rows seg g.A.Allocator.first_in_arena b.listed b.apart) in
+    omega (arith, words_lent (message B) B c.args.to.segment c.segment_mut-bytes.result.now refl c.segment_mut-bytes.ensures.bytes, c.requires.inside)
+
+pub returns-then-from-to : goal.returns-then-from-to
+returns-then-from-to g c =
     let seg = g.A.Segment.Segment in
     let f = g.A.Allocator.first_in_arena in
     let b = c.args.self.now in
-    of_apart seg (λ rows. c.args.to.at + c.args.n ≤ length (segment (message (shown seg rows)) c.args.to.segment)) f b.listed b.apart (sym c.keeps_first_in_arena.ensures ∙ c.if-keeps_first_in_arena.true) c.requires.inside
-
-pub returns-then-keeps_first_in_arena : goal.returns-then-keeps_first_in_arena
-returns-then-keeps_first_in_arena g c =
-    let seg = g.A.Segment.Segment in
-    let f = g.A.Allocator.first_in_arena in
-    let b = c.args.self.now in
-    written_apart seg (λ S. with_words S c.args.to.segment c.args.to.at (words_at S c.args.from.segment c.args.from.at c.args.n)) f b.listed b.apart c.move_words.new.self (sym c.keeps_first_in_arena.ensures ∙ c.if-keeps_first_in_arena.true) (c.move_words.ensures.words ∙ ap (λ k. with_words (message (shown seg (all seg b.apart))) c.args.to.segment c.args.to.at (words_at (message (shown seg (all seg b.apart))) k c.args.from.at c.args.n)) (sym c.if-from-to.true)) c.move_words.ensures.room
+    let id = c.args.to.segment in
+    let bs = c.segment_mut-bytes.result.now in
+    let there = c.segment_mut-bytes.ensures.bytes in
+    let ws = c.move_words.new.bytes in
+    let rows = arena_rows seg f b.listed b.apart in
+    let new_rows = arena_rows seg f (listed_with_bytes seg f b.listed id ws) (apart_with_bytes seg f b.apart id ws) in
+    let refusals = g.A.Allocator.refusals b.allocator in
+    let offers = g.A.Allocator.offers b.allocator in
+    let old : View = view_of (message (shown seg rows)) (capacity_at seg rows) refusals offers in
+    let new : View = view_of (message (shown seg new_rows)) (capacity_at seg new_rows) refusals offers in
+    let many = words_lent (message (shown seg rows)) (shown seg rows) id bs refl there in
+    let inside = subst (λ k. c.args.from.at + c.args.n ≤ length (segment (message (shown seg rows)) k)) c.if-from-to.true c.requires.there in
+    lent_written old new (shown seg rows) (shown seg new_rows) id bs ws (λ xs. with_copied xs c.args.to.at xs c.args.from.at c.args.n)
+    (same_room _ _ _ refusals offers (kept_capacity seg f b.listed b.apart id ws)) refl refl there (kept_shown seg f b.listed b.apart id bs ws there c.move_words.auto.bytes)
+    (c.move_words.ensures ∙ moved_over (words_of bs) c.args.from.at c.args.to.at c.args.n (omega (arith, words bs, many, inside)))
+    ∙ ap (λ k. record old { words = with_words old.words id c.args.to.at (words_at old.words k c.args.from.at c.args.n) }) (sym c.if-from-to.true)
 
 pub copy_across-requires-clause-rows : goal.copy_across-requires-clause-rows
 copy_across-requires-clause-rows g c =
     let seg = g.A.Segment.Segment in
     let f = g.A.Allocator.first_in_arena in
     let b = c.args.self.now in
-    (of_apart seg (λ rows. c.args.from.segment < length rows) f b.listed b.apart (sym c.keeps_first_in_arena-else-from-to.ensures ∙ c.if-keeps_first_in_arena-2.true) (row_there seg (arena_rows seg f b.listed b.apart) c.args.from.segment c.args.from.at (omega (arith, c.requires.there, c.if-n-eq0.false))), of_apart seg (λ rows. c.args.to.segment < length rows) f b.listed b.apart (sym c.keeps_first_in_arena-else-from-to.ensures ∙ c.if-keeps_first_in_arena-2.true) (row_there seg (arena_rows seg f b.listed b.apart) c.args.to.segment c.args.to.at (omega (arith, c.requires.inside, c.if-n-eq0.false))))
+    (of_apart seg (λ rows. c.args.from.segment < length rows) f b.listed b.apart (sym c.keeps_first_in_arena.ensures ∙ c.if-keeps_first_in_arena.true) (row_there seg (arena_rows seg f b.listed b.apart) c.args.from.segment c.args.from.at (omega (arith, c.requires.there, c.if-n-eq0.false))), of_apart seg (λ rows. c.args.to.segment < length rows) f b.listed b.apart (sym c.keeps_first_in_arena.ensures ∙ c.if-keeps_first_in_arena.true) (row_there seg (arena_rows seg f b.listed b.apart) c.args.to.segment c.args.to.at (omega (arith, c.requires.inside, c.if-n-eq0.false))))
 
 pub copy_across-requires-clause-apart : goal.copy_across-requires-clause-apart
 copy_across-requires-clause-apart g c =
@@ -53,38 +67,42 @@ copy_across-requires-clause-there g c =
     let seg = g.A.Segment.Segment in
     let f = g.A.Allocator.first_in_arena in
     let b = c.args.self.now in
-    of_apart seg (λ rows. c.args.from.at + c.args.n ≤ length (segment (message (shown seg rows)) c.args.from.segment)) f b.listed b.apart (sym c.keeps_first_in_arena-else-from-to.ensures ∙ c.if-keeps_first_in_arena-2.true) c.requires.there
+    of_apart seg (λ rows. c.args.from.at + c.args.n ≤ length (segment (message (shown seg rows)) c.args.from.segment)) f b.listed b.apart (sym c.keeps_first_in_arena.ensures ∙ c.if-keeps_first_in_arena.true) c.requires.there
 
 pub copy_across-requires-clause-inside : goal.copy_across-requires-clause-inside
 copy_across-requires-clause-inside g c =
     let seg = g.A.Segment.Segment in
     let f = g.A.Allocator.first_in_arena in
     let b = c.args.self.now in
-    of_apart seg (λ rows. c.args.to.at + c.args.n ≤ length (segment (message (shown seg rows)) c.args.to.segment)) f b.listed b.apart (sym c.keeps_first_in_arena-else-from-to.ensures ∙ c.if-keeps_first_in_arena-2.true) c.requires.inside
+    of_apart seg (λ rows. c.args.to.at + c.args.n ≤ length (segment (message (shown seg rows)) c.args.to.segment)) f b.listed b.apart (sym c.keeps_first_in_arena.ensures ∙ c.if-keeps_first_in_arena.true) c.requires.inside
 
-pub returns-then-keeps_first_in_arena-2 : goal.returns-then-keeps_first_in_arena-2
-returns-then-keeps_first_in_arena-2 g c =
+pub returns-then-keeps_first_in_arena : goal.returns-then-keeps_first_in_arena
+returns-then-keeps_first_in_arena g c =
     let seg = g.A.Segment.Segment in
     let f = g.A.Allocator.first_in_arena in
     let b = c.args.self.now in
-    written_apart seg (λ S. with_words S c.args.to.segment c.args.to.at (words_at S c.args.from.segment c.args.from.at c.args.n)) f b.listed b.apart c.copy_across.new.self (sym c.keeps_first_in_arena-else-from-to.ensures ∙ c.if-keeps_first_in_arena-2.true) c.copy_across.ensures.words c.copy_across.ensures.room
+    written_apart seg (λ S. with_words S c.args.to.segment c.args.to.at (words_at S c.args.from.segment c.args.from.at c.args.n)) f b.listed b.apart c.copy_across.new.self (sym c.keeps_first_in_arena.ensures ∙ c.if-keeps_first_in_arena.true) c.copy_across.ensures.words c.copy_across.ensures.room
 
-pub move_words-requires-else-keeps_first_in_arena-clause-row : goal.move_words-requires-else-keeps_first_in_arena-clause-row
-move_words-requires-else-keeps_first_in_arena-clause-row g c =
+pub copy_across-requires-else-keeps_first_in_arena-clause-rows : goal.copy_across-requires-else-keeps_first_in_arena-clause-rows
+copy_across-requires-else-keeps_first_in_arena-clause-rows g c =
     let seg = g.A.Segment.Segment in
     let f = g.A.Allocator.first_in_arena in
     let b = c.args.self.now in
-    of_listed seg (λ rows. c.args.to.segment < length rows) f b.listed b.apart (sym c.keeps_first_in_arena.ensures ∙ c.if-keeps_first_in_arena.false) (row_there seg (arena_rows seg f b.listed b.apart) c.args.to.segment c.args.to.at (omega (arith, c.requires.inside, c.if-n-eq0.false)))
+    (of_listed seg (λ rows. c.args.from.segment < length rows) f b.listed b.apart (sym c.keeps_first_in_arena.ensures ∙ c.if-keeps_first_in_arena.false) (row_there seg (arena_rows seg f b.listed b.apart) c.args.from.segment c.args.from.at (omega (arith, c.requires.there, c.if-n-eq0.false))), of_listed seg (λ rows. c.args.to.segment < length rows) f b.listed b.apart (sym c.keeps_first_in_arena.ensures ∙ c.if-keeps_first_in_arena.false) (row_there seg (arena_rows seg f b.listed b.apart) c.args.to.segment c.args.to.at (omega (arith, c.requires.inside, c.if-n-eq0.false))))
 
-pub move_words-requires-else-keeps_first_in_arena-clause-there : goal.move_words-requires-else-keeps_first_in_arena-clause-there
-move_words-requires-else-keeps_first_in_arena-clause-there g c =
+pub copy_across-requires-else-keeps_first_in_arena-clause-apart : goal.copy_across-requires-else-keeps_first_in_arena-clause-apart
+copy_across-requires-else-keeps_first_in_arena-clause-apart g c =
+    c.if-from-to.false
+
+pub copy_across-requires-else-keeps_first_in_arena-clause-there : goal.copy_across-requires-else-keeps_first_in_arena-clause-there
+copy_across-requires-else-keeps_first_in_arena-clause-there g c =
     let seg = g.A.Segment.Segment in
     let f = g.A.Allocator.first_in_arena in
     let b = c.args.self.now in
-    of_listed seg (λ rows. c.args.from.at + c.args.n ≤ length (segment (message (shown seg rows)) c.args.to.segment)) f b.listed b.apart (sym c.keeps_first_in_arena.ensures ∙ c.if-keeps_first_in_arena.false) (subst (λ k. c.args.from.at + c.args.n ≤ length (segment (message (shown seg (arena_rows seg f b.listed b.apart))) k)) c.if-from-to.true c.requires.there)
+    of_listed seg (λ rows. c.args.from.at + c.args.n ≤ length (segment (message (shown seg rows)) c.args.from.segment)) f b.listed b.apart (sym c.keeps_first_in_arena.ensures ∙ c.if-keeps_first_in_arena.false) c.requires.there
 
-pub move_words-requires-else-keeps_first_in_arena-clause-inside : goal.move_words-requires-else-keeps_first_in_arena-clause-inside
-move_words-requires-else-keeps_first_in_arena-clause-inside g c =
+pub copy_across-requires-else-keeps_first_in_arena-clause-inside : goal.copy_across-requires-else-keeps_first_in_arena-clause-inside
+copy_across-requires-else-keeps_first_in_arena-clause-inside g c =
     let seg = g.A.Segment.Segment in
     let f = g.A.Allocator.first_in_arena in
     let b = c.args.self.now in
@@ -95,36 +113,4 @@ returns-else-keeps_first_in_arena g c =
     let seg = g.A.Segment.Segment in
     let f = g.A.Allocator.first_in_arena in
     let b = c.args.self.now in
-    written_listed seg (λ S. with_words S c.args.to.segment c.args.to.at (words_at S c.args.from.segment c.args.from.at c.args.n)) f b.listed c.move_words-else-keeps_first_in_arena.new.self b.apart (sym c.keeps_first_in_arena.ensures ∙ c.if-keeps_first_in_arena.false) (c.move_words-else-keeps_first_in_arena.ensures.words ∙ ap (λ k. with_words (message (shown seg b.listed.rows.items)) c.args.to.segment c.args.to.at (words_at (message (shown seg b.listed.rows.items)) k c.args.from.at c.args.n)) (sym c.if-from-to.true)) c.move_words-else-keeps_first_in_arena.ensures.room
-
-pub copy_across-requires-else-keeps_first_in_arena-2-clause-rows : goal.copy_across-requires-else-keeps_first_in_arena-2-clause-rows
-copy_across-requires-else-keeps_first_in_arena-2-clause-rows g c =
-    let seg = g.A.Segment.Segment in
-    let f = g.A.Allocator.first_in_arena in
-    let b = c.args.self.now in
-    (of_listed seg (λ rows. c.args.from.segment < length rows) f b.listed b.apart (sym c.keeps_first_in_arena-else-from-to.ensures ∙ c.if-keeps_first_in_arena-2.false) (row_there seg (arena_rows seg f b.listed b.apart) c.args.from.segment c.args.from.at (omega (arith, c.requires.there, c.if-n-eq0.false))), of_listed seg (λ rows. c.args.to.segment < length rows) f b.listed b.apart (sym c.keeps_first_in_arena-else-from-to.ensures ∙ c.if-keeps_first_in_arena-2.false) (row_there seg (arena_rows seg f b.listed b.apart) c.args.to.segment c.args.to.at (omega (arith, c.requires.inside, c.if-n-eq0.false))))
-
-pub copy_across-requires-else-keeps_first_in_arena-2-clause-apart : goal.copy_across-requires-else-keeps_first_in_arena-2-clause-apart
-copy_across-requires-else-keeps_first_in_arena-2-clause-apart g c =
-    c.if-from-to.false
-
-pub copy_across-requires-else-keeps_first_in_arena-2-clause-there : goal.copy_across-requires-else-keeps_first_in_arena-2-clause-there
-copy_across-requires-else-keeps_first_in_arena-2-clause-there g c =
-    let seg = g.A.Segment.Segment in
-    let f = g.A.Allocator.first_in_arena in
-    let b = c.args.self.now in
-    of_listed seg (λ rows. c.args.from.at + c.args.n ≤ length (segment (message (shown seg rows)) c.args.from.segment)) f b.listed b.apart (sym c.keeps_first_in_arena-else-from-to.ensures ∙ c.if-keeps_first_in_arena-2.false) c.requires.there
-
-pub copy_across-requires-else-keeps_first_in_arena-2-clause-inside : goal.copy_across-requires-else-keeps_first_in_arena-2-clause-inside
-copy_across-requires-else-keeps_first_in_arena-2-clause-inside g c =
-    let seg = g.A.Segment.Segment in
-    let f = g.A.Allocator.first_in_arena in
-    let b = c.args.self.now in
-    of_listed seg (λ rows. c.args.to.at + c.args.n ≤ length (segment (message (shown seg rows)) c.args.to.segment)) f b.listed b.apart (sym c.keeps_first_in_arena-else-from-to.ensures ∙ c.if-keeps_first_in_arena-2.false) c.requires.inside
-
-pub returns-else-keeps_first_in_arena-2 : goal.returns-else-keeps_first_in_arena-2
-returns-else-keeps_first_in_arena-2 g c =
-    let seg = g.A.Segment.Segment in
-    let f = g.A.Allocator.first_in_arena in
-    let b = c.args.self.now in
-    written_listed seg (λ S. with_words S c.args.to.segment c.args.to.at (words_at S c.args.from.segment c.args.from.at c.args.n)) f b.listed c.copy_across-else-keeps_first_in_arena-2.new.self b.apart (sym c.keeps_first_in_arena-else-from-to.ensures ∙ c.if-keeps_first_in_arena-2.false) c.copy_across-else-keeps_first_in_arena-2.ensures.words c.copy_across-else-keeps_first_in_arena-2.ensures.room
+    written_listed seg (λ S. with_words S c.args.to.segment c.args.to.at (words_at S c.args.from.segment c.args.from.at c.args.n)) f b.listed c.copy_across-else-keeps_first_in_arena.new.self b.apart (sym c.keeps_first_in_arena.ensures ∙ c.if-keeps_first_in_arena.false) c.copy_across-else-keeps_first_in_arena.ensures.words c.copy_across-else-keeps_first_in_arena.ensures.room

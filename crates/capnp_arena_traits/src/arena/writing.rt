@@ -1,0 +1,48 @@
+//! Writes whole words of a segment, through the bytes that `BuilderArena::segment_mut` lends.
+ghost use Rattle.std.specs.Prelude.{◌≡◌, ◌≤◌, ◌+◌, ◌*◌, length, replicate};
+ghost use Rattle.capnp_format.specs.Bytes.{words_of};
+ghost use Rattle.capnp_format.specs.Segments.{segment, IsPlace};
+ghost use Rattle.capnp_arena_traits.specs.Written.{with_word, with_words};
+
+use crate::arena::BuilderArena;
+use capnp_words::words;
+
+/// Writes `word` at position `at` of segment `id`.
+#[inline(always)]
+pub fn set_word<A: BuilderArena>(arena: &mut A, id: u32, at: u32, word: u64)
+    requires { IsPlace (A.view arena.old).words id at }
+    ensures { A.view arena.new
+        ≡ record (A.view arena.old)
+        { words = with_word (A.view arena.old).words id at word } }
+{
+    words::put_word(arena.segment_mut(id), at as usize, word);
+}
+
+/// Writes the words of `from` over those of segment `id` from position `at` on. If `from` is empty,
+/// nothing changes.
+#[inline(always)]
+pub fn copy_words<A: BuilderArena>(arena: &mut A, id: u32, at: u32, from: &[u8])
+    requires whole { length from.now ≡ 8 * length (words_of from.now) }
+    requires inside { at + length (words_of from.now)
+        ≤ length (segment (A.view arena.old).words id) }
+    ensures { A.view arena.new
+        ≡ record (A.view arena.old)
+        { words = with_words (A.view arena.old).words id at (words_of from.now) } }
+{
+    if !from.is_empty() {
+        words::copy_words(arena.segment_mut(id), at as usize, from);
+    }
+}
+
+/// Zeroes `n` words of segment `id` from position `at` on. If `n` is 0, nothing changes.
+#[inline(always)]
+pub fn zero_words<A: BuilderArena>(arena: &mut A, id: u32, at: u32, n: u32)
+    requires { at + n ≤ length (segment (A.view arena.old).words id) }
+    ensures { A.view arena.new
+        ≡ record (A.view arena.old)
+        { words = with_words (A.view arena.old).words id at (replicate n 0) } }
+{
+    if n > 0 {
+        words::zero_words(arena.segment_mut(id), at as usize, n as usize);
+    }
+}
