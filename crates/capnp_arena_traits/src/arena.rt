@@ -13,11 +13,12 @@ pub use writing::{copy_words, set_word, zero_words};
 /// The number of a segment, counted from 0.
 pub type SegmentId = u32;
 
-/// A place in a message being built: word `at` of a segment and the words after it.
-#[derive(Clone, Copy)]
+/// A place in a message being built, such as that of a pointer, or where an object starts: word `at`
+/// of a segment.
+#[derive(Clone, Copy, Debug, PartialEq, Eq)]
 pub struct WordPlace {
     /// The segment.
     pub segment: SegmentId,
-    /// The position of the first word, in words from the segment's start.
+    /// The position of the word in the segment, in words.
     pub at: u32,
 }

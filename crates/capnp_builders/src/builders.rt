@@ -38,10 +38,10 @@ mod primitive_element;
 mod struct_builder;
 
 use crate::fields;
-use capnp_arena_traits::arena::{BuilderArena, ReaderArena};
+use capnp_arena_traits::arena::{BuilderArena, ReaderArena, WordPlace};
 use capnp_contents::existing::ExistingBytes;
 use capnp_contents::{bytes, existing, initializing, lent};
-use capnp_making::making::{self, Start};
+use capnp_making::making;
 use capnp_objects::object::Place;
 use capnp_objects::source::Source;
 use capnp_readers::readers::{ListPlace, ListReader, PointerReader, StructPlace, StructReader};
@@ -532,7 +532,7 @@ impl<'a, A: BuilderArena> PointerBuilder<'a, A> {
         ensures grows { Grows (A.view self.old.arena.now).words (A.view self.new.arena.now).words }
         ensures stays { StaysThere A.view self.old self.new }
     {
-        let to = Start {
+        let to = WordPlace {
             segment: self.segment,
             at: self.at,
         };
@@ -585,7 +585,7 @@ impl<'a, A: BuilderArena> PointerBuilder<'a, A> {
         ensures grows { Grows (A.view self.old.arena.now).words (A.view self.new.arena.now).words }
         ensures stays { StaysThere A.view self.old self.new }
     {
-        let to = Start {
+        let to = WordPlace {
             segment: self.segment,
             at: self.at,
         };
@@ -635,7 +635,7 @@ impl<'a, A: BuilderArena> PointerBuilder<'a, A> {
         ensures grows { Grows (A.view self.old.arena.now).words (A.view self.new.arena.now).words }
         ensures stays { StaysThere A.view self.old self.new }
     {
-        let to = Start {
+        let to = WordPlace {
             segment: self.segment,
             at: self.at,
         };

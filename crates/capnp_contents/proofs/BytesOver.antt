@@ -19,7 +19,7 @@ use Rattle.capnp_contents.specs.InPlace.{segments_with, Overwrites}
 use Rattle.capnp_making.specs.Made.{words_of_zero, LeadsToStart}
 use Rattle.capnp_making.specs.Stored.{IsStored, IsReplaced}
 use Rattle.capnp_contents.specs.declared.existing.ExistingBytes.{ExistingBytes}
-use Rattle.capnp_making.specs.declared.making.Start.{Start}
+use Rattle.capnp_arena_traits.specs.declared.arena.WordPlace.{WordPlace}
 use Rattle.capnp_contents.proofs.BytesWritten.{WritesBytes, over_front, length-front, same_number, words_written, flat_claims, whole_words}
 use Rattle.capnp_format.proofs.FieldBytes.{below_drop}
 use Rattle.capnp_making.proofs.Filling.{unchanged}
@@ -83,7 +83,7 @@ packed_front bs a k ns xs few wide room small below elements shown =
     (count, sym (ap₂ (λ j y. digits (2 ^ 64) j y) (ap (words_for 2) all ∙ wide) number ∙ digits_again (2 ^ 64) k (words_of new) words_small count))
 
 -- Some bytes xs are written over the first ones of the list of bytes ns.
-some_over : (S R : Segments) (s p : ℕ) (ns : List ℕ) (h : Start) (xs : List ℕ) (w : WritesBytes S R h xs) → AreBelow 256 xs → AreBelow 256 (slice_index_or w.old h.segment []) → IsStored S s p (Flat 2 ns) → LeadsToStart S s p h → 0 < length xs → length xs ≤ length ns →
+some_over : (S R : Segments) (s p : ℕ) (ns : List ℕ) (h : WordPlace) (xs : List ℕ) (w : WritesBytes S R h xs) → AreBelow 256 xs → AreBelow 256 (slice_index_or w.old h.segment []) → IsStored S s p (Flat 2 ns) → LeadsToStart S s p h → 0 < length xs → length xs ≤ length ns →
     IsReplaced S R s p (Flat 2 ns) (Flat 2 (xs ++ drop (length xs) ns))
 some_over S R s p ns h xs w small below x lead some few =
     let u = (target S s p).segment in
@@ -116,7 +116,7 @@ no_bytes ns (w ∷ ws) e = absurd (omega arith)
 -- Bytes ws are written at the start of a list of bytes.
 pub overwrites : (S R : Segments) (B C : List (List ℕ)) (b : ExistingBytes) (ws : List ℕ) → S ≡ message B → R ≡ message C → C ≡ segments_with B b ws → ((i : ℕ) → get_or (slice_index_or B b.segment []) i 0 < 256) → (length ws ≡ b.length) × AreBelow 256 ws → Overwrites S R b ws
 overwrites S R B C b ws e f g below are s p ns stored is_segment is_start few =
-    let h : Start = record { segment = b.segment; at = b.start } in
+    let h : WordPlace = record { segment = b.segment; at = b.start } in
     let none : length ws ≡ 0 → R ≡ S = λ z. f ∙ ap message (g ∙ ap (slice_set B b.segment) (none_over (8 * b.start) (slice_index_or B b.segment []) ws z) ∙ same_set B b.segment) ∙ sym e in
     let writes : WritesBytes S R h ws = record {
       old = B;

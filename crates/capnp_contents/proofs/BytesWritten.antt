@@ -16,7 +16,7 @@ use Rattle.capnp_format.proofs.Digits.{digits_again}
 use Rattle.capnp_format.proofs.WordsOf.{words, length-words_of, words_of-put_mid, words_of-part, small_word}
 use Rattle.capnp_arena_traits.proofs.MessageLemmas.{segment-message}
 use Rattle.capnp_arena_traits.specs.Written.{with_segment, with_words, overwritten}
-use Rattle.capnp_making.specs.declared.making.Start.{Start}
+use Rattle.capnp_arena_traits.specs.declared.arena.WordPlace.{WordPlace}
 use Rattle.capnp_making.specs.Made.{words_of_zero, LeadsToStart}
 use Rattle.capnp_making.specs.Zeroed.{row}
 use Rattle.capnp_making.specs.Stored.{IsStored, IsReplaced}
@@ -142,7 +142,7 @@ packed_over bs a k n xs few wide room small zero_words =
 
 -- From S to R the bytes xs are written from the word h on, if they are inside its segment. All
 -- other bytes stay.
-pub record WritesBytes (S R : Segments) (h : Start) (xs : List ℕ) : Type 0 where
+pub record WritesBytes (S R : Segments) (h : WordPlace) (xs : List ℕ) : Type 0 where
   pub old : List (List ℕ)
   pub new : List (List ℕ)
   pub old_read : S ≡ message old
@@ -152,7 +152,7 @@ pub record WritesBytes (S R : Segments) (h : Start) (xs : List ℕ) : Type 0 whe
   pub written : 0 < length xs → 8 * h.at + length xs ≤ 8 * length (segment S h.segment) → new ≡ slice_set old h.segment (overwritten (slice_index_or old h.segment []) (8 * h.at) xs)
 
 -- If bytes are written, so are the k words from word a on that hold them.
-pub whole_words : (S R : Segments) (h : Start) (xs : List ℕ) (u a k : ℕ) (w : WritesBytes S R h xs) → h.segment ≡ u → h.at ≡ a → 0 < length xs → length xs ≤ 8 * k → a + k ≤ length (segment S u) →
+pub whole_words : (S R : Segments) (h : WordPlace) (xs : List ℕ) (u a k : ℕ) (w : WritesBytes S R h xs) → h.segment ≡ u → h.at ≡ a → 0 < length xs → length xs ≤ 8 * k → a + k ≤ length (segment S u) →
     (segment S u ≡ words_of (slice_index_or w.old u [])) × (8 * (a + k) ≤ length (slice_index_or w.old u [])) × (R ≡ with_words S u a (words_of (over_front (slice_index_or w.old u []) a k xs)))
 whole_words S R h xs u a k w is_u is_a some enough claim =
     let B : List (List ℕ) = w.old in
@@ -166,7 +166,7 @@ whole_words S R h xs u a k w is_u is_a some enough claim =
           ∙ message_set B u (overwritten bs (8 * a) xs) ∙ ap₂ (λ T ws. with_segment T u ws) (sym w.old_read) (words_over bs a k xs enough room ∙ ap (λ ws. overwritten ws a (words_of (over_front bs a k xs))) (sym shown)),
     )
 
-words_there : (S R : Segments) (h : Start) (xs : List ℕ) (k : ℕ) (w : WritesBytes S R h xs) → 0 < length xs → length xs ≤ 8 * k → h.at + k ≤ length (segment S h.segment) →
+words_there : (S R : Segments) (h : WordPlace) (xs : List ℕ) (k : ℕ) (w : WritesBytes S R h xs) → 0 < length xs → length xs ≤ 8 * k → h.at + k ≤ length (segment S h.segment) →
     AreWritten S R h.segment h.at k (words_of (over_front (slice_index_or w.old h.segment []) h.at k xs))
 words_there S R h xs k w some enough claim =
     let bs : List ℕ = slice_index_or w.old h.segment [] in
@@ -176,14 +176,14 @@ words_there S R h xs k w some enough claim =
     words_written S R h.segment h.at k (words_of new) (length-words_of k new (omega (arith, long)) (omega (arith, long))) claim whole
 
 -- No segment gets longer or shorter.
-pub written_lengths : (S R : Segments) (h : Start) (xs : List ℕ) (k : ℕ) → WritesBytes S R h xs → length xs ≤ 8 * k → h.at + k ≤ length (segment S h.segment) → SameLengths S R
+pub written_lengths : (S R : Segments) (h : WordPlace) (xs : List ℕ) (k : ℕ) → WritesBytes S R h xs → length xs ≤ 8 * k → h.at + k ≤ length (segment S h.segment) → SameLengths S R
 written_lengths S R h xs k w enough claim = elim (cases_eq (length xs) 0) [
   | inl e ↦ record { segments = ap length (w.nothing e); words = λ v. ap (λ T. length (segment T v)) (w.nothing e) }
   | inr some ↦ (words_there S R h xs k w (omega (arith, some)) enough claim).long
 ]
 
 -- No other segment changes, and no word before the first of these.
-pub written_beside : (S R : Segments) (h : Start) (xs : List ℕ) (k : ℕ) → WritesBytes S R h xs → length xs ≤ 8 * k → h.at + k ≤ length (segment S h.segment) →
+pub written_beside : (S R : Segments) (h : WordPlace) (xs : List ℕ) (k : ℕ) → WritesBytes S R h xs → length xs ≤ 8 * k → h.at + k ≤ length (segment S h.segment) →
     (v r : ℕ) → (v ≡ h.segment → 0 < length xs → r < h.at) → word_at R v r ≡ word_at S v r
 written_beside S R h xs k w enough claim v r before = elim (cases_eq (length xs) 0) [
   | inl e ↦ ap (λ T. word_at T v r) (w.nothing e)
@@ -197,7 +197,7 @@ written_beside S R h xs k w enough claim v r before = elim (cases_eq (length xs)
     ]
 
 -- Some bytes xs are written over the first ones of a list of n zero bytes.
-some_bytes : (S R : Segments) (s p n : ℕ) (h : Start) (xs : List ℕ) → WritesBytes S R h xs → IsStored S s p (Flat 2 (words_of_zero n)) → LeadsToStart S s p h → 0 < length xs → length xs ≤ n →
+some_bytes : (S R : Segments) (s p n : ℕ) (h : WordPlace) (xs : List ℕ) → WritesBytes S R h xs → IsStored S s p (Flat 2 (words_of_zero n)) → LeadsToStart S s p h → 0 < length xs → length xs ≤ n →
     IsReplaced S R s p (Flat 2 (words_of_zero n)) (Flat 2 (xs ++ words_of_zero (n - length xs)))
 some_bytes S R s p n h xs w x lead some few =
     let u = (target S s p).segment in
@@ -219,14 +219,14 @@ no_bytes n [] l = ap (λ m. Flat 2 (words_of_zero m)) (let e : n ≡ n - 0 = ome
 no_bytes n (y ∷ xs) l = absurd (omega arith)
 
 -- A list of n zero bytes replaces a value, and then the bytes xs are written over its first ones.
-pub bytes_written : (Q S R : Segments) (s p n : ℕ) (t : Tree) (h : Start) (xs : List ℕ) → WritesBytes S R h xs → IsReplaced Q S s p t (Flat 2 (words_of_zero n)) → LeadsToStart S s p h → length xs ≤ n → IsReplaced Q R s p t (Flat 2 (xs ++ words_of_zero (n - length xs)))
+pub bytes_written : (Q S R : Segments) (s p n : ℕ) (t : Tree) (h : WordPlace) (xs : List ℕ) → WritesBytes S R h xs → IsReplaced Q S s p t (Flat 2 (words_of_zero n)) → LeadsToStart S s p h → length xs ≤ n → IsReplaced Q R s p t (Flat 2 (xs ++ words_of_zero (n - length xs)))
 bytes_written Q S R s p n t h xs w made lead few = elim (cases_eq (length xs) 0) [
   | inl e ↦ subst (λ y. IsReplaced Q R s p t y) (no_bytes n xs e) (subst (λ T. IsReplaced Q T s p t (Flat 2 (words_of_zero n))) (sym (w.nothing e)) made)
   | inr some ↦ replaced_again Q S R s p t (Flat 2 (words_of_zero n)) (Flat 2 (xs ++ words_of_zero (n - length xs))) made (some_bytes S R s p n h xs w made.stored lead (omega arith) few)
 ]
 
 -- Then the pointer to the list still leads to its start.
-pub bytes_target : (S R : Segments) (s p n : ℕ) (h : Start) (xs : List ℕ) → WritesBytes S R h xs → IsStored S s p (Flat 2 (words_of_zero n)) → LeadsToStart S s p h → length xs ≤ n → LeadsToStart R s p h
+pub bytes_target : (S R : Segments) (s p n : ℕ) (h : WordPlace) (xs : List ℕ) → WritesBytes S R h xs → IsStored S s p (Flat 2 (words_of_zero n)) → LeadsToStart S s p h → length xs ≤ n → LeadsToStart R s p h
 bytes_target S R s p n h xs w x lead few = elim (cases_eq (length xs) 0) [
   | inl e ↦ subst (λ T. LeadsToStart T s p h) (sym (w.nothing e)) lead
   | inr some ↦ (

@@ -8,7 +8,7 @@ use Rattle.capnp_making.specs.Makes.{Allocates, CallAt, MakesObject, ObjectStart
 use Rattle.capnp_format.specs.Path.{extent}
 use Rattle.capnp_making.specs.Stored.{IsReplaced, Puts}
 use Rattle.capnp_making.specs.Zeroed.{IsApart, IsPruned, IsZeroed, Zeroes}
-use Rattle.capnp_making.specs.declared.making.Start.{Start}
+use Rattle.capnp_arena_traits.specs.declared.arena.WordPlace.{WordPlace}
 use Rattle.capnp_contents.specs.Initialized.{GivesObject}
 use Rattle.capnp_making.proofs.Outcomes.{on_made_so}
 use Rattle.capnp_making.proofs.Memory.{keeps_both, keeps_written, refused_after, room_left}
@@ -33,12 +33,12 @@ allocates_after (Err k) old mid new id at n limits pruned made = record {
 }
 
 -- An object made after some words were zeroed starts where it would start without that.
-pub starts_after_zeros : (result : Result Start ErrorKind) (old mid new : View) (id at n : ℕ) → KeepsLimits old mid → IsPruned old.words mid.words → IfOk result (ObjectStartsAt (call_at id at mid new) n) → IfOk result (ObjectStartsAt (call_at id at old new) n)
+pub starts_after_zeros : (result : Result WordPlace ErrorKind) (old mid new : View) (id at n : ℕ) → KeepsLimits old mid → IsPruned old.words mid.words → IfOk result (ObjectStartsAt (call_at id at mid new) n) → IfOk result (ObjectStartsAt (call_at id at old new) n)
 starts_after_zeros (Ok h) old mid new id at n limits pruned start = record { leads = start.leads; inside = start.inside; behind = stands_after old mid id n h limits pruned start.behind }
 starts_after_zeros (Err k) old mid new id at n limits pruned start = tt
 
 -- The old value is zeroed, and then the object is made in place of null.
-pub makes_after_zeros : (result : Result Start ErrorKind) (old mid new : View) (id at n : ℕ) (t : Tree) → ((u : Tree) → IsApart old.words id at u → IsZeroed old.words mid.words (extent old.words id at u)) → KeepsLimits old mid → IsPruned old.words mid.words →
+pub makes_after_zeros : (result : Result WordPlace ErrorKind) (old mid new : View) (id at n : ℕ) (t : Tree) → ((u : Tree) → IsApart old.words id at u → IsZeroed old.words mid.words (extent old.words id at u)) → KeepsLimits old mid → IsPruned old.words mid.words →
     OnOk result (IsReplaced mid.words new.words id at Null t) → IfOk result (ObjectStartsAt (call_at id at mid new) n) → Allocates result (call_at id at mid new) n → OnErr result (new.words ≡ mid.words) → MakesObject result (call_at id at old new) t n
 makes_after_zeros (Ok h) old mid new id at n t zeroed limits pruned made start memory same = record {
   made = λ u stored. replaced_again old.words mid.words new.words id at u Null t (zeroed_replaced old.words mid.words id at u zeroed stored) made;
@@ -58,7 +58,7 @@ makes_after_zeros (Err k) old mid new id at n t zeroed limits pruned made start 
 }
 
 -- The same, in the record that the call states of its result.
-pub gives_after_zeros : (result : Result Start ErrorKind) (old mid new : View) (id at n : ℕ) (t : Tree) → Zeroes old mid (IsApart old.words id at) (extent old.words id at) →
+pub gives_after_zeros : (result : Result WordPlace ErrorKind) (old mid new : View) (id at n : ℕ) (t : Tree) → Zeroes old mid (IsApart old.words id at) (extent old.words id at) →
     OnOk result (IsReplaced mid.words new.words id at Null t) → IfOk result (ObjectStartsAt (call_at id at mid new) n) → Allocates result (call_at id at mid new) n → OnErr result (new.words ≡ mid.words) → GivesObject result (call_at id at old new) t n
 gives_after_zeros result old mid new id at n t z made start memory same = record {
   object = makes_after_zeros result old mid new id at n t z.zeroed z.limits z.pruned made start memory same;

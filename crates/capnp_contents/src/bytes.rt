@@ -13,8 +13,7 @@ ghost use Rattle.capnp_making.specs.Near.{LeadsToEnd};
 ghost use Rattle.capnp_making.specs.Stored.{PutsOnceZeroed};
 
 use crate::initializing::init_list;
-use capnp_arena_traits::arena::BuilderArena;
-use capnp_making::making::Start;
+use capnp_arena_traits::arena::{BuilderArena, WordPlace};
 use capnp_words::error::ErrorKind;
 use capnp_words::lanes;
 use capnp_words::wire_pointer::ElementSize;
@@ -98,7 +97,7 @@ fn set_bytes<A: BuilderArena>(
 
 /// Writes the bytes of `from` into the message, from the word `start` on. Precondition: the bytes
 /// that are overwritten are inside the segment.
-fn write_bytes<A: BuilderArena>(arena: &mut A, start: Start, from: &[u8])
+fn write_bytes<A: BuilderArena>(arena: &mut A, start: WordPlace, from: &[u8])
     requires there { start.segment < length (A.view arena.old).words }
     requires inside { 8 * start.at + length from.now
         ≤ 8 * length (segment (A.view arena.old).words start.segment) }

@@ -14,8 +14,8 @@ ghost use Rattle.capnp_making.specs.Stored.{Puts};
 ghost use Rattle.capnp_making.specs.Zeroed.{IsPrunedBut};
 ghost use Rattle.capnp_contents.specs.Initialized.{GivesObject};
 
-use capnp_arena_traits::arena::{BuilderArena, set_word};
-use capnp_making::making::{Start, make_list, make_struct, make_struct_list};
+use capnp_arena_traits::arena::{BuilderArena, WordPlace, set_word};
+use capnp_making::making::{make_list, make_struct, make_struct_list};
 use capnp_making::zeroing::zero_object;
 use capnp_words::error::ErrorKind;
 use capnp_words::wire_pointer::{ElementSize, StructSize, WirePointer};
@@ -45,7 +45,7 @@ pub fn init_struct<A: BuilderArena>(
     id: u32,
     at: u32,
     size: StructSize,
-) -> Result<Start, ErrorKind>
+) -> Result<WordPlace, ErrorKind>
     requires place { IsPlace (A.view arena.old).words id at }
     ensures gives { GivesObject result (call_at id at (A.view arena.old) (A.view arena.new))
         (zero_struct size) (size.data_words + size.pointers) }
@@ -70,7 +70,7 @@ pub fn init_list<A: BuilderArena>(
     at: u32,
     size: ElementSize,
     count: u32,
-) -> Result<Start, ErrorKind>
+) -> Result<WordPlace, ErrorKind>
     requires place { IsPlace (A.view arena.old).words id at }
     requires few { count < 2 ^ 29 }
     requires plain { size_number size ≤ 6 }
@@ -96,7 +96,7 @@ pub fn init_struct_list<A: BuilderArena>(
     at: u32,
     count: u32,
     size: StructSize,
-) -> Result<Start, ErrorKind>
+) -> Result<WordPlace, ErrorKind>
     requires place { IsPlace (A.view arena.old).words id at }
     requires few { count < 2 ^ 30 }
     requires words { count * (size.data_words + size.pointers) < 2 ^ 29 }

@@ -10,7 +10,7 @@ use Rattle.capnp_making.specs.Made.{zero_structs, nulls, structs_words}
 use Rattle.capnp_making.specs.Memory.{HasRoom, KeepsMemory, IsRefusedFor, RefusesWords}
 use Rattle.capnp_making.specs.Near.{HasOwnRoom, StartsBehind}
 use Rattle.capnp_making.specs.Stored.{IsReplaced}
-use Rattle.capnp_making.specs.declared.making.Start.{Start}
+use Rattle.capnp_arena_traits.specs.declared.arena.WordPlace.{WordPlace}
 use Rattle.capnp_making.proofs.Filling.{unchanged}
 use Rattle.capnp_making.proofs.FillingChains.{elements_grow}
 use Rattle.capnp_making.proofs.FillingMade.{IsBegun, null_stored, pointers_done, pointers_whole, structs_done, structs_whole}
@@ -46,11 +46,11 @@ nothing_made b s p n old new m m' k place null named same full =
 -- A list of pointers.
 
 -- An object is made and starts at h.
-pub record ObjectBegun (s p n : ℕ) (old mid : View) (h : Start) (t : Tree) : Type 0 where
+pub record ObjectBegun (s p n : ℕ) (old mid : View) (h : WordPlace) (t : Tree) : Type 0 where
   pub begun : IsBegun old.words mid.words s p n h t
   pub memory : KeepsMemory old mid
 
-pub pointers_copied : {b : Form} {r : Reading} {i s p : ℕ} {old mid new : View} {h : Start} {m m' : Meter} → ObjectBegun s p i old mid h (Pointers (nulls i)) → PointersMade i s p old mid h → CopiesChildren r i (change b (call_at h.segment h.at mid new) m m') → MakesCopy (pointers_original i r) (change b (call_at s p old new) m m')
+pub pointers_copied : {b : Form} {r : Reading} {i s p : ℕ} {old mid new : View} {h : WordPlace} {m m' : Meter} → ObjectBegun s p i old mid h (Pointers (nulls i)) → PointersMade i s p old mid h → CopiesChildren r i (change b (call_at h.segment h.at mid new) m m') → MakesCopy (pointers_original i r) (change b (call_at s p old new) m m')
 pointers_copied {b} {r} {i} {s} {p} {old} {mid} {new} {h} o near children =
     let ts : Trees = kept_each b children.children in
     let whole = pointers_whole old.words mid.words new.words s p i h ts o.begun children.made (kept_each-count b children.children ∙ children.counts) in
@@ -62,7 +62,7 @@ pointers_copied {b} {r} {i} {s} {p} {old} {mid} {new} {h} o near children =
       stands = pointers_tight b (children_grow children).segments near children;
     }
 
-pub pointers_stop : {b : Form} {r : Reading} {i s p : ℕ} {old mid new : View} {h : Start} {m m' : Meter} {k : ErrorKind} → ObjectBegun s p i old mid h (Pointers (nulls i)) → ObjectMade s p i old mid h → (HasOwnRoom old s i → StartsBehind old.words s h) → StopsAtChildren r i (change b (call_at h.segment h.at mid new) m m') k →
+pub pointers_stop : {b : Form} {r : Reading} {i s p : ℕ} {old mid new : View} {h : WordPlace} {m m' : Meter} {k : ErrorKind} → ObjectBegun s p i old mid h (Pointers (nulls i)) → ObjectMade s p i old mid h → (HasOwnRoom old s i → StartsBehind old.words s h) → StopsAtChildren r i (change b (call_at h.segment h.at mid new) m m') k →
     StopsHalfway (pointers_original i r) (change b (call_at s p old new) m m') k
 pointers_stop {b} {r} {i} {s} {p} {old} {mid} {new} {h} {m} {m'} {k} o made at_end stop =
     let begins : Begins s h.segment i old mid = record { there = there old.words s p made.place; taken = made.taken; memory = o.memory; near = λ room. (at_end room).0; far = λ full. (made.behind.far full).0 } in
@@ -80,7 +80,7 @@ pub widths_keep : (b : Form) (r : Reading) (sizes : ElementSizes) (i : ℕ) → 
 widths_keep canonical r sizes i widths = omega (arith, ap (λ s. s.pointers) widths)
 widths_keep _ r sizes i same = same
 
-pub structs_copied : {b : Form} {r : Reading} {sizes : ElementSizes} {i s p : ℕ} {old mid new : View} {h : Start} {m m' : Meter} → r.at + i * (sizes.source.data_words + sizes.source.pointers) ≤ length (segment_read r) → KeepsWidths b r sizes.source i sizes.kept →
+pub structs_copied : {b : Form} {r : Reading} {sizes : ElementSizes} {i s p : ℕ} {old mid new : View} {h : WordPlace} {m m' : Meter} → r.at + i * (sizes.source.data_words + sizes.source.pointers) ≤ length (segment_read r) → KeepsWidths b r sizes.source i sizes.kept →
     ObjectBegun s p (1 + i * (sizes.kept.data_words + sizes.kept.pointers)) old mid h (zero_structs i sizes.kept) → StructsMade i s p sizes.kept old mid h → CopiesRows r sizes i 0 (change b (call_at h.segment (h.at + 1) mid new) m m') → MakesCopy (structs_original sizes.source i r) (change b (call_at s p old new) m m')
 structs_copied {b} {r} {sizes} {i} {s} {p} {old} {mid} {new} {h} inside widths o near elements =
     let d : ℕ = sizes.kept.data_words in
@@ -96,7 +96,7 @@ structs_copied {b} {r} {sizes} {i} {s} {p} {old} {mid} {new} {h} inside widths o
       stands = structs_tight {r = r} {sizes = sizes} b (elements_grow mid.words new.words h.segment (h.at + 1) d q (cut_to d q (kept_elements b es)) elements.made (omega (arith, cut_kept-count b d q es, elements.counts, ap (λ j. j * (d + q)) (cut_kept-count b d q es ∙ elements.counts), o.begun.inside.1))).segments inside widths near elements;
     }
 
-pub structs_stop : {b : Form} {r : Reading} {sizes : ElementSizes} {i s p : ℕ} {old mid new : View} {h : Start} {m m' : Meter} {k : ErrorKind} → r.at + i * (sizes.source.data_words + sizes.source.pointers) ≤ length (segment_read r) → KeepsWidths b r sizes.source i sizes.kept →
+pub structs_stop : {b : Form} {r : Reading} {sizes : ElementSizes} {i s p : ℕ} {old mid new : View} {h : WordPlace} {m m' : Meter} {k : ErrorKind} → r.at + i * (sizes.source.data_words + sizes.source.pointers) ≤ length (segment_read r) → KeepsWidths b r sizes.source i sizes.kept →
     ObjectBegun s p (1 + i * (sizes.kept.data_words + sizes.kept.pointers)) old mid h (zero_structs i sizes.kept) → StructsMade i s p sizes.kept old mid h → 1 + i * (sizes.kept.data_words + sizes.kept.pointers) ≤ structs_words i sizes.source →
     StopsAtElements r sizes i (change b (call_at h.segment (h.at + 1) mid new) m m') k → StopsHalfway (structs_original sizes.source i r) (change b (call_at s p old new) m m') k
 structs_stop {b} {r} {sizes} {i} {s} {p} {old} {mid} {new} {h} {m} {m'} {k} inside widths o near less stop =

@@ -15,7 +15,7 @@ use Rattle.capnp_making.specs.Made.{zero_struct, words_of_zero, nulls}
 use Rattle.capnp_making.specs.Memory.{KeepsMemory, StandsBehind, TakesWords}
 use Rattle.capnp_making.proofs.NearMade.{HasStructRoom, with_struct}
 use Rattle.capnp_making.specs.Stored.{IsReplaced}
-use Rattle.capnp_making.specs.declared.making.Start.{Start}
+use Rattle.capnp_arena_traits.specs.declared.arena.WordPlace.{WordPlace}
 use Rattle.capnp_making.proofs.FillingMade.{IsBegun, struct_ready, struct_done, struct_whole}
 use Rattle.capnp_making.proofs.Memory.{keeps_both, keeps_written, keeps_then_spends, words_refused_after}
 use Rattle.capnp_making.proofs.WordsPut.{words_put}
@@ -69,7 +69,7 @@ sections_kept _ ws r q m m' ts inside len all =
     record { all = ts; counts = len ∙ length_words r.segments r.segment r.at q inside; are_read = all; form = ap (λ xs. Struct xs ts) (sym (take_all (length ws) ws (omega arith))); costs = refl; follows = refl }
 
 -- A struct is made and starts at h, and its kept data words are written.
-pub record SectionsBegun (b : Form) (ws : List ℕ) (r : Reading) (q : ℕ) (least : StructSize) (s p : ℕ) (old made mid : View) (h : Start) : Type 0 where
+pub record SectionsBegun (b : Form) (ws : List ℕ) (r : Reading) (q : ℕ) (least : StructSize) (s p : ℕ) (old made mid : View) (h : WordPlace) : Type 0 where
   pub cut : SectionsCut b ws r q least
   pub begun : IsBegun old.words made.words s p (least.data_words + least.pointers) h (zero_struct least)
   pub memory : KeepsMemory old made
@@ -81,7 +81,7 @@ pub record SectionsBegun (b : Form) (ws : List ℕ) (r : Reading) (q : ℕ) (lea
   pub near : HasStructRoom old s least → made.words ≡ with_struct old.words s p least
   pub empty : least.data_words + least.pointers ≡ 0 → made.words ≡ with_word old.words s p (struct_word (2 ^ 30 - 1) 0 0)
 
-module _ {b : Form} {ws : List ℕ} {r : Reading} {q : ℕ} {least : StructSize} {s p : ℕ} {old made mid : View} {h : Start} (o : SectionsBegun b ws r q least s p old made mid h) where
+module _ {b : Form} {ws : List ℕ} {r : Reading} {q : ℕ} {least : StructSize} {s p : ℕ} {old made mid : View} {h : WordPlace} (o : SectionsBegun b ws r q least s p old made mid h) where
   abbrev section : List ℕ
   section = take least.data_words ws
 
@@ -178,10 +178,10 @@ module _ {b : Form} {ws : List ℕ} {r : Reading} {q : ℕ} {least : StructSize}
 
 -- The same in the words of a call, which has the other names f, g, k and l for what it found.
 
-pub sections_done : {b : Form} {ws : List ℕ} {q : ℕ} {least : StructSize} {s p : ℕ} {old made mid new : View} {h : Start} {m m' : Meter} {f g k l : ℕ} (r : Reading) (n : ℕ) → SectionsBegun b ws (behind r n) q least s p old made mid h → f ≡ n → g ≡ least.data_words → k ≡ least.pointers → l ≡ r.levels →
+pub sections_done : {b : Form} {ws : List ℕ} {q : ℕ} {least : StructSize} {s p : ℕ} {old made mid new : View} {h : WordPlace} {m m' : Meter} {f g k l : ℕ} (r : Reading) (n : ℕ) → SectionsBegun b ws (behind r n) q least s p old made mid h → f ≡ n → g ≡ least.data_words → k ≡ least.pointers → l ≡ r.levels →
     CopiesChildren (record (behind r f) { levels = l }) k (change b (call_at h.segment (h.at + g) mid new) m m') → MakesCopy (sections_original ws (behind r n) q) (change b (call_at s p old new) m m')
 sections_done r n o is_f is_g is_k is_l children = sections_copied o (rw (is_f, is_g, is_k, is_l) at children)
 
-pub sections_refused : {b : Form} {ws : List ℕ} {q : ℕ} {least : StructSize} {s p : ℕ} {old made mid new : View} {h : Start} {m m' : Meter} {e : ErrorKind} {f g k l : ℕ} (r : Reading) (n : ℕ) → SectionsBegun b ws (behind r n) q least s p old made mid h → f ≡ n → g ≡ least.data_words → k ≡ least.pointers → l ≡ r.levels →
+pub sections_refused : {b : Form} {ws : List ℕ} {q : ℕ} {least : StructSize} {s p : ℕ} {old made mid new : View} {h : WordPlace} {m m' : Meter} {e : ErrorKind} {f g k l : ℕ} (r : Reading) (n : ℕ) → SectionsBegun b ws (behind r n) q least s p old made mid h → f ≡ n → g ≡ least.data_words → k ≡ least.pointers → l ≡ r.levels →
     StopsAtChildren (record (behind r f) { levels = l }) k (change b (call_at h.segment (h.at + g) mid new) m m') e → StopsHalfway (sections_original ws (behind r n) q) (change b (call_at s p old new) m m') e
 sections_refused r n o is_f is_g is_k is_l stop = sections_stop o (rw (is_f, is_g, is_k, is_l) at stop)

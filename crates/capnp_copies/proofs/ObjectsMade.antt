@@ -11,7 +11,7 @@ use Rattle.capnp_arena_traits.specs.Written.{with_word}
 use Rattle.capnp_making.specs.Made.{LeadsToStart}
 use Rattle.capnp_making.specs.Memory.{HasRoom, IsNextRoom, TakesWords, StandsBehind, KeepsMemory}
 use Rattle.capnp_making.specs.Near.{HasOwnRoom}
-use Rattle.capnp_making.specs.declared.making.Start.{Start}
+use Rattle.capnp_arena_traits.specs.declared.arena.WordPlace.{WordPlace}
 use Rattle.capnp_making.proofs.MadeWords.{word_put}
 use Rattle.capnp_making.proofs.Placed.{empty_made}
 use Rattle.capnp_copies.specs.Changes.{Change, StayInSegment}
@@ -38,13 +38,13 @@ pub record Begins (id k n : ℕ) (old mid : View) : Type 0 where
   pub far : old.room id < length (segment old.words id) + n → IsNextRoom old (n + 1) k
 
 -- A struct without words starts in the segment of its pointer.
-empty_start : (S R : Segments) (s p : ℕ) (h : Start) → IsPlace S s p → R ≡ with_word S s p (struct_word (2 ^ 30 - 1) 0 0) → LeadsToStart R s p h → h.segment ≡ s
+empty_start : (S R : Segments) (s p : ℕ) (h : WordPlace) → IsPlace S s p → R ≡ with_word S s p (struct_word (2 ^ 30 - 1) 0 0) → LeadsToStart R s p h → h.segment ≡ s
 empty_start S R s p h place writes lead =
     let x : ℕ = struct_word (2 ^ 30 - 1) 0 0 in
     let made = empty_made S R s p x place (word_put S R s p x place writes) refl in
     lead.0 ∙ ap (λ o. (target_in o).segment) made.leads_there.1
 
-pub struct_begins : (s p : ℕ) (least : StructSize) (old made : View) (h : Start) → IsPlace old.words s p → TakesWords old made s (least.data_words + least.pointers) → KeepsMemory old made → StandsBehind old s (least.data_words + least.pointers) h →
+pub struct_begins : (s p : ℕ) (least : StructSize) (old made : View) (h : WordPlace) → IsPlace old.words s p → TakesWords old made s (least.data_words + least.pointers) → KeepsMemory old made → StandsBehind old s (least.data_words + least.pointers) h →
     LeadsToStart made.words s p h → (least.data_words + least.pointers ≡ 0 → made.words ≡ with_word old.words s p (struct_word (2 ^ 30 - 1) 0 0)) → Begins s h.segment (least.data_words + least.pointers) old made
 struct_begins s p least old made h place taken memory behind lead empty = record {
   there = there old.words s p place;

@@ -13,7 +13,7 @@ use Rattle.capnp_arena_traits.specs.Written.{with_segment, with_word, with_words
 use Rattle.capnp_making.specs.Memory.{KeepsMemory, StandsBehind, TakesWords as TakesRoom}
 use Rattle.capnp_making.specs.Near.{HasOwnRoom, StartsBehind, offset_behind}
 use Rattle.capnp_making.proofs.NearMade.{HasStructRoom, HasStructsRoom, with_struct, with_list, with_struct_list}
-use Rattle.capnp_making.specs.declared.making.Start.{Start}
+use Rattle.capnp_arena_traits.specs.declared.arena.WordPlace.{WordPlace}
 use Rattle.capnp_objects.specs.Reading.{Reading, segment_read}
 use Rattle.capnp_objects.specs.Wanted.{Form}
 use Rattle.capnp_arena_traits.proofs.WordsOver.{segment_here}
@@ -61,7 +61,7 @@ moved mid new n f {s} {u} {h} {a} ts es eh =
     (subst (λ i. (StayInSegment mid new u n → AreCopied mid.words new.words u (f a) ts) → StayInSegment mid new u n → AreCopied mid.words new.words u (f i) ts) eh (λ g. g))
 
 -- A struct is made near its pointer, or has no words, and these data words of it are written.
-pub record StructMade (us : List ℕ) (least : StructSize) (s p : ℕ) (old made mid : View) (h : Start) : Type 0 where
+pub record StructMade (us : List ℕ) (least : StructSize) (s p : ℕ) (old made mid : View) (h : WordPlace) : Type 0 where
   pub long : length us ≡ least.data_words
   pub place : IsPlace old.words s p
   pub memory : KeepsMemory old made
@@ -72,7 +72,7 @@ pub record StructMade (us : List ℕ) (least : StructSize) (s p : ℕ) (old made
   pub near : HasStructRoom old s least → made.words ≡ with_struct old.words s p least
   pub empty : least.data_words + least.pointers ≡ 0 → made.words ≡ with_word old.words s p (struct_word (2 ^ 30 - 1) 0 0)
 
-module _ {us : List ℕ} {least : StructSize} {s p : ℕ} {old made mid : View} {h : Start} (o : StructMade us least s p old made mid h) where
+module _ {us : List ℕ} {least : StructSize} {s p : ℕ} {old made mid : View} {h : WordPlace} (o : StructMade us least s p old made mid h) where
   abbrev S : Segments
   S = old.words
 
@@ -165,14 +165,14 @@ module _ {us : List ℕ} {least : StructSize} {s p : ℕ} {old made mid : View} 
           near_stands {r = r} {new = new} {m = m} {m' = m'} b near (record { children = children.children; counts = children.counts; are_read = children.are_read; made = stand })
 
 -- A list of i pointers is made near its pointer.
-pub record PointersMade (i s p : ℕ) (old mid : View) (h : Start) : Type 0 where
+pub record PointersMade (i s p : ℕ) (old mid : View) (h : WordPlace) : Type 0 where
   pub place : IsPlace old.words s p
   pub memory : KeepsMemory old mid
   pub taken : TakesRoom old mid s i
   pub near : HasOwnRoom old s i → mid.words ≡ with_list old.words s p 6 i
   pub at_end : HasOwnRoom old s i → StartsBehind old.words s h
 
-pub pointers_tight : {r : Reading} {i s p : ℕ} {old mid new : View} {h : Start} {m m' : Meter} (b : Form) → length mid.words ≤ length new.words → PointersMade i s p old mid h → (children : CopiesChildren r i (change b (call_at h.segment h.at mid new) m m')) → IsCopiedInRoom old new s p (kept b (Pointers children.children))
+pub pointers_tight : {r : Reading} {i s p : ℕ} {old mid new : View} {h : WordPlace} {m m' : Meter} (b : Form) → length mid.words ≤ length new.words → PointersMade i s p old mid h → (children : CopiesChildren r i (change b (call_at h.segment h.at mid new) m m')) → IsCopiedInRoom old new s p (kept b (Pointers children.children))
 pointers_tight {r} {i} {s} {p} {old} {mid} {new} {h} {m} {m'} b longer o children fits =
     let S : Segments = old.words in
     let x : ℕ = list_word (offset_behind S s p) 6 i in
@@ -208,7 +208,7 @@ pointers_tight {r} {i} {s} {p} {old} {mid} {new} {h} {m} {m'} b longer o childre
     pointer_first S s p (Pointers ts) o.place is all ∙ ap (λ t. with_segment S s (copied (segment S s) p t)) (sym form)
 
 -- A list of i structs is made near its pointer.
-pub record StructsMade (i s p : ℕ) (least : StructSize) (old mid : View) (h : Start) : Type 0 where
+pub record StructsMade (i s p : ℕ) (least : StructSize) (old mid : View) (h : WordPlace) : Type 0 where
   pub place : IsPlace old.words s p
   pub memory : KeepsMemory old mid
   pub taken : TakesRoom old mid s (1 + i * (least.data_words + least.pointers))
@@ -216,7 +216,7 @@ pub record StructsMade (i s p : ℕ) (least : StructSize) (old mid : View) (h : 
   pub near : HasStructsRoom old s i least → mid.words ≡ with_struct_list old.words s p i least
 
 -- The words of its elements are the last ones of the segment.
-pub ends_in_zeros : {i s p : ℕ} {least : StructSize} {old mid new : View} {h : Start} {m m' : Meter} (b : Form) → StructsMade i s p least old mid h → HasStructsRoom old s i least → EndsInZeros (change b (call_at h.segment (h.at + 1) mid new) m m') (i * (least.data_words + least.pointers))
+pub ends_in_zeros : {i s p : ℕ} {least : StructSize} {old mid new : View} {h : WordPlace} {m m' : Meter} (b : Form) → StructsMade i s p least old mid h → HasStructsRoom old s i least → EndsInZeros (change b (call_at h.segment (h.at + 1) mid new) m m') (i * (least.data_words + least.pointers))
 ends_in_zeros {i} {s} {p} {least} {old} {mid} {new} {h} {m} {m'} b o room =
     let S : Segments = old.words in
     let d : ℕ = least.data_words in
@@ -241,7 +241,7 @@ ends_in_zeros {i} {s} {p} {least} {old} {mid} {new} {h} {m} {m'} b o room =
     ap (λ xs. get_or xs j 0) (here ∙ shape) ∙ get_or-append_right (segment P s) ws H j 0 refl (omega (arith, less)) ∙ ap (λ k. get_or ws k 0) next ∙ get_or-zeros (i * w) (j - (H + 1))) in
     record { ends = omega (arith, first, width, ap length here); zero = zero }
 
-pub structs_tight : {r : Reading} {sizes : ElementSizes} {i s p : ℕ} {old mid new : View} {h : Start} {m m' : Meter} (b : Form) → length mid.words ≤ length new.words → r.at + i * (sizes.source.data_words + sizes.source.pointers) ≤ length (segment_read r) → KeepsWidths b r sizes.source i sizes.kept → StructsMade i s p sizes.kept old mid h →
+pub structs_tight : {r : Reading} {sizes : ElementSizes} {i s p : ℕ} {old mid new : View} {h : WordPlace} {m m' : Meter} (b : Form) → length mid.words ≤ length new.words → r.at + i * (sizes.source.data_words + sizes.source.pointers) ≤ length (segment_read r) → KeepsWidths b r sizes.source i sizes.kept → StructsMade i s p sizes.kept old mid h →
     (elements : CopiesRows r sizes i 0 (change b (call_at h.segment (h.at + 1) mid new) m m')) → IsCopiedInRoom old new s p (kept b (Structs sizes.source.data_words sizes.source.pointers elements.elements))
 structs_tight {r} {sizes} {i} {s} {p} {old} {mid} {new} {h} {m} {m'} b longer inside widths o elements fits =
     let S : Segments = old.words in

@@ -12,7 +12,7 @@ use Rattle.capnp_format.proofs.Levels.{one_value}
 use Rattle.capnp_arena_traits.specs.View.{View}
 use Rattle.capnp_making.specs.Memory.{HasRoom, KeepsMemory, StandsBehind, TakesWords}
 use Rattle.capnp_making.specs.Near.{HasOwnRoom, StartsBehind}
-use Rattle.capnp_making.specs.declared.making.Start.{Start}
+use Rattle.capnp_arena_traits.specs.declared.arena.WordPlace.{WordPlace}
 use Rattle.capnp_objects.specs.Objects.{IsObject}
 use Rattle.capnp_objects.specs.Outcomes.{Reads, MeansThere}
 use Rattle.capnp_objects.specs.Reading.{Reading, behind, segment_read, pointers_of, tag_size}
@@ -84,13 +84,13 @@ row_too_large {r} {sizes} {i} {n} {s} {p} {old} {mid} {new} {m} {m'} {m''} b fit
 -- The children of a struct.
 
 -- An object of n words is made at h.
-pub record ObjectMade (s p n : ℕ) (old made : View) (h : Start) : Type 0 where
+pub record ObjectMade (s p n : ℕ) (old made : View) (h : WordPlace) : Type 0 where
   pub place : IsPlace old.words s p
   pub memory : KeepsMemory old made
   pub taken : TakesWords old made s n
   pub behind : StandsBehind old s n h
 
-pub sections_too_large : {s p used room all : ℕ} {old made : View} {h : Start} (b : Form) (least : StructSize) (ts : Trees) → ObjectMade s p (least.data_words + least.pointers) old made h → used ≡ length (segment made.words h.segment) → room ≡ made.room h.segment → used ≤ room → count ts ≡ least.pointers →
+pub sections_too_large : {s p used room all : ℕ} {old made : View} {h : WordPlace} (b : Form) (least : StructSize) (ts : Trees) → ObjectMade s p (least.data_words + least.pointers) old made h → used ≡ length (segment made.words h.segment) → room ≡ made.room h.segment → used ≤ room → count ts ≡ least.pointers →
     room < used + word_count_all (kept_each b ts) → all ≡ least.data_words + least.pointers + word_count_all (kept_each b ts) → old.room s < length (segment old.words s) + all
 sections_too_large {s} {p} {used} {room} {all} {old} {made} {h} b least ts o long same within counts beyond words =
     let w : ℕ = least.data_words + least.pointers in
@@ -116,7 +116,7 @@ sections_too_large {s} {p} {used} {room} {all} {old} {made} {h} b least ts o lon
 pointers_words : (b : Form) (i : ℕ) (us : Trees) → count us ≡ i → word_count (kept b (Pointers us)) ≡ i + word_count_all (kept_each b us)
 pointers_words b i us len = ap word_count (kept_pointers b us) ∙ ap (λ j. j + word_count_all (kept_each b us)) (kept_each-count b us ∙ len)
 
-pub pointers_too_large : (b : Form) (r : Reading) {i s p : ℕ} {old made : View} {h : Start} → ObjectMade s p i old made h → (HasOwnRoom old s i → StartsBehind old.words s h) → AreTooLarge b r i (length (segment made.words h.segment)) (made.room h.segment) →
+pub pointers_too_large : (b : Form) (r : Reading) {i s p : ℕ} {old made : View} {h : WordPlace} → ObjectMade s p i old made h → (HasOwnRoom old s i → StartsBehind old.words s h) → AreTooLarge b r i (length (segment made.words h.segment)) (made.room h.segment) →
     IsTooLargePointers b r i (length (segment old.words s)) (old.room s)
 pointers_too_large b r {i} {s} {p} {old} {made} {h} o at_end large = λ us c len all.
     (let beyond = large us c len all in
@@ -130,7 +130,7 @@ pointers_too_large b r {i} {s} {p} {old} {made} {h} o at_end large = λ us c len
     omega (arith, no))
 
 -- The elements of a list of structs.
-pub structs_too_large : (r : Reading) (sizes : ElementSizes) {i s p : ℕ} {old made : View} {h : Start} → ObjectMade s p (1 + i * (sizes.kept.data_words + sizes.kept.pointers)) old made h → r.at + i * (sizes.source.data_words + sizes.source.pointers) ≤ length (segment_read r) →
+pub structs_too_large : (r : Reading) (sizes : ElementSizes) {i s p : ℕ} {old made : View} {h : WordPlace} → ObjectMade s p (1 + i * (sizes.kept.data_words + sizes.kept.pointers)) old made h → r.at + i * (sizes.source.data_words + sizes.source.pointers) ≤ length (segment_read r) →
     (b : Form) → KeepsWidths b r sizes.source i sizes.kept → (HasOwnRoom old s (1 + i * (sizes.kept.data_words + sizes.kept.pointers)) → AreTooLargeElements b r sizes i (length (segment made.words h.segment)) (made.room h.segment)) →
     IsTooLargeList b r sizes.source i (length (segment old.words s)) (old.room s)
 structs_too_large r sizes {i} {s} {p} {old} {made} {h} o in_row b widths large = λ es c len all.

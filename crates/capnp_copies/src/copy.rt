@@ -28,8 +28,7 @@ mod structs;
 
 use crate::form::{CopyForm, Destination};
 use crate::widths::StructList;
-use capnp_arena_traits::arena::{BuilderArena, ReaderArena, set_word};
-use capnp_making::making::Start;
+use capnp_arena_traits::arena::{BuilderArena, ReaderArena, WordPlace, set_word};
 use capnp_objects::object::Object;
 use capnp_pointers::pointers::Pointer;
 use capnp_words::error::ErrorKind;
@@ -48,7 +47,7 @@ pub use refusals::clear_refused;
 /// otherwise plain. Does what `copy_in_form` does.
 pub fn copy_value<A: BuilderArena, B: ReaderArena>(
     arena: &mut A,
-    to: Start,
+    to: WordPlace,
     from: Pointer<'_, B>,
     lim: &mut ReadLimiter,
     canonicalize: bool,
@@ -100,7 +99,7 @@ pub fn copy_in_form<A: BuilderArena, B: ReaderArena>(
 #[inline(never)]
 fn copy_object<A: BuilderArena, B: ReaderArena>(
     arena: &mut A,
-    to: Start,
+    to: WordPlace,
     from: Pointer<'_, B>,
     lim: &mut ReadLimiter,
     form: CopyForm,
@@ -157,7 +156,7 @@ fn copy_capability<A: BuilderArena>(
 {
     match to.form {
         CopyForm::Plain => {
-            let Start { segment, at } = to.place;
+            let WordPlace { segment, at } = to.place;
             set_word(arena, segment, at, WirePointer::new_capability(index).0);
             Ok(())
         }

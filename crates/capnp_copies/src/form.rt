@@ -2,7 +2,7 @@
 ghost use Rattle.std.specs.Prelude.{◌≡◌};
 ghost use Rattle.capnp_copies.specs.Forms.{form_of, form_in};
 
-use capnp_making::making::Start;
+use capnp_arena_traits::arena::WordPlace;
 
 /// What a copy keeps of a value, and whether the value may have capabilities.
 #[derive(Clone, Copy)]
@@ -20,7 +20,7 @@ pub enum CopyForm {
 #[derive(Clone, Copy)]
 pub struct Destination {
     /// The place of the pointer that is copied to, or of the first one of several pointers.
-    pub place: Start,
+    pub place: WordPlace,
     /// The form of the copy.
     pub form: CopyForm,
 }

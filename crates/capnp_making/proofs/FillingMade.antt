@@ -16,7 +16,7 @@ use Rattle.capnp_making.specs.Made.{LeadsToStart, words_of_zero, nulls, zero_ele
 use Rattle.capnp_format.specs.Path.{Child, Element, word_interval}
 use Rattle.capnp_making.specs.Stored.{IsStored, IsReplaced}
 use Rattle.capnp_making.specs.Zeroed.{row}
-use Rattle.capnp_making.specs.declared.making.Start.{Start}
+use Rattle.capnp_arena_traits.specs.declared.arena.WordPlace.{WordPlace}
 use Rattle.capnp_making.proofs.Filling.{holder_filled, pointers_holder, struct_holder, put_from, put_all}
 use Rattle.capnp_making.proofs.FillingElements.{struct_written, elements_full, elements_partly}
 use Rattle.capnp_making.proofs.Replaced.{replaced_again}
@@ -37,7 +37,7 @@ null_stored S s p place none = record {
     once v r = grind (arith, nat_tests)
 
 -- From S to M an object of n words is made, which starts at h: the place holds t.
-pub record IsBegun (S M : Segments) (s p n : ℕ) (h : Start) (t : Tree) : Type 0 where
+pub record IsBegun (S M : Segments) (s p n : ℕ) (h : WordPlace) (t : Tree) : Type 0 where
   pub made : IsReplaced S M s p Null t
   pub start : LeadsToStart M s p h
   pub inside : (h.segment < length M) × (h.at + n ≤ length (segment M h.segment))
@@ -96,7 +96,7 @@ structs_zero S s p d q k i y l = let (n, c, (a, m, j, some, o, claim, tag, fits,
 
 -- A struct: it is begun, its data words are written, and then its pointers are filled.
 
-pub struct_ready : (S M T : Segments) (s p q : ℕ) (h : Start) (ws : List ℕ) → IsBegun S M s p (length ws + q) h (Struct (words_of_zero (length ws)) (nulls q)) → T ≡ with_words M h.segment h.at ws →
+pub struct_ready : (S M T : Segments) (s p q : ℕ) (h : WordPlace) (ws : List ℕ) → IsBegun S M s p (length ws + q) h (Struct (words_of_zero (length ws)) (nulls q)) → T ≡ with_words M h.segment h.at ws →
     (h.at + length ws + q ≤ length (segment T h.segment)) × ((i : ℕ) → i < q → word_at T h.segment (h.at + length ws + i) ≡ 0)
 struct_ready S M T s p q h ws b e =
     let ld : length (words_of_zero (length ws)) ≡ length ws = length-replicate {A = ℕ} (length ws) 0 in
@@ -107,7 +107,7 @@ struct_ready S M T s p q h ws b e =
     past_row : (s p n r : ℕ) → p + n ≤ r → times (row s p n ∷ []) s r ≡ 0
     past_row s p n r l = grind (arith, nat_tests)
 
-pub struct_done : (S M T R : Segments) (s p q : ℕ) (h : Start) (ws : List ℕ) (ts : Trees) → IsBegun S M s p (length ws + q) h (Struct (words_of_zero (length ws)) (nulls q)) → T ≡ with_words M h.segment h.at ws → AreFilled T R h.segment (h.at + length ws) ts → count ts ≤ q →
+pub struct_done : (S M T R : Segments) (s p q : ℕ) (h : WordPlace) (ws : List ℕ) (ts : Trees) → IsBegun S M s p (length ws + q) h (Struct (words_of_zero (length ws)) (nulls q)) → T ≡ with_words M h.segment h.at ws → AreFilled T R h.segment (h.at + length ws) ts → count ts ≤ q →
     IsReplaced S R s p Null (Struct ws (put_from (nulls q) 0 ts))
 struct_done S M T R s p q h ws ts b e f few =
     let a = target M s p in
@@ -118,39 +118,39 @@ struct_done S M T R s p q h ws ts b e f few =
     let done = holder_filled (Struct ws) (λ i. Child i ∷ []) T R s p q a (a.start + length ws) (length ws + q) ts (struct_holder s p q a ws) (record { stored = written.0.stored; leads = written.1 }) few filled in
     replaced_again S T R s p Null (Struct ws (nulls q)) _ (replaced_again S M T s p Null (Struct zs (nulls q)) _ b.made written.0) done.0
 
-pub struct_whole : (S M T R : Segments) (s p q : ℕ) (h : Start) (ws : List ℕ) (ts : Trees) → IsBegun S M s p (length ws + q) h (Struct (words_of_zero (length ws)) (nulls q)) → T ≡ with_words M h.segment h.at ws → AreFilled T R h.segment (h.at + length ws) ts → count ts ≡ q →
+pub struct_whole : (S M T R : Segments) (s p q : ℕ) (h : WordPlace) (ws : List ℕ) (ts : Trees) → IsBegun S M s p (length ws + q) h (Struct (words_of_zero (length ws)) (nulls q)) → T ≡ with_words M h.segment h.at ws → AreFilled T R h.segment (h.at + length ws) ts → count ts ≡ q →
     IsReplaced S R s p Null (Struct ws ts)
 struct_whole S M T R s p q h ws ts b e f full =
     subst (λ X. IsReplaced S R s p Null (Struct ws X)) (ap (λ k. put_from (nulls k) 0 ts) (sym full) ∙ put_all ts) (struct_done S M T R s p q h ws ts b e f (le_of_eq full))
 
 -- A list of pointers.
 
-pub pointers_ready : (S M : Segments) (s p q : ℕ) (h : Start) → IsBegun S M s p q h (Pointers (nulls q)) → (i : ℕ) → i < q → word_at M h.segment (h.at + i) ≡ 0
+pub pointers_ready : (S M : Segments) (s p q : ℕ) (h : WordPlace) → IsBegun S M s p q h (Pointers (nulls q)) → (i : ℕ) → i < q → word_at M h.segment (h.at + i) ≡ 0
 pointers_ready S M s p q h b i l = rw (b.start.0, b.start.1) (pointers_nulls M s p q i b.made.stored l)
 
-pub pointers_done : (S M R : Segments) (s p q : ℕ) (h : Start) (ts : Trees) → IsBegun S M s p q h (Pointers (nulls q)) → AreFilled M R h.segment h.at ts → count ts ≤ q → IsReplaced S R s p Null (Pointers (put_from (nulls q) 0 ts))
+pub pointers_done : (S M R : Segments) (s p q : ℕ) (h : WordPlace) (ts : Trees) → IsBegun S M s p q h (Pointers (nulls q)) → AreFilled M R h.segment h.at ts → count ts ≤ q → IsReplaced S R s p Null (Pointers (put_from (nulls q) 0 ts))
 pointers_done S M R s p q h ts b f few =
     let a = target M s p in
     let filled : AreFilled M R a.segment a.start ts = rw (b.start.0, b.start.1) at f in
     let done = holder_filled Pointers (λ i. Element i ∷ []) M R s p q a a.start q ts (pointers_holder s p q a) (record { stored = b.made.stored; leads = pointers_lead M s p (nulls q) b.made.stored }) few filled in
     replaced_again S M R s p Null (Pointers (nulls q)) _ b.made done.0
 
-pub pointers_whole : (S M R : Segments) (s p q : ℕ) (h : Start) (ts : Trees) → IsBegun S M s p q h (Pointers (nulls q)) → AreFilled M R h.segment h.at ts → count ts ≡ q → IsReplaced S R s p Null (Pointers ts)
+pub pointers_whole : (S M R : Segments) (s p q : ℕ) (h : WordPlace) (ts : Trees) → IsBegun S M s p q h (Pointers (nulls q)) → AreFilled M R h.segment h.at ts → count ts ≡ q → IsReplaced S R s p Null (Pointers ts)
 pointers_whole S M R s p q h ts b f full =
     subst (λ X. IsReplaced S R s p Null (Pointers X)) (ap (λ k. put_from (nulls k) 0 ts) (sym full) ∙ put_all ts) (pointers_done S M R s p q h ts b f (le_of_eq full))
 
 -- A list of structs.
 
-pub structs_ready : (S M : Segments) (s p d q n : ℕ) (h : Start) → IsBegun S M s p (1 + n * (d + q)) h (Structs d q (zero_elements d q n)) → (i : ℕ) → i < n * (d + q) → word_at M h.segment (h.at + 1 + i) ≡ 0
+pub structs_ready : (S M : Segments) (s p d q n : ℕ) (h : WordPlace) → IsBegun S M s p (1 + n * (d + q)) h (Structs d q (zero_elements d q n)) → (i : ℕ) → i < n * (d + q) → word_at M h.segment (h.at + 1 + i) ≡ 0
 structs_ready S M s p d q n h b i l = rw (b.start.0, b.start.1) (structs_zero M s p d q n i b.made.stored l)
 
-pub structs_whole : (S M R : Segments) (s p d q n : ℕ) (h : Start) (es : Elements) → IsBegun S M s p (1 + n * (d + q)) h (Structs d q (zero_elements d q n)) → AreElementsFilled M R h.segment (h.at + 1) d q es → element_count es ≡ n → IsReplaced S R s p Null (Structs d q es)
+pub structs_whole : (S M R : Segments) (s p d q n : ℕ) (h : WordPlace) (es : Elements) → IsBegun S M s p (1 + n * (d + q)) h (Structs d q (zero_elements d q n)) → AreElementsFilled M R h.segment (h.at + 1) d q es → element_count es ≡ n → IsReplaced S R s p Null (Structs d q es)
 structs_whole S M R s p d q n h es b f full =
     let a = target M s p in
     let filled : AreElementsFilled M R a.segment (a.start + 1) d q es = rw (b.start.0, b.start.1) at f in
     replaced_again S M R s p Null (Structs d q (zero_elements d q n)) _ b.made (elements_full M R s p d q n a es b.made.stored (structs_lead M s p d q (zero_elements d q n) b.made.stored) full filled)
 
-pub structs_done : (S M R : Segments) (s p d q n : ℕ) (h : Start) → IsBegun S M s p (1 + n * (d + q)) h (Structs d q (zero_elements d q n)) → ArePartlyFilled M R h.segment (h.at + 1) d q n → (t : Tree) × IsReplaced S R s p Null t
+pub structs_done : (S M R : Segments) (s p d q n : ℕ) (h : WordPlace) → IsBegun S M s p (1 + n * (d + q)) h (Structs d q (zero_elements d q n)) → ArePartlyFilled M R h.segment (h.at + 1) d q n → (t : Tree) × IsReplaced S R s p Null t
 structs_done S M R s p d q n h b f =
     let a = target M s p in
     let filled : ArePartlyFilled M R a.segment (a.start + 1) d q n = rw (b.start.0, b.start.1) at f in
@@ -159,7 +159,7 @@ structs_done S M R s p d q n h b f =
 
 -- A list of numbers.
 
-pub flat_whole : (S M R : Segments) (s p size n : ℕ) (h : Start) (ns : List ℕ) → IsBegun S M s p (words_for size n) h (Flat size (words_of_zero n)) → length ns ≡ n → AreBelow (2 ^ element_bits size) ns → R ≡ with_words M h.segment h.at (packed size ns) → IsReplaced S R s p Null (Flat size ns)
+pub flat_whole : (S M R : Segments) (s p size n : ℕ) (h : WordPlace) (ns : List ℕ) → IsBegun S M s p (words_for size n) h (Flat size (words_of_zero n)) → length ns ≡ n → AreBelow (2 ^ element_bits size) ns → R ≡ with_words M h.segment h.at (packed size ns) → IsReplaced S R s p Null (Flat size ns)
 flat_whole S M R s p size n h ns b len small e =
     let a = target M s p in
     let w = words_for size n in

@@ -12,7 +12,7 @@ use Rattle.capnp_format.specs.Means.{Leads}
 use Rattle.capnp_format.specs.Forest.{times, pads_of, object_of, target}
 use Rattle.capnp_format.specs.Path.{word_interval}
 use Rattle.capnp_making.specs.declared.making.Shape.{Shape}
-use Rattle.capnp_making.specs.declared.making.Start.{Start}
+use Rattle.capnp_arena_traits.specs.declared.arena.WordPlace.{WordPlace}
 use Rattle.capnp_making.specs.declared.making.Shape.TheVariants.{Struct as StructShape, List as ListShape}
 
 -- The word's kind and upper half are those of the shape.
@@ -92,5 +92,5 @@ pub record IsMade (S R : Segments) (s p : ℕ) (a : Target) (n : ℕ) : Type 0 w
       word_at R v r ≡ 0
 
 -- The pointer at (s, p) leads to the object that starts at h.
-abbrev pub LeadsToStart : Segments → ℕ → ℕ → Start → Type 0
+abbrev pub LeadsToStart : Segments → ℕ → ℕ → WordPlace → Type 0
 LeadsToStart S s p h = (h.segment ≡ (target S s p).segment) × (h.at ≡ (target S s p).start)

@@ -13,7 +13,7 @@ use Rattle.capnp_making.specs.Memory.{IsNextRoom, Lengthens}
 use Rattle.capnp_making.specs.Stored.{IsStored, Puts}
 use Rattle.capnp_making.specs.Zeroed.{IsPruned}
 use Rattle.capnp_making.specs.declared.making.Shape.{Shape}
-use Rattle.capnp_making.specs.declared.making.Start.{Start}
+use Rattle.capnp_arena_traits.specs.declared.arena.WordPlace.{WordPlace}
 
 -- A call at a place of a message: the place, and the message before and after the call.
 pub record CallAt : Type 0 where
@@ -50,13 +50,13 @@ pub record MakesObject {A : Type 0} (result : Result A ErrorKind) (c : CallAt) (
   pub only : OnErr result (IsPruned c.old.words c.new.words)
 
 -- The call writes the pointer, which leads to a new object of n words of this shape, starting at h.
-abbrev pub IsMadeAt : CallAt → Shape → ℕ → Start → Type 0
+abbrev pub IsMadeAt : CallAt → Shape → ℕ → WordPlace → Type 0
 IsMadeAt c shape n h = (a : Target) × IsMade c.old.words c.new.words c.segment c.at a n ×
     IsShape shape a.word × (h.segment ≡ a.segment) × (h.at ≡ a.start)
 
 -- The call makes an object of n words behind a landing pad, in the next segment that has room for
 -- both; or it is refused, and no word is written.
-pub record MakesFar (result : Result Start ErrorKind) (c : CallAt) (shape : Shape) (n : ℕ) : Type 0 where
+pub record MakesFar (result : Result WordPlace ErrorKind) (c : CallAt) (shape : Shape) (n : ℕ) : Type 0 where
   pub made : IfOk result (IsMadeAt c shape n)
   pub fits : (k : ℕ) → IsFirstFit c.old (n + 1) k → IsOk result
   pub granted : OnOk result (KeepsMemory c.old c.new)
@@ -69,7 +69,7 @@ pub record MakesFar (result : Result Start ErrorKind) (c : CallAt) (shape : Shap
 
 -- The object of n words that the call made starts at h: its pointer leads there, its words are
 -- there, and they come after all that were there.
-pub record ObjectStartsAt (c : CallAt) (n : ℕ) (h : Start) : Type 0 where
+pub record ObjectStartsAt (c : CallAt) (n : ℕ) (h : WordPlace) : Type 0 where
   pub leads : LeadsToStart c.new.words c.segment c.at h
   pub inside : (h.segment < length c.new.words) ×
       (h.at + n ≤ length (segment c.new.words h.segment))

@@ -7,7 +7,7 @@ use Rattle.capnp_words.specs.declared.error.ErrorKind.TheVariants.{AllocationFai
 use Rattle.capnp_arena_traits.specs.Allocations.{one_more}
 use Rattle.capnp_arena_traits.specs.View.{View}
 use Rattle.capnp_arena_traits.specs.Taking.{IsFirstFit, IsFull, IsAllocationRefusal, SameRoomBelow}
-use Rattle.capnp_making.specs.declared.making.Start.{Start}
+use Rattle.capnp_arena_traits.specs.declared.arena.WordPlace.{WordPlace}
 
 -- Segment id has room for n more words, or some segment has room for them and a pad.
 abbrev pub HasRoom : View → ℕ → ℕ → Type 0
@@ -34,14 +34,14 @@ pub record TakesWords (old new : View) (id n : ℕ) : Type 0 where
 
 -- n words from h on come after all that were there: in segment id if it had room for them;
 -- otherwise behind a landing pad in the next segment that had room.
-pub record StandsBehind (old : View) (id n : ℕ) (h : Start) : Type 0 where
+pub record StandsBehind (old : View) (id n : ℕ) (h : WordPlace) : Type 0 where
   pub near : 0 < n → length (segment old.words id) + n ≤ old.room id → (h.segment ≡ id) ×
       (h.at ≡ length (segment old.words id))
   pub far : old.room id < length (segment old.words id) + n → IsNextRoom old (n + 1) h.segment ×
       (h.at ≡ length (segment old.words h.segment) + 1)
 
 -- Where a pointer leads, as a start.
-abbrev pub start_of : Target → Start
+abbrev pub start_of : Target → WordPlace
 start_of a = record { segment = a.segment; at = a.start }
 
 -- Only words change from old to new, and the room of new segments.

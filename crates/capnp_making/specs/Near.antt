@@ -11,14 +11,14 @@ use Rattle.capnp_making.specs.Makes.{CallAt}
 use Rattle.capnp_making.specs.Memory.{start_of}
 use Rattle.capnp_making.specs.declared.making.Shape.{Shape}
 use Rattle.capnp_making.specs.declared.making.Shape.TheVariants.{Struct as StructShape, List as ListShape}
-use Rattle.capnp_making.specs.declared.making.Start.{Start}
+use Rattle.capnp_arena_traits.specs.declared.arena.WordPlace.{WordPlace}
 
 -- Segment id has room for n more words.
 abbrev pub HasOwnRoom : View → ℕ → ℕ → Type 0
 HasOwnRoom v id n = length (segment v.words id) + n ≤ v.room id
 
 -- An object starts at the end of segment id in S.
-abbrev pub StartsBehind : Segments → ℕ → Start → Type 0
+abbrev pub StartsBehind : Segments → ℕ → WordPlace → Type 0
 StartsBehind S id h = (h.segment ≡ id) × (h.at ≡ length (segment S id))
 
 -- The call makes an object of n words, perhaps 0, for the pointer. If the pointer's segment has

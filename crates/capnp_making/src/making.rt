@@ -26,7 +26,7 @@ ghost use Rattle.capnp_making.specs.Zeroed.{IsPruned};
 ghost use Rattle.capnp_arena_traits.specs.Written.{with_word};
 
 use crate::zeroing::zero_object;
-use capnp_arena_traits::arena::{BuilderArena, set_word};
+use capnp_arena_traits::arena::{BuilderArena, WordPlace, set_word};
 use capnp_words::error::ErrorKind;
 use capnp_words::wire_pointer::{
     ElementSize, StructSize, WirePointer, data_bits_per_element, offset_between,
@@ -41,15 +41,6 @@ pub enum Shape {
     /// A list, with the number that its pointer states: the number of elements, or for a list of
     /// structs the number of words of all elements, without the tag.
     List(ElementSize, u32),
-}
-
-/// Where an object starts.
-#[derive(Clone, Copy, Debug, PartialEq, Eq)]
-pub struct Start {
-    /// The segment of the object.
-    pub segment: u32,
-    /// The position of the object's first word in the segment, in words.
-    pub at: u32,
 }
 
 /// Returns the word of a pointer that is at `position` of a segment, and leads to an object at
@@ -81,7 +72,7 @@ fn put_object<A: BuilderArena>(
     at: u32,
     shape: Shape,
     amount: u32,
-) -> Result<Start, ErrorKind>
+) -> Result<WordPlace, ErrorKind>
     requires place { IsPlace (A.view arena.old).words id at }
     requires few { CountFits shape }
     requires some { AsksWords shape }
@@ -104,7 +95,7 @@ fn put_object<A: BuilderArena>(
         Some(start) => {
             let word = pointer_to(shape, at, start);
             set_word(arena, id, at, word.0);
-            Ok(Start {
+            Ok(WordPlace {
                 segment: id,
                 at: start,
             })
@@ -126,7 +117,7 @@ fn put_far<A: BuilderArena>(
     at: u32,
     shape: Shape,
     amount: u32,
-) -> Result<Start, ErrorKind>
+) -> Result<WordPlace, ErrorKind>
     requires place { IsPlace (A.view arena.old).words id at }
     requires few { CountFits shape }
     requires small { amount < 2 ^ 31 }
@@ -138,7 +129,7 @@ fn put_far<A: BuilderArena>(
             let word = pointer_to(shape, pad, pad + 1);
             set_word(arena, segment, pad, word.0);
             set_word(arena, id, at, WirePointer::new_far(pad, segment).0);
-            Ok(Start {
+            Ok(WordPlace {
                 segment,
                 at: pad + 1,
             })
@@ -170,7 +161,7 @@ pub fn make_struct<A: BuilderArena>(
     id: u32,
     at: u32,
     size: StructSize,
-) -> Result<Start, ErrorKind>
+) -> Result<WordPlace, ErrorKind>
     requires place { IsPlace (A.view arena.old).words id at }
     ensures made { OnOk result (IsReplaced (A.view arena.old).words
         (A.view arena.new).words id at Null (zero_struct size)) }
@@ -194,7 +185,7 @@ pub fn make_struct<A: BuilderArena>(
     let words = size.total();
     if words == 0 {
         set_word(arena, id, at, WirePointer::empty_struct().0);
-        return Ok(Start { segment: id, at });
+        return Ok(WordPlace { segment: id, at });
     }
     put_object(arena, id, at, Shape::Struct(size), words)
 }
@@ -211,7 +202,7 @@ pub fn make_list<A: BuilderArena>(
     at: u32,
     size: ElementSize,
     count: u32,
-) -> Result<Start, ErrorKind>
+) -> Result<WordPlace, ErrorKind>
     requires place { IsPlace (A.view arena.old).words id at }
     requires few { count < 2 ^ 29 }
     requires plain { size_number size ≤ 6 }
@@ -260,7 +251,7 @@ pub fn make_struct_list<A: BuilderArena>(
     at: u32,
     count: u32,
     size: StructSize,
-) -> Result<Start, ErrorKind>
+) -> Result<WordPlace, ErrorKind>
     requires place { IsPlace (A.view arena.old).words id at }
     requires few { count < 2 ^ 30 }
     requires words { count * (size.data_words + size.pointers) < 2 ^ 29 }

@@ -9,9 +9,8 @@ ghost use Rattle.capnp_copies.specs.Forms.{form_of};
 ghost use Rattle.capnp_value_copies.specs.StructValues.{section_words};
 ghost use Rattle.capnp_copies.specs.Originals.{kept_count};
 
-use capnp_arena_traits::arena::{BuilderArena, set_word};
+use capnp_arena_traits::arena::{BuilderArena, WordPlace, set_word};
 use capnp_copies::copy::put_words;
-use capnp_making::making::Start;
 use capnp_words::words::{part, used_part};
 
 /// The number of words that a copy keeps of a data section: in plain form all, the last one filled
@@ -33,7 +32,7 @@ pub(crate) fn kept_words(bytes: &[u8], bits: u32, canonicalize: bool) -> usize
 /// Writes the first `kept` words of a data section over the words from `to` on.
 pub(crate) fn put_section<A: BuilderArena>(
     arena: &mut A,
-    to: Start,
+    to: WordPlace,
     bytes: &[u8],
     bits: u32,
     kept: u16,
@@ -47,7 +46,7 @@ pub(crate) fn put_section<A: BuilderArena>(
               (take kept (section_words bits bytes.now));
         } }
 {
-    let Start { segment: id, at } = to;
+    let WordPlace { segment: id, at } = to;
     let whole = bits / 64;
     let kept = u32::from(kept);
     if kept <= whole {

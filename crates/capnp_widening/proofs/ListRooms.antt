@@ -12,7 +12,7 @@ use Rattle.capnp_making.specs.Memory.{HasRoom, SpendsMemory, RefusesWords, start
 use Rattle.capnp_making.specs.Made.{structs_words}
 use Rattle.capnp_making.specs.Makes.{call_at}
 use Rattle.capnp_making.proofs.PlacedStructs.{count-zero_elements}
-use Rattle.capnp_making.specs.declared.making.Start.{Start}
+use Rattle.capnp_arena_traits.specs.declared.arena.WordPlace.{WordPlace}
 use Rattle.capnp_widening.specs.declared.remaking.ElementRows.{ElementRows}
 use Rattle.capnp_widening.specs.Moved.{moves_into, near_pointers}
 use Rattle.capnp_widening.specs.Rooms.{GrowsByAtMost, RefusesGrowth, RefusesToBecome, widened_words, direct_pointers, HasRoomAndPads, HasRoomFor}
@@ -36,10 +36,10 @@ pub record AreRows (S : Segments) (s p : ℕ) (t : Tree) (rows : ElementRows) (s
   pub there : (target S s p).segment ≡ rows.segment
   pub words : widened_words (as_structs size t) ≡ structs_words rows.count size
   pub pointers : direct_pointers t ≡ rows.count * rows.size.pointers
-  pub near : (to : Start) → near_pointers S (moves_into (start_of (target S s p)) (start_of (target S s p)) t (as_structs size t)) ≡ near_pointers S (element_moves rows to size)
+  pub near : (to : WordPlace) → near_pointers S (moves_into (start_of (target S s p)) (start_of (target S s p)) t (as_structs size t)) ≡ near_pointers S (element_moves rows to size)
 
 -- The pointers of elements, from a place on.
-near_of_rows : (S : Segments) (a h : Start) (p w k n r z : ℕ) (rows : ElementRows) (size : StructSize) → rows.segment ≡ a.segment → rows.at + rows.tag + rows.size.data_words ≡ p → rows.size.data_words + rows.size.pointers ≡ w → rows.size.pointers ≡ k → rows.count ≡ n →
+near_of_rows : (S : Segments) (a h : WordPlace) (p w k n r z : ℕ) (rows : ElementRows) (size : StructSize) → rows.segment ≡ a.segment → rows.at + rows.tag + rows.size.data_words ≡ p → rows.size.data_words + rows.size.pointers ≡ w → rows.size.pointers ≡ k → rows.count ≡ n →
     near_pointers S (rows_moves a.segment p w a.segment r z k n) ≡ near_pointers S (element_moves rows h size)
 near_of_rows S a h p w k n r z rows size segment at step pointers count =
     let near : ℕ → ℕ → ℕ → ℕ → ℕ → ℕ = λ b c d e f. near_pointers S (rows_moves b c d h.segment (h.at + size.data_words) (size.data_words + size.pointers) e f) in
@@ -56,7 +56,7 @@ are_rows S s p t rows size h = go t h.1
           there = refl;
           words = ap (λ n. 1 + n * (size.data_words + size.pointers)) (count-fill_elements size.data_words size.pointers es);
           pointers = refl;
-          near = λ to. (let a : Start = start_of (target S s p) in
+          near = λ to. (let a : WordPlace = start_of (target S s p) in
               near_of_rows S a to (a.at + 1 + d) (d + k) k (element_count es) (a.at + 1 + size.data_words) (size.data_words + size.pointers) (struct_rows S s p d k es) size refl refl refl refl refl);
         })
     go (Pointers ts) e =
@@ -65,7 +65,7 @@ are_rows S s p t rows size h = go t h.1
           there = refl;
           words = ap (λ n. 1 + n * (size.data_words + size.pointers)) (count-struct_for_each_tree size.data_words size.pointers ts);
           pointers = omega arith;
-          near = λ to. (let a : Start = start_of (target S s p) in
+          near = λ to. (let a : WordPlace = start_of (target S s p) in
               near_of_rows S a to a.at 1 1 (count ts) (a.at + 1 + size.data_words) (size.data_words + size.pointers) (pointer_rows S s p ts) size refl (omega arith) refl refl refl);
         })
     go (Flat zero ns) e =
@@ -82,7 +82,7 @@ are_rows S s p t rows size h = go t h.1
     go (Struct ws ts) e = absurd (no_rows rows e)
 
 -- The room for what rows become, and the memory that is refused for it.
-rows_fit : (v : View) (s p : ℕ) (t : Tree) (rows : ElementRows) (size : StructSize) (to : Start) → AreRows v.words s p t rows size → HasRoomFor v s p t (as_structs size t) →
+rows_fit : (v : View) (s p : ℕ) (t : Tree) (rows : ElementRows) (size : StructSize) (to : WordPlace) → AreRows v.words s p t rows size → HasRoomFor v s p t (as_structs size t) →
     HasRoomAndPads v s (structs_words rows.count size) rows.segment (near_pointers v.words (element_moves rows to size))
 rows_fit v s p t rows size to r fits =
     let n : ℕ = near_pointers v.words (element_moves rows to size) in
@@ -101,11 +101,11 @@ rows_refused a b s p rows size k memory full = record {
 
 -- The clauses of a call that makes rows structs hold of the list that the rows are.
 pub rows_make : (v w : View) (s p : ℕ) (rows : ElementRows) (size : StructSize) (r : Result ExistingList ErrorKind) → RemakesRows r rows size (call_at s p v w) → IfErr r (RefusesGrowth v w (structs_words rows.count size) (rows.count * rows.size.pointers)) →
-    ((to : Start) → HasRoomAndPads v s (structs_words rows.count size) rows.segment (near_pointers v.words (element_moves rows to size)) → IsOk r) → MakesListOfStructs r (StoresRows v.words s p rows) size (call_at s p v w)
+    ((to : WordPlace) → HasRoomAndPads v s (structs_words rows.count size) rows.segment (near_pointers v.words (element_moves rows to size)) → IsOk r) → MakesListOfStructs r (StoresRows v.words s p rows) size (call_at s p v w)
 rows_make v w s p rows size r m full fits = record {
   made = m.made;
   named = if_err_both r _ _ _ m.made.memory full (λ k memory why. inr (rows_refused v w s p rows size k memory why));
-  fits = λ t x room. (let to : Start = record { segment = 0; at = 0 } in fits to (rows_fit v s p t rows size to (are_rows v.words s p t rows size x) room));
+  fits = λ t x room. (let to : WordPlace = record { segment = 0; at = 0 } in fits to (rows_fit v s p t rows size to (are_rows v.words s p t rows size x) room));
   few = λ t x. (let are = are_rows v.words s p t rows size x in subst (λ m. GrowsByAtMost v.words w.words m) (sym (ap₂ (λ x y. x + 1 + 2 * y) are.words are.pointers)) m.few);
 }
 
@@ -130,7 +130,7 @@ numbers_refused a b s p l size k two five memory full same = record {
 
 numbers_fit : (v : View) (s p m : ℕ) (t u : Tree) → (widened_words u ≡ m) × (direct_pointers t ≡ 0) → HasRoomFor v s p t u → HasRoom v s m
 numbers_fit v s p m t u (e, none) fits =
-    let a : Start = start_of (target v.words s p) in
+    let a : WordPlace = start_of (target v.words s p) in
     let few = near_few v.words a a t u in
     subst (λ i. HasRoom v s i) (let f : widened_words u + 2 * (near_pointers v.words (moves_into a a t u) - (v.room a.segment - length (segment v.words a.segment))) ≡ m = omega (arith, e, none, few) in f) fits
 

@@ -18,7 +18,7 @@ use Rattle.capnp_making.specs.Stored.{IsStored}
 use Rattle.capnp_making.specs.Zeroed.{row, IsZeroed, PadsInside}
 use Rattle.capnp_contents.specs.declared.existing.ExistingList.{ExistingList}
 use Rattle.capnp_making.specs.declared.making.Shape.TheVariants.{List as ListShape}
-use Rattle.capnp_making.specs.declared.making.Start.{Start}
+use Rattle.capnp_arena_traits.specs.declared.arena.WordPlace.{WordPlace}
 use Rattle.capnp_making.proofs.Below.{pads_inside}
 use Rattle.capnp_making.proofs.Extents.{times-first, once_held}
 use Rattle.capnp_making.proofs.Zeros.{zeroed_again}
@@ -36,7 +36,7 @@ use Rattle.capnp_widening.proofs.Widenings.{count-fill_elements}
 use Rattle.capnp_widening.proofs.Statements.{IsSettled, SettlesRoom, rewriting, rows_moves}
 
 -- Where the first of some structs starts, after its tag, and the list of them.
-abbrev pub first_of : Room → Start
+abbrev pub first_of : Room → WordPlace
 first_of h = record { segment = h.segment; at = h.at + h.pads + 1 }
 
 abbrev pub list_at : Room → StructSize → ℕ → ExistingList
@@ -187,7 +187,7 @@ structs_anew_at s b d p r z q T id at e k es f g h x steps t =
     let a = target s.words id at in
     let n = element_count es in
     let wide = max e f + max k g in
-    let moves : Start → List Move = λ y. rows_moves a.segment (a.start + 1 + e) (e + k) y.segment (y.at + 1 + max e f) wide k n in
+    let moves : WordPlace → List Move = λ y. rows_moves a.segment (a.start + 1 + e) (e + k) y.segment (y.at + 1 + max e f) wide k n in
     let made = structs_made s.words T b.words d.words p.words r.words z.words q.words id at e k es f g h x steps in
     subst (λ m. StandsAnew (call_at id at s q) (1 + m * wide) (moves (start_of (target q.words id at)))) (sym (count-fill_elements f g es))
     (object_anew s b d p r q T id at a (1 + n * (e + k)) steps.settled.0 h.segment h.at h.pads (1 + n * wide) moves made t.kept t.taken t.behind t.first t.written t.last)

@@ -14,7 +14,7 @@ use Rattle.capnp_arena_traits.specs.View.{View}
 use Rattle.capnp_making.specs.Made.{IsGrown, structs_words}
 use Rattle.capnp_making.specs.Makes.{call_at}
 use Rattle.capnp_making.specs.Memory.{KeepsMemory, StandsBehind, TakesWords, start_of}
-use Rattle.capnp_making.specs.declared.making.Start.{Start}
+use Rattle.capnp_arena_traits.specs.declared.arena.WordPlace.{WordPlace}
 use Rattle.capnp_making.specs.Stored.{IsStored}
 use Rattle.capnp_making.specs.Zeroed.{row, IsZeroed, PadsInside}
 use Rattle.capnp_making.specs.declared.making.Shape.TheVariants.{List as ListShape}
@@ -186,8 +186,8 @@ numbers_anew s b d r z q T id at width ns e k h x two five steps t =
     let a = target s.words id at in
     let n = length ns in
     let wide = max 1 e + k in
-    let moves : Start → List Move = λ y. rows_moves a.segment a.start 0 y.segment (y.at + 1 + max 1 e) wide 0 n in
-    let here : Start = object_start h in
+    let moves : WordPlace → List Move = λ y. rows_moves a.segment a.start 0 y.segment (y.at + 1 + max 1 e) wide 0 n in
+    let here : WordPlace = object_start h in
     let y = start_of (target q.words id at) in
     let made = numbers_made_at s.words T b.words d.words r.words z.words q.words id at width ns e k h x two five steps in
     let written : WritesAnew d d (moves here) = subst (λ ms. WritesAnew d d ms) (sym (no_moves a.segment a.start 0 here.segment (here.at + 1 + max 1 e) wide n)) (writes_none d) in

@@ -12,7 +12,7 @@ use Rattle.capnp_arena_traits.specs.Taking.{SameRoomBelow}
 use Rattle.capnp_arena_traits.specs.View.{View}
 use Rattle.capnp_making.specs.Memory.{HasRoom, KeepsMemory, IsNextRoom, Lengthens, TakesWords}
 use Rattle.capnp_making.specs.Zeroed.{row}
-use Rattle.capnp_making.specs.declared.making.Start.{Start}
+use Rattle.capnp_arena_traits.specs.declared.arena.WordPlace.{WordPlace}
 use Rattle.capnp_widening.specs.Anew.{MovesApart, OnlyWrites}
 use Rattle.capnp_widening.specs.Moved.{Move, moves_into, near_pointers}
 use Rattle.capnp_widening.specs.Rooms.{HasPadRoom, HasRoomAndPads, direct_pointers}
@@ -66,7 +66,7 @@ near_rows_few S s p w v r z k zero = omega arith
 near_rows_few S s p w v r z k (suc n) =
     omega (arith, near-append S (row_moves s p v r k) (rows_moves s (p + w) w v (r + z) z k n), near_row_few S s p v r k, near_rows_few S s (p + w) w v (r + z) z k n)
 
-pub near_few : (S : Segments) (a b : Start) (t u : Tree) → near_pointers S (moves_into a b t u) ≤ direct_pointers t
+pub near_few : (S : Segments) (a b : WordPlace) (t u : Tree) → near_pointers S (moves_into a b t u) ≤ direct_pointers t
 near_few S a b (Struct ws ts) (Struct vs us) = near_row_few S a.segment (a.at + length ws) b.segment (b.at + length vs) (count ts)
 near_few S a b (Pointers ts) (Structs d q es) =
     omega (arith, near_rows_few S a.segment a.at 1 b.segment (b.at + 1 + d) (d + q) 1 (count ts))

@@ -10,7 +10,7 @@ use Rattle.capnp_making.specs.Made.{zero_elements}
 use Rattle.capnp_arena_traits.specs.View.{View}
 use Rattle.capnp_making.specs.Makes.{call_at}
 use Rattle.capnp_making.specs.Memory.{start_of}
-use Rattle.capnp_making.specs.declared.making.Start.{Start}
+use Rattle.capnp_arena_traits.specs.declared.arena.WordPlace.{WordPlace}
 use Rattle.capnp_format.specs.Path.{word_interval}
 use Rattle.capnp_making.specs.Stored.{IsStored}
 use Rattle.capnp_making.specs.Zeroed.{row, IsZeroed}
@@ -141,7 +141,7 @@ pointers_anew_at s b d p r z q T id at ts e k h x steps t =
     let a = target s.words id at in
     let n = count ts in
     let wide = e + max 1 k in
-    let moves : Start → List Move = λ y. rows_moves a.segment a.start 1 y.segment (y.at + 1 + e) wide 1 n in
+    let moves : WordPlace → List Move = λ y. rows_moves a.segment a.start 1 y.segment (y.at + 1 + e) wide 1 n in
     let made = pointers_made s.words T b.words d.words p.words r.words z.words q.words id at ts e k h x steps in
     let from_zero : a.start + 0 + 0 ≡ a.start = omega arith in
     let written = subst (λ m. WritesAnew d p (rows_moves a.segment m 1 h.segment (h.at + h.pads + 1 + e) wide 1 n)) from_zero t.written in
@@ -261,7 +261,7 @@ void_anew s b d p r z q T id at ns size h x steps t =
     let n = length ns in
     let wide = size.data_words + size.pointers in
     let from = a.start + 0 + 0 in
-    let moves : Start → List Move = λ y. rows_moves a.segment from 0 y.segment (y.at + 1 + size.data_words) wide 0 n in
+    let moves : WordPlace → List Move = λ y. rows_moves a.segment from 0 y.segment (y.at + 1 + size.data_words) wide 0 n in
     let y = start_of (target q.words id at) in
     let made = void_made s.words T b.words d.words p.words r.words z.words q.words id at ns size h x steps in
     subst (λ ms. StandsAnew (call_at id at s q) (1 + element_count (zero_elements size.data_words size.pointers n) * wide) ms) (no_moves a.segment from 0 y.segment (y.at + 1 + size.data_words) wide n)

@@ -10,7 +10,7 @@ use Rattle.capnp_arena_traits.specs.View.{View}
 use Rattle.capnp_arena_traits.specs.Written.{with_word}
 use Rattle.capnp_making.specs.Makes.{call_at}
 use Rattle.capnp_making.specs.Memory.{KeepsMemory, StandsBehind, TakesWords, start_of}
-use Rattle.capnp_making.specs.declared.making.Start.{Start}
+use Rattle.capnp_arena_traits.specs.declared.arena.WordPlace.{WordPlace}
 use Rattle.capnp_format.specs.Path.{word_interval}
 use Rattle.capnp_making.specs.Zeroed.{row, IsZeroed}
 use Rattle.capnp_making.specs.Made.{IsGrown}
@@ -227,17 +227,17 @@ module _ (S T D P R Q : Segments) (u q : ℕ) (a : Target) (size : ℕ) (b : Tar
 
 -- The object is new, in the words allocated for it and its pads; its pointers are moved to where it
 -- starts.
-pub object_anew : (s t d p r q : View) (T : Segments) (u i : ℕ) (a : Target) (size : ℕ) (b : Target) (v at pads wide : ℕ) (moves : Start → List Move) →
+pub object_anew : (s t d p r q : View) (T : Segments) (u i : ℕ) (a : Target) (size : ℕ) (b : Target) (v at pads wide : ℕ) (moves : WordPlace → List Move) →
     IsRemade s.words T d.words p.words r.words q.words u i a size b v at pads wide (moves (record { segment = v; at = at + pads })) → KeepsMemory s t → TakesWords s t u wide → StandsBehind s u wide (record { segment = v; at = at + pads }) → OnlyWrites t d →
     WritesAnew d p (moves (record { segment = v; at = at + pads })) → OnlyWrites p q → StandsAnew (call_at u i s q) wide (moves (start_of (target q.words u i)))
 object_anew s t d p r q T u i a size b v at pads wide moves h kept taken behind first w last =
-    let start : ℕ → ℕ → Start = λ x y. record { segment = x; at = y } in
+    let start : ℕ → ℕ → WordPlace = λ x y. record { segment = x; at = y } in
     let ms = moves (start v (at + pads)) in
     let written = w s.words h.begun.can in
     let goes : target q.words u i ≡ b = ap target_in (leads_last s.words T d.words p.words r.words q.words u i a size b v at pads wide ms h).1 in
     let there : start v (at + pads) ≡ start_of (target q.words u i) = ap₂ start (sym h.segment_of) (sym h.start_of) ∙ ap start_of (sym goes) in
-    subst (λ (x : Start). StandsAnew (call_at u i s q) wide (moves x)) there (record {
-      behind = subst (λ (x : Start). StandsBehind s u wide x) there behind;
+    subst (λ (x : WordPlace). StandsAnew (call_at u i s q) wide (moves x)) there (record {
+      behind = subst (λ (x : WordPlace). StandsBehind s u wide x) there behind;
       forms = written_later s.words p.words q.words ms (new_last s.words T d.words p.words r.words q.words u i a size b v at pads wide ms h) written.0;
       begun = t;
       kept = kept;

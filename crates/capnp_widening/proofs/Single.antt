@@ -15,7 +15,7 @@ use Rattle.capnp_format.specs.Path.{word_interval}
 use Rattle.capnp_making.specs.Made.{IsShape}
 use Rattle.capnp_making.specs.declared.making.Shape.{Shape}
 use Rattle.capnp_making.specs.declared.making.Shape.TheVariants.{Struct as StructShape, List as ListShape}
-use Rattle.capnp_making.specs.declared.making.Start.{Start}
+use Rattle.capnp_arena_traits.specs.declared.arena.WordPlace.{WordPlace}
 use Rattle.capnp_making.proofs.Extents.{once_held, times-first}
 use Rattle.capnp_making.proofs.MadeWords.{word_put, not_far, is_far, once_row}
 use Rattle.capnp_widening.specs.Moved.{SameObject, IsMoved, HasValueInside, fresh_pads, CanMove, AreMoved}
@@ -138,7 +138,7 @@ copied_moves B S R s p v r some other e c =
     pads_inside y z h = old_pads_inside B S s p (record { grows = c.grows; kept = c.kept }) c.stand.0 y z h
 
 -- A near pointer is rewritten to where it leads.
-pub near_moves : (B S R : Segments) (s p v r start : ℕ) (shape : Shape) (h at : Start) → word_at S s p ≢ 0 → IsShape shape (word_at S s p) → offset_leads (length (segment S s)) p (offset_bits (word_at S s p)) ≡ Some start →
+pub near_moves : (B S R : Segments) (s p v r start : ℕ) (shape : Shape) (h at : WordPlace) → word_at S s p ≢ 0 → IsShape shape (word_at S s p) → offset_leads (length (segment S s)) p (offset_bits (word_at S s p)) ≡ Some start →
     h.segment ≡ s → h.at ≡ start → at.segment ≡ v → at.at ≡ r → PointsTo S R shape h at → CanMove B S (a_move s p v r ∷ []) → AreMoved S R (a_move s p v r ∷ [])
 near_moves B S R s p v r start shape h at some shaped goes hs ha vs rs points c =
     let (b, w, kind_of, lies) = points_at points in

@@ -18,7 +18,7 @@ use Rattle.capnp_format.specs.Path.{word_interval}
 use Rattle.capnp_making.specs.Stored.{IsStored, IsReplaced}
 use Rattle.capnp_making.specs.Zeroed.{row}
 use Rattle.capnp_making.specs.declared.making.Shape.{Shape}
-use Rattle.capnp_making.specs.declared.making.Start.{Start}
+use Rattle.capnp_arena_traits.specs.declared.arena.WordPlace.{WordPlace}
 use Rattle.capnp_contents.specs.Existing.{StructLiesIn}
 use Rattle.capnp_contents.specs.declared.existing.ExistingList.{ExistingList}
 use Rattle.capnp_contents.specs.declared.existing.ExistingStruct.{ExistingStruct}
@@ -85,7 +85,7 @@ pub record IsSettled (S R : Segments) (u q : ℕ) (b : Target) (v at pads : ℕ)
 abbrev pub SettlesRoom : CallAt → Room → Shape → Type 0
 SettlesRoom c h shape = (b : Target) × IsSettled c.old.words c.new.words c.segment c.at b h.segment h.at h.pads × IsShape shape b.word × (b.segment ≡ h.segment) × (b.start ≡ h.at + h.pads)
 
-pub settled_room : {S R : Segments} {place : Start} {h : Room} {shape : Shape} → Settles S R place h shape → SettlesRoom (rewriting place.segment place.at S R) h shape
+pub settled_room : {S R : Segments} {place : WordPlace} {h : Room} {shape : Shape} → Settles S R place h shape → SettlesRoom (rewriting place.segment place.at S R) h shape
 settled_room s = (
   s.object,
   record { segments = s.segments; words = s.words; leads_there = s.leads_there; pads_there = s.pads_there; kept = s.kept },
@@ -94,7 +94,7 @@ settled_room s = (
   s.starts,
 )
 
-pub settles_room : (S R : Segments) (place : Start) (h : Room) (shape : Shape) → SettlesRoom (rewriting place.segment place.at S R) h shape → Settles S R place h shape
+pub settles_room : (S R : Segments) (place : WordPlace) (h : Room) (shape : Shape) → SettlesRoom (rewriting place.segment place.at S R) h shape → Settles S R place h shape
 settles_room S R place h shape (b, s, shaped, there, start) = record {
   object = b;
   segments = s.segments;
@@ -116,12 +116,12 @@ pub record IsPointed (S R : Segments) (s p : ℕ) (a : Target) : Type 0 where
   pub fresh : (x y : ℕ) → 0 < times (pads_of (word_at R s p)) x y → (length (segment S x) ≤ y) × (y < length (segment R x))
   pub zero : (x y : ℕ) → times (pads_of (word_at R s p)) x y ≡ 0 → length (segment S x) ≤ y → word_at R x y ≡ 0
 
-abbrev pub PointsAt : Segments → Segments → Shape → Start → Start → Type 0
+abbrev pub PointsAt : Segments → Segments → Shape → WordPlace → WordPlace → Type 0
 PointsAt S R shape h at =
     (a : Target) × IsPointed S R at.segment at.at a × IsShape shape a.word
     × (((a.segment ≡ h.segment) × (a.start ≡ h.at)) ⊎ ((kind a.word ≡ 0) × (upper_half a.word ≡ 0)))
 
-pub points_at : {S R : Segments} {shape : Shape} {h at : Start} → PointsTo S R shape h at → PointsAt S R shape h at
+pub points_at : {S R : Segments} {shape : Shape} {h at : WordPlace} → PointsTo S R shape h at → PointsAt S R shape h at
 points_at p = (
   p.object,
   record { grows = p.grows; leads_there = p.leads_there; inside = p.inside; kept = p.kept; fresh = p.fresh; zero = p.zero },
@@ -129,7 +129,7 @@ points_at p = (
   p.starts,
 )
 
-pub points_to : (S R : Segments) (shape : Shape) (h at : Start) → PointsAt S R shape h at → PointsTo S R shape h at
+pub points_to : (S R : Segments) (shape : Shape) (h at : WordPlace) → PointsAt S R shape h at → PointsTo S R shape h at
 points_to S R shape h at (a, p, shaped, start) = record {
   object = a;
   grows = p.grows;

@@ -16,7 +16,7 @@ use Rattle.capnp_contents.specs.Existing.{struct_in}
 use Rattle.capnp_making.specs.Stored.{IsStored, IsReplaced}
 use Rattle.capnp_making.specs.Zeroed.{row, IsZeroed, PadsInside}
 use Rattle.capnp_contents.specs.declared.existing.ExistingStruct.{ExistingStruct}
-use Rattle.capnp_making.specs.declared.making.Start.{Start}
+use Rattle.capnp_arena_traits.specs.declared.arena.WordPlace.{WordPlace}
 use Rattle.capnp_making.specs.declared.making.Shape.TheVariants.{Struct as StructShape}
 use Rattle.capnp_making.proofs.Below.{pads_inside}
 use Rattle.capnp_making.proofs.Extents.{times-first, once_held}
@@ -138,7 +138,7 @@ anew_at s t d p r z q id at size h ws ts x steps k =
     let full : count (fill_trees size.pointers ts) ≡ size.pointers = omega (arith, count-fill_trees size.pointers ts) in
     let words : n ≡ length (fill_words size.data_words ws) + count (fill_trees size.pointers ts) = omega (arith, long, full) in
     let b = start_of (target q.words id at) in
-    let moves : ℕ → Start → List Move = λ n x. row_moves a.segment (a.start + length ws) x.segment (x.at + n) (count ts) in
+    let moves : ℕ → WordPlace → List Move = λ n x. row_moves a.segment (a.start + length ws) x.segment (x.at + n) (count ts) in
     let made = object_anew s t d p r q t.words id at a (length ws + count ts) m.object h.segment h.at h.pads n (moves size.data_words) m.made k.kept k.taken k.behind k.first k.written k.last in
     subst (λ i. StandsAnew (call_at id at s q) i (moves (length (fill_words size.data_words ws)) b)) words (subst (λ i. StandsAnew (call_at id at s q) n (moves i b)) (sym long) made)
 

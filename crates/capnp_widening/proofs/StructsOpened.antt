@@ -10,7 +10,7 @@ use Rattle.capnp_format.specs.Forest.{target, target_in}
 use Rattle.capnp_words.specs.declared.wire_pointer.StructSize.{StructSize}
 use Rattle.capnp_arena_traits.specs.View.{View}
 use Rattle.capnp_contents.specs.declared.existing.ExistingStruct.{ExistingStruct}
-use Rattle.capnp_making.specs.declared.making.Start.{Start}
+use Rattle.capnp_arena_traits.specs.declared.arena.WordPlace.{WordPlace}
 use Rattle.capnp_contents.specs.Existing.{struct_in, StructLiesIn}
 use Rattle.capnp_making.specs.Made.{zero_struct, words_of_zero, nulls, LeadsToStart}
 use Rattle.capnp_making.specs.Memory.{HasRoom, KeepsMemory, SpendsMemory, IsRefusedFor, RefusesWords, StandsBehind, TakesWords, start_of}
@@ -175,7 +175,7 @@ some_struct e x = cc
 zero_count : (n : ℕ) → length (words_of_zero n) ≡ n
 zero_count n = grind (arith, common_steps)
 
-pub struct_made : (a b : View) (s p : ℕ) (size : StructSize) (h : Start) → IsReplaced a.words b.words s p Null (zero_struct size) → KeepsMemory a b → TakesWords a b s (size.data_words + size.pointers) →
+pub struct_made : (a b : View) (s p : ℕ) (size : StructSize) (h : WordPlace) → IsReplaced a.words b.words s p Null (zero_struct size) → KeepsMemory a b → TakesWords a b s (size.data_words + size.pointers) →
     StandsBehind a s (size.data_words + size.pointers) (start_of (target b.words s p)) → LeadsToStart b.words s p h →
     OpensStruct LeadsToOne size (Ok (struct_at h.segment h.at size.data_words size.pointers)) (call_at s p a b) Null
 struct_made a b s p size h made memory taken behind leads =

@@ -6,7 +6,7 @@ use Rattle.capnp_arena_traits.specs.View.{View, KeepsLimits}
 use Rattle.capnp_arena_traits.specs.Written.{with_word}
 use Rattle.capnp_making.specs.Memory.{Lengthens, StandsBehind, TakesWords}
 use Rattle.capnp_making.specs.Zeroed.{IsPruned}
-use Rattle.capnp_making.specs.declared.making.Start.{Start}
+use Rattle.capnp_arena_traits.specs.declared.arena.WordPlace.{WordPlace}
 use Rattle.capnp_making.proofs.Memory.{words_in}
 use Rattle.capnp_making.proofs.MadeWords.{word_put}
 use Rattle.capnp_making.proofs.Taken.{anywhere_lengthens, extended_lengthens}
@@ -37,7 +37,7 @@ pub took_far : (a mid t : View) (id n k p : ℕ) → mid ≡ a → (length (segm
     (IsFull mid (n + 1) → GainsSegment mid t (n + 1) k p) → TakesWords a t id n × StandsBehind a id n (record { segment = k; at = p + 1 })
 took_far a mid t id n k p e full first another =
     let (next, long, start) = anywhere_lengthens mid t (n + 1) k p first another in
-    let h : Start = record { segment = k; at = p + 1 } in
+    let h : WordPlace = record { segment = k; at = p + 1 } in
     subst (λ v. (length (segment v.words id) + n ≤ v.room id → ⊥) → TakesWords v t id n × StandsBehind v id n h) e
     (λ none. (
       record { near = λ fits. absurd (none fits); far = λ more. (k, next, long) },

@@ -16,7 +16,7 @@ use Rattle.capnp_making.specs.Memory.{KeepsMemory, SpendsMemory, RefusesWords}
 use Rattle.capnp_making.specs.Memory.{StandsBehind, TakesWords, start_of}
 use Rattle.capnp_making.specs.Stored.{IsReplaced}
 use Rattle.capnp_making.specs.Zeroed.{IsPruned}
-use Rattle.capnp_making.specs.declared.making.Start.{Start}
+use Rattle.capnp_arena_traits.specs.declared.arena.WordPlace.{WordPlace}
 use Rattle.capnp_widening.specs.Moved.{CanMove, Move, Moves, MovesSome, Unmoves, moves_into, near_pointers}
 use Rattle.capnp_widening.specs.Moved.{row_of_moves}
 use Rattle.capnp_widening.specs.Rooms.{GrowsByAtMost, HasPadRoom, widened_words}
@@ -70,7 +70,7 @@ WritesAnew old new ms =
     AreWrittenAnew S new.words ms × TakesPadsInTurn S old new ms
 
 -- The place of a call.
-abbrev pub call_place : CallAt → Start
+abbrev pub call_place : CallAt → WordPlace
 call_place c = record { segment = c.segment; at = c.at }
 
 -- A call moves n pointers in turn, and takes at most two words for each. Or it is refused two
@@ -98,7 +98,7 @@ pub record MovesApart {A : Type 0} (result : Result A ErrorKind) (old new : View
 
 -- The call moves n consecutive pointers, from its place on, to consecutive places from h on, in
 -- turn. Within a segment it succeeds.
-pub record MovesRow {A : Type 0} (result : Result A ErrorKind) (c : CallAt) (h : Start) (n : ℕ)
+pub record MovesRow {A : Type 0} (result : Result A ErrorKind) (c : CallAt) (h : WordPlace) (n : ℕ)
     : Type 0 where
   pub moves : MovesInTurn result c.old c.new (row_of_moves (call_place c) h n) n
   pub near : c.segment ≡ h.segment → IsOk result

@@ -12,7 +12,7 @@ use Rattle.capnp_arena_traits.specs.View.{View, KeepsLimits}
 use Rattle.capnp_making.specs.Memory.{KeepsMemory, SpendsMemory, RefusesWords}
 use Rattle.capnp_making.specs.Memory.{StandsBehind, TakesWords}
 use Rattle.capnp_making.specs.declared.making.Shape.{Shape}
-use Rattle.capnp_making.specs.declared.making.Start.{Start}
+use Rattle.capnp_arena_traits.specs.declared.arena.WordPlace.{WordPlace}
 use Rattle.capnp_widening.specs.Rooms.{GrowsByAtMost, HasPadRoom, HasRoomAndPads}
 use Rattle.capnp_widening.specs.declared.widening.Room.{Room}
 
@@ -22,7 +22,7 @@ IsRoom S T id n h =
     IsGrown S T h.segment h.at (h.pads + n) × (((h.pads ≡ 0) × (h.segment ≡ id)) ⊎ (h.pads ≡ 1))
 
 -- Where the object of a room starts, after its pads.
-abbrev pub object_start : Room → Start
+abbrev pub object_start : Room → WordPlace
 object_start h = record { segment = h.segment; at = h.at + h.pads }
 
 -- A call allocates n words for an object after all words that were there, and a pad if they aren't
@@ -41,20 +41,20 @@ pub record TakesRoom (result : Result Room ErrorKind) (old new : View) (id n : �
       (λ room. k < length old.words → room.segment ≢ k → m ≤ n → HasPadRoom new k m)
 
 -- From S to R n words are copied over others, and only these are written.
-pub record AreWordsCopied (S R : Segments) (from to : Start) (n : ℕ) : Type 0 where
+pub record AreWordsCopied (S R : Segments) (from to : WordPlace) (n : ℕ) : Type 0 where
   pub segments : length R ≡ length S
   pub words : (x : ℕ) → length (segment R x) ≡ length (segment S x)
   pub here : (i : ℕ) → i < n → word_at R to.segment (to.at + i) ≡ word_at S from.segment (from.at + i)
   pub kept : (x y : ℕ) → times (row to.segment to.at n ∷ []) x y ≡ 0 → word_at R x y ≡ word_at S x y
 
 -- From old to new n words are copied over others, and nothing else changes.
-pub record CopiesWords (old new : View) (from to : Start) (n : ℕ) : Type 0 where
+pub record CopiesWords (old new : View) (from to : WordPlace) (n : ℕ) : Type 0 where
   pub copied : AreWordsCopied old.words new.words from to n
   pub limits : KeepsLimits old new
 
 -- From S to R the pointer at a place is overwritten, and leads to the object of this shape that is
 -- in the room h, after the room's pads.
-pub record Settles (S R : Segments) (place : Start) (h : Room) (shape : Shape) : Type 0 where
+pub record Settles (S R : Segments) (place : WordPlace) (h : Room) (shape : Shape) : Type 0 where
   pub object : Target
   pub segments : length R ≡ length S
   pub words : (x : ℕ) → length (segment R x) ≡ length (segment S x)

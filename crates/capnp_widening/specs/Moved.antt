@@ -9,7 +9,7 @@ use Rattle.capnp_format.specs.Means.{Leads, Means}
 use Rattle.capnp_format.specs.Forest.{Interval, times, pads_of}
 use Rattle.capnp_format.specs.Path.{word_interval, extent}
 use Rattle.capnp_making.specs.Zeroed.{IsZeroed}
-use Rattle.capnp_making.specs.declared.making.Start.{Start}
+use Rattle.capnp_arena_traits.specs.declared.arena.WordPlace.{WordPlace}
 use Rattle.capnp_widening.specs.declared.moving.PointerRows.{PointerRows}
 
 -- Two targets are the same object. It starts at the same place, or it has no words, being an empty
@@ -29,18 +29,18 @@ IsMoved S s p v r = ((word_at S s p ≡ 0) × (word_at S v r ≡ 0)) ⊎
 
 -- A pointer that is rewritten at another place.
 pub record Move : Type 0 where
-  pub from : Start
-  pub to : Start
+  pub from : WordPlace
+  pub to : WordPlace
 
 -- k consecutive pointers, rewritten at consecutive places.
-abbrev pub row_of_moves : Start → Start → ℕ → List Move
+abbrev pub row_of_moves : WordPlace → WordPlace → ℕ → List Move
 row_of_moves from to zero = []
 row_of_moves from to (suc k) =
     record { from = from; to = to }
     ∷ row_of_moves (record from { at = from.at + 1 }) (record to { at = to.at + 1 }) k
 
 -- n words from each of two places are inside their segments.
-pub record BothLieInside (S : Segments) (a b : Start) (n : ℕ) : Type 0 where
+pub record BothLieInside (S : Segments) (a b : WordPlace) (n : ℕ) : Type 0 where
   pub from : a.at + n ≤ length (segment S a.segment)
   pub to : b.at + n ≤ length (segment S b.segment)
 
@@ -59,7 +59,7 @@ rows_of_moves from to k (suc n) =
     ++ rows_of_moves (record from { at = from.at + from.step }) (record to { at = to.at + to.step }) k n
 
 -- The moves of the pointers of the object t at a into the object u at b that it becomes.
-abbrev pub moves_into : Start → Start → Tree → Tree → List Move
+abbrev pub moves_into : WordPlace → WordPlace → Tree → Tree → List Move
 moves_into a b (Struct ws ts) (Struct vs us) =
     row_of_moves (record a { at = a.at + length ws }) (record b { at = b.at + length vs }) (count ts)
 moves_into a b (Pointers ts) (Structs d q es) =

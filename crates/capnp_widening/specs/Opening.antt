@@ -11,7 +11,7 @@ use Rattle.capnp_words.specs.declared.wire_pointer.ElementSize.TheVariants.{Void
 use Rattle.capnp_words.specs.declared.wire_pointer.StructSize.{StructSize}
 use Rattle.capnp_contents.specs.declared.existing.ExistingList.{ExistingList}
 use Rattle.capnp_contents.specs.declared.existing.ExistingStruct.{ExistingStruct}
-use Rattle.capnp_making.specs.declared.making.Start.{Start}
+use Rattle.capnp_arena_traits.specs.declared.arena.WordPlace.{WordPlace}
 use Rattle.capnp_contents.specs.Existing.{list_in, struct_in, StructLiesIn}
 use Rattle.capnp_making.specs.Made.{zero_struct}
 use Rattle.capnp_making.specs.Makes.{CallAt}
@@ -23,7 +23,7 @@ use Rattle.capnp_widening.specs.Rooms.{direct_pointers}
 use Rattle.capnp_widening.specs.Widened.{HasSections, widened, list_widened}
 
 -- The struct of this size whose sections start at a place.
-abbrev pub existing_struct : Start → StructSize → ExistingStruct
+abbrev pub existing_struct : WordPlace → StructSize → ExistingStruct
 existing_struct start size = record { segment = start.segment; start = start.at; size = size }
 
 -- What a value becomes if a struct of at least this size is opened, or the error with which that is

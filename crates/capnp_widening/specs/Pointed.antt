@@ -7,12 +7,12 @@ use Rattle.capnp_format.specs.Word.{kind, far_position, is_double, offset_bits, 
 use Rattle.capnp_format.specs.Path.{word_interval}
 use Rattle.capnp_making.specs.Made.{IsShape}
 use Rattle.capnp_making.specs.declared.making.Shape.{Shape}
-use Rattle.capnp_making.specs.declared.making.Start.{Start}
+use Rattle.capnp_arena_traits.specs.declared.arena.WordPlace.{WordPlace}
 
 -- From S to R the pointer at a place is written to the object of this shape that starts at h. Its
 -- pads are written into new words, and nothing else is written. A struct without sections may start
 -- anywhere.
-pub record PointsTo (S R : Segments) (shape : Shape) (h at : Start) : Type 0 where
+pub record PointsTo (S R : Segments) (shape : Shape) (h at : WordPlace) : Type 0 where
   pub object : Target
   pub grows : Grows S R
   pub leads_there : Leads R at.segment at.at object

@@ -10,7 +10,7 @@ use Rattle.capnp_arena_traits.specs.View.{View}
 use Rattle.capnp_making.specs.Memory.{HasRoom, KeepsMemory, SpendsMemory, RefusesWords, start_of}
 use Rattle.capnp_making.specs.Near.{HasOwnRoom}
 use Rattle.capnp_making.specs.Stored.{IsStored}
-use Rattle.capnp_making.specs.declared.making.Start.{Start}
+use Rattle.capnp_arena_traits.specs.declared.arena.WordPlace.{WordPlace}
 use Rattle.capnp_widening.specs.Moved.{moves_into, near_pointers}
 use Rattle.capnp_widening.specs.Widened.{widened, list_widened}
 use Rattle.capnp_words.specs.Names.{is_allocation_name}
@@ -80,7 +80,7 @@ pub record RefusesToBecome (Stands : Tree → Type 0) (becomes : Tree → Result
 -- There is room for u, which t at (s, p) becomes, and for landing pads of the near pointers of t.
 abbrev pub HasRoomFor : View → ℕ → ℕ → Tree → Tree → Type 0
 HasRoomFor v s p t u =
-    let a : Start = start_of (target v.words s p) in
+    let a : WordPlace = start_of (target v.words s p) in
     HasRoomAndPads v s (widened_words u) a.segment (near_pointers v.words (moves_into a a t u))
 
 -- (s, p) stores a struct, and there is room for what it becomes.

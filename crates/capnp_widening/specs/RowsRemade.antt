@@ -14,7 +14,7 @@ use Rattle.capnp_words.specs.declared.wire_pointer.ElementSize.{ElementSize}
 use Rattle.capnp_words.specs.declared.wire_pointer.ElementSize.TheVariants.{Void, Pointer}
 use Rattle.capnp_words.specs.declared.wire_pointer.ElementSize.TheVariants.{InlineComposite}
 use Rattle.capnp_contents.specs.declared.existing.ExistingList.{ExistingList}
-use Rattle.capnp_making.specs.declared.making.Start.{Start}
+use Rattle.capnp_arena_traits.specs.declared.arena.WordPlace.{WordPlace}
 use Rattle.capnp_contents.specs.Existing.{list_in}
 use Rattle.capnp_format.specs.Fields.{field_in}
 use Rattle.capnp_making.specs.Made.{zero_elements, structs_words}
@@ -53,7 +53,7 @@ pub record AreRowsCopied (S R : Segments) (c : RowCopy) : Type 0 where
       word_at R x y ≡ word_at S x y
 
 -- From S to R the tag of a list of n structs is written at h, and nothing else.
-pub record IsTagWritten (S R : Segments) (h : Start) (n : ℕ) (size : StructSize) : Type 0 where
+pub record IsTagWritten (S R : Segments) (h : WordPlace) (n : ℕ) (size : StructSize) : Type 0 where
   pub segments : length R ≡ length S
   pub words : (x : ℕ) → length (segment R x) ≡ length (segment S x)
   pub tag : IsTag (word_at R h.segment h.at) n size.data_words size.pointers
@@ -68,7 +68,7 @@ RowsInside S rows =
 
 -- From S to R the data words of elements are copied into consecutive structs of this size, which
 -- start at h.
-abbrev pub CopiesData : Segments → Segments → ElementRows → Start → StructSize → Type 0
+abbrev pub CopiesData : Segments → Segments → ElementRows → WordPlace → StructSize → Type 0
 CopiesData S R old h size =
     AreRowsCopied S R
     (record {
@@ -83,7 +83,7 @@ CopiesData S R old h size =
     })
 
 -- The pointers of elements, rewritten in these structs.
-abbrev pub element_moves : ElementRows → Start → StructSize → List Move
+abbrev pub element_moves : ElementRows → WordPlace → StructSize → List Move
 element_moves old h size =
     rows_of_moves
     (record {
@@ -100,7 +100,7 @@ element_moves old h size =
 
 -- From old to new the data words of elements are copied into consecutive structs of this size,
 -- which start at h; then their pointers are rewritten there.
-pub record FillsRows (old new : View) (rows : ElementRows) (h : Start) (size : StructSize) : Type 0 where
+pub record FillsRows (old new : View) (rows : ElementRows) (h : WordPlace) (size : StructSize) : Type 0 where
   pub between : View
   pub copied : CopiesData old.words between.words rows h size
   pub only : OnlyWrites old between

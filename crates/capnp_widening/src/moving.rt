@@ -23,9 +23,9 @@ ghost use Rattle.capnp_widening.specs.Moved.{BothLieInside, RowsLieInside, row_o
 ghost use Rattle.capnp_widening.specs.Pointed.{HasPlainPads, PointsTo};
 ghost use Rattle.capnp_widening.specs.Rooms.{HasPadRoom, TakesPad};
 
-use capnp_arena_traits::arena::{BuilderArena, set_word};
+use capnp_arena_traits::arena::{BuilderArena, WordPlace, set_word};
 use capnp_making::landing::{length_of, word_of};
-use capnp_making::making::{Shape, Start, pointer_to};
+use capnp_making::making::{Shape, pointer_to};
 use capnp_making::zeroing::zero_pads;
 use capnp_words::error::ErrorKind;
 use capnp_words::wire_pointer::{WirePointer, WirePointerKind};
@@ -37,7 +37,11 @@ use capnp_words::wire_pointer::{WirePointer, WirePointerKind};
 /// Refuses only if the arena refuses two words for a landing pad. A refusal changes no word; if it
 /// is `AllocationFailed`, the allocator has counted it.
 #[inline(always)]
-pub fn move_pointer<A: BuilderArena>(arena: &mut A, from: Start, to: Start) -> Result<(), ErrorKind>
+pub fn move_pointer<A: BuilderArena>(
+    arena: &mut A,
+    from: WordPlace,
+    to: WordPlace,
+) -> Result<(), ErrorKind>
     requires from { IsPlace (A.view arena.old).words from.segment from.at }
     requires to { IsPlace (A.view arena.old).words to.segment to.at }
     ensures moved { OnOk result (Moves (A.view arena.old).words (A.view arena.new).words
@@ -63,7 +67,7 @@ pub fn move_pointer<A: BuilderArena>(arena: &mut A, from: Start, to: Start) -> R
     }
     match word.target(from.at, length_of(arena, from.segment)) {
         Some(start) => {
-            let object = Start {
+            let object = WordPlace {
                 segment: from.segment,
                 at: start,
             };
@@ -92,8 +96,8 @@ fn shape_of(word: WirePointer) -> Shape
 fn point_to<A: BuilderArena>(
     arena: &mut A,
     shape: Shape,
-    object: Start,
-    to: Start,
+    object: WordPlace,
+    to: WordPlace,
 ) -> Result<(), ErrorKind>
     requires to { IsPlace (A.view arena.old).words to.segment to.at }
     requires there { object.segment < length (A.view arena.old).words }
@@ -193,8 +197,8 @@ fn tag_of(shape: Shape) -> WirePointer
 #[inline(always)]
 pub fn move_row<A: BuilderArena>(
     arena: &mut A,
-    from: Start,
-    to: Start,
+    from: WordPlace,
+    to: WordPlace,
     count: u32,
 ) -> Result<(), ErrorKind>
     requires { BothLieInside (A.view arena.old).words from to count }
@@ -214,8 +218,8 @@ pub fn move_row<A: BuilderArena>(
 #[inline(never)]
 fn move_row_apart<A: BuilderArena>(
     arena: &mut A,
-    from: Start,
-    to: Start,
+    from: WordPlace,
+    to: WordPlace,
     count: u32,
 ) -> Result<(), ErrorKind>
     requires { BothLieInside (A.view arena.old).words from to count }
@@ -230,8 +234,8 @@ fn move_row_apart<A: BuilderArena>(
 #[inline(always)]
 fn move_each<A: BuilderArena>(
     arena: &mut A,
-    from: Start,
-    to: Start,
+    from: WordPlace,
+    to: WordPlace,
     count: u32,
 ) -> Result<(), ErrorKind>
     requires { BothLieInside (A.view arena.old).words from to count }
@@ -239,11 +243,11 @@ fn move_each<A: BuilderArena>(
         (call_at from.segment from.at (A.view arena.old) (A.view arena.new)) to count }
 {
     for i in 0..count {
-        let source = Start {
+        let source = WordPlace {
             segment: from.segment,
             at: from.at + i,
         };
-        let place = Start {
+        let place = WordPlace {
             segment: to.segment,
             at: to.at + i,
         };
@@ -256,7 +260,7 @@ fn move_each<A: BuilderArena>(
 /// `to`.
 #[cold]
 #[inline(never)]
-pub fn unmove_row<A: BuilderArena>(arena: &mut A, from: Start, to: Start, count: u32)
+pub fn unmove_row<A: BuilderArena>(arena: &mut A, from: WordPlace, to: WordPlace, count: u32)
     requires { BothLieInside (A.view arena.old).words from to count }
     ensures { TakesBack (A.view arena.old) (A.view arena.new) (row_of_moves from to count) }
 {
@@ -314,11 +318,11 @@ pub fn move_rows<A: BuilderArena>(
     let mut source = from.at;
     let mut place = to.at;
     for i in 0..count {
-        let old = Start {
+        let old = WordPlace {
             segment: from.segment,
             at: source,
         };
-        let new = Start {
+        let new = WordPlace {
             segment: to.segment,
             at: place,
         };
@@ -345,11 +349,11 @@ pub fn unmove_rows<A: BuilderArena>(
     let mut source = from.at;
     let mut place = to.at;
     for i in 0..count {
-        let old = Start {
+        let old = WordPlace {
             segment: from.segment,
             at: source,
         };
-        let new = Start {
+        let new = WordPlace {
             segment: to.segment,
             at: place,
         };

@@ -14,10 +14,10 @@ ghost use Rattle.capnp_widening.specs.RowsRemade.{AreNumbersCopied, IsList, Make
 
 use crate::remaking::begin_list;
 use crate::widening::settle;
-use capnp_arena_traits::arena::{BuilderArena, set_word};
+use capnp_arena_traits::arena::{BuilderArena, WordPlace, set_word};
 use capnp_contents::existing::ExistingList;
 use capnp_making::landing::{length_of, word_of};
-use capnp_making::making::{Shape, Start};
+use capnp_making::making::Shape;
 use capnp_making::zeroing::{zero_pads, zero_part};
 use capnp_words::error::ErrorKind;
 use capnp_words::wire_pointer::{ElementSize, StructSize, data_bits_per_element};
@@ -88,7 +88,7 @@ fn remake_numbers<A: BuilderArena>(
 {
     let pointer = word_of(arena, id, at);
     let room = begin_list(arena, id, old.count, size)?;
-    let first = Start {
+    let first = WordPlace {
         segment: room.segment,
         at: room.at + room.pads + 1,
     };
@@ -108,7 +108,7 @@ fn remake_numbers<A: BuilderArena>(
 
 /// Copies each number of `old` into a word of its own: the first number to `to`, each further
 /// number to `step` words after the one before.
-fn copy_numbers<A: BuilderArena>(arena: &mut A, old: ExistingList, to: Start, step: u32)
+fn copy_numbers<A: BuilderArena>(arena: &mut A, old: ExistingList, to: WordPlace, step: u32)
     requires kind { (2 ≤ size_number old.size) × (size_number old.size ≤ 5) }
     requires inside { NumbersInside (A.view arena.old).words old }
     requires to { to.at + old.count * step ≤ length (segment (A.view arena.old).words to.segment) }

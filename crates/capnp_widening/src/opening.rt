@@ -16,10 +16,10 @@ ghost use Rattle.capnp_widening.specs.Widened.{IsAtLeast};
 
 use crate::lists::get_struct_list;
 use crate::widening::{is_wide, widen_known};
-use capnp_arena_traits::arena::BuilderArena;
+use capnp_arena_traits::arena::{BuilderArena, WordPlace};
 use capnp_contents::existing::{self, ExistingList, ExistingStruct};
 use capnp_making::landing::word_of;
-use capnp_making::making::{Start, make_struct};
+use capnp_making::making::make_struct;
 use capnp_words::error::ErrorKind;
 use capnp_words::wire_pointer::StructSize;
 
@@ -62,11 +62,11 @@ pub fn open_struct<A: BuilderArena>(
             if is_wide(old.size, size) {
                 return Ok(old);
             }
-            let start = Start {
+            let start = WordPlace {
                 segment: old.segment,
                 at: old.start,
             };
-            open_narrow_struct(arena, Start { segment: id, at }, start, old.size, size)
+            open_narrow_struct(arena, WordPlace { segment: id, at }, start, old.size, size)
         }
         None => {
             if !word_of(arena, id, at).is_null() {
@@ -115,8 +115,8 @@ fn new_struct<A: BuilderArena>(
 #[inline(never)]
 fn open_narrow_struct<A: BuilderArena>(
     arena: &mut A,
-    place: Start,
-    start: Start,
+    place: WordPlace,
+    start: WordPlace,
     narrow: StructSize,
     size: StructSize,
 ) -> Result<ExistingStruct, ErrorKind>

@@ -10,14 +10,14 @@ ghost use Rattle.capnp_widening.specs.Housed.{IsRoom, TakesRoom, object_start};
 ghost use Rattle.capnp_widening.specs.Moved.{MovesSome, Unmoves, near_pointers};
 ghost use Rattle.capnp_widening.specs.RowsRemade.{AreRowsCopied, CanBecome, CopiesData, FillsRows, IsTagWritten, MakesListOfStructs, RowsInside, RemakesRows, StoresRows, element_moves};
 ghost use Rattle.capnp_making.specs.Makes.{call_at};
-ghost use Rattle.capnp_making.specs.declared.making.Start.{Start};
+ghost use Rattle.capnp_arena_traits.specs.declared.arena.WordPlace.{WordPlace};
 
 use crate::moving::{PointerRows, move_rows, unmove_rows};
 use crate::widening::{Room, copy_words, settle, take};
-use capnp_arena_traits::arena::{BuilderArena, set_word};
+use capnp_arena_traits::arena::{BuilderArena, WordPlace, set_word};
 use capnp_contents::existing::ExistingList;
 use capnp_making::landing::{length_of, word_of};
-use capnp_making::making::{Shape, Start};
+use capnp_making::making::Shape;
 use capnp_making::zeroing::{zero_pads, zero_part};
 use capnp_words::error::ErrorKind;
 use capnp_words::wire_pointer::{ElementSize, StructSize, WirePointer};
@@ -62,11 +62,11 @@ fn copy_rows<A: BuilderArena>(
     let mut source = from.at;
     let mut place = to.at;
     for i in 0..count {
-        let old = Start {
+        let old = WordPlace {
             segment: from.segment,
             at: source,
         };
-        let new = Start {
+        let new = WordPlace {
             segment: to.segment,
             at: place,
         };
@@ -110,7 +110,7 @@ pub(crate) fn begin_list<A: BuilderArena>(
 fn fill_rows<A: BuilderArena>(
     arena: &mut A,
     old: ElementRows,
-    first: Start,
+    first: WordPlace,
     size: StructSize,
 ) -> Result<(), ErrorKind>
     requires from { RowsInside (A.view arena.old).words old }
@@ -226,7 +226,7 @@ fn remake_rows<A: BuilderArena>(
         (call_at id at (A.view arena.old) (A.view arena.new)) }
     ensures full { IfErr result (RefusesGrowth (A.view arena.old) (A.view arena.new)
         (structs_words old.count size) (old.count * old.size.pointers)) }
-    ensures fits { (to : Start)
+    ensures fits { (to : WordPlace)
         → HasRoomAndPads (A.view arena.old) id (structs_words old.count size) old.segment
         (near_pointers (A.view arena.old).words (element_moves old to size)) → IsOk result }
 {
@@ -234,7 +234,7 @@ fn remake_rows<A: BuilderArena>(
     let words = old.count * size.total();
     let room = begin_list(arena, id, old.count, size)?;
     let tag = room.at + room.pads;
-    let first = Start {
+    let first = WordPlace {
         segment: room.segment,
         at: tag + 1,
     };

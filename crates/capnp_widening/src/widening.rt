@@ -11,7 +11,7 @@ ghost use Rattle.capnp_contents.specs.Existing.{StructLiesIn, struct_in};
 ghost use Rattle.capnp_making.specs.Made.{CountFits, AsksWords};
 ghost use Rattle.capnp_making.specs.Memory.{KeepsMemory, SpendsMemory, RefusesWords, StandsBehind, TakesWords};
 ghost use Rattle.capnp_making.specs.Makes.{call_at};
-ghost use Rattle.capnp_making.specs.declared.making.Start.{Start};
+ghost use Rattle.capnp_arena_traits.specs.declared.arena.WordPlace.{WordPlace};
 ghost use Rattle.capnp_making.specs.Stored.{IsStored};
 ghost use Rattle.capnp_widening.specs.Anew.{MakesStructWider};
 ghost use Rattle.capnp_widening.specs.Housed.{IsRoom, CopiesWords, Settles, TakesRoom};
@@ -23,7 +23,7 @@ use crate::moving::{move_row, unmove_row};
 use capnp_arena_traits::arena::{BuilderArena, WordPlace, set_word};
 use capnp_contents::existing::ExistingStruct;
 use capnp_making::landing::word_of;
-use capnp_making::making::{Shape, Start, pointer_to};
+use capnp_making::making::{Shape, pointer_to};
 use capnp_making::zeroing::{zero_pads, zero_part};
 use capnp_words::error::ErrorKind;
 use capnp_words::wire_pointer::{StructSize, WirePointer};
@@ -72,7 +72,7 @@ pub(crate) fn take<A: BuilderArena>(arena: &mut A, id: u32, amount: u32) -> Resu
 /// word, so a single word is read and written here; any other number of words is copied by one call
 /// of the arena.
 #[inline(always)]
-pub(crate) fn copy_words<A: BuilderArena>(arena: &mut A, from: Start, to: Start, count: u32)
+pub(crate) fn copy_words<A: BuilderArena>(arena: &mut A, from: WordPlace, to: WordPlace, count: u32)
     requires inside { BothLieInside (A.view arena.old).words from to count }
     requires apart { from.segment ≡ to.segment → from.at + count ≤ to.at }
     ensures { CopiesWords (A.view arena.old) (A.view arena.new) from to count }
@@ -87,19 +87,11 @@ pub(crate) fn copy_words<A: BuilderArena>(arena: &mut A, from: Start, to: Start,
 
 /// Copies the `count` words from `from` on over those from `to` on, by one call of the arena.
 #[inline(never)]
-fn copy_many<A: BuilderArena>(arena: &mut A, from: Start, to: Start, count: u32)
+fn copy_many<A: BuilderArena>(arena: &mut A, from: WordPlace, to: WordPlace, count: u32)
     requires { BothLieInside (A.view arena.old).words from to count }
     ensures { CopiesWords (A.view arena.old) (A.view arena.new) from to count }
 {
-    let old = WordPlace {
-        segment: from.segment,
-        at: from.at,
-    };
-    let new = WordPlace {
-        segment: to.segment,
-        at: to.at,
-    };
-    arena.move_words(old, new, count);
+    arena.move_words(from, to, count);
 }
 
 /// Makes the pointer at `at` of segment `id` lead to the object `shape` in `room`. Also writes the
@@ -193,10 +185,10 @@ pub(crate) fn is_wide(size: StructSize, wanted: StructSize) -> bool
 
 /// Where the data section of a struct starts.
 #[inline(always)]
-fn data_of(e: ExistingStruct) -> Start
+fn data_of(e: ExistingStruct) -> WordPlace
     ensures { result ≡ record { segment = e.segment; at = e.start } }
 {
-    Start {
+    WordPlace {
         segment: e.segment,
         at: e.start,
     }
@@ -204,11 +196,11 @@ fn data_of(e: ExistingStruct) -> Start
 
 /// Where the pointers of a struct start.
 #[inline(always)]
-fn pointers_of(e: ExistingStruct) -> Start
+fn pointers_of(e: ExistingStruct) -> WordPlace
     requires { e.start + e.size.data_words < 2 ^ 32 }
     ensures { result ≡ record { segment = e.segment; at = e.start + e.size.data_words } }
 {
-    Start {
+    WordPlace {
         segment: e.segment,
         at: e.start + u32::from(e.size.data_words),
     }
@@ -235,7 +227,7 @@ fn widen_struct<A: BuilderArena>(
         (size.data_words + size.pointers) old.size.pointers) }
     ensures few { GrowsByAtMost (A.view arena.old).words (A.view arena.new).words
         (size.data_words + size.pointers + 1 + 2 * old.size.pointers) }
-    ensures fits { (to : Start) → HasRoomAndPads (A.view arena.old) id
+    ensures fits { (to : WordPlace) → HasRoomAndPads (A.view arena.old) id
         (size.data_words + size.pointers) old.segment
         (near_pointers (A.view arena.old).words (row_of_moves
         (record { segment = old.segment; at = old.start + old.size.data_words }) to

@@ -23,7 +23,7 @@ use Rattle.layout_vectors.specs.Counts.{Counting, plus, Counts, MeansTidily, Are
 use Rattle.layout_vectors.specs.Marks.{IsMarkedWithin, TakesRow, TakesEach}
 use Rattle.layout_vectors.specs.Spots.{spots, element_spots}
 use Rattle.layout_vectors.specs.Walks.{Walk, FitsRows, Proceeds, TakesTarget, HasNoObject, TakesObject, Goes, FailsWalk}
-use Rattle.layout_vectors.specs.declared.vectors.pending.Spot.{Spot}
+use Rattle.capnp_arena_traits.specs.declared.arena.WordPlace.{WordPlace}
 use Rattle.layout_vectors.proofs.Counting.{counts_same, counts_least, pushed_read, read_pushed, elements_pushed_read, elements_read_pushed}
 use Rattle.layout_vectors.proofs.Taken.{keeps_itself, keeps_again}
 use Rattle.std.specs.Prelude.{Result, Ok, Err, IfOk, Bool, true, false}
@@ -37,7 +37,7 @@ capability_kind : (w i : ℕ) → w ≡ capability_word i → kind w ≡ 3
 capability_kind w i e = ap kind e ∙ omega arith
 
 -- a struct
-pub struct_goes : (S : Segments) (a : Target) (M N : Counting) (J : List Spot) (d q : ℕ) → d ≡ data_words a.word → q ≡ pointer_count a.word → kind a.word ≡ 0 → Claims S a (d + q) →
+pub struct_goes : (S : Segments) (a : Target) (M N : Counting) (J : List WordPlace) (d q : ℕ) → d ≡ data_words a.word → q ≡ pointer_count a.word → kind a.word ≡ 0 → Claims S a (d + q) →
     ((u v : ℕ) → N u v ≡ M u v + times (row a.segment a.start (d + q) ∷ []) u v) → (F : Counting) → ObjectCounts S a M J F ↔ Counts S N (J ++ spots a.segment (a.start + d) q) F
 struct_goes S a M N J d q ed eq x claim is F = (λ h. to h.0 h.1 h.2, from)
   where
@@ -72,7 +72,7 @@ struct_goes S a M N J d q ed eq x claim is F = (λ h. to h.0 h.1 h.2, from)
         )
 
 -- a list of pointers
-pub pointers_goes : (S : Segments) (a : Target) (M N : Counting) (J : List Spot) (n : ℕ) → n ≡ list_count a.word → kind a.word ≡ 1 → element_size a.word ≡ 6 → Claims S a n →
+pub pointers_goes : (S : Segments) (a : Target) (M N : Counting) (J : List WordPlace) (n : ℕ) → n ≡ list_count a.word → kind a.word ≡ 1 → element_size a.word ≡ 6 → Claims S a n →
     ((u v : ℕ) → N u v ≡ M u v + times (row a.segment a.start n ∷ []) u v) → (F : Counting) → ObjectCounts S a M J F ↔ Counts S N (J ++ spots a.segment a.start n) F
 pointers_goes S a M N J n en x six claim is F = (λ h. to h.0 h.1 h.2, from)
   where
@@ -101,7 +101,7 @@ pointers_goes S a M N J n en x six claim is F = (λ h. to h.0 h.1 h.2, from)
         )
 
 -- a list of structs, which claims exactly its elements
-pub structs_goes : (S : Segments) (a : Target) (M N : Counting) (J : List Spot) (n d q : ℕ) → kind a.word ≡ 1 → element_size a.word ≡ 7 → IsTag (word_at S a.segment a.start) n d q → n * (d + q) ≡ list_count a.word →
+pub structs_goes : (S : Segments) (a : Target) (M N : Counting) (J : List WordPlace) (n d q : ℕ) → kind a.word ≡ 1 → element_size a.word ≡ 7 → IsTag (word_at S a.segment a.start) n d q → n * (d + q) ≡ list_count a.word →
     Claims S a (list_count a.word + 1) → ((u v : ℕ) → N u v ≡ M u v + times (row a.segment a.start (list_count a.word + 1) ∷ []) u v) → (F : Counting) →
     ObjectCounts S a M J F ↔ Counts S N (J ++ element_spots a.segment (a.start + 1) d q n) F
 structs_goes S a M N J n d q x seven tag exact claim is F = (λ h. to h.0 h.1 h.2, from)
@@ -141,7 +141,7 @@ tidy_padded S s p size ns e y =
     subst (λ ws. from_digits (2 ^ 64) ws < 2 ^ (element_bits size * length ns)) (sym y) (packed_below size ns below)
 
 -- a list of numbers
-pub flat_goes : (S : Segments) (a : Target) (M N : Counting) (J : List Spot) (size n : ℕ) → size ≡ element_size a.word → n ≡ list_count a.word → kind a.word ≡ 1 → size ≤ 5 → Claims S a (words_for size n) →
+pub flat_goes : (S : Segments) (a : Target) (M N : Counting) (J : List WordPlace) (size n : ℕ) → size ≡ element_size a.word → n ≡ list_count a.word → kind a.word ≡ 1 → size ≤ 5 → Claims S a (words_for size n) →
     HasSmallWords S a.segment → IsPadded S a.segment a.start size n → ((u v : ℕ) → N u v ≡ M u v + times (row a.segment a.start (words_for size n) ∷ []) u v) → (F : Counting) → ObjectCounts S a M J F ↔ Counts S N J F
 flat_goes S a M N J size n es en x small claim narrow padded is F = (λ h. to h.0 h.1 h.2, from)
   where
@@ -171,7 +171,7 @@ flat_goes S a M N J size n es en x small claim narrow padded is F = (λ h. to h.
           counts_same S N (plus M (times (object_of a (words_for size (length ns)) ∷ []))) J F (λ u v. omega (arith, same (words_for size (length ns)) u v (ap (words_for size) long))) h,
         )
 
-pub not_padded : (S : Segments) (a : Target) (M : Counting) (J : List Spot) (size n : ℕ) → size ≡ element_size a.word → n ≡ list_count a.word → kind a.word ≡ 1 → size ≤ 5 → (IsPadded S a.segment a.start size n → ⊥) → (F : Counting) → ObjectCounts S a M J F → ⊥
+pub not_padded : (S : Segments) (a : Target) (M : Counting) (J : List WordPlace) (size n : ℕ) → size ≡ element_size a.word → n ≡ list_count a.word → kind a.word ≡ 1 → size ≤ 5 → (IsPadded S a.segment a.start size n → ⊥) → (F : Counting) → ObjectCounts S a M J F → ⊥
 not_padded S a M J size n es en x small fails F h = to h.0 h.1
   where
     to : (t : Tree) → IsTidyObject S a t → ⊥
@@ -186,7 +186,7 @@ not_padded S a M J size n es en x small fails F h = to h.0 h.1
     to (Structs e f gs) o = omega (arith, es, small, o.1)
 
 -- a capability, and a word that isn't one
-pub capability_goes : (S : Segments) (a : Target) (M : Counting) (J : List Spot) → lower_half a.word ≡ 3 → (F : Counting) → ObjectCounts S a M J F ↔ Counts S M J F
+pub capability_goes : (S : Segments) (a : Target) (M : Counting) (J : List WordPlace) → lower_half a.word ≡ 3 → (F : Counting) → ObjectCounts S a M J F ↔ Counts S M J F
 capability_goes S a M J x F = (λ h. to h.0 h.1 h.2, λ h. (Capability (upper_half a.word), sym (capability_again a.word x), counts_same S M (plus M (times [])) J F (λ u v. omega arith) h))
   where
     to : (t : Tree) → IsTidyObject S a t → Counts S (plus M (times (object_cover S a t))) J F → Counts S M J F
@@ -266,7 +266,7 @@ flat_words S a size n (Pointers ts) es en x small o = absurd (omega (arith, es, 
 flat_words S a size n (Structs d q gs) es en x small o = absurd (omega (arith, es, small, o.1))
 
 -- the pointer itself: null
-pub null_goes : (S : Segments) (M : Counting) (j : Spot) (J : List Spot) → word_at S j.segment j.at ≡ 0 → (F : Counting) → Counts S M (j ∷ J) F ↔ Counts S M J F
+pub null_goes : (S : Segments) (M : Counting) (j : WordPlace) (J : List WordPlace) → word_at S j.segment j.at ≡ 0 → (F : Counting) → Counts S M (j ∷ J) F ↔ Counts S M J F
 null_goes S M j J e F = (to, from)
   where
     to : Counts S M (j ∷ J) F → Counts S M J F
@@ -279,7 +279,7 @@ null_goes S M j J e F = (to, from)
     from h = (Null, record { means = (0, 0, (e, refl)); tidy = tt }, counts_same S M (plus M (times [])) J F (λ u v. omega arith) h)
 
 -- the landing pads of a pointer are marked first
-pub pointer_goes : (S : Segments) (M N : Counting) (j : Spot) (J : List Spot) (a : Target) → word_at S j.segment j.at ≢ 0 → leads S j.segment j.at ≡ Some a →
+pub pointer_goes : (S : Segments) (M N : Counting) (j : WordPlace) (J : List WordPlace) (a : Target) → word_at S j.segment j.at ≢ 0 → leads S j.segment j.at ≡ Some a →
     ((u v : ℕ) → N u v ≡ M u v + times (pads_of (word_at S j.segment j.at)) u v) → (F : Counting) → Counts S M (j ∷ J) F ↔ ObjectCounts S a N J F
 pointer_goes S M N j J a some l is F = (to, from)
   where
@@ -299,14 +299,14 @@ pointer_goes S M N j J a some l is F = (to, from)
         (t, k, counts_same S (plus N (times (object_cover S a t))) (plus M (times (cover S j.segment j.at t))) J F (λ u v. omega (arith, is u v, parts t u v k)) h)
 
 -- a pointer that leads nowhere
-pub nowhere_fails : (S : Segments) (w : Walk) (j : Spot) → word_at S j.segment j.at ≢ 0 → leads S j.segment j.at ≡ None → FailsWalk S j w
+pub nowhere_fails : (S : Segments) (w : Walk) (j : WordPlace) → word_at S j.segment j.at ≢ 0 → leads S j.segment j.at ≡ None → FailsWalk S j w
 nowhere_fails S w j some l F (t, k, h) once =
     let m = k.means in
     let x = there_is S m.0 j.segment j.at t m.1 some m.2 k.tidy in
     let e : Some x.0 ≡ None = sym x.1 ∙ l in cc
 
 -- a pointer whose landing pads are marked already
-pub pads_refused : (S : Segments) (w : Walk) (j : Spot) (a : Target) → FitsRows S w.marks → word_at S j.segment j.at ≢ 0 → leads S j.segment j.at ≡ Some a →
+pub pads_refused : (S : Segments) (w : Walk) (j : WordPlace) (a : Target) → FitsRows S w.marks → word_at S j.segment j.at ≢ 0 → leads S j.segment j.at ≡ Some a →
     (PadsInside w.marks (word_at S j.segment j.at) → IsTakenAlready w.marks (times (pads_of (word_at S j.segment j.at)))) → FailsWalk S j w
 pads_refused S w j a fits some l already F (t, k, h) once =
     let x = word_at S j.segment j.at in
@@ -330,10 +330,10 @@ few_pointers : (n d q : ℕ) → n * q ≤ n * (d + q)
 few_pointers n d q = grind arith
 
 -- words are marked, and at most as many places are added after the others
-proceeds_so : (w v : Walk) (s p n : ℕ) (K : List Spot) → TakesRow w.marks v.marks s p n → v.pending ≡ w.pending ++ K → length K ≤ n → Proceeds w v
+proceeds_so : (w v : Walk) (s p n : ℕ) (K : List WordPlace) → TakesRow w.marks v.marks s p n → v.pending ≡ w.pending ++ K → length K ≤ n → Proceeds w v
 proceeds_so w v s p n K t e few = record { keeps = t.keeps; fewer = omega (arith, t.fewer, few, ap length e, length-append w.pending K) }
 
-then_counts : (S : Segments) (N : Counting) (J K : List Spot) (F : Counting) (P : Type 0) → K ≡ J → P ↔ Counts S N J F → P ↔ Counts S N K F
+then_counts : (S : Segments) (N : Counting) (J K : List WordPlace) (F : Counting) (P : Type 0) → K ≡ J → P ↔ Counts S N J F → P ↔ Counts S N K F
 then_counts S N J K F P e h = subst (λ L. P ↔ Counts S N L F) (sym e) h
 
 pub struct_taken : (S : Segments) (a : Target) (w v : Walk) (d q : ℕ) → FitsRows S w.marks → kind a.word ≡ 0 → d ≡ data_words a.word → q ≡ pointer_count a.word → a.start + (d + q) ≤ length (segment w.marks a.segment) →
@@ -368,21 +368,21 @@ flat_taken S a w v size n fits x es en small inside narrow padded t e = record {
 pub capability_taken : (S : Segments) (a : Target) (w : Walk) → lower_half a.word ≡ 3 → TakesTarget S a w w
 capability_taken S a w x = record { proceeds = record { keeps = keeps_itself w.marks; fewer = omega arith }; same = λ F. capability_goes S a (word_at w.marks) w.pending x F }
 
-pub null_walked : (S : Segments) (j : Spot) (w : Walk) → word_at S j.segment j.at ≡ 0 → Goes S j w w
+pub null_walked : (S : Segments) (j : WordPlace) (w : Walk) → word_at S j.segment j.at ≡ 0 → Goes S j w w
 null_walked S j w e = record { proceeds = record { keeps = keeps_itself w.marks; fewer = omega arith }; same = λ F. null_goes S (word_at w.marks) j w.pending e F }
 
 -- the walk with other marks
 abbrev pub with_marks : Walk → Segments → Walk
 with_marks w N = record { marks = N; pending = w.pending }
 
-pub pointer_walked : (S : Segments) (j : Spot) (w v : Walk) (N : Segments) (a : Target) → word_at S j.segment j.at ≢ 0 → leads S j.segment j.at ≡ Some a → TakesEach w.marks N (times (pads_of (word_at S j.segment j.at))) →
+pub pointer_walked : (S : Segments) (j : WordPlace) (w v : Walk) (N : Segments) (a : Target) → word_at S j.segment j.at ≢ 0 → leads S j.segment j.at ≡ Some a → TakesEach w.marks N (times (pads_of (word_at S j.segment j.at))) →
     TakesTarget S a (with_marks w N) v → Goes S j w v
 pointer_walked S j w v N a some l pads o = record {
   proceeds = record { keeps = keeps_again w.marks N v.marks pads.keeps o.proceeds.keeps; fewer = omega (arith, pads.fewer, o.proceeds.fewer) };
   same = λ F. let h = pointer_goes S (word_at w.marks) (word_at N) j w.pending a some l pads.marks F in let k = o.same F in (λ x. k.0 (h.0 x), λ x. h.1 (k.1 x));
 }
 
-pub pointer_unwalked : (S : Segments) (j : Spot) (w : Walk) (N : Segments) (a : Target) → word_at S j.segment j.at ≢ 0 → leads S j.segment j.at ≡ Some a → TakesEach w.marks N (times (pads_of (word_at S j.segment j.at))) →
+pub pointer_unwalked : (S : Segments) (j : WordPlace) (w : Walk) (N : Segments) (a : Target) → word_at S j.segment j.at ≢ 0 → leads S j.segment j.at ≡ Some a → TakesEach w.marks N (times (pads_of (word_at S j.segment j.at))) →
     HasNoObject S a (with_marks w N) → FailsWalk S j w
 pointer_unwalked S j w N a some l pads never F h once = never F ((pointer_goes S (word_at w.marks) (word_at N) j w.pending a some l pads.marks F).0 h) once
 

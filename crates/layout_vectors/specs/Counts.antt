@@ -9,7 +9,7 @@ use Rattle.capnp_format.specs.Tree.{no_trees, tree, count, Elements, no_elements
 use Rattle.capnp_format.specs.Tree.{element_count}
 use Rattle.capnp_format.specs.Means.{Means, Claims, IsTag}
 use Rattle.capnp_format.specs.Forest.{times, cover, object_cover, IsTidy}
-use Rattle.layout_vectors.specs.declared.vectors.pending.Spot.{Spot}
+use Rattle.capnp_arena_traits.specs.declared.arena.WordPlace.{WordPlace}
 
 -- How often each word of a message is held.
 abbrev pub Counting : Type 0
@@ -24,7 +24,7 @@ pub record MeansTidily (S : Segments) (s p : ℕ) (t : Tree) : Type 0 where
   pub tidy : IsTidy S s p t
 
 -- F is M plus what is reached from these places, for some values that they mean.
-abbrev pub Counts : Segments → Counting → List Spot → Counting → Type 0
+abbrev pub Counts : Segments → Counting → List WordPlace → Counting → Type 0
 Counts S M [] F = (u q : ℕ) → F u q ≡ M u q
 Counts S M (j ∷ J) F = (t : Tree) × MeansTidily S j.segment j.at t ×
     Counts S (plus M (times (cover S j.segment j.at t))) J F
@@ -64,7 +64,7 @@ IsTidyObject S a (Structs d q es) =
     AreElementsRead S a.segment (a.start + 1) d q es
 
 -- F is M plus what is reached from an object at the target a, and from these places.
-abbrev pub ObjectCounts : Segments → Target → Counting → List Spot → Counting → Type 0
+abbrev pub ObjectCounts : Segments → Target → Counting → List WordPlace → Counting → Type 0
 ObjectCounts S a M J F =
     (t : Tree) × IsTidyObject S a t × Counts S (plus M (times (object_cover S a t))) J F
 

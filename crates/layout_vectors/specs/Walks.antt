@@ -5,14 +5,14 @@ use Rattle.capnp_format.specs.Segments.{Segments, segment, word_at, Target}
 use Rattle.layout_vectors.specs.Counts.{Counts, ObjectCounts, IsOnce, Counting}
 use Rattle.layout_vectors.specs.Marks.{rows_of, free, KeepsRows}
 use Rattle.layout_vectors.specs.declared.vectors.marks.Marks.{Marks}
-use Rattle.layout_vectors.specs.declared.vectors.pending.Spot.{Spot}
+use Rattle.capnp_arena_traits.specs.declared.arena.WordPlace.{WordPlace}
 
 -- The words that are marked, and the places that are still to be visited.
 pub record Walk : Type 0 where
   pub marks : Segments
-  pub pending : List Spot
+  pub pending : List WordPlace
 
-abbrev pub walk : Marks → Vec Spot → Walk
+abbrev pub walk : Marks → Vec WordPlace → Walk
 walk m pending = record { marks = rows_of m; pending = pending.items }
 
 -- M has a mark for each word of S, which has fewer than 2^32 segments of fewer than 2^32 words.
@@ -45,15 +45,15 @@ TakesObject S a w v false = HasNoObject S a w
 
 -- The step from w to v takes what the pointer at j leads to: counting with j pending in w has the
 -- same result as counting without it in v.
-pub record Goes (S : Segments) (j : Spot) (w v : Walk) : Type 0 where
+pub record Goes (S : Segments) (j : WordPlace) (w v : Walk) : Type 0 where
   pub proceeds : Proceeds w v
   pub same : (F : Counting) → Counts S (word_at w.marks) (j ∷ w.pending) F
       ↔ Counts S (word_at v.marks) v.pending F
 
-abbrev pub FailsWalk : Segments → Spot → Walk → Type 0
+abbrev pub FailsWalk : Segments → WordPlace → Walk → Type 0
 FailsWalk S j w = (F : Counting) → Counts S (word_at w.marks) (j ∷ w.pending) F → IsOnce F → ⊥
 
 -- The step from w to v takes what the pointer at j leads to; or it can't.
-abbrev pub TakesSpot : Segments → Spot → Walk → Walk → Bool → Type 0
+abbrev pub TakesSpot : Segments → WordPlace → Walk → Walk → Bool → Type 0
 TakesSpot S j w v true = Goes S j w v
 TakesSpot S j w v false = FailsWalk S j w

@@ -9,10 +9,9 @@ ghost use Rattle.capnp_copies.specs.Changes.{IsNullPlace};
 ghost use Rattle.capnp_widening.specs.Rooms.{UsesMemory};
 ghost use Rattle.capnp_builders.specs.Defaults.{DropsDefault, PutsDefault, PutsDefaultBy, IsShortDefault, object_default, blob_default, DefaultCopyFits, DefaultFits};
 
-use capnp_arena_traits::arena::BuilderArena;
+use capnp_arena_traits::arena::{BuilderArena, WordPlace};
 use capnp_copies::form::{CopyForm, Destination};
 use capnp_making::landing::word_of;
-use capnp_making::making::Start;
 use capnp_readers::readers::PointerReader;
 use capnp_value_copies::copy;
 use capnp_words::error::ErrorKind;
@@ -52,7 +51,7 @@ pub fn copy_default<A: BuilderArena>(
     let from: PointerReader<'_, A> = PointerReader::from_default(default)?;
     let mut lim = ReadLimiter::new(None);
     let to = Destination {
-        place: Start { segment: id, at },
+        place: WordPlace { segment: id, at },
         form: CopyForm::OfDefault,
     };
     copy::copy_in_form(arena, to, from.pointer(), &mut lim)

@@ -13,9 +13,8 @@ ghost use Rattle.capnp_readers.specs.Sizes.{pointers_read};
 use super::content::{clear_pointers, write_content};
 use crate::builders::PointerBuilder;
 use crate::fields;
-use capnp_arena_traits::arena::{BuilderArena, ReaderArena};
+use capnp_arena_traits::arena::{BuilderArena, ReaderArena, WordPlace};
 use capnp_contents::numbers;
-use capnp_making::making::Start;
 use capnp_pointers::pointers::Pointer;
 use capnp_readers::readers::{StructPlace, StructReader};
 use capnp_value_copies::copy;
@@ -131,7 +130,7 @@ impl<'a, A: BuilderArena> StructBuilder<'a, A> {
         ensures builder { KeepsStructBuilder A.view self.old self.new }
     {
         let place = self.place;
-        let to = Start {
+        let to = WordPlace {
             segment: place.segment,
             at: place.pointers_at,
         };

@@ -13,8 +13,7 @@ use super::flat::copy_flat;
 use super::places::{place_behind, pointer_behind, pointer_inside};
 use super::structs::copy_struct;
 use crate::form::{CopyForm, Destination};
-use capnp_arena_traits::arena::{BuilderArena, ReaderArena};
-use capnp_making::making::Start;
+use capnp_arena_traits::arena::{BuilderArena, ReaderArena, WordPlace};
 use capnp_objects::object::{Place, PointerWord};
 use capnp_pointers::pointers::Pointer;
 use capnp_words::error::ErrorKind;
@@ -50,7 +49,7 @@ pub fn copy_children<A: BuilderArena, B: ReaderArena>(
 #[inline(never)]
 fn copy_row<A: BuilderArena, B: ReaderArena>(
     arena: &mut A,
-    to: Start,
+    to: WordPlace,
     from: Pointer<'_, B>,
     count: u32,
     lim: &mut ReadLimiter,
@@ -154,7 +153,7 @@ fn copy_near_struct<A: BuilderArena, B: ReaderArena>(
 #[inline(always)]
 fn copy_near_flat<A: BuilderArena, B: ReaderArena>(
     arena: &mut A,
-    to: Start,
+    to: WordPlace,
     from: Pointer<'_, B>,
     word: WirePointer,
     lim: &mut ReadLimiter,

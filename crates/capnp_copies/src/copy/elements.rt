@@ -15,8 +15,7 @@ ghost use Rattle.capnp_copies.specs.Widths.{widths_kept, IsAtMost};
 use super::children::copy_in_line;
 use crate::form::Destination;
 use crate::widths::ElementSizes;
-use capnp_arena_traits::arena::{BuilderArena, ReaderArena, copy_words};
-use capnp_making::making::Start;
+use capnp_arena_traits::arena::{BuilderArena, ReaderArena, WordPlace, copy_words};
 use capnp_objects::object::Place;
 use capnp_pointers::pointers::Pointer;
 use capnp_words::error::ErrorKind;
@@ -76,7 +75,7 @@ pub(crate) fn copy_elements<A: BuilderArena, B: ReaderArena>(
             },
             nesting_limit: from.nesting_limit,
         };
-        let place = Start {
+        let place = WordPlace {
             segment,
             at: row + u32::from(sizes.kept.data_words),
         };

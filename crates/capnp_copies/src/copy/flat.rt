@@ -13,8 +13,8 @@ ghost use Rattle.capnp_making.specs.Stored.{IsReplaced};
 ghost use Rattle.capnp_words.specs.Sizes.{size_number};
 ghost use Rattle.capnp_copies.specs.Changes.{IsCopiedInRoom};
 
-use capnp_arena_traits::arena::{BuilderArena, copy_words, set_word};
-use capnp_making::making::{Start, make_list};
+use capnp_arena_traits::arena::{BuilderArena, WordPlace, copy_words, set_word};
+use capnp_making::making::make_list;
 use capnp_words::error::ErrorKind;
 use capnp_words::wire_pointer::{ElementSize, data_bits_per_element};
 use capnp_words::words;
@@ -25,7 +25,7 @@ use capnp_words::words;
 #[inline(always)]
 pub fn copy_flat<A: BuilderArena>(
     arena: &mut A,
-    to: Start,
+    to: WordPlace,
     size: ElementSize,
     count: u32,
     elements: &[u8],

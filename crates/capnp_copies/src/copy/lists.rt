@@ -13,8 +13,8 @@ use super::children::copy_in_line;
 use super::elements::copy_elements;
 use crate::form::{CopyForm, Destination};
 use crate::widths::{ElementSizes, StructList, least_widths};
-use capnp_arena_traits::arena::{BuilderArena, ReaderArena};
-use capnp_making::making::{Start, make_list, make_struct_list};
+use capnp_arena_traits::arena::{BuilderArena, ReaderArena, WordPlace};
+use capnp_making::making::{make_list, make_struct_list};
 use capnp_pointers::pointers::Pointer;
 use capnp_words::error::ErrorKind;
 use capnp_words::read_limiter::ReadLimiter;
@@ -37,7 +37,7 @@ pub fn copy_pointers<A: BuilderArena, B: ReaderArena>(
     ensures { CopiesOrLeaves result (pointers_original count (reading B.ReaderArena from.entry))
         (change_to to (A.view arena.old) (A.view arena.new) lim.old lim.new) }
 {
-    let Start { segment, at } = to.place;
+    let WordPlace { segment, at } = to.place;
     let start = make_list(arena, segment, at, ElementSize::Pointer, count)?;
     let elements = Destination {
         place: start,
@@ -67,12 +67,12 @@ pub fn copy_structs<A: BuilderArena, B: ReaderArena>(
         (structs_original list.size list.count (reading B.ReaderArena from.entry))
         (change_to to (A.view arena.old) (A.view arena.new) lim.old lim.new) }
 {
-    let Start { segment, at } = to.place;
+    let WordPlace { segment, at } = to.place;
     let form = to.form;
     let StructList { count, size } = list;
     let kept = kept_widths(from, size, count, form);
     let made = make_struct_list(arena, segment, at, count, kept)?;
-    let place = Start {
+    let place = WordPlace {
         segment: made.segment,
         at: made.at + 1,
     };

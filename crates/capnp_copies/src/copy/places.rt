@@ -6,8 +6,7 @@ ghost use Rattle.capnp_objects.specs.Reading.{behind, source_start};
 ghost use Rattle.capnp_objects.specs.Source.{levels};
 ghost use Rattle.capnp_pointers.specs.Pointers.{reading};
 
-use capnp_arena_traits::arena::ReaderArena;
-use capnp_making::making::Start;
+use capnp_arena_traits::arena::{ReaderArena, WordPlace};
 use capnp_objects::object::Place;
 use capnp_pointers::pointers::Pointer;
 
@@ -27,11 +26,11 @@ pub fn pointer_behind<B: ReaderArena>(from: Pointer<'_, B>, words: u32) -> Point
 }
 
 /// The place `words` words after `place`, in the same segment.
-pub fn place_behind(place: Start, words: u32) -> Start
+pub fn place_behind(place: WordPlace, words: u32) -> WordPlace
     requires { place.at + words < 2 ^ 32 }
     ensures { result ≡ record place { at = place.at + words } }
 {
-    Start {
+    WordPlace {
         at: place.at + words,
         ..place
     }

@@ -4,8 +4,8 @@ ghost use Rattle.capnp_format.specs.Segments.{IsPlace};
 ghost use Rattle.capnp_copies.specs.Rooms.{ClearsRefused};
 ghost use Rattle.capnp_making.specs.Makes.{call_at};
 
-use capnp_arena_traits::arena::BuilderArena;
-use capnp_making::making::{Start, clear};
+use capnp_arena_traits::arena::{BuilderArena, WordPlace};
+use capnp_making::making::clear;
 use capnp_words::error::ErrorKind;
 
 /// Ends a copy to the pointer at `to`. If the copy was refused, makes the pointer null, and zeroes
@@ -13,7 +13,7 @@ use capnp_words::error::ErrorKind;
 #[inline(always)]
 pub fn clear_refused<A: BuilderArena>(
     arena: &mut A,
-    to: Start,
+    to: WordPlace,
     copied: Result<(), ErrorKind>,
 ) -> Result<(), ErrorKind>
     requires { OnErr copied (IsPlace (A.view arena.old).words to.segment to.at) }

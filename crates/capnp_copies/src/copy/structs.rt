@@ -12,8 +12,8 @@ ghost use Rattle.capnp_copies.specs.Widths.{IsAtMost};
 use super::children::copy_children;
 use super::elements::put_words;
 use crate::form::{CopyForm, Destination};
-use capnp_arena_traits::arena::{BuilderArena, ReaderArena};
-use capnp_making::making::{Start, make_struct};
+use capnp_arena_traits::arena::{BuilderArena, ReaderArena, WordPlace};
+use capnp_making::making::make_struct;
 use capnp_objects::object::Place;
 use capnp_pointers::pointers::Pointer;
 use capnp_words::error::ErrorKind;
@@ -56,7 +56,7 @@ pub(crate) fn copy_struct<A: BuilderArena, B: ReaderArena>(
         },
         nesting_limit: from.nesting_limit,
     };
-    let place = Start {
+    let place = WordPlace {
         segment: start.segment,
         at: start.at + u32::from(kept.data_words),
     };

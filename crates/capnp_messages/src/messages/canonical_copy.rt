@@ -22,8 +22,8 @@ ghost use Rattle.capnp_messages.specs.Tries.{IsMadeByFirstTry, IsSegmentRoom, Ne
 use capnp_arena::arena::{
     Allocator, BuilderArena, BuilderArenaImpl, HeapAllocator, MAX_SEGMENT_WORDS, ReaderArena,
 };
+use capnp_arena_traits::arena::WordPlace;
 use capnp_copies::copy::copy_value;
-use capnp_making::making::Start;
 use capnp_objects::source::Source;
 use capnp_pointers::pointers::Pointer;
 use capnp_words::error::ErrorKind;
@@ -60,7 +60,7 @@ fn copy_root<A: BuilderArena, B: ReaderArena>(
         (RefusesCopyAnywhere (reading B.ReaderArena from.entry) left ((A.view arena.old).room 0)) }
 {
     let mut lim = ReadLimiter::new(left);
-    let root = Start { segment: 0, at: 0 };
+    let root = WordPlace { segment: 0, at: 0 };
     copy_value(arena, root, from, &mut lim, true)?;
     Ok(lim)
 }

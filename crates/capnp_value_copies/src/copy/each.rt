@@ -10,9 +10,8 @@ ghost use Rattle.capnp_copies.specs.Rooms.{CanBeCopied};
 ghost use Rattle.capnp_copies.specs.Originals.{children_original};
 ghost use Rattle.capnp_making.specs.Makes.{call_at};
 
-use capnp_arena_traits::arena::{BuilderArena, ReaderArena};
+use capnp_arena_traits::arena::{BuilderArena, ReaderArena, WordPlace};
 use capnp_copies::copy::{copy_value, place_behind, pointer_behind};
-use capnp_making::making::Start;
 use capnp_pointers::pointers::Pointer;
 use capnp_words::error::ErrorKind;
 use capnp_words::read_limiter::ReadLimiter;
@@ -25,7 +24,7 @@ use capnp_words::read_limiter::ReadLimiter;
 /// read, and the copies fit after the words of the segment of `to`.
 pub fn copy_each<A: BuilderArena, B: ReaderArena>(
     arena: &mut A,
-    to: Start,
+    to: WordPlace,
     from: Pointer<'_, B>,
     count: u32,
     lim: &mut ReadLimiter,

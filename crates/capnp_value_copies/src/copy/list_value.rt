@@ -8,11 +8,10 @@ ghost use Rattle.capnp_value_copies.specs.ListValues.{list_read};
 ghost use Rattle.capnp_copies.specs.Originals.{FitsListPointer};
 ghost use Rattle.capnp_making.specs.Makes.{call_at};
 
-use capnp_arena_traits::arena::{BuilderArena, ReaderArena};
+use capnp_arena_traits::arena::{BuilderArena, ReaderArena, WordPlace};
 use capnp_copies::copy::{clear_refused, copy_flat, copy_pointers, copy_structs};
 use capnp_copies::form::{CopyForm, Destination};
 use capnp_copies::widths::StructList;
-use capnp_making::making::Start;
 use capnp_pointers::pointers::Pointer;
 use capnp_readers::readers::ListReader;
 use capnp_words::error::ErrorKind;
@@ -36,7 +35,7 @@ use capnp_words::wire_pointer::{ElementSize, StructSize};
 /// charged to `lim` stays charged.
 pub fn copy_list<A: BuilderArena, B: ReaderArena>(
     arena: &mut A,
-    to: Start,
+    to: WordPlace,
     value: ListReader<'_, B>,
     lim: &mut ReadLimiter,
     canonicalize: bool,

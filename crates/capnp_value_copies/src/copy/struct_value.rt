@@ -11,10 +11,10 @@ ghost use Rattle.capnp_value_copies.specs.StructValues.{data_of, struct_read};
 ghost use Rattle.capnp_making.specs.Makes.{call_at};
 
 use crate::section::{kept_words, put_section};
-use capnp_arena_traits::arena::{BuilderArena, ReaderArena};
+use capnp_arena_traits::arena::{BuilderArena, ReaderArena, WordPlace};
 use capnp_copies::copy::{clear_refused, copy_children};
 use capnp_copies::form::{CopyForm, Destination};
-use capnp_making::making::{Start, make_struct};
+use capnp_making::making::make_struct;
 use capnp_pointers::pointers::Pointer;
 use capnp_readers::readers::StructReader;
 use capnp_words::error::ErrorKind;
@@ -38,7 +38,7 @@ use capnp_words::words::used_part;
 /// charged.
 pub fn copy_struct_value<A: BuilderArena, B: ReaderArena>(
     arena: &mut A,
-    to: Start,
+    to: WordPlace,
     value: StructReader<'_, B>,
     lim: &mut ReadLimiter,
     canonicalize: bool,
@@ -57,7 +57,7 @@ pub fn copy_struct_value<A: BuilderArena, B: ReaderArena>(
         place: value.pointers,
         nesting_limit: value.nesting_limit,
     };
-    let place = Start {
+    let place = WordPlace {
         segment: start.segment,
         at: start.at + u32::from(data_words),
     };

@@ -13,8 +13,9 @@ ghost use Rattle.layout_vectors.specs.Walks.{walk, TakesObject, FitsRows};
 
 use crate::vectors::landing::{PointerTarget, word_of};
 use crate::vectors::marks::Marks;
-use crate::vectors::pending::{Spot, put_elements, put_pointers};
+use crate::vectors::pending::{put_elements, put_pointers};
 use capnp_arena::arena::ReaderArena;
+use capnp_arena_traits::arena::WordPlace;
 use capnp_words::wire_pointer::{ElementSize, WirePointerKind, data_bits_per_element, flat_words};
 use capnp_words::words::word_at;
 use std::alloc::AllocError;
@@ -26,7 +27,7 @@ use std::alloc::AllocError;
 pub(crate) fn take_object<A: ReaderArena>(
     arena: &A,
     marks: &mut Marks,
-    pending: &mut Vec<Spot>,
+    pending: &mut Vec<WordPlace>,
     landing: PointerTarget,
 ) -> Result<bool, AllocError>
     requires { FitsRows (message (A.segments arena.now)) (rows_of marks.old) }
@@ -49,7 +50,7 @@ pub(crate) fn take_object<A: ReaderArena>(
 fn take_struct<A: ReaderArena>(
     arena: &A,
     marks: &mut Marks,
-    pending: &mut Vec<Spot>,
+    pending: &mut Vec<WordPlace>,
     landing: PointerTarget,
 ) -> Result<bool, AllocError>
     requires fits { FitsRows (message (A.segments arena.now)) (rows_of marks.old) }
@@ -70,7 +71,7 @@ fn take_struct<A: ReaderArena>(
 fn take_pointers<A: ReaderArena>(
     arena: &A,
     marks: &mut Marks,
-    pending: &mut Vec<Spot>,
+    pending: &mut Vec<WordPlace>,
     landing: PointerTarget,
 ) -> Result<bool, AllocError>
     requires fits { FitsRows (message (A.segments arena.now)) (rows_of marks.old) }
@@ -90,7 +91,7 @@ fn take_pointers<A: ReaderArena>(
 fn take_flat<A: ReaderArena>(
     arena: &A,
     marks: &mut Marks,
-    pending: &Vec<Spot>,
+    pending: &Vec<WordPlace>,
     landing: PointerTarget,
     size: ElementSize,
 ) -> bool
@@ -157,7 +158,7 @@ fn is_padded(bytes: &[u8], start: u32, size: ElementSize, count: u32) -> bool
 fn take_structs<A: ReaderArena>(
     arena: &A,
     marks: &mut Marks,
-    pending: &mut Vec<Spot>,
+    pending: &mut Vec<WordPlace>,
     landing: PointerTarget,
 ) -> Result<bool, AllocError>
     requires fits { FitsRows (message (A.segments arena.now)) (rows_of marks.old) }

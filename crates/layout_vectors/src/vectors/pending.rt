@@ -2,28 +2,22 @@
 ghost use Rattle.std.specs.Prelude.{◌≡◌, ◌+◌, ◌*◌, ◌^◌, ◌<◌, ◌≤◌, ◌++◌, OnOk};
 ghost use Rattle.layout_vectors.specs.Spots.{spots, element_spots};
 
+use capnp_arena_traits::arena::WordPlace;
 use capnp_words::wire_pointer::StructSize;
 use std::alloc::AllocError;
 
-/// The place of a pointer.
-#[derive(Clone, Copy)]
-pub(crate) struct Spot {
-    pub(crate) segment: u32,
-    pub(crate) at: u32,
-}
-
 /// Appends the place at word `at` of segment `segment` to `pending`.
-pub(crate) fn put(pending: &mut Vec<Spot>, segment: u32, at: u32) -> Result<(), AllocError>
+pub(crate) fn put(pending: &mut Vec<WordPlace>, segment: u32, at: u32) -> Result<(), AllocError>
     ensures { OnOk result (pending.new.items ≡ pending.old.items ++ spots segment at 1) }
 {
-    pending.push(Spot { segment, at })?;
+    pending.push(WordPlace { segment, at })?;
     Ok(())
 }
 
 /// Appends the places of the `count` consecutive pointers from word `start` on to `pending`.
 #[tactic(auto, using(crate::proofs::SpotsMore::spots_more))]
 pub(crate) fn put_pointers(
-    pending: &mut Vec<Spot>,
+    pending: &mut Vec<WordPlace>,
     segment: u32,
     start: u32,
     count: u32,
@@ -42,7 +36,7 @@ pub(crate) fn put_pointers(
 /// `start` on to `pending`.
 #[tactic(auto, using(crate::proofs::SpotsMore::element_spots_more, crate::proofs::SpotsMore::element_spots_none))]
 pub(crate) fn put_elements(
-    pending: &mut Vec<Spot>,
+    pending: &mut Vec<WordPlace>,
     segment: u32,
     start: u32,
     size: StructSize,

@@ -12,8 +12,9 @@ ghost use Rattle.layout_vectors.specs.Walks.{walk, TakesSpot, FitsRows};
 use crate::vectors::landing::{follow, word_of};
 use crate::vectors::marks::Marks;
 use crate::vectors::objects::take_object;
-use crate::vectors::pending::{Spot, put};
+use crate::vectors::pending::put;
 use capnp_arena::arena::{ReaderArena, ReaderArenaImpl, ReaderOptions, SegmentArray};
+use capnp_arena_traits::arena::WordPlace;
 use capnp_words::error::ErrorKind;
 use capnp_words::wire_pointer::{WirePointer, WirePointerKind};
 use capnp_words::words;
@@ -83,8 +84,8 @@ fn walk_from_root<A: ReaderArena>(
 fn walk_pointer<A: ReaderArena>(
     arena: &A,
     marks: &mut Marks,
-    pending: &mut Vec<Spot>,
-    spot: Spot,
+    pending: &mut Vec<WordPlace>,
+    spot: WordPlace,
 ) -> Result<bool, AllocError>
     requires { FitsRows (message (A.segments arena.now)) (rows_of marks.old) }
     ensures { IfOk result (TakesSpot (message (A.segments arena.now)) spot

@@ -15,7 +15,7 @@ use Rattle.capnp_words.specs.declared.error.ErrorKind.{ErrorKind}
 use Rattle.capnp_making.specs.Makes.{Allocates, CallAt, MakesFar, call_at}
 use Rattle.capnp_making.specs.Memory.{Lengthens}
 use Rattle.capnp_making.specs.declared.making.Shape.{Shape}
-use Rattle.capnp_making.specs.declared.making.Start.{Start}
+use Rattle.capnp_arena_traits.specs.declared.arena.WordPlace.{WordPlace}
 use Rattle.capnp_making.proofs.Outcomes.{if_ok_so, on_ok_so}
 use Rattle.capnp_making.proofs.Taken.{extended_lengthens, lengthens_written}
 use Rattle.capnp_making.proofs.making.put_object.Goals as goal
@@ -48,8 +48,8 @@ returns-in-Some-clause-near g c = λ fits.
     ∙ ap (λ y. with_object S c.args.id c.args.at y (replicate c.args.amount 0)) word)
 
 -- Only words after those of the pointer's segment are allocated.
-near_allocates : (old mid new : View) (id at n x : ℕ) (h : Start) → IsPlace old.words id at → HasOwnRoom old id n → mid ≡ with_more old id (replicate n 0) → new ≡ record mid { words = with_word mid.words id at x } →
-    Allocates {A = Start} (Ok h) (call_at id at old new) n
+near_allocates : (old mid new : View) (id at n x : ℕ) (h : WordPlace) → IsPlace old.words id at → HasOwnRoom old id n → mid ≡ with_more old id (replicate n 0) → new ≡ record mid { words = with_word mid.words id at x } →
+    Allocates {A = WordPlace} (Ok h) (call_at id at old new) n
 near_allocates old mid new id at n x h place room made put =
     let T : Segments = extended old.words id (replicate n 0) in
     let whole : new ≡ record old { words = with_word T id at x } = put ∙ ap (λ (v : View). record v { words = with_word v.words id at x }) made in
@@ -70,7 +70,7 @@ is_put_far g c =
 no_room : (g : _) (c : goal.After-put_far g) → HasOwnRoom (g.A.BuilderArena.view c.args.arena.now) c.args.id c.args.amount → ⊥
 no_room g c = λ own. false≢true (c.in-None.ensures.exactly.1 own)
 
-far_allocates : (r : Result Start ErrorKind) (c : CallAt) (shape : Shape) (n : ℕ) → (HasOwnRoom c.old c.segment n → ⊥) → MakesFar r c shape n → Allocates r c n
+far_allocates : (r : Result WordPlace ErrorKind) (c : CallAt) (shape : Shape) (n : ℕ) → (HasOwnRoom c.old c.segment n → ⊥) → MakesFar r c shape n → Allocates r c n
 far_allocates r c shape n full x = record {
   fits = λ room. elim room [ inl own ↦ absurd (full own) | inr (k, first) ↦ x.fits k first ];
   granted = x.granted;

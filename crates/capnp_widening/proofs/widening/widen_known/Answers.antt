@@ -4,7 +4,7 @@ use Rattle.capnp_format.specs.Tree.{Struct}
 use Rattle.capnp_arena_traits.specs.View.{View}
 use Rattle.capnp_contents.specs.declared.existing.ExistingStruct.{ExistingStruct}
 use Rattle.capnp_making.specs.Memory.{start_of}
-use Rattle.capnp_making.specs.declared.making.Start.{Start}
+use Rattle.capnp_arena_traits.specs.declared.arena.WordPlace.{WordPlace}
 use Rattle.capnp_making.proofs.Outcomes.{on_err_so, on_made_so, if_ok_so}
 use Rattle.capnp_widening.specs.Moved.{near_pointers}
 use Rattle.capnp_widening.specs.Rooms.{HasRoomAndPads}
@@ -52,8 +52,8 @@ returns-clause-fits g c = λ h.
     let d = ap (λ e. e.size.data_words) same in
     let k = ap (λ e. e.size.pointers) same in
     let n = wider_words c.args.size ws ts c.greater_size-wide.result.data_words c.greater_size-wide.result.pointers (omega (arith, c.greater_size-wide.ensures.data_words, d)) (omega (arith, c.greater_size-wide.ensures.pointers, k)) in
-    let a : Start = start_of (target v.words c.args.id c.args.at) in
-    let to : Start = record { segment = a.segment; at = a.at + length (fill_words c.args.size.data_words ws) } in
+    let a : WordPlace = start_of (target v.words c.args.id c.args.at) in
+    let to : WordPlace = record { segment = a.segment; at = a.at + length (fill_words c.args.size.data_words ws) } in
     let asks : ℕ → ExistingStruct → Type 0 = λ m e. HasRoomAndPads v c.args.id m e.segment (near_pointers v.words (row_moves e.segment (e.start + e.size.data_words) to.segment to.at e.size.pointers)) in
     c.widen_struct.ensures.fits to (subst (λ e. asks (c.greater_size-wide.result.data_words + c.greater_size-wide.result.pointers) e) same (subst (λ m. asks m (the_struct v.words c.args.id c.args.at ws ts)) n room)))
 

@@ -5,7 +5,7 @@ use Rattle.std.proofs.lemmas.Bool.{cases_eq}
 use Rattle.capnp_arena_traits.specs.View.{View}
 use Rattle.capnp_format.specs.Segments.{Segments, segment}
 use Rattle.capnp_format.proofs.Slices.{there}
-use Rattle.capnp_making.specs.declared.making.Start.{Start}
+use Rattle.capnp_arena_traits.specs.declared.arena.WordPlace.{WordPlace}
 use Rattle.capnp_making.proofs.Memory.{keeps_both, keeps_then_spends, keeps_written, spends_then_limits, words_refused_after, words_refused_before}
 use Rattle.capnp_widening.specs.Moved.{near_pointers}
 use Rattle.capnp_widening.specs.Rooms.{HasPadRoom, HasRoomAndPads}
@@ -329,7 +329,7 @@ returns-in-Err-clause-fits g c = λ to h.
     let exists = there S.words k p (omega (arith, some, c.requires.inside)) in
     let few : n ≤ c.total.result = omega (arith, near_row_few S.words k p to.segment to.at old.size.pointers, c.requires.pointers, c.total.ensures) in
     elim (cases_eq k v) [
-      | inl here ↦ c.in-Err.ensures.near (ap (λ (x : Start). x.segment) c.pointers_of-from.ensures ∙ (here ∙ sym (ap (λ (x : Start). x.segment) c.pointers_of-to.ensures)))
+      | inl here ↦ c.in-Err.ensures.near (ap (λ (x : WordPlace). x.segment) c.pointers_of-from.ensures ∙ (here ∙ sym (ap (λ (x : WordPlace). x.segment) c.pointers_of-to.ensures)))
       | inr other ↦ (let moved = rw (c.pointers_of-from.ensures, c.pointers_of-to.ensures, c.from-count.ensures) at c.in-Err.ensures.apart in
           let left = (c.in_ok-room.ensures.room.fits k n (subst (λ m. HasRoomAndPads S c.args.id m k n) (sym c.total.ensures) h)).1 exists (λ e. other (sym e)) few in
           let first = pads_written T D k n (record { limits = c.copy_words.ensures.limits; segments = copied.segments; words = copied.words }) left in

@@ -5,7 +5,7 @@ use Rattle.capnp_format.specs.Segments.{Segments, word_at}
 use Rattle.capnp_format.specs.Forest.{times, cover, root}
 use Rattle.std.proofs.lemmas.List.{nil_from_length}
 use Rattle.std.specs.Prelude.{Option, IsSome, ◌↔◌, zero, suc}
-use Rattle.layout_vectors.specs.declared.vectors.pending.Spot.{Spot}
+use Rattle.capnp_arena_traits.specs.declared.arena.WordPlace.{WordPlace}
 use Rattle.layout_vectors.specs.Counts.{Counting, Counts}
 use Rattle.layout_vectors.specs.Marks.{rows_of}
 use Rattle.layout_vectors.specs.Walks.{TakesSpot, walk}
@@ -14,9 +14,9 @@ use Rattle.layout_vectors.proofs.Taken.{fits_kept}
 use Rattle.layout_vectors.proofs.Whole.{OnlyRoot, forest_counts, counts_forest}
 use Rattle.layout_vectors.proofs.vectors.walk.walk_from_root.Goals as goal
 
-empty_when : (o : Option Spot) (n : ℕ) → IsSome o ↔ (0 < n) → o ≡ None → n ≡ 0
+empty_when : (o : Option WordPlace) (n : ℕ) → IsSome o ↔ (0 < n) → o ≡ None → n ≡ 0
 empty_when o zero h e = refl
-empty_when o (suc n) h e = let some : IsSome o = h.1 (omega arith) in absurd (false≢true (subst (λ (x : Option Spot). IsSome x) e some))
+empty_when o (suc n) h e = let some : IsSome o = h.1 (omega arith) in absurd (false≢true (subst (λ (x : Option WordPlace). IsSome x) e some))
 
 pub returns-then-not-branch : goal.returns-then-not-branch
 returns-then-not-branch g c =
