@@ -152,8 +152,11 @@ def words_in(code):
 
 
 def cited(code, imports, own=None):
-    """The definitions, the types of the program and the words of the standard library that a text cites."""
+    """The definitions, the types of the program and the words of the standard library that a text cites. A field of a record that
+    is read (`r.levels`) or given (`levels = n`) isn't a definition of the same name."""
     found, types, words = set(), set(), set()
+    code = re.sub(r'(?<=[\w)])\.[a-z]\w*', '', code)
+    code = re.sub(r'(?m)(^ +|[{;] )[a-z]\w* =(?=\s)', r'\1=', code)
     for name in words_in(code):
         if own and (here := defining(own.crate, own.module, name)):
             found.add(here)
