@@ -4,22 +4,22 @@ _capnp_canon() {
     COMPREPLY=()
     case $before in
     --nesting | --at | --depth) return ;;
-    --words) COMPREPLY=($(compgen -W none -- "$word")) && return ;;
+    --words | --bytes) COMPREPLY=($(compgen -W none -- "$word")) && return ;;
     esac
     for ((at = 1; at < COMP_CWORD; at++)); do
         case ${COMP_WORDS[at]} in
-        canon | check | size | digest | validate | show) command=${command:-${COMP_WORDS[at]}} ;;
+        canon | check | size | digest | validate | show | diff) command=${command:-${COMP_WORDS[at]}} ;;
         --) ended=yes ;;
         esac
     done
     local options='--packed --from-flat --nesting --words --help --version'
     case $command in
     canon) options="--flat --pack --hex --at $options" ;;
-    check | validate) options="--quiet --flat $options" ;;
+    check | validate | diff) options="--quiet --flat $options" ;;
     size) options="--flat --at $options" ;;
     digest) options="--check --quiet --flat --at $options" ;;
-    show) options="--json --values --depth --flat $options" ;;
-    *) options="--flat --pack --hex --quiet --check --at --json --values --depth $options" ;;
+    show) options="--json --values --color --depth --bytes --flat --at $options" ;;
+    *) options="--flat --pack --hex --quiet --check --at --json --values --color --depth --bytes $options" ;;
     esac
     if [[ $word == -* && ! $ended ]]; then
         COMPREPLY=($(compgen -W "$options" -- "$word"))
@@ -28,7 +28,7 @@ _capnp_canon() {
         local IFS=$'\n'
         COMPREPLY=($(compgen -f -- "$word"))
     else
-        COMPREPLY=($(compgen -W 'canon check size digest validate show' -- "$word"))
+        COMPREPLY=($(compgen -W 'canon check size digest validate show diff' -- "$word"))
     fi
 }
 complete -F _capnp_canon capnp_canon

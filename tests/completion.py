@@ -14,7 +14,7 @@ import sys
 TOP = pathlib.Path(__file__).resolve().parents[1]
 COMMANDS = {'canon': {'--flat', '--pack', '--hex', '--at'}, 'check': {'--flat', '--quiet'}, 'size': {'--flat', '--at'},
             'digest': {'--flat', '--check', '--quiet', '--at'},
-            'validate': {'--flat', '--quiet'}, 'show': {'--flat', '--json', '--values', '--depth'}}
+            'validate': {'--flat', '--quiet'}, 'show': {'--flat', '--json', '--values', '--color', '--depth', '--bytes', '--at'}, 'diff': {'--flat', '--quiet'}}
 LETTERS = {'-h', '-V', '-c'}
 
 
@@ -71,6 +71,7 @@ def facts():
     yield 'the value of --words for bash', offered('canon', '--words', '') == {'none'}
     yield 'the value of --nesting for bash', offered('canon', '--nesting', '') == set()
     yield 'the value of --depth for bash', offered('show', '--depth', '') == set()
+    yield 'the value of --bytes for bash', offered('show', '--bytes', '') == {'none'}
 
 
 def main():

@@ -14,6 +14,7 @@
 - devices.py lets standard input and output fail, limits memory, and checks how much memory a run takes.
 - shown.py compares what `show` writes about messages of tests/corpus, unchanged (show.jsonl) and altered, with a model
   that is written from docs/PROGRAM.md and docs/FORMAT.md.
+- differences.py compares what `diff` writes about two messages with a model that is written from docs/PROGRAM.md.
 - coprocess.py waits for each answer before it writes the next message.
 - hostile.py uses STREAM_RUNS, a program with the same engine. Its devices fail at each call in turn, and its streams are
   cut short after each byte and have each bit flipped."""
@@ -26,6 +27,7 @@ sys.path.append(str(HERE.parent / 'hostile'))
 
 import coprocess
 import devices
+import differences
 import hostile
 import parts
 import shown
@@ -51,6 +53,7 @@ def main():
         ('little memory', lambda: devices.scarce(program, counts)),
         ('memory for what came', lambda: devices.bounded(program, counts)),
         ('altered messages, shown', lambda: shown.runs(program, counts)),
+        ('pairs of messages, compared', lambda: differences.runs(program, counts)),
         ('coprocesses', lambda: coprocess.answered(program, counts)),
         ('hostile runs', lambda: hostile.runs(options.runs, counts)),
     ):

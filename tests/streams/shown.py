@@ -16,8 +16,13 @@ NESTING, WORDS, DEPTH = 64, 8_388_608, 64
 BITS = 0, 1, 8, 16, 32, 64
 KINDS = 'void', 'bits', 'bytes', 'u16', 'u32', 'u64'
 ESCAPES = {'"': '\\"', '\\': '\\\\', '\t': '\\t', '\n': '\\n', '\r': '\\r'}
+# The control sequences of the parts of a line, and of their end.
+COLORS = {'path': '\x1b[1m', 'place': '\x1b[2m', 'text': '\x1b[32m', 'refusal': '\x1b[31m', 'cut': '\x1b[33m'}
+PLAIN = '\x1b[0m'
 # How often each message is altered, and the options of the runs.
-MUTATIONS, OPTIONS = 1000, ([], ['--json'], ['--values'], ['--json', '--values'], ['--depth', '1'], ['--depth=0', '--json'], ['--words', '9'], ['--nesting', '2'])
+MUTATIONS, OPTIONS = 1000, ([], ['--json'], ['--values'], ['--json', '--values'], ['--depth', '1'], ['--depth=0', '--json'], ['--words', '9'], ['--nesting', '2'],
+                            ['--at', '0'], ['--json', '--at', '[0]'], ['--at=1.0', '--values'], ['--json', '--values', '--at', '0.[1].0'], ['--color'],
+                            ['--color', '--values', '--depth', '1'], ['--color', '--at', '0', '--words', '20'])
 
 
 class Refused(Exception):
@@ -120,6 +125,42 @@ class Model:
             self.charge(elements)
         return 'structs', number, start + 1, data, pointers, elements
 
+    def at_end(self, path):
+        """Reads the root pointer, follows a path of indexes from there, and returns the place of the pointer at its end and the
+        level there."""
+        if not self.segments[0]:
+            raise Refused('MessageContainsOutOfBoundsPointer')
+        self.charge(1)
+        number, at, level = 0, 0, self.nesting
+        # the first pointer and the number of pointers of the element of a list of structs that the path is at
+        element = None
+        for index in path:
+            if element:
+                first, count = element
+                element = None
+            else:
+                kind, *it = self.read(number, at, level) if self.segments[number][at] else ['null']
+                level -= 1
+                if kind == 'struct':
+                    number, first, data, count = it
+                    first += data
+                elif kind == 'pointers':
+                    number, first, count = it
+                elif kind == 'structs':
+                    number, first, data, pointers, elements = it
+                    if index >= elements:
+                        raise Refused('NoSuchPlace')
+                    element = first + index * (data + pointers) + data, pointers
+                    continue
+                else:
+                    raise Refused('NoSuchPlace')
+            if index >= count:
+                raise Refused('NoSuchPlace')
+            at = first + index
+        if element:
+            raise Refused('NoSuchPlace')
+        return number, at, level
+
     def words(self, number, start, count):
         return self.segments[number][start:start + count]
 
@@ -159,38 +200,46 @@ def front(text):
 
 
 class Lines(Model):
-    def __init__(self, segments, places, depth, **limits):
+    def __init__(self, segments, places, depth, colors, **limits):
         super().__init__(segments, **limits)
-        self.places, self.depth, self.lines = places, depth, []
+        self.places, self.depth, self.colors, self.lines = places, depth, colors, []
 
-    def message(self, number):
-        words = sum(map(len, self.segments))
+    def colored(self, part, text):
+        return f'{COLORS[part]}{text}{PLAIN}' if self.colors else text
+
+    def place(self, number, word):
+        return self.colored('place', f'[{number}:{word}]')
+
+    def path(self, path):
+        return self.colored('path', path or 'root')
+
+    def dots(self, more):
+        return ' ' + self.colored('cut', '..') if more else ''
+
+    def message(self, number, path):
+        words, front = sum(map(len, self.segments)), '.'.join(map(str, path))
         self.lines.append(f'message {number}' + (f': segments {len(self.segments)}, words {words}' if self.places else ''))
         try:
-            self.root()
+            end = self.at_end(path)
         except Refused as refused:
-            self.refuse('root', refused)
+            self.refuse(self.path(front), refused)
+        else:
+            self.pointer(front, *end, self.depth)
         return '\n'.join(self.lines) + '\n'
-
-    def root(self):
-        if not self.segments[0]:
-            raise Refused('MessageContainsOutOfBoundsPointer')
-        self.charge(1)
-        self.pointer('', 0, 0, self.nesting, self.depth)
 
     def refuse(self, front, refused):
         self.sound = False
-        self.lines.append(f'{front} refused {refused}')
+        self.lines.append(f'{front} ' + self.colored('refusal', f'refused {refused}'))
 
     def at(self, number, word):
-        return f' at [{number}:{word}]' if self.places else ''
+        return f' at {self.place(number, word)}' if self.places else ''
 
     def pointer(self, path, number, at, level, depth):
-        front, word = path or 'root', self.segments[number][at]
+        front, word = self.path(path), self.segments[number][at]
         if self.places:
-            front += f' [{number}:{at}]'
+            front += f' {self.place(number, at)}'
             if word & 3 == 2:
-                front += (' double' if word & 4 else '') + f' far [{word >> 32}:{word >> 3 & 0x1fffffff}]'
+                front += (' double' if word & 4 else '') + f' far {self.place(word >> 32, word >> 3 & 0x1fffffff)}'
         if word == 0:
             self.lines.append(f'{front} null')
             return
@@ -207,7 +256,7 @@ class Lines(Model):
     def struct_line(self, front, number, start, data, pointers):
         words = self.words(number, start, data)
         shown = ''.join(f' {it:#x}' for it in words[:MOST_ELEMENTS])
-        more = ' ..' if data > MOST_ELEMENTS else ''
+        more = self.dots(data > MOST_ELEMENTS)
         self.lines.append(f'{front} struct{self.at(number, start)}, data {data}, pointers {pointers}' + (':' if data else '') + shown + more)
 
     def struct(self, front, path, level, depth, number, start, data, pointers):
@@ -222,22 +271,22 @@ class Lines(Model):
 
     def goes_on(self, path, depth):
         if depth == 0:
-            self.lines.append(f'{path or "root"} cut at depth {self.depth}')
+            self.lines.append(f'{self.path(path)} ' + self.colored('cut', f'cut at depth {self.depth}'))
         return depth > 0
 
     def end_of_list(self, path, count):
         if count > MOST_ELEMENTS:
-            self.lines.append(f'{path or "root"} cut after {MOST_ELEMENTS} elements')
+            self.lines.append(f'{self.path(path)} ' + self.colored('cut', f'cut after {MOST_ELEMENTS} elements'))
 
     def flat(self, front, path, level, depth, number, start, size, count):
         line = f'{front} {KINDS[size]} {count}{self.at(number, start)}'
         if size and count:
             found = self.elements(number, start, size, count)
-            more = ' ..' if count > MOST_ELEMENTS else ''
+            more = self.dots(count > MOST_ELEMENTS)
             text = text_of(found) if size == 2 else None
             if text is not None:
-                shown = front_of = quoted(globals()['front'](text))
-                more = ' ..' if front_of != quoted(text) else ''
+                front_of = quoted(globals()['front'](text))
+                shown, more = self.colored('text', front_of), self.dots(front_of != quoted(text))
             elif size == 2:
                 shown = found[:MOST_ELEMENTS].hex()
             else:
@@ -258,7 +307,7 @@ class Lines(Model):
         if count and data + pointers and self.goes_on(path, depth):
             for i in range(min(count, MOST_ELEMENTS)):
                 element, at = f'{path}.[{i}]'.lstrip('.'), start + i * (data + pointers)
-                self.struct_line(element, number, at, data, pointers)
+                self.struct_line(self.path(element), number, at, data, pointers)
                 self.struct_pointers(element, number, at + data, pointers, level, depth - 1)
             self.end_of_list(path, count)
 
@@ -268,14 +317,13 @@ class Json(Model):
         super().__init__(segments, **limits)
         self.places, self.depth = places, depth
 
-    def message(self, number):
+    def message(self, number, path):
         try:
-            if not self.segments[0]:
-                raise Refused('MessageContainsOutOfBoundsPointer')
-            self.charge(1)
-            root = self.pointer(0, 0, self.nesting, self.depth)
+            end = self.at_end(path)
         except Refused as refused:
             root = self.refuse(refused)
+        else:
+            root = self.pointer(*end, self.depth)
         if self.places:
             root = {'message': number, 'segments': len(self.segments), 'words': sum(map(len, self.segments)), 'root': root}
         return json.dumps(root, separators=(',', ':'), ensure_ascii=False) + '\n'
@@ -335,9 +383,12 @@ def shown(frame, args, number=1):
     """The text of a message, and whether each pointer could be read."""
     values = dict(it.split('=') if '=' in it else (it, following) for it, following in zip(args, [*args[1:], '']))
     limits = {'nesting': int(values.get('--nesting', NESTING)), 'words': int(values.get('--words', WORDS))}
+    if '--json' not in values:
+        limits['colors'] = '--color' in values
     kind = Json if '--json' in values else Lines
     model = kind(segments_of(frame), '--values' not in values, int(values.get('--depth', DEPTH)), **limits)
-    text = model.message(number)
+    path = [int(it.strip('[]')) for it in values['--at'].split('.')] if '--at' in values else []
+    text = model.message(number, path)
     return text, model.sound
 
 
@@ -373,7 +424,8 @@ def runs(program, counts):
     messages = list(mutations())
     for args in OPTIONS:
         # a frame with more words than the limit isn't read
-        fitting = [it for it in messages if '--words' not in args or sum(sizes_of(it)) <= 9]
+        most = int(args[args.index('--words') + 1]) if '--words' in args else WORDS
+        fitting = [it for it in messages if sum(sizes_of(it)) <= most]
         expected = [shown(it, args, number) for number, it in enumerate(fitting, 1)]
         wanted = ''.join(text for text, _ in expected).encode(), 0 if all(sound for _, sound in expected) else 1, ''
         got = program.run(['show', *args], b''.join(fitting))

@@ -149,15 +149,23 @@ pub fn answer_file<W: BufferedOutput>(
     }
     match File::open(rt, name) {
         Ok(file) => answer(rt, job, Some(name), file, output),
-        Err(error) => {
-            pass_on(output)?;
-            let _ = match said(rt.alloc(), &error) {
-                Ok(why) => eprintln!(rt; "capnp_canon: {name}: {why}"),
-                Err(AllocError) => eprintln!(rt; "capnp_canon: {name}: {error}"),
-            };
-            Err(Unanswered::Said)
-        }
+        Err(error) => not_opened(rt, name, &error, output),
     }
+}
+
+/// Reports that the file `name` can't be opened, and why, after the answers so far.
+pub fn not_opened<W: BufferedOutput>(
+    rt: &HostRuntime,
+    name: &str,
+    error: &io::Error,
+    output: &mut W,
+) -> Result<bool, Unanswered> {
+    pass_on(output)?;
+    let _ = match said(rt.alloc(), error) {
+        Ok(why) => eprintln!(rt; "capnp_canon: {name}: {why}"),
+        Err(AllocError) => eprintln!(rt; "capnp_canon: {name}: {error}"),
+    };
+    Err(Unanswered::Said)
 }
 
 /// Flushes the output.
@@ -249,7 +257,7 @@ fn only(answered: Result<bool, Fault>) -> Result<Summary, Stop> {
 /// Reports which message is refused, counted from 1, at which byte of the input it begins, why it is
 /// refused, and at which of its pointers, if it is at one. If this is the first message, and the
 /// input doesn't look like what `form` says, also reports what the input looks like.
-fn refuse(rt: &HostRuntime, form: InputForm, name: Option<&str>, stop: Stop, seen: &Seen) {
+pub fn refuse(rt: &HostRuntime, form: InputForm, name: Option<&str>, stop: Stop, seen: &Seen) {
     let (name, colon) = match name {
         Some(name) => (name, ": "),
         None => ("", ""),

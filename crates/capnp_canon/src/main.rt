@@ -1,23 +1,28 @@
 //! The program `capnp_canon`: reads a stream of framed messages from standard input or from files,
 //! and for each message writes its canonical copy, its digest, or how large it is, tests whether it
-//! is in canonical form, or sound, or shows what it holds. `capnp_canon --help` explains the arguments.
+//! is in canonical form, or sound, or shows what it holds; or compares the messages of two files.
+//! `capnp_canon --help` explains the arguments.
 #![tactic(auto)]
 
+mod diffs;
 mod inputs;
 mod lists;
 mod texts;
 
 use capnp_packing::buffered::BufferedOutput;
 use capnp_packing::packing::PackingOutput;
-use capnp_streams::devices::{BufWriterOutput, NoOutput};
+use capnp_streams::devices::{BoundedOutput, BufWriterOutput, NoOutput};
 use capnp_streams::seen::{Seen, Watched};
-use capnp_streams::streams::{self, ArgumentFault, Request, ShowTask, Task, WrongArgument};
+use capnp_streams::streams::{
+    self, ArgumentFault, DiffTask, Request, ShowTask, Task, WrongArgument,
+};
+use diffs::compare_files;
 use inputs::{Unanswered, answer_all, said, show_all};
 use std::alloc::AllocError;
 use std::env;
 use std::io::{self, BufWriter};
 use std::process::ExitCode;
-use texts::{HELP, HINT, NO_MEMORY, NO_TEXT, VERSION, WRITE_ERROR};
+use texts::{HELP, HINT, NO_MEMORY, NO_TEXT, TWO_FILES, VERSION, WRITE_ERROR};
 
 /// The size in bytes of the input buffer, and of the output buffer.
 const BUFFER: usize = 1 << 16;
@@ -48,6 +53,10 @@ fn answer(rt: &HostRuntime) -> Result<ExitCode, AllocError> {
         Ok(Request::Show(task)) => {
             let files = streams::named_files(rt.alloc(), args)?;
             Ok(show(rt, task, files.as_slice()))
+        }
+        Ok(Request::Diff(task)) => {
+            let files = streams::named_files(rt.alloc(), args)?;
+            Ok(diff(rt, task, files.as_slice()))
         }
     }
 }
@@ -153,16 +162,46 @@ fn run_to<W: BufferedOutput>(
     ended_with(rt, ended, output, seen)
 }
 
-/// Shows the messages of `files`, or of standard input if there are no files, on standard output.
-/// Returns the program's exit status.
+/// Shows the messages of `files`, or of standard input if there are no files, on standard output, in
+/// at most as many bytes as `task` says. Returns the program's exit status.
 fn show(rt: &HostRuntime, task: ShowTask, files: &[String]) -> ExitCode {
     let seen = Seen::new();
     let writer = Watched::new(io::writer(rt), &seen);
     let Ok(writer) = BufWriter::with_capacity(rt.alloc(), BUFFER, writer) else {
         return complain(rt, NO_MEMORY);
     };
-    let mut output = BufWriterOutput::new(writer);
+    let most = match task.bytes {
+        Some(bytes) => bytes as u64,
+        None => u64::MAX,
+    };
+    let mut output = BoundedOutput::new(BufWriterOutput::new(writer), most);
     let ended = show_all(rt, task, files, &mut output);
+    if output.is_full() && output.pass_on().is_ok() {
+        let _ = eprintln!(rt; "capnp_canon: the output is cut at {most} bytes");
+        return ExitCode::from(2);
+    }
+    ended_with(rt, ended, &mut output, &seen)
+}
+
+/// Compares the messages of two files, and writes to standard output in what they differ. Returns the
+/// program's exit status.
+fn diff(rt: &HostRuntime, task: DiffTask, files: &[String]) -> ExitCode {
+    if files.len() != 2 {
+        let _ = rt.eprintln(TWO_FILES);
+        return complain(rt, HINT);
+    }
+    let (left, right) = (files[0].as_str(), files[1].as_str());
+    let seen = Seen::new();
+    let writer = Watched::new(io::writer(rt), &seen);
+    let Ok(writer) = BufWriter::with_capacity(rt.alloc(), BUFFER, writer) else {
+        return complain(rt, NO_MEMORY);
+    };
+    if task.quiet {
+        let ended = compare_files(rt, task, left, right, &mut NoOutput);
+        return ended_with(rt, ended, &mut NoOutput, &seen);
+    }
+    let mut output = BufWriterOutput::new(writer);
+    let ended = compare_files(rt, task, left, right, &mut output);
     ended_with(rt, ended, &mut output, &seen)
 }
 

@@ -6,6 +6,9 @@ pub const VERSION: &str = "capnp_canon 1.0.0";
 /// Printed after the line that says what is wrong with the arguments.
 pub const HINT: &str = "Try 'capnp_canon --help' for more information.";
 
+/// Printed if `diff` has fewer files or more.
+pub const TWO_FILES: &str = "capnp_canon: 'diff' needs two files";
+
 /// Printed if an argument isn't UTF-8 text.
 pub const NO_TEXT: &str = "capnp_canon: an argument isn't UTF-8";
 
@@ -24,7 +27,8 @@ pub const HELP: &str = "Usage: capnp_canon canon [--flat] [--pack] [--hex] [OPTI
   or:  capnp_canon size [OPTION]... [FILE]...
   or:  capnp_canon digest [--check [--quiet]] [OPTION]... [FILE]...
   or:  capnp_canon validate [--quiet] [OPTION]... [FILE]...
-  or:  capnp_canon show [--json] [--values] [--depth N] [OPTION]... [FILE]...
+  or:  capnp_canon show [--json | --color] [--values] [--depth N] [OPTION]... [FILE]...
+  or:  capnp_canon diff [--quiet] [OPTION]... FILE FILE
   or:  capnp_canon --help | --version
 Reads framed Cap'n Proto messages from files or standard input, one after the other, and answers
 each one.
@@ -49,10 +53,16 @@ show         writes what each message holds, without its schema: a line for each
              path, its place, its sizes and its data, and `refused NAME` where a pointer is wrong
   --json     as JSON, one line for each message
   --values   without places, so that equal values are shown alike
-  --depth N  follows at most N pointers below the root (default 64)
+  --color    with colors, for a terminal
+  --depth N  follows at most N pointers below the first one (default 64)
+  --bytes N  writes at most N bytes in all (default 1073741824, which is 1 GiB); none for no limit
+diff         writes where the values of two files' messages differ first, and both values there, as
+             show --json --values writes them: `message N: PATH`, `< VALUE`, `> VALUE`
+  --quiet    writes nothing; only the exit status answers
 
-  --at PATH     canon, size and digest answer about a part of each message: the value of the pointer
-                to which PATH leads, 1 to 32 indexes between dots, such as 0.2.[7].1 (see the manual)
+  --at PATH     canon, size, digest and show are about a part of each message: the value of the
+                pointer to which PATH leads, 1 to 32 indexes between dots, such as 0.2.[7].1 (see
+                the manual)
   --packed      the input is packed
   --from-flat   the input is the raw words of one message; the commands other than canon also accept
                 --flat as a name for this option
@@ -73,5 +83,6 @@ message that is refused; the answers before it are written. Standard error then 
 is a position in the unpacked stream. If files are named, `FILE: ` comes before `message`.
 
 Exit status: 0 if every message is answered and, with check, canonical; 1 if check found one that
-isn't, digest --check one that failed or a list without lines, or show a pointer that is wrong; 2 if
-a message is refused, a file can't be opened, the arguments are wrong, or reading or writing failed.";
+isn't, digest --check one that failed or a list without lines, show a pointer that is wrong, or diff
+two messages that differ; 2 if a message is refused, a file can't be opened, the arguments are
+wrong, show would write more than --bytes allows, or reading or writing failed.";

@@ -1,1 +1,2 @@
 pub mod ObjectLemmas
+pub mod CompareLemmas

@@ -7,9 +7,9 @@ use Rattle.capnp_objects.specs.declared.object.Object.TheVariants.{Null, Capabil
 use Rattle.capnp_objects.specs.declared.object.Purpose.TheVariants.{Value}
 use Rattle.capnp_objects.specs.Objects.{IsObject}
 use Rattle.capnp_objects.specs.Reading.{Reading}
-use Rattle.capnp_show.specs.Objects.{HasHeldStart}
+use Rattle.capnp_objects.specs.Entering.{IsObjectHeld}
 
-start_held : (r : Reading) (m m' : Meter) (object : Object) → IsObject Value r m m' object → HasHeldStart r.segments object
+start_held : (r : Reading) (m m' : Meter) (object : Object) → IsObject Value r m m' object → IsObjectHeld r.segments object
 start_held r m m' Null is = tt
 start_held r m m' (Capability i) is = tt
 start_held r m m' (Struct start size) (a, o, z, (held, seg, at), wide, many) = held
@@ -18,6 +18,6 @@ start_held r m m' (Pointers start count) (a, o, z, six, (held, seg, at), many) =
 start_held r m m' (Structs start size count) (a, o, z, seven, (held, seg, at), len, wide, many) = held
 
 pub starts_held : (r : Reading) (m m' : Meter) (result : Result Object ErrorKind) →
-    IfOk result (IsObject Value r m m') → IfOk result (HasHeldStart r.segments)
+    IfOk result (IsObject Value r m m') → IfOk result (IsObjectHeld r.segments)
 starts_held r m m' (Ok object) is = start_held r m m' object is
 starts_held r m m' (Err k) is = tt

@@ -1,2 +1,1 @@
-pub mod Objects
 pub mod Show

@@ -9,6 +9,7 @@ use Rattle.std.specs.Str.{bytes_eq}
 use Rattle.std.specs.Str.Parse.{digits_value, starts_with_minus}
 use Rattle.capnp_messages.specs.declared.messages.command.Command.{Command}
 use Rattle.capnp_messages.specs.declared.messages.command.Command.TheVariants.{Canon, Check, Size, Digest, Validate}
+use Rattle.capnp_messages.specs.declared.messages.command.Form.{Form}
 use Rattle.capnp_messages.specs.declared.messages.command.Form.TheVariants.{Framed, Flat}
 use Rattle.capnp_streams.specs.Paths.{is_numeral, is_whole_path, no_path, path_of}
 use Rattle.capnp_streams.specs.declared.streams.arguments.ArgumentFault.{ArgumentFault}
@@ -19,15 +20,16 @@ use Rattle.capnp_streams.specs.declared.streams.arguments.Line.{Line}
 use Rattle.capnp_streams.specs.declared.streams.arguments.OptionName.{OptionName}
 use Rattle.capnp_streams.specs.declared.streams.arguments.OptionName.TheVariants.{Help, HelpLetter, Version, VersionLetter, End}
 use Rattle.capnp_streams.specs.declared.streams.arguments.OptionName.TheVariants.{Packed, Pack, Flat as FlatName, FromFlat, Hex, Quiet, Nesting, Words}
-use Rattle.capnp_streams.specs.declared.streams.arguments.OptionName.TheVariants.{Check as CheckName, CheckLetter, At, Json, Values, Depth}
+use Rattle.capnp_streams.specs.declared.streams.arguments.OptionName.TheVariants.{Check as CheckName, CheckLetter, At, Json, Values, Depth, Color, Bytes}
 use Rattle.capnp_streams.specs.declared.streams.arguments.Setting.{Setting}
-use Rattle.capnp_streams.specs.declared.streams.arguments.Setting.TheVariants.{Nesting as SetNesting, Words as SetWords, At as SetAt, Depth as SetDepth}
+use Rattle.capnp_streams.specs.declared.streams.arguments.Setting.TheVariants.{Nesting as SetNesting, Words as SetWords, At as SetAt, Depth as SetDepth, Bytes as SetBytes}
 use Rattle.capnp_streams.specs.declared.streams.arguments.ArgumentStep.{ArgumentStep}
 use Rattle.capnp_streams.specs.declared.streams.arguments.ArgumentStep.TheVariants.{Goes, File, Stops}
 use Rattle.capnp_streams.specs.declared.streams.arguments.Verb.{Verb}
-use Rattle.capnp_streams.specs.declared.streams.arguments.Verb.TheVariants.{Canon as ToCanon, Check as ToCheck, Size as ToSize, Digest as ToDigest, Validate as ToValidate, Show as ToShow}
+use Rattle.capnp_streams.specs.declared.streams.arguments.Verb.TheVariants.{Canon as ToCanon, Check as ToCheck, Size as ToSize, Digest as ToDigest, Validate as ToValidate, Show as ToShow, Diff as ToDiff}
 use Rattle.capnp_streams.specs.declared.streams.task.Request.{Request}
-use Rattle.capnp_streams.specs.declared.streams.task.Request.TheVariants.{Help as AskHelp, Version as AskVersion, Run, Show}
+use Rattle.capnp_streams.specs.declared.streams.task.Request.TheVariants.{Help as AskHelp, Version as AskVersion, Run, Show, Diff}
+use Rattle.capnp_streams.specs.declared.streams.task.DiffTask.{DiffTask}
 use Rattle.capnp_streams.specs.declared.streams.task.ShowTask.{ShowTask}
 use Rattle.capnp_streams.specs.declared.streams.task.Task.{Task}
 use Rattle.capnp_streams.specs.declared.streams.task.WrongArgument.{WrongArgument}
@@ -53,11 +55,13 @@ option_text At = codes "--at"
 option_text Json = codes "--json"
 option_text Values = codes "--values"
 option_text Depth = codes "--depth"
+option_text Color = codes "--color"
+option_text Bytes = codes "--bytes"
 
 abbrev pub all_options : List OptionName
 all_options =
     Help ∷ HelpLetter ∷ Version ∷ VersionLetter ∷ End ∷ Packed ∷ Pack ∷ FlatName ∷ FromFlat ∷ Hex ∷ Quiet ∷ Nesting ∷ Words
-    ∷ CheckName ∷ CheckLetter ∷ At ∷ Json ∷ Values ∷ Depth ∷ []
+    ∷ CheckName ∷ CheckLetter ∷ At ∷ Json ∷ Values ∷ Depth ∷ Color ∷ Bytes ∷ []
 
 -- The option among `options` that has this text.
 abbrev pub option_among : List OptionName → List ℕ → Option OptionName
@@ -75,6 +79,7 @@ verb_text ToSize = codes "size"
 verb_text ToDigest = codes "digest"
 verb_text ToValidate = codes "validate"
 verb_text ToShow = codes "show"
+verb_text ToDiff = codes "diff"
 
 -- The command that has this text.
 abbrev pub verb_named : List ℕ → Option Verb
@@ -84,7 +89,8 @@ verb_named text =
     if bytes_eq text (verb_text ToSize) then Some ToSize else
     if bytes_eq text (verb_text ToDigest) then Some ToDigest else
     if bytes_eq text (verb_text ToValidate) then Some ToValidate else
-    if bytes_eq text (verb_text ToShow) then Some ToShow else None
+    if bytes_eq text (verb_text ToShow) then Some ToShow else
+    if bytes_eq text (verb_text ToDiff) then Some ToDiff else None
 
 -- The text of an option with a value.
 abbrev pub setting_text : Setting → List ℕ
@@ -92,6 +98,7 @@ setting_text SetNesting = option_text Nesting
 setting_text SetWords = option_text Words
 setting_text SetAt = option_text At
 setting_text SetDepth = option_text Depth
+setting_text SetBytes = option_text Bytes
 
 -- What follows an optional `-`, and the number that both write.
 abbrev pub unsigned_text : List ℕ → List ℕ
@@ -107,7 +114,7 @@ abbrev pub nesting_of : List ℕ → Option ℤ
 nesting_of text =
     if is_numeral (unsigned_text text) && nat_lt (mag (signed_value text)) (2 ^ 31) then Some (signed_value text) else None
 
--- The traversal limit in words that a text writes: decimal digits with a value below 2^64, or the
+-- The traversal limit in words, or the number of bytes, that a text writes: decimal digits with a value below 2^64, or the
 -- word `none` for no limit.
 abbrev pub budget_of : List ℕ → Option (Option ℕ)
 budget_of text =
@@ -130,6 +137,8 @@ plain_line = record {
   json = false;
   values = false;
   depth = None;
+  colors = false;
+  bytes = None;
   expects = None;
   ended = false;
 }
@@ -139,18 +148,14 @@ plain_line = record {
 abbrev pub verb_reads_flat : Option Verb → Bool → Bool → Bool
 verb_reads_flat None flat from_flat = from_flat
 verb_reads_flat (Some ToCanon) flat from_flat = from_flat
-verb_reads_flat (Some ToCheck) flat from_flat = flat || from_flat
-verb_reads_flat (Some ToSize) flat from_flat = flat || from_flat
-verb_reads_flat (Some ToDigest) flat from_flat = flat || from_flat
-verb_reads_flat (Some ToValidate) flat from_flat = flat || from_flat
-verb_reads_flat (Some ToShow) flat from_flat = flat || from_flat
+verb_reads_flat (Some verb) flat from_flat = flat || from_flat
 
 abbrev pub line_reads_flat : Line → Bool
 line_reads_flat line = verb_reads_flat line.verb line.flat line.from_flat
 
 -- An option of the line that its command doesn't have. Only `canon` has options for what it writes,
--- and only `digest` one for its lists, which `--quiet` needs there; `check`, `validate` and `show` take no
--- path; `--flat` is for all of them.
+-- and only `digest` one for its lists, which `--quiet` needs there; `check`, `validate` and `diff`
+-- take no path; `--flat` is for all of them.
 abbrev pub verb_exclusion : Option Verb → Line → Option ArgumentFault
 verb_exclusion None line = None
 verb_exclusion (Some ToCanon) line =
@@ -178,8 +183,12 @@ verb_exclusion (Some ToShow) line =
     if line.pack then Some (NotOfCommand ToShow Pack) else
     if line.hex then Some (NotOfCommand ToShow Hex) else
     if line.quiet then Some (NotOfCommand ToShow Quiet) else
-    if line.lists then Some (NotOfCommand ToShow CheckName) else
-    if not (is_whole_path line.path) then Some (NotOfCommand ToShow At) else None
+    if line.lists then Some (NotOfCommand ToShow CheckName) else None
+verb_exclusion (Some ToDiff) line =
+    if line.pack then Some (NotOfCommand ToDiff Pack) else
+    if line.hex then Some (NotOfCommand ToDiff Hex) else
+    if line.lists then Some (NotOfCommand ToDiff CheckName) else
+    if not (is_whole_path line.path) then Some (NotOfCommand ToDiff At) else None
 
 -- An option of the line that only `show` has, if it has another command.
 abbrev pub show_exclusion : Option Verb → Line → Option ArgumentFault
@@ -188,14 +197,17 @@ show_exclusion (Some ToShow) line = None
 show_exclusion (Some verb) line =
     if line.json then Some (NotOfCommand verb Json) else
     if line.values then Some (NotOfCommand verb Values) else
-    if is_some line.depth then Some (NotOfCommand verb Depth) else None
+    if is_some line.depth then Some (NotOfCommand verb Depth) else
+    if line.colors then Some (NotOfCommand verb Color) else
+    if is_some line.bytes then Some (NotOfCommand verb Bytes) else None
 
 -- Two options of the line that exclude each other: hex digits are written neither as raw words nor
--- packed, and raw words aren't unpacked.
+-- packed, JSON has no colors, and raw words aren't unpacked.
 abbrev pub form_exclusion : Line → Option ArgumentFault
 form_exclusion line =
     if line.hex && line.flat then Some (Excluded Hex FlatName) else
     if line.hex && line.pack then Some (Excluded Hex Pack) else
+    if line.json && line.colors then Some (Excluded Json Color) else
     if line.unpack && line.from_flat then Some (Excluded Packed FromFlat) else
     if line.unpack && line_reads_flat line then Some (Excluded Packed FlatName) else None
 
@@ -228,6 +240,10 @@ line_with_value SetDepth text line = option_map (λ n. record line {
   depth = Some n;
   expects = None;
 }) (nesting_of text)
+line_with_value SetBytes text line = option_map (λ n. record line {
+  bytes = Some n;
+  expects = None;
+}) (budget_of text)
 
 abbrev pub step_or : ArgumentFault → Option Line → Result ArgumentStep ArgumentFault
 step_or fault None = Err fault
@@ -250,7 +266,9 @@ option_step CheckName line = step_if_allowed (record line { lists = true })
 option_step CheckLetter line = step_if_allowed (record line { lists = true })
 option_step Json line = step_if_allowed (record line { json = true })
 option_step Values line = step_if_allowed (record line { values = true })
+option_step Color line = step_if_allowed (record line { colors = true })
 option_step Depth line = Ok (Goes (record line { expects = Some SetDepth }))
+option_step Bytes line = Ok (Goes (record line { expects = Some SetBytes }))
 option_step Nesting line = Ok (Goes (record line { expects = Some SetNesting }))
 option_step Words line = Ok (Goes (record line { expects = Some SetWords }))
 option_step At line = Ok (Goes (record line { expects = Some SetAt }))
@@ -262,6 +280,7 @@ assigned_step (Some Nesting) value line = step_or (InvalidSetting SetNesting) (l
 assigned_step (Some Words) value line = step_or (InvalidSetting SetWords) (line_with_value SetWords value line)
 assigned_step (Some At) value line = step_or (InvalidSetting SetAt) (line_with_value SetAt value line)
 assigned_step (Some Depth) value line = step_or (InvalidSetting SetDepth) (line_with_value SetDepth value line)
+assigned_step (Some Bytes) value line = step_or (InvalidSetting SetBytes) (line_with_value SetBytes value line)
 assigned_step (Some option) value line = Err (UnwantedValue option)
 
 -- Whether a byte separates an option from its value.
@@ -306,15 +325,9 @@ step_by None text line =
 abbrev pub argument_step : List ℕ → Line → Result ArgumentStep ArgumentFault
 argument_step text line = step_by line.expects text line
 
--- The command for the messages, with raw canonical words if `flat` is set; `None` if the messages are
--- shown.
-abbrev pub command_of : Verb → Bool → Option Command
-command_of ToCanon flat = Some (Canon (if flat then Flat else Framed))
-command_of ToCheck flat = Some Check
-command_of ToSize flat = Some Size
-command_of ToDigest flat = Some Digest
-command_of ToValidate flat = Some Validate
-command_of ToShow flat = None
+-- The form of canonical words that a line requests.
+abbrev pub line_form : Line → Form
+line_form line = if line.flat then Flat else Framed
 
 -- The task that a line requests, with this command for the messages.
 abbrev pub line_task : Command → Line → Task
@@ -330,21 +343,39 @@ line_task command line = record {
   path = line.path;
 }
 
--- How a line requests to show messages: 64 pointers deep, if it doesn't state a depth.
+-- How a line requests to show messages: 64 pointers deep, if it doesn't state a depth, and with at
+-- most 1,073,741,824 bytes, if it doesn't state a number of them.
 abbrev pub line_show : Line → ShowTask
 line_show line = record {
   json = line.json;
   values = line.values;
+  colors = line.colors;
   depth = unwrap_or line.depth (pos 64);
+  bytes = unwrap_or line.bytes (Some 1073741824);
+  path = line.path;
   limits = line.limits;
   unpack = line.unpack;
   from_flat = line_reads_flat line;
 }
 
--- The request of a line with this command for the messages.
-abbrev pub line_request : Option Command → Line → Request
-line_request (Some command) line = Run (line_task command line)
-line_request None line = Show (line_show line)
+-- How a line requests to compare messages.
+abbrev pub line_diff : Line → DiffTask
+line_diff line = record {
+  limits = line.limits;
+  unpack = line.unpack;
+  from_flat = line_reads_flat line;
+  quiet = line.quiet;
+}
+
+-- The request of a line with this command.
+abbrev pub line_request : Verb → Line → Request
+line_request ToCanon line = Run (line_task (Canon (line_form line)) line)
+line_request ToCheck line = Run (line_task Check line)
+line_request ToSize line = Run (line_task Size line)
+line_request ToDigest line = Run (line_task Digest line)
+line_request ToValidate line = Run (line_task Validate line)
+line_request ToShow line = Show (line_show line)
+line_request ToDiff line = Diff (line_diff line)
 
 -- Whether `digest` has `--quiet` without `--check`.
 abbrev pub lacks_check : Verb → Line → Bool
@@ -354,12 +385,13 @@ lacks_check ToCheck line = false
 lacks_check ToSize line = false
 lacks_check ToValidate line = false
 lacks_check ToShow line = false
+lacks_check ToDiff line = false
 
 abbrev pub end_by : Option Setting → Option Verb → Line → Result Request ArgumentFault
 end_by (Some setting) verb line = Err (MissingValue setting)
 end_by None None line = Err MissingCommand
 end_by None (Some verb) line = if lacks_check verb line then Err (Needs Quiet CheckName) else
-    Ok (line_request (command_of verb line.flat) line)
+    Ok (line_request verb line)
 
 -- What a line requests if no argument follows.
 abbrev pub end_of : Line → Result Request ArgumentFault

@@ -1,10 +1,10 @@
 //! An input that reads ahead from a reader; an output that buffers bytes for a writer; an output
-//! that drops all bytes; and outputs that put a name before each line, or a name and a number at its
-//! end.
-ghost use Rattle.std.specs.Prelude.{◌≡◌, ◌<◌, ◌≤◌, ◌^◌, ◌-◌, length, false, true, None, Some, IfOk, IsErr, OnOk};
+//! that drops all bytes; one that takes no more than a number of bytes; and outputs that put a name
+//! before each line, or a name and a number at its end.
+ghost use Rattle.std.specs.Prelude.{◌≡◌, ◌<◌, ◌≤◌, ◌^◌, ◌-◌, ◌+◌, ◌||◌, length, false, true, None, Some, IfOk, IsErr, OnErr, OnOk};
 ghost use Rattle.std.specs.Io.Buffered.{reader_buffer, reader_remaining, writer_buffer, writer_contents};
 ghost use Rattle.capnp_format.specs.Segments.{Segments};
-ghost use Rattle.capnp_framing.specs.Devices.{ReadGives};
+ghost use Rattle.capnp_framing.specs.Devices.{ReadGives, WriteTakes};
 ghost use Rattle.capnp_framing.specs.Flat.{BeginsWithFrame};
 
 use capnp_framing::devices::{DeviceFault, Input, Output, write_all};
@@ -150,6 +150,73 @@ impl BufferedOutput for NoOutput {
 
     fn pass_on(&mut self) -> Result<(), DeviceFault> {
         Ok(())
+    }
+}
+
+/// An output that writes to `output`, but at most a number of bytes. Bytes that are more than what is
+/// left of this number fail as a whole, and all bytes after them, too.
+#[derive(Drop)]
+pub struct BoundedOutput<W> {
+    output: W,
+    // How many bytes may still be written.
+    left: u64,
+    // Whether bytes were more than that.
+    is_full: bool,
+}
+
+impl<W: Output> BoundedOutput<W> {
+    /// Makes an output that writes at most `most` bytes to `output`.
+    pub fn new(output: W, most: u64) -> Self
+        ensures output { result.output ≡ output }
+        ensures left { result.left ≡ most }
+        ensures room { result.is_full ≡ false }
+    {
+        BoundedOutput {
+            output,
+            left: most,
+            is_full: false,
+        }
+    }
+
+    /// Whether bytes were refused because they were more than what was left.
+    pub fn is_full(&self) -> bool
+        ensures { result ≡ self.now.is_full }
+    {
+        self.is_full
+    }
+}
+
+impl<W: Output> Output for BoundedOutput<W> {
+    ghost contents = { λ b. W.contents b.output };
+
+    ghost has_failed = { λ b. b.is_full || W.has_failed b.output };
+
+    fn write(&mut self, from: &[u8]) -> Result<usize, DeviceFault>
+        ensures takes { WriteTakes ⟦<Self as Output>⟧ result self.old self.new from.now }
+        ensures counted { IfOk result (λ n. self.new.left + n ≡ self.old.left) }
+        ensures refused { OnErr result (self.new.left ≡ self.old.left) }
+        ensures fits { self.old.is_full ≡ false → length from.now ≤ self.old.left
+            → self.new.is_full ≡ false }
+    {
+        if self.is_full || self.left < from.len() as u64 {
+            self.is_full = true;
+            return Err(DeviceFault);
+        }
+        let n = self.output.write(from)?;
+        self.left -= n as u64;
+        Ok(n)
+    }
+
+    fn failed(&self) -> bool {
+        self.is_full || self.output.failed()
+    }
+}
+
+impl<W: BufferedOutput> BufferedOutput for BoundedOutput<W> {
+    ghost kept = { λ b. W.kept b.output };
+
+    fn pass_on(&mut self) -> Result<(), DeviceFault> {
+        self.output.pass_on()
     }
 }
 

@@ -2,7 +2,7 @@
 //! answered, the user is told the guess.
 ghost use Rattle.std.specs.Prelude.{◌<◌, ◌≤◌, ◌^◌, IfSome};
 
-use crate::streams::{Fault, ShowTask, Task};
+use crate::streams::{DiffTask, Fault, ShowTask, Task};
 use capnp_framing::devices::{Input, MemoryInput};
 use capnp_framing::framing::FrameError;
 use capnp_packing::packing::UnpackingInput;
@@ -75,6 +75,13 @@ impl InputForm {
 
 impl Task {
     /// How this task reads its input.
+    pub fn input_form(&self) -> InputForm {
+        InputForm::of(self.unpack, self.from_flat)
+    }
+}
+
+impl DiffTask {
+    /// How this task reads both inputs.
     pub fn input_form(&self) -> InputForm {
         InputForm::of(self.unpack, self.from_flat)
     }

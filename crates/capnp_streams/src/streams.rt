@@ -2,6 +2,7 @@
 
 mod answers;
 mod arguments;
+mod diffs;
 mod fault;
 mod flat;
 mod packed;
@@ -14,10 +15,11 @@ mod writing;
 
 pub use arguments::{ArgumentFault, OptionName, Setting, Verb};
 pub use capnp_messages::messages::{Command, Form};
+pub use diffs::{Compared, DiffFault, Side, run_diff, run_diff_flat, run_diff_packed};
 pub use fault::Fault;
 pub use flat::{run_flat, run_flat_with};
 pub use packed::{run_packed, run_packed_with};
 pub use path::{Path, paths_parsed};
 pub use runs::{Stop, Summary, run, run_with};
 pub use shows::{run_show, run_show_flat, run_show_packed};
-pub use task::{Request, ShowTask, Task, WrongArgument, named_files, parse_args};
+pub use task::{DiffTask, Request, ShowTask, Task, WrongArgument, named_files, parse_args};

@@ -1,6 +1,7 @@
 //! A message as one line of JSON.
 
 use super::objects::{bytes_at, number_at, place_at, pointer_after, pointer_inside, read_object};
+use super::path::{PathStep, PathText};
 use super::text::{CUT_OBJECT, Ended, Text, text_of};
 use capnp_arena_traits::arena::ReaderArena;
 use capnp_objects::object::{Object, Place};
@@ -8,6 +9,33 @@ use capnp_pointers::pointers::Pointer;
 use capnp_words::read_limiter::ReadLimiter;
 use capnp_words::wire_pointer::{ElementSize, StructSize, WirePointerKind};
 use std::alloc::Global;
+
+/// A byte of a line that is looked for, and the innermost object whose text has it. An element of a
+/// list of structs counts as an object.
+#[derive(Drop)]
+pub(super) struct Search {
+    /// The position of the byte.
+    at: usize,
+    /// Where the text of the object begins at the latest.
+    latest: usize,
+    /// The path to the object that is being written; in the end, to the object that was found.
+    pub(super) path: PathText,
+    /// Where the text of the object that was found begins; 0, where the root's does, until then.
+    pub(super) start: usize,
+}
+
+impl Search {
+    /// Looks for the byte at position `at` in the text of an object that begins at `latest` at the
+    /// latest.
+    pub(super) fn new(alloc: Global, at: usize, latest: usize) -> Self {
+        Search {
+            at,
+            latest,
+            path: PathText::new(alloc),
+            start: 0,
+        }
+    }
+}
 
 /// The line of a message so far, and what the rest needs.
 #[derive(Drop)]
@@ -19,6 +47,8 @@ pub(super) struct Json {
     /// What is left of the traversal limit.
     pub(super) lim: ReadLimiter,
     has_places: bool,
+    /// What is looked for. The line ends at the end of the object that is found.
+    pub(super) search: Option<Search>,
 }
 
 impl Json {
@@ -29,6 +59,35 @@ impl Json {
             is_sound: true,
             lim,
             has_places,
+            search: None,
+        }
+    }
+
+    /// Adds a step to the path, if something is looked for. Returns how long the path was before.
+    fn enter(&mut self, step: PathStep) -> Result<usize, Ended> {
+        match &mut self.search {
+            Some(search) => search.path.enter(step),
+            None => Ok(0),
+        }
+    }
+
+    /// Takes back the steps since the path was `len` bytes long.
+    fn leave(&mut self, len: usize) {
+        if let Some(search) = &mut self.search {
+            search.path.leave(len);
+        }
+    }
+
+    /// Ends the text of an object, which began at `start`. Ends the line, too, if this text has the
+    /// byte that is looked for.
+    fn end_object(&mut self, start: usize) -> Result<(), Ended> {
+        let end = self.text.len();
+        match &mut self.search {
+            Some(search) if start <= search.latest && search.at < end => {
+                search.start = start;
+                Err(Ended::Found)
+            }
+            _ => Ok(()),
         }
     }
 
@@ -200,6 +259,18 @@ pub(super) fn json_pointer<A: ReaderArena>(
     depth: u32,
     json: &mut Json,
 ) -> Result<(), Ended> {
+    let start = json.text.len();
+    json_object(from, depth, json)?;
+    json.end_object(start)
+}
+
+/// Writes the text of what the pointer `from` leads to.
+#[cycle(json)]
+fn json_object<A: ReaderArena>(
+    from: Pointer<'_, A>,
+    depth: u32,
+    json: &mut Json,
+) -> Result<(), Ended> {
     if from.is_null() {
         return json.text.push(b"null");
     }
@@ -216,13 +287,7 @@ pub(super) fn json_pointer<A: ReaderArena>(
         }
         Ok(Object::Pointers { start, count }) => {
             json.write_start(start)?;
-            json_pointers(
-                b"\"list\":",
-                pointer_inside(from, start, 0),
-                count,
-                depth,
-                json,
-            )
+            json_pointers(true, pointer_inside(from, start, 0), count, depth, json)
         }
         Ok(Object::Structs { start, size, count }) => {
             json.write_start(start)?;
@@ -245,39 +310,38 @@ fn json_struct<A: ReaderArena>(
 ) -> Result<(), Ended> {
     json.write_data(start.place, u32::from(size.data_words))?;
     let first = pointer_after(start, u32::from(size.data_words));
-    json_pointers(
-        b"\"pointers\":",
-        first,
-        u32::from(size.pointers),
-        depth,
-        json,
-    )
+    json_pointers(false, first, u32::from(size.pointers), depth, json)
 }
 
-/// Writes a key and the list of what `count` pointers lead to, `first` the first of them, and ends
-/// the object.
+/// Writes the key and the array of what `count` pointers of a struct lead to, or of a list if
+/// `are_elements` is set, `first` the first of them, and ends the object.
 #[cycle(json)]
 fn json_pointers<A: ReaderArena>(
-    key: &[u8],
+    are_elements: bool,
     first: Pointer<'_, A>,
     count: u32,
     depth: u32,
     json: &mut Json,
 ) -> Result<(), Ended> {
-    if count == 0 {
-        json.text.push(key)?;
-        return json.text.push(b"[]}");
-    }
-    if depth == 0 {
+    if count > 0 && depth == 0 {
         return json.text.push(b"\"cut\":\"depth\"}");
     }
-    json.text.push(key)?;
-    json.text.push(b"[")?;
+    json.text.push(if are_elements {
+        b"\"list\":["
+    } else {
+        b"\"pointers\":["
+    })?;
     for i in 0..count {
         if 0 < i {
             json.text.push(b",")?;
         }
+        let len = json.enter(if are_elements {
+            PathStep::Element(i)
+        } else {
+            PathStep::Pointer(i)
+        })?;
         json_pointer(pointer_after(first, i), depth - 1, json)?;
+        json.leave(len);
     }
     json.text.push(b"]}")
 }
@@ -293,13 +357,16 @@ fn json_elements<A: ReaderArena>(
 ) -> Result<(), Ended> {
     json.text.push(b"\"structs\":[")?;
     for i in 0..count {
-        json.text.push(if i == 0 { b"{" } else { b",{" })?;
-        json_struct(
-            pointer_after(first, i.saturating_mul(size.total())),
-            size,
-            depth,
-            json,
-        )?;
+        if 0 < i {
+            json.text.push(b",")?;
+        }
+        let len = json.enter(PathStep::Element(i))?;
+        let start = json.text.len();
+        json.text.push(b"{")?;
+        let element = pointer_after(first, i.saturating_mul(size.total()));
+        json_struct(element, size, depth, json)?;
+        json.end_object(start)?;
+        json.leave(len);
     }
     json.text.push(b"]}")
 }

@@ -1,8 +1,8 @@
 //! A message as lines of text, one for each object.
-ghost use Rattle.std.specs.Prelude.{◌≤◌, length};
-
+use super::message::Showing;
 use super::objects::{bytes_at, number_at, place_at, pointer_after, pointer_inside, read_object};
-use super::text::{CUT_LINE, Ended, Text, text_of};
+use super::path::{PathStep, PathText};
+use super::text::{CUT_COLORED_LINE, CUT_LINE, Ended, Text, front_of, text_of};
 use capnp_arena_traits::arena::ReaderArena;
 use capnp_objects::object::{Object, Place};
 use capnp_pointers::pointers::Pointer;
@@ -13,17 +13,36 @@ use std::alloc::Global;
 /// How many elements of a list are shown, and how many words of a data section.
 const MOST_ELEMENTS: u32 = 64;
 
-/// How many bytes of a text are shown.
-const MOST_TEXT: usize = 1024;
-
-/// A step from an object to one of its pointers or elements.
+/// A part of a line that has a color.
 #[derive(Clone, Copy)]
-enum PathStep {
-    /// To a pointer of a struct.
-    Pointer(u32),
-    /// To an element of a list.
-    Element(u32),
+enum LinePart {
+    /// The path with which the line begins: bold.
+    Path,
+    /// A word of a segment: dim.
+    Place,
+    /// Text in quotes: green.
+    Text,
+    /// Why a pointer can't be read: red.
+    Refusal,
+    /// What says that there is more: yellow.
+    Cut,
 }
+
+impl LinePart {
+    /// The control sequence of a terminal that begins the part.
+    fn color(self) -> &'static [u8] {
+        match self {
+            LinePart::Path => b"\x1b[1m",
+            LinePart::Place => b"\x1b[2m",
+            LinePart::Text => b"\x1b[32m",
+            LinePart::Refusal => b"\x1b[31m",
+            LinePart::Cut => b"\x1b[33m",
+        }
+    }
+}
+
+/// The control sequence of a terminal that ends a part with a color.
+const PLAIN: &[u8] = b"\x1b[0m";
 
 /// The lines of a message so far, and what the next ones need.
 #[derive(Drop)]
@@ -32,26 +51,53 @@ pub(super) struct Lines {
     pub(super) text: Text,
     /// Whether no line has a fault.
     pub(super) is_sound: bool,
-    path: Text,
+    path: PathText,
     /// What is left of the traversal limit.
     pub(super) lim: ReadLimiter,
     has_places: bool,
-    /// How many pointers below the root are followed.
+    has_colors: bool,
+    /// How many pointers below the first one are followed.
     pub(super) depth: u32,
 }
 
 impl Lines {
-    /// Makes the lines of a message before the first one. They go at most `depth` pointers below
-    /// the root.
-    pub(super) fn new(alloc: Global, lim: ReadLimiter, has_places: bool, depth: u32) -> Self {
+    /// Makes the lines of a message before the first one, in the form that `showing` describes.
+    pub(super) fn new(alloc: Global, lim: ReadLimiter, showing: Showing) -> Self {
         Lines {
             text: Text::new(alloc),
             is_sound: true,
-            path: Text::new(alloc),
+            path: PathText::new(alloc),
             lim,
-            has_places,
-            depth,
+            has_places: !showing.values,
+            has_colors: showing.colors,
+            depth: showing.depth,
         }
+    }
+
+    /// Begins a part of a line.
+    fn begin(&mut self, part: LinePart) -> Result<(), Ended> {
+        if self.has_colors {
+            self.text.push(part.color())
+        } else {
+            Ok(())
+        }
+    }
+
+    /// Ends a part of a line.
+    fn end(&mut self) -> Result<(), Ended> {
+        if self.has_colors {
+            self.text.push(PLAIN)
+        } else {
+            Ok(())
+        }
+    }
+
+    /// Begins the path of each line with the indexes in `path`.
+    pub(super) fn begin_path(&mut self, path: &[u32]) -> Result<(), Ended> {
+        for index in path {
+            self.path.enter(PathStep::Pointer(*index))?;
+        }
+        Ok(())
     }
 
     /// Writes the first line: the number of the message, and its size.
@@ -80,42 +126,34 @@ impl Lines {
 
     /// Writes the line that says that the text is cut, after an unfinished line.
     pub(super) fn write_cut(&mut self) -> Result<(), Ended> {
-        self.text.push_last(CUT_LINE)
-    }
-
-    /// Adds a step to the path, and returns how long the path was before.
-    fn enter(&mut self, step: PathStep) -> Result<usize, Ended> {
-        let len = self.path.len();
-        if 0 < len {
-            self.path.push(b".")?;
-        }
-        match step {
-            PathStep::Pointer(index) => self.path.push_number(u64::from(index))?,
-            PathStep::Element(index) => {
-                self.path.push(b"[")?;
-                self.path.push_number(u64::from(index))?;
-                self.path.push(b"]")?;
-            }
-        }
-        Ok(len)
+        self.text.push_last(if self.has_colors {
+            CUT_COLORED_LINE
+        } else {
+            CUT_LINE
+        })
     }
 
     /// Writes the path with which each line begins.
     fn write_path(&mut self) -> Result<(), Ended> {
-        if self.path.is_empty() {
-            self.text.push(b"root")
+        self.begin(LinePart::Path)?;
+        if self.path.is_root() {
+            self.text.push(b"root")?;
         } else {
-            self.text.push(self.path.bytes())
+            self.text.push(self.path.bytes())?;
         }
+        self.end()
     }
 
     /// Writes a word of a segment.
     fn write_place(&mut self, segment: u64, word: u32) -> Result<(), Ended> {
-        self.text.push(b" [")?;
+        self.text.push(b" ")?;
+        self.begin(LinePart::Place)?;
+        self.text.push(b"[")?;
         self.text.push_number(segment)?;
         self.text.push(b":")?;
         self.text.push_number(u64::from(word))?;
-        self.text.push(b"]")
+        self.text.push(b"]")?;
+        self.end()
     }
 
     /// Writes where an object starts, unless places are left out.
@@ -152,8 +190,11 @@ impl Lines {
     /// Writes why a pointer can't be read, and ends the line.
     fn write_refusal(&mut self, name: &str) -> Result<(), Ended> {
         self.is_sound = false;
-        self.text.push(b" refused ")?;
+        self.text.push(b" ")?;
+        self.begin(LinePart::Refusal)?;
+        self.text.push(b"refused ")?;
         self.text.push(name.as_bytes())?;
+        self.end()?;
         self.text.push(b"\n")
     }
 
@@ -215,9 +256,17 @@ impl Lines {
     /// Writes two dots if there are more elements than are shown.
     fn write_more(&mut self, count: u32) -> Result<(), Ended> {
         if count > MOST_ELEMENTS {
-            self.text.push(b" ..")?;
+            self.write_dots()?;
         }
         Ok(())
+    }
+
+    /// Writes two dots.
+    fn write_dots(&mut self) -> Result<(), Ended> {
+        self.text.push(b" ")?;
+        self.begin(LinePart::Cut)?;
+        self.text.push(b"..")?;
+        self.end()
     }
 
     /// Writes the rest of the line for a list of bits or numbers.
@@ -256,9 +305,11 @@ impl Lines {
     /// Writes UTF-8 bytes in quotes.
     fn write_text(&mut self, bytes: &[u8]) -> Result<(), Ended> {
         let front = front_of(bytes);
+        self.begin(LinePart::Text)?;
         self.text.push_quoted(front)?;
+        self.end()?;
         if front.len() < bytes.len() {
-            self.text.push(b" ..")?;
+            self.write_dots()?;
         }
         Ok(())
     }
@@ -268,7 +319,7 @@ impl Lines {
         let front = &bytes[..bytes.len().min(MOST_ELEMENTS as usize)];
         self.text.push_hex(front)?;
         if front.len() < bytes.len() {
-            self.text.push(b" ..")?;
+            self.write_dots()?;
         }
         Ok(())
     }
@@ -279,16 +330,23 @@ impl Lines {
             return Ok(());
         }
         self.write_path()?;
-        self.text.push(b" cut after ")?;
+        self.text.push(b" ")?;
+        self.begin(LinePart::Cut)?;
+        self.text.push(b"cut after ")?;
         self.text.push_number(u64::from(MOST_ELEMENTS))?;
-        self.text.push(b" elements\n")
+        self.text.push(b" elements")?;
+        self.end()?;
+        self.text.push(b"\n")
     }
 
     /// Writes a line that says that what the object leads to isn't shown.
     fn write_deeper(&mut self) -> Result<(), Ended> {
         self.write_path()?;
-        self.text.push(b" cut at depth ")?;
+        self.text.push(b" ")?;
+        self.begin(LinePart::Cut)?;
+        self.text.push(b"cut at depth ")?;
         self.text.push_number(u64::from(self.depth))?;
+        self.end()?;
         self.text.push(b"\n")
     }
 }
@@ -303,20 +361,6 @@ fn kind_of(size: ElementSize) -> &'static str {
         ElementSize::FourBytes => "u32",
         _ => "u64",
     }
-}
-
-/// The first characters of UTF-8 bytes, at most `MOST_TEXT` bytes.
-fn front_of(bytes: &[u8]) -> &[u8]
-    ensures { length result.now ≤ length bytes.now }
-{
-    if bytes.len() <= MOST_TEXT {
-        return bytes;
-    }
-    let mut end = MOST_TEXT;
-    while 0 < end && bytes[end] & 0xc0 == 0x80 {
-        end -= 1;
-    }
-    &bytes[..end]
 }
 
 /// Writes the line of the pointer `from`, and the lines of what it leads to, at most `depth` pointers
@@ -389,9 +433,9 @@ fn show_pointers<A: ReaderArena>(
             } else {
                 PathStep::Pointer(i)
             };
-            let len = lines.enter(step)?;
+            let len = lines.path.enter(step)?;
             show_pointer(pointer, depth, lines)?;
-            lines.path.truncate(len);
+            lines.path.leave(len);
         }
     }
     Ok(())
@@ -415,12 +459,12 @@ fn show_elements<A: ReaderArena>(
     }
     for i in 0..count.min(MOST_ELEMENTS) {
         let element = pointer_after(first, i.saturating_mul(size.total()));
-        let len = lines.enter(PathStep::Element(i))?;
+        let len = lines.path.enter(PathStep::Element(i))?;
         lines.write_path()?;
         lines.write_struct(element.place, size)?;
         let pointers = pointer_after(element, u32::from(size.data_words));
         show_pointers(pointers, u32::from(size.pointers), false, depth - 1, lines)?;
-        lines.path.truncate(len);
+        lines.path.leave(len);
     }
     lines.write_end_of_list(count)
 }

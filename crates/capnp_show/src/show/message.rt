@@ -8,7 +8,7 @@ use super::lines::{Lines, show_pointer};
 use super::text::{Ended, MOST_BYTES};
 use capnp_arena::arena::{ReaderArena, ReaderArenaImpl, ReaderOptions, ReaderSegments};
 use capnp_framing::devices::{DeviceFault, Output, write_all};
-use capnp_messages::messages::read_root;
+use capnp_messages::messages::read_part;
 use capnp_words::read_limiter::ReadLimiter;
 use std::alloc::Global;
 
@@ -19,7 +19,9 @@ pub struct Showing {
     pub json: bool,
     /// Whether places are left out, so that equal values are shown alike.
     pub values: bool,
-    /// How many pointers below the root are followed.
+    /// Whether parts of the lines have colors, by control sequences of a terminal. JSON has none.
+    pub colors: bool,
+    /// How many pointers below the first one are followed.
     pub depth: u32,
 }
 
@@ -32,10 +34,13 @@ pub enum ShowFault {
     WriteFailed,
 }
 
-/// Shows the message in `segments`: writes what it holds to `output`, in the form that
-/// `showing` describes. Returns whether each pointer that was followed could be read.
+/// Shows the message in `segments`, or the part of it to which `path` leads: writes what it holds to
+/// `output`, in the form that `showing` describes. Returns whether each pointer that was followed
+/// could be read.
 ///
-/// Objects are read like `Source::read_object`, within `limits`. A pointer that can't be read is
+/// The first pointer is the one that `read_part` of `capnp_messages` finds; with an empty `path` it
+/// is the root pointer. If the path is refused, what is shown is the name of this refusal. Objects
+/// are read like `Source::read_object`, within `limits`. A pointer that can't be read is
 /// shown with the name of the refusal, and the pointers after it are still read. Writes at most
 /// `MOST_BYTES` bytes: if they don't suffice, the lines end with one that says so, and a line of
 /// JSON is replaced by one that says so.
@@ -47,6 +52,7 @@ pub fn show_message<S: ReaderSegments + Drop, W: Output>(
     showing: Showing,
     limits: ReaderOptions,
     number: u64,
+    path: &[u32],
     segments: S,
     output: &mut W,
 ) -> Result<bool, ShowFault>
@@ -58,11 +64,11 @@ pub fn show_message<S: ReaderSegments + Drop, W: Output>(
     let count = segments.len() as u64;
     let arena = ReaderArenaImpl::new(segments, limits);
     if showing.json {
-        let json = json_of(alloc, showing, limits, number, count, &arena)?;
+        let json = json_of(alloc, showing, limits, number, count, path, &arena)?;
         write(output, json.text.bytes())?;
         Ok(json.is_sound)
     } else {
-        let lines = lines_of(alloc, showing, limits, number, count, &arena)?;
+        let lines = lines_of(alloc, showing, limits, number, count, path, &arena)?;
         write(output, lines.text.bytes())?;
         Ok(lines.is_sound)
     }
@@ -88,11 +94,12 @@ fn lines_of<S: ReaderSegments>(
     limits: ReaderOptions,
     number: u64,
     count: u64,
+    path: &[u32],
     arena: &ReaderArenaImpl<S>,
 ) -> Result<Lines, ShowFault> {
     let lim = ReadLimiter::new(limits.traversal_limit_in_words);
-    let mut lines = Lines::new(alloc, lim, !showing.values, showing.depth);
-    let ended = match write_lines(arena, number, count, &mut lines) {
+    let mut lines = Lines::new(alloc, lim, showing);
+    let ended = match write_lines(arena, number, count, path, &mut lines) {
         Err(Ended::Full) => lines.write_cut(),
         ended => ended,
     };
@@ -107,10 +114,12 @@ fn write_lines<S: ReaderSegments>(
     arena: &ReaderArenaImpl<S>,
     number: u64,
     count: u64,
+    path: &[u32],
     lines: &mut Lines,
 ) -> Result<(), Ended> {
     lines.write_head(number, count, arena.size_in_words() as u64)?;
-    match read_root(arena, &mut lines.lim) {
+    lines.begin_path(path)?;
+    match read_part(arena, path, &mut lines.lim) {
         Ok(root) => show_pointer(root, lines.depth, lines),
         Err(kind) => lines.write_no_root(kind.name()),
     }
@@ -123,11 +132,12 @@ fn json_of<S: ReaderSegments>(
     limits: ReaderOptions,
     number: u64,
     count: u64,
+    path: &[u32],
     arena: &ReaderArenaImpl<S>,
 ) -> Result<Json, ShowFault> {
     let lim = ReadLimiter::new(limits.traversal_limit_in_words);
     let mut json = Json::new(alloc, lim, !showing.values);
-    let ended = match write_json(arena, number, count, showing.depth, &mut json) {
+    let ended = match write_json(arena, number, count, path, showing.depth, &mut json) {
         Err(Ended::Full) => json.write_cut(),
         ended => ended,
     };
@@ -138,15 +148,16 @@ fn json_of<S: ReaderSegments>(
 }
 
 /// Writes the line of JSON of a message of `count` segments.
-fn write_json<S: ReaderSegments>(
+pub(super) fn write_json<S: ReaderSegments>(
     arena: &ReaderArenaImpl<S>,
     number: u64,
     count: u64,
+    path: &[u32],
     depth: u32,
     json: &mut Json,
 ) -> Result<(), Ended> {
     json.write_head(number, count, arena.size_in_words() as u64)?;
-    match read_root(arena, &mut json.lim) {
+    match read_part(arena, path, &mut json.lim) {
         Ok(root) => json_pointer(root, depth, json)?,
         Err(kind) => json.write_no_root(kind.name())?,
     }

@@ -2,7 +2,7 @@
 ghost use Rattle.std.specs.Prelude.{IfOk};
 ghost use Rattle.capnp_objects.specs.Objects.{IsHeld};
 ghost use Rattle.capnp_objects.specs.Reading.{source_start};
-ghost use Rattle.capnp_show.specs.Objects.{HasHeldStart};
+ghost use Rattle.capnp_objects.specs.Entering.{IsObjectHeld};
 
 use capnp_arena_traits::arena::ReaderArena;
 use capnp_objects::object::{Object, Place};
@@ -16,7 +16,7 @@ pub(super) fn read_object<'a, A: ReaderArena>(
     from: Pointer<'a, A>,
     lim: &mut ReadLimiter,
 ) -> Result<Object<'a>, ErrorKind>
-    ensures { IfOk result (HasHeldStart (source_start A.ReaderArena from.entry.source).segments) }
+    ensures { IfOk result (IsObjectHeld (source_start A.ReaderArena from.entry.source).segments) }
 {
     from.source.read_object(from.place, from.nesting_limit, lim)
 }

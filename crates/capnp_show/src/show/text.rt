@@ -9,6 +9,9 @@ pub const MOST_BYTES: usize = 67_108_864;
 /// The line that says that the text of a message is cut.
 pub(super) const CUT_LINE: &[u8] = b"\ncut at 67108864 bytes\n";
 
+/// The same line, if parts of lines have colors: it begins with the end of a part.
+pub(super) const CUT_COLORED_LINE: &[u8] = b"\x1b[0m\ncut at 67108864 bytes\n";
+
 /// The line of JSON that says that a message isn't shown, since its line would be too long.
 pub(super) const CUT_OBJECT: &[u8] = b"{\"cut\":\"length\"}\n";
 
@@ -18,6 +21,9 @@ const KEPT: usize = 64;
 /// The largest number of bytes that are written as hex digits at a time.
 const PIECE: usize = 512;
 
+/// How many bytes of a text are shown.
+const MOST_TEXT: usize = 1024;
+
 /// Why a text ends before its end.
 #[derive(Clone, Copy)]
 pub(super) enum Ended {
@@ -25,6 +31,8 @@ pub(super) enum Ended {
     Full,
     /// Memory ran out.
     NoMemory,
+    /// It has the byte that was looked for.
+    Found,
 }
 
 /// A text of at most `MOST_BYTES` bytes.
@@ -187,4 +195,18 @@ fn has_control(bytes: &[u8]) -> bool {
 /// Whether an ASCII byte is such a control character.
 fn is_control(byte: u8) -> bool {
     matches!(byte, 0..=8 | 11 | 12 | 14..=31 | 127)
+}
+
+/// The first characters of UTF-8 bytes, at most `MOST_TEXT` bytes.
+pub(super) fn front_of(bytes: &[u8]) -> &[u8]
+    ensures { length result.now ≤ length bytes.now }
+{
+    if bytes.len() <= MOST_TEXT {
+        return bytes;
+    }
+    let mut end = MOST_TEXT;
+    while 0 < end && bytes[end] & 0xc0 == 0x80 {
+        end -= 1;
+    }
+    &bytes[..end]
 }

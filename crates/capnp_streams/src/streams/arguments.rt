@@ -1,10 +1,10 @@
 //! Parses the arguments, one by one.
 ghost use Rattle.std.specs.Prelude.{◌≡◌, ◌<◌, MatchOption, length};
 ghost use Rattle.std.specs.List.{after_first, before_first, position_or_len};
-ghost use Rattle.capnp_streams.specs.Arguments.{assigned_step, budget_of, command_of, command_step, end_of, exclusion_of, form_exclusion, has_option_form, is_equals, lacks_check, line_reads_flat, line_request, line_show, line_with_value, named_step, nesting_of, operand_step, option_named, option_step, option_text, parted_step, plain_line, setting_text, show_exclusion, step_if_allowed, argument_step, step_or, line_task, verb_exclusion, verb_named, verb_text};
+ghost use Rattle.capnp_streams.specs.Arguments.{assigned_step, budget_of, command_step, end_of, exclusion_of, form_exclusion, has_option_form, is_equals, lacks_check, line_diff, line_form, line_reads_flat, line_request, line_show, line_with_value, named_step, nesting_of, operand_step, option_named, option_step, option_text, parted_step, plain_line, setting_text, show_exclusion, step_if_allowed, argument_step, step_or, line_task, verb_exclusion, verb_named, verb_text};
 
 use super::path::{Path, path_of};
-use super::task::{Request, ShowTask, Task};
+use super::task::{DiffTask, Request, ShowTask, Task};
 use capnp_arena::arena::ReaderOptions;
 use capnp_messages::messages::{Command, Form};
 use capnp_messages::text::{parse_budget, parse_nesting};
@@ -18,6 +18,7 @@ pub enum Verb {
     Digest,
     Validate,
     Show,
+    Diff,
 }
 
 impl Verb {
@@ -32,6 +33,7 @@ impl Verb {
             Verb::Digest => "digest",
             Verb::Validate => "validate",
             Verb::Show => "show",
+            Verb::Diff => "diff",
         }
     }
 }
@@ -58,13 +60,18 @@ pub enum OptionName {
     Json,
     Values,
     Depth,
+    Color,
+    Bytes,
 }
 
-/// How many pointers below the root are followed without `--depth`.
+/// How many pointers below the first one are followed without `--depth`.
 const PLAIN_DEPTH: i32 = 64;
 
+/// How many bytes are written at most without `--bytes`.
+const PLAIN_BYTES: usize = 1 << 30;
+
 /// All options.
-const OPTIONS: [OptionName; 19] = [
+const OPTIONS: [OptionName; 21] = [
     OptionName::Help,
     OptionName::HelpLetter,
     OptionName::Version,
@@ -84,6 +91,8 @@ const OPTIONS: [OptionName; 19] = [
     OptionName::Json,
     OptionName::Values,
     OptionName::Depth,
+    OptionName::Color,
+    OptionName::Bytes,
 ];
 
 impl OptionName {
@@ -111,6 +120,8 @@ impl OptionName {
             OptionName::Json => "--json",
             OptionName::Values => "--values",
             OptionName::Depth => "--depth",
+            OptionName::Color => "--color",
+            OptionName::Bytes => "--bytes",
         }
     }
 }
@@ -122,6 +133,7 @@ pub enum Setting {
     Words,
     At,
     Depth,
+    Bytes,
 }
 
 impl Setting {
@@ -134,6 +146,7 @@ impl Setting {
             Setting::Words => "--words",
             Setting::At => "--at",
             Setting::Depth => "--depth",
+            Setting::Bytes => "--bytes",
         }
     }
 }
@@ -181,6 +194,9 @@ pub(super) struct Line {
     json: bool,
     values: bool,
     depth: Option<i32>,
+    colors: bool,
+    /// The most bytes to write; `Some(None)` if any number may be written.
+    bytes: Option<Option<usize>>,
     /// The option whose value comes next.
     expects: Option<Setting>,
     /// Whether `--` came, after which no argument is an option.
@@ -217,6 +233,8 @@ impl Line {
             json: false,
             values: false,
             depth: None,
+            colors: false,
+            bytes: None,
             expects: None,
             ended: false,
         }
@@ -227,10 +245,8 @@ impl Line {
         ensures { result ≡ line_reads_flat self.now }
     {
         match self.verb {
-            Some(Verb::Check | Verb::Size | Verb::Digest | Verb::Validate | Verb::Show) => {
-                self.flat || self.from_flat
-            }
             Some(Verb::Canon) | None => self.from_flat,
+            Some(_) => self.flat || self.from_flat,
         }
     }
 
@@ -266,8 +282,12 @@ impl Line {
             Some(Verb::Show) if self.hex => (Verb::Show, OptionName::Hex),
             Some(Verb::Show) if self.quiet => (Verb::Show, OptionName::Quiet),
             Some(Verb::Show) if self.lists => (Verb::Show, OptionName::Check),
-            Some(Verb::Show) if !self.path.is_whole() => (Verb::Show, OptionName::At),
             Some(Verb::Show) => return None,
+            Some(Verb::Diff) if self.pack => (Verb::Diff, OptionName::Pack),
+            Some(Verb::Diff) if self.hex => (Verb::Diff, OptionName::Hex),
+            Some(Verb::Diff) if self.lists => (Verb::Diff, OptionName::Check),
+            Some(Verb::Diff) if !self.path.is_whole() => (Verb::Diff, OptionName::At),
+            Some(Verb::Diff) => return None,
         };
         Some(ArgumentFault::NotOfCommand(verb, option))
     }
@@ -286,12 +306,17 @@ impl Line {
             Some(verb) if self.depth.is_some() => {
                 Some(ArgumentFault::NotOfCommand(verb, OptionName::Depth))
             }
+            Some(verb) if self.colors => Some(ArgumentFault::NotOfCommand(verb, OptionName::Color)),
+            Some(verb) if self.bytes.is_some() => {
+                Some(ArgumentFault::NotOfCommand(verb, OptionName::Bytes))
+            }
             Some(_) => None,
         }
     }
 
     /// Returns the fault if two of the line's options can't be used together; otherwise `None`. Hex
-    /// digits are written neither as raw words nor packed, and raw words are never read packed.
+    /// digits are written neither as raw words nor packed, JSON has no colors, and raw words are never
+    /// read packed.
     fn form_exclusion(&self) -> Option<ArgumentFault>
         ensures { result ≡ form_exclusion self.now }
     {
@@ -299,6 +324,8 @@ impl Line {
             Some(ArgumentFault::Excluded(OptionName::Hex, OptionName::Flat))
         } else if self.hex && self.pack {
             Some(ArgumentFault::Excluded(OptionName::Hex, OptionName::Pack))
+        } else if self.json && self.colors {
+            Some(ArgumentFault::Excluded(OptionName::Json, OptionName::Color))
         } else if self.unpack && self.from_flat {
             Some(ArgumentFault::Excluded(OptionName::Packed, OptionName::FromFlat))
         } else if self.unpack && self.reads_flat() {
@@ -374,8 +401,17 @@ impl Line {
                 ..self
             }
             .if_allowed(),
+            OptionName::Color => Line {
+                colors: true,
+                ..self
+            }
+            .if_allowed(),
             OptionName::Depth => Ok(ArgumentStep::Goes(Line {
                 expects: Some(Setting::Depth),
+                ..self
+            })),
+            OptionName::Bytes => Ok(ArgumentStep::Goes(Line {
+                expects: Some(Setting::Bytes),
                 ..self
             })),
             OptionName::Nesting => Ok(ArgumentStep::Goes(Line {
@@ -437,6 +473,14 @@ impl Line {
                 }),
                 None => None,
             },
+            Setting::Bytes => match budget(text) {
+                Some(bytes) => Some(Line {
+                    bytes: Some(bytes),
+                    expects: None,
+                    ..self
+                }),
+                None => None,
+            },
         }
     }
 
@@ -481,6 +525,10 @@ impl Line {
             }
             Some(OptionName::Depth) => {
                 let setting = Setting::Depth;
+                self.with_value_or(setting, value, ArgumentFault::InvalidSetting(setting))
+            }
+            Some(OptionName::Bytes) => {
+                let setting = Setting::Bytes;
                 self.with_value_or(setting, value, ArgumentFault::InvalidSetting(setting))
             }
             Some(option) => Err(ArgumentFault::UnwantedValue(option)),
@@ -576,33 +624,31 @@ impl Line {
     {
         match verb {
             Verb::Digest => self.quiet && !self.lists,
-            Verb::Canon | Verb::Check | Verb::Size | Verb::Validate | Verb::Show => false,
+            Verb::Canon | Verb::Check | Verb::Size | Verb::Validate | Verb::Show | Verb::Diff =>
+                false,
         }
     }
 
     /// Returns what the line asks for, with the command `verb`.
     fn request_of(self, verb: Verb) -> Request
-        ensures { result ≡ line_request (command_of verb self.flat) self }
+        ensures { result ≡ line_request verb self }
     {
-        match self.command(verb) {
-            Some(command) => Request::Run(self.task(command)),
-            None => Request::Show(self.show_task()),
+        match verb {
+            Verb::Canon => Request::Run(self.task(Command::Canon(self.form()))),
+            Verb::Check => Request::Run(self.task(Command::Check)),
+            Verb::Size => Request::Run(self.task(Command::Size)),
+            Verb::Digest => Request::Run(self.task(Command::Digest)),
+            Verb::Validate => Request::Run(self.task(Command::Validate)),
+            Verb::Show => Request::Show(self.show_task()),
+            Verb::Diff => Request::Diff(self.diff_task()),
         }
     }
 
-    /// Returns the command for the messages, if `verb` is one that answers them; `None` if it is
-    /// `Show`.
-    fn command(self, verb: Verb) -> Option<Command>
-        ensures { result ≡ command_of verb self.flat }
+    /// Returns the form in which canonical words are written.
+    fn form(self) -> Form
+        ensures { result ≡ line_form self }
     {
-        match verb {
-            Verb::Canon => Some(Command::Canon(if self.flat { Form::Flat } else { Form::Framed })),
-            Verb::Check => Some(Command::Check),
-            Verb::Size => Some(Command::Size),
-            Verb::Digest => Some(Command::Digest),
-            Verb::Validate => Some(Command::Validate),
-            Verb::Show => None,
-        }
+        if self.flat { Form::Flat } else { Form::Framed }
     }
 
     /// Returns the task that the line asks for, with this command.
@@ -629,10 +675,25 @@ impl Line {
         ShowTask {
             json: self.json,
             values: self.values,
+            colors: self.colors,
             depth: self.depth.unwrap_or(PLAIN_DEPTH),
+            bytes: self.bytes.unwrap_or(Some(PLAIN_BYTES)),
+            path: self.path,
             limits: self.limits,
             unpack: self.unpack,
             from_flat: self.reads_flat(),
+        }
+    }
+
+    /// Returns how the line asks to compare messages.
+    fn diff_task(self) -> DiffTask
+        ensures { result ≡ line_diff self }
+    {
+        DiffTask {
+            limits: self.limits,
+            unpack: self.unpack,
+            from_flat: self.reads_flat(),
+            quiet: self.quiet,
         }
     }
 }
@@ -675,6 +736,8 @@ fn verb_of(text: &str) -> Option<Verb>
         Some(Verb::Validate)
     } else if text == "show" {
         Some(Verb::Show)
+    } else if text == "diff" {
+        Some(Verb::Diff)
     } else {
         None
     }
@@ -697,7 +760,7 @@ fn nesting(text: &str) -> Option<i32>
     parse_nesting(text)
 }
 
-/// Returns the traversal limit in words that `text` states, which is `Some(None)` if `text` is
+/// Returns the number that `text` states, which is `Some(None)` if `text` is
 /// `none`. Returns `None` if `text` doesn't state a traversal limit.
 fn budget(text: &str) -> Option<Option<usize>>
     ensures { result ≡ budget_of text.now }

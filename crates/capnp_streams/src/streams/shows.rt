@@ -32,9 +32,11 @@ fn show<S: ReaderSegments + Drop, W: Output>(
     let showing = Showing {
         json: task.json,
         values: task.values,
+        colors: task.colors,
         depth: task.depth.max(0) as u32,
     };
-    match show_message(alloc, showing, task.limits, number, segments, output) {
+    let path = task.path.indexes();
+    match show_message(alloc, showing, task.limits, number, path, segments, output) {
         Ok(is_sound) => Ok(is_sound),
         Err(ShowFault::AllocationFailed) => Err(Fault::Frame(FrameError::AllocationFailed)),
         Err(ShowFault::WriteFailed) => Err(Fault::Frame(FrameError::WriteFailed)),
@@ -71,9 +73,10 @@ fn show_next<R: BufferedInput, W: BufferedOutput>(
 /// messages. `holds` of the summary says whether each pointer that was followed could be read.
 ///
 /// The number of words of each message may be at most the traversal limit. At most `MOST_BYTES`
-/// bytes are written for a message. The run ends at the
-/// first message whose frame can't be read, if memory runs out, or if the output fails. Unless the
-/// output failed, it then has the texts of all messages before this one, and no byte for this one.
+/// bytes are written for a message. What `bytes` of the task says isn't looked at: a caller bounds
+/// the output itself, by `BoundedOutput`. The run ends at the first message whose frame can't be
+/// read, if memory runs out, or if the output fails. Unless the output failed, it then has the texts
+/// of all messages before this one, and no byte for this one.
 pub fn run_show<R: BufferedInput, W: BufferedOutput>(
     alloc: Global,
     task: ShowTask,

@@ -40,13 +40,32 @@ pub struct ShowTask {
     pub json: bool,
     /// Whether places are left out.
     pub values: bool,
-    /// How many pointers below the root are followed; none if it is below 1.
+    /// Whether parts of the lines have colors, by control sequences of a terminal.
+    pub colors: bool,
+    /// How many pointers below the first one are followed; none if it is below 1.
     pub depth: i32,
+    /// The most bytes to write for all messages together; `None` if any number may be written.
+    pub bytes: Option<usize>,
+    /// The path from the root pointer to the part of each message that is shown.
+    pub path: Path,
     pub limits: ReaderOptions,
     /// Whether the input is packed (encoding specification, "Packing").
     pub unpack: bool,
     /// Whether the input is the raw words of one message, not frames.
     pub from_flat: bool,
+}
+
+/// How to compare the messages of two files, and the limits for reading them.
+#[derive(Clone, Copy)]
+pub struct DiffTask {
+    pub limits: ReaderOptions,
+    /// Whether both inputs are packed (encoding specification, "Packing").
+    pub unpack: bool,
+    /// Whether each input is the raw words of one message, not frames.
+    pub from_flat: bool,
+    /// Whether nothing is written to the output, so that only the program's exit status says whether
+    /// the messages differ.
+    pub quiet: bool,
 }
 
 /// What the arguments ask for.
@@ -61,6 +80,8 @@ pub enum Request {
     Run(Task),
     /// To show each message of these files.
     Show(ShowTask),
+    /// To compare the messages of two files.
+    Diff(DiffTask),
 }
 
 /// The first wrong argument.
@@ -72,17 +93,18 @@ pub struct WrongArgument {
     pub fault: ArgumentFault,
 }
 
-/// Parses the arguments after the program's name: `canon`, `check`, `size`, `digest`, `validate` or
-/// `show`, options, and files.
+/// Parses the arguments after the program's name: `canon`, `check`, `size`, `digest`, `validate`,
+/// `show` or `diff`, options, and files.
 ///
-/// The options are `--flat`, `--pack` and `--hex` (of `canon`), `--flat` and `--quiet` (of `check`
-/// and `validate`), `--flat` (of `size`), `--flat`, `--check` or `-c`, and with it `--quiet` (of
-/// `digest`), `--at PATH` (of `canon`, `size` and `digest`), `--flat`, `--json`, `--values` and
-/// `--depth N` (of `show`), and `--packed`, `--from-flat`, `--nesting N` and `--words N` (of all
-/// six). They may come anywhere. If one is repeated, the last counts. An option with a value may
-/// have a `=` in place of the space. `--hex` can't be used with `--flat` or `--pack`: hex digits are
-/// written neither raw nor packed. `--packed` can't be used with `--from-flat`, or with a `--flat`
-/// that isn't of `canon`: raw words are never read packed.
+/// The options are `--flat`, `--pack` and `--hex` (of `canon`), `--flat` and `--quiet` (of `check`,
+/// `validate` and `diff`), `--flat` (of `size`), `--flat`, `--check` or `-c`, and with it `--quiet`
+/// (of `digest`), `--at PATH` (of `canon`, `size`, `digest` and `show`), `--flat`, `--json`,
+/// `--values`, `--color`, `--depth N` and `--bytes N` (of `show`), and `--packed`, `--from-flat`,
+/// `--nesting N` and `--words N` (of all seven). They may come anywhere. If one is repeated, the
+/// last counts. An option with a value may have a `=` in place of the space. `--hex` can't be used
+/// with `--flat` or `--pack`: hex digits are written neither raw nor packed. `--json` can't be used
+/// with `--color`. `--packed` can't be used with `--from-flat`, or with a `--flat` that isn't of
+/// `canon`: raw words are never read packed.
 ///
 /// An argument looks like an option if it is `-` followed by more; `-` alone is standard input. Of
 /// the arguments that neither look like an option nor are the value of one, the first is the
@@ -92,7 +114,8 @@ pub struct WrongArgument {
 /// The nesting limit is an `i32` in decimal digits with an optional `-`; default 64. The traversal
 /// limit in words is a `u64` in decimal digits, or `none`; default 8,388,608. A path is 1 to 32
 /// indexes between dots; each is a `u32` in decimal digits, with or without brackets: `0.2.[7].1`.
-/// The depth is written like the nesting limit; default 64.
+/// The depth is written like the nesting limit; default 64. The most bytes are written like the
+/// traversal limit; default 1,073,741,824, which is 1 GiB.
 ///
 /// Refuses all other arguments. The `WrongArgument` is the first one that can't follow those before
 /// it; the arguments after that one don't matter.

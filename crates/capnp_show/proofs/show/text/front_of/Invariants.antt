@@ -1,5 +1,5 @@
 use Rattle.std.proofs.Common.{◌≤◌}
-use Rattle.capnp_show.proofs.show.lines.front_of.Given as goal
+use Rattle.capnp_show.proofs.show.text.front_of.Given as goal
 
 abbrev pub invariant-loop-end : goal.invariant-loop-end
 invariant-loop-end l = l.end ≤ 1024

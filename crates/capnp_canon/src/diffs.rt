@@ -1,0 +1,130 @@
+//! Opens two inputs and compares their messages.
+
+ghost use Rattle.std.specs.Prelude.{◌≡◌, false};
+
+use crate::BUFFER;
+use crate::inputs::{Unanswered, not_opened, pass_on, refuse};
+use crate::texts::NO_MEMORY;
+use capnp_packing::buffered::{BufferedInput, BufferedOutput};
+use capnp_streams::devices::BufReaderInput;
+use capnp_streams::looks::InputForm;
+use capnp_streams::seen::{Seen, Watched};
+use capnp_streams::streams::{self, DiffFault, DiffTask, Side};
+use std::fs::File;
+use std::io::{BufReader, Read};
+
+/// The names of the two inputs.
+#[derive(Clone, Copy)]
+struct Names<'a> {
+    left: &'a str,
+    right: &'a str,
+}
+
+/// Compares the messages of the files `left` and `right`; `-` is standard input. Returns whether they
+/// are the same. Ends with an error if a file can't be opened, or at the first message that can't be
+/// compared.
+pub fn compare_files<W: BufferedOutput>(
+    rt: &HostRuntime,
+    task: DiffTask,
+    left: &str,
+    right: &str,
+    output: &mut W,
+) -> Result<bool, Unanswered>
+    requires { W.has_failed output.old ≡ false }
+{
+    let names = Names { left, right };
+    if left == "-" {
+        return compare_with(rt, task, names, rt.reader(), output);
+    }
+    match File::open(rt, left) {
+        Ok(file) => compare_with(rt, task, names, file, output),
+        Err(error) => not_opened(rt, left, &error, output),
+    }
+}
+
+/// Opens the second input, and compares its messages with those of `left`.
+fn compare_with<L: Read + Drop, W: BufferedOutput>(
+    rt: &HostRuntime,
+    task: DiffTask,
+    names: Names,
+    left: L,
+    output: &mut W,
+) -> Result<bool, Unanswered>
+    requires { W.has_failed output.old ≡ false }
+{
+    if names.right == "-" {
+        return compare_readers(rt, task, names, left, rt.reader(), output);
+    }
+    match File::open(rt, names.right) {
+        Ok(file) => compare_readers(rt, task, names, left, file, output),
+        Err(error) => not_opened(rt, names.right, &error, output),
+    }
+}
+
+/// Compares the messages of two readers, and reports a fault.
+fn compare_readers<L: Read + Drop, R: Read + Drop, W: BufferedOutput>(
+    rt: &HostRuntime,
+    task: DiffTask,
+    names: Names,
+    left: L,
+    right: R,
+    output: &mut W,
+) -> Result<bool, Unanswered>
+    requires { W.has_failed output.old ≡ false }
+{
+    let (left_seen, right_seen) = (Seen::new(), Seen::new());
+    let left = BufReader::with_capacity(rt.alloc(), BUFFER, Watched::new(left, &left_seen));
+    let right = BufReader::with_capacity(rt.alloc(), BUFFER, Watched::new(right, &right_seen));
+    let (Ok(left), Ok(right)) = (left, right) else {
+        let _ = rt.eprintln(NO_MEMORY);
+        return Err(Unanswered::Said);
+    };
+    let (left, right) = (BufReaderInput::new(left), BufReaderInput::new(right));
+    let fault = match run(rt, task, left, right, output) {
+        Ok(is_same) => return Ok(is_same),
+        Err(DiffFault::WriteFailed) => return Err(Unanswered::WriteFailed),
+        Err(fault) => fault,
+    };
+    pass_on(output)?;
+    let form = task.input_form();
+    match fault {
+        DiffFault::Refused(Side::Left, stop) => {
+            refuse(rt, form, Some(names.left), stop, &left_seen);
+        }
+        DiffFault::Refused(Side::Right, stop) => {
+            refuse(rt, form, Some(names.right), stop, &right_seen);
+        }
+        DiffFault::TooLong(number) => {
+            let _ = eprintln!(rt; "capnp_canon: message {number}: too long to compare");
+        }
+        DiffFault::AllocationFailed | DiffFault::WriteFailed => {
+            let _ = rt.eprintln(NO_MEMORY);
+        }
+    }
+    Err(Unanswered::Said)
+}
+
+/// Compares the messages of two inputs. Precondition: neither they nor the output have failed.
+fn run<L: BufferedInput + Drop, R: BufferedInput + Drop, W: BufferedOutput>(
+    rt: &HostRuntime,
+    task: DiffTask,
+    mut left: L,
+    mut right: R,
+    output: &mut W,
+) -> Result<bool, DiffFault>
+    requires left { L.has_failed left ≡ false }
+    requires right { R.has_failed right ≡ false }
+    requires writes { W.has_failed output.old ≡ false }
+{
+    let alloc = rt.alloc();
+    match task.input_form() {
+        InputForm::Frames => match streams::run_diff(alloc, task, &mut left, &mut right, output) {
+            Ok(compared) => Ok(compared.is_same),
+            Err(fault) => Err(fault),
+        },
+        InputForm::PackedFrames => streams::run_diff_packed(alloc, task, left, right, output),
+        InputForm::RawWords => {
+            streams::run_diff_flat(alloc, task, &mut left, &mut right, output)
+        }
+    }
+}

@@ -1,0 +1,208 @@
+//! Compares the values of two messages.
+ghost use Rattle.std.specs.Prelude.{◌≡◌, ◌≤◌, false, true, length, Ok, IfSome, IsNone, OnOk};
+ghost use Rattle.capnp_arena_traits.specs.Limits.{IsSmall};
+ghost use Rattle.capnp_framing.specs.Writing.{IsUnwritten};
+ghost use Rattle.capnp_show.specs.Show.{PrintsAtMost, PrintsSome};
+
+use super::json::{Json, Search};
+use super::message::write_json;
+use super::text::{Ended, MOST_BYTES, Text, front_of};
+use capnp_arena::arena::{ReaderArenaImpl, ReaderOptions, ReaderSegments};
+use capnp_framing::devices::{DeviceFault, Output, write_all};
+use capnp_words::read_limiter::ReadLimiter;
+use std::alloc::Global;
+
+/// Why two messages aren't compared.
+#[derive(Clone, Copy, Debug, PartialEq, Eq)]
+pub enum CompareFault {
+    /// Memory ran out.
+    AllocationFailed,
+    /// The line of one of the messages would have more than `MOST_BYTES` bytes.
+    TooLong,
+    /// Writing to the output failed.
+    WriteFailed,
+}
+
+/// Where two lines differ.
+#[derive(Clone, Copy)]
+struct Difference {
+    /// The position of the first byte in which they differ.
+    at: usize,
+    /// Where the text of the object that differs begins at the latest.
+    latest: usize,
+}
+
+/// Compares the values of the messages in `left` and `right`: the lines that `show_message` writes of
+/// them in JSON without places, with all pointers followed within `limits`. If the lines are equal,
+/// writes nothing and returns `true`. Otherwise writes three lines to `output` and returns `false`:
+/// `message`, `number` and the path to the first object whose text differs; `<` and its text in
+/// `left`; `>` and its text in `right`. Of a text, at most 1,024 bytes are written, and then two dots.
+///
+/// A pointer that can't be read has the name of its refusal in the line. So equal lines are equal
+/// values only if both messages are sound (`validate_of` of `capnp_messages`).
+///
+/// Refusals: `AllocationFailed` if memory runs out, and `TooLong` if a line would have more than
+/// `MOST_BYTES` bytes, and then nothing is written; `WriteFailed` if the output fails. Takes memory
+/// for two lines.
+#[tactic(auto, using(crate::proofs::CompareLemmas::nothing_printed))]
+pub fn compare_messages<S: ReaderSegments + Drop, T: ReaderSegments + Drop, W: Output>(
+    alloc: Global,
+    limits: ReaderOptions,
+    number: u64,
+    left: S,
+    right: T,
+    output: &mut W,
+) -> Result<bool, CompareFault>
+    requires left { IsSmall (S.segments left) }
+    requires right { IsSmall (T.segments right) }
+    requires works { W.has_failed output.old ≡ false }
+    ensures same { result ≡ Ok true → IsUnwritten W.Output output.old output.new }
+    ensures told { result ≡ Ok false → PrintsSome W.Output output.old output.new }
+    ensures bounded { OnOk result (PrintsAtMost W.Output MOST_BYTES output.old output.new) }
+    ensures works { OnOk result (W.has_failed output.new ≡ false) }
+{
+    let left = ReaderArenaImpl::new(left, limits);
+    let right = ReaderArenaImpl::new(right, limits);
+    match difference_of(alloc, limits, &left, &right)? {
+        None => Ok(true),
+        Some(difference) => {
+            let text = text_of_difference(alloc, limits, number, difference, &left, &right)?;
+            write_text(output, &text)?;
+            Ok(false)
+        }
+    }
+}
+
+/// Writes the text about a difference.
+fn write_text<W: Output>(output: &mut W, text: &Text) -> Result<(), CompareFault>
+    requires { W.has_failed output.old ≡ false }
+    ensures some { OnOk result (PrintsSome W.Output output.old output.new) }
+    ensures bounded { OnOk result (PrintsAtMost W.Output MOST_BYTES output.old output.new) }
+    ensures works { OnOk result (W.has_failed output.new ≡ false) }
+{
+    let bytes = text.bytes();
+    if bytes.is_empty() {
+        return Err(CompareFault::TooLong);
+    }
+    match write_all(output, bytes) {
+        Ok(()) => Ok(()),
+        Err(DeviceFault) => Err(CompareFault::WriteFailed),
+    }
+}
+
+/// Where the lines of the two messages differ; `None` if they are equal.
+fn difference_of<S: ReaderSegments, T: ReaderSegments>(
+    alloc: Global,
+    limits: ReaderOptions,
+    left: &ReaderArenaImpl<S>,
+    right: &ReaderArenaImpl<T>,
+) -> Result<Option<Difference>, CompareFault> {
+    let left = line_of(alloc, limits, None, left)?;
+    let right = line_of(alloc, limits, None, right)?;
+    Ok(compare_lines(left.text.bytes(), right.text.bytes()))
+}
+
+/// Where the two lines differ; `None` if they are equal. The object that differs may begin with the
+/// first byte that differs if an object begins there in both lines.
+fn compare_lines(left: &[u8], right: &[u8]) -> Option<Difference>
+    ensures same { IsNone result → left.now ≡ right.now }
+    ensures differ { IfSome result (λ _. left.now ≡ right.now → ⊥) }
+{
+    if left == right {
+        return None;
+    }
+    let at = common_front(left, right);
+    let latest = if begins_object(left, at) && begins_object(right, at) {
+        at
+    } else {
+        at.saturating_sub(1)
+    };
+    Some(Difference { at, latest })
+}
+
+/// The number of bytes at the front that are the same in both.
+fn common_front(left: &[u8], right: &[u8]) -> usize {
+    let most = left.len().min(right.len());
+    let mut at = 0;
+    while at < most && left[at] == right[at] {
+        at += 1;
+    }
+    at
+}
+
+/// Whether the byte at position `at` is one with which the text of an object begins: that of `null`,
+/// or of an object of JSON.
+fn begins_object(line: &[u8], at: usize) -> bool {
+    matches!(line.get(at), Some(b'n' | b'{'))
+}
+
+/// The line of a message; if something is looked for, up to the end of the object that is found.
+fn line_of<S: ReaderSegments>(
+    alloc: Global,
+    limits: ReaderOptions,
+    search: Option<Search>,
+    arena: &ReaderArenaImpl<S>,
+) -> Result<Json, CompareFault> {
+    let lim = ReadLimiter::new(limits.traversal_limit_in_words);
+    let mut json = Json::new(alloc, lim, false);
+    json.search = search;
+    match write_json(arena, 0, 0, &[], u32::MAX, &mut json) {
+        Ok(()) | Err(Ended::Found) => Ok(json),
+        Err(Ended::Full) => Err(CompareFault::TooLong),
+        Err(Ended::NoMemory) => Err(CompareFault::AllocationFailed),
+    }
+}
+
+/// Makes the text about a difference.
+fn text_of_difference<S: ReaderSegments, T: ReaderSegments>(
+    alloc: Global,
+    limits: ReaderOptions,
+    number: u64,
+    difference: Difference,
+    left: &ReaderArenaImpl<S>,
+    right: &ReaderArenaImpl<T>,
+) -> Result<Text, CompareFault> {
+    let Difference { at, latest } = difference;
+    let left = line_of(alloc, limits, Some(Search::new(alloc, at, latest)), left)?;
+    let right = line_of(alloc, limits, Some(Search::new(alloc, at, latest)), right)?;
+    let mut text = Text::new(alloc);
+    match push_difference(&mut text, number, &left, &right) {
+        Ok(()) => Ok(text),
+        Err(Ended::NoMemory) => Err(CompareFault::AllocationFailed),
+        Err(_) => Err(CompareFault::TooLong),
+    }
+}
+
+/// Adds the three lines about a difference.
+fn push_difference(text: &mut Text, number: u64, left: &Json, right: &Json) -> Result<(), Ended> {
+    text.push(b"message ")?;
+    text.push_number(number)?;
+    text.push(b": ")?;
+    match &left.search {
+        Some(search) if !search.path.is_root() => text.push(search.path.bytes())?,
+        _ => text.push(b"root")?,
+    }
+    text.push(b"\n<")?;
+    push_found(text, left)?;
+    text.push(b"\n>")?;
+    push_found(text, right)?;
+    text.push(b"\n")
+}
+
+/// Adds a space and the text of the object that was found.
+fn push_found(text: &mut Text, line: &Json) -> Result<(), Ended> {
+    let bytes = line.text.bytes();
+    let start = match &line.search {
+        Some(search) => search.start.min(bytes.len()),
+        None => 0,
+    };
+    let found = &bytes[start..];
+    let front = front_of(found);
+    text.push(b" ")?;
+    text.push(front)?;
+    text.push(if front.len() < found.len() {
+        b" .."
+    } else {
+        b""
+    })
+}

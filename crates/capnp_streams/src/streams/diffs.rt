@@ -1,0 +1,353 @@
+//! Compares the messages of two streams.
+ghost use Rattle.std.specs.Prelude.{◌≡◌, false, true, Ok, IfOk, IsNone, OnOk};
+ghost use Rattle.std.specs.Io.KnownBytes.{Keeps};
+ghost use Rattle.capnp_arena_traits.specs.Limits.{IsSmall};
+ghost use Rattle.capnp_format.specs.Bytes.{message};
+ghost use Rattle.capnp_framing.specs.Writing.{IsUnwritten};
+ghost use Rattle.capnp_messages.specs.Messages.{IsReadable};
+
+use super::fault::Fault;
+use super::runs::{Stop, words_of};
+use super::task::DiffTask;
+use capnp_arena::arena::{ReaderOptions, ReaderSegments};
+use capnp_framing::devices::{DeviceFault, Input, Output, write_all};
+use capnp_framing::framing::{FrameError, OwnedSegments, read_into, read_segment_into};
+use capnp_messages::messages::{Command, validate_of};
+use capnp_messages::text::write_number;
+use capnp_packing::buffered::{BufferedInput, BufferedOutput, pass_on_before_waiting};
+use capnp_packing::packing::UnpackingInput;
+use capnp_refusals::refusals::pointer_of_refusal;
+use capnp_show::show::{CompareFault, compare_messages};
+use std::alloc::Global;
+
+/// One of the two inputs.
+#[derive(Clone, Copy, Debug, PartialEq, Eq)]
+pub enum Side {
+    Left,
+    Right,
+}
+
+/// The result of a run that has compared all messages that both inputs have.
+#[derive(Clone, Copy, Debug, PartialEq, Eq)]
+pub struct Compared {
+    /// Whether the lines of each two messages are equal, and there are as many in both inputs.
+    pub is_same: bool,
+    /// The number of messages that both inputs have.
+    pub messages: u64,
+    /// The input that has more messages.
+    pub longer: Option<Side>,
+    /// The total size of the frames of these messages in `left`, in bytes, at most `u64::MAX`.
+    pub left_bytes: u64,
+    /// The same in `right`.
+    pub right_bytes: u64,
+}
+
+/// Why comparing stopped.
+#[derive(Clone, Copy, Debug, PartialEq, Eq)]
+pub enum DiffFault {
+    /// The next message of this input is refused: its frame can't be read, or it isn't sound.
+    Refused(Side, Stop),
+    /// The messages of this number are too long to be compared.
+    TooLong(u64),
+    /// Memory ran out.
+    AllocationFailed,
+    /// Writing to the output failed.
+    WriteFailed,
+}
+
+/// The message of an input that was read last, and where the next one begins.
+#[derive(Drop)]
+struct Reading {
+    side: Side,
+    segments: OwnedSegments,
+    /// The number of messages before it.
+    answered: u64,
+    /// The total size of the frames before it, in bytes, at most `u64::MAX`.
+    byte: u64,
+}
+
+impl Reading {
+    /// Makes the reading of an input before its first message.
+    fn new(alloc: Global, side: Side) -> Self {
+        Reading {
+            side,
+            segments: OwnedSegments::new(alloc),
+            answered: 0,
+            byte: 0,
+        }
+    }
+
+    /// The fault if the message is refused.
+    fn refused(&self, fault: Fault) -> DiffFault {
+        DiffFault::Refused(
+            self.side,
+            Stop {
+                answered: self.answered,
+                byte: self.byte,
+                fault,
+            },
+        )
+    }
+
+    /// Reads the next message, and tests whether it is sound. Returns `false` at the end of the input.
+    fn read<R: Input>(&mut self, limits: ReaderOptions, input: &mut R) -> Result<bool, DiffFault>
+        requires { R.has_failed input.old ≡ false }
+        ensures sound { result ≡ Ok true → IsReadable
+            (message (⟦<OwnedSegments as ReaderSegments>⟧.segments self.new.segments)) limits }
+        ensures small { OnOk result
+            (IsSmall (⟦<OwnedSegments as ReaderSegments>⟧.segments self.new.segments)) }
+        ensures works { OnOk result (R.has_failed input.new ≡ false) }
+    {
+        match read_into(input, words_of(limits), &mut self.segments) {
+            Ok(true) => match fault_of(&self.segments, limits) {
+                None => Ok(true),
+                Some(fault) => Err(self.refused(fault)),
+            },
+            Ok(false) => Ok(false),
+            Err(error) => Err(self.refused(Fault::Frame(error))),
+        }
+    }
+
+    /// Reads the raw words of the one message of the input, and tests whether it is sound.
+    fn read_flat<R: Input>(&mut self, limits: ReaderOptions, input: &mut R) -> Result<(), DiffFault>
+        requires { R.has_failed input.old ≡ false }
+        ensures sound { OnOk result (IsReadable
+            (message (⟦<OwnedSegments as ReaderSegments>⟧.segments self.new.segments)) limits) }
+        ensures small { OnOk result
+            (IsSmall (⟦<OwnedSegments as ReaderSegments>⟧.segments self.new.segments)) }
+    {
+        match read_segment_into(input, words_of(limits), &mut self.segments) {
+            Ok(()) => match fault_of(&self.segments, limits) {
+                None => Ok(()),
+                Some(fault) => Err(self.refused(fault)),
+            },
+            Err(error) => Err(self.refused(Fault::Frame(error))),
+        }
+    }
+
+    /// Notes that the message was compared.
+    fn pass(&mut self) {
+        self.answered = self.answered.saturating_add(1);
+        self.byte = self
+            .byte
+            .saturating_add(self.segments.size_in_bytes() as u64);
+    }
+}
+
+/// Why the message isn't sound; `None` if its whole value can be read within the limits.
+fn fault_of(segments: &OwnedSegments, limits: ReaderOptions) -> Option<Fault>
+    requires { IsSmall (⟦<OwnedSegments as ReaderSegments>⟧.segments segments.now) }
+    ensures { IsNone result
+        → IsReadable (message (⟦<OwnedSegments as ReaderSegments>⟧.segments segments.now)) limits }
+{
+    match validate_of(segments, limits) {
+        Ok(_) => None,
+        Err(kind) => {
+            let pointer = pointer_of_refusal(kind, Command::Validate, segments, limits);
+            Some(Fault::Layout(kind, pointer))
+        }
+    }
+}
+
+/// Compares the messages that were read last.
+fn compare<W: Output>(
+    alloc: Global,
+    limits: ReaderOptions,
+    left: &Reading,
+    right: &Reading,
+    output: &mut W,
+) -> Result<bool, DiffFault>
+    requires left { IsSmall (⟦<OwnedSegments as ReaderSegments>⟧.segments left.now.segments) }
+    requires right { IsSmall (⟦<OwnedSegments as ReaderSegments>⟧.segments right.now.segments) }
+    requires works { W.has_failed output.old ≡ false }
+    ensures same { result ≡ Ok true → IsUnwritten W.Output output.old output.new }
+    ensures works { OnOk result (W.has_failed output.new ≡ false) }
+{
+    let number = left.answered.saturating_add(1);
+    match compare_messages(
+        alloc,
+        limits,
+        number,
+        &left.segments,
+        &right.segments,
+        output,
+    ) {
+        Ok(is_same) => Ok(is_same),
+        Err(CompareFault::AllocationFailed) => Err(DiffFault::AllocationFailed),
+        Err(CompareFault::TooLong) => Err(DiffFault::TooLong(number)),
+        Err(CompareFault::WriteFailed) => Err(DiffFault::WriteFailed),
+    }
+}
+
+/// Writes that only one input has message `number`.
+fn write_longer<W: Output>(output: &mut W, number: u64, side: Side) -> Result<(), DiffFault>
+    requires { W.has_failed output.old ≡ false }
+    ensures { OnOk result (W.has_failed output.new ≡ false) }
+{
+    match push_longer(output, number, side) {
+        Ok(()) => Ok(()),
+        Err(DeviceFault) => Err(DiffFault::WriteFailed),
+    }
+}
+
+fn push_longer<W: Output>(output: &mut W, number: u64, side: Side) -> Result<(), DeviceFault>
+    requires { W.has_failed output.old ≡ false }
+    ensures { OnOk result (W.has_failed output.new ≡ false) }
+{
+    write_all(output, b"message ")?;
+    write_number(output, number)?;
+    write_all(
+        output,
+        match side {
+            Side::Left => b": only in the first file\n",
+            Side::Right => b": only in the second file\n",
+        },
+    )
+}
+
+/// Compares each message of `left` with the message of the same number of `right`, and writes for each
+/// two what `compare_messages` writes about them. If one input has more messages, writes
+/// `message N: only in the first file` or `.. the second file`, where N is the number of the first
+/// of them, and reads no further.
+///
+/// Both inputs are streams of frames. The number of words of each message may be at most the
+/// traversal limit. Each message has to be sound within the limits.
+///
+/// Refusals: `Refused` if a frame can't be read, or a message isn't sound; `TooLong` if the line of a
+/// message is too long; `AllocationFailed`; `WriteFailed` if the output failed. What was written
+/// before stays written.
+pub fn run_diff<L: BufferedInput, R: BufferedInput, W: BufferedOutput>(
+    alloc: Global,
+    task: DiffTask,
+    left: &mut L,
+    right: &mut R,
+    output: &mut W,
+) -> Result<Compared, DiffFault>
+    requires left { L.has_failed left.old ≡ false }
+    requires right { R.has_failed right.old ≡ false }
+    requires works { W.has_failed output.old ≡ false }
+    ensures same { IfOk result (λ compared. compared.is_same ≡ true
+        → Keeps (W.contents output.old) (W.contents output.new)) }
+    ensures left { OnOk result (L.has_failed left.new ≡ false) }
+    ensures right { OnOk result (R.has_failed right.new ≡ false) }
+    ensures works { OnOk result (W.has_failed output.new ≡ false) }
+{
+    let mut first = Reading::new(alloc, Side::Left);
+    let mut second = Reading::new(alloc, Side::Right);
+    let mut is_same = true;
+    for number in 1..u64::MAX {
+        if pass_on_before_waiting(left, output).is_err()
+            || pass_on_before_waiting(right, output).is_err()
+        {
+            return Err(DiffFault::WriteFailed);
+        }
+        let longer = match (
+            first.read(task.limits, left)?,
+            second.read(task.limits, right)?,
+        ) {
+            (true, true) => {
+                if !compare(alloc, task.limits, &first, &second, output)? {
+                    is_same = false;
+                }
+                first.pass();
+                second.pass();
+                continue;
+            }
+            (false, false) => None,
+            (true, false) => Some(Side::Left),
+            (false, true) => Some(Side::Right),
+        };
+        if let Some(side) = longer {
+            write_longer(output, number, side)?;
+        }
+        return Ok(Compared {
+            is_same: is_same && longer.is_none(),
+            messages: first.answered,
+            longer,
+            left_bytes: first.byte,
+            right_bytes: second.byte,
+        });
+    }
+    Err(DiffFault::TooLong(u64::MAX))
+}
+
+/// Unpacks both inputs (encoding specification, "Packing"), and does with the unpacked bytes what
+/// `run_diff` does with its inputs. If the packed bytes of an input are cut short after its last
+/// message, the run is refused with `Truncated`.
+pub fn run_diff_packed<L: Input + Drop, R: Input + Drop, W: BufferedOutput>(
+    alloc: Global,
+    task: DiffTask,
+    left: L,
+    right: R,
+    output: &mut W,
+) -> Result<bool, DiffFault>
+    requires left { L.has_failed left ≡ false }
+    requires right { R.has_failed right ≡ false }
+    requires works { W.has_failed output.old ≡ false }
+    ensures same { result ≡ Ok true → Keeps (W.contents output.old) (W.contents output.new) }
+    ensures works { OnOk result (W.has_failed output.new ≡ false) }
+{
+    let mut left = UnpackingInput::new(left);
+    let mut right = UnpackingInput::new(right);
+    let compared = run_diff(alloc, task, &mut left, &mut right, output)?;
+    if compared.longer != Some(Side::Left) {
+        finish(
+            Side::Left,
+            compared.messages,
+            compared.left_bytes,
+            &mut left,
+        )?;
+    }
+    if compared.longer != Some(Side::Right) {
+        finish(
+            Side::Right,
+            compared.messages,
+            compared.right_bytes,
+            &mut right,
+        )?;
+    }
+    Ok(compared.is_same)
+}
+
+/// Tests that a packed input isn't cut short after its last message.
+fn finish<R: Input>(
+    side: Side,
+    answered: u64,
+    byte: u64,
+    input: &mut UnpackingInput<R>,
+) -> Result<(), DiffFault> {
+    let error = match input.finish() {
+        Ok(true) => return Ok(()),
+        Ok(false) => FrameError::Truncated,
+        Err(DeviceFault) => FrameError::ReadFailed,
+    };
+    Err(DiffFault::Refused(
+        side,
+        Stop {
+            answered,
+            byte,
+            fault: Fault::Frame(error),
+        },
+    ))
+}
+
+/// Compares the messages that both inputs hold as raw words, without a frame, like `run_diff`.
+pub fn run_diff_flat<L: Input, R: Input, W: Output>(
+    alloc: Global,
+    task: DiffTask,
+    left: &mut L,
+    right: &mut R,
+    output: &mut W,
+) -> Result<bool, DiffFault>
+    requires left { L.has_failed left.old ≡ false }
+    requires right { R.has_failed right.old ≡ false }
+    requires works { W.has_failed output.old ≡ false }
+    ensures same { result ≡ Ok true → IsUnwritten W.Output output.old output.new }
+    ensures works { OnOk result (W.has_failed output.new ≡ false) }
+{
+    let mut first = Reading::new(alloc, Side::Left);
+    let mut second = Reading::new(alloc, Side::Right);
+    first.read_flat(task.limits, left)?;
+    second.read_flat(task.limits, right)?;
+    compare(alloc, task.limits, &first, &second, output)
+}
