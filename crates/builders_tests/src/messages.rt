@@ -45,11 +45,14 @@ pub fn root<'a, A: BuilderArena>(rt: &impl Abort, arena: &'a mut A) -> PointerBu
 pub fn check_struct<A: BuilderArena>(rt: &impl Abort, builder: &StructBuilder<'_, A>)
     ensures { IsStructPlace (A.view builder.now.arena.now).words builder.now.place }
 {
-    let place = builder.place;
-    let segment = builder
-        .arena
-        .get_segment(place.segment)
-        .expect(rt, "a segment");
+    check_place(rt, &*builder.arena, builder.place);
+}
+
+/// Checks that both sections of the struct at `place` are inside its segment.
+pub fn check_place<A: BuilderArena>(rt: &impl Abort, arena: &A, place: StructPlace)
+    ensures { IsStructPlace (A.view arena.now).words place }
+{
+    let segment = arena.get_segment(place.segment).expect(rt, "a segment");
     let words = segment.len() / 8;
     let end = (place.byte as usize).checked_add((place.bits as usize + 7) / 8);
     assert!(rt; end.expect(rt, "an end") <= 8 * words);

@@ -2,7 +2,7 @@
 //! fields, laws, copies, readers at places that the caller names, other arenas, and the objects
 //! that the readers are built on.
 
-mod messages;
+pub(crate) mod messages;
 mod names;
 mod objects;
 mod places;

@@ -16,7 +16,7 @@ use crate::memory;
 use crate::output::Output;
 use crate::parse::{self, Fault};
 use capnp_arena::arena::{Allocator, BuilderArena, BuilderArenaImpl, ReaderArena};
-use capnp_readers::readers::PointerPlace;
+use capnp_readers::readers::{PointerPlace, StructPlace};
 use std::alloc::Global;
 
 /// The place of the root pointer.
@@ -35,19 +35,32 @@ pub fn put_answers<A: Allocator>(
     let mut kept = Vec::new(alloc);
     kept.push(Place::Pointer(ROOT))?;
     for text in calls {
-        match call_once(alloc, arena, kept.as_slice(), text, out) {
-            Ok(Some(place)) => {
-                place.put(out);
-                kept.push(place)?;
-            }
-            Ok(None) => {}
-            Err(Fault::Unfit) => out.text("none"),
-            Err(Fault::Refused(kind)) => out.put(kind),
-            Err(fault) => return Err(fault),
+        let made = call_once(alloc, arena, kept.as_slice(), text, out);
+        if let Some(place) = put_answer(made, out)? {
+            kept.push(place)?;
         }
-        out.text(";");
     }
     Ok(())
+}
+
+/// Adds the answer of a call that hasn't added it itself. Returns the place that the call returned,
+/// if it did.
+fn put_answer(
+    made: Result<Option<Place>, Fault>,
+    out: &mut Output,
+) -> Result<Option<Place>, Fault> {
+    let mut place = None;
+    match made {
+        Ok(found) => place = found,
+        Err(Fault::Unfit) => out.text("none"),
+        Err(Fault::Refused(kind)) => out.put(kind),
+        Err(fault) => return Err(fault),
+    }
+    if let Some(place) = place {
+        place.put(out);
+    }
+    out.text(";");
+    Ok(place)
 }
 
 /// Makes a call and adds its answer to `out`. Returns the place that the call found or made, if
@@ -65,31 +78,66 @@ fn call_once<A: Allocator>(
         return Err(Fault::Unfit);
     }
     match (call, place) {
-        (Call::Message(call), _) => return message_call(arena, call, &values, out),
-        (Call::Read, Some(place)) => place.read(arena, out)?,
-        (Call::Pointer(call), Some(Place::Pointer(place))) => {
-            return pointers::call(alloc, arena, place, (call, &values), out);
+        (Call::Message(call), _) => message_call(arena, call, &values, out),
+        (call, Some(place)) => call_at(alloc, arena, place, (call, &values), out),
+        _ => Err(Fault::Unfit),
+    }
+}
+
+/// Makes a call on what is at a place, and adds its answer.
+fn call_at<A: Allocator>(
+    alloc: Global,
+    arena: &mut BuilderArenaImpl<A>,
+    place: Place,
+    (call, values): (Call, &Values<'_>),
+    out: &mut Output,
+) -> Result<Option<Place>, Fault> {
+    if matches!(call, Call::Read) {
+        place.read(arena, out)?;
+        return Ok(None);
+    }
+    match place {
+        Place::Pointer(place) => pointer_call(alloc, arena, place, (call, values), out),
+        Place::Struct(place) => struct_call(alloc, arena, place, (call, values), out),
+        Place::List(place) => match call {
+            Call::List(call) => lists::call(arena, place, (call, values), out),
+            _ => Err(Fault::Unfit),
+        },
+    }
+}
+
+/// Makes a call on the struct at a place, and adds its answer.
+fn struct_call<A: Allocator>(
+    alloc: Global,
+    arena: &mut BuilderArenaImpl<A>,
+    place: StructPlace,
+    (call, values): (Call, &Values<'_>),
+    out: &mut Output,
+) -> Result<Option<Place>, Fault> {
+    match call {
+        Call::Struct(call) => return structs::call(arena, place, (call, values), out),
+        Call::Content => {
+            let copying = (Copying::Struct, values);
+            copies::copy(alloc, arena, Place::Struct(place), copying, out)?;
         }
-        (Call::Bytes(blob, call), Some(Place::Pointer(place))) => {
-            bytes::call(alloc, arena, place, (blob, call, &values), out)?;
-        }
-        (Call::Struct(call), Some(Place::Struct(place))) => {
-            return structs::call(arena, place, (call, &values), out);
-        }
-        (Call::List(call), Some(Place::List(place))) => {
-            return lists::call(arena, place, (call, &values), out);
-        }
-        (Call::Copy(copying), Some(Place::Pointer(place))) => {
-            copies::copy(alloc, arena, Place::Pointer(place), (copying, &values), out)?;
-        }
-        (Call::Content, Some(Place::Struct(place))) => {
-            copies::copy(
-                alloc,
-                arena,
-                Place::Struct(place),
-                (Copying::Struct, &values),
-                out,
-            )?;
+        _ => return Err(Fault::Unfit),
+    }
+    Ok(None)
+}
+
+/// Makes a call on the pointer at a place, and adds its answer.
+fn pointer_call<A: Allocator>(
+    alloc: Global,
+    arena: &mut BuilderArenaImpl<A>,
+    place: PointerPlace,
+    (call, values): (Call, &Values<'_>),
+    out: &mut Output,
+) -> Result<Option<Place>, Fault> {
+    match call {
+        Call::Pointer(call) => return pointers::call(alloc, arena, place, (call, values), out),
+        Call::Bytes(blob, call) => bytes::call(alloc, arena, place, (blob, call, values), out)?,
+        Call::Copy(copying) => {
+            copies::copy(alloc, arena, Place::Pointer(place), (copying, values), out)?;
         }
         _ => return Err(Fault::Unfit),
     }
@@ -128,18 +176,22 @@ fn message_call<A: Allocator>(
         MessageCall::WriteAllocated => {
             write_allocated(arena, values.count, (values.index, values.byte), out)?;
         }
-        MessageCall::PointerAt => {
-            let place = PointerPlace {
-                segment: values.count,
-                word: values.word,
-            };
-            if !place::is_pointer(&*arena, place) {
-                return Err(Fault::Unfit);
-            }
-            return Ok(Some(Place::Pointer(place)));
-        }
+        MessageCall::PointerAt => return pointer_at(arena, values),
     }
     Ok(None)
+}
+
+/// Returns the place of the pointer at a word of the message; `Unfit` if there is no such word.
+fn pointer_at<A: BuilderArena>(arena: &A, values: &Values<'_>) -> Result<Option<Place>, Fault> {
+    let place = PointerPlace {
+        segment: values.count,
+        word: values.word,
+    };
+    if place::is_pointer(arena, place) {
+        Ok(Some(Place::Pointer(place)))
+    } else {
+        Err(Fault::Unfit)
+    }
 }
 
 /// Adds the bytes of a segment that the arena lends for writing, or `absent` if it lends none.

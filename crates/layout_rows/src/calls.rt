@@ -64,6 +64,18 @@ impl<'l> Values<'l> {
         }
     }
 
+    /// Parses `word` as the argument with this letter. If it is out of its type's range, only notes
+    /// that.
+    fn take(&mut self, letter: u8, word: &'l str) -> Result<(), Fault> {
+        match self.put(letter, word) {
+            Err(Fault::Unfit) => {
+                self.is_unfit = true;
+                Ok(())
+            }
+            taken => taken,
+        }
+    }
+
     /// Parses `word` as the argument with this letter.
     fn put(&mut self, letter: u8, word: &'l str) -> Result<(), Fault> {
         match letter {
@@ -132,7 +144,7 @@ pub fn read<'l, T: Copy>(forms: &[Form<T>], text: &'l str) -> Result<(T, Values<
 
 /// Finds the form with this name that allows `count` arguments. Returns the letters of its
 /// arguments, and the call.
-fn find<T: Copy>(forms: &[Form<T>], name: &str, count: usize) -> Option<(&'static str, T)> {
+pub fn find<T: Copy>(forms: &[Form<T>], name: &str, count: usize) -> Option<(&'static str, T)> {
     for (known, letters, least, call) in forms {
         if *known == name && *least <= count && count <= letters.len() {
             return Some((*letters, *call));
@@ -149,11 +161,7 @@ fn values_of<'l>(letters: &str, arguments: Option<&'l str>) -> Result<Values<'l>
         return Ok(values);
     };
     for (letter, word) in letters.as_bytes().iter().zip(arguments.split(',')) {
-        match values.put(*letter, word) {
-            Ok(()) => {}
-            Err(Fault::Unfit) => values.is_unfit = true,
-            Err(fault) => return Err(fault),
-        }
+        values.take(*letter, word)?;
     }
     Ok(values)
 }

@@ -11,55 +11,85 @@ use std::alloc::Global;
 /// The operation of an edit.
 #[derive(Clone, Copy)]
 enum Name {
-    InitStruct,
-    InitList,
-    InitStructList,
-    InitText,
-    InitData,
-    SetText,
-    SetData,
-    SetCapability,
-    Clear,
-    CopyFrom,
-    SetStruct,
-    SetList,
-    CopyContent,
-    GetStruct,
-    GetList,
-    GetStructList,
-    GetText,
-    GetData,
-    SetField,
-    SetBool,
-    SetElement,
-    WriteText,
-    WriteData,
+    Make(Making),
+    Set(Setting),
+    Copy(Copying),
+    Get(Getting),
+    Write(Writing),
+}
+
+/// An operation that makes an object of zeros.
+#[derive(Clone, Copy)]
+enum Making {
+    Struct,
+    List,
+    StructList,
+    Text,
+    Data,
+}
+
+/// An operation that replaces what a pointer leads to, by no copy.
+#[derive(Clone, Copy)]
+enum Setting {
+    Text,
+    Data,
+    Capability,
+    Null,
+}
+
+/// An operation that copies from another message.
+#[derive(Clone, Copy)]
+enum Copying {
+    Value,
+    Struct,
+    List,
+    Content,
+}
+
+/// An operation that looks for an object.
+#[derive(Clone, Copy)]
+enum Getting {
+    Struct,
+    List,
+    StructList,
+    Text,
+    Data,
+}
+
+/// An operation that writes into an object.
+#[derive(Clone, Copy)]
+enum Writing {
+    Field,
+    Bool,
+    Element,
+    Text,
+    Data,
 }
 
 static FORMS: [Form<Name>; 23] = [
-    ("is", "dp", 2, Name::InitStruct),
-    ("il", "sc", 2, Name::InitList),
-    ("isl", "cdp", 3, Name::InitStructList),
-    ("it", "c", 1, Name::InitText),
-    ("id", "c", 1, Name::InitData),
-    ("st", "h", 1, Name::SetText),
-    ("sd", "h", 1, Name::SetData),
-    ("sc", "c", 1, Name::SetCapability),
-    ("cl", "", 0, Name::Clear),
-    ("cf", "glrf", 4, Name::CopyFrom),
-    ("ss", "glrf", 4, Name::SetStruct),
-    ("sl", "glrf", 4, Name::SetList),
-    ("cc", "glr", 3, Name::CopyContent),
-    ("gs", "dpo", 3, Name::GetStruct),
-    ("gl", "so", 2, Name::GetList),
-    ("gsl", "dpo", 3, Name::GetStructList),
-    ("gt", "o", 1, Name::GetText),
-    ("gd", "o", 1, Name::GetData),
-    ("sf", "scn", 3, Name::SetField),
-    ("sb", "cf", 2, Name::SetBool),
-    ("se", "scn", 3, Name::SetElement),
-    ("wt", "cb", 2, Name::WriteText),
-    ("wd", "cb", 2, Name::WriteData),
+    ("is", "dp", 2, Name::Make(Making::Struct)),
+    ("il", "sc", 2, Name::Make(Making::List)),
+    ("isl", "cdp", 3, Name::Make(Making::StructList)),
+    ("it", "c", 1, Name::Make(Making::Text)),
+    ("id", "c", 1, Name::Make(Making::Data)),
+    ("st", "h", 1, Name::Set(Setting::Text)),
+    ("sd", "h", 1, Name::Set(Setting::Data)),
+    ("sc", "c", 1, Name::Set(Setting::Capability)),
+    ("cl", "", 0, Name::Set(Setting::Null)),
+    ("cf", "glrf", 4, Name::Copy(Copying::Value)),
+    ("ss", "glrf", 4, Name::Copy(Copying::Struct)),
+    ("sl", "glrf", 4, Name::Copy(Copying::List)),
+    ("cc", "glr", 3, Name::Copy(Copying::Content)),
+    ("gs", "dpo", 3, Name::Get(Getting::Struct)),
+    ("gl", "so", 2, Name::Get(Getting::List)),
+    ("gsl", "dpo", 3, Name::Get(Getting::StructList)),
+    ("gt", "o", 1, Name::Get(Getting::Text)),
+    ("gd", "o", 1, Name::Get(Getting::Data)),
+    ("sf", "scn", 3, Name::Write(Writing::Field)),
+    ("sb", "cf", 2, Name::Write(Writing::Bool)),
+    ("se", "scn", 3, Name::Write(Writing::Element)),
+    ("wt", "cb", 2, Name::Write(Writing::Text)),
+    ("wd", "cb", 2, Name::Write(Writing::Data)),
 ];
 
 /// Applies the edits in the only word of `words`, and adds their outcomes to `out`, separated by
@@ -181,30 +211,59 @@ fn operation<'a>(
     given: Option<&'a [u8]>,
     source: Source<'a>,
 ) -> Op<'a> {
-    let bytes = given.unwrap_or(&[]);
     match name {
-        Name::InitStruct => Op::InitStruct(values.sections),
-        Name::InitList => Op::InitList(values.size, values.count),
-        Name::InitStructList => Op::InitStructList(values.count, values.sections),
-        Name::InitText => Op::InitText(values.count),
-        Name::InitData => Op::InitData(values.count),
-        Name::SetText => Op::SetText(bytes),
-        Name::SetData => Op::SetData(bytes),
-        Name::SetCapability => Op::SetCapability(values.count),
-        Name::Clear => Op::Clear,
-        Name::CopyFrom => Op::CopyFrom(source, values.flag),
-        Name::SetStruct => Op::SetStruct(source, values.flag),
-        Name::SetList => Op::SetList(source, values.flag),
-        Name::CopyContent => Op::CopyContent(source),
-        Name::GetStruct => Op::GetStruct(values.sections, given),
-        Name::GetList => Op::GetList(values.size, given),
-        Name::GetStructList => Op::GetStructList(values.sections, given),
-        Name::GetText => Op::GetText(given),
-        Name::GetData => Op::GetData(given),
-        Name::SetField => Op::SetField(values.size, values.count, values.number),
-        Name::SetBool => Op::SetBool(values.count, values.flag),
-        Name::SetElement => Op::SetElement(values.size, values.count, values.number),
-        Name::WriteText => Op::WriteText(values.count, values.byte),
-        Name::WriteData => Op::WriteData(values.count, values.byte),
+        Name::Make(making) => made(making, values),
+        Name::Set(setting) => set(setting, values, given.unwrap_or(&[])),
+        Name::Copy(copying) => copied(copying, values, source),
+        Name::Get(getting) => got(getting, values, given),
+        Name::Write(writing) => written(writing, values),
+    }
+}
+
+fn made<'a>(making: Making, values: &Values<'_>) -> Op<'a> {
+    match making {
+        Making::Struct => Op::InitStruct(values.sections),
+        Making::List => Op::InitList(values.size, values.count),
+        Making::StructList => Op::InitStructList(values.count, values.sections),
+        Making::Text => Op::InitText(values.count),
+        Making::Data => Op::InitData(values.count),
+    }
+}
+
+fn set<'a>(setting: Setting, values: &Values<'_>, bytes: &'a [u8]) -> Op<'a> {
+    match setting {
+        Setting::Text => Op::SetText(bytes),
+        Setting::Data => Op::SetData(bytes),
+        Setting::Capability => Op::SetCapability(values.count),
+        Setting::Null => Op::Clear,
+    }
+}
+
+fn copied<'a>(copying: Copying, values: &Values<'_>, source: Source<'a>) -> Op<'a> {
+    match copying {
+        Copying::Value => Op::CopyFrom(source, values.flag),
+        Copying::Struct => Op::SetStruct(source, values.flag),
+        Copying::List => Op::SetList(source, values.flag),
+        Copying::Content => Op::CopyContent(source),
+    }
+}
+
+fn got<'a>(getting: Getting, values: &Values<'_>, default: Option<&'a [u8]>) -> Op<'a> {
+    match getting {
+        Getting::Struct => Op::GetStruct(values.sections, default),
+        Getting::List => Op::GetList(values.size, default),
+        Getting::StructList => Op::GetStructList(values.sections, default),
+        Getting::Text => Op::GetText(default),
+        Getting::Data => Op::GetData(default),
+    }
+}
+
+fn written<'a>(writing: Writing, values: &Values<'_>) -> Op<'a> {
+    match writing {
+        Writing::Field => Op::SetField(values.size, values.count, values.number),
+        Writing::Bool => Op::SetBool(values.count, values.flag),
+        Writing::Element => Op::SetElement(values.size, values.count, values.number),
+        Writing::Text => Op::WriteText(values.count, values.byte),
+        Writing::Data => Op::WriteData(values.count, values.byte),
     }
 }

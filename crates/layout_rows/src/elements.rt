@@ -62,12 +62,15 @@ pub fn pointer_at<'a, A: ReaderArena>(
     if index >= list.len() {
         return Err(Fault::Unfit);
     }
-    match list.get_element_size() {
-        ElementSize::Pointer => Ok(list.get_pointer_element(index)),
-        ElementSize::InlineComposite if list.struct_size().pointers > 0 => {
-            Ok(list.get_pointer_element(index))
-        }
-        _ => Err(Fault::Unfit),
+    let holds_pointer = match list.get_element_size() {
+        ElementSize::Pointer => true,
+        ElementSize::InlineComposite => list.struct_size().pointers > 0,
+        _ => false,
+    };
+    if holds_pointer {
+        Ok(list.get_pointer_element(index))
+    } else {
+        Err(Fault::Unfit)
     }
 }
 

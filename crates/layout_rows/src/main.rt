@@ -64,21 +64,23 @@ fn run(rt: &HostRuntime) -> io::Result<ExitCode> {
 /// Returns the command that the program's only argument names; `None` if there isn't exactly one
 /// argument, or it names no command.
 fn asked(rt: &HostRuntime) -> io::Result<Option<Command>> {
-    let mut words = Vec::new(rt.alloc());
-    for word in env::args(rt)?.skip(1) {
-        words.push(word)?;
-    }
-    let [word] = words.as_slice() else {
-        return Ok(None);
-    };
-    Ok(match word.as_str() {
+    let words: Vec<String> = env::args(rt)?.skip(1).collect(rt.alloc())?;
+    Ok(match words.as_slice() {
+        [word] => command_of(word.as_str()),
+        _ => None,
+    })
+}
+
+/// Returns the command with this name.
+fn command_of(name: &str) -> Option<Command> {
+    match name {
         "walk" => Some(Command::Walk),
         "reads" => Some(Command::Reads),
         "edits" => Some(Command::Edits),
         "builds" => Some(Command::Builds),
         "audits" => Some(Command::Audits),
         _ => None,
-    })
+    }
 }
 
 /// Answers each line of standard input.
@@ -87,11 +89,21 @@ fn respond(rt: &HostRuntime, command: Command) -> io::Result<()> {
     rt.reader().read_to_string(&mut text)?;
     let mut writer = BufWriter::new(rt.alloc(), io::writer(rt))?;
     for line in text.lines() {
-        let answer = answer(rt.alloc(), command, line)?;
-        writer.write_all(answer.as_bytes())?;
-        writer.write_all(b"\n")?;
+        write_answer(&mut writer, rt.alloc(), command, line)?;
     }
     writer.flush()
+}
+
+/// Writes the line that answers `line`.
+fn write_answer<W: Write>(
+    writer: &mut W,
+    alloc: Global,
+    command: Command,
+    line: &str,
+) -> io::Result<()> {
+    let answer = answer(alloc, command, line)?;
+    writer.write_all(answer.as_bytes())?;
+    writer.write_all(b"\n")
 }
 
 /// Returns the answer to a line.

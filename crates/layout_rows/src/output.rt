@@ -48,6 +48,12 @@ impl Output {
         }
     }
 
+    /// Adds a space and a number.
+    pub fn spaced<V: Display + Drop>(&mut self, value: V) {
+        self.text(" ");
+        self.put(value);
+    }
+
     /// Adds a `/` and a number.
     pub fn slash<V: Display + Drop>(&mut self, value: V) {
         self.text("/");

@@ -5,6 +5,18 @@ use capnp_words::wire_pointer::ElementSize;
 use std::alloc::{AllocError, AllocFailed, Global};
 use std::str::FromStr;
 
+/// The sizes of elements, in the order of their numbers.
+pub static SIZES: [ElementSize; 8] = [
+    ElementSize::Void,
+    ElementSize::Bit,
+    ElementSize::Byte,
+    ElementSize::TwoBytes,
+    ElementSize::FourBytes,
+    ElementSize::EightBytes,
+    ElementSize::Pointer,
+    ElementSize::InlineComposite,
+];
+
 /// Why a line, or one of its calls, has no result.
 #[derive(Clone, Copy)]
 pub enum Fault {
@@ -39,21 +51,21 @@ impl<T: Drop> From<AllocFailed<T>> for Fault {
 
 /// Splits a line into its words, which are separated by one space.
 pub fn words(alloc: Global, line: &str) -> Result<Vec<&str>, AllocError> {
-    let mut list = Vec::new(alloc);
-    for word in line.split(' ') {
-        list.push(word)?;
-    }
-    Ok(list)
+    line.split(' ').collect(alloc)
 }
 
 /// Whether a text is decimal digits with an optional `-`.
 pub fn is_number(text: &str) -> bool {
-    let bytes = text.as_bytes();
-    let digits = match bytes {
-        [b'-', digits @ ..] => digits,
-        _ => bytes,
-    };
-    !digits.is_empty() && digits.iter().all(|digit| digit.is_ascii_digit())
+    are_digits(text.strip_prefix('-').unwrap_or(text).as_bytes())
+}
+
+fn are_digits(digits: &[u8]) -> bool {
+    for digit in digits {
+        if !digit.is_ascii_digit() {
+            return false;
+        }
+    }
+    !digits.is_empty()
 }
 
 /// Parses a number in decimal digits; `Unfit` if it is out of its type's range.
@@ -98,28 +110,24 @@ pub fn limit(text: &str) -> Result<Option<usize>, Fault> {
 
 /// Parses an element size, as a number from 0 to 7.
 pub fn element_size(text: &str) -> Result<ElementSize, Fault> {
-    match number(text)? {
-        0u8 => Ok(ElementSize::Void),
-        1 => Ok(ElementSize::Bit),
-        2 => Ok(ElementSize::Byte),
-        3 => Ok(ElementSize::TwoBytes),
-        4 => Ok(ElementSize::FourBytes),
-        5 => Ok(ElementSize::EightBytes),
-        6 => Ok(ElementSize::Pointer),
-        7 => Ok(ElementSize::InlineComposite),
-        _ => Err(Fault::Unfit),
+    match SIZES.get(usize::from(number::<u8>(text)?)) {
+        Some(size) => Ok(*size),
+        None => Err(Fault::Unfit),
     }
 }
 
 /// Whether a text is bytes in lower-case hex digits, or `-`.
 pub fn is_hex(text: &str) -> bool {
-    let digits = text.as_bytes();
-    text == "-"
-        || digits.len() >= 2
-            && digits.len() % 2 == 0
-            && digits
-                .iter()
-                .all(|c| matches!(c, b'0'..=b'9' | b'a'..=b'f'))
+    text == "-" || text.len() >= 2 && text.len() % 2 == 0 && are_hex_digits(text.as_bytes())
+}
+
+fn are_hex_digits(digits: &[u8]) -> bool {
+    for digit in digits {
+        if !matches!(digit, b'0'..=b'9' | b'a'..=b'f') {
+            return false;
+        }
+    }
+    true
 }
 
 /// Parses bytes in lower-case hex digits; `-` for no bytes.

@@ -60,20 +60,43 @@ impl Reading {
                 Some(number) => kept.get(number),
                 None => kept.last(),
             };
-            match self.call(arena, of.copied(), call) {
-                Ok(Some(reader)) => {
-                    self.show(reader);
-                    kept.push(reader)?;
-                }
-                Ok(None) => {}
-                Err(Fault::Unfit) => self.out.text("none"),
-                Err(Fault::Refused(kind)) => self.out.put(kind),
-                Err(fault) => return Err(fault),
+            let made = self.call(arena, of.copied(), call);
+            if let Some(reader) = self.answer_call(made)? {
+                kept.push(reader)?;
             }
-            self.limits();
         }
         let Reading { limiter: _, out } = self;
         Ok(out.into_text()?)
+    }
+
+    /// Adds the answer of a call, and what the limiter then has. Returns the reader that the call
+    /// returned, if it did.
+    fn answer_call<'a, A: ReaderArena>(
+        &mut self,
+        made: Result<Option<Reader<'a, A>>, Fault>,
+    ) -> Result<Option<Reader<'a, A>>, Fault> {
+        let reader = match made {
+            Ok(reader) => reader,
+            Err(fault) => {
+                self.refusal(fault)?;
+                None
+            }
+        };
+        if let Some(reader) = reader {
+            self.show(reader);
+        }
+        self.limits();
+        Ok(reader)
+    }
+
+    /// Adds why a call has no result. Fails if the line has no answer for that reason.
+    fn refusal(&mut self, fault: Fault) -> Result<(), Fault> {
+        match fault {
+            Fault::Unfit => self.out.text("none"),
+            Fault::Refused(kind) => self.out.put(kind),
+            fault => return Err(fault),
+        }
+        Ok(())
     }
 
     /// Adds the number of words that the limiter has left, and the number of pointers that were
@@ -145,11 +168,32 @@ impl Reading {
                 let target = readers::next(from, &mut self.limiter)?;
                 Ok(self.target(target))
             }
+            Op::Text | Op::Data => {
+                self.bytes(from, call.op, default)?;
+                Ok(None)
+            }
             op => {
-                self.ask_pointer(from, op, call.values.count, default)?;
+                self.ask_pointer(from, op, call.values.count)?;
                 Ok(None)
             }
         }
+    }
+
+    /// Adds the bytes of a text if `op` is `Text`, otherwise those of data.
+    fn bytes<'a, A: ReaderArena>(
+        &mut self,
+        from: PointerReader<'a, A>,
+        op: Op,
+        default: Option<&'a [u8]>,
+    ) -> Result<(), Fault>
+        requires { IfSome default (λ bytes. length bytes.now / 8 < 2 ^ 32) }
+    {
+        let bytes = match op {
+            Op::Text => readers::text(from, &mut self.limiter, default)?,
+            _ => readers::data(from, &mut self.limiter, default)?,
+        };
+        self.out.hex_or_dash(bytes);
+        Ok(())
     }
 
     /// Adds the kind of object that a pointer leads to. Returns a reader of the object if it is a
@@ -173,38 +217,30 @@ impl Reading {
         None
     }
 
-    /// Makes a call that returns no reader, on a pointer.
-    fn ask_pointer<'a, A: ReaderArena>(
+    /// Makes a call that returns neither a reader nor bytes, on a pointer.
+    fn ask_pointer<A: ReaderArena>(
         &mut self,
-        from: PointerReader<'a, A>,
+        from: PointerReader<'_, A>,
         op: Op,
         head: u32,
-        default: Option<&'a [u8]>,
-    ) -> Result<(), Fault>
-        requires { IfSome default (λ bytes. length bytes.now / 8 < 2 ^ 32) }
-    {
+    ) -> Result<(), Fault> {
         match op {
             Op::IsNull => self.out.flag(from.is_null()),
-            Op::Type => {
-                let found = readers::pointer_type(from, &mut self.limiter)?;
-                self.out.pointer_type(found);
-            }
+            Op::Type => return self.pointer_type(from),
             Op::Capability => self.out.put(readers::capability(from)?),
-            Op::Text => {
-                let bytes = readers::text(from, &mut self.limiter, default)?;
-                self.out.hex_or_dash(bytes);
-            }
-            Op::Data => {
-                let bytes = readers::data(from, &mut self.limiter, default)?;
-                self.out.hex_or_dash(bytes);
-            }
             Op::Size => {
-                let size = readers::pointer_size(from, &mut self.limiter)?;
-                self.size(size);
+                let size = readers::pointer_size(from, &mut self.limiter);
+                return self.size(size);
             }
             Op::Canonical => self.canonical(from, head),
             _ => return Err(Fault::Unfit),
         }
+        Ok(())
+    }
+
+    fn pointer_type<A: ReaderArena>(&mut self, from: PointerReader<'_, A>) -> Result<(), Fault> {
+        let found = readers::pointer_type(from, &mut self.limiter)?;
+        self.out.pointer_type(found);
         Ok(())
     }
 
@@ -235,12 +271,12 @@ impl Reading {
     ) -> Result<(), Fault> {
         match op {
             Op::IsPointerNull => self.out.flag(readers::is_field_null(from, values.index)),
-            Op::Bool => self.bool_field(from, values)?,
-            Op::Number(of) => self.number(of, Reader::Struct(from), values)?,
+            Op::Bool => return self.bool_field(from, values),
+            Op::Number(of) => return self.number(of, Reader::Struct(from), values),
             Op::Bytes => self.out.hex_or_dash(readers::data_bytes(from)),
             Op::Size => {
-                let size = readers::struct_size(from, &mut self.limiter)?;
-                self.size(size);
+                let size = readers::struct_size(from, &mut self.limiter);
+                return self.size(size);
             }
             Op::CanonicalStruct => self.canonical_struct(from, values),
             Op::CanonicalShared => self.canonical_shared(from, values),
@@ -339,7 +375,7 @@ impl Reading {
         values: &Values<'_>,
     ) -> Result<(), Fault> {
         match op {
-            Op::Get => self.element(from, values)?,
+            Op::Get => return self.element(from, values),
             Op::Bytes => self.out.hex_or_dash(from.data_bytes()),
             Op::Bits => self.out.put(from.element_data_bits()),
             Op::Low => self.out.put(low_data_at(&from, values.count)?),
@@ -363,7 +399,7 @@ impl Reading {
                 let bit = number_at::<bool, A>(&from, values.count)?;
                 self.out.flag(bit);
             }
-            ElementType::Number(of) => self.number(of, Reader::List(from), values)?,
+            ElementType::Number(of) => return self.number(of, Reader::List(from), values),
         }
         Ok(())
     }
@@ -398,10 +434,7 @@ impl Reading {
     {
         let number: T = match from {
             Reader::Pointer(_) => return Err(Fault::Unfit),
-            Reader::Struct(from) => match mask_of::<T>(values.mask)? {
-                Some(mask) => readers::data_field_mask::<T, A>(from, values.index, mask),
-                None => readers::data_field::<T, A>(from, values.index),
-            },
+            Reader::Struct(from) => number_field::<T, A>(from, values)?,
             Reader::List(from) => number_at::<T, A>(&from, values.count)?,
         };
         self.out.put(number);
@@ -444,10 +477,26 @@ impl Reading {
         });
     }
 
-    fn size(&mut self, size: MessageSize) {
+    fn size(&mut self, size: Result<MessageSize, ErrorKind>) -> Result<(), Fault> {
+        let size = size?;
         self.out.put(size.word_count);
         self.out.slash(size.cap_count);
+        Ok(())
     }
+}
+
+/// Returns a number of a struct, with a mask if the call has one.
+fn number_field<T: Primitive + Zero + Mask<T = T> + FromStr + Drop, A: ReaderArena>(
+    from: StructReader<'_, A>,
+    values: &Values<'_>,
+) -> Result<T, Fault>
+where
+    T::Err: Drop,
+{
+    Ok(match mask_of::<T>(values.mask)? {
+        Some(mask) => readers::data_field_mask::<T, A>(from, values.index, mask),
+        None => readers::data_field::<T, A>(from, values.index),
+    })
 }
 
 /// Returns a reader of the pointer at the place that `values` names; `Unfit` if there is no such

@@ -22,6 +22,10 @@ impl SourceText<'_> {
 
 /// Whether a text is segments separated by slashes, each in hex digits, or `.` or `-`.
 pub fn are_segments(text: &str) -> bool {
-    text.split('/')
-        .all(|part| part == "." || parse::is_hex(part))
+    for part in text.split('/') {
+        if part != "." && !parse::is_hex(part) {
+            return false;
+        }
+    }
+    true
 }

@@ -1,5 +1,6 @@
 //! The types of numbers and of elements that a line names.
 
+use crate::calls::{Form, find};
 use crate::parse::{self, Fault};
 use std::str::FromStr;
 
@@ -24,20 +25,25 @@ pub enum ElementType {
     Number(NumberType),
 }
 
+/// The names of element types. For `find`, they are calls without arguments.
+static ELEMENT_TYPES: [Form<ElementType>; 10] = [
+    ("void", "", 0, ElementType::Void),
+    ("bool", "", 0, ElementType::Bool),
+    ("u8", "", 0, ElementType::Number(NumberType::U8)),
+    ("u16", "", 0, ElementType::Number(NumberType::U16)),
+    ("u32", "", 0, ElementType::Number(NumberType::U32)),
+    ("u64", "", 0, ElementType::Number(NumberType::U64)),
+    ("i8", "", 0, ElementType::Number(NumberType::I8)),
+    ("i16", "", 0, ElementType::Number(NumberType::I16)),
+    ("i32", "", 0, ElementType::Number(NumberType::I32)),
+    ("i64", "", 0, ElementType::Number(NumberType::I64)),
+];
+
 /// Returns the element type with this name.
 pub fn element_type(name: &str) -> Result<ElementType, Fault> {
-    match name {
-        "void" => Ok(ElementType::Void),
-        "bool" => Ok(ElementType::Bool),
-        "u8" => Ok(ElementType::Number(NumberType::U8)),
-        "u16" => Ok(ElementType::Number(NumberType::U16)),
-        "u32" => Ok(ElementType::Number(NumberType::U32)),
-        "u64" => Ok(ElementType::Number(NumberType::U64)),
-        "i8" => Ok(ElementType::Number(NumberType::I8)),
-        "i16" => Ok(ElementType::Number(NumberType::I16)),
-        "i32" => Ok(ElementType::Number(NumberType::I32)),
-        "i64" => Ok(ElementType::Number(NumberType::I64)),
-        _ => Err(Fault::Malformed),
+    match find(&ELEMENT_TYPES, name, 0) {
+        Some((_, found)) => Ok(found),
+        None => Err(Fault::Malformed),
     }
 }
 

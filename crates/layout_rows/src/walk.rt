@@ -1,33 +1,26 @@
 //! Reads a message by all calls of readers, in a fixed order, from the root pointer to two levels
 //! below it.
-ghost use Rattle.std.specs.Prelude.{◌<◌, ◌/◌, ◌^◌, length};
+ghost use Rattle.std.specs.Prelude.{◌<◌, ◌/◌, ◌^◌, length, IfSome};
 
 use crate::elements::{number_at, pointer_at, struct_at};
 use crate::output::Output;
+use crate::parse::SIZES;
 use crate::readers;
 use capnp_arena::arena::ReaderArena;
-use capnp_readers::readers::{ListReader, MessageSize, PointerReader, StructReader};
+use capnp_readers::readers::{
+    ListReader, MessageSize, PointerReader, PrimitiveElement, StructReader,
+};
 use capnp_words::error::ErrorKind;
 use capnp_words::read_limiter::ReadLimiter;
 use capnp_words::wire_pointer::{ElementSize, PointerType};
 use std::alloc::{AllocError, Global};
+use std::fmt::Display;
 
 /// How many levels below the root pointer are read.
 const LEVELS: u32 = 2;
 
 /// How many elements of a list, and how many pointers of a struct, are read.
 const FEW: u32 = 3;
-
-const SIZES: [ElementSize; 8] = [
-    ElementSize::Void,
-    ElementSize::Bit,
-    ElementSize::Byte,
-    ElementSize::TwoBytes,
-    ElementSize::FourBytes,
-    ElementSize::EightBytes,
-    ElementSize::Pointer,
-    ElementSize::InlineComposite,
-];
 
 /// A default whose root pointer leads to a struct with a pointer to the text `a`.
 #[rattlefmt::skip]
@@ -99,17 +92,22 @@ impl Walk {
     /// Makes all calls on a pointer, and reads what it leads to, down to `below` levels below it.
     #[cycle(levels)]
     fn pointer<A: ReaderArena>(&mut self, from: PointerReader<'_, A>, below: u32) {
+        self.without_levels(from);
+        for size in SIZES {
+            self.list(from, size, below);
+        }
+        self.structure(from, below);
+        self.out.text("]");
+    }
+
+    /// Makes the calls on a pointer whose answers have no further pointers.
+    fn without_levels<A: ReaderArena>(&mut self, from: PointerReader<'_, A>) {
         self.out.text("[");
         self.out.flag(from.is_null());
         if from.is_null() {
             self.defaults(from);
         }
         self.plain(from);
-        for size in SIZES {
-            self.list(from, size, below);
-        }
-        self.structure(from, below);
-        self.out.text("]");
     }
 
     /// Reads the list that a pointer leads to, expecting elements of `size`, and the pointers of
@@ -211,12 +209,23 @@ impl Walk {
         let found = readers::pointer_type(from, &mut self.limiter);
         self.pointer_type(found);
         self.capability(readers::capability(from));
-        let text = readers::text(from, &mut self.limiter, None);
-        self.bytes(text);
-        let data = readers::data(from, &mut self.limiter, None);
-        self.bytes(data);
+        self.text_and_data(from, None);
         let size = readers::pointer_size(from, &mut self.limiter);
         self.size(size);
+    }
+
+    /// Adds the text that a pointer leads to, and its data.
+    fn text_and_data<'a, A: ReaderArena>(
+        &mut self,
+        from: PointerReader<'a, A>,
+        default: Option<&'a [u8]>,
+    )
+        requires { IfSome default (λ bytes. length bytes.now / 8 < 2 ^ 32) }
+    {
+        let text = readers::text(from, &mut self.limiter, default);
+        self.bytes(text);
+        let data = readers::data(from, &mut self.limiter, default);
+        self.bytes(data);
     }
 
     /// Makes the calls with defaults on a null pointer.
@@ -230,24 +239,33 @@ impl Walk {
     fn default<'a, A: ReaderArena>(&mut self, from: PointerReader<'a, A>, default: &'a [u8])
         requires { length default.now / 8 < 2 ^ 32 }
     {
-        let text = readers::text(from, &mut self.limiter, Some(default));
-        self.bytes(text);
-        let data = readers::data(from, &mut self.limiter, Some(default));
-        self.bytes(data);
+        self.text_and_data(from, Some(default));
         match readers::structure(from, &mut self.limiter, Some(default)) {
-            Ok(found) => self.default_struct(found),
+            Ok(found) => self.struct_of_default(found),
             Err(kind) => self.refusal(kind),
         }
         for size in SIZES {
-            match readers::list(from, &mut self.limiter, size, Some(default)) {
-                Ok(list) => self.default_list(&list, size),
-                Err(kind) => self.refusal(kind),
-            }
+            self.default_list(from, size, default);
+        }
+    }
+
+    /// Reads a list of a null pointer with a default, expecting elements of `size`.
+    fn default_list<'a, A: ReaderArena>(
+        &mut self,
+        from: PointerReader<'a, A>,
+        size: ElementSize,
+        default: &'a [u8],
+    )
+        requires { length default.now / 8 < 2 ^ 32 }
+    {
+        match readers::list(from, &mut self.limiter, size, Some(default)) {
+            Ok(list) => self.list_of_default(&list, size),
+            Err(kind) => self.refusal(kind),
         }
     }
 
     /// Adds the struct that was read from a default.
-    fn default_struct<A: ReaderArena>(&mut self, found: StructReader<'_, A>) {
+    fn struct_of_default<A: ReaderArena>(&mut self, found: StructReader<'_, A>) {
         self.sections(found);
         let first = readers::pointer_field(found, 0);
         let text = readers::text(first, &mut self.limiter, None);
@@ -258,7 +276,7 @@ impl Walk {
     }
 
     /// Adds the list that was read from a default: its number of elements, and the last struct.
-    fn default_list<A: ReaderArena>(&mut self, list: &ListReader<'_, A>, size: ElementSize) {
+    fn list_of_default<A: ReaderArena>(&mut self, list: &ListReader<'_, A>, size: ElementSize) {
         self.length(list);
         if size == ElementSize::InlineComposite && !list.is_empty() {
             if let Ok(last) = struct_at(list, list.len() - 1) {
@@ -316,22 +334,10 @@ impl Walk {
     ) {
         match size {
             ElementSize::Bit => self.out.flag(number_at(list, index).unwrap_or(false)),
-            ElementSize::Byte => {
-                let n: i8 = number_at(list, index).unwrap_or(0);
-                self.out.put(n);
-            }
-            ElementSize::TwoBytes => {
-                let n: u16 = number_at(list, index).unwrap_or(0);
-                self.out.put(n);
-            }
-            ElementSize::FourBytes => {
-                let n: i32 = number_at(list, index).unwrap_or(0);
-                self.out.put(n);
-            }
-            _ => {
-                let n: u64 = number_at(list, index).unwrap_or(0);
-                self.out.put(n);
-            }
+            ElementSize::Byte => put_number::<i8, A>(list, index, &mut self.out),
+            ElementSize::TwoBytes => put_number::<u16, A>(list, index, &mut self.out),
+            ElementSize::FourBytes => put_number::<i32, A>(list, index, &mut self.out),
+            _ => put_number::<u64, A>(list, index, &mut self.out),
         }
     }
 
@@ -344,31 +350,44 @@ impl Walk {
     /// Adds the sections of a struct, some of its fields, and its size.
     fn fields<A: ReaderArena>(&mut self, found: StructReader<'_, A>) {
         self.sections(found);
-        self.fields_at(found, 0);
-        self.fields_at(found, 1);
-        self.fields_at(found, 2);
+        for step in 0..3u8 {
+            put_numbers(found, step, &mut self.out);
+            put_flags(found, step, &mut self.out);
+        }
         let size = readers::struct_size(found, &mut self.limiter);
         self.size(size);
         self.out.text(";");
     }
+}
 
-    fn fields_at<A: ReaderArena>(&mut self, found: StructReader<'_, A>, step: u8) {
-        let i = usize::from(step);
-        self.out.text(" ");
-        self.out.put(readers::data_field::<u8, A>(found, 7 * i));
-        self.out.text(" ");
-        self.out
-            .put(readers::data_field_mask::<i16, A>(found, 3 * i, -2));
-        self.out.text(" ");
-        self.out.put(readers::data_field::<u32, A>(found, i));
-        self.out.text(" ");
-        self.out.put(readers::data_field::<i64, A>(found, i));
-        self.out.text(" ");
-        self.out
-            .flag(readers::bool_field_mask(found, 63 * i, i == 1));
-        self.out.text(" ");
-        self.out.flag(readers::is_field_null(found, i));
+/// Adds an element of a list, a number; 0 if there is no such element.
+fn put_number<T: PrimitiveElement + Display + Drop, A: ReaderArena>(
+    list: &ListReader<'_, A>,
+    index: u32,
+    out: &mut Output,
+) {
+    match number_at::<T, A>(list, index) {
+        Ok(number) => out.put(number),
+        Err(_) => out.text("0"),
     }
+}
+
+/// Adds numbers of a struct; `step` selects which.
+fn put_numbers<A: ReaderArena>(found: StructReader<'_, A>, step: u8, out: &mut Output) {
+    let i = usize::from(step);
+    out.spaced(readers::data_field::<u8, A>(found, 7 * i));
+    out.spaced(readers::data_field_mask::<i16, A>(found, 3 * i, -2));
+    out.spaced(readers::data_field::<u32, A>(found, i));
+    out.spaced(readers::data_field::<i64, A>(found, i));
+}
+
+/// Adds a bit of a struct, and whether a pointer is null; `step` selects which.
+fn put_flags<A: ReaderArena>(found: StructReader<'_, A>, step: u8, out: &mut Output) {
+    let i = usize::from(step);
+    out.text(" ");
+    out.flag(readers::bool_field_mask(found, 63 * i, i == 1));
+    out.text(" ");
+    out.flag(readers::is_field_null(found, i));
 }
 
 /// Returns the pointer from which the walk goes on after element `index`: the element itself if

@@ -1,13 +1,15 @@
 //! Tests of edits in an arena without a root, and of an edited message that is read in place.
 use super::messages::{check_outcomes, edit, size};
+use crate::readers::messages::root;
 use capnp_arena::arena::{BuilderArena, BuilderArenaImpl, HeapAllocator, ReaderArena};
 use capnp_edits::edit::Op::{Clear, InitStruct, InitStructList, SetElement, SetField, SetText};
 use capnp_edits::edit::Step::{Child, Element};
 use capnp_edits::edit::apply;
-use capnp_readers::readers::{MessageSize, PointerReader};
+use capnp_readers::readers::MessageSize;
 use capnp_words::error::ErrorKind::NoSuchPlace;
 use capnp_words::read_limiter::ReadLimiter;
 use capnp_words::wire_pointer::ElementSize::EightBytes;
+use std::process::Abort;
 use test_support::arena_of_root;
 
 /// If the arena has no word for the root, an edit is refused with `NoSuchPlace`.
@@ -24,6 +26,19 @@ fn no_root(rt: HostRuntime) {
     assert!(rt; arena.get_segment(0) == Ok(&[]));
 }
 
+/// Checks that a message of six words after the root is canonical, and its size.
+fn check_six_words<A: ReaderArena>(rt: &impl Abort, arena: &A) {
+    let mut lim = ReadLimiter::new(None);
+    let root = root(rt, arena, &mut lim);
+    let mut head = 1;
+    assert!(rt; root.is_canonical(&mut lim, &mut head) == Ok(true) && head == 7);
+    let size = MessageSize {
+        word_count: 6,
+        cap_count: 0,
+    };
+    assert!(rt; root.total_size(&mut lim) == Ok(size));
+}
+
 /// A list of two structs, made by edits and read in place, is canonical and has the expected size.
 #[test]
 fn read_in_place(rt: HostRuntime) {
@@ -37,13 +52,5 @@ fn read_in_place(rt: HostRuntime) {
         edit(&[Element(0), Child(0)], InitStruct(size(0, 0))),
     ];
     check_outcomes(&rt, &mut arena, edits, &[None; 5]);
-    let mut lim = ReadLimiter::new(None);
-    let root = PointerReader::get_root_from_arena(&arena, &mut lim).expect(&rt, "a root");
-    let mut head = 1;
-    assert!(rt; root.is_canonical(&mut lim, &mut head) == Ok(true) && head == 7);
-    let size = MessageSize {
-        word_count: 6,
-        cap_count: 0,
-    };
-    assert!(rt; root.total_size(&mut lim) == Ok(size));
+    check_six_words(&rt, &arena);
 }

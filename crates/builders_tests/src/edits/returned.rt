@@ -41,11 +41,16 @@ fn check(rt: &impl Abort, alloc: Global, edits: &[Edit<'_>], requests: u64, segm
     assert!(rt; outcomes.len() == edits.len());
     apply_all(&mut arena, edits, outcomes);
     assert!(rt; arena.refused() == u64::from(requests < 6), "{segments}");
-    let (size, early) = (arena.size_in_words(), returned.get());
-    assert!(rt; apply(&mut arena, &edit(&[], Clear)) == Ok(()));
-    assert!(rt; arena.size_in_words() == size && returned.get() == early);
+    check_cleared(rt, &mut arena, &returned);
     drop(arena);
     assert!(rt; returned.get() == segments, "{segments}");
+}
+
+/// Clears the root, and checks that this allocates no words and returns no segment.
+fn check_cleared<A: BuilderArena>(rt: &impl Abort, arena: &mut A, returned: &Cell<u64>) {
+    let (size, early) = (arena.size_in_words(), returned.get());
+    assert!(rt; apply(arena, &edit(&[], Clear)) == Ok(()));
+    assert!(rt; arena.size_in_words() == size && returned.get() == early);
 }
 
 /// Does `check` five times, and refuses first the memory of the first object's segment, then the
@@ -97,16 +102,27 @@ fn copied(rt: HostRuntime) {
             budget: None,
         };
         for canonicalize in [false, true] {
-            let value = edit(&[], CopyFrom(source, canonicalize));
-            check_each(&rt, rt.alloc(), &[value], segments);
-            let op = if is_list {
-                SetList(source, canonicalize)
-            } else {
-                SetStruct(source, canonicalize)
-            };
-            check_each(&rt, rt.alloc(), &[edit(&[], op)], segments);
+            check_copied(&rt, rt.alloc(), source, (is_list, canonicalize), segments);
         }
     }
+}
+
+/// Copies the value of a message's root, and the list or the struct that the root leads to.
+fn check_copied(
+    rt: &impl Abort,
+    alloc: Global,
+    source: Source<'_>,
+    (is_list, canonicalize): (bool, bool),
+    segments: [u64; 5],
+) {
+    let value = edit(&[], CopyFrom(source, canonicalize));
+    check_each(rt, alloc, &[value], segments);
+    let op = if is_list {
+        SetList(source, canonicalize)
+    } else {
+        SetStruct(source, canonicalize)
+    };
+    check_each(rt, alloc, &[edit(&[], op)], segments);
 }
 
 /// Copies the content of a struct of another message over a struct that an edit has made.

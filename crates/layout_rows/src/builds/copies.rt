@@ -6,6 +6,7 @@ use crate::calls::Values;
 use crate::elements::{Reader, struct_at};
 use crate::output::Output;
 use crate::parse::{self, Fault};
+use crate::readers;
 use capnp_arena::arena::{BuilderArena, ReaderArena, ReaderArenaImpl, SegmentArray};
 use capnp_readers::readers::{PointerPlace, PointerReader};
 use capnp_words::read_limiter::ReadLimiter;
@@ -41,21 +42,32 @@ fn copy_from<A: BuilderArena, B: ReaderArena>(
     let mut lim = ReadLimiter::new(values.source.options.traversal_limit_in_words);
     match original(message, copying, values, &mut lim) {
         Ok(original) => {
-            match put_copy(arena, place, original, values.flag, &mut lim) {
-                Ok(()) => out.text("ok"),
-                Err(Fault::Refused(kind)) => out.put(kind),
-                Err(fault) => return Err(fault),
-            }
-            out.text("/");
-            out.left(lim.left());
-            out.slash(lim.followed());
+            let copied = put_copy(arena, place, original, values.flag, &mut lim);
+            put_outcome(copied, &lim, out)
         }
         Err(Fault::Refused(kind)) => {
             out.text("source:");
             out.put(kind);
+            Ok(())
         }
+        Err(fault) => Err(fault),
+    }
+}
+
+// Adds the outcome of a copy, and what the limiter then has.
+fn put_outcome(
+    copied: Result<(), Fault>,
+    lim: &ReadLimiter,
+    out: &mut Output,
+) -> Result<(), Fault> {
+    match copied {
+        Ok(()) => out.text("ok"),
+        Err(Fault::Refused(kind)) => out.put(kind),
         Err(fault) => return Err(fault),
     }
+    out.text("/");
+    out.left(lim.left());
+    out.slash(lim.followed());
     Ok(())
 }
 
@@ -66,20 +78,27 @@ fn original<'a, B: ReaderArena>(
     values: &Values<'_>,
     lim: &mut ReadLimiter,
 ) -> Result<Reader<'a, B>, Fault> {
-    let root = PointerReader::get_root_from_arena(message, lim)?;
-    Ok(match copying {
-        Copying::Value => Reader::Pointer(root),
-        Copying::Struct => Reader::Struct(root.get_struct(lim, None)?),
-        Copying::List => Reader::List(root.get_list(lim, values.size, None)?),
-        Copying::Element => {
-            let list = root.get_list(lim, ElementSize::InlineComposite, None)?;
-            Reader::Struct(struct_at(&list, values.count)?)
-        }
+    let root = readers::root(message, lim)?;
+    match copying {
+        Copying::Value => Ok(Reader::Pointer(root)),
+        Copying::Struct => Ok(Reader::Struct(readers::structure(root, lim, None)?)),
+        Copying::List => Ok(Reader::List(readers::list(root, lim, values.size, None)?)),
+        Copying::Element => element(root, values.count, lim),
         Copying::Section => {
-            let found = root.get_struct(lim, None)?;
-            Reader::List(found.get_pointer_section_as_list())
+            let found = readers::structure(root, lim, None)?;
+            Ok(Reader::List(found.get_pointer_section_as_list()))
         }
-    })
+    }
+}
+
+// An element of the list that a pointer leads to, as a struct.
+fn element<'a, B: ReaderArena>(
+    root: PointerReader<'a, B>,
+    index: u32,
+    lim: &mut ReadLimiter,
+) -> Result<Reader<'a, B>, Fault> {
+    let list = readers::list(root, lim, ElementSize::InlineComposite, None)?;
+    Ok(Reader::Struct(struct_at(&list, index)?))
 }
 
 // Copies to a place.

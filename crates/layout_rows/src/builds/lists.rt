@@ -73,22 +73,30 @@ fn primitive<A: BuilderArena>(
 ) -> Result<(), Fault> {
     let index = values.count;
     match (values.element, access) {
+        (ElementType::Number(of), access) => {
+            return number(arena, Place::List(place), (of, access), values, out);
+        }
         (ElementType::Void, Access::Get) => {
             let () = element(arena, place, index)?;
             out.text("-");
         }
-        (ElementType::Void, Access::Set) => {
-            set_element(arena, place, index, ())?;
-            out.text("ok");
-        }
         (ElementType::Bool, Access::Get) => out.flag(element(arena, place, index)?),
-        (ElementType::Bool, Access::Set) => {
-            set_element(arena, place, index, parse::flag(values.digits)?)?;
+        (of, Access::Set) => {
+            match of {
+                ElementType::Bool => set_bit(arena, place, values)?,
+                _ => set_element(arena, place, index, ())?,
+            }
             out.text("ok");
-        }
-        (ElementType::Number(of), access) => {
-            number(arena, Place::List(place), (of, access), values, out)?;
         }
     }
     Ok(())
+}
+
+// Writes an element that is a bit.
+fn set_bit<A: BuilderArena>(
+    arena: &mut A,
+    place: ListPlace,
+    values: &Values<'_>,
+) -> Result<(), Fault> {
+    set_element(arena, place, values.count, parse::flag(values.digits)?)
 }

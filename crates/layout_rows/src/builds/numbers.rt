@@ -55,28 +55,55 @@ fn number_as<
 where
     T::Err: Drop,
 {
-    match (place, access) {
-        (Place::Struct(place), Access::Get) => {
-            let value: T = field(arena, place, values)?;
+    match access {
+        Access::Get => {
+            let value: T = get::<A, T>(arena, place, values)?;
             out.put(value);
         }
-        (Place::List(place), Access::Get) => {
-            let value: T = element(arena, place, values.count)?;
-            out.put(value);
-        }
-        (Place::Struct(place), Access::Set) => {
-            let value: T = parse::number(values.digits)?;
-            set_field(arena, place, values, value)?;
+        Access::Set => {
+            set::<A, T>(arena, place, values)?;
             out.text("ok");
         }
-        (Place::List(place), Access::Set) => {
-            let value: T = parse::number(values.digits)?;
-            set_element(arena, place, values.count, value)?;
-            out.text("ok");
-        }
-        _ => return Err(Fault::Unfit),
     }
     Ok(())
+}
+
+// A number of a struct or a list.
+fn get<A: BuilderArena, T: Primitive + Zero + Mask<T = T> + PrimitiveElement + FromStr + Drop>(
+    arena: &mut A,
+    place: Place,
+    values: &Values<'_>,
+) -> Result<T, Fault>
+where
+    T::Err: Drop,
+{
+    match place {
+        Place::Struct(place) => field(arena, place, values),
+        Place::List(place) => element(arena, place, values.count),
+        Place::Pointer(_) => Err(Fault::Unfit),
+    }
+}
+
+// Writes a number of a struct or a list.
+fn set<A: BuilderArena, T: Primitive + Zero + Mask<T = T> + PrimitiveElement + FromStr + Drop>(
+    arena: &mut A,
+    place: Place,
+    values: &Values<'_>,
+) -> Result<(), Fault>
+where
+    T::Err: Drop,
+{
+    match place {
+        Place::Struct(place) => {
+            let value: T = parse::number(values.digits)?;
+            set_field(arena, place, values, value)
+        }
+        Place::List(place) => {
+            let value: T = parse::number(values.digits)?;
+            set_element(arena, place, values.count, value)
+        }
+        Place::Pointer(_) => Err(Fault::Unfit),
+    }
 }
 
 // Writes a number of a struct, with a mask if there is one.

@@ -9,6 +9,7 @@ ghost use Rattle.capnp_builders.specs.Places.{IsAligned};
 
 use crate::output::Output;
 use crate::parse::Fault;
+use crate::readers;
 use capnp_arena::arena::BuilderArena;
 use capnp_builders::builders::{ListBuilder, PointerBuilder, StructBuilder};
 use capnp_readers::readers::{ListPlace, PointerPlace, StructPlace};
@@ -68,10 +69,9 @@ fn read_pointer<A: BuilderArena>(
 ) -> Result<(), Fault> {
     let builder = pointer(arena, place)?;
     let reader = builder.as_reader();
-    let mut lim = ReadLimiter::new(None);
     out.flag(reader.is_null());
     out.text("/");
-    let size = reader.total_size(&mut lim)?;
+    let size = readers::pointer_size(reader, &mut ReadLimiter::new(None))?;
     out.put(size.word_count);
     out.slash(size.cap_count);
     Ok(())
@@ -85,7 +85,7 @@ fn read_struct<A: BuilderArena>(
 ) -> Result<(), Fault> {
     let builder = structure(arena, place)?;
     let reader = builder.as_reader();
-    out.hex_or_dash(reader.data_bytes());
+    out.hex_or_dash(readers::data_bytes(reader));
     out.slash(reader.pointer_count());
     Ok(())
 }

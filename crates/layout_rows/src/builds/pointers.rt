@@ -1,5 +1,6 @@
 //! Calls on a pointer.
-ghost use Rattle.std.specs.Prelude.{IfOk};
+ghost use Rattle.std.specs.Prelude.{◌≤◌, IfOk};
+ghost use Rattle.capnp_words.specs.Sizes.{size_number};
 ghost use Rattle.capnp_builders.specs.Building.{built, IsThere};
 ghost use Rattle.capnp_builders.specs.Defaults.{IsShortDefault};
 
@@ -10,7 +11,8 @@ use crate::output::Output;
 use crate::parse::{self, Fault};
 use capnp_arena::arena::BuilderArena;
 use capnp_builders::builders::PointerBuilder;
-use capnp_readers::readers::PointerPlace;
+use capnp_readers::readers::{ListPlace, PointerPlace, StructPlace};
+use capnp_words::error::ErrorKind;
 use capnp_words::wire_pointer::{ElementSize, StructSize};
 use std::alloc::Global;
 
@@ -99,10 +101,25 @@ fn structure<A: BuilderArena>(
     let place = match verb {
         Verb::Put => pointer.put_struct(size)?,
         Verb::Init => pointer.init_struct(size)?.place,
-        Verb::Find => pointer.find_struct(size, default)?,
-        Verb::Get => pointer.get_struct(size, default)?.place,
+        verb => found_struct(pointer, verb, size, default)?,
     };
     Ok(Some(Place::Struct(place)))
+}
+
+/// Finds the struct that a pointer leads to.
+fn found_struct<A: BuilderArena>(
+    mut pointer: PointerBuilder<'_, A>,
+    verb: Verb,
+    size: StructSize,
+    default: Option<&[u8]>,
+) -> Result<StructPlace, ErrorKind>
+    requires there { IsThere (built A.view pointer) }
+    requires few { IsShortDefault default }
+{
+    match verb {
+        Verb::Get => Ok(pointer.get_struct(size, default)?.place),
+        _ => pointer.find_struct(size, default),
+    }
 }
 
 /// Makes a pointer lead to a new list whose elements aren't structs, or finds the list that it
@@ -123,10 +140,26 @@ fn list<A: BuilderArena>(
     let place = match verb {
         Verb::Put => pointer.put_list(size, count)?,
         Verb::Init => pointer.init_list(size, count)?.place,
-        Verb::Find => pointer.find_list(size, default)?,
-        Verb::Get => pointer.get_list(size, default)?.place,
+        verb => found_list(pointer, verb, size, default)?,
     };
     Ok(Some(Place::List(place)))
+}
+
+/// Finds the list that a pointer leads to, of elements that aren't structs.
+fn found_list<A: BuilderArena>(
+    mut pointer: PointerBuilder<'_, A>,
+    verb: Verb,
+    size: ElementSize,
+    default: Option<&[u8]>,
+) -> Result<ListPlace, ErrorKind>
+    requires there { IsThere (built A.view pointer) }
+    requires few { IsShortDefault default }
+    requires plain { size_number size ≤ 6 }
+{
+    match verb {
+        Verb::Get => Ok(pointer.get_list(size, default)?.place),
+        _ => pointer.find_list(size, default),
+    }
 }
 
 /// Makes a pointer lead to a new list of structs, or finds the list that it leads to.
@@ -147,8 +180,23 @@ fn struct_list<A: BuilderArena>(
     let place = match verb {
         Verb::Put => pointer.put_struct_list(count, size)?,
         Verb::Init => pointer.init_struct_list(count, size)?.place,
-        Verb::Find => pointer.find_struct_list(size, default)?,
-        Verb::Get => pointer.get_struct_list(size, default)?.place,
+        verb => found_struct_list(pointer, verb, size, default)?,
     };
     Ok(Some(Place::List(place)))
+}
+
+/// Finds the list of structs that a pointer leads to.
+fn found_struct_list<A: BuilderArena>(
+    mut pointer: PointerBuilder<'_, A>,
+    verb: Verb,
+    size: StructSize,
+    default: Option<&[u8]>,
+) -> Result<ListPlace, ErrorKind>
+    requires there { IsThere (built A.view pointer) }
+    requires few { IsShortDefault default }
+{
+    match verb {
+        Verb::Get => Ok(pointer.get_struct_list(size, default)?.place),
+        _ => pointer.find_struct_list(size, default),
+    }
 }

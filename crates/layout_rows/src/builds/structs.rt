@@ -1,4 +1,5 @@
 //! Calls on a struct.
+ghost use Rattle.std.specs.Prelude.{◌<◌};
 
 use super::call::{Access, StructCall};
 use super::numbers::number;
@@ -70,22 +71,50 @@ fn bit<A: BuilderArena>(
     out: &mut Output,
 ) -> Result<(), Fault> {
     let mask = flag_of(values.mask)?;
-    let mut builder = structure(arena, place)?;
     let index = values.index;
     if index >= place.bits as usize {
         return Err(Fault::Unfit);
     }
-    match (access, mask) {
-        (Access::Get, None) => out.flag(builder.get_bool_field(index)),
-        (Access::Get, Some(mask)) => out.flag(builder.get_bool_field_mask(index, mask)),
-        (Access::Set, None) => {
-            builder.set_bool_field(index, values.flag);
+    match access {
+        Access::Get => out.flag(get_bit(arena, place, index, mask)?),
+        Access::Set => {
+            set_bit(arena, place, index, values.flag, mask)?;
             out.text("ok");
         }
-        (Access::Set, Some(mask)) => {
-            builder.set_bool_field_mask(index, values.flag, mask);
-            out.text("ok");
-        }
+    }
+    Ok(())
+}
+
+// A bit of a struct, with a mask if there is one.
+fn get_bit<A: BuilderArena>(
+    arena: &mut A,
+    place: StructPlace,
+    index: usize,
+    mask: Option<bool>,
+) -> Result<bool, Fault>
+    requires { index < place.bits }
+{
+    let builder = structure(arena, place)?;
+    Ok(match mask {
+        Some(mask) => builder.get_bool_field_mask(index, mask),
+        None => builder.get_bool_field(index),
+    })
+}
+
+// Writes a bit of a struct, with a mask if there is one.
+fn set_bit<A: BuilderArena>(
+    arena: &mut A,
+    place: StructPlace,
+    index: usize,
+    value: bool,
+    mask: Option<bool>,
+) -> Result<(), Fault>
+    requires { index < place.bits }
+{
+    let mut builder = structure(arena, place)?;
+    match mask {
+        Some(mask) => builder.set_bool_field_mask(index, value, mask),
+        None => builder.set_bool_field(index, value),
     }
     Ok(())
 }
