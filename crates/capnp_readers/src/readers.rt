@@ -299,6 +299,7 @@ impl<'a, A: ReaderArena> PointerReader<'a, A> {
     /// the nesting limit of `self`; reading it counts and charges nothing. Refuses a default under
     /// 8 bytes with `MessageContainsOutOfBoundsPointer`, and one whose pointer is a far pointer
     /// with `TriedToReadFromNullArena`. Precondition: `default` has fewer than 2^32 words.
+    #[inline(always)]
     pub fn get_struct(
         self,
         lim: &mut ReadLimiter,
@@ -414,6 +415,7 @@ impl<'a, A: ReaderArena> PointerReader<'a, A> {
     ///
     /// `default` is read as in `PointerReader::get_struct`. A default whose pointer is null is
     /// refused like an object that isn't a list.
+    #[inline(always)]
     pub fn get_text(
         self,
         lim: &mut ReadLimiter,
@@ -566,6 +568,7 @@ impl<'a, A: ReaderArena> PointerReader<'a, A> {
     }
 
     // The object that the pointer leads to, as a reader of the same source with one level less.
+    #[inline(always)]
     fn target_of(self, object: Object<'a>) -> Target<'a, A>
         requires read { (m : Meter) × (m' : Meter)
             × IsObject Value (read_by A.ReaderArena self) m m' object }

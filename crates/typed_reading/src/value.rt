@@ -137,6 +137,7 @@ pub fn get_pointer<'a, A: ReaderArena>(
 /// end; no bytes if the pointer is null.
 ///
 /// Refuses like `PointerReader::get_text`.
+#[inline(always)]
 pub fn get_text<'a, A: ReaderArena>(
     reader: &StructReader<'a, A>,
     index: usize,
@@ -231,6 +232,7 @@ pub fn get_data_or<'a, A: ReaderArena>(
 /// is null.
 ///
 /// Refuses like `PointerReader::get_struct`.
+#[inline(always)]
 pub fn get_struct<'a, A: ReaderArena>(
     reader: &StructReader<'a, A>,
     index: usize,

@@ -20,7 +20,6 @@ pub fn set_word<A: BuilderArena>(arena: &mut A, id: u32, at: u32, word: u64)
 
 /// Writes the words of `from` over those of segment `id` from position `at` on. If `from` is empty,
 /// nothing changes.
-#[inline(always)]
 pub fn copy_words<A: BuilderArena>(arena: &mut A, id: u32, at: u32, from: &[u8])
     requires whole { length from.now ≡ 8 * length (words_of from.now) }
     requires inside { at + length (words_of from.now)
@@ -35,7 +34,6 @@ pub fn copy_words<A: BuilderArena>(arena: &mut A, id: u32, at: u32, from: &[u8])
 }
 
 /// Zeroes `n` words of segment `id` from position `at` on. If `n` is 0, nothing changes.
-#[inline(always)]
 pub fn zero_words<A: BuilderArena>(arena: &mut A, id: u32, at: u32, n: u32)
     requires { at + n ≤ length (segment (A.view arena.old).words id) }
     ensures { A.view arena.new

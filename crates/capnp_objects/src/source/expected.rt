@@ -119,6 +119,7 @@ impl<'a, A: ReaderArena> Entrance<'a, A> {
 }
 
 // The refusal for having `depth` levels left, if that is too few for what is expected.
+#[inline(always)]
 fn name_of_depth(expected: Expected, depth: u32) -> Option<ErrorKind>
     ensures { result ≡ (expectation expected).too_deep depth }
 {
@@ -130,6 +131,7 @@ fn name_of_depth(expected: Expected, depth: u32) -> Option<ErrorKind>
 }
 
 // The refusal for a word that describes an object of another kind than expected, if it does.
+#[inline(always)]
 fn name_of_kind(expected: Expected, word: WirePointer) -> Option<ErrorKind>
     ensures { result ≡ (expectation expected).another_kind word.0 }
 {
@@ -159,6 +161,7 @@ fn name_of_kind(expected: Expected, word: WirePointer) -> Option<ErrorKind>
 }
 
 // The refusal for an object of the right kind that isn't as expected, if it isn't.
+#[inline(always)]
 fn name_of_misfit(expected: Expected, object: Object) -> Option<ErrorKind>
     requires { IsAtHand object }
     ensures { result ≡ object_misfit expected object.entry }

@@ -157,6 +157,7 @@ impl<'a, A: ReaderArena> ListReader<'a, A> {
     }
 
     // The list whose elements start at a place.
+    #[inline(always)]
     #[tactic(auto, using(capnp_format::proofs::WordsOf::part_words))]
     pub(crate) fn of_words(
         source: Source<'a, A>,

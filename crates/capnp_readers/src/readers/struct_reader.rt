@@ -131,6 +131,7 @@ impl<'a, A: ReaderArena> StructReader<'a, A> {
     }
 
     // The struct of whole words that starts at a place.
+    #[inline(always)]
     #[tactic(auto, using(capnp_format::proofs::WordsOf::part_words))]
     pub(crate) fn of_words(
         source: Source<'a, A>,
