@@ -28,7 +28,7 @@ use Rattle.capnp_words.specs.declared.error.ErrorKind.TheVariants.{
 use Rattle.capnp_format.specs.Forest.{target}
 use Rattle.capnp_making.specs.Landings.{target_of}
 use Rattle.capnp_making.specs.Stored.{IsStored}
-use Rattle.capnp_making.specs.declared.landing.Landing.{Landing}
+use Rattle.capnp_making.specs.declared.landing.PointerTarget.{PointerTarget}
 use Rattle.capnp_contents.specs.declared.existing.ExistingList.{ExistingList}
 use Rattle.capnp_contents.specs.declared.existing.ExistingBytes.{ExistingBytes}
 use Rattle.capnp_contents.specs.declared.existing.ExistingStruct.{ExistingStruct}
@@ -60,7 +60,7 @@ is_unfound TextBlobMissingNULTerminator = true
 is_unfound k = false
 
 -- The target of a landing, if the call found one.
-abbrev pub listed : Result (Option Landing) ErrorKind → Result (Option Target) ErrorKind
+abbrev pub listed : Result (Option PointerTarget) ErrorKind → Result (Option Target) ErrorKind
 listed (Ok (Some l)) = Ok (Some (target_of l))
 listed (Ok None) = Ok None
 listed (Err e) = Err e

@@ -13,7 +13,7 @@ ghost use Rattle.capnp_making.specs.Stored.{IsStored};
 ghost use Rattle.capnp_contents.specs.Existing.{BytesLieIn, capability_of, capability_in, listed, landing_in, is_unfound, plain_misfit, structs_misfit, unless, plain_list, struct_list, data_in, text_in, AreInside, FindsAt, FindsListAt, FindsStructAt, bytes_in, ends_in_zero};
 
 use capnp_arena_traits::arena::BuilderArena;
-use capnp_making::landing::{Landing, landing_of, length_of, word_of};
+use capnp_making::landing::{PointerTarget, landing_of, length_of, word_of};
 use capnp_words::error::ErrorKind;
 use capnp_words::wire_pointer::{
     ElementSize, StructSize, WirePointer, WirePointerKind, data_bits_per_element,
@@ -188,7 +188,11 @@ pub fn get_list<A: BuilderArena>(
 /// Refusals: `ExistingPointerIsNotAList` if the pointer leads to something else;
 /// `MessageContainsOutOfBoundsPointer` if it leads out of the message, which doesn't happen in a
 /// message that a builder made.
-fn follow_list<A: BuilderArena>(arena: &A, id: u32, at: u32) -> Result<Option<Landing>, ErrorKind>
+fn follow_list<A: BuilderArena>(
+    arena: &A,
+    id: u32,
+    at: u32,
+) -> Result<Option<PointerTarget>, ErrorKind>
     ensures { FindsAt (A.view arena.now).words id at landing_in (listed result) }
 {
     let word = word_of(arena, id, at);
@@ -210,7 +214,7 @@ fn follow_list<A: BuilderArena>(arena: &A, id: u32, at: u32) -> Result<Option<La
 /// Returns the list at `landing`, whose elements have size `size`. The caller passes a list whose
 /// elements aren't structs. Refuses elements that are narrower than `expected`.
 fn plain_list_at(
-    landing: Landing,
+    landing: PointerTarget,
     size: ElementSize,
     expected: ElementSize,
 ) -> Result<Option<ExistingList>, ErrorKind>
@@ -239,7 +243,7 @@ fn plain_list_at(
 /// read as elements of size `expected`.
 fn struct_list_at<A: BuilderArena>(
     arena: &A,
-    landing: Landing,
+    landing: PointerTarget,
     expected: ElementSize,
 ) -> Result<Option<ExistingList>, ErrorKind>
     ensures found { landing.start < length (segment (A.view arena.now).words landing.segment)
@@ -269,7 +273,7 @@ fn struct_list_at<A: BuilderArena>(
 }
 
 /// Returns the tag of the list of structs at `landing`; `None` if the tag isn't inside the segment.
-fn tag_at<A: BuilderArena>(arena: &A, landing: Landing) -> Option<WirePointer>
+fn tag_at<A: BuilderArena>(arena: &A, landing: PointerTarget) -> Option<WirePointer>
     ensures there { landing.start < length (segment (A.view arena.now).words landing.segment)
         → IsSome result }
     ensures word { IfSome result

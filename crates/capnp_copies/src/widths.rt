@@ -74,5 +74,5 @@ fn widened(bytes: &[u8], at: usize, n: u16, least: u16) -> u16
     ensures within { result ≤ n }
 {
     let beyond = at + usize::from(least);
-    least + words::used_part(bytes, beyond, usize::from(n - least)) as u16
+    least + words::used_words_in(bytes, beyond, usize::from(n - least)) as u16
 }

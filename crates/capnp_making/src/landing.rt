@@ -10,7 +10,7 @@ use capnp_words::words;
 
 /// Where a pointer leads, after any landing pads.
 #[derive(Clone, Copy)]
-pub struct Landing {
+pub struct PointerTarget {
     /// The word that describes the object: the pointer itself, its landing pad, or for a double-far
     /// pointer the second word of its landing pad.
     pub word: WirePointer,
@@ -54,7 +54,7 @@ pub fn word_of<A: BuilderArena>(arena: &A, id: u32, at: u32) -> WirePointer
 /// null.
 #[cold]
 #[inline(never)]
-pub(crate) fn follow<A: BuilderArena>(arena: &A, id: u32, at: u32) -> Option<Landing>
+pub(crate) fn follow<A: BuilderArena>(arena: &A, id: u32, at: u32) -> Option<PointerTarget>
     ensures { (a : Target) → leads (A.view arena.now).words id at ≡ Some a
         → option_map target_of result ≡ Some a }
 {
@@ -69,7 +69,7 @@ pub fn landing_of<A: BuilderArena>(
     id: u32,
     at: u32,
     word: WirePointer,
-) -> Option<Landing>
+) -> Option<PointerTarget>
     requires { word.0 ≡ word_at (A.view arena.now).words id at }
     ensures { (a : Target) → leads (A.view arena.now).words id at ≡ Some a
         → option_map target_of result ≡ Some a }
@@ -90,11 +90,11 @@ fn follow_near<A: BuilderArena>(
     at: u32,
     word: WirePointer,
     pads: u32,
-) -> Option<Landing>
+) -> Option<PointerTarget>
     ensures { option_map target_of result ≡ near (A.view arena.now).words id at word.0 pads }
 {
     match word.target(at, length_of(arena, id)) {
-        Some(start) => Some(Landing {
+        Some(start) => Some(PointerTarget {
             word,
             segment: id,
             start,
@@ -108,7 +108,7 @@ fn follow_near<A: BuilderArena>(
 /// message.
 #[cold]
 #[inline(never)]
-fn follow_far<A: BuilderArena>(arena: &A, word: WirePointer) -> Option<Landing>
+fn follow_far<A: BuilderArena>(arena: &A, word: WirePointer) -> Option<PointerTarget>
     ensures { (a : Target) → far (A.view arena.now).words word.0 (is_double word.0) ≡ Some a
         → option_map target_of result ≡ Some a }
 {
@@ -117,7 +117,7 @@ fn follow_far<A: BuilderArena>(arena: &A, word: WirePointer) -> Option<Landing>
     let pad = word_of(arena, id, at);
     if word.is_double_far() {
         let tag = word_of(arena, id, at + 1);
-        Some(Landing {
+        Some(PointerTarget {
             word: tag,
             segment: pad.far_segment_id(),
             start: pad.far_position_in_segment(),

@@ -11,7 +11,7 @@ ghost use Rattle.capnp_format.specs.Path.{extent};
 ghost use Rattle.capnp_making.specs.Landings.{target_of};
 ghost use Rattle.capnp_making.specs.Zeroed.{IsZeroed, IsPruned, Zeroes, ZeroesPads, IsApart, IsObjectApart, AreApart, AreApartElements, IsStructListApart, element_extents, struct_list_cover};
 
-use crate::landing::{Landing, follow, length_of, word_of};
+use crate::landing::{PointerTarget, follow, length_of, word_of};
 use capnp_arena_traits::arena::{BuilderArena, set_word, zero_words};
 use capnp_words::wire_pointer::{
     ElementSize, StructSize, WirePointer, WirePointerKind, data_bits_per_element,
@@ -101,12 +101,12 @@ pub fn zero_object<A: BuilderArena>(arena: &mut A, id: u32, at: u32)
 #[cycle(zeroing)]
 #[cold]
 #[inline(never)]
-fn zero_landed<A: BuilderArena>(arena: &mut A, landing: Landing)
+fn zero_landed<A: BuilderArena>(arena: &mut A, landing: PointerTarget)
     ensures { Zeroes (A.view arena.old) (A.view arena.new)
         (IsObjectApart (A.view arena.old).words (target_of landing))
         (object_cover (A.view arena.old).words (target_of landing)) }
 {
-    let Landing {
+    let PointerTarget {
         word,
         segment: id,
         start,

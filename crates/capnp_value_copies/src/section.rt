@@ -11,7 +11,7 @@ ghost use Rattle.capnp_copies.specs.Originals.{kept_count};
 
 use capnp_arena_traits::arena::{BuilderArena, WordPlace, set_word};
 use capnp_copies::copy::put_words;
-use capnp_words::words::{part, used_part};
+use capnp_words::words::{part, used_words_in};
 
 /// The number of words that a copy keeps of a data section: in plain form all, the last one filled
 /// up with zeros; in canonical form those up to the last one that isn't zero.
@@ -26,7 +26,7 @@ pub(crate) fn kept_words(bytes: &[u8], bits: u32, canonicalize: bool) -> usize
     if last_word(bytes, bits) != 0 {
         return whole + 1;
     }
-    used_part(bytes, 0, whole)
+    used_words_in(bytes, 0, whole)
 }
 
 /// Writes the first `kept` words of a data section over the words from `to` on.

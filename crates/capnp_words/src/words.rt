@@ -91,7 +91,7 @@ pub fn count(bytes: &[u8]) -> usize
 
 /// Of the `n` words from position `at` on, the number up to and including the last one that isn't
 /// zero; 0 if all are zero.
-pub fn used_part(bytes: &[u8], at: usize, n: usize) -> usize
+pub fn used_words_in(bytes: &[u8], at: usize, n: usize) -> usize
     requires { 8 * (at + n) ≤ length bytes.now }
     ensures value { result ≡ used_words (take n (drop at (words_of bytes.now))) }
     ensures within { result ≤ n }

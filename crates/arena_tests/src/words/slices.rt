@@ -2,7 +2,7 @@
 ghost use Rattle.std.specs.Prelude.{◌≤◌, length};
 
 use capnp_words::words::{
-    copy_words, count, move_words, part, put_word, used, used_part, word_at, zero_words,
+    copy_words, count, move_words, part, put_word, used, used_words_in, word_at, zero_words,
 };
 use std::process::Abort;
 
@@ -25,7 +25,7 @@ fn check_put(rt: &impl Abort, bytes: &mut [u8; 36]) {
     assert!(rt; [count(bytes), used(bytes)] == [4, 0]);
     put_word(bytes, 1, WORD);
     assert!(rt; four(bytes) == [0, WORD, 0, 0] && bytes[9] == 1);
-    assert!(rt; [used(bytes), used_part(bytes, 0, 1)] == [2, 0]);
+    assert!(rt; [used(bytes), used_words_in(bytes, 0, 1)] == [2, 0]);
     assert!(rt; word_at(part(bytes, 1, 2), 0) == WORD);
 }
 

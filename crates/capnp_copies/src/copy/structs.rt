@@ -19,7 +19,7 @@ use capnp_pointers::pointers::Pointer;
 use capnp_words::error::ErrorKind;
 use capnp_words::read_limiter::ReadLimiter;
 use capnp_words::wire_pointer::StructSize;
-use capnp_words::words::{part, used_part};
+use capnp_words::words::{part, used_words_in};
 
 /// Copies the struct whose first word is at `from`, with the sections `size`, to the null pointer
 /// at `to.place`. In canonical form, drops the zeros and null pointers at the ends of the struct's
@@ -102,7 +102,7 @@ fn used_sections<B: ReaderArena>(from: Pointer<'_, B>, size: StructSize) -> Stru
     let data = from.place.at as usize;
     let pointers = data + usize::from(size.data_words);
     StructSize {
-        data_words: used_part(bytes, data, usize::from(size.data_words)) as u16,
-        pointers: used_part(bytes, pointers, usize::from(size.pointers)) as u16,
+        data_words: used_words_in(bytes, data, usize::from(size.data_words)) as u16,
+        pointers: used_words_in(bytes, pointers, usize::from(size.pointers)) as u16,
     }
 }

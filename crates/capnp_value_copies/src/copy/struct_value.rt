@@ -20,7 +20,7 @@ use capnp_readers::readers::StructReader;
 use capnp_words::error::ErrorKind;
 use capnp_words::read_limiter::ReadLimiter;
 use capnp_words::wire_pointer::StructSize;
-use capnp_words::words::used_part;
+use capnp_words::words::used_words_in;
 
 /// Copies the struct `value` to the null pointer at `to`, in canonical form if `canonicalize`,
 /// otherwise plain. Pads the struct's data section with zeros to whole words. Charges `lim` what
@@ -93,7 +93,7 @@ fn kept_sections<B: ReaderArena>(
     let mut pointers = value.pointer_count;
     if canonicalize {
         let at = value.pointers.at as usize;
-        pointers = used_part(value.pointers.bytes, at, usize::from(pointers)) as u16;
+        pointers = used_words_in(value.pointers.bytes, at, usize::from(pointers)) as u16;
     }
     Ok(StructSize {
         data_words: data_words as u16,

@@ -16,5 +16,5 @@ returns-then-last_word-ne0 c =
 
 pub returns : goal.returns
 returns c =
-    c.used_part.ensures.value ∙ sym (last_unused c.args.bits c.args.bytes.now (sym c.last_word.ensures ∙ c.if-last_word-ne0.false))
+    c.used_words_in.ensures.value ∙ sym (last_unused c.args.bits c.args.bytes.now (sym c.last_word.ensures ∙ c.if-last_word-ne0.false))
     ∙ sym (ap (λ b. kept_count (form_of b) (section_words c.args.bits c.args.bytes.now)) c.if-not-canonicalize.false)
