@@ -1,27 +1,32 @@
 -- What becomes of a struct if a call at its place writes a field, or makes an object for one of its
 -- pointers.
-use Rattle.std.proofs.Common.{◌≡◌, ℕ, ◌+◌, ◌*◌, ◌/◌, ◌<◌, length, List, Bool, true, false, cond, nat_eq, Result, Ok, Err, IfOk, refl, sym, ap, ap₂, ◌∙◌, subst, arith}
+use Rattle.std.proofs.Common.{◌≡◌, ℕ, ◌+◌, ◌*◌, ◌/◌, ◌%◌, ◌<◌, length, get_or, List, Bool, true, false, cond, nat_eq, Result, Ok, Err, IfOk, refl, sym, ap, ap₂, ◌∙◌, subst, arith}
 use Rattle.std.proofs.lemmas.Bool.{eqb-true}
-use Rattle.std.proofs.lemmas.List.{length-replicate}
+use Rattle.std.proofs.lemmas.List.{length-replicate, length-set}
 use Rattle.capnp_words.specs.declared.error.ErrorKind.{ErrorKind}
 use Rattle.capnp_words.specs.declared.wire_pointer.ElementSize.{ElementSize}
 use Rattle.capnp_words.specs.declared.wire_pointer.StructSize.{StructSize}
 use Rattle.capnp_words.specs.Sizes.{size_number, sized}
 use Rattle.capnp_format.specs.Forest.{target}
-use Rattle.capnp_format.specs.Segments.{Target}
+use Rattle.capnp_format.specs.Fields.{put_field, with_bits}
+use Rattle.capnp_format.specs.Segments.{Target, segment}
 use Rattle.capnp_format.specs.Tree.{Tree, Null, Struct, Flat, Pointers, Structs, Trees, Elements, count}
 use Rattle.capnp_arena_traits.specs.View.{View}
 use Rattle.capnp_contents.specs.Existing.{plain_list, struct_list}
+use Rattle.capnp_making.specs.Fields.{with_field}
 use Rattle.capnp_making.specs.Made.{words_of_zero, nulls, zero_elements, zero_list, zero_struct, zero_structs}
 use Rattle.capnp_making.specs.Makes.{MakesObject, call_at}
 use Rattle.capnp_making.specs.Memory.{start_of}
 use Rattle.capnp_format.specs.Path.{put_struct, tree_at}
 use Rattle.capnp_making.specs.Stored.{IsStored}
+use Rattle.capnp_making.proofs.Memory.{limits_written}
 use Rattle.capnp_making.proofs.Placed.{count-nulls}
 use Rattle.capnp_making.proofs.PlacedStructs.{count-zero_elements}
+use Rattle.capnp_making.proofs.Zeros.{lengths_kept}
 use Rattle.capnp_readers.specs.Sections.{IsInside}
 use Rattle.capnp_readers.specs.declared.readers.list_reader.ListPlace.{ListPlace}
 use Rattle.capnp_readers.specs.declared.readers.struct_reader.StructPlace.{StructPlace}
+use Rattle.capnp_widening.specs.Anew.{OnlyWrites}
 use Rattle.capnp_widening.specs.Opening.{existing_struct}
 use Rattle.capnp_builders.specs.Held.{HasList, HasStruct, Holder, IsPlainList, MakesChild, ReplacesField, SetsField, call_in, element_of, pointer_to}
 use Rattle.capnp_builders.specs.Places.{Field, IsListOf, IsStructOf, WritesField, element_place, list_place, struct_place}
@@ -40,6 +45,18 @@ sets_field old new place f inside written = λ x ws ts h. field_set old.words ne
 
 pub replaces_field : (old new : View) (place : StructPlace) (f : Field) → f.start < place.bits → WritesField old new place.segment place.byte f → ReplacesField (call_in place old.words new.words) f
 replaces_field old new place f inside written = λ x ws ts h. field_replaced old.words new.words x place ws ts f.start f.bits f.value inside (ap (λ (v : View). v.words) written) h
+
+-- the memory of the message stays as it is
+pub field_writes : (old new : View) (id b w v : ℕ) → new ≡ record old { words = with_field old.words id b w v } → OnlyWrites old new
+field_writes old new id b w v written =
+    let made : List ℕ = put_field (segment old.words id) b w v in
+    let words : new.words ≡ with_field old.words id b w v = ap (λ (y : View). y.words) written in
+    let long : length made ≡ length (segment old.words id) = length-set (segment old.words id) (b / 64) (with_bits (get_or (segment old.words id) (b / 64) 0) (b % 64) w v) in
+    record {
+      limits = limits_written old new (with_field old.words id b w v) written;
+      segments = ap length words ∙ length-set old.words id made;
+      words = λ y. ap (λ S. length (segment S y)) words ∙ lengths_kept old.words id made long y;
+    }
 
 -- an object for a pointer, or null after a refusal
 pub child_made : {A : Type 0} (r : Result A ErrorKind) (old new : View) (place : StructPlace) (i : ℕ) (t : Tree) (n : ℕ) → i < place.pointers → MakesObject r (call_at place.segment (place.pointers_at + i) old new) t n → MakesChild r (call_in place old.words new.words) i t

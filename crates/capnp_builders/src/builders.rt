@@ -31,7 +31,7 @@ ghost use Rattle.capnp_readers.specs.Readers.{read_by};
 mod content;
 pub mod defaults;
 mod finding;
-mod found;
+pub(crate) mod found;
 pub(crate) mod list_builder;
 pub mod places;
 mod primitive_element;

@@ -4,24 +4,28 @@
 //!
 //! A call states what it does to the value of the struct at its place. Its clauses hold for each
 //! pointer that may lead to the struct, and for any data words and children (`HasStruct`).
-ghost use Rattle.std.specs.Prelude.{◌≡◌, ℕ, List, ◌+◌, ◌-◌, ◌*◌, ◌^◌, ◌<◌, ◌≤◌, ◌++◌, ◌∷◌, [], IfOk, OnOk, OnErr, cond, length, slice_set};
+ghost use Rattle.std.specs.Prelude.{◌≡◌, ℕ, List, ◌+◌, ◌-◌, ◌*◌, ◌^◌, ◌<◌, ◌≤◌, ◌++◌, ◌∷◌, [], IfErr, IfOk, OnOk, OnErr, cond, length, slice_set, true};
+ghost use Rattle.capnp_format.specs.Forest.{target};
 ghost use Rattle.capnp_format.specs.Numbers.{element_bits, words_for};
 ghost use Rattle.capnp_format.specs.Segments.{Grows, IsPlace, word_at};
 ghost use Rattle.capnp_format.specs.Word.{struct_word};
 ghost use Rattle.capnp_format.specs.Tree.{Tree, Trees, Null, Flat};
 ghost use Rattle.capnp_words.specs.Sizes.{size_number};
 ghost use Rattle.capnp_words.specs.declared.wire_pointer.ElementSize.TheVariants.{InlineComposite};
-ghost use Rattle.capnp_contents.specs.Existing.{plain_list, struct_list};
+ghost use Rattle.capnp_contents.specs.Existing.{is_unfound, list_in, plain_list, struct_list};
 ghost use Rattle.capnp_making.specs.Made.{list_words, words_of_zero, nulls, zero_elements, zero_list, zero_struct, zero_structs};
 ghost use Rattle.capnp_making.specs.Makes.{MakesObject, call_at};
 ghost use Rattle.capnp_making.specs.Near.{LeadsToEnd};
 ghost use Rattle.capnp_format.specs.Path.{put_tree};
 ghost use Rattle.capnp_making.specs.Stored.{IsStored};
+ghost use Rattle.capnp_widening.specs.Anew.{OnlyWrites};
 ghost use Rattle.capnp_readers.specs.Readers.{IsListPlace, IsStructPlace};
 ghost use Rattle.capnp_readers.specs.Sections.{IsInside};
+ghost use Rattle.capnp_builders.specs.Found.{list_given};
 ghost use Rattle.capnp_builders.specs.Held.{HasList, HasStruct, Holder, MakesChild, ReplacesField, SetsField, call_in, element_of, pointer_to};
 ghost use Rattle.capnp_builders.specs.Places.{IsAligned, IsListOf, IsStructOf, WritesField, element_place, field, number_field};
 
+use crate::builders::found::look_for_list;
 use crate::builders::{NO_SECTIONS, list_builder};
 use capnp_arena_traits::arena::BuilderArena;
 use capnp_contents::{bytes, initializing, numbers};
@@ -70,6 +74,7 @@ pub fn set_number<A: BuilderArena, T: Primitive + Zero>(
     ensures replaces { ReplacesField
         (call_in place (A.view arena.old).words (A.view arena.new).words)
         (number_field T.BYTES offset (T.bits_of value)) }
+    ensures memory { OnlyWrites (A.view arena.old) (A.view arena.new) }
 {
     write_number(arena, place, offset, value);
 }
@@ -85,6 +90,7 @@ pub fn set_bool<A: BuilderArena>(arena: &mut A, place: StructPlace, offset: usiz
     ensures replaces { ReplacesField
         (call_in place (A.view arena.old).words (A.view arena.new).words)
         (field offset 1 (cond value 1 0)) }
+    ensures memory { OnlyWrites (A.view arena.old) (A.view arena.new) }
 {
     write_bit(arena, place, offset, value);
 }
@@ -271,6 +277,36 @@ pub fn init_struct_list<A: BuilderArena>(
     )
 }
 
+/// Returns the list that pointer `index` of the pointer section leads to. Changes nothing. If the
+/// pointer is null, returns a list of void without elements. The elements may be wider than `size`,
+/// and may be structs that begin with such an element. Preconditions: `index` is below the number of
+/// pointers; `size` isn't `InlineComposite`.
+///
+/// Refusals: `ExistingPointerIsNotAList` if the pointer leads to something other than a list;
+/// `ExistingListValueIsIncompatibleWithExpectedType` if the elements are narrower than `size`;
+/// `FoundStructListWhereBitListWasExpected` for structs if `size` is `Bit`.
+pub fn get_list<A: BuilderArena>(
+    arena: &A,
+    place: StructPlace,
+    index: usize,
+    size: ElementSize,
+) -> Result<ListPlace, ErrorKind>
+    requires inside { IsStructPlace (A.view arena.now).words place }
+    requires field { index < place.pointers }
+    requires plain { size_number size ≤ 6 }
+    ensures found { (t : Tree)
+        → IsStored (A.view arena.now).words place.segment (place.pointers_at + index) t
+        → result ≡ list_given place.segment
+        (list_in (target (A.view arena.now).words place.segment (place.pointers_at + index))
+        size t) }
+    ensures inside { (t : Tree)
+        → IsStored (A.view arena.now).words place.segment (place.pointers_at + index) t
+        → IfOk result (IsListPlace (A.view arena.now).words) }
+    ensures named { IfErr result (λ k. is_unfound k ≡ true) }
+{
+    look_for_list(arena, place.segment, place.pointers_at + index as u32, size)
+}
+
 /// Writes element `index` of a list of numbers that are as wide as `T`. Precondition: `index` is
 /// below the number of elements.
 pub fn set_element<A: BuilderArena, T: Primitive>(
@@ -293,6 +329,7 @@ pub fn set_element<A: BuilderArena, T: Primitive>(
         → HasStruct (A.view arena.old).words x place ws (put_tree ts i (Flat size ns))
         → HasStruct (A.view arena.new).words x place ws
         (put_tree ts i (Flat size (slice_set ns index (T.bits_of value)))) }
+    ensures memory { OnlyWrites (A.view arena.old) (A.view arena.new) }
 {
     list_builder::write_number(arena, list, index, value);
 }

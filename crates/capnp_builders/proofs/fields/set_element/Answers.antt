@@ -1,6 +1,7 @@
 use Rattle.std.proofs.Common.{◌*◌, ap, arith}
 use Rattle.capnp_arena_traits.specs.View.{View}
 use Rattle.capnp_builders.proofs.HeldLists.{WritesElement, element_set, element_set_within, flat_size, plain_bits}
+use Rattle.capnp_builders.proofs.HeldMade.{field_writes}
 use Rattle.capnp_builders.proofs.fields.set_element.Goals as goal
 
 pub write_number-requires-clause-wide : goal.write_number-requires-clause-wide
@@ -20,3 +21,6 @@ returns-clause-sets g c = λ s p size ns h. element_set s p size ns (writes g c)
 
 pub returns-clause-sets_child : goal.returns-clause-sets_child
 returns-clause-sets_child g c = λ x place ws ts i size ns inside h there. element_set_within x place ws ts i size ns (writes g c) inside h there
+
+pub returns-clause-memory : goal.returns-clause-memory
+returns-clause-memory g c = field_writes _ _ _ _ _ _ c.write_number.ensures.written
