@@ -1,2 +1,5 @@
 pub mod ObjectLemmas
 pub mod CompareLemmas
+pub mod LineParts
+pub mod Arrays
+pub mod Lines

@@ -2,4 +2,5 @@
 //! place, its sizes and its data, and each fault where it is.
 #![tactic(auto)]
 
+pub mod laws;
 pub mod show;
