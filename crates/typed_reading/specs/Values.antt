@@ -1,5 +1,5 @@
 -- What typed code reads of a value. What a struct doesn't have reads as zero bits, or as null.
-use Rattle.std.specs.Prelude.{ℕ, List, ◌-◌, ◌^◌, false, true}
+use Rattle.std.specs.Prelude.{ℕ, List, ◌-◌, ◌^◌, ◌≤◌, false, length, true}
 use Rattle.capnp_format.specs.Tree.{Tree, Null}
 use Rattle.capnp_format.specs.Fields.{field_in}
 use Rattle.capnp_format.specs.Path.{Child, next}
@@ -28,16 +28,17 @@ abbrev pub data_or : List ℕ → Tree → List ℕ
 data_or default Null = default
 data_or default t = list_numbers t
 
--- The bytes, which are one segment, mean d: the default value of a field that is a struct or a list.
-abbrev pub IsDefault : List ℕ → Tree → Type 0
-IsDefault bytes d =
-    HasValue
-    (record {
-      segments = default_segments bytes;
-      charging = false;
-      of_default = true;
-      levels = 2 ^ 31 - 1;
-      segment = default_segment;
-      at = 0;
-    })
-    d
+-- The bytes, which are one segment with a pointer in its first word, mean d: the default value of a
+-- field that is a struct or a list.
+pub record IsDefault (bytes : List ℕ) (d : Tree) : Type 0 where
+  pub word : 8 ≤ length bytes
+  pub means : HasValue
+      (record {
+        segments = default_segments bytes;
+        charging = false;
+        of_default = true;
+        levels = 2 ^ 31 - 1;
+        segment = default_segment;
+        at = 0;
+      })
+      d

@@ -437,8 +437,7 @@ fn get_list_or<'a, A: ReaderArena>(
         → child index t ≢ Null → FitsSize expected (child index t)
         → Affords start.charging lim.old (child_cost A.ReaderArena shows index) → IsOk result }
     ensures default_answered { (t d : Tree) → ShowsStructOf A.ReaderArena reader.now t
-        → child index t ≡ Null → IsDefault default.now d → FitsSize expected d
-        → 8 ≤ length default.now → IsOk result }
+        → child index t ≡ Null → IsDefault default.now d → FitsSize expected d → IsOk result }
     ensures fits { IfOk result (FitsElements A.ReaderArena expected) }
 {
     if is_null(reader, index) {
@@ -468,8 +467,7 @@ pub fn get_structs_or<'a, A: ReaderArena>(
         → child index t ≢ Null → FitsSize InlineComposite (child index t)
         → Affords start.charging lim.old (child_cost A.ReaderArena shows index) → IsOk result }
     ensures default_answered { (t d : Tree) → ShowsStructOf A.ReaderArena reader.now t
-        → child index t ≡ Null → IsDefault default.now d → FitsSize InlineComposite d
-        → 8 ≤ length default.now → IsOk result }
+        → child index t ≡ Null → IsDefault default.now d → FitsSize InlineComposite d → IsOk result }
 {
     let reader = get_list_or(reader, index, ElementSize::InlineComposite, default, lim)?;
     Ok(StructsReader { reader })
@@ -495,8 +493,7 @@ pub fn get_numbers_or<'a, A: ReaderArena, T: PrimitiveElement>(
         → child index t ≢ Null → FitsSize T.size (child index t)
         → Affords start.charging lim.old (child_cost A.ReaderArena shows index) → IsOk result }
     ensures default_answered { (t d : Tree) → ShowsStructOf A.ReaderArena reader.now t
-        → child index t ≡ Null → IsDefault default.now d → FitsSize T.size d
-        → 8 ≤ length default.now → IsOk result }
+        → child index t ≡ Null → IsDefault default.now d → FitsSize T.size d → IsOk result }
 {
     let reader = get_list_or(reader, index, T::element_size(), default, lim)?;
     Ok(NumbersReader {
@@ -525,8 +522,7 @@ pub fn get_texts_or<'a, A: ReaderArena>(
         → child index t ≢ Null → FitsSize Pointer (child index t)
         → Affords start.charging lim.old (child_cost A.ReaderArena shows index) → IsOk result }
     ensures default_answered { (t d : Tree) → ShowsStructOf A.ReaderArena reader.now t
-        → child index t ≡ Null → IsDefault default.now d → FitsSize Pointer d
-        → 8 ≤ length default.now → IsOk result }
+        → child index t ≡ Null → IsDefault default.now d → FitsSize Pointer d → IsOk result }
 {
     let reader = get_list_or(reader, index, ElementSize::Pointer, default, lim)?;
     Ok(TextsReader { reader })
@@ -552,8 +548,7 @@ pub fn get_data_list_or<'a, A: ReaderArena>(
         → child index t ≢ Null → FitsSize Pointer (child index t)
         → Affords start.charging lim.old (child_cost A.ReaderArena shows index) → IsOk result }
     ensures default_answered { (t d : Tree) → ShowsStructOf A.ReaderArena reader.now t
-        → child index t ≡ Null → IsDefault default.now d → FitsSize Pointer d
-        → 8 ≤ length default.now → IsOk result }
+        → child index t ≡ Null → IsDefault default.now d → FitsSize Pointer d → IsOk result }
 {
     let reader = get_list_or(reader, index, ElementSize::Pointer, default, lim)?;
     Ok(DataListReader { reader })
@@ -579,8 +574,7 @@ pub fn get_pointers_or<'a, A: ReaderArena>(
         → child index t ≢ Null → FitsSize Pointer (child index t)
         → Affords start.charging lim.old (child_cost A.ReaderArena shows index) → IsOk result }
     ensures default_answered { (t d : Tree) → ShowsStructOf A.ReaderArena reader.now t
-        → child index t ≡ Null → IsDefault default.now d → FitsSize Pointer d
-        → 8 ≤ length default.now → IsOk result }
+        → child index t ≡ Null → IsDefault default.now d → FitsSize Pointer d → IsOk result }
 {
     let reader = get_list_or(reader, index, ElementSize::Pointer, default, lim)?;
     Ok(PointersReader { reader })

@@ -275,8 +275,7 @@ pub fn get_struct_or<'a, A: ReaderArena>(
         → child index t ≢ Null → IsStructOrNull (child index t)
         → Affords start.charging lim.old (child_cost A.ReaderArena shows index) → IsOk result }
     ensures default_answered { (t d : Tree) → ShowsStructOf A.ReaderArena reader.now t
-        → child index t ≡ Null → IsDefault default.now d → IsStructOrNull d
-        → 8 ≤ length default.now → IsOk result }
+        → child index t ≡ Null → IsDefault default.now d → IsStructOrNull d → IsOk result }
 {
     if is_null(reader, index) {
         let field = PointerReader::from_default(default)?;
