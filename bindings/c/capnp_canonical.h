@@ -104,7 +104,7 @@ enum capnp_canonical_answer {
     CAPNP_CANONICAL_MESSAGE_TOO_LARGE = 59,
     /* The nesting limit is exceeded. From the calls that test, at a list. */
     CAPNP_CANONICAL_NESTING_LIMIT_EXCEEDED = 60,
-    /* The path leads to no pointer. From the calls for a part. */
+    /* The path leads nowhere. From the calls for a part. */
     CAPNP_CANONICAL_NO_SUCH_PLACE = 61,
     /* The traversal limit is exceeded. */
     CAPNP_CANONICAL_READ_LIMIT_EXCEEDED = 62,
@@ -316,18 +316,16 @@ uint32_t capnp_canonical_locate(const uint8_t *frame, size_t frame_size, int32_t
  * `*count` is 0 if there is no such frame. Entries after those that are written stay as they are. */
 uint32_t capnp_canonical_walk(const uint8_t *frame, size_t frame_size, int32_t nesting, uint64_t words, struct capnp_canonical_object *objects, size_t room, size_t *count);
 
-/* copy_flat, digest and size for a part of the message: for the value of the pointer at the end of a path. If
+/* copy_flat, digest and size for a part of the message: for the value at the end of a path. If
  * `struct Signed { payload @0 :Payload; signature @1 :Data; }` is the root, the path {0} leads to the payload, whose words
  * can be signed. `path` is `steps` indexes; it may be null if `steps` is 0, which leads to the root pointer. An index
  * leads from a struct to its pointer with this index, which isn't the field's number: only pointers count, and a schema's
- * code has their indexes; from a list of pointers to an element; from a list of structs to an element, and the next
- * index from there to one of its pointers.
+ * code has their indexes; from a list of pointers to an element; from a list of structs to an element, which is a struct.
  *
- * CAPNP_CANONICAL_NO_SUCH_PLACE means that the path leads to no pointer: an index is too large; or a pointer on the way is
- * null, a capability or a list without pointers; or the path ends at an element of a list of structs. The pointer at the
- * end may be null; the part then has the words of a null root. But a struct may have fewer pointers than in your schema:
- * if an older schema wrote it, or in a canonical copy, which ends before the last null pointers. A path to a pointer that
- * isn't there is refused, not taken as null.
+ * CAPNP_CANONICAL_NO_SUCH_PLACE means that the path leads nowhere: an index is too large; or a pointer on the way is
+ * null, a capability or a list without pointers. The pointer at the end may be null; the part then has the words of a
+ * null root. But a struct may have fewer pointers than in your schema: if an older schema wrote it, or in a canonical
+ * copy, which ends before the last null pointers. A path to a pointer that isn't there is refused, not taken as null.
  *
  * Reading the path and the part has the limits of the other calls. The rest of the message isn't read, so it needn't be
  * sound. The words of the part are those that the other calls give for a message with this value at its root. 8 bytes,
@@ -554,7 +552,7 @@ CAPNP_CANONICAL_INLINE const char *capnp_canonical_error_text(uint32_t answer) {
     case CAPNP_CANONICAL_MESSAGE_IS_TOO_DEEPLY_NESTED_OR_CONTAINS_CYCLES: return "the nesting limit is exceeded, perhaps by a cycle of pointers";
     case CAPNP_CANONICAL_MESSAGE_TOO_LARGE: return "the message or its canonical form is larger than the format allows";
     case CAPNP_CANONICAL_NESTING_LIMIT_EXCEEDED: return "the nesting limit is exceeded";
-    case CAPNP_CANONICAL_NO_SUCH_PLACE: return "the path leads to no pointer";
+    case CAPNP_CANONICAL_NO_SUCH_PLACE: return "the path leads nowhere";
     case CAPNP_CANONICAL_READ_LIMIT_EXCEEDED: return "the traversal limit is exceeded";
     case CAPNP_CANONICAL_UNKNOWN_POINTER_TYPE: return "a pointer is of an unknown kind";
     default: return "a refusal that this header doesn't know";

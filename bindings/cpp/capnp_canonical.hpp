@@ -752,8 +752,8 @@ inline Walk walk(const Segments& segments, std::size_t most, Limits limits = {})
     return detail::walk_of(detail::SegmentSource(segments, limits), most);
 }
 
-// copy_flat, digest and size for a part of a message: the value of the pointer at the end of a path. If
-// the path leads to no pointer, throws Error with CAPNP_CANONICAL_NO_SUCH_PLACE.
+// copy_flat, digest and size for a part of a message: the value at the end of a path. If
+// the path leads nowhere, throws Error with CAPNP_CANONICAL_NO_SUCH_PLACE.
 inline std::vector<std::uint8_t> copy_flat_at(Bytes frame, Path path, Limits limits = {}) {
     return detail::copy_of(detail::FramePart(frame, path, limits), detail::Form::flat);
 }

@@ -243,13 +243,13 @@ export function locate(frame: Bytes, reading: Reading, limits?: Limits): Broken 
 export function walk(frame: Bytes, most: number, limits?: Limits): Walk;
 
 /**
- * `canonicalizeFlat` for a part of the message: for the value of the pointer at the end of a path. In `struct Signed { payload @0
+ * `canonicalizeFlat` for a part of the message: for the value at the end of a path. In `struct Signed { payload @0
  * :Payload; signature @1 :Data; }` the path `[0]` leads to the payload, whose words can be signed.
  *
  * A path starts at the root pointer. An index leads from a struct to its pointer with this index, which isn't the field's number: only
- * pointers count; from a list of pointers to an element; and from a list of structs to an element, from which the next index leads to
- * one of its pointers. Without indexes it leads to the root pointer. `NoSuchPlace` means that the path leads to no pointer. The rest of
- * the message isn't read, and needn't be sound.
+ * pointers count; from a list of pointers to an element; and from a list of structs to an element, which is a struct. Without indexes
+ * it leads to the root pointer. `NoSuchPlace` means that the path leads nowhere. The rest of the message isn't read, and needn't be
+ * sound.
  */
 export function canonicalizeFlatAt(frame: Bytes, path: Iterable<number>, limits?: Limits): Uint8Array;
 

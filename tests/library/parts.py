@@ -5,7 +5,7 @@
 
 The canonical words of a part come from C++ Cap'n Proto, which must be installed: the part's value is encoded as a message
 of its own, and made canonical by `capnp convert`. A list is encoded as the only pointer of a struct; its words are those
-behind the struct pointer. Where there is no pointer was worked out by hand."""
+behind the struct pointer. Which paths lead nowhere was worked out by hand."""
 import hashlib
 import pathlib
 import subprocess
@@ -31,7 +31,10 @@ PARTS = {
     (0, 1, 0): ('OfText', '"Eve"'),
     (1,): ('OfData', '"\\x01\\x02\\x03"'),
     (2,): ('OfPeople', PEOPLE),
+    (2, 0): ('Person', '(name = "Bob", age = 1)'),
     (2, 0, 0): ('OfText', '"Bob"'),
+    (2, 1): ('Person', '()'),
+    (2, 2): ('Person', '(name = "Mallory", friend = (age = 9, friend = (name = "Zoe")))'),
     (2, 2, 1): ('Person', '(age = 9, friend = (name = "Zoe"))'),
     (2, 2, 1, 1): ('Person', '(name = "Zoe")'),
     (2, 2, 1, 1, 0): ('OfText', '"Zoe"'),
@@ -41,8 +44,8 @@ PARTS = {
 }
 # Paths to null pointers.
 NULLS = [(0, 1, 1), (2, 0, 1), (2, 1, 0), (2, 1, 1), (2, 2, 1, 0)]
-# Paths that lead to no pointer: an index is too large; a pointer on the way is null; a list has no pointers; the end is an element.
-NOWHERE = [(4,), (2 ** 32 - 1,), (0, 2), (0, 1, 1, 0), (2, 1, 1, 0), (1, 0), (0, 0, 0), (3, 1, 0), (3, 3), (2, 3), (2, 3, 0), (2, 0), (2, 2), (2, 0, 2)]
+# Paths that lead nowhere: an index is too large; a pointer on the way is null; a list has no pointers.
+NOWHERE = [(4,), (2 ** 32 - 1,), (0, 2), (0, 1, 1, 0), (2, 1, 1, 0), (1, 0), (0, 0, 0), (3, 1, 0), (3, 3), (2, 3), (2, 3, 0), (2, 0, 2), (2, 0, 0, 0)]
 
 
 def run(input, *command):

@@ -21,7 +21,7 @@ COLORS = {'path': '\x1b[1m', 'place': '\x1b[2m', 'text': '\x1b[32m', 'refusal': 
 PLAIN = '\x1b[0m'
 # How often each message is altered, and the options of the runs.
 MUTATIONS, OPTIONS = 1000, ([], ['--json'], ['--values'], ['--json', '--values'], ['--depth', '1'], ['--depth=0', '--json'], ['--words', '9'], ['--nesting', '2'],
-                            ['--at', '0'], ['--json', '--at', '[0]'], ['--at=1.0', '--values'], ['--json', '--values', '--at', '0.[1].0'], ['--color'],
+                            ['--at', '0'], ['--json', '--at', '[0]'], ['--at=1.0', '--values'], ['--json', '--values', '--at', '0.[1].0'], ['--json', '--at', '0.[0]'], ['--color'],
                             ['--color', '--values', '--depth', '1'], ['--color', '--at', '0', '--words', '20'])
 
 
@@ -126,17 +126,17 @@ class Model:
         return 'structs', number, start + 1, data, pointers, elements
 
     def at_end(self, path):
-        """Reads the root pointer, follows a path of indexes from there, and returns the place of the pointer at its end and the
-        level there."""
+        """Reads the root pointer, follows a path of indexes from there, and returns what is at its end: the place of a pointer,
+        or of an element of a list of structs, and the level there; and of an element its sizes, otherwise None."""
         if not self.segments[0]:
             raise Refused('MessageContainsOutOfBoundsPointer')
         self.charge(1)
         number, at, level = 0, 0, self.nesting
-        # the first pointer and the number of pointers of the element of a list of structs that the path is at
+        # the sizes of the element of a list of structs that the path is at, which starts at `at`
         element = None
         for index in path:
             if element:
-                first, count = element
+                first, count = at + element[0], element[1]
                 element = None
             else:
                 kind, *it = self.read(number, at, level) if self.segments[number][at] else ['null']
@@ -150,16 +150,14 @@ class Model:
                     number, first, data, pointers, elements = it
                     if index >= elements:
                         raise Refused('NoSuchPlace')
-                    element = first + index * (data + pointers) + data, pointers
+                    at, element = first + index * (data + pointers), (data, pointers)
                     continue
                 else:
                     raise Refused('NoSuchPlace')
             if index >= count:
                 raise Refused('NoSuchPlace')
             at = first + index
-        if element:
-            raise Refused('NoSuchPlace')
-        return number, at, level
+        return number, at, level, element
 
     def words(self, number, start, count):
         return self.segments[number][start:start + count]
@@ -220,11 +218,14 @@ class Lines(Model):
         words, front = sum(map(len, self.segments)), '.'.join(map(str, path))
         self.lines.append(f'message {number}' + (f': segments {len(self.segments)}, words {words}' if self.places else ''))
         try:
-            end = self.at_end(path)
+            *end, element = self.at_end(path)
         except Refused as refused:
             self.refuse(self.path(front), refused)
         else:
-            self.pointer(front, *end, self.depth)
+            if element:
+                self.struct(self.path(front), front, end[2], self.depth, *end[:2], *element)
+            else:
+                self.pointer(front, *end, self.depth)
         return '\n'.join(self.lines) + '\n'
 
     def refuse(self, front, refused):
@@ -319,11 +320,15 @@ class Json(Model):
 
     def message(self, number, path):
         try:
-            end = self.at_end(path)
+            *end, element = self.at_end(path)
         except Refused as refused:
             root = self.refuse(refused)
         else:
-            root = self.pointer(*end, self.depth)
+            if element:
+                root = {'at': end[:2]} if self.places else {}
+                root |= self.struct(end[2], self.depth, *end[:2], *element)
+            else:
+                root = self.pointer(*end, self.depth)
         if self.places:
             root = {'message': number, 'segments': len(self.segments), 'words': sum(map(len, self.segments)), 'root': root}
         return json.dumps(root, separators=(',', ':'), ensure_ascii=False) + '\n'

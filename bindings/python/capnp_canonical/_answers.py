@@ -76,7 +76,7 @@ _TEXTS = {
     58: 'the nesting limit is exceeded, perhaps by a cycle of pointers',
     59: 'the message or its canonical form is larger than the format allows',
     60: 'the nesting limit is exceeded',
-    61: 'the path leads to no pointer',
+    61: 'the path leads nowhere',
     62: 'the traversal limit is exceeded',
     66: 'a pointer is of an unknown kind',
 }

@@ -270,10 +270,9 @@ def digest(frame: ReadableBuffer, limits: Limits = LIMITS) -> bytes:
 
 
 def copy_flat_at(frame: ReadableBuffer, path: Iterable[int], limits: Limits = LIMITS) -> bytes:
-    """Make a part of a message canonical and return its raw words. The part is the value of the pointer at the end of a
-    path. The path has the indexes of pointers, from the root pointer on; `(0,)` is the first pointer of the root struct.
-    In a list, an index is that of an element. Raises `Error` with `Refusal.NO_SUCH_PLACE` if the path leads to no
-    pointer."""
+    """Make a part of a message canonical and return its raw words. The part is the value at the end of a path. The path
+    has the indexes of pointers, from the root pointer on; `(0,)` is the first pointer of the root struct. In a list, an
+    index is that of an element. Raises `Error` with `Refusal.NO_SUCH_PLACE` if the path leads nowhere."""
     return _written_of_frame(_at(library.capnp_canonical_copy_flat_at, path), frame, limits, None)
 
 

@@ -51,7 +51,7 @@ impl Error {
     pub const MESSAGE_TOO_LARGE: Error = Error(59);
     /// The nesting limit is exceeded. From the calls that test, at a list.
     pub const NESTING_LIMIT_EXCEEDED: Error = Error(60);
-    /// The path leads to no pointer. From the calls for a part.
+    /// The path leads nowhere. From the calls for a part.
     pub const NO_SUCH_PLACE: Error = Error(61);
     /// The traversal limit is exceeded.
     pub const READ_LIMIT_EXCEEDED: Error = Error(62);

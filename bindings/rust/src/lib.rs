@@ -171,9 +171,9 @@ pub fn digest(frame: impl AsRef<[u8]>, limits: Limits) -> Result<[u8; 32], Error
     })
 }
 
-/// Makes a part of the message canonical, and returns its raw words: the value of the pointer at the end of a path. The
-/// path is the indexes of pointers, from the root pointer on; `&[0]` is the first pointer of the root struct. In a list,
-/// an index is that of an element. [`Error::NO_SUCH_PLACE`] if the path leads to no pointer.
+/// Makes a part of the message canonical, and returns its raw words: the value at the end of a path. The path is the
+/// indexes of pointers, from the root pointer on; `&[0]` is the first pointer of the root struct. In a list, an index is
+/// that of an element. [`Error::NO_SUCH_PLACE`] if the path leads nowhere.
 pub fn canonical_words_at(
     frame: impl AsRef<[u8]>,
     path: &[u32],

@@ -55,7 +55,7 @@ pub(crate) fn of_error(number: u32) -> (&'static str, &'static str) {
             "the message or its canonical form is larger than the format allows",
         ),
         60 => ("NestingLimitExceeded", "the nesting limit is exceeded"),
-        61 => ("NoSuchPlace", "the path leads to no pointer"),
+        61 => ("NoSuchPlace", "the path leads nowhere"),
         62 => ("ReadLimitExceeded", "the traversal limit is exceeded"),
         66 => ("UnknownPointerType", "a pointer is of an unknown kind"),
         _ => ("", "a refusal that this crate doesn't know"),

@@ -1,5 +1,4 @@
-//! The functions for C that work on a part of a message: on the value of the pointer to which a
-//! path leads.
+//! The functions for C that work on a part of a message: on the value to which a path leads.
 ghost use Rattle.std.specs.Prelude.{◌≡◌, ◌≢◌, ◌⊎◌, ◌≤◌, ◌+◌, ◌*◌, ℕ, length, replicate, take, drop};
 ghost use Rattle.capnp_messages.specs.MessageParts.{IsDigestOfPart};
 ghost use Rattle.capnp_canonical.specs.Calls.{FillsByNumber, InFrame, InSegments, InWords, IsGranted, IsNumberWhere, RefusesBytes, RefusesSegment, RefusesSegments, limits_of};
@@ -14,14 +13,13 @@ use crate::parts::{
 use std::alloc::Global;
 
 /// Makes the canonical copy of a part of the message whose frame is at the front of `frame`: of the
-/// value of the pointer to which `path` leads. Writes the canonical words to the front of `to`,
-/// without a frame, and stores the number of bytes written in `written`. `nesting` and `words` are
-/// the limits of `capnp_canonical_check`. The rest of the message isn't read.
+/// value to which `path` leads. Writes the canonical words to the front of `to`, without a frame,
+/// and stores the number of bytes written in `written`. `nesting` and `words` are the limits of
+/// `capnp_canonical_check`. The rest of the message isn't read.
 ///
 /// `path` is a list of indexes. From the root pointer on, an index leads from a struct to one of
 /// its pointers; from a list of pointers, to an element; from a list of structs, to an element,
-/// from which the next index leads to one of its pointers. Refuses with `NoSuchPlace` if an index
-/// leads nowhere, or if the path ends at an element of a list of structs.
+/// which is a struct too. Refuses with `NoSuchPlace` if an index leads nowhere.
 ///
 /// If `to` is too small, stores the number of bytes needed in `written`; for any other refusal, 0.
 /// The bytes of `to` after the copy are unchanged. If the call is refused, all bytes of `to` are

@@ -1,4 +1,4 @@
-//! Copies, measures and hashes a part of a message: the value of the pointer to which a path leads.
+//! Copies, measures and hashes a part of a message: the value to which a path leads.
 //! Takes the message's frame, its segments, or the words of its only segment.
 ghost use Rattle.std.specs.Prelude.{◌≡◌, ◌⊎◌, length, IfOk, IfErr};
 ghost use Rattle.capnp_format.specs.Bytes.{message};

@@ -42,6 +42,7 @@ pub use lists::{copy_pointers, copy_structs};
 use places::pointer_inside;
 pub use places::{place_behind, pointer_behind};
 pub use refusals::clear_refused;
+pub use structs::copy_struct;
 
 /// Copies the value of `from` to the null pointer at `to`, in canonical form if `canonicalize`,
 /// otherwise plain. Does what `copy_in_form` does.

@@ -1,27 +1,31 @@
 -- What a copy to the root of a fresh message leaves, and what a refused one states about the
 -- message that was read.
-use Rattle.std.proofs.Common.{◌≡◌, ◌⊎◌, inl, inr, Some, None, ℕ, ◌+◌, ◌<◌, ◌≤◌, [], ◌∷◌, length, Bool, true, false, IsTrue, Option, IfSome, IsNone, refl, ap, sym, ◌∙◌, subst, arith, length-set}
+use Rattle.std.proofs.Common.{◌≡◌, ◌⊎◌, inl, inr, Some, None, ℕ, ◌+◌, ◌<◌, ◌≤◌, [], ◌∷◌, length, drop, Bool, true, false, IsTrue, Option, IfSome, IsNone, refl, ap, ap₂, sym, ◌∙◌, subst, arith, length-set, length-take}
 use Rattle.capnp_words.specs.declared.error.ErrorKind.{ErrorKind}
 use Rattle.capnp_words.specs.declared.error.ErrorKind.TheVariants.{AllocationFailed, MessageTooLarge}
 use Rattle.capnp_format.specs.Segments.{Segments, IsPlace, segment, word_at}
 use Rattle.capnp_words.specs.Meter.{Meter, unused, less, FitsIn}
 use Rattle.capnp_objects.specs.Refusals.{Refused}
-use Rattle.capnp_objects.specs.Reading.{Reading}
+use Rattle.capnp_objects.specs.Reading.{Reading, behind, segment_read, words_from}
 use Rattle.capnp_objects.specs.Wanted.{canonical}
 use Rattle.capnp_objects.proofs.Limits.{not_for_memory, not_for_size}
 use Rattle.capnp_format.specs.Canonical.{encoding, trim, word_count}
-use Rattle.capnp_format.specs.Tree.{Tree, Null}
+use Rattle.capnp_format.specs.Tree.{Tree, Null, Struct}
+use Rattle.capnp_format.proofs.Trimming.{used_words-le}
 use Rattle.capnp_format.proofs.Levels.{one_value}
-use Rattle.capnp_objects.specs.Outcomes.{Reads}
 use Rattle.std.proofs.lemmas.Bool.{cases_lt}
 use Rattle.capnp_making.specs.Memory.{KeepsMemory}
 use Rattle.capnp_copies.specs.Changes.{ComesToObject, MakesCopy, StopsCopy, change}
 use Rattle.capnp_copies.specs.Originals.{value_original}
 use Rattle.capnp_copies.proofs.Copying.{fresh_made}
-use Rattle.capnp_copies.proofs.Originals.{value_beyond}
-use Rattle.capnp_messages.specs.Copies.{HoldsCanonicalWords, LacksMemoryOr, OutgrowsRoom, RefusesCopy, RefusesCopyAnywhere, is_message_too_large}
+use Rattle.capnp_copies.proofs.ElementsLaid.{one_row}
+use Rattle.capnp_copies.proofs.Originals.{ExceedsRoom, sections_beyond, value_beyond}
+use Rattle.capnp_messages.specs.Copies.{HoldsCanonicalWords, LacksMemoryOr, RefusesCopyAnywhere, is_message_too_large}
+use Rattle.capnp_messages.specs.EndValues.{EndMeans, EndNeedsMoreRoom, EndOutgrowsRoom, EndReads, EndStops, IsElementPlace, IsEndThere, RefusesEndCopy, RefusesEndCopyAnywhere, end_original}
+use Rattle.capnp_messages.specs.Parts.{PathEnd, to_element, to_pointer}
 use Rattle.capnp_words.specs.Names.{is_allocation_name}
 use Rattle.capnp_messages.specs.Tries.{NeedsMoreRoom}
+use Rattle.capnp_objects.specs.Outcomes.{Reads}
 use Rattle.capnp_arena_traits.specs.Allocations.{max_segment_words, one_more}
 use Rattle.capnp_arena_traits.specs.View.{View}
 use Rattle.capnp_making.specs.Makes.{call_at}
@@ -38,26 +42,38 @@ root_there S fresh = omega (arith, ap length (root_alone S fresh))
 pub root_null : (S : Segments) → S ≡ (0 ∷ []) ∷ [] → word_at S 0 0 ≡ 0
 root_null S fresh = ap (λ (M : Segments). word_at M 0 0) fresh
 
+-- what is read of the end of a path
+pub end_reads : (e : PathEnd) (m m' : Meter) (t : Tree) → IsEndThere e → (end_original e).reads canonical m m' t → EndReads e m m' t
+end_reads (to_pointer r) m m' t there reads = reads
+end_reads (to_element r d q) m m' t there reads = (there, reads)
+
 -- a copy to the root is the whole message, if the message has one segment afterwards
-pub made_copy : (r : Reading) (left : Option ℕ) (old made : View) (l m : Meter) → old.words ≡ (0 ∷ []) ∷ [] → l ≡ unused left →
-    MakesCopy (value_original r) (change canonical (call_at 0 0 old made) l m) → (t : Tree) × Reads canonical r (unused left) m t × (length made.words ≡ 1 → HoldsCanonicalWords made t)
-made_copy r left old made l m fresh begun copied =
+pub end_copied : (e : PathEnd) (left : Option ℕ) (old made : View) (l m : Meter) → IsEndThere e → old.words ≡ (0 ∷ []) ∷ [] → l ≡ unused left →
+    MakesCopy (end_original e) (change canonical (call_at 0 0 old made) l m) → (t : Tree) × EndReads e (unused left) m t × (length made.words ≡ 1 → HoldsCanonicalWords made t)
+end_copied e left old made l m there fresh begun copied =
     let t = copied.value in
     let place = root_there old.words fresh in
     let only = root_alone old.words fresh in (
       t,
-      subst (λ (x : Meter). Reads canonical r x m t) begun copied.is_read,
+      subst (λ (x : Meter). EndReads e x m t) begun (end_reads e l m t there copied.is_read),
       λ one. only_segment made.words (encoding (trim t)) one (fresh_made old.words 0 0 (trim t) (place, only) (copied.stands (inr one))),
     )
 
+-- the end of a path means at most one value
+one_end_value : (e : PathEnd) (l m : Meter) (t u : Tree) (c : ℕ) → EndReads e l m t → EndMeans e u c → t ≡ u
+one_end_value (to_pointer r) l m t u c reads means = (one_value r.segments r.levels r.levels r.segment r.at t u reads.cost c reads.means means).0
+one_end_value (to_element r d q) l m t u c (there, (ts, is, counts, reads)) (ws, us, is_too, long, many, here, means) =
+    let words : words_from r d ≡ ws = ap (λ n. words_from r n) (sym long) ∙ here in
+    is ∙ ap₂ (λ vs rest. Struct vs rest) words (one_row (behind r d) ts us (reads.cost, reads.means) (c, means) (counts ∙ sym many)) ∙ sym is_too
+
 -- if it has more, not all words fit in the first
-pub spread_copy : (r : Reading) (old new : View) (l m : Meter) → old.words ≡ (0 ∷ []) ∷ [] →
-    MakesCopy (value_original r) (change canonical (call_at 0 0 old new) l m) → (length new.words ≡ 1) ⊎ NeedsMoreRoom r (old.room 0)
-spread_copy r old new l m fresh copied =
+pub end_spread : (e : PathEnd) (old new : View) (l m : Meter) → IsEndThere e → old.words ≡ (0 ∷ []) ∷ [] →
+    MakesCopy (end_original e) (change canonical (call_at 0 0 old new) l m) → (length new.words ≡ 1) ⊎ EndNeedsMoreRoom e (old.room 0)
+end_spread e old new l m there fresh copied =
     let t = copied.value in
-    let reads : Reads canonical r l m t = copied.is_read in
+    let reads : EndReads e l m t = end_reads e l m t there copied.is_read in
     elim (cases_lt (old.room 0) (1 + word_count (trim t))) [
-      | inl beyond ↦ inr (λ u c means. (let same = ap (λ v. word_count (trim v)) (one_value r.segments r.levels r.levels r.segment r.at t u reads.cost c reads.means means).0 in omega (arith, same, beyond)))
+      | inl beyond ↦ inr (λ u c means. (let same = ap (λ v. word_count (trim v)) (one_end_value e l m t u c reads means) in omega (arith, same, beyond)))
       | inr fits ↦
           let used : length (segment old.words 0) ≡ 1 = ap length (root_alone old.words fresh) in
           let same = copied.stands (inl (omega (arith, fits, used))) in
@@ -71,9 +87,9 @@ kept_room old new fresh kept =
     kept.1 0 some
 
 -- why a copy to the root of a fresh message is refused
-pub refused_copy : (r : Reading) (left : Option ℕ) (old new : View) (l m : Meter) (k : ErrorKind) → old.words ≡ (0 ∷ []) ∷ [] → l ≡ unused left →
-    StopsCopy (value_original r) (change canonical (call_at 0 0 old new) l m) Null k → RefusesCopyAnywhere r left (old.room 0) k
-refused_copy r left old new l m k fresh begun stop =
+refused_pointer : (r : Reading) (left : Option ℕ) (old new : View) (l m : Meter) (t : Tree) (k : ErrorKind) → old.words ≡ (0 ∷ []) ∷ [] → l ≡ unused left →
+    StopsCopy (value_original r) (change canonical (call_at 0 0 old new) l m) t k → RefusesCopyAnywhere r left (old.room 0) k
+refused_pointer r left old new l m t k fresh begun stop =
     let used : length (segment old.words 0) ≡ 1 = ap length (root_alone old.words fresh) in
     elim stop.why [
       | inl (inl none, large) ↦ absurd none.2
@@ -86,6 +102,52 @@ refused_copy r left old new l m k fresh begun stop =
           )
       | inr y ↦ elim y [ inl refused ↦ inr (m, subst (λ (x : Meter). Refused canonical r x m k) begun refused) | inr none ↦ absurd none ]
     ]
+
+-- the same of a copy of what a pointer means
+pub made_copy : (r : Reading) (left : Option ℕ) (old made : View) (l m : Meter) → old.words ≡ (0 ∷ []) ∷ [] → l ≡ unused left →
+    MakesCopy (value_original r) (change canonical (call_at 0 0 old made) l m) → (t : Tree) × Reads canonical r (unused left) m t × (length made.words ≡ 1 → HoldsCanonicalWords made t)
+made_copy r left old made l m fresh begun copied = end_copied (to_pointer r) left old made l m tt fresh begun copied
+
+pub spread_copy : (r : Reading) (old new : View) (l m : Meter) → old.words ≡ (0 ∷ []) ∷ [] →
+    MakesCopy (value_original r) (change canonical (call_at 0 0 old new) l m) → (length new.words ≡ 1) ⊎ NeedsMoreRoom r (old.room 0)
+spread_copy r old new l m fresh copied = end_spread (to_pointer r) old new l m tt fresh copied
+
+pub refused_copy : (r : Reading) (left : Option ℕ) (old new : View) (l m : Meter) (k : ErrorKind) → old.words ≡ (0 ∷ []) ∷ [] → l ≡ unused left →
+    StopsCopy (value_original r) (change canonical (call_at 0 0 old new) l m) Null k → RefusesCopyAnywhere r left (old.room 0) k
+refused_copy r left old new l m k fresh begun stop = refused_pointer r left old new l m Null k fresh begun stop
+
+-- an element's words are too many for a room, if what is copied of it is too large
+element_needs : (r : Reading) (d q : ℕ) (used room : ℕ) → used ≡ 1 → ExceedsRoom canonical (end_original (to_element r d q)) used room → EndNeedsMoreRoom (to_element r d q) room
+element_needs r d q used room one large t c (ws, ts, is, long, many, here, means) =
+    let beyond = sections_beyond canonical (words_from r d) (behind r d) q used room large ts c many means in
+    let words : ws ≡ words_from r d = sym here ∙ ap (λ n. words_from r n) long in
+    let same : word_count (trim t) ≡ word_count (trim (Struct (words_from r d) ts)) = ap (λ u. word_count (trim u)) (is ∙ ap (λ vs. Struct vs ts) words) in
+    omega (arith, beyond, same, one)
+
+refused_element : (r : Reading) (d q : ℕ) (left : Option ℕ) (old new : View) (l m : Meter) (t : Tree) (k : ErrorKind) → IsElementPlace r d q → old.words ≡ (0 ∷ []) ∷ [] → l ≡ unused left →
+    StopsCopy (end_original (to_element r d q)) (change canonical (call_at 0 0 old new) l m) t k → RefusesEndCopyAnywhere (to_element r d q) left (old.room 0) k
+refused_element r d q left old new l m t k there fresh begun stop =
+    let used : length (segment old.words 0) ≡ 1 = ap length (root_alone old.words fresh) in
+    elim stop.why [
+      | inl (inl (n, same, makes, (refused, full)), large) ↦
+          inl (words_named old new n k refused, element_needs r d q (length (segment old.words 0)) (old.room 0) used large, inl (n, makes, omega (arith, full, used)))
+      | inl (inr (n, stops, (refused, full)), large) ↦
+          let out : ComesToObject (end_original (to_element r d q)) canonical l m (λ i all. old.room 0 < 1 + all) = (n, stops, omega (arith, full, used)) in
+          inl (
+            words_named old new n k refused,
+            element_needs r d q (length (segment old.words 0)) (old.room 0) used large,
+            inr (m, subst (λ (x : Meter). ComesToObject (end_original (to_element r d q)) canonical x m (λ i all. old.room 0 < 1 + all)) begun out),
+          )
+      | inr y ↦ elim y [
+        | inl refused ↦ inr (m, subst (λ (x : Meter). EndStops (to_element r d q) x m k) begun refused)
+        | inr (wide, named) ↦ absurd (let few : length (words_from r d) ≤ d = omega (arith, length-take d (drop r.at (segment_read r))) in omega (arith, wide, used_words-le (words_from r d), few, there.few_words))
+      ]
+    ]
+
+pub end_refused : (e : PathEnd) (left : Option ℕ) (old new : View) (l m : Meter) (t : Tree) (k : ErrorKind) → IsEndThere e → old.words ≡ (0 ∷ []) ∷ [] → l ≡ unused left →
+    StopsCopy (end_original e) (change canonical (call_at 0 0 old new) l m) t k → RefusesEndCopyAnywhere e left (old.room 0) k
+end_refused (to_pointer r) left old new l m t k there fresh begun stop = refused_pointer r left old new l m t k fresh begun stop
+end_refused (to_element r d q) left old new l m t k there fresh begun stop = refused_element r d q left old new l m t k there fresh begun stop
 
 -- allocating words leaves the room unchanged, whether there is room for them or not
 pub room_kept : (o : Option ℕ) {old new : View} (P : ℕ → Type 0) (words : Segments) → IfSome o (λ at. P at × (new ≡ record old { words = words })) → (IsNone o → new ≡ old) → new.room ≡ old.room
@@ -103,10 +165,14 @@ moved_offer {new = new} asked {there = there} same kept offered =
     subst (λ n. IsTrue (new asked n)) (sym kept) (subst (λ (offers : ℕ → ℕ → Bool). IsTrue (offers asked there)) same offered)
 
 -- a reading isn't refused for lack of room
-pub never_read : {r : Reading} {l m : Meter} (k : ErrorKind) → is_allocation_name k ≡ true → Refused canonical r l m k → ⊥
+never_read : {r : Reading} {l m : Meter} (k : ErrorKind) → is_allocation_name k ≡ true → Refused canonical r l m k → ⊥
 never_read AllocationFailed want refused = not_for_memory refused
 never_read (MessageTooLarge w) want refused = not_for_size w refused
 never_read _ want refused = absurd (cc)
+
+pub never_stops : (e : PathEnd) (l m : Meter) (k : ErrorKind) → is_allocation_name k ≡ true → EndStops e l m k → ⊥
+never_stops (to_pointer r) l m k want refused = never_read k want refused
+never_stops (to_element r d q) l m k want refused = never_read k want refused.stops
 
 -- an error that something is too large is for lack of room
 pub large_wants : (k : ErrorKind) → is_message_too_large k ≡ true → is_allocation_name k ≡ true
@@ -114,26 +180,28 @@ large_wants (MessageTooLarge w) large = refl
 large_wants _ large = absurd (cc)
 
 -- what outgrows a room outgrows a smaller one
-less_outgrown : {r : Reading} {left : Option ℕ} (more room : ℕ) → room ≤ more → OutgrowsRoom r left more → OutgrowsRoom r left room
-less_outgrown more room least (m, (n, stops, full)) = (m, (n, stops, omega (arith, full, least)))
+less_outgrown : (e : PathEnd) (left : Option ℕ) (more room : ℕ) → room ≤ more → EndOutgrowsRoom e left more → EndOutgrowsRoom e left room
+less_outgrown (to_pointer r) left more room least (m, (n, stops, full)) = (m, (n, stops, omega (arith, full, least)))
+less_outgrown (to_element r d q) left more room least (inl (n, makes, full)) = inl (n, makes, omega (arith, full, least))
+less_outgrown (to_element r d q) left more room least (inr (m, (n, stops, full))) = inr (m, (n, stops, omega (arith, full, least)))
 
 -- a copy that is refused for room, with `more` words in its segment, has too little with `room`
 -- words, if these aren't more
-pub refused_try : {r : Reading} {left : Option ℕ} {k : ErrorKind} (more room : ℕ) → room ≤ more → is_allocation_name k ≡ true → RefusesCopyAnywhere r left more k → RefusesCopy r left room (MessageTooLarge room)
-refused_try more room least want (inl (named, large, out)) = inl (refl, λ t c means. (let beyond = large t c means in omega arith), inr (less_outgrown more room least out))
-refused_try {k = k} more room least want (inr (m, refused)) = absurd (never_read k want refused)
+pub refused_try : (e : PathEnd) (left : Option ℕ) (k : ErrorKind) (more room : ℕ) → room ≤ more → is_allocation_name k ≡ true → RefusesEndCopyAnywhere e left more k → RefusesEndCopy e left room (MessageTooLarge room)
+refused_try e left k more room least want (inl (named, large, out)) = inl (refl, λ t c means. (let beyond = large t c means in omega arith), inr (less_outgrown e left more room least out))
+refused_try e left k more room least want (inr (m, refused)) = absurd (never_stops e (unused left) m k want refused)
 
 -- so has one that is made in several segments
-pub refused_spread : {r : Reading} {left : Option ℕ} {n : ℕ} {m : Meter} {t : Tree} (more room : ℕ) → room ≤ more → (n ≡ 1) ⊎ NeedsMoreRoom r more → (n ≡ 1 → ⊥) → Reads canonical r (unused left) m t → RefusesCopy r left room (MessageTooLarge room)
-refused_spread more room least (inl one) other reads = absurd (other one)
-refused_spread {m = m} {t = t} more room least (inr needs) other reads = inl (refl, λ u c means. (let beyond = needs u c means in omega arith), inl (t, m, reads))
+pub refused_spread : (e : PathEnd) (left : Option ℕ) {n : ℕ} (m : Meter) (t : Tree) (more room : ℕ) → room ≤ more → (n ≡ 1) ⊎ EndNeedsMoreRoom e more → (n ≡ 1 → ⊥) → EndReads e (unused left) m t → RefusesEndCopy e left room (MessageTooLarge room)
+refused_spread e left m t more room least (inl one) other reads = absurd (other one)
+refused_spread e left m t more room least (inr needs) other reads = inl (refl, λ u c means. (let beyond = needs u c means in omega arith), inl (t, m, reads))
 
 -- the refusal of the last try holds for the largest possible room
-pub last_try : {r : Reading} {left : Option ℕ} {room old new : ℕ} {k : ErrorKind} → (room ≡ max_segment_words) ⊎ (is_message_too_large k ≡ false) → LacksMemoryOr old new k (RefusesCopy r left room k) → LacksMemoryOr old new k (RefusesCopy r left max_segment_words k)
-last_try last (inl memory) = inl memory
-last_try last (inr (inr refused, same)) = inr (inr refused, same)
-last_try {r = r} {left = left} {k = k} (inl most) (inr (refused, same)) = inr (subst (λ n. RefusesCopy r left n k) most refused, same)
-last_try (inr other) (inr (inl (named, large, out), same)) = absurd (let wrong : true ≡ false = sym (ap is_message_too_large named) ∙ other in cc)
+pub last_try : (e : PathEnd) (left : Option ℕ) {room old new : ℕ} {k : ErrorKind} → (room ≡ max_segment_words) ⊎ (is_message_too_large k ≡ false) → LacksMemoryOr old new k (RefusesEndCopy e left room k) → LacksMemoryOr old new k (RefusesEndCopy e left max_segment_words k)
+last_try e left last (inl memory) = inl memory
+last_try e left last (inr (inr refused, same)) = inr (inr refused, same)
+last_try e left {k = k} (inl most) (inr (refused, same)) = inr (subst (λ n. RefusesEndCopy e left n k) most refused, same)
+last_try e left (inr other) (inr (inl (named, large, out), same)) = absurd (let wrong : true ≡ false = sym (ap is_message_too_large named) ∙ other in cc)
 
 pub moved_try : {old new old' new' : ℕ} {k : ErrorKind} {P : Type 0} → old ≡ old' → new' ≡ new → LacksMemoryOr old new k P → LacksMemoryOr old' new' k P
 moved_try before after (inl (named, risen)) = inl (named, after ∙ risen ∙ ap one_more before)

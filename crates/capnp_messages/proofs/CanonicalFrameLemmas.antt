@@ -9,11 +9,13 @@ use Rattle.capnp_words.specs.declared.error.ErrorKind.{ErrorKind}
 use Rattle.capnp_framing.specs.Frames.{frame}
 use Rattle.capnp_framing.specs.declared.framing.frame_error.FrameError.{FrameError}
 use Rattle.capnp_framing.specs.declared.framing.frame_error.FrameError.TheVariants.{WriteFailed}
-use Rattle.capnp_objects.specs.Outcomes.{Reads}
-use Rattle.capnp_objects.specs.Reading.{Reading}
-use Rattle.capnp_objects.specs.Spending.{after, pointers_in}
+use Rattle.capnp_objects.specs.Outcomes.{Reads, ReadsAll}
+use Rattle.capnp_objects.specs.Reading.{Reading, behind}
+use Rattle.capnp_objects.specs.Spending.{after, pointers_in, pointers_in_all}
 use Rattle.capnp_objects.specs.Wanted.{canonical}
 use Rattle.capnp_messages.specs.CanonicalErrors.{IsLeftOf}
+use Rattle.capnp_messages.specs.EndValues.{EndReads}
+use Rattle.capnp_messages.specs.Parts.{PathEnd, to_element, to_pointer}
 use Rattle.capnp_messages.specs.declared.messages.canonical_error.CanonicalError.{CanonicalError}
 use Rattle.capnp_messages.specs.declared.messages.canonical_error.CanonicalError.TheVariants.{Frame, Layout}
 
@@ -53,9 +55,11 @@ left_within : (charging : Bool) (l : Option ℕ) (n p : ℕ) → Affords chargin
 left_within true l n p covers = less_left l n covers
 left_within false l n p covers = same_left l
 
-pub copy_left : {r : Reading} (l : Option ℕ) (own : Meter) {t : Tree} → Reads canonical r (unused l) own t → IsLeftOf own.left l
-copy_left {r} l own {t} reads =
+pub copy_left : (e : PathEnd) (l : Option ℕ) (own : Meter) (t : Tree) → EndReads e (unused l) own t → IsLeftOf own.left l
+copy_left (to_pointer r) l own t reads =
     subst (λ (m : Meter). IsLeftOf m.left l) (sym reads.spent) (left_within r.charging l reads.cost (pointers_in t) reads.covers)
+copy_left (to_element r d q) l own t (there, (ts, is, counts, reads)) =
+    subst (λ (m : Meter). IsLeftOf m.left l) (sym reads.spent) (left_within r.charging l reads.cost (pointers_in_all ts) reads.covers)
 
 covered : (charging : Bool) (old : Meter) (n : ℕ) → Affords charging (unused old.left) n → Affords charging old n
 covered true old n covers = covers
@@ -73,14 +77,25 @@ settled_after false old own new n p spent left counted =
     let pointers = counted ∙ ap (λ (m : Meter). raised old.followed m.followed) spent ∙ none_raised old.followed in
     ap (λ (l : Option ℕ). record { left = l; followed = new.followed }) words ∙ ap (λ f. record { left = old.left; followed = f }) pointers
 
-pub copy_settled : (r : Reading) (old own new : Meter) {left : Option ℕ} {words now : Segments} → left ≡ old.left → new.left ≡ own.left → new.followed ≡ raised old.followed own.followed → now ≡ words → (t : Tree) × Reads canonical r (unused left) own t × (words ≡ encoding (trim t) ∷ []) → (t : Tree) × Reads canonical r old new t × (now ≡ encoding (trim t) ∷ [])
-copy_settled r old own new begun rest counted same (t, read, is_made) =
-    let reads = subst (λ (l : Option ℕ). Reads canonical r (unused l) own t) begun read in
-    let there : Reads canonical r old new t = record {
+-- what is read by `own` is read by `old`
+settled : (e : PathEnd) (old own new : Meter) (t : Tree) → new.left ≡ own.left → new.followed ≡ raised old.followed own.followed → EndReads e (unused old.left) own t → EndReads e old new t
+settled (to_pointer r) old own new t rest counted reads = record {
+  cost = reads.cost;
+  means = reads.means;
+  takes = reads.takes;
+  covers = covered r.charging old reads.cost reads.covers;
+  spent = settled_after r.charging old own new reads.cost (pointers_in t) reads.spent rest counted;
+}
+settled (to_element r d q) old own new t rest counted (there, (ts, is, counts, reads)) =
+    let all : ReadsAll canonical (behind r d) old new ts = record {
       cost = reads.cost;
       means = reads.means;
       takes = reads.takes;
       covers = covered r.charging old reads.cost reads.covers;
-      spent = settled_after r.charging old own new reads.cost (pointers_in t) reads.spent rest counted;
+      spent = settled_after r.charging old own new reads.cost (pointers_in_all ts) reads.spent rest counted;
     } in
-    (t, there, same ∙ is_made)
+    (there, (ts, is, counts, all))
+
+pub copy_settled : (e : PathEnd) (old own new : Meter) {left : Option ℕ} {words now : Segments} → left ≡ old.left → new.left ≡ own.left → new.followed ≡ raised old.followed own.followed → now ≡ words → (t : Tree) × EndReads e (unused left) own t × (words ≡ encoding (trim t) ∷ []) → (t : Tree) × EndReads e old new t × (now ≡ encoding (trim t) ∷ [])
+copy_settled e old own new begun rest counted same (t, read, is_made) =
+    (t, settled e old own new t rest counted (subst (λ (l : Option ℕ). EndReads e (unused l) own t) begun read), same ∙ is_made)

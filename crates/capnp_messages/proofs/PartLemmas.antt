@@ -5,11 +5,11 @@ use Rattle.capnp_words.specs.declared.error.ErrorKind.{ErrorKind}
 use Rattle.capnp_words.specs.declared.error.ErrorKind.TheVariants.{NoSuchPlace, ReadLimitExceeded}
 use Rattle.capnp_words.specs.Meter.{Affords, FitsIn, Meter, spent}
 use Rattle.capnp_format.specs.Word.{kind, data_words, pointer_count, element_size, list_count, offset_bits, upper_half}
-use Rattle.capnp_format.specs.Segments.{Segments, Target, segment}
+use Rattle.capnp_format.specs.Segments.{HasWords, Segments, Target, segment}
 use Rattle.capnp_format.specs.Tree.{Tree, Null, Capability, Struct, Flat, Pointers, Structs, Trees, no_trees, tree, Elements, no_elements, element, count, element_count}
 use Rattle.capnp_format.specs.Means.{IsTag, Means, MeansAll, MeansElements, count_cost}
 use Rattle.capnp_format.specs.Numbers.{words_for}
-use Rattle.capnp_format.specs.Path.{Child, next, struct_at, tree_at}
+use Rattle.capnp_format.specs.Path.{struct_at, tree_at}
 use Rattle.capnp_objects.specs.Demands.{Meets, claim, own, tag}
 use Rattle.capnp_objects.specs.Enter.{Shape, capability, flat, nothing, pointers, read, shape, struct, structs}
 use Rattle.capnp_objects.specs.Faults.{LeadsTo}
@@ -27,7 +27,8 @@ use Rattle.capnp_objects.proofs.Followed.{leads_to}
 use Rattle.capnp_objects.proofs.Inverted.{affords_or_not}
 use Rattle.capnp_objects.proofs.Parts.{claim_flat, claim_list, claim_struct, extra_flat, extra_list, extra_struct, is_capability, is_inner, is_null, means_parts}
 use Rattle.capnp_objects.proofs.Refusals.{affords_less}
-use Rattle.capnp_messages.specs.Parts.{part_of, to_pointer, to_element, pointer_in, end_at, end_in, inside, follow_path, part}
+use Rattle.capnp_messages.specs.EndValues.{EndMeans, end_place}
+use Rattle.capnp_messages.specs.Parts.{PathEnd, part_of, to_pointer, to_element, pointer_in, end_at, end_in, inside, follow_path, part}
 use Rattle.capnp_messages.specs.Roots.{CoversRoot, message_root, read_message_root}
 use Rattle.capnp_messages.proofs.CanonLemmas.{covers_rest}
 use Rattle.capnp_messages.proofs.SizeLemmas.{fits_one}
@@ -75,30 +76,63 @@ child_costs S n s p (tree t ts) c (suc i) less (a, b, one, rest, g) =
     let r = child_costs S n s (p + 1) ts b i (omega arith) rest in
     (r.0, subst (λ q. Means S n s q (tree_at ts i) r.0) (let e : p + 1 + i ≡ p + suc i = omega arith in e) r.1, omega (arith, r.2))
 
-element_child_costs : (S : Segments) (n s p d q : ℕ) (es : Elements) (c i j : ℕ) → i < element_count es → j < q → MeansElements S n s p d q es c →
-    (k : ℕ) × Means S n s (p + i * (d + q) + d + j) (next (struct_at es i) (Child j)) k × (k ≤ c)
-element_child_costs S n s p d q no_elements c i j l m h = absurd (omega arith)
-element_child_costs S n s p d q (element ws ts es) c zero j l m (a, b, long, len, here, all, rest, g) =
-    let r = child_costs S n s (p + d) ts a j (omega arith) all in
-    (r.0, subst (λ z. Means S n s z (tree_at ts j) r.0) (let e : p + d + j ≡ p + 0 * (d + q) + d + j = omega arith in e) r.1, omega (arith, r.2))
-element_child_costs S n s p d q (element ws ts es) c (suc i) j l m (a, b, long, len, here, all, rest, g) =
-    let r = element_child_costs S n s (p + d + q) d q es b i j (omega arith) m rest in
-    (r.0, subst (λ z. Means S n s z (next (struct_at es i) (Child j)) r.0) (let e : p + d + q + i * (d + q) + d + j ≡ p + suc i * (d + q) + d + j = omega arith in e) r.1, omega (arith, r.2))
+-- An element, and the cost of its pointers, which is part of that of all elements.
+record MeansElement (S : Segments) (n s p d q : ℕ) (t : Tree) (c : ℕ) : Type 0 where
+  ws : List ℕ
+  ts : Trees
+  is : t ≡ Struct ws ts
+  long : length ws ≡ d
+  many : count ts ≡ q
+  here : HasWords S s p ws
+  cost : ℕ
+  means : MeansAll S n s (p + d) ts cost
+  within : cost ≤ c
+
+element_costs : (S : Segments) (n s p d q : ℕ) (es : Elements) (c i : ℕ) → i < element_count es → MeansElements S n s p d q es c →
+    MeansElement S n s (p + i * (d + q)) d q (struct_at es i) c
+element_costs S n s p d q no_elements c i less m = absurd (omega arith)
+element_costs S n s p d q (element ws ts es) c zero less (a, b, long, len, here, all, rest, g) =
+    let e : p ≡ p + 0 * (d + q) = omega arith in
+    record {
+      ws = ws;
+      ts = ts;
+      is = refl;
+      long = long;
+      many = len;
+      here = subst (λ z. HasWords S s z ws) e here;
+      cost = a;
+      means = subst (λ z. MeansAll S n s (z + d) ts a) e all;
+      within = omega (arith, g);
+    }
+element_costs S n s p d q (element ws ts es) c (suc i) less (a, b, long, len, here, all, rest, g) =
+    let r = element_costs S n s (p + d + q) d q es b i (omega arith) rest in
+    let e : p + d + q + i * (d + q) ≡ p + suc i * (d + q) = omega arith in
+    record {
+      ws = r.ws;
+      ts = r.ts;
+      is = r.is;
+      long = r.long;
+      many = r.many;
+      here = subst (λ z. HasWords S s z r.ws) e r.here;
+      cost = r.cost;
+      means = subst (λ z. MeansAll S n s (z + d) r.ts r.cost) e r.means;
+      within = omega (arith, r.within, g);
+    }
 
 -- How a path ends that leads to the value v, if anywhere, where reading all costs c.
-pub data Ends (v : Option Tree) (S : Segments) (charging : Bool) (m : Meter) (c : ℕ) : Result Reading ErrorKind × Meter → Type 0 where
-  found : (x : Reading) (u : Tree) (k : ℕ) (n : Meter) → v ≡ Some u → MeansThere x u k → x.segments ≡ S → x.charging ≡ charging → (Affords charging m c → Affords charging n k) → Ends v S charging m c (Ok x, n)
+pub data Ends (v : Option Tree) (S : Segments) (charging : Bool) (m : Meter) (c : ℕ) : Result PathEnd ErrorKind × Meter → Type 0 where
+  found : (x : PathEnd) (u : Tree) (k : ℕ) (n : Meter) → v ≡ Some u → EndMeans x u k → (end_place x).segments ≡ S → (end_place x).charging ≡ charging → (Affords charging m c → Affords charging n k) → Ends v S charging m c (Ok x, n)
   nowhere : (n : Meter) → v ≡ None → Ends v S charging m c (Err NoSuchPlace, n)
   exceeds : (n : Meter) → (Affords charging m c → ⊥) → Ends v S charging m c (Err ReadLimitExceeded, n)
 
 -- The same for more words, if the others were charged before.
-further : {v : Option Tree} {S : Segments} {charging : Bool} {m m' : Meter} {g i k : ℕ} {x : Result Reading ErrorKind × Meter} (c : ℕ) → Paid charging m m' g i → g + k ≤ c →
+further : {v : Option Tree} {S : Segments} {charging : Bool} {m m' : Meter} {g i k : ℕ} {x : Result PathEnd ErrorKind × Meter} (c : ℕ) → Paid charging m m' g i → g + k ≤ c →
     Ends v S charging m' k x → Ends v S charging m c x
 further {k = k} c paid least (found x u l n is means same charged rest) = found x u l n is means same charged (λ h. rest (affords_rest k c paid least h))
 further c paid least (nowhere n is) = nowhere n is
 further {k = k} c paid least (exceeds n short) = exceeds n (λ h. short (affords_rest k c paid least h))
 
-wider : {v : Option Tree} {S : Segments} {charging : Bool} {m : Meter} {k : ℕ} {x : Result Reading ErrorKind × Meter} (c : ℕ) → k ≤ c → Ends v S charging m k x → Ends v S charging m c x
+wider : {v : Option Tree} {S : Segments} {charging : Bool} {m : Meter} {k : ℕ} {x : Result PathEnd ErrorKind × Meter} (c : ℕ) → k ≤ c → Ends v S charging m k x → Ends v S charging m c x
 wider {charging = charging} {m = m} {k = k} c least (found x u l n is means same charged rest) = found x u l n is means same charged (λ h. rest (affords_less charging m k c least h))
 wider c least (nowhere n is) = nowhere n is
 wider {charging = charging} {m = m} {k = k} c least (exceeds n short) = exceeds n (λ h. short (affords_less charging m k c least h))
@@ -153,15 +187,6 @@ after_opening : {v : Option Tree} {r : Reading} {m : Meter} {o : Shape} {n : ℕ
 after_opening {v} {r} {m} {n = n} c i path least (opened m' paid e) rest = subst (Ends v r.segments r.charging m c) (sym (opened_on r m m' _ i path e)) (rest m' paid)
 after_opening {v} {r} {m} {n = n} c i path least (exceeded m' short e) rest = subst (Ends v r.segments r.charging m c) (sym (exceeded_on r m m' _ i path e)) (exceeds m' (λ h. short (affords_less r.charging m n c least h)))
 
--- The part of an element with n pointers, which mean f.
-abbrev element_part : (ℕ → Tree) → ℕ → List ℕ → Option Tree
-element_part f n [] = None
-element_part f n (j ∷ path) = cond (nat_lt j n) (part_of (f j) path) None
-
--- The pointers of a run have values.
-abbrev MeanIn : Reading → ℕ → (ℕ → Tree) → ℕ → Type 0
-MeanIn r n f c = (j : ℕ) → j < n → (k : ℕ) × MeansThere (behind r j) (f j) k × (k ≤ c)
-
 -- The pointer at an index of a run, if its first ends are known.
 in_run : {v : Option Tree} {S : Segments} {charging : Bool} {m : Meter} {c : ℕ} (m' : Meter) (r : Reading) (n i : ℕ) (path : List ℕ) →
     (i < n → Ends v S charging m c (follow_path (to_pointer (behind r i)) path m')) → (n ≤ i → v ≡ None) →
@@ -170,20 +195,6 @@ in_run {v} {S} {charging} {m} {c} m' r n i path inside outside = elim (cases_lt 
   | inl less ↦ let e : nat_lt i n ≡ true = lt-ltb _ _ less in rw e (inside less)
   | inr most ↦ let e : nat_lt i n ≡ false = not_less i n most in rw e (nowhere m' (outside most))
 ]
-
-no_element : (b : Bool) → (let v : Option Tree = None in v) ≡ cond b None None
-no_element true = refl
-no_element false = refl
-
-both_or_none : (b c : Bool) (v : Option Tree) → cond (b && c) v None ≡ cond b (cond c v None) None
-both_or_none true c v = refl
-both_or_none false c v = refl
-
--- The part of a list of structs.
-part_of_structs : (d q : ℕ) (es : Elements) (i : ℕ) (path : List ℕ) →
-    part_of (Structs d q es) (i ∷ path) ≡ cond (nat_lt i (element_count es)) (element_part (λ j. next (struct_at es i) (Child j)) q path) None
-part_of_structs d q es i [] = no_element (nat_lt i (element_count es))
-part_of_structs d q es i (j ∷ path) = both_or_none (nat_lt i (element_count es)) (nat_lt j q) (part_of (next (struct_at es i) (Child j)) path)
 
 -- An object that the value of a place names meets its demands.
 meets_there : (r : Reading) (t : Tree) (c : ℕ) (a : Target) → MeansThere r t c → LeadsTo r a → kind a.word < 2 → Meets Value r.segments r.levels a
@@ -195,7 +206,7 @@ meets_there r t c a means leads object = elim (means_parts r t c means) [
 
 mutual
   pub pointer_ends : (path : List ℕ) (r : Reading) (t : Tree) (c : ℕ) (m : Meter) → MeansThere r t c → Ends (part_of t path) r.segments r.charging m c (follow_path (to_pointer r) path m)
-  pointer_ends [] r t c m means = found r t c m refl means refl refl (λ h. h)
+  pointer_ends [] r t c m means = found (to_pointer r) t c m refl means refl refl (λ h. h)
   pointer_ends (i ∷ path) r Null c m means = subst (Ends None r.segments r.charging m c) (sym (opened_on r m m nothing i path (null_is Value r m means.0))) (nowhere m refl)
   pointer_ends (i ∷ path) r (Capability index) c m (a, leads, is, g) =
       after_opening c i path (omega (arith, g)) (capability_opens r m a leads (omega (arith, is))) (λ m' paid. nowhere m' refl)
@@ -231,27 +242,27 @@ mutual
   pointer_ends (i ∷ path) r (Structs d q es) c m (a, n, k, some, o, claims, t, fits, all, g) =
       let meets = meets_there r (Structs d q es) c a (a, n, k, some, o, claims, t, fits, all, g) o.leads_to (omega (arith, o.is_list)) in
       let cost : own Value r.segments a + k ≡ c = structs_cost r a d q k o.is_list o.is_size t o.counts (omega (arith, g)) in
-      let first : Reading = inside r a.segment (a.start + 1 + i * (d + q) + d) in
       after_opening c i path (omega (arith, cost))
       (subst (λ s. Opened r m s (own Value r.segments a)) (structs_shape r.segments a o.is_list o.is_size ∙ same_structs a t) (object_opens r m a o.leads_to meets))
       (λ m' paid. elim (cases_lt i (element_count es)) [
         | inl less ↦
             let e : nat_lt i (element_count es) ≡ true = lt-ltb _ _ less in
-            let part : part_of (Structs d q es) (i ∷ path) ≡ element_part (λ j. next (struct_at es i) (Child j)) q path = part_of_structs d q es i path ∙ rw e refl in
-            rw (e, part) (further c paid (omega (arith, cost)) (element_ends path first q (λ j. next (struct_at es i) (Child j)) k m'
-            (λ j inside. element_child_costs r.segments (pred r.levels) a.segment (a.start + 1) d q es k i j less inside all)))
-        | inr most ↦
-            let e : nat_lt i (element_count es) ≡ false = not_less i _ most in
-            let part : part_of (Structs d q es) (i ∷ path) ≡ None = part_of_structs d q es i path ∙ rw e refl in
-            rw e (nowhere m' part)
+            let x = element_costs r.segments (pred r.levels) a.segment (a.start + 1) d q es k i less all in
+            let first : Reading = inside r a.segment (a.start + 1 + i * (d + q)) in
+            rw (e, x.is) (further c paid (omega (arith, cost, x.within)) (element_ends path first d q x.ws x.ts x.cost m' x.long x.many x.here x.means))
+        | inr most ↦ let e : nat_lt i (element_count es) ≡ false = not_less i _ most in rw e (nowhere m' refl)
       ])
 
-  element_ends : (path : List ℕ) (r : Reading) (n : ℕ) (f : ℕ → Tree) (c : ℕ) (m : Meter) → MeanIn r n f c → Ends (element_part f n path) r.segments r.charging m c (follow_path (to_element r n) path m)
-  element_ends [] r n f c m mean = nowhere m refl
-  element_ends (j ∷ path) r n f c m mean =
-      in_run m r n j path
-      (λ less. let (k, means, least) = mean j less in let e : nat_lt j n ≡ true = lt-ltb _ _ less in rw e (wider c least (pointer_ends path (behind r j) (f j) k m means)))
-      (λ most. let e : nat_lt j n ≡ false = not_less j n most in rw e refl)
+  element_ends : (path : List ℕ) (r : Reading) (d q : ℕ) (ws : List ℕ) (ts : Trees) (c : ℕ) (m : Meter) → length ws ≡ d → count ts ≡ q → HasWords r.segments r.segment r.at ws →
+      MeansAll r.segments r.levels r.segment (r.at + d) ts c → Ends (part_of (Struct ws ts) path) r.segments r.charging m c (follow_path (to_element r d q) path m)
+  element_ends [] r d q ws ts c m long many here means = found (to_element r d q) (Struct ws ts) c m refl (ws, ts, refl, long, many, here, means) refl refl (λ h. h)
+  element_ends (j ∷ path) r d q ws ts c m long many here means =
+      in_run m (behind r d) q j path
+      (λ less.
+      let (l, child, least) = child_costs r.segments r.levels r.segment (r.at + d) ts c j (omega (arith, less, many)) means in
+      let e : nat_lt j (count ts) ≡ true = lt-ltb _ _ (omega (arith, less, many)) in
+      rw e (wider c least (pointer_ends path (behind (behind r d) j) (tree_at ts j) l m child)))
+      (λ most. let e : nat_lt j (count ts) ≡ false = not_less j _ (omega (arith, most, many)) in rw e refl)
 
 -- The root pointer is read.
 root_read : (S : Segments) (n : ℕ) (m : Meter) → CoversRoot S m.left → read_message_root S n m ≡ (Ok (message_root S n), spent m 1)
@@ -268,31 +279,31 @@ root_ends : (S : Segments) (n c : ℕ) (t : Tree) (path : List ℕ) (m : Meter) 
 root_ends S n c t path m means covers =
     subst (Ends (part_of t path) S true (spent m 1) c) (sym (part_read S n path m covers)) (pointer_ends path (message_root S n) t c (spent m 1) means)
 
-found_there : {v : Option Tree} {S : Segments} {m m' : Meter} {c : ℕ} {r : Reading} (x : Result Reading ErrorKind × Meter) → Ends v S true m c x → x ≡ (Ok r, m') →
-    (u : Tree) × (k : ℕ) × (v ≡ Some u) × MeansThere r u k × (r.segments ≡ S) × (r.charging ≡ true) × (FitsIn m.left c → FitsIn m'.left k)
-found_there {S = S} {m' = m'} {r = r} _ (found x u k n is means same charged rest) e =
-    let place : x ≡ r = (let both = ap (λ p. p.0) e in cc both) in
+found_there : {v : Option Tree} {S : Segments} {m m' : Meter} {c : ℕ} {f : PathEnd} (x : Result PathEnd ErrorKind × Meter) → Ends v S true m c x → x ≡ (Ok f, m') →
+    (u : Tree) × (k : ℕ) × (v ≡ Some u) × EndMeans f u k × ((end_place f).segments ≡ S) × ((end_place f).charging ≡ true) × (FitsIn m.left c → FitsIn m'.left k)
+found_there {S = S} {m' = m'} {f = f} _ (found x u k n is means same charged rest) e =
+    let place : x ≡ f = (let both = ap (λ p. p.0) e in cc both) in
     let left : n ≡ m' = ap (λ p. p.1) e in (
       u,
       k,
       is,
-      subst (λ (y : Reading). MeansThere y u k) place means,
-      subst (λ (y : Reading). y.segments ≡ S) place same,
-      subst (λ (y : Reading). y.charging ≡ true) place charged,
+      subst (λ (y : PathEnd). EndMeans y u k) place means,
+      subst (λ (y : PathEnd). (end_place y).segments ≡ S) place same,
+      subst (λ (y : PathEnd). (end_place y).charging ≡ true) place charged,
       λ h. subst (λ (y : Meter). FitsIn y.left k) left (rest h),
     )
 found_there _ (nowhere n is) e = absurd (let wrong = ap (λ p. p.0) e in cc wrong)
 found_there _ (exceeds n short) e = absurd (let wrong = ap (λ p. p.0) e in cc wrong)
 
-refused_there : {v : Option Tree} {S : Segments} {m m' : Meter} {c : ℕ} {k : ErrorKind} (x : Result Reading ErrorKind × Meter) → Ends v S true m c x → x ≡ (Err k, m') →
+refused_there : {v : Option Tree} {S : Segments} {m m' : Meter} {c : ℕ} {k : ErrorKind} (x : Result PathEnd ErrorKind × Meter) → Ends v S true m c x → x ≡ (Err k, m') →
     ((k ≡ NoSuchPlace) × (v ≡ None)) ⊎ ((k ≡ ReadLimitExceeded) × (FitsIn m.left c → ⊥))
 refused_there _ (found x u l n is means same charged rest) e = absurd (let wrong = ap (λ p. p.0) e in cc wrong)
 refused_there {k = k} _ (nowhere n is) e = inl (let named : k ≡ NoSuchPlace = (let both = ap (λ p. p.0) e in cc both) in named, is)
 refused_there {k = k} _ (exceeds n short) e = inr (let named : k ≡ ReadLimitExceeded = (let both = ap (λ p. p.0) e in cc both) in named, short)
 
-pub part_found : (S : Segments) (n c : ℕ) (t : Tree) (path : List ℕ) (m m' : Meter) (r : Reading) → Means S n 0 0 t c → CoversRoot S m.left → part S n path m ≡ (Ok r, m') →
-    (u : Tree) × (k : ℕ) × (part_of t path ≡ Some u) × MeansThere r u k × (r.segments ≡ S) × (r.charging ≡ true) × (FitsIn m.left (1 + c) → FitsIn m'.left k)
-part_found S n c t path m m' r means covers e =
+pub part_found : (S : Segments) (n c : ℕ) (t : Tree) (path : List ℕ) (m m' : Meter) (f : PathEnd) → Means S n 0 0 t c → CoversRoot S m.left → part S n path m ≡ (Ok f, m') →
+    (u : Tree) × (k : ℕ) × (part_of t path ≡ Some u) × EndMeans f u k × ((end_place f).segments ≡ S) × ((end_place f).charging ≡ true) × (FitsIn m.left (1 + c) → FitsIn m'.left k)
+part_found S n c t path m m' f means covers e =
     let (u, k, is, there, same, charged, rest) = found_there _ (root_ends S n c t path m means covers) e in
     (u, k, is, there, same, charged, λ h. rest (covers_rest m.left c h))
 

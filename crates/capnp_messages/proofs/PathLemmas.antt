@@ -16,15 +16,12 @@ use Rattle.capnp_objects.specs.Objects.{IsFew, IsHeld, IsObject}
 use Rattle.capnp_objects.specs.Reading.{Reading}
 use Rattle.capnp_objects.proofs.Parts.{claim_list, claim_struct}
 use Rattle.capnp_objects.proofs.Walked.{row_within}
-use Rattle.capnp_messages.specs.Parts.{PathEnd, end_in, inside, step, to_element, to_pointer}
+use Rattle.capnp_messages.specs.Parts.{end_in, step, to_pointer}
 use Rattle.capnp_messages.specs.PathEnds.{IsObjectRead}
 
 -- Element i of n elements of this width is inside the words of all.
-pub row_inside : (start n i w d q room : ℕ) → start + n * (d + q) ≤ room → i < n → w ≡ d + q → start + (i * w + d) + q ≤ room
+pub row_inside : (start n i w d q room : ℕ) → start + n * (d + q) ≤ room → i < n → w ≡ d + q → start + i * w + (d + q) ≤ room
 row_inside start n i w d q room all less is = rw is (omega (arith, row_within i n (d + q) less, all))
-
-pub element_end : (r : Reading) (s p i d q : ℕ) → (let e : PathEnd = to_element (inside r s (p + i * (d + q) + d)) q in e) ≡ to_element (inside r s (p + (i * (d + q) + d))) q
-element_end r s p i d q = ap (λ n. to_element (inside r s n) q) (let e : p + i * (d + q) + d ≡ p + (i * (d + q) + d) = omega arith in e)
 
 -- The words from a place of an object on, which are inside its segment, and the level for its pointers.
 pub record Room (r : Reading) (start : Place) (words : ℕ) : Type 0 where

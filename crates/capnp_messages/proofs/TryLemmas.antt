@@ -10,40 +10,44 @@ use Rattle.capnp_arena_traits.specs.View.{View}
 use Rattle.capnp_arena_traits.proofs.MessageLemmas.{total-cons}
 use Rattle.capnp_words.specs.Meter.{Meter, unused}
 use Rattle.capnp_objects.specs.Reading.{Reading}
-use Rattle.capnp_objects.specs.Refusals.{Refused}
-use Rattle.capnp_objects.specs.Wanted.{canonical}
 use Rattle.capnp_framing.specs.Reading.{total}
-use Rattle.capnp_messages.specs.Copies.{LacksMemoryOr, RefusesCopy, is_message_too_large}
-use Rattle.capnp_messages.specs.Tries.{IsMadeByFirstTry, NeedsMoreRoom, as_asked, room_of_try, words_read}
-use Rattle.capnp_messages.proofs.CanonLemmas.{large_wants, never_read}
+use Rattle.capnp_messages.specs.Copies.{LacksMemoryOr, is_message_too_large}
+use Rattle.capnp_messages.specs.EndValues.{EndIsMadeByFirstTry, EndNeedsMoreRoom, EndStops, RefusesEndCopy, end_place}
+use Rattle.capnp_messages.specs.Parts.{PathEnd, to_pointer}
+use Rattle.capnp_messages.specs.Tries.{IsMadeByFirstTry, as_asked, room_of_try, words_read}
+use Rattle.capnp_messages.proofs.CanonLemmas.{large_wants, never_stops}
 
 -- The tries have come to one that requests this room: what those before it request is too little.
-pub record ComesTo (r : Reading) (room : ℕ) : Type 0 where
+pub record ComesTo (e : PathEnd) (room : ℕ) : Type 0 where
   pub try : ℕ
-  pub asks : room ≡ room_of_try (words_read r) try
-  pub before : (j : ℕ) → j < try → NeedsMoreRoom r (room_of_try (words_read r) j)
+  pub asks : room ≡ room_of_try (words_read (end_place e)) try
+  pub before : (j : ℕ) → j < try → EndNeedsMoreRoom e (room_of_try (words_read (end_place e)) j)
 
-pub next_comes : {r : Reading} {room next : ℕ} → ComesTo r room → next ≡ min (2 * room) max_segment_words → NeedsMoreRoom r room → ComesTo r next
-next_comes {r} come doubled little = record {
+pub next_comes : {e : PathEnd} {room next : ℕ} → ComesTo e room → next ≡ min (2 * room) max_segment_words → EndNeedsMoreRoom e room → ComesTo e next
+next_comes {e} come doubled little = record {
   try = suc come.try;
   asks = doubled ∙ ap (λ n. min (2 * n) max_segment_words) come.asks;
   before = λ j below. elim (cases_lt j come.try) [
     | inl less ↦ come.before j less
     | inr least ↦
         let same : come.try ≡ j = omega (arith, below, least) in
-        subst (λ i. NeedsMoreRoom r (room_of_try (words_read r) i)) same (subst (NeedsMoreRoom r) come.asks little)
+        subst (λ i. EndNeedsMoreRoom e (room_of_try (words_read (end_place e)) i)) same (subst (EndNeedsMoreRoom e) come.asks little)
   ];
 }
 
 -- and this try has made the words
-pub made_by_try : {r : Reading} {offers there : ℕ → ℕ → Bool} {room refusals yet : ℕ} {made : View} → ComesTo r room →
-    there ≡ offers → yet ≡ refusals → IsTrue (there room (made.room 0)) → made.refusals ≡ yet → IsMadeByFirstTry r offers refusals made
-made_by_try {r} {offers} {there} {room} {refusals} {yet} {made} come same none asked granted = record {
+pub made_by_try : {e : PathEnd} {offers there : ℕ → ℕ → Bool} {room refusals yet : ℕ} {made : View} → ComesTo e room →
+    there ≡ offers → yet ≡ refusals → IsTrue (there room (made.room 0)) → made.refusals ≡ yet → EndIsMadeByFirstTry e offers refusals made
+made_by_try {e} {offers} {there} {room} {refusals} {yet} {made} come same none asked granted = record {
   try = come.try;
   asked = subst (λ n. IsTrue (offers n (made.room 0))) come.asks (subst (λ (o : ℕ → ℕ → Bool). IsTrue (o room (made.room 0))) same asked);
   before = come.before;
   granted = granted ∙ none;
 }
+
+-- the words of a pointer's value
+pub first_at_pointer : {r : Reading} {offers : ℕ → ℕ → Bool} {refusals : ℕ} {made : View} → EndIsMadeByFirstTry (to_pointer r) offers refusals made → IsMadeByFirstTry r offers refusals made
+first_at_pointer made = record { try = made.try; asked = made.asked; before = made.before; granted = made.granted }
 
 offered : (least room asked : ℕ) → least ≡ 0 → IsTrue (room == max least asked) → IsTrue (room == asked)
 offered least room asked none is = grind arith
@@ -60,19 +64,18 @@ tries_as_asked {r} {refusals} {made} least none yet tries =
     record { try = tries.try; asked = offered least (made.room 0) asks none tries.asked; before = tries.before; granted = tries.granted ∙ yet }
 
 -- a try that is refused because something is too large has too little room
-pub try_too_small : {r : Reading} {left : Option ℕ} {room old new : ℕ} {k : ErrorKind} → is_message_too_large k ≡ true → LacksMemoryOr old new k (RefusesCopy r left room k) → NeedsMoreRoom r room
-try_too_small large (inl (named, risen)) = absurd (let wrong : false ≡ true = sym (ap is_message_too_large named) ∙ large in cc)
-try_too_small large (inr (inl (named, little, out), same)) = little
-try_too_small {k = k} large (inr (inr (m, refused), same)) = absurd (never_read k (large_wants k large) refused)
+pub try_outgrown : (e : PathEnd) (left : Option ℕ) {room : ℕ} {k : ErrorKind} → is_message_too_large k ≡ true → RefusesEndCopy e left room k → EndNeedsMoreRoom e room
+try_outgrown e left large (inl (named, little, out)) = little
+try_outgrown e left {k = k} large (inr (m, refused)) = absurd (never_stops e (unused left) m k (large_wants k large) refused)
 
-pub try_outgrown : {r : Reading} {left : Option ℕ} {room : ℕ} {k : ErrorKind} → is_message_too_large k ≡ true → RefusesCopy r left room k → NeedsMoreRoom r room
-try_outgrown large (inl (named, little, out)) = little
-try_outgrown {k = k} large (inr (m, refused)) = absurd (never_read k (large_wants k large) refused)
+pub try_too_small : (e : PathEnd) (left : Option ℕ) {room old new : ℕ} {k : ErrorKind} → is_message_too_large k ≡ true → LacksMemoryOr old new k (RefusesEndCopy e left room k) → EndNeedsMoreRoom e room
+try_too_small e left large (inl (named, risen)) = absurd (let wrong : false ≡ true = sym (ap is_message_too_large named) ∙ large in cc)
+try_too_small e left large (inr (refused, same)) = try_outgrown e left large refused
 
 -- a try that is refused with another error says why the value isn't read
-pub try_unread : {r : Reading} {left : Option ℕ} {room : ℕ} {k : ErrorKind} → is_message_too_large k ≡ false → RefusesCopy r left room k → (m : Meter) × Refused canonical r (unused left) m k
-try_unread other (inl (named, little, out)) = absurd (let wrong : true ≡ false = sym (ap is_message_too_large named) ∙ other in cc)
-try_unread other (inr refused) = refused
+pub try_unread : (e : PathEnd) (left : Option ℕ) {room : ℕ} {k : ErrorKind} → is_message_too_large k ≡ false → RefusesEndCopy e left room k → (m : Meter) × EndStops e (unused left) m k
+try_unread e left other (inl (named, little, out)) = absurd (let wrong : true ≡ false = sym (ap is_message_too_large named) ∙ other in cc)
+try_unread e left other (inr refused) = refused
 
 -- and memory wasn't refused
 pub try_is_granted : {old new : ℕ} {k : ErrorKind} {P : Type 0} → is_message_too_large k ≡ true → LacksMemoryOr old new k P → new ≡ old

@@ -13,5 +13,6 @@ pub mod Commands
 pub mod Digests
 pub mod Check
 pub mod Parts
+pub mod EndValues
 pub mod PathEnds
 pub mod MessageParts

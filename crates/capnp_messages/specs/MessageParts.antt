@@ -10,54 +10,51 @@ use Rattle.capnp_arena_traits.specs.Allocations.{max_segment_words}
 use Rattle.capnp_arena.specs.declared.arena.reader_arena_impl.ReaderOptions.{ReaderOptions}
 use Rattle.capnp_framing.specs.Frames.{bytes_of_words}
 use Rattle.capnp_objects.specs.Metered.{◌>>>◌}
-use Rattle.capnp_objects.specs.Outcomes.{MeansThere}
-use Rattle.capnp_objects.specs.Reading.{Reading}
 use Rattle.capnp_objects.specs.Source.{levels}
 use Rattle.capnp_pointers.specs.declared.pointers.sizes.MessageSize.{MessageSize}
-use Rattle.capnp_pointers.specs.Measure.{measure, only_words}
-use Rattle.capnp_messages.specs.Copies.{RefusesCopy}
-use Rattle.capnp_messages.specs.Parts.{part}
+use Rattle.capnp_messages.specs.EndValues.{EndMeans, IsEndThere, RefusesEndCopy, end_place, measure_end}
+use Rattle.capnp_messages.specs.Parts.{PathEnd, part}
 
--- The pointer to which a path leads from the root pointer of S, within the limits; or the refusal.
-abbrev pub part_within : Segments → ReaderOptions → List ℕ → Result Reading ErrorKind × Meter
+-- Where a path leads from the root pointer of S, within the limits; or the refusal.
+abbrev pub part_within : Segments → ReaderOptions → List ℕ → Result PathEnd ErrorKind × Meter
 part_within S limits path =
     part S (levels limits.nesting_limit) path (unused limits.traversal_limit_in_words)
 
--- The path leads from the root pointer of S to a pointer that means t, which has no capabilities.
--- What the traversal limit has left there covers what reading t costs.
+-- The path leads from the root pointer of S to a pointer or an element that means t, which has no
+-- capabilities. What the traversal limit has left there covers what reading t costs.
 pub record IsPartOf (S : Segments) (limits : ReaderOptions) (path : List ℕ) (t : Tree)
     : Type 0 where
-  pub place : Reading
+  pub path_end : PathEnd
   pub left : Meter
-  pub leads : part_within S limits path ≡ (Ok place, left)
+  pub leads : part_within S limits path ≡ (Ok path_end, left)
+  pub there : IsEndThere path_end
   pub cost : ℕ
-  pub means : MeansThere place t cost
+  pub means : EndMeans path_end t cost
   pub free : IsFree t
-  pub covered : Affords place.charging left cost
+  pub covered : Affords (end_place path_end).charging left cost
 
--- The path is refused with k, or it leads to a pointer for which P holds with what is left there.
+-- The path is refused with k, or P holds for its end with what is left there.
 pub data RefusesPartAt (S : Segments) (limits : ReaderOptions) (path : List ℕ) (k : ErrorKind)
-    (P : Reading → Meter → Type 0) : Type 0 where
+    (P : PathEnd → Meter → Type 0) : Type 0 where
   path_refused :
       (m : Meter) →
       part_within S limits path ≡ (Err k, m) →
       RefusesPartAt S limits path k P
   part_refused :
-      (r : Reading) (m : Meter) →
-      part_within S limits path ≡ (Ok r, m) →
-      P r m →
+      (e : PathEnd) (m : Meter) →
+      part_within S limits path ≡ (Ok e, m) →
+      P e m →
       RefusesPartAt S limits path k P
 
 -- The canonical copy of a part is refused with k.
 abbrev pub RefusesPart : Segments → ReaderOptions → List ℕ → ErrorKind → Type 0
 RefusesPart S limits path k =
-    RefusesPartAt S limits path k (λ r m. RefusesCopy r m.left max_segment_words k)
+    RefusesPartAt S limits path k (λ e m. RefusesEndCopy e m.left max_segment_words k)
 
--- The size of a part, or its refusal: the path is followed, and what its last pointer leads to is
--- measured.
+-- The size of a part, or its refusal: the path is followed, and what is at its end is measured.
 abbrev pub part_size : Segments → ReaderOptions → List ℕ → Result MessageSize ErrorKind
 part_size S limits path =
-    ((part S (levels limits.nesting_limit) path >>> λ r. measure r (only_words 0))
+    ((part S (levels limits.nesting_limit) path >>> measure_end)
     (unused limits.traversal_limit_in_words)).0
 
 -- The digest is the SHA-256 of the canonical words of a part, without a frame. They are at most as

@@ -30,7 +30,8 @@ module _ {A : Type 0} (g : Ghosts A) where
   -- The end of a path, by its place.
   abbrev pub end_read : Reached A g → PathEnd
   end_read (AtPointer pointer) = to_pointer (reading g pointer)
-  end_read (AtElement run) = to_element (reading g run.first) run.count
+  end_read (AtElement element) =
+      to_element (reading g element.first) element.size.data_words element.size.pointers
 
   -- The end of a path that a call returned, or the refusal.
   abbrev pub end_result : Result (Reached A g) ErrorKind → Result PathEnd ErrorKind

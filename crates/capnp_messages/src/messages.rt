@@ -31,7 +31,8 @@ pub use lent_memory::LentMemory;
 pub use message_fault::canonical_fault;
 pub use part::{canonical_part_from, canonical_part_in_room, size_of_part};
 pub use part_digest::digest_of_part;
-pub use path::{follow_path, read_part};
+pub use path::{Reached, follow_path, read_part};
+pub use pointer_run::ElementPlace;
 pub use root::read_root;
 pub use validation::{MessageExtent, validate, validate_of};
 pub use whole::{

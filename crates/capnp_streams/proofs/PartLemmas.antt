@@ -16,8 +16,9 @@ use Rattle.capnp_objects.specs.Wanted.{plain}
 use Rattle.capnp_objects.proofs.Inverted.{not_read_if}
 use Rattle.capnp_objects.proofs.Limits.{not_for_memory}
 use Rattle.capnp_messages.specs.MessageParts.{RefusesPart, part_refused, path_refused}
-use Rattle.capnp_messages.specs.Parts.{PathEnd, end_at, end_in, follow_path, inside, pointer_in, pointer_of_end, step, to_element, to_pointer}
+use Rattle.capnp_messages.specs.Parts.{PathEnd, end_at, end_in, follow_path, inside, pointer_in, step, to_element, to_pointer}
 use Rattle.capnp_messages.specs.Roots.{message_root, read_message_root}
+use Rattle.capnp_messages.proofs.CanonLemmas.{never_stops}
 
 -- AllocationFailed isn't the error of a place that isn't there
 pub not_misplaced : (b : Bool) (id : ℕ) →
@@ -93,19 +94,15 @@ nowhere_in_object r (flat s p z n) i = refl
 
 never_step : (e : PathEnd) (i : ℕ) → NeverLacks (step e i)
 never_step (to_pointer r) i = never_both (read Value r) _ (never_read r) (λ o. never_nowhere (end_in r o i) (nowhere_in_object r o i))
-never_step (to_element r n) i = never_nowhere (end_at (pointer_in r n i)) (nowhere_in r n i)
-
-nowhere_at_end : (e : PathEnd) → OnlyNowhere (pointer_of_end e)
-nowhere_at_end (to_pointer r) = tt
-nowhere_at_end (to_element r n) = refl
+never_step (to_element r d q) i = never_nowhere (end_at (pointer_in (behind r d) q i)) (nowhere_in (behind r d) q i)
 
 never_follow : (e : PathEnd) (path : List ℕ) → NeverLacks (follow_path e path)
-never_follow e [] = never_nowhere (pointer_of_end e) (nowhere_at_end e)
+never_follow e [] = never_answer e
 never_follow e (i ∷ path) = never_both (step e i) _ (never_step e i) (λ f. never_follow f path)
 
 pub never_part : (S : Segments) (limits : ReaderOptions) (path : List ℕ) → RefusesPart S limits path AllocationFailed → ⊥
 never_part S limits path (path_refused m stops) =
     never_both (read_message_root S (levels limits.nesting_limit)) (λ r. follow_path (to_pointer r) path) (never_root S (levels limits.nesting_limit))
     (λ r. never_follow (to_pointer r) path) (unused limits.traversal_limit_in_words) m stops
-never_part S limits path (part_refused r m leads (inl (named, large, out))) = cc
-never_part S limits path (part_refused r m leads (inr (after, refused))) = not_for_memory refused
+never_part S limits path (part_refused e m leads (inl (named, large, out))) = cc
+never_part S limits path (part_refused e m leads (inr (after, refused))) = never_stops e (unused m.left) after AllocationFailed refl refused

@@ -26,7 +26,7 @@ use capnp_words::words::{part, used_words_in};
 /// sections.
 #[cycle(copies)]
 #[inline(always)]
-pub(crate) fn copy_struct<A: BuilderArena, B: ReaderArena>(
+pub fn copy_struct<A: BuilderArena, B: ReaderArena>(
     arena: &mut A,
     to: Destination,
     from: Pointer<'_, B>,

@@ -11,19 +11,24 @@ ghost use Rattle.capnp_words.specs.Meter.{Meter, raised, unused};
 ghost use Rattle.capnp_words.specs.declared.error.ErrorKind.TheVariants.{AllocationFailed};
 ghost use Rattle.capnp_arena_traits.specs.Allocations.{max_segment_words, one_more};
 ghost use Rattle.capnp_objects.specs.Outcomes.{Reads};
-ghost use Rattle.capnp_objects.specs.Refusals.{Refused};
 ghost use Rattle.capnp_objects.specs.Wanted.{canonical};
 ghost use Rattle.capnp_pointers.specs.Pointers.{reading};
-ghost use Rattle.capnp_messages.specs.Copies.{HoldsCanonicalWords, LacksMemoryOr, RefusesCopy, RefusesCopyAnywhere, is_message_too_large};
+ghost use Rattle.capnp_copies.specs.Changes.{IsNullPlace, MakesCopy, StopsCopy, change};
+ghost use Rattle.capnp_making.specs.Makes.{call_at};
+ghost use Rattle.capnp_messages.specs.Copies.{HoldsCanonicalWords, LacksMemoryOr, RefusesCopy, is_message_too_large};
+ghost use Rattle.capnp_messages.specs.EndValues.{EndIsMadeByFirstTry, EndNeedsMoreRoom, EndReads, EndStops, IsEndThere, RefusesEndCopy, RefusesEndCopyAnywhere, end_original, end_place};
+ghost use Rattle.capnp_messages.specs.PathEnds.{end_read};
 ghost use Rattle.capnp_words.specs.Names.{is_allocation_name};
 ghost use Rattle.capnp_messages.specs.CanonicalErrors.{IsLeftOf};
-ghost use Rattle.capnp_messages.specs.Tries.{IsMadeByFirstTry, IsSegmentRoom, NeedsMoreRoom, as_asked, room_of_try, words_read};
+ghost use Rattle.capnp_messages.specs.Tries.{IsMadeByFirstTry, IsSegmentRoom, as_asked, room_of_try, words_read};
 
+use super::path::Reached;
 use capnp_arena::arena::{
     Allocator, BuilderArena, BuilderArenaImpl, HeapAllocator, MAX_SEGMENT_WORDS, ReaderArena,
 };
 use capnp_arena_traits::arena::WordPlace;
-use capnp_copies::copy::copy_value;
+use capnp_copies::copy::{copy_struct, copy_value};
+use capnp_copies::form::{CopyForm, Destination};
 use capnp_objects::source::Source;
 use capnp_pointers::pointers::Pointer;
 use capnp_words::error::ErrorKind;
@@ -40,28 +45,56 @@ fn is_want_of_room(kind: ErrorKind) -> bool
     )
 }
 
-/// Copies the value of `from` in canonical form to the root of a message whose only word is the
+/// Copies what `from` leads to in canonical form to the null pointer at `to`. After a refusal the
+/// objects that were made before it stay.
+fn copy_reached<A: BuilderArena, B: ReaderArena>(
+    arena: &mut A,
+    to: WordPlace,
+    from: Reached<'_, B>,
+    lim: &mut ReadLimiter,
+) -> Result<(), ErrorKind>
+    requires { IsNullPlace (A.view arena.old).words to.segment to.at }
+    ensures there { IsEndThere (end_read B.ReaderArena from.entry) }
+    ensures copied { OnOk result (MakesCopy (end_original (end_read B.ReaderArena from.entry))
+        (change canonical
+        (call_at to.segment to.at (A.view arena.old) (A.view arena.new)) lim.old lim.new)) }
+    ensures refused { IfErr result (λ k. (t : Tree)
+        × StopsCopy (end_original (end_read B.ReaderArena from.entry)) (change canonical
+        (call_at to.segment to.at (A.view arena.old) (A.view arena.new)) lim.old lim.new) t k) }
+{
+    match from {
+        Reached::Pointer(pointer) => copy_value(arena, to, pointer, lim, true),
+        Reached::Element(element) => {
+            let form = CopyForm::Canonical;
+            let to = Destination { place: to, form };
+            copy_struct(arena, to, element.first, element.size, lim)
+        }
+    }
+}
+
+/// Copies what `from` leads to in canonical form to the root of a message whose only word is the
 /// root, a null pointer. Words that don't fit after the root go into further segments if the
 /// allocator grants any; otherwise the copy is refused. Charges the copy to a new limiter with
 /// `left` words left, and returns this limiter.
 fn copy_root<A: BuilderArena, B: ReaderArena>(
     arena: &mut A,
-    from: Pointer<'_, B>,
+    from: Reached<'_, B>,
     left: Option<usize>,
 ) -> Result<ReadLimiter, ErrorKind>
     requires root { (A.view arena.old).words ≡ (0 ∷ []) ∷ [] }
     ensures copied { IfOk result (λ after. (t : Tree)
-        × Reads canonical (reading B.ReaderArena from.entry) (unused left) after t
+        × EndReads (end_read B.ReaderArena from.entry) (unused left) after t
         × (length (A.view arena.new).words ≡ 1 → HoldsCanonicalWords (A.view arena.new) t)) }
     ensures room { OnOk result ((A.view arena.new).room 0 ≡ (A.view arena.old).room 0) }
     ensures alone { OnOk result ((length (A.view arena.new).words ≡ 1)
-        ⊎ NeedsMoreRoom (reading B.ReaderArena from.entry) ((A.view arena.old).room 0)) }
+        ⊎ EndNeedsMoreRoom (end_read B.ReaderArena from.entry) ((A.view arena.old).room 0)) }
     ensures refused { IfErr result
-        (RefusesCopyAnywhere (reading B.ReaderArena from.entry) left ((A.view arena.old).room 0)) }
+        (RefusesEndCopyAnywhere (end_read B.ReaderArena from.entry) left
+        ((A.view arena.old).room 0)) }
 {
     let mut lim = ReadLimiter::new(left);
     let root = WordPlace { segment: 0, at: 0 };
-    copy_value(arena, root, from, &mut lim, true)?;
+    copy_reached(arena, root, from, &mut lim)?;
     Ok(lim)
 }
 
@@ -69,18 +102,18 @@ fn copy_root<A: BuilderArena, B: ReaderArena>(
 /// least `room` words. Refuses with `MessageTooLarge(room)` if the copy doesn't fit.
 fn copy_to_segment<A: Allocator, B: ReaderArena>(
     arena: &mut BuilderArenaImpl<A>,
-    from: Pointer<'_, B>,
+    from: Reached<'_, B>,
     left: Option<usize>,
     room: u32,
 ) -> Result<ReadLimiter, ErrorKind>
     requires root { (⟦<BuilderArenaImpl<A> as BuilderArena>⟧.view arena.old).words ≡ (0 ∷ []) ∷ [] }
     requires room { room ≤ (⟦<BuilderArenaImpl<A> as BuilderArena>⟧.view arena.old).room 0 }
     ensures copied { IfOk result (λ after. (t : Tree)
-        × Reads canonical (reading B.ReaderArena from.entry) (unused left) after t
+        × EndReads (end_read B.ReaderArena from.entry) (unused left) after t
         × HoldsCanonicalWords (⟦<BuilderArenaImpl<A> as BuilderArena>⟧.view arena.new) t) }
     ensures room { OnOk result ((⟦<BuilderArenaImpl<A> as BuilderArena>⟧.view arena.new).room 0
         ≡ (⟦<BuilderArenaImpl<A> as BuilderArena>⟧.view arena.old).room 0) }
-    ensures refused { IfErr result (RefusesCopy (reading B.ReaderArena from.entry) left room) }
+    ensures refused { IfErr result (RefusesEndCopy (end_read B.ReaderArena from.entry) left room) }
 {
     let too_large = ErrorKind::MessageTooLarge(room as usize);
     match copy_root(arena, from, left) {
@@ -156,19 +189,19 @@ fn settle(lim: &mut ReadLimiter, own: ReadLimiter)
     count_pointers(lim, pointers);
 }
 
-/// Copies the value of `from` in canonical form into a new message with one segment, for which it
+/// Copies what `from` leads to in canonical form into a new message with one segment, for which it
 /// requests `room` words. During the copy, the message has no allocator that could grant another
 /// segment. If refused, returns the allocator, and leaves `lim` unchanged.
 fn copy_to_message<A: Allocator, B: ReaderArena>(
     alloc: Global,
     allocator: A,
-    from: Pointer<'_, B>,
+    from: Reached<'_, B>,
     lim: &mut ReadLimiter,
     room: u32,
 ) -> Result<BuilderArenaImpl<A>, (ErrorKind, A)>
     requires room { IsSegmentRoom room }
     ensures copied { IfOk result (λ made. (t : Tree)
-        × Reads canonical (reading B.ReaderArena from.entry) lim.old lim.new t
+        × EndReads (end_read B.ReaderArena from.entry) lim.old lim.new t
         × HoldsCanonicalWords (⟦<BuilderArenaImpl<A> as BuilderArena>⟧.view made) t) }
     ensures asked { IfOk result (λ made. IsTrue (A.offers allocator room
         ((⟦<BuilderArenaImpl<A> as BuilderArena>⟧.view made).room 0))) }
@@ -177,7 +210,7 @@ fn copy_to_message<A: Allocator, B: ReaderArena>(
     ensures given_back { IfErr result (λ e. A.offers e.1 ≡ A.offers allocator) }
     ensures refused { IfErr result
         (λ e. LacksMemoryOr (A.refusals allocator) (A.refusals e.1) e.0
-        (RefusesCopy (reading B.ReaderArena from.entry) lim.old.left room e.0)) }
+        (RefusesEndCopy (end_read B.ReaderArena from.entry) lim.old.left room e.0)) }
     ensures unread { OnErr result (lim.new ≡ lim.old) }
 {
     let mut made = BuilderArenaImpl::new(alloc, allocator);
@@ -235,30 +268,40 @@ fn words_of_source<B: ReaderArena>(from: &Pointer<'_, B>) -> usize
     }
 }
 
-/// Copies the value of `from` in canonical form into `made`, in one segment, for which it requests
+/// The number of words in the arena of what `from` leads to; 0 if it has no arena.
+fn words_around<B: ReaderArena>(from: &Reached<'_, B>) -> usize
+    ensures { result ≡ words_read (end_place (end_read B.ReaderArena from.now)) }
+{
+    match from {
+        Reached::Pointer(pointer) => words_of_source(pointer),
+        Reached::Element(element) => words_of_source(&element.first),
+    }
+}
+
+/// Copies what `from` leads to in canonical form into `made`, in one segment, for which it requests
 /// `room` words, and returns `true`. Returns `false` if the copy doesn't fit the segment, or there
 /// is no memory for the segment. `left` is the number of words that reading may cost. Precondition:
 /// `made` has no segment yet.
 pub(super) fn copy_in_room<A: Allocator, B: ReaderArena>(
     made: &mut BuilderArenaImpl<A>,
-    from: Pointer<'_, B>,
+    from: Reached<'_, B>,
     left: Option<usize>,
     room: u32,
 ) -> Result<bool, ErrorKind>
     requires none { ⟦<BuilderArenaImpl<A> as ReaderArena>⟧.segments made.old ≡ [] }
     requires room { IsSegmentRoom room }
     ensures copied { IfOk result (λ fits. OnTrue fits ((t : Tree) × (after : Meter)
-        × Reads canonical (reading B.ReaderArena from.entry) (unused left) after t
+        × EndReads (end_read B.ReaderArena from.entry) (unused left) after t
         × HoldsCanonicalWords (⟦<BuilderArenaImpl<A> as BuilderArena>⟧.view made.new) t)) }
     ensures asked { IfOk result (λ fits. OnTrue fits (IsTrue
         ((⟦<BuilderArenaImpl<A> as BuilderArena>⟧.view made.old).offers room
         ((⟦<BuilderArenaImpl<A> as BuilderArena>⟧.view made.new).room 0)))) }
     ensures small { IfOk result (λ fits. OnFalse fits
-        (NeedsMoreRoom (reading B.ReaderArena from.entry) room
+        (EndNeedsMoreRoom (end_read B.ReaderArena from.entry) room
         ⊎ ((⟦<BuilderArenaImpl<A> as BuilderArena>⟧.view made.new).refusals
         ≡ one_more (⟦<BuilderArenaImpl<A> as BuilderArena>⟧.view made.old).refusals))) }
     ensures refused { IfErr result (λ k. (m : Meter)
-        × Refused canonical (reading B.ReaderArena from.entry) (unused left) m k) }
+        × EndStops (end_read B.ReaderArena from.entry) (unused left) m k) }
 {
     if make_root(made, room).is_err() {
         return Ok(false);
@@ -270,6 +313,40 @@ pub(super) fn copy_in_room<A: Allocator, B: ReaderArena>(
                 Ok(false)
             } else {
                 Err(kind)
+            }
+        }
+    }
+}
+
+/// Copies what `from` leads to like `copy_canonical_with`.
+pub(super) fn copy_reached_with<A: Allocator, B: ReaderArena>(
+    alloc: Global,
+    allocator: A,
+    from: Reached<'_, B>,
+    lim: &mut ReadLimiter,
+) -> Result<BuilderArenaImpl<A>, (ErrorKind, A)>
+    ensures copied { IfOk result (λ made. (t : Tree)
+        × EndReads (end_read B.ReaderArena from.entry) lim.old lim.new t
+        × HoldsCanonicalWords (⟦<BuilderArenaImpl<A> as BuilderArena>⟧.view made) t) }
+    ensures tries { IfOk result (λ made. EndIsMadeByFirstTry (end_read B.ReaderArena from.entry)
+        (A.offers allocator) (A.refusals allocator)
+        (⟦<BuilderArenaImpl<A> as BuilderArena>⟧.view made)) }
+    ensures refused { IfErr result
+        (λ e. LacksMemoryOr (A.refusals allocator) (A.refusals e.1) e.0
+        (RefusesEndCopy (end_read B.ReaderArena from.entry) lim.old.left max_segment_words e.0)) }
+    ensures unread { OnErr result (lim.new ≡ lim.old) }
+{
+    let mut room = first_room(words_around(&from));
+    let mut unused = allocator;
+    loop {
+        match copy_to_message(alloc, unused, from, lim, room) {
+            Ok(made) => return Ok(made),
+            Err((kind, returned)) => {
+                if room == MAX_SEGMENT_WORDS || !is_too_large(kind) {
+                    return Err((kind, returned));
+                }
+                unused = returned;
+                room = next_room(room);
             }
         }
     }
@@ -303,20 +380,7 @@ pub fn copy_canonical_with<A: Allocator, B: ReaderArena>(
         (RefusesCopy (reading B.ReaderArena from.entry) lim.old.left max_segment_words e.0)) }
     ensures unread { OnErr result (lim.new ≡ lim.old) }
 {
-    let mut room = first_room(words_of_source(&from));
-    let mut unused = allocator;
-    loop {
-        match copy_to_message(alloc, unused, from, lim, room) {
-            Ok(made) => return Ok(made),
-            Err((kind, returned)) => {
-                if room == MAX_SEGMENT_WORDS || !is_too_large(kind) {
-                    return Err((kind, returned));
-                }
-                unused = returned;
-                room = next_room(room);
-            }
-        }
-    }
+    copy_reached_with(alloc, allocator, Reached::Pointer(from), lim)
 }
 
 /// A message in canonical form, in a segment on the heap.

@@ -1,17 +1,18 @@
-//! Makes canonical copies of a part of a message: of the value of a pointer to which a path leads;
-//! and measures parts.
+//! Makes canonical copies of a part of a message: of the value to which a path leads; and measures
+//! parts.
 ghost use Rattle.std.specs.Prelude.{◌≡◌, ◌⊎◌, [], Ok, IfOk, IfErr, IsTrue};
 ghost use Rattle.std.specs.Bool.{OnFalse, OnTrue};
 ghost use Rattle.capnp_words.specs.Meter.{Meter};
 ghost use Rattle.capnp_format.specs.Bytes.{message};
 ghost use Rattle.capnp_format.specs.Tree.{Tree};
 ghost use Rattle.capnp_arena_traits.specs.Allocations.{one_more};
-ghost use Rattle.capnp_objects.specs.Reading.{Reading};
 ghost use Rattle.capnp_messages.specs.Copies.{HoldsCanonicalWords, LacksMemoryOr};
+ghost use Rattle.capnp_messages.specs.EndValues.{EndIsMadeByFirstTry, EndNeedsMoreRoom};
 ghost use Rattle.capnp_messages.specs.MessageParts.{IsPartOf, RefusesPart, part_size, part_within};
-ghost use Rattle.capnp_messages.specs.Tries.{IsMadeByFirstTry, IsSegmentRoom, NeedsMoreRoom};
+ghost use Rattle.capnp_messages.specs.Parts.{PathEnd};
+ghost use Rattle.capnp_messages.specs.Tries.{IsSegmentRoom};
 
-use super::canonical_copy::{copy_canonical_with, copy_in_room};
+use super::canonical_copy::{copy_in_room, copy_reached_with};
 use super::path::read_part;
 use capnp_arena::arena::{
     Allocator, BuilderArena, BuilderArenaImpl, ReaderArena, ReaderArenaImpl, ReaderOptions,
@@ -22,15 +23,17 @@ use capnp_words::error::ErrorKind;
 use capnp_words::read_limiter::ReadLimiter;
 use std::alloc::Global;
 
-/// Makes the canonical copy of a part of the message in `source`: of the value of the pointer to
-/// which `path` leads from the root pointer (encoding specification, "Canonicalization"). The copy
-/// is a message of one segment, whose memory `allocator` grants. If refused, returns the allocator.
+/// Makes the canonical copy of a part of the message in `source`: of the value to which `path`
+/// leads from the root pointer (encoding specification, "Canonicalization"). An element of a list of
+/// structs is a struct. The copy is a message of one segment, whose memory `allocator` grants. If
+/// refused, returns the allocator.
 ///
 /// Follows `path` like `follow_path`, and reads the part, both within `limits`; the root pointer
-/// costs one word. The rest of the message isn't read. Refusals: the first one met while reading;
-/// `NoSuchPlace` if `path` leads to no pointer; `AllocationFailed`, which the allocator counts, if
-/// memory ran out; `MessageTooLarge(536870911)` if there are more than 536,870,911 canonical words.
-/// Precondition: the nesting limit of `source` is that of `limits`.
+/// costs one word, and an element's own words were charged with its list. The rest of the message
+/// isn't read. Refusals: the first one met while reading; `NoSuchPlace` if `path` leads nowhere;
+/// `AllocationFailed`, which the allocator counts, if memory ran out; `MessageTooLarge(536870911)`
+/// if there are more than 536,870,911 canonical words. Precondition: the nesting limit of `source`
+/// is that of `limits`.
 pub fn canonical_part_from<A: Allocator, S: ReaderSegments>(
     alloc: Global,
     allocator: A,
@@ -42,10 +45,10 @@ pub fn canonical_part_from<A: Allocator, S: ReaderSegments>(
     ensures copied { IfOk result (λ made. (t : Tree) × IsPartOf
         (message (⟦<ReaderArenaImpl<S> as ReaderArena>⟧.segments source.now)) limits path.now t
         × HoldsCanonicalWords (⟦<BuilderArenaImpl<A> as BuilderArena>⟧.view made) t) }
-    ensures tries { IfOk result (λ made. (r : Reading) × (m : Meter) × (part_within
+    ensures tries { IfOk result (λ made. (e : PathEnd) × (m : Meter) × (part_within
         (message (⟦<ReaderArenaImpl<S> as ReaderArena>⟧.segments source.now)) limits path.now
-        ≡ (Ok r, m))
-        × IsMadeByFirstTry r (A.offers allocator) (A.refusals allocator)
+        ≡ (Ok e, m))
+        × EndIsMadeByFirstTry e (A.offers allocator) (A.refusals allocator)
         (⟦<BuilderArenaImpl<A> as BuilderArena>⟧.view made)) }
     ensures refused { IfErr result
         (λ e. LacksMemoryOr (A.refusals allocator) (A.refusals e.1) e.0 (RefusesPart
@@ -54,7 +57,7 @@ pub fn canonical_part_from<A: Allocator, S: ReaderSegments>(
 {
     let mut lim = ReadLimiter::new(limits.traversal_limit_in_words);
     match read_part(source, path, &mut lim) {
-        Ok(part) => copy_canonical_with(alloc, allocator, part, &mut lim),
+        Ok(part) => copy_reached_with(alloc, allocator, part, &mut lim),
         Err(kind) => Err((kind, allocator)),
     }
 }
@@ -81,9 +84,9 @@ pub fn canonical_part_in_room<A: Allocator, S: ReaderSegments>(
     ensures asked { IfOk result (λ fits. OnTrue fits (IsTrue
         ((⟦<BuilderArenaImpl<A> as BuilderArena>⟧.view made.old).offers room
         ((⟦<BuilderArenaImpl<A> as BuilderArena>⟧.view made.new).room 0)))) }
-    ensures small { IfOk result (λ fits. OnFalse fits (((r : Reading) × (m : Meter) × (part_within
+    ensures small { IfOk result (λ fits. OnFalse fits (((e : PathEnd) × (m : Meter) × (part_within
         (message (⟦<ReaderArenaImpl<S> as ReaderArena>⟧.segments source.now)) limits path.now
-        ≡ (Ok r, m)) × NeedsMoreRoom r room)
+        ≡ (Ok e, m)) × EndNeedsMoreRoom e room)
         ⊎ ((⟦<BuilderArenaImpl<A> as BuilderArena>⟧.view made.new).refusals
         ≡ one_more (⟦<BuilderArenaImpl<A> as BuilderArena>⟧.view made.old).refusals))) }
     ensures refused { IfErr result (RefusesPart
@@ -94,10 +97,11 @@ pub fn canonical_part_in_room<A: Allocator, S: ReaderSegments>(
     copy_in_room(made, part, lim.left(), room)
 }
 
-/// Counts the words and capabilities of the value of the pointer to which `path` leads from the
-/// root pointer of the message in `source`, without landing pads (encoding specification, "Structs"
-/// and "Lists"). Takes no memory. Refuses like `follow_path`, and otherwise like
-/// `Pointer::total_size`. Precondition: the nesting limit of `source` is that of `limits`.
+/// Counts the words and capabilities of the value to which `path` leads from the root pointer of
+/// the message in `source`, without landing pads (encoding specification, "Structs" and "Lists"). An
+/// element of a list of structs has the words of its sections. Takes no memory. Refuses like
+/// `follow_path`, and otherwise like `Pointer::total_size`. Precondition: the nesting limit of
+/// `source` is that of `limits`.
 pub fn size_of_part<S: ReaderSegments>(
     source: &ReaderArenaImpl<S>,
     path: &[u32],

@@ -1,5 +1,6 @@
-//! Follows a path of indexes to a pointer of a message, the root of a part of the message.
-ghost use Rattle.std.specs.Prelude.{◌≡◌, ◌+◌, ◌*◌, ◌<◌, ◌≤◌, length, IfOk};
+//! Follows a path of indexes to a part of a message: to a pointer, or to an element of a list of
+//! structs.
+ghost use Rattle.std.specs.Prelude.{◌≡◌, ◌+◌, ◌*◌, ◌<◌, ◌≤◌, length, IfOk, ⊤};
 ghost use Rattle.capnp_format.specs.Bytes.{message};
 ghost use Rattle.capnp_format.specs.Segments.{segment};
 ghost use Rattle.capnp_objects.specs.declared.object.Purpose.TheVariants.{Value};
@@ -8,17 +9,19 @@ ghost use Rattle.capnp_objects.specs.Objects.{IsHeld};
 ghost use Rattle.capnp_objects.specs.Reading.{source_start};
 ghost use Rattle.capnp_objects.specs.Source.{levels};
 ghost use Rattle.capnp_pointers.specs.Pointers.{reading};
+ghost use Rattle.capnp_messages.specs.EndValues.{measure_end};
 ghost use Rattle.capnp_messages.specs.Parts.{end_at, end_in, follow_path, part, pointer_in, step, to_pointer};
-ghost use Rattle.capnp_messages.specs.PathEnds.{IsObjectRead, end_read, end_result, pointer_result};
+ghost use Rattle.capnp_messages.specs.PathEnds.{IsObjectRead, end_read, end_result};
 
-use super::pointer_run::PointerRun;
+use super::pointer_run::{ElementPlace, PointerRun, pointer_within};
 use super::root::read_root;
 use capnp_arena::arena::{ReaderArena, ReaderArenaImpl, ReaderSegments};
 use capnp_objects::object::{Object, Place};
-use capnp_pointers::pointers::Pointer;
+use capnp_pointers::pointers::{MessageSize, Pointer};
 use capnp_words::error::ErrorKind;
 use capnp_words::read_limiter::ReadLimiter;
 use capnp_words::wire_pointer::StructSize;
+use std::alloc::AllocError;
 
 /// Reads the object that the pointer `from` leads to, like `Source::read_object`.
 fn read_object<'a, A: ReaderArena>(
@@ -32,14 +35,25 @@ fn read_object<'a, A: ReaderArena>(
     from.source.read_object(from.place, from.nesting_limit, lim)
 }
 
-/// What a path has reached.
-#[derive(Drop)]
-enum Reached<'a, A: ReaderArena> {
-    /// A pointer.
+/// Where a path leads.
+pub enum Reached<'a, A: ReaderArena> {
+    /// To a pointer.
     Pointer(Pointer<'a, A>),
-    /// An element of a list of structs, by its pointers.
-    Element(PointerRun<'a, A>),
+    /// To an element of a list of structs.
+    Element(ElementPlace<'a, A>),
 }
+
+impl<'a, A: ReaderArena> Clone for Reached<'a, A> {
+    ghost is_clone = { λ x y. y ≡ x };
+
+    ghost is_infallible = { λ _. ⊤ };
+
+    fn clone(&self) -> Result<Self, AllocError> {
+        Ok(*self)
+    }
+}
+
+impl<'a, A: ReaderArena> Copy for Reached<'a, A> {}
 
 impl<'a, A: ReaderArena> Reached<'a, A> {
     /// The end of a path at the pointer of `run` with this `index`.
@@ -73,9 +87,8 @@ impl<'a, A: ReaderArena> Reached<'a, A> {
         if index >= count {
             return Err(ErrorKind::NoSuchPlace);
         }
-        let words = index * size.total() + u32::from(size.data_words);
-        let pointers = u32::from(size.pointers);
-        Ok(Reached::Element(PointerRun::inside(from, start, words, pointers)))
+        let first = pointer_within(from, start, index * size.total());
+        Ok(Reached::Element(ElementPlace { first, size }))
     }
 
     /// Where `index` leads from `object`, to which the pointer `from` leads. Refuses with
@@ -114,38 +127,49 @@ impl<'a, A: ReaderArena> Reached<'a, A> {
                 let object = read_object(from, lim)?;
                 Reached::in_object(from, object, index)
             }
-            Reached::Element(run) => Reached::in_run(run, index),
+            Reached::Element(element) => Reached::in_run(PointerRun::of_element(element), index),
+        }
+    }
+
+    /// Counts the words and capabilities of the value at the end of the path, like
+    /// `Pointer::total_size`. An element has the words of its sections, which aren't charged again.
+    pub(super) fn total_size(self, lim: &mut ReadLimiter) -> Result<MessageSize, ErrorKind>
+        ensures { measure_end (end_read A.ReaderArena self.entry) lim.old ≡ (result, lim.new) }
+    {
+        match self {
+            Reached::Pointer(pointer) => pointer.total_size(lim),
+            Reached::Element(element) => {
+                let words = u64::from(element.size.total());
+                let run = PointerRun::of_element(element);
+                run.first.total_size_of(run.count, words, lim)
+            }
         }
     }
 }
 
-/// Follows `path` from the pointer `from`, and returns the pointer that it leads to.
+/// Follows `path` from the pointer `from`, and returns where it leads.
 ///
 /// From a pointer to a struct, an index leads to a pointer of the struct; from a pointer to a list
-/// of pointers, to an element; from a pointer to a list of structs, to an element, from which the
-/// next index leads to one of its pointers. Each pointer on the way is read and charged like
-/// `Source::read_object`; the last one isn't. Each has a nesting limit that is one less than that
-/// of the one before.
+/// of pointers, to an element; from a pointer to a list of structs, to an element, which is a
+/// struct: the next index leads to one of its pointers. Each pointer on the way is read and charged
+/// like `Source::read_object`; the last one isn't. Each has a nesting limit that is one less than
+/// that of the one before.
 ///
-/// Refuses with `NoSuchPlace` if an index leads nowhere, or if the path ends at an element of a
-/// list of structs, to which no pointer leads. Refuses like `Source::read_object` if a pointer on
-/// the way can't be read. What was charged before stays charged.
+/// Refuses with `NoSuchPlace` if an index leads nowhere. Refuses like `Source::read_object` if a
+/// pointer on the way can't be read. What was charged before stays charged.
 pub fn follow_path<'a, A: ReaderArena>(
     from: Pointer<'a, A>,
     path: &[u32],
     lim: &mut ReadLimiter,
-) -> Result<Pointer<'a, A>, ErrorKind>
+) -> Result<Reached<'a, A>, ErrorKind>
     ensures { follow_path (to_pointer (reading A.ReaderArena from.entry)) path.now lim.old
-        ≡ (pointer_result A.ReaderArena result, lim.new) }
+        ≡ (end_result A.ReaderArena result, lim.new) }
 {
     let mut end = Reached::Pointer(from);
     for index in path {
         end = end.step(*index, lim)?;
     }
-    match end {
-        Reached::Pointer(pointer) => Ok(pointer),
-        Reached::Element(_) => Err(ErrorKind::NoSuchPlace),
-    }
+    Ok(end)
 }
 
 /// Reads the root pointer of a message like `read_root`, and then follows `path` from there like
@@ -154,10 +178,10 @@ pub fn read_part<'a, S: ReaderSegments>(
     arena: &'a ReaderArenaImpl<S>,
     path: &[u32],
     lim: &mut ReadLimiter,
-) -> Result<Pointer<'a, ReaderArenaImpl<S>>, ErrorKind>
+) -> Result<Reached<'a, ReaderArenaImpl<S>>, ErrorKind>
     ensures { part (message (⟦<ReaderArenaImpl<S> as ReaderArena>⟧.segments arena.now))
         (levels arena.now.nesting_limit) path.now lim.old
-        ≡ (pointer_result ⟦<ReaderArenaImpl<S> as ReaderArena>⟧ result, lim.new) }
+        ≡ (end_result ⟦<ReaderArenaImpl<S> as ReaderArena>⟧ result, lim.new) }
 {
     let root = read_root(arena, lim)?;
     follow_path(root, path, lim)

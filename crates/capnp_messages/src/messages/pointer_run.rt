@@ -1,10 +1,11 @@
-//! Consecutive pointers of an object.
-ghost use Rattle.std.specs.Prelude.{◌≡◌, ◌+◌, ◌<◌, ◌≤◌, length};
+//! Elements of lists of structs, and consecutive pointers of an object.
+ghost use Rattle.std.specs.Prelude.{◌≡◌, ◌+◌, ◌<◌, ◌≤◌, length, ⊤};
 ghost use Rattle.capnp_format.specs.Segments.{segment};
 ghost use Rattle.capnp_objects.specs.Objects.{IsHeld};
-ghost use Rattle.capnp_objects.specs.Reading.{segment_read, source_start};
+ghost use Rattle.capnp_objects.specs.Reading.{behind, segment_read, source_start};
 ghost use Rattle.capnp_objects.specs.Source.{levels};
 ghost use Rattle.capnp_pointers.specs.Pointers.{reading};
+ghost use Rattle.capnp_messages.specs.EndValues.{IsElementPlace};
 ghost use Rattle.capnp_messages.specs.Parts.{inside, pointer_in};
 
 use capnp_arena::arena::ReaderArena;
@@ -12,6 +13,53 @@ use capnp_copies::copy::pointer_behind;
 use capnp_objects::object::Place;
 use capnp_pointers::pointers::Pointer;
 use capnp_words::error::ErrorKind;
+use capnp_words::wire_pointer::StructSize;
+use std::alloc::AllocError;
+
+/// An element of a list of structs, which is a struct to which no pointer leads.
+pub struct ElementPlace<'a, A: ReaderArena> {
+    /// The place of the element's first word, with the nesting limit of the element's pointers.
+    pub first: Pointer<'a, A>,
+    /// The element's sections.
+    pub size: StructSize,
+    ghost there: { IsElementPlace (reading A.ReaderArena first) size.data_words size.pointers },
+}
+
+impl<'a, A: ReaderArena> Clone for ElementPlace<'a, A> {
+    ghost is_clone = { λ x y. y ≡ x };
+
+    ghost is_infallible = { λ _. ⊤ };
+
+    fn clone(&self) -> Result<Self, AllocError> {
+        Ok(*self)
+    }
+}
+
+impl<'a, A: ReaderArena> Copy for ElementPlace<'a, A> {}
+
+/// The place `words` words after `start`, which is inside the object that `from` leads to, as the
+/// place of a pointer. Its nesting limit is one less than that of `from`.
+pub(super) fn pointer_within<'a, A: ReaderArena>(
+    from: Pointer<'a, A>,
+    start: Place<'a>,
+    words: u32,
+) -> Pointer<'a, A>
+    requires held { IsHeld (source_start A.ReaderArena from.source).segments start }
+    requires level { 0 < levels from.nesting_limit }
+    requires inside { start.at + words
+        ≤ length (segment (source_start A.ReaderArena from.source).segments start.segment) }
+    ensures { reading A.ReaderArena result
+        ≡ inside (reading A.ReaderArena from.entry) start.entry.segment (start.entry.at + words) }
+{
+    Pointer {
+        source: from.source,
+        place: Place {
+            at: start.at + words,
+            ..start
+        },
+        nesting_limit: from.nesting_limit - 1,
+    }
+}
 
 /// Consecutive pointers: those of a struct, or of a list.
 #[derive(Drop)]
@@ -39,15 +87,20 @@ impl<'a, A: ReaderArena> PointerRun<'a, A> {
         ensures count { result.count ≡ count }
     {
         PointerRun {
-            first: Pointer {
-                source: from.source,
-                place: Place {
-                    at: start.at + words,
-                    ..start
-                },
-                nesting_limit: from.nesting_limit - 1,
-            },
+            first: pointer_within(from, start, words),
             count,
+        }
+    }
+
+    /// The pointers of an element.
+    pub(super) fn of_element(element: ElementPlace<'a, A>) -> Self
+        ensures first { reading A.ReaderArena result.first
+            ≡ behind (reading A.ReaderArena element.entry.first) element.entry.size.data_words }
+        ensures count { result.count ≡ element.entry.size.pointers }
+    {
+        PointerRun {
+            first: pointer_behind(element.first, u32::from(element.size.data_words)),
+            count: u32::from(element.size.pointers),
         }
     }
 

@@ -14,6 +14,7 @@ ghost use Rattle.capnp_messages.specs.Messages.{HasSizeOf, HasSizeWithin, IsCano
 
 use super::canonical_copy::{copy_canonical_with, copy_in_room};
 use super::message_fault::canonical_fault;
+use super::path::Reached;
 use super::root::read_root;
 use capnp_arena::arena::{
     Allocator, BuilderArena, BuilderArenaImpl, ReaderArena, ReaderArenaImpl, ReaderOptions,
@@ -82,7 +83,7 @@ pub fn canonical_in_room<A: Allocator, S: ReaderSegments>(
 {
     let mut lim = ReadLimiter::new(limits.traversal_limit_in_words);
     let root = read_root(source, &mut lim)?;
-    copy_in_room(made, root, lim.left(), room)
+    copy_in_room(made, Reached::Pointer(root), lim.left(), room)
 }
 
 /// Makes the canonical copy of a message (encoding specification, "Canonicalization"): a message of

@@ -4,6 +4,7 @@ use super::objects::{bytes_at, number_at, place_at, pointer_after, pointer_insid
 use super::path::{PathStep, PathText};
 use super::text::{CUT_OBJECT, Ended, Text, text_of};
 use capnp_arena_traits::arena::ReaderArena;
+use capnp_messages::messages::ElementPlace;
 use capnp_objects::object::{Object, Place};
 use capnp_pointers::pointers::Pointer;
 use capnp_words::read_limiter::ReadLimiter;
@@ -250,6 +251,17 @@ impl Json {
         self.write_number(b",\"pointer_count\":", u64::from(size.pointers))?;
         self.text.push(b",")
     }
+}
+
+/// Writes `element`, and what its pointers lead to, at most `depth` pointers below it.
+pub(super) fn json_element<A: ReaderArena>(
+    element: ElementPlace<'_, A>,
+    depth: u32,
+    json: &mut Json,
+) -> Result<(), Ended> {
+    json.text.push(b"{")?;
+    json.write_start(element.first.place)?;
+    json_struct(element.first, element.size, depth, json)
 }
 
 /// Writes what the pointer `from` leads to, at most `depth` pointers below it.

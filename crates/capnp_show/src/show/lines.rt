@@ -4,6 +4,7 @@ use super::objects::{bytes_at, number_at, place_at, pointer_after, pointer_insid
 use super::path::{PathStep, PathText};
 use super::text::{CUT_COLORED_LINE, CUT_LINE, Ended, Text, front_of, text_of};
 use capnp_arena_traits::arena::ReaderArena;
+use capnp_messages::messages::ElementPlace;
 use capnp_objects::object::{Object, Place};
 use capnp_pointers::pointers::Pointer;
 use capnp_words::read_limiter::ReadLimiter;
@@ -361,6 +362,20 @@ fn kind_of(size: ElementSize) -> &'static str {
         ElementSize::FourBytes => "u32",
         _ => "u64",
     }
+}
+
+/// Writes the line of `element`, and the lines of what its pointers lead to, at most `depth` pointers
+/// below it.
+pub(super) fn show_element<A: ReaderArena>(
+    element: ElementPlace<'_, A>,
+    depth: u32,
+    lines: &mut Lines,
+) -> Result<(), Ended> {
+    let size = element.size;
+    lines.write_path()?;
+    lines.write_struct(element.first.place, size)?;
+    let first = pointer_after(element.first, u32::from(size.data_words));
+    show_below(first, u32::from(size.pointers), false, depth, lines)
 }
 
 /// Writes the line of the pointer `from`, and the lines of what it leads to, at most `depth` pointers

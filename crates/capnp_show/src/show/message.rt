@@ -3,12 +3,12 @@ ghost use Rattle.std.specs.Prelude.{◌≡◌, ◌≤◌, length, false, OnOk};
 ghost use Rattle.capnp_arena_traits.specs.Limits.{IsSmall};
 ghost use Rattle.capnp_show.specs.Show.{PrintsAtMost};
 
-use super::json::{Json, json_pointer};
-use super::lines::{Lines, show_pointer};
+use super::json::{Json, json_element, json_pointer};
+use super::lines::{Lines, show_element, show_pointer};
 use super::text::{Ended, MOST_BYTES};
 use capnp_arena::arena::{ReaderArena, ReaderArenaImpl, ReaderOptions, ReaderSegments};
 use capnp_framing::devices::{DeviceFault, Output, write_all};
-use capnp_messages::messages::read_part;
+use capnp_messages::messages::{Reached, read_part};
 use capnp_words::read_limiter::ReadLimiter;
 use std::alloc::Global;
 
@@ -39,11 +39,12 @@ pub enum ShowFault {
 /// could be read.
 ///
 /// The first pointer is the one that `read_part` of `capnp_messages` finds; with an empty `path` it
-/// is the root pointer. If the path is refused, what is shown is the name of this refusal. Objects
-/// are read like `Source::read_object`, within `limits`. A pointer that can't be read is
-/// shown with the name of the refusal, and the pointers after it are still read. Writes at most
-/// `MOST_BYTES` bytes: if they don't suffice, the lines end with one that says so, and a line of
-/// JSON is replaced by one that says so.
+/// is the root pointer. If the path leads to an element of a list of structs, what is shown first is
+/// this struct. If the path is refused, what is shown is the name of this refusal. Objects are read
+/// like `Source::read_object`, within `limits`. A pointer that can't be read is shown with the name
+/// of the refusal, and the pointers after it are still read. Writes at most `MOST_BYTES` bytes: if
+/// they don't suffice, the lines end with one that says so, and a line of JSON is replaced by one
+/// that says so.
 ///
 /// Refusals: `AllocationFailed` if memory runs out, and then nothing is written; `WriteFailed` if
 /// the output fails.
@@ -120,7 +121,8 @@ fn write_lines<S: ReaderSegments>(
     lines.write_head(number, count, arena.size_in_words() as u64)?;
     lines.begin_path(path)?;
     match read_part(arena, path, &mut lines.lim) {
-        Ok(root) => show_pointer(root, lines.depth, lines),
+        Ok(Reached::Pointer(root)) => show_pointer(root, lines.depth, lines),
+        Ok(Reached::Element(element)) => show_element(element, lines.depth, lines),
         Err(kind) => lines.write_no_root(kind.name()),
     }
 }
@@ -158,7 +160,8 @@ pub(super) fn write_json<S: ReaderSegments>(
 ) -> Result<(), Ended> {
     json.write_head(number, count, arena.size_in_words() as u64)?;
     match read_part(arena, path, &mut json.lim) {
-        Ok(root) => json_pointer(root, depth, json)?,
+        Ok(Reached::Pointer(root)) => json_pointer(root, depth, json)?,
+        Ok(Reached::Element(element)) => json_element(element, depth, json)?,
         Err(kind) => json.write_no_root(kind.name())?,
     }
     json.write_tail()

@@ -1,7 +1,7 @@
 use Rattle.std.proofs.Common.{◌∙◌, ◌≤◌, ℕ, Option, inr, ap, sym, subst}
 use Rattle.capnp_format.specs.Bytes.{message}
-use Rattle.capnp_pointers.specs.Pointers.{reading}
-use Rattle.capnp_messages.specs.Copies.{RefusesCopy}
+use Rattle.capnp_messages.specs.EndValues.{RefusesEndCopy}
+use Rattle.capnp_messages.specs.PathEnds.{end_read}
 use Rattle.capnp_messages.specs.CanonicalErrors.{IsLeftOf}
 use Rattle.capnp_messages.proofs.CanonLemmas.{moved_offer}
 use Rattle.capnp_messages.proofs.CanonicalFrameLemmas.{copy_left, copy_settled}
@@ -12,11 +12,11 @@ copy_to_segment-copied-requires-clause-room g c =
     subst (λ (rooms : ℕ → ℕ). c.args.room ≤ rooms 0) (sym c.without_allocator-segments.ensures.room) c.in_default.ensures.room
 
 pub settle-requires : goal.settle-requires
-settle-requires g c = subst (λ (l : Option ℕ). IsLeftOf c.in-Ok.own.left l) c.left.ensures (copy_left c.left.result c.in-Ok.own c.in-Ok.ensures.copied.1)
+settle-requires g c = subst (λ (l : Option ℕ). IsLeftOf c.in-Ok.own.left l) c.left.ensures (copy_left (end_read g.B.ReaderArena c.args.from) c.left.result c.in-Ok.own c.in-Ok.ensures.copied.0 c.in-Ok.ensures.copied.1)
 
 pub returns-in-Ok-clause-copied : goal.returns-in-Ok-clause-copied
 returns-in-Ok-clause-copied g c =
-    copy_settled (reading g.B.ReaderArena c.args.from) c.args.lim.now c.in-Ok.own c.settle.new.lim c.left.ensures c.settle.ensures.left c.settle.ensures.counted (ap message c.with_allocator-made.ensures.segments) c.in-Ok.ensures.copied
+    copy_settled (end_read g.B.ReaderArena c.args.from) c.args.lim.now c.in-Ok.own c.settle.new.lim c.left.ensures c.settle.ensures.left c.settle.ensures.counted (ap message c.with_allocator-made.ensures.segments) c.in-Ok.ensures.copied
 
 pub returns-in-Ok-clause-asked : goal.returns-in-Ok-clause-asked
 returns-in-Ok-clause-asked g c =
@@ -26,6 +26,6 @@ returns-in-Ok-clause-asked g c =
 
 pub returns-in-Err-copied-clause-refused : goal.returns-in-Err-copied-clause-refused
 returns-in-Err-copied-clause-refused g c =
-    let refused = subst (λ (l : Option ℕ). RefusesCopy (reading g.B.ReaderArena c.args.from) l c.args.room c.in-Err-copied.kind) c.left.ensures c.in-Err-copied.ensures.refused in
+    let refused = subst (λ (l : Option ℕ). RefusesEndCopy (end_read g.B.ReaderArena c.args.from) l c.args.room c.in-Err-copied.kind) c.left.ensures c.in-Err-copied.ensures.refused in
     let same = c.into_allocator-in-Err-copied.ensures.refusals ∙ c.with_allocator-made.ensures.refusals ∙ ap g.A.Allocator.refusals c.without_allocator-segments.ensures.allocator ∙ c.in_default.ensures.granted ∙ c.new-made.ensures.refusals in
     inr (refused, same)

@@ -11,19 +11,19 @@ pub returns-in-Ok-clause-copied : goal.returns-in-Ok-clause-copied
 returns-in-Ok-clause-copied g c =
     let S : Segments = message (map whole (g.S.ReaderSegments.segments c.args.source.now.segments)) in
     let leads = part_here S c.args.limits c.args.path.now _ _ _ c.requires c.new-lim.ensures c.in-Ok.ensures in
-    IfOk-weaker c.copy_canonical_with.result _ _ (λ made. part_of_copy leads) c.copy_canonical_with.ensures.copied
+    IfOk-weaker c.copy_reached_with.result _ _ (λ made. part_of_copy c.copy_reached_with.new.lim leads) c.copy_reached_with.ensures.copied
 
 pub returns-in-Ok-clause-tries : goal.returns-in-Ok-clause-tries
 returns-in-Ok-clause-tries g c =
     let S : Segments = message (map whole (g.S.ReaderSegments.segments c.args.source.now.segments)) in
     let leads = part_here S c.args.limits c.args.path.now _ _ _ c.requires c.new-lim.ensures c.in-Ok.ensures in
-    IfOk-weaker c.copy_canonical_with.result _ _ (λ made tries. (_, _, leads, tries)) c.copy_canonical_with.ensures.tries
+    IfOk-weaker c.copy_reached_with.result _ _ (λ made tries. (_, _, leads, tries)) c.copy_reached_with.ensures.tries
 
 pub returns-in-Ok-clause-refused : goal.returns-in-Ok-clause-refused
 returns-in-Ok-clause-refused g c =
     let S : Segments = message (map whole (g.S.ReaderSegments.segments c.args.source.now.segments)) in
     let leads = part_here S c.args.limits c.args.path.now _ _ _ c.requires c.new-lim.ensures c.in-Ok.ensures in
-    IfErr-weaker c.copy_canonical_with.result _ _ (λ e. part_copy_refused leads) c.copy_canonical_with.ensures.refused
+    IfErr-weaker c.copy_reached_with.result _ _ (λ e. part_copy_refused leads) c.copy_reached_with.ensures.refused
 
 pub returns-in-Err-clause-refused : goal.returns-in-Err-clause-refused
 returns-in-Err-clause-refused g c =

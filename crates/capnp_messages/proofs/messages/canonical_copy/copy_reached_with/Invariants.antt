@@ -1,16 +1,16 @@
 use Rattle.std.proofs.Common.{◌≡◌, ◌-◌}
 use Rattle.capnp_arena_traits.specs.Allocations.{max_segment_words}
-use Rattle.capnp_pointers.specs.Pointers.{reading}
+use Rattle.capnp_messages.specs.PathEnds.{end_read}
 use Rattle.capnp_messages.specs.Tries.{IsSegmentRoom}
 use Rattle.capnp_messages.proofs.TryLemmas.{ComesTo}
-use Rattle.capnp_messages.proofs.messages.canonical_copy.copy_canonical_with.Given as goal
+use Rattle.capnp_messages.proofs.messages.canonical_copy.copy_reached_with.Given as goal
 
 abbrev pub invariant-loop-made : goal.invariant-loop-made
 invariant-loop-made g l = record {
   asks : IsSegmentRoom l.room;
   granted : g.A.Allocator.refusals l.unused ≡ g.A.Allocator.refusals l.fn.allocator;
   offers : g.A.Allocator.offers l.unused ≡ g.A.Allocator.offers l.fn.allocator;
-  comes : ComesTo (reading g.B.ReaderArena l.from) l.room;
+  comes : ComesTo (end_read g.B.ReaderArena l.from) l.room;
   unread : l.lim ≡ l.initial.lim;
 }
 
