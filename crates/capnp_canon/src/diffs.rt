@@ -8,7 +8,7 @@ use crate::texts::NO_MEMORY;
 use capnp_packing::buffered::{BufferedInput, BufferedOutput};
 use capnp_streams::devices::BufReaderInput;
 use capnp_streams::looks::InputForm;
-use capnp_streams::seen::{Seen, Watched};
+use capnp_streams::seen::{DeviceLog, Logged};
 use capnp_streams::streams::{self, DiffFault, DiffTask, Side};
 use std::fs::File;
 use std::io::{BufReader, Read};
@@ -72,9 +72,9 @@ fn compare_readers<L: Read + Drop, R: Read + Drop, W: BufferedOutput>(
 ) -> Result<bool, Unanswered>
     requires { W.has_failed output.old ≡ false }
 {
-    let (left_seen, right_seen) = (Seen::new(), Seen::new());
-    let left = BufReader::with_capacity(rt.alloc(), BUFFER, Watched::new(left, &left_seen));
-    let right = BufReader::with_capacity(rt.alloc(), BUFFER, Watched::new(right, &right_seen));
+    let (left_seen, right_seen) = (DeviceLog::new(), DeviceLog::new());
+    let left = BufReader::with_capacity(rt.alloc(), BUFFER, Logged::new(left, &left_seen));
+    let right = BufReader::with_capacity(rt.alloc(), BUFFER, Logged::new(right, &right_seen));
     let (Ok(left), Ok(right)) = (left, right) else {
         let _ = rt.eprintln(NO_MEMORY);
         return Err(Unanswered::Said);

@@ -11,8 +11,8 @@ use capnp_framing::framing::FrameError;
 use capnp_packing::buffered::{BufferedInput, BufferedOutput};
 use capnp_refusals::refusals::RefusedPointer;
 use capnp_streams::devices::{BufReaderInput, NamedLines, NumberedLines};
-use capnp_streams::looks::{InputForm, looks_like};
-use capnp_streams::seen::{Seen, Watched};
+use capnp_streams::looks::{InputForm, guess};
+use capnp_streams::seen::{DeviceLog, Logged};
 use capnp_streams::streams::{self, Command, Fault, ShowTask, Stop, Summary, Task};
 use std::alloc::{AllocError, Global};
 use std::fs::File;
@@ -192,8 +192,8 @@ fn answer<R: Read + Drop, W: BufferedOutput>(
     if output.failed() {
         return Err(Unanswered::WriteFailed);
     }
-    let seen = Seen::new();
-    let reader = Watched::new(reader, &seen);
+    let seen = DeviceLog::new();
+    let reader = Logged::new(reader, &seen);
     let Ok(reader) = BufReader::with_capacity(rt.alloc(), BUFFER, reader) else {
         pass_on(output)?;
         let _ = rt.eprintln(NO_MEMORY);
@@ -257,7 +257,7 @@ fn only(answered: Result<bool, Fault>) -> Result<Summary, Stop> {
 /// Reports which message is refused, counted from 1, at which byte of the input it begins, why it is
 /// refused, and at which of its pointers, if it is at one. If this is the first message, and the
 /// input doesn't look like what `form` says, also reports what the input looks like.
-pub fn refuse(rt: &HostRuntime, form: InputForm, name: Option<&str>, stop: Stop, seen: &Seen) {
+pub fn refuse(rt: &HostRuntime, form: InputForm, name: Option<&str>, stop: Stop, seen: &DeviceLog) {
     let (name, colon) = match name {
         Some(name) => (name, ": "),
         None => ("", ""),
@@ -289,7 +289,7 @@ pub fn refuse(rt: &HostRuntime, form: InputForm, name: Option<&str>, stop: Stop,
     };
     let front = seen.front();
     if stop.answered == 0 {
-        if let Some(looks) = looks_like(form, stop.fault, front.first(), front.given()) {
+        if let Some(looks) = guess(form, stop.fault, front.first(), front.given()) {
             let _ = eprintln!(rt;
                 "capnp_canon: {name}{colon}the input looks like {}",
                 looks.text()

@@ -12,7 +12,7 @@ mod texts;
 use capnp_packing::buffered::BufferedOutput;
 use capnp_packing::packing::PackingOutput;
 use capnp_streams::devices::{BoundedOutput, BufWriterOutput, NoOutput};
-use capnp_streams::seen::{Seen, Watched};
+use capnp_streams::seen::{DeviceLog, Logged};
 use capnp_streams::streams::{
     self, ArgumentFault, DiffTask, Request, ShowTask, Task, WrongArgument,
 };
@@ -30,7 +30,7 @@ const BUFFER: usize = 1 << 16;
 fn main(rt: HostRuntime) -> ExitCode {
     match answer(&rt) {
         Ok(code) => code,
-        Err(AllocError) => complain(&rt, NO_MEMORY),
+        Err(AllocError) => print_error(&rt, NO_MEMORY),
     }
 }
 
@@ -39,11 +39,11 @@ fn main(rt: HostRuntime) -> ExitCode {
 fn answer(rt: &HostRuntime) -> Result<ExitCode, AllocError> {
     let Some(args) = arguments(rt)? else {
         let _ = rt.eprintln(NO_TEXT);
-        return Ok(complain(rt, HINT));
+        return Ok(print_error(rt, HINT));
     };
     let args = args.as_slice();
     match streams::parse_args(args) {
-        Err(wrong) => Ok(misunderstood(rt, args, wrong)),
+        Err(wrong) => Ok(usage_error(rt, args, wrong)),
         Ok(Request::Help) => Ok(say(rt, HELP)),
         Ok(Request::Version) => Ok(say(rt, VERSION)),
         Ok(Request::Run(task)) => {
@@ -76,7 +76,7 @@ fn arguments(rt: &HostRuntime) -> Result<Option<Vec<String>>, AllocError> {
 }
 
 /// Reports which argument is wrong or missing, and how to get help, and returns status 2.
-fn misunderstood(rt: &HostRuntime, args: &[String], wrong: WrongArgument) -> ExitCode {
+fn usage_error(rt: &HostRuntime, args: &[String], wrong: WrongArgument) -> ExitCode {
     let text = match args.get(wrong.at) {
         Some(arg) => arg.as_str(),
         None => "",
@@ -87,23 +87,26 @@ fn misunderstood(rt: &HostRuntime, args: &[String], wrong: WrongArgument) -> Exi
         ArgumentFault::UnknownOption => {
             eprintln!(rt; "capnp_canon: unrecognized option '{text}'")
         }
-        ArgumentFault::MissingValue(setting) => {
-            eprintln!(rt; "capnp_canon: option '{}' needs a value", setting.text())
-        }
-        ArgumentFault::InvalidValue(setting) => {
+        ArgumentFault::MissingValue(value_option) => {
             eprintln!(rt;
-                "capnp_canon: invalid value '{text}' for {}",
-                setting.text()
+                "capnp_canon: option '{}' needs a value",
+                value_option.text()
             )
         }
-        ArgumentFault::InvalidSetting(setting) => {
+        ArgumentFault::InvalidValue(value_option) => {
+            eprintln!(rt;
+                "capnp_canon: invalid value '{text}' for {}",
+                value_option.text()
+            )
+        }
+        ArgumentFault::InvalidAssignment(value_option) => {
             let value = match text.split_once('=') {
                 Some((_, value)) => value,
                 None => text,
             };
             eprintln!(rt;
                 "capnp_canon: invalid value '{value}' for {}",
-                setting.text()
+                value_option.text()
             )
         }
         ArgumentFault::UnwantedValue(option) => {
@@ -112,10 +115,10 @@ fn misunderstood(rt: &HostRuntime, args: &[String], wrong: WrongArgument) -> Exi
                 option.text()
             )
         }
-        ArgumentFault::NotOfCommand(verb, option) => {
+        ArgumentFault::NotOfCommand(subcommand, option) => {
             eprintln!(rt;
                 "capnp_canon: '{}' has no option '{}'",
-                verb.text(),
+                subcommand.text(),
                 option.text()
             )
         }
@@ -128,16 +131,16 @@ fn misunderstood(rt: &HostRuntime, args: &[String], wrong: WrongArgument) -> Exi
             eprintln!(rt; "capnp_canon: option '{first}' needs '{second}'")
         }
     };
-    complain(rt, HINT)
+    print_error(rt, HINT)
 }
 
 /// Does `task` with the messages of `files`, or of standard input if there are no files, and writes
 /// the answers to standard output. Returns the program's exit status.
 fn run(rt: &HostRuntime, task: Task, files: &[String]) -> ExitCode {
-    let seen = Seen::new();
-    let writer = Watched::new(io::writer(rt), &seen);
+    let seen = DeviceLog::new();
+    let writer = Logged::new(io::writer(rt), &seen);
     let Ok(writer) = BufWriter::with_capacity(rt.alloc(), BUFFER, writer) else {
-        return complain(rt, NO_MEMORY);
+        return print_error(rt, NO_MEMORY);
     };
     let mut output = BufWriterOutput::new(writer);
     if task.quiet && !task.lists {
@@ -156,7 +159,7 @@ fn run_to<W: BufferedOutput>(
     task: Task,
     files: &[String],
     output: &mut W,
-    seen: &Seen,
+    seen: &DeviceLog,
 ) -> ExitCode {
     let ended = answer_all(rt, task, files, output);
     ended_with(rt, ended, output, seen)
@@ -165,10 +168,10 @@ fn run_to<W: BufferedOutput>(
 /// Shows the messages of `files`, or of standard input if there are no files, on standard output, in
 /// at most as many bytes as `task` says. Returns the program's exit status.
 fn show(rt: &HostRuntime, task: ShowTask, files: &[String]) -> ExitCode {
-    let seen = Seen::new();
-    let writer = Watched::new(io::writer(rt), &seen);
+    let seen = DeviceLog::new();
+    let writer = Logged::new(io::writer(rt), &seen);
     let Ok(writer) = BufWriter::with_capacity(rt.alloc(), BUFFER, writer) else {
-        return complain(rt, NO_MEMORY);
+        return print_error(rt, NO_MEMORY);
     };
     let most = match task.bytes {
         Some(bytes) => bytes as u64,
@@ -188,13 +191,13 @@ fn show(rt: &HostRuntime, task: ShowTask, files: &[String]) -> ExitCode {
 fn diff(rt: &HostRuntime, task: DiffTask, files: &[String]) -> ExitCode {
     if files.len() != 2 {
         let _ = rt.eprintln(TWO_FILES);
-        return complain(rt, HINT);
+        return print_error(rt, HINT);
     }
     let (left, right) = (files[0].as_str(), files[1].as_str());
-    let seen = Seen::new();
-    let writer = Watched::new(io::writer(rt), &seen);
+    let seen = DeviceLog::new();
+    let writer = Logged::new(io::writer(rt), &seen);
     let Ok(writer) = BufWriter::with_capacity(rt.alloc(), BUFFER, writer) else {
-        return complain(rt, NO_MEMORY);
+        return print_error(rt, NO_MEMORY);
     };
     if task.quiet {
         let ended = compare_files(rt, task, left, right, &mut NoOutput);
@@ -211,7 +214,7 @@ fn ended_with<W: BufferedOutput>(
     rt: &HostRuntime,
     ended: Result<bool, Unanswered>,
     output: &mut W,
-    seen: &Seen,
+    seen: &DeviceLog,
 ) -> ExitCode {
     if output.pass_on().is_err() {
         return write_failed(rt, seen.fault());
@@ -228,7 +231,7 @@ fn ended_with<W: BufferedOutput>(
 /// a pipe that nobody reads any more.
 fn write_failed(rt: &HostRuntime, fault: Option<io::Error>) -> ExitCode {
     let Some(error) = fault else {
-        return complain(rt, WRITE_ERROR);
+        return print_error(rt, WRITE_ERROR);
     };
     if error.kind() != io::ErrorKind::BrokenPipe {
         let _ = match said(rt.alloc(), &error) {
@@ -248,7 +251,7 @@ fn say(rt: &HostRuntime, text: &str) -> ExitCode {
 }
 
 /// Writes `text` to standard error, if possible, and returns status 2.
-fn complain(rt: &HostRuntime, text: &str) -> ExitCode {
+fn print_error(rt: &HostRuntime, text: &str) -> ExitCode {
     let _ = rt.eprintln(text);
     ExitCode::from(2)
 }

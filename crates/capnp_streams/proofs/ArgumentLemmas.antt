@@ -12,11 +12,11 @@ use Rattle.std.proofs.lemmas.Slice.Eq.{bytes_eq-Decides}
 use Rattle.std.proofs.lemmas.Str.Parse.{numerals_by_value, tells_all_ascii_digits}
 use Rattle.capnp_messages.specs.Text.{IsBudget, IsNesting}
 use Rattle.std.specs.List.{after_first, before_first, position_or_len}
-use Rattle.capnp_streams.specs.Arguments.{argument_step, budget_of, end_of, files_after, files_from, is_equals, located, nesting_of, plain_line}
+use Rattle.capnp_streams.specs.Arguments.{argument_step, budget_of, end_of, files_after, files_from, is_equals, located, nesting_of, no_arguments}
 use Rattle.capnp_streams.specs.Arguments.{request_after, request_from, request_of, signed_value, unsigned_text}
 use Rattle.capnp_streams.specs.Paths.{is_numeral}
 use Rattle.capnp_streams.specs.declared.streams.arguments.ArgumentFault.{ArgumentFault}
-use Rattle.capnp_streams.specs.declared.streams.arguments.Line.{Line}
+use Rattle.capnp_streams.specs.declared.streams.arguments.ParsedArguments.{ParsedArguments}
 use Rattle.capnp_streams.specs.declared.streams.arguments.ArgumentStep.{ArgumentStep}
 use Rattle.capnp_streams.specs.declared.streams.arguments.ArgumentStep.TheVariants.{Goes, File, Stops}
 use Rattle.capnp_streams.specs.declared.streams.task.Request.{Request}
@@ -106,7 +106,7 @@ texts {more = more} same named =
     ap (map string_bytes) same ∙ ap (λ (x : List ℕ). x ∷ map string_bytes more) named
 
 -- arguments that begin with one of this text, and its step
-module _ {args more : List (String Global)} {arg : String Global} {text : List ℕ} (line : Line) (step : Result ArgumentStep ArgumentFault)
+module _ {args more : List (String Global)} {arg : String Global} {text : List ℕ} (line : ParsedArguments) (step : Result ArgumentStep ArgumentFault)
     (same : args ≡ arg ∷ more) (named : string_bytes arg ≡ text) (is : step ≡ argument_step text line) where
   -- what they ask for, and the files among them
   pub request_stepped : (at : ℕ) → request_from line at (map string_bytes args)
@@ -136,26 +136,26 @@ located_at : (at : ℕ) (r : Result Request ArgumentFault) (w : WrongArgument) �
 located_at at (Ok r) w is = no_error r w is
 located_at at (Err fault) w is = made_at at fault w is
 
-wrong_step : (line : Line) (at : ℕ) (more : List (List ℕ)) (w : WrongArgument) (step : Result ArgumentStep ArgumentFault) →
-    ((next : Line) → request_from next (at + 1) more ≡ Err w → at + 1 ≤ w.at) →
+wrong_step : (line : ParsedArguments) (at : ℕ) (more : List (List ℕ)) (w : WrongArgument) (step : Result ArgumentStep ArgumentFault) →
+    ((next : ParsedArguments) → request_from next (at + 1) more ≡ Err w → at + 1 ≤ w.at) →
     request_after step line at (λ next. request_from next (at + 1) more) ≡ Err w → at ≤ w.at
 wrong_step line at more w (Ok (Goes next)) later is = let there = later next is in omega arith
 wrong_step line at more w (Ok File) later is = let there = later line is in omega arith
 wrong_step line at more w (Ok (Stops r)) later is = no_error r w is
 wrong_step line at more w (Err fault) later is = let there = made_at at fault w is in omega arith
 
-wrong_from : (line : Line) (at : ℕ) (texts : List (List ℕ)) (w : WrongArgument) → request_from line at texts ≡ Err w → at ≤ w.at
+wrong_from : (line : ParsedArguments) (at : ℕ) (texts : List (List ℕ)) (w : WrongArgument) → request_from line at texts ≡ Err w → at ≤ w.at
 wrong_from line at [] w is = let there = located_at at (end_of line) w is in omega arith
 wrong_from line at (text ∷ more) w is =
     wrong_step line at more w (argument_step text line) (λ next later. wrong_from next (at + 1) more w later) is
 
 -- what follows it changes nothing
 module _ (at : ℕ) (more behind : List (List ℕ)) (w : WrongArgument) where
-  Follows : Line → Type 0
+  Follows : ParsedArguments → Type 0
   Follows next = (n : ℕ) → w.at ≡ at + 1 + n → n < length more → request_from next (at + 1) more ≡ Err w →
       request_from next (at + 1) (take (n + 1) more ++ behind) ≡ Err w
 
-  wrong_next : (next : Line) → Follows next → request_from next (at + 1) more ≡ Err w →
+  wrong_next : (next : ParsedArguments) → Follows next → request_from next (at + 1) more ≡ Err w →
       (n : ℕ) → w.at ≡ at + n → n < suc (length more) → request_from next (at + 1) (take n more ++ behind) ≡ Err w
   unfolding Follows
   wrong_next next later is zero there within =
@@ -164,7 +164,7 @@ module _ (at : ℕ) (more behind : List (List ℕ)) (w : WrongArgument) where
       subst (λ (k : ℕ). request_from next (at + 1) (take k more ++ behind) ≡ Err w) (add-one n)
       (later n (omega arith) (omega arith) is)
 
-  wrong_step_with : (line : Line) (step : Result ArgumentStep ArgumentFault) → ((next : Line) → Follows next) →
+  wrong_step_with : (line : ParsedArguments) (step : Result ArgumentStep ArgumentFault) → ((next : ParsedArguments) → Follows next) →
       request_after step line at (λ next. request_from next (at + 1) more) ≡ Err w →
       (n : ℕ) → w.at ≡ at + n → n < suc (length more) →
       request_after step line at (λ next. request_from next (at + 1) (take n more ++ behind)) ≡ Err w
@@ -173,7 +173,7 @@ module _ (at : ℕ) (more behind : List (List ℕ)) (w : WrongArgument) where
   wrong_step_with line (Ok (Stops r)) later is n there within = no_error r w is
   wrong_step_with line (Err fault) later is n there within = is
 
-wrong_with : (line : Line) (at : ℕ) (texts behind : List (List ℕ)) (w : WrongArgument) → (n : ℕ) → w.at ≡ at + n →
+wrong_with : (line : ParsedArguments) (at : ℕ) (texts behind : List (List ℕ)) (w : WrongArgument) → (n : ℕ) → w.at ≡ at + n →
     n < length texts → request_from line at texts ≡ Err w → request_from line at (take (n + 1) texts ++ behind) ≡ Err w
 unfolding Follows
 wrong_with line at [] behind w n there within is = absurd (omega arith)
@@ -185,7 +185,7 @@ pub first_is_wrong : (args : List (String Global)) (w : WrongArgument) → reque
     w.at < length args → (behind : List (List ℕ)) → request_of (take (w.at + 1) (map string_bytes args) ++ behind) ≡ Err w
 first_is_wrong args w is within behind =
     let short : w.at < length (map string_bytes args) = omega (arith, length-map args string_bytes) in
-    wrong_with plain_line 0 (map string_bytes args) behind w w.at (omega arith) short is
+    wrong_with no_arguments 0 (map string_bytes args) behind w w.at (omega arith) short is
 
 -- a text with a `=` is taken apart there
 pub taken_apart : {A : Type 0} (f : List ℕ → List ℕ → A) (otherwise : A) (text name value : List ℕ) →

@@ -15,7 +15,7 @@ const MOST_SEGMENTS: u32 = 512;
 
 /// What an input looks like.
 #[derive(Clone, Copy, Debug, PartialEq, Eq)]
-pub enum Looks {
+pub enum Guess {
     Gzip,
     Zstd,
     Bzip2,
@@ -31,20 +31,20 @@ pub enum Looks {
     RawWords,
 }
 
-impl Looks {
+impl Guess {
     /// Returns a text with the name of this kind of input. If an option of `capnp_canon` reads such
     /// an input, the text also has this option.
     pub fn text(&self) -> &'static str {
         match self {
-            Looks::Gzip => "gzip",
-            Looks::Zstd => "zstd",
-            Looks::Bzip2 => "bzip2",
-            Looks::Xz => "xz",
-            Looks::Zip => "a zip archive",
-            Looks::Text => "text",
-            Looks::Frames => "frames that are neither packed nor raw words",
-            Looks::PackedFrames => "packed messages, which --packed reads",
-            Looks::RawWords => "raw words, which --from-flat reads",
+            Guess::Gzip => "gzip",
+            Guess::Zstd => "zstd",
+            Guess::Bzip2 => "bzip2",
+            Guess::Xz => "xz",
+            Guess::Zip => "a zip archive",
+            Guess::Text => "text",
+            Guess::Frames => "frames that are neither packed nor raw words",
+            Guess::PackedFrames => "packed messages, which --packed reads",
+            Guess::RawWords => "raw words, which --from-flat reads",
         }
     }
 }
@@ -98,7 +98,7 @@ impl ShowTask {
 /// with `fault`. Returns `None` if `fault` says nothing about the input, or if the input looks like
 /// what it is read as, or like nothing known. `first` has the first bytes of the input; the input has at least
 /// `given` bytes.
-pub fn looks_like(form: InputForm, fault: Fault, first: &[u8], given: u64) -> Option<Looks> {
+pub fn guess(form: InputForm, fault: Fault, first: &[u8], given: u64) -> Option<Guess> {
     if is_of_devices(fault) {
         return None;
     }
@@ -107,10 +107,10 @@ pub fn looks_like(form: InputForm, fault: Fault, first: &[u8], given: u64) -> Op
         return known;
     }
     match form {
-        InputForm::PackedFrames => unlike_packed(first),
-        InputForm::RawWords => unlike_words(first),
+        InputForm::PackedFrames => guess_instead_of_packed_frames(first),
+        InputForm::RawWords => guess_instead_of_raw_words(first),
         InputForm::Frames => match fault {
-            Fault::Frame(_) => unlike_frames(first, given),
+            Fault::Frame(_) => guess_instead_of_frames(first, given),
             _ => None,
         },
     }
@@ -131,14 +131,14 @@ fn is_of_devices(fault: Fault) -> bool {
 
 /// Returns the kind of an input that begins with `first`, if it is a compressed file, an archive or
 /// text, which no task reads.
-fn by_bytes(first: &[u8]) -> Option<Looks> {
+fn by_bytes(first: &[u8]) -> Option<Guess> {
     match first {
-        [0x1f, 0x8b, ..] => Some(Looks::Gzip),
-        [0x28, 0xb5, 0x2f, 0xfd, ..] => Some(Looks::Zstd),
-        [b'B', b'Z', b'h', ..] => Some(Looks::Bzip2),
-        [0xfd, b'7', b'z', b'X', ..] => Some(Looks::Xz),
-        [b'P', b'K', 3, 4, ..] => Some(Looks::Zip),
-        [_, _, _, _, ..] if first.iter().all(|byte| is_text(*byte)) => Some(Looks::Text),
+        [0x1f, 0x8b, ..] => Some(Guess::Gzip),
+        [0x28, 0xb5, 0x2f, 0xfd, ..] => Some(Guess::Zstd),
+        [b'B', b'Z', b'h', ..] => Some(Guess::Bzip2),
+        [0xfd, b'7', b'z', b'X', ..] => Some(Guess::Xz),
+        [b'P', b'K', 3, 4, ..] => Some(Guess::Zip),
+        [_, _, _, _, ..] if first.iter().all(|byte| is_text(*byte)) => Some(Guess::Text),
         _ => None,
     }
 }
@@ -151,36 +151,36 @@ fn is_text(byte: u8) -> bool {
 /// Guesses what an input is that should be frames, but can't be read as frames. Returns `None` if
 /// there is no guess, or if a frame may begin with `first`: then this frame may be cut short, or
 /// longer than the limit.
-fn unlike_frames(first: &[u8], given: u64) -> Option<Looks> {
+fn guess_instead_of_frames(first: &[u8], given: u64) -> Option<Guess> {
     if may_begin_frame(first) {
         return None;
     }
     if begins_with_packed_frame(first) {
-        return Some(Looks::PackedFrames);
+        return Some(Guess::PackedFrames);
     }
     if leads_within(word(first, 0)?, given / 8) {
-        return Some(Looks::RawWords);
+        return Some(Guess::RawWords);
     }
     None
 }
 
 /// Guesses what an input is that should be packed frames, but can't be read as such. Returns `None`
 /// if there is no guess.
-fn unlike_packed(first: &[u8]) -> Option<Looks> {
+fn guess_instead_of_packed_frames(first: &[u8]) -> Option<Guess> {
     if begins_with_frame(first) && !may_begin_packed_frame(first) {
-        return Some(Looks::Frames);
+        return Some(Guess::Frames);
     }
     None
 }
 
 /// Guesses what an input is that should be raw words, but can't be read as such. Returns `None` if
 /// there is no guess.
-fn unlike_words(first: &[u8]) -> Option<Looks> {
+fn guess_instead_of_raw_words(first: &[u8]) -> Option<Guess> {
     if begins_with_frame(first) {
-        return Some(Looks::Frames);
+        return Some(Guess::Frames);
     }
     if !may_begin_frame(first) && begins_with_packed_frame(first) {
-        return Some(Looks::PackedFrames);
+        return Some(Guess::PackedFrames);
     }
     None
 }

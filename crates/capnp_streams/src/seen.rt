@@ -5,20 +5,20 @@ ghost use Rattle.std.specs.Prelude.{◌≡◌, ◌≤◌};
 use std::cell::Cell;
 use std::io::{self, Read, Write};
 
-/// The largest number of bytes that a `Front` keeps.
+/// The largest number of bytes that a `FirstBytes` keeps.
 const KEPT: usize = 32;
 
 /// The first bytes read from a device, at most 32, and the number of all bytes read from it.
 #[derive(Clone, Copy)]
-pub struct Front {
+pub struct FirstBytes {
     first: [u8; KEPT],
     given: u64,
 }
 
-impl Front {
-    /// Makes the `Front` of a device from which no byte has been read.
+impl FirstBytes {
+    /// Makes the `FirstBytes` of a device from which no byte has been read.
     fn new() -> Self {
-        Front {
+        FirstBytes {
             first: [0; KEPT],
             given: 0,
         }
@@ -42,13 +42,13 @@ impl Front {
         self.given
     }
 
-    /// Returns the `Front` after `more` has been read, too.
+    /// Returns the `FirstBytes` after `more` has been read, too.
     fn with(self, more: &[u8]) -> Self {
         let kept = self.kept();
         let count = more.len().min(KEPT - kept);
         let mut first = self.first;
         first[kept..kept + count].copy_from_slice(&more[..count]);
-        Front {
+        FirstBytes {
             first,
             given: self.given.saturating_add(more.len() as u64),
         }
@@ -58,22 +58,22 @@ impl Front {
 /// What is known about a device. The caller can read it while the device is lent, or after the
 /// device is gone.
 #[derive(Drop)]
-pub struct Seen {
-    front: Cell<Front>,
+pub struct DeviceLog {
+    front: Cell<FirstBytes>,
     fault: Cell<Option<io::Error>>,
 }
 
-impl Seen {
-    /// Makes the `Seen` of a device about which nothing is known yet.
+impl DeviceLog {
+    /// Makes the `DeviceLog` of a device about which nothing is known yet.
     pub fn new() -> Self {
-        Seen {
-            front: Cell::new(Front::new()),
+        DeviceLog {
+            front: Cell::new(FirstBytes::new()),
             fault: Cell::new(None),
         }
     }
 
     /// Returns the first bytes read, and the number of all bytes read.
-    pub fn front(&self) -> Front {
+    pub fn front(&self) -> FirstBytes {
         self.front.get()
     }
 
@@ -95,22 +95,22 @@ impl Seen {
 
 /// A reader or writer whose reads and failures are noted in `seen`.
 #[derive(Drop)]
-pub struct Watched<'a, D> {
+pub struct Logged<'a, D> {
     device: D,
-    seen: &'a Seen,
+    seen: &'a DeviceLog,
 }
 
-impl<'a, D> Watched<'a, D> {
+impl<'a, D> Logged<'a, D> {
     /// Makes a device that reads and writes like `device`, and notes in `seen` the bytes that are
     /// read and why the device fails.
-    pub fn new(device: D, seen: &'a Seen) -> Self
+    pub fn new(device: D, seen: &'a DeviceLog) -> Self
         ensures { result.device ≡ device }
     {
-        Watched { device, seen }
+        Logged { device, seen }
     }
 }
 
-impl<D: Read> Read for Watched<'_, D> {
+impl<D: Read> Read for Logged<'_, D> {
     ghost remaining = { λ w. D.remaining w.device };
 
     fn read(&mut self, buf: &mut [u8]) -> io::Result<usize> {
@@ -127,7 +127,7 @@ impl<D: Read> Read for Watched<'_, D> {
     }
 }
 
-impl<D: Write> Write for Watched<'_, D> {
+impl<D: Write> Write for Logged<'_, D> {
     ghost contents = { λ w. D.contents w.device };
 
     fn write(&mut self, buf: &[u8]) -> io::Result<usize> {

@@ -13,7 +13,7 @@ mod shows;
 mod task;
 mod writing;
 
-pub use arguments::{ArgumentFault, OptionName, Setting, Verb};
+pub use arguments::{ArgumentFault, OptionName, Subcommand, ValueOption};
 pub use capnp_messages::messages::{Command, Form};
 pub use diffs::{Compared, DiffFault, Side, run_diff, run_diff_flat, run_diff_packed};
 pub use fault::Fault;

@@ -50,7 +50,7 @@ fn fill_phone<A: BuilderArena>(
 }
 
 /// Sets the name and the email address of a person.
-fn fill_texts<A: BuilderArena>(
+fn set_name_and_email<A: BuilderArena>(
     arena: &mut A,
     person: person::Builder,
     name: &[u8],
@@ -96,7 +96,7 @@ fn fill_alice<A: BuilderArena>(arena: &mut A, alice: person::Builder) -> Result<
     ensures { Grows (A.view arena.old).words (A.view arena.new).words }
 {
     alice.set_id(arena, 123);
-    fill_texts(arena, alice, b"Alice", b"alice@example.com")?;
+    set_name_and_email(arena, alice, b"Alice", b"alice@example.com")?;
     fill_alices_phone(arena, alice)?;
     alice.get_employment().set_school(arena, b"MIT")
 }
@@ -106,7 +106,7 @@ fn fill_bob<A: BuilderArena>(arena: &mut A, bob: person::Builder) -> Result<(), 
     requires { HasStructPlace (A.view arena.old).words person_size bob.place }
 {
     bob.set_id(arena, 456);
-    fill_texts(arena, bob, b"Bob", b"bob@example.com")?;
+    set_name_and_email(arena, bob, b"Bob", b"bob@example.com")?;
     fill_bobs_phones(arena, bob)?;
     bob.get_employment().set_unemployed(arena);
     Ok(())

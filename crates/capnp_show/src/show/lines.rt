@@ -127,7 +127,7 @@ impl Lines {
 
     /// Writes the line that says that the text is cut, after an unfinished line.
     pub(super) fn write_cut(&mut self) -> Result<(), Ended> {
-        self.text.push_last(if self.has_colors {
+        self.text.push_into_kept(if self.has_colors {
             CUT_COLORED_LINE
         } else {
             CUT_LINE

@@ -91,7 +91,7 @@ impl Text {
     }
 
     /// Adds `bytes` to the end of the text, also to the bytes that were kept free.
-    pub(super) fn push_last(&mut self, bytes: &[u8]) -> Result<(), Ended> {
+    pub(super) fn push_into_kept(&mut self, bytes: &[u8]) -> Result<(), Ended> {
         self.push_within(MOST_BYTES, bytes)
     }
 

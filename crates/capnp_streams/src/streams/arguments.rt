@@ -1,7 +1,7 @@
 //! Parses the arguments, one by one.
 ghost use Rattle.std.specs.Prelude.{◌≡◌, ◌<◌, MatchOption, length};
 ghost use Rattle.std.specs.List.{after_first, before_first, position_or_len};
-ghost use Rattle.capnp_streams.specs.Arguments.{assigned_step, budget_of, command_step, end_of, exclusion_of, form_exclusion, has_option_form, is_equals, lacks_check, line_diff, line_form, line_reads_flat, line_request, line_show, line_with_value, named_step, nesting_of, operand_step, option_named, option_step, option_text, parted_step, plain_line, setting_text, show_exclusion, step_if_allowed, argument_step, step_or, line_task, verb_exclusion, verb_named, verb_text};
+ghost use Rattle.capnp_streams.specs.Arguments.{assigned_step, budget_of, command_step, end_of, exclusion_of, form_exclusion, has_option_form, is_equals, lacks_check, parsed_diff, parsed_form, parsed_reads_flat, parsed_request, parsed_show, parsed_with_value, named_step, nesting_of, operand_step, option_named, option_step, option_text, parted_step, no_arguments, value_option_text, show_exclusion, step_if_allowed, argument_step, step_or, parsed_task, subcommand_exclusion, subcommand_named, subcommand_text};
 
 use super::path::{Path, path_of};
 use super::task::{DiffTask, Request, ShowTask, Task};
@@ -11,7 +11,7 @@ use capnp_messages::text::{parse_budget, parse_nesting};
 
 /// A command of `capnp_canon`, without its options.
 #[derive(Clone, Copy, Debug, PartialEq, Eq)]
-pub enum Verb {
+pub enum Subcommand {
     Canon,
     Check,
     Size,
@@ -21,19 +21,19 @@ pub enum Verb {
     Diff,
 }
 
-impl Verb {
+impl Subcommand {
     /// Returns the argument that is this command.
     pub fn text(self) -> &'static str
-        ensures { result.now ≡ verb_text self }
+        ensures { result.now ≡ subcommand_text self }
     {
         match self {
-            Verb::Canon => "canon",
-            Verb::Check => "check",
-            Verb::Size => "size",
-            Verb::Digest => "digest",
-            Verb::Validate => "validate",
-            Verb::Show => "show",
-            Verb::Diff => "diff",
+            Subcommand::Canon => "canon",
+            Subcommand::Check => "check",
+            Subcommand::Size => "size",
+            Subcommand::Digest => "digest",
+            Subcommand::Validate => "validate",
+            Subcommand::Show => "show",
+            Subcommand::Diff => "diff",
         }
     }
 }
@@ -128,7 +128,7 @@ impl OptionName {
 
 /// An option with a value.
 #[derive(Clone, Copy, Debug, PartialEq, Eq)]
-pub enum Setting {
+pub enum ValueOption {
     Nesting,
     Words,
     At,
@@ -136,17 +136,17 @@ pub enum Setting {
     Bytes,
 }
 
-impl Setting {
+impl ValueOption {
     /// Returns the argument that is this option, without its value.
     pub fn text(self) -> &'static str
-        ensures { result.now ≡ setting_text self }
+        ensures { result.now ≡ value_option_text self }
     {
         match self {
-            Setting::Nesting => "--nesting",
-            Setting::Words => "--words",
-            Setting::At => "--at",
-            Setting::Depth => "--depth",
-            Setting::Bytes => "--bytes",
+            ValueOption::Nesting => "--nesting",
+            ValueOption::Words => "--words",
+            ValueOption::At => "--at",
+            ValueOption::Depth => "--depth",
+            ValueOption::Bytes => "--bytes",
         }
     }
 }
@@ -161,15 +161,15 @@ pub enum ArgumentFault {
     /// The argument looks like an option, but isn't one.
     UnknownOption,
     /// The value of the option is missing.
-    MissingValue(Setting),
+    MissingValue(ValueOption),
     /// The argument follows the option, but isn't a valid value of the option.
-    InvalidValue(Setting),
+    InvalidValue(ValueOption),
     /// The argument is the option, a `=`, and a text that isn't a valid value of the option.
-    InvalidSetting(Setting),
+    InvalidAssignment(ValueOption),
     /// The argument is an option that takes no value, with a `=` and a value.
     UnwantedValue(OptionName),
     /// The command doesn't have the option.
-    NotOfCommand(Verb, OptionName),
+    NotOfCommand(Subcommand, OptionName),
     /// The two options can't be used together.
     Excluded(OptionName, OptionName),
     /// The command has the first option only together with the second.
@@ -178,8 +178,8 @@ pub enum ArgumentFault {
 
 /// What the arguments so far ask for.
 #[derive(Clone, Copy)]
-pub(super) struct Line {
-    verb: Option<Verb>,
+pub(super) struct ParsedArguments {
+    subcommand: Option<Subcommand>,
     limits: ReaderOptions,
     unpack: bool,
     pack: bool,
@@ -198,29 +198,29 @@ pub(super) struct Line {
     /// The most bytes to write; `Some(None)` if any number may be written.
     bytes: Option<Option<usize>>,
     /// The option whose value comes next.
-    expects: Option<Setting>,
+    expects: Option<ValueOption>,
     /// Whether `--` came, after which no argument is an option.
     ended: bool,
 }
 
-/// What an argument does to the `Line` of the arguments before it.
+/// What an argument does to the `ParsedArguments` of the arguments before it.
 #[derive(Clone, Copy)]
 pub(super) enum ArgumentStep {
     /// Replaces the line by this one.
-    Goes(Line),
+    Goes(ParsedArguments),
     /// Leaves the line unchanged: the argument is a file.
     File,
     /// The arguments so far ask for this, and all later arguments are ignored.
     Stops(Request),
 }
 
-impl Line {
+impl ParsedArguments {
     /// Returns the line before any argument.
     pub(super) fn plain() -> Self
-        ensures { result ≡ plain_line }
+        ensures { result ≡ no_arguments }
     {
-        Line {
-            verb: None,
+        ParsedArguments {
+            subcommand: None,
             limits: ReaderOptions::default(),
             unpack: false,
             pack: false,
@@ -242,73 +242,82 @@ impl Line {
 
     /// Whether the line asks to read the input as the raw words of one message.
     fn reads_flat(&self) -> bool
-        ensures { result ≡ line_reads_flat self.now }
+        ensures { result ≡ parsed_reads_flat self.now }
     {
-        match self.verb {
-            Some(Verb::Canon) | None => self.from_flat,
+        match self.subcommand {
+            Some(Subcommand::Canon) | None => self.from_flat,
             Some(_) => self.flat || self.from_flat,
         }
     }
 
     /// Returns the fault if the line's command doesn't have one of the line's options. Returns
     /// `None` if the command has all of them, or if there is no command yet.
-    fn verb_exclusion(&self) -> Option<ArgumentFault>
-        ensures { result ≡ verb_exclusion self.now.verb self.now }
+    fn subcommand_exclusion(&self) -> Option<ArgumentFault>
+        ensures { result ≡ subcommand_exclusion self.now.subcommand self.now }
     {
-        let (verb, option) = match self.verb {
+        let (subcommand, option) = match self.subcommand {
             None => return None,
-            Some(Verb::Canon) if self.quiet => (Verb::Canon, OptionName::Quiet),
-            Some(Verb::Canon) if self.lists => (Verb::Canon, OptionName::Check),
-            Some(Verb::Canon) => return None,
-            Some(Verb::Check) if self.pack => (Verb::Check, OptionName::Pack),
-            Some(Verb::Check) if self.hex => (Verb::Check, OptionName::Hex),
-            Some(Verb::Check) if self.lists => (Verb::Check, OptionName::Check),
-            Some(Verb::Check) if !self.path.is_whole() => (Verb::Check, OptionName::At),
-            Some(Verb::Check) => return None,
-            Some(Verb::Size) if self.pack => (Verb::Size, OptionName::Pack),
-            Some(Verb::Size) if self.hex => (Verb::Size, OptionName::Hex),
-            Some(Verb::Size) if self.quiet => (Verb::Size, OptionName::Quiet),
-            Some(Verb::Size) if self.lists => (Verb::Size, OptionName::Check),
-            Some(Verb::Size) => return None,
-            Some(Verb::Digest) if self.pack => (Verb::Digest, OptionName::Pack),
-            Some(Verb::Digest) if self.hex => (Verb::Digest, OptionName::Hex),
-            Some(Verb::Digest) => return None,
-            Some(Verb::Validate) if self.pack => (Verb::Validate, OptionName::Pack),
-            Some(Verb::Validate) if self.hex => (Verb::Validate, OptionName::Hex),
-            Some(Verb::Validate) if self.lists => (Verb::Validate, OptionName::Check),
-            Some(Verb::Validate) if !self.path.is_whole() => (Verb::Validate, OptionName::At),
-            Some(Verb::Validate) => return None,
-            Some(Verb::Show) if self.pack => (Verb::Show, OptionName::Pack),
-            Some(Verb::Show) if self.hex => (Verb::Show, OptionName::Hex),
-            Some(Verb::Show) if self.quiet => (Verb::Show, OptionName::Quiet),
-            Some(Verb::Show) if self.lists => (Verb::Show, OptionName::Check),
-            Some(Verb::Show) => return None,
-            Some(Verb::Diff) if self.pack => (Verb::Diff, OptionName::Pack),
-            Some(Verb::Diff) if self.hex => (Verb::Diff, OptionName::Hex),
-            Some(Verb::Diff) if self.lists => (Verb::Diff, OptionName::Check),
-            Some(Verb::Diff) if !self.path.is_whole() => (Verb::Diff, OptionName::At),
-            Some(Verb::Diff) => return None,
+            Some(Subcommand::Canon) if self.quiet => (Subcommand::Canon, OptionName::Quiet),
+            Some(Subcommand::Canon) if self.lists => (Subcommand::Canon, OptionName::Check),
+            Some(Subcommand::Canon) => return None,
+            Some(Subcommand::Check) if self.pack => (Subcommand::Check, OptionName::Pack),
+            Some(Subcommand::Check) if self.hex => (Subcommand::Check, OptionName::Hex),
+            Some(Subcommand::Check) if self.lists => (Subcommand::Check, OptionName::Check),
+            Some(Subcommand::Check) if !self.path.is_whole() => (Subcommand::Check, OptionName::At),
+            Some(Subcommand::Check) => return None,
+            Some(Subcommand::Size) if self.pack => (Subcommand::Size, OptionName::Pack),
+            Some(Subcommand::Size) if self.hex => (Subcommand::Size, OptionName::Hex),
+            Some(Subcommand::Size) if self.quiet => (Subcommand::Size, OptionName::Quiet),
+            Some(Subcommand::Size) if self.lists => (Subcommand::Size, OptionName::Check),
+            Some(Subcommand::Size) => return None,
+            Some(Subcommand::Digest) if self.pack => (Subcommand::Digest, OptionName::Pack),
+            Some(Subcommand::Digest) if self.hex => (Subcommand::Digest, OptionName::Hex),
+            Some(Subcommand::Digest) => return None,
+            Some(Subcommand::Validate) if self.pack => (Subcommand::Validate, OptionName::Pack),
+            Some(Subcommand::Validate) if self.hex => (Subcommand::Validate, OptionName::Hex),
+            Some(Subcommand::Validate) if self.lists => (Subcommand::Validate, OptionName::Check),
+            Some(Subcommand::Validate) if !self.path.is_whole() => (
+                Subcommand::Validate,
+                OptionName::At,
+            ),
+            Some(Subcommand::Validate) => return None,
+            Some(Subcommand::Show) if self.pack => (Subcommand::Show, OptionName::Pack),
+            Some(Subcommand::Show) if self.hex => (Subcommand::Show, OptionName::Hex),
+            Some(Subcommand::Show) if self.quiet => (Subcommand::Show, OptionName::Quiet),
+            Some(Subcommand::Show) if self.lists => (Subcommand::Show, OptionName::Check),
+            Some(Subcommand::Show) => return None,
+            Some(Subcommand::Diff) if self.pack => (Subcommand::Diff, OptionName::Pack),
+            Some(Subcommand::Diff) if self.hex => (Subcommand::Diff, OptionName::Hex),
+            Some(Subcommand::Diff) if self.lists => (Subcommand::Diff, OptionName::Check),
+            Some(Subcommand::Diff) if !self.path.is_whole() => (Subcommand::Diff, OptionName::At),
+            Some(Subcommand::Diff) => return None,
         };
-        Some(ArgumentFault::NotOfCommand(verb, option))
+        Some(ArgumentFault::NotOfCommand(subcommand, option))
     }
 
     /// Returns the fault if the line has an option of `show`, and another command. Returns `None` if
     /// it has no such option, or no command yet.
     fn show_exclusion(&self) -> Option<ArgumentFault>
-        ensures { result ≡ show_exclusion self.now.verb self.now }
+        ensures { result ≡ show_exclusion self.now.subcommand self.now }
     {
-        match self.verb {
-            None | Some(Verb::Show) => None,
-            Some(verb) if self.json => Some(ArgumentFault::NotOfCommand(verb, OptionName::Json)),
-            Some(verb) if self.values => {
-                Some(ArgumentFault::NotOfCommand(verb, OptionName::Values))
+        match self.subcommand {
+            None | Some(Subcommand::Show) => None,
+            Some(subcommand) if self.json => Some(ArgumentFault::NotOfCommand(
+                subcommand,
+                OptionName::Json,
+            )),
+            Some(subcommand) if self.values => {
+                Some(ArgumentFault::NotOfCommand(subcommand, OptionName::Values))
             }
-            Some(verb) if self.depth.is_some() => {
-                Some(ArgumentFault::NotOfCommand(verb, OptionName::Depth))
+            Some(subcommand) if self.depth.is_some() => {
+                Some(ArgumentFault::NotOfCommand(subcommand, OptionName::Depth))
             }
-            Some(verb) if self.colors => Some(ArgumentFault::NotOfCommand(verb, OptionName::Color)),
-            Some(verb) if self.bytes.is_some() => {
-                Some(ArgumentFault::NotOfCommand(verb, OptionName::Bytes))
+            Some(subcommand) if self.colors => Some(ArgumentFault::NotOfCommand(
+                subcommand,
+                OptionName::Color,
+            )),
+            Some(subcommand) if self.bytes.is_some() => {
+                Some(ArgumentFault::NotOfCommand(subcommand, OptionName::Bytes))
             }
             Some(_) => None,
         }
@@ -339,7 +348,7 @@ impl Line {
     fn exclusion(&self) -> Option<ArgumentFault>
         ensures { result ≡ exclusion_of self.now }
     {
-        match self.verb_exclusion() {
+        match self.subcommand_exclusion() {
             Some(fault) => Some(fault),
             None => match self.show_exclusion() {
                 Some(fault) => Some(fault),
@@ -368,75 +377,75 @@ impl Line {
             OptionName::Version | OptionName::VersionLetter => Ok(ArgumentStep::Stops(
                 Request::Version,
             )),
-            OptionName::End => Ok(ArgumentStep::Goes(Line {
+            OptionName::End => Ok(ArgumentStep::Goes(ParsedArguments {
                 ended: true,
                 ..self
             })),
-            OptionName::Packed => Line {
+            OptionName::Packed => ParsedArguments {
                 unpack: true,
                 ..self
             }
             .if_allowed(),
-            OptionName::Pack => Line { pack: true, ..self }.if_allowed(),
-            OptionName::Flat => Line { flat: true, ..self }.if_allowed(),
-            OptionName::FromFlat => Line {
+            OptionName::Pack => ParsedArguments { pack: true, ..self }.if_allowed(),
+            OptionName::Flat => ParsedArguments { flat: true, ..self }.if_allowed(),
+            OptionName::FromFlat => ParsedArguments {
                 from_flat: true,
                 ..self
             }
             .if_allowed(),
-            OptionName::Hex => Line { hex: true, ..self }.if_allowed(),
-            OptionName::Quiet => Line {
+            OptionName::Hex => ParsedArguments { hex: true, ..self }.if_allowed(),
+            OptionName::Quiet => ParsedArguments {
                 quiet: true,
                 ..self
             }
             .if_allowed(),
-            OptionName::Check | OptionName::CheckLetter => Line {
+            OptionName::Check | OptionName::CheckLetter => ParsedArguments {
                 lists: true,
                 ..self
             }
             .if_allowed(),
-            OptionName::Json => Line { json: true, ..self }.if_allowed(),
-            OptionName::Values => Line {
+            OptionName::Json => ParsedArguments { json: true, ..self }.if_allowed(),
+            OptionName::Values => ParsedArguments {
                 values: true,
                 ..self
             }
             .if_allowed(),
-            OptionName::Color => Line {
+            OptionName::Color => ParsedArguments {
                 colors: true,
                 ..self
             }
             .if_allowed(),
-            OptionName::Depth => Ok(ArgumentStep::Goes(Line {
-                expects: Some(Setting::Depth),
+            OptionName::Depth => Ok(ArgumentStep::Goes(ParsedArguments {
+                expects: Some(ValueOption::Depth),
                 ..self
             })),
-            OptionName::Bytes => Ok(ArgumentStep::Goes(Line {
-                expects: Some(Setting::Bytes),
+            OptionName::Bytes => Ok(ArgumentStep::Goes(ParsedArguments {
+                expects: Some(ValueOption::Bytes),
                 ..self
             })),
-            OptionName::Nesting => Ok(ArgumentStep::Goes(Line {
-                expects: Some(Setting::Nesting),
+            OptionName::Nesting => Ok(ArgumentStep::Goes(ParsedArguments {
+                expects: Some(ValueOption::Nesting),
                 ..self
             })),
-            OptionName::Words => Ok(ArgumentStep::Goes(Line {
-                expects: Some(Setting::Words),
+            OptionName::Words => Ok(ArgumentStep::Goes(ParsedArguments {
+                expects: Some(ValueOption::Words),
                 ..self
             })),
-            OptionName::At => Ok(ArgumentStep::Goes(Line {
-                expects: Some(Setting::At),
+            OptionName::At => Ok(ArgumentStep::Goes(ParsedArguments {
+                expects: Some(ValueOption::At),
                 ..self
             })),
         }
     }
 
-    /// Returns the line with `text` as the value of `setting`; `None` if `text` isn't a valid value
-    /// of `setting`.
-    fn with_value(self, setting: Setting, text: &str) -> Option<Self>
-        ensures { result ≡ line_with_value setting text.now self }
+    /// Returns the line with `text` as the value of `value_option`; `None` if `text` isn't a valid value
+    /// of `value_option`.
+    fn with_value(self, value_option: ValueOption, text: &str) -> Option<Self>
+        ensures { result ≡ parsed_with_value value_option text.now self }
     {
-        match setting {
-            Setting::Nesting => match nesting(text) {
-                Some(nesting_limit) => Some(Line {
+        match value_option {
+            ValueOption::Nesting => match nesting(text) {
+                Some(nesting_limit) => Some(ParsedArguments {
                     limits: ReaderOptions {
                         nesting_limit,
                         ..self.limits
@@ -446,8 +455,8 @@ impl Line {
                 }),
                 None => None,
             },
-            Setting::Words => match budget(text) {
-                Some(traversal_limit_in_words) => Some(Line {
+            ValueOption::Words => match budget(text) {
+                Some(traversal_limit_in_words) => Some(ParsedArguments {
                     limits: ReaderOptions {
                         traversal_limit_in_words,
                         ..self.limits
@@ -457,24 +466,24 @@ impl Line {
                 }),
                 None => None,
             },
-            Setting::At => match path_of(text) {
-                Some(path) => Some(Line {
+            ValueOption::At => match path_of(text) {
+                Some(path) => Some(ParsedArguments {
                     path,
                     expects: None,
                     ..self
                 }),
                 None => None,
             },
-            Setting::Depth => match nesting(text) {
-                Some(depth) => Some(Line {
+            ValueOption::Depth => match nesting(text) {
+                Some(depth) => Some(ParsedArguments {
                     depth: Some(depth),
                     expects: None,
                     ..self
                 }),
                 None => None,
             },
-            Setting::Bytes => match budget(text) {
-                Some(bytes) => Some(Line {
+            ValueOption::Bytes => match budget(text) {
+                Some(bytes) => Some(ParsedArguments {
                     bytes: Some(bytes),
                     expects: None,
                     ..self
@@ -484,17 +493,17 @@ impl Line {
         }
     }
 
-    /// Returns what `text`, as the value of `setting`, does to the line; the error `fault` if
-    /// `text` isn't a valid value of `setting`; an error if the command doesn't have `setting`.
+    /// Returns what `text`, as the value of `value_option`, does to the line; the error `fault` if
+    /// `text` isn't a valid value of `value_option`; an error if the command doesn't have `value_option`.
     fn with_value_or(
         self,
-        setting: Setting,
+        value_option: ValueOption,
         text: &str,
         fault: ArgumentFault,
     ) -> Result<ArgumentStep, ArgumentFault>
-        ensures { result ≡ step_or fault (line_with_value setting text.now self) }
+        ensures { result ≡ step_or fault (parsed_with_value value_option text.now self) }
     {
-        match self.with_value(setting, text) {
+        match self.with_value(value_option, text) {
             Some(line) => line.if_allowed(),
             None => Err(fault),
         }
@@ -512,24 +521,44 @@ impl Line {
         match option {
             None => Err(ArgumentFault::UnknownOption),
             Some(OptionName::Nesting) => {
-                let setting = Setting::Nesting;
-                self.with_value_or(setting, value, ArgumentFault::InvalidSetting(setting))
+                let value_option = ValueOption::Nesting;
+                self.with_value_or(
+                    value_option,
+                    value,
+                    ArgumentFault::InvalidAssignment(value_option),
+                )
             }
             Some(OptionName::Words) => {
-                let setting = Setting::Words;
-                self.with_value_or(setting, value, ArgumentFault::InvalidSetting(setting))
+                let value_option = ValueOption::Words;
+                self.with_value_or(
+                    value_option,
+                    value,
+                    ArgumentFault::InvalidAssignment(value_option),
+                )
             }
             Some(OptionName::At) => {
-                let setting = Setting::At;
-                self.with_value_or(setting, value, ArgumentFault::InvalidSetting(setting))
+                let value_option = ValueOption::At;
+                self.with_value_or(
+                    value_option,
+                    value,
+                    ArgumentFault::InvalidAssignment(value_option),
+                )
             }
             Some(OptionName::Depth) => {
-                let setting = Setting::Depth;
-                self.with_value_or(setting, value, ArgumentFault::InvalidSetting(setting))
+                let value_option = ValueOption::Depth;
+                self.with_value_or(
+                    value_option,
+                    value,
+                    ArgumentFault::InvalidAssignment(value_option),
+                )
             }
             Some(OptionName::Bytes) => {
-                let setting = Setting::Bytes;
-                self.with_value_or(setting, value, ArgumentFault::InvalidSetting(setting))
+                let value_option = ValueOption::Bytes;
+                self.with_value_or(
+                    value_option,
+                    value,
+                    ArgumentFault::InvalidAssignment(value_option),
+                )
             }
             Some(option) => Err(ArgumentFault::UnwantedValue(option)),
         }
@@ -561,22 +590,22 @@ impl Line {
     /// an option nor the value of one: it is the command if the line has none yet, and otherwise a
     /// file.
     fn with_operand(self, text: &str) -> Result<ArgumentStep, ArgumentFault>
-        ensures { result ≡ operand_step self.verb text.now self }
+        ensures { result ≡ operand_step self.subcommand text.now self }
     {
-        match self.verb {
+        match self.subcommand {
             Some(_) => Ok(ArgumentStep::File),
-            None => self.with_command(verb_of(text)),
+            None => self.with_command(subcommand_of(text)),
         }
     }
 
-    /// Returns what the command `verb` does to the line; the error `UnknownCommand` if `verb` is
+    /// Returns what the command `subcommand` does to the line; the error `UnknownCommand` if `subcommand` is
     /// `None`.
-    fn with_command(self, verb: Option<Verb>) -> Result<ArgumentStep, ArgumentFault>
-        ensures { result ≡ command_step verb self }
+    fn with_command(self, subcommand: Option<Subcommand>) -> Result<ArgumentStep, ArgumentFault>
+        ensures { result ≡ command_step subcommand self }
     {
-        match verb {
-            Some(verb) => Line {
-                verb: Some(verb),
+        match subcommand {
+            Some(subcommand) => ParsedArguments {
+                subcommand: Some(subcommand),
                 ..self
             }
             .if_allowed(),
@@ -590,8 +619,12 @@ impl Line {
         ensures { result ≡ argument_step text.now self }
     {
         match self.expects {
-            Some(setting) => {
-                self.with_value_or(setting, text, ArgumentFault::InvalidValue(setting))
+            Some(value_option) => {
+                self.with_value_or(
+                    value_option,
+                    text,
+                    ArgumentFault::InvalidValue(value_option),
+                )
             }
             None if looks_like_option(text) && !self.ended => self.with_option_text(text),
             None => self.with_operand(text),
@@ -603,15 +636,15 @@ impl Line {
     pub(super) fn request(self) -> Result<Request, ArgumentFault>
         ensures { result ≡ end_of self }
     {
-        if let Some(setting) = self.expects {
-            return Err(ArgumentFault::MissingValue(setting));
+        if let Some(value_option) = self.expects {
+            return Err(ArgumentFault::MissingValue(value_option));
         }
-        match self.verb {
-            Some(verb) => {
-                if self.lacks_check(verb) {
+        match self.subcommand {
+            Some(subcommand) => {
+                if self.lacks_check(subcommand) {
                     Err(ArgumentFault::Needs(OptionName::Quiet, OptionName::Check))
                 } else {
-                    Ok(self.request_of(verb))
+                    Ok(self.request_of(subcommand))
                 }
             }
             None => Err(ArgumentFault::MissingCommand),
@@ -619,41 +652,45 @@ impl Line {
     }
 
     /// Whether the command is `digest`, with `--quiet` and without `--check`.
-    fn lacks_check(self, verb: Verb) -> bool
-        ensures { result ≡ lacks_check verb self }
+    fn lacks_check(self, subcommand: Subcommand) -> bool
+        ensures { result ≡ lacks_check subcommand self }
     {
-        match verb {
-            Verb::Digest => self.quiet && !self.lists,
-            Verb::Canon | Verb::Check | Verb::Size | Verb::Validate | Verb::Show | Verb::Diff =>
-                false,
+        match subcommand {
+            Subcommand::Digest => self.quiet && !self.lists,
+            Subcommand::Canon
+            | Subcommand::Check
+            | Subcommand::Size
+            | Subcommand::Validate
+            | Subcommand::Show
+            | Subcommand::Diff => false,
         }
     }
 
-    /// Returns what the line asks for, with the command `verb`.
-    fn request_of(self, verb: Verb) -> Request
-        ensures { result ≡ line_request verb self }
+    /// Returns what the line asks for, with the command `subcommand`.
+    fn request_of(self, subcommand: Subcommand) -> Request
+        ensures { result ≡ parsed_request subcommand self }
     {
-        match verb {
-            Verb::Canon => Request::Run(self.task(Command::Canon(self.form()))),
-            Verb::Check => Request::Run(self.task(Command::Check)),
-            Verb::Size => Request::Run(self.task(Command::Size)),
-            Verb::Digest => Request::Run(self.task(Command::Digest)),
-            Verb::Validate => Request::Run(self.task(Command::Validate)),
-            Verb::Show => Request::Show(self.show_task()),
-            Verb::Diff => Request::Diff(self.diff_task()),
+        match subcommand {
+            Subcommand::Canon => Request::Run(self.task(Command::Canon(self.form()))),
+            Subcommand::Check => Request::Run(self.task(Command::Check)),
+            Subcommand::Size => Request::Run(self.task(Command::Size)),
+            Subcommand::Digest => Request::Run(self.task(Command::Digest)),
+            Subcommand::Validate => Request::Run(self.task(Command::Validate)),
+            Subcommand::Show => Request::Show(self.show_task()),
+            Subcommand::Diff => Request::Diff(self.diff_task()),
         }
     }
 
     /// Returns the form in which canonical words are written.
     fn form(self) -> Form
-        ensures { result ≡ line_form self }
+        ensures { result ≡ parsed_form self }
     {
         if self.flat { Form::Flat } else { Form::Framed }
     }
 
     /// Returns the task that the line asks for, with this command.
     fn task(self, command: Command) -> Task
-        ensures { result ≡ line_task command self }
+        ensures { result ≡ parsed_task command self }
     {
         Task {
             command,
@@ -670,7 +707,7 @@ impl Line {
 
     /// Returns how the line asks to show messages.
     fn show_task(self) -> ShowTask
-        ensures { result ≡ line_show self }
+        ensures { result ≡ parsed_show self }
     {
         ShowTask {
             json: self.json,
@@ -687,7 +724,7 @@ impl Line {
 
     /// Returns how the line asks to compare messages.
     fn diff_task(self) -> DiffTask
-        ensures { result ≡ line_diff self }
+        ensures { result ≡ parsed_diff self }
     {
         DiffTask {
             limits: self.limits,
@@ -721,23 +758,23 @@ fn option_of(text: &str) -> Option<OptionName>
 }
 
 /// The command whose text is `text`, if there is one.
-fn verb_of(text: &str) -> Option<Verb>
-    ensures { result ≡ verb_named text.now }
+fn subcommand_of(text: &str) -> Option<Subcommand>
+    ensures { result ≡ subcommand_named text.now }
 {
     if text == "canon" {
-        Some(Verb::Canon)
+        Some(Subcommand::Canon)
     } else if text == "check" {
-        Some(Verb::Check)
+        Some(Subcommand::Check)
     } else if text == "size" {
-        Some(Verb::Size)
+        Some(Subcommand::Size)
     } else if text == "digest" {
-        Some(Verb::Digest)
+        Some(Subcommand::Digest)
     } else if text == "validate" {
-        Some(Verb::Validate)
+        Some(Subcommand::Validate)
     } else if text == "show" {
-        Some(Verb::Show)
+        Some(Subcommand::Show)
     } else if text == "diff" {
-        Some(Verb::Diff)
+        Some(Subcommand::Diff)
     } else {
         None
     }

@@ -2,7 +2,7 @@
 ghost use Rattle.std.specs.Prelude.{◌≡◌, ◌<◌, ◌+◌, ◌++◌, ℕ, List, IfErr, IfOk, length, map, string_bytes, take};
 ghost use Rattle.capnp_streams.specs.Arguments.{files_of, request_of};
 
-use super::arguments::{ArgumentFault, ArgumentStep, Line};
+use super::arguments::{ArgumentFault, ArgumentStep, ParsedArguments};
 use super::path::Path;
 use capnp_arena::arena::ReaderOptions;
 use capnp_messages::messages::Command;
@@ -124,7 +124,7 @@ pub fn parse_args(args: &[String]) -> Result<Request, WrongArgument>
     ensures first { IfErr result (λ wrong. wrong.at < length args.now → (more : List (List ℕ))
         → request_of (take (wrong.at + 1) (map string_bytes args.now) ++ more) ≡ Err wrong) }
 {
-    let mut line = Line::plain();
+    let mut line = ParsedArguments::plain();
     let mut at = 0;
     let mut rest = args;
     while let Some((arg, more)) = rest.split_first() {
@@ -149,7 +149,7 @@ pub fn named_files(alloc: Global, args: &[String]) -> Result<Vec<String>, AllocE
         map string_bytes files.items ≡ files_of (map string_bytes args.now)) }
 {
     let mut files = Vec::new(alloc);
-    let mut line = Line::plain();
+    let mut line = ParsedArguments::plain();
     let mut rest = args;
     while let Some((arg, more)) = rest.split_first() {
         match line.with_argument(arg.as_str()) {

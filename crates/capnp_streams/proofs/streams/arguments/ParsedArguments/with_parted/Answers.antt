@@ -2,7 +2,7 @@ use Rattle.std.proofs.Common.{◌∙◌, Err, ap}
 use Rattle.capnp_streams.specs.Arguments.{assigned_step, option_named}
 use Rattle.capnp_streams.specs.declared.streams.arguments.ArgumentFault.TheVariants.{UnknownOption}
 use Rattle.capnp_streams.proofs.ArgumentLemmas.{taken_apart}
-use Rattle.capnp_streams.proofs.streams.arguments.Line.with_parted.Goals as goal
+use Rattle.capnp_streams.proofs.streams.arguments.ParsedArguments.with_parted.Goals as goal
 
 pub returns-in-Some : goal.returns-in-Some
 returns-in-Some c =
