@@ -20,9 +20,9 @@ struct Names<'a> {
     right: &'a str,
 }
 
-/// Compares the messages of the files `left` and `right`; `-` is standard input. Returns whether they
-/// are the same. Ends with an error if a file can't be opened, or at the first message that can't be
-/// compared.
+/// Compares the messages of the files `left` and `right`; `-` is standard input. Returns whether
+/// they are the same. Ends with an error if a file can't be opened, or at the first message that
+/// can't be compared.
 pub fn compare_files<W: BufferedOutput>(
     rt: &HostRuntime,
     task: DiffTask,

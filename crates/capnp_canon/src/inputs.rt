@@ -254,8 +254,8 @@ fn only(answered: Result<bool, Fault>) -> Result<Summary, Stop> {
     }
 }
 
-/// Reports which message is refused, counted from 1, at which byte of the input it begins, why it is
-/// refused, and at which of its pointers, if it is at one. If this is the first message, and the
+/// Reports which message is refused, counted from 1, at which byte of the input it begins, why it
+/// is refused, and at which of its pointers, if it is at one. If this is the first message, and the
 /// input doesn't look like what `form` says, also reports what the input looks like.
 pub fn refuse(rt: &HostRuntime, form: InputForm, name: Option<&str>, stop: Stop, seen: &DeviceLog) {
     let (name, colon) = match name {

@@ -14,8 +14,8 @@ use std::io::{self, Read};
 /// The number of hex digits of a digest.
 const DIGITS: usize = 64;
 
-/// The number of bytes of a line that `digest` writes of a message, without its name: the digits, and
-/// a line feed.
+/// The number of bytes of a line that `digest` writes of a message, without its name: the digits,
+/// and a line feed.
 const LINE: usize = DIGITS + 1;
 
 /// What a line of a list says: the digest of message `number` of the file `name` has these hex
@@ -184,7 +184,8 @@ fn tell_others(rt: &HostRuntime, list: &str, first: u64, others: u64) {
     };
 }
 
-/// Returns the digests of the messages of a file, up to the first refused one: `LINE` bytes for each.
+/// Returns the digests of the messages of a file, up to the first refused one: `LINE` bytes for
+/// each.
 fn digests_of<W: BufferedOutput>(
     rt: &HostRuntime,
     task: Task,
@@ -220,8 +221,8 @@ fn has_digest(digests: &[u8], entry: &Entry<'_>) -> bool {
     digests[start..start + DIGITS].eq_ignore_ascii_case(entry.digits.as_bytes())
 }
 
-/// Counts an entry whose message hasn't the digest, and writes the line about the entry; if the task
-/// is quiet, only if its message hasn't the digest.
+/// Counts an entry whose message hasn't the digest, and writes the line about the entry; if the
+/// task is quiet, only if its message hasn't the digest.
 fn tell_verified<W: BufferedOutput>(
     task: Task,
     output: &mut W,
@@ -281,8 +282,8 @@ fn entry_of(alloc: Global, line: &str) -> Result<Option<Entry<'_>>, AllocError> 
     }))
 }
 
-/// Returns the hex digits and the name in `front`, which are parted by two spaces, or by a space and
-/// a `*`.
+/// Returns the hex digits and the name in `front`, which are parted by two spaces, or by a space
+/// and a `*`.
 fn parted(front: &str) -> Option<(&str, &str)> {
     let (digits, rest) = front.split_at_checked(DIGITS)?;
     if !digits

@@ -165,8 +165,8 @@ fn run_to<W: BufferedOutput>(
     ended_with(rt, ended, output, seen)
 }
 
-/// Shows the messages of `files`, or of standard input if there are no files, on standard output, in
-/// at most as many bytes as `task` says. Returns the program's exit status.
+/// Shows the messages of `files`, or of standard input if there are no files, on standard output,
+/// in at most as many bytes as `task` says. Returns the program's exit status.
 fn show(rt: &HostRuntime, task: ShowTask, files: &[String]) -> ExitCode {
     let seen = DeviceLog::new();
     let writer = Logged::new(io::writer(rt), &seen);
@@ -186,8 +186,8 @@ fn show(rt: &HostRuntime, task: ShowTask, files: &[String]) -> ExitCode {
     ended_with(rt, ended, &mut output, &seen)
 }
 
-/// Compares the messages of two files, and writes to standard output in what they differ. Returns the
-/// program's exit status.
+/// Compares the messages of two files, and writes to standard output in what they differ. Returns
+/// the program's exit status.
 fn diff(rt: &HostRuntime, task: DiffTask, files: &[String]) -> ExitCode {
     if files.len() != 2 {
         let _ = rt.eprintln(TWO_FILES);
@@ -208,8 +208,8 @@ fn diff(rt: &HostRuntime, task: DiffTask, files: &[String]) -> ExitCode {
     ended_with(rt, ended, &mut output, &seen)
 }
 
-/// Flushes `output`, and returns the exit status of a program that has `ended` so. If `output` fails,
-/// reports this failure.
+/// Flushes `output`, and returns the exit status of a program that has `ended` so. If `output`
+/// fails, reports this failure.
 fn ended_with<W: BufferedOutput>(
     rt: &HostRuntime,
     ended: Result<bool, Unanswered>,

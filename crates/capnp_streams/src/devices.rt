@@ -153,8 +153,8 @@ impl BufferedOutput for NoOutput {
     }
 }
 
-/// An output that writes to `output`, but at most a number of bytes. Bytes that are more than what is
-/// left of this number fail as a whole, and all bytes after them, too.
+/// An output that writes to `output`, but at most a number of bytes. Bytes that are more than what
+/// is left of this number fail as a whole, and all bytes after them, too.
 #[derive(Drop)]
 pub struct BoundedOutput<W> {
     output: W,
@@ -314,10 +314,10 @@ impl<W: BufferedOutput> BufferedOutput for NamedLines<'_, '_, W> {
     }
 }
 
-/// An output that writes to `output`, with two spaces, `name`, `:` and the number of the line at the
-/// end of each line: the lines of `sha256sum`, for messages of a file. Like `sha256sum`, writes `\\`,
-/// `\n` and `\r` for a backslash, a line feed and a carriage return in `name`, and then a backslash
-/// before each line. Its contract doesn't state what bytes a write adds to `output`.
+/// An output that writes to `output`, with two spaces, `name`, `:` and the number of the line at
+/// the end of each line: the lines of `sha256sum`, for messages of a file. Like `sha256sum`, writes
+/// `\\`, `\n` and `\r` for a backslash, a line feed and a carriage return in `name`, and then a
+/// backslash before each line. Its contract doesn't state what bytes a write adds to `output`.
 #[derive(Drop)]
 pub struct NumberedLines<'n, 'w, W> {
     name: &'n str,
@@ -358,9 +358,9 @@ impl<'n, 'w, W: Output> NumberedLines<'n, 'w, W> {
         Ok(())
     }
 
-    /// Writes bytes of `from`, at most up to the end of the line, and what comes before or at the end
-    /// of the line. Returns the number of bytes of `from` that it wrote. Precondition: `from` isn't
-    /// empty.
+    /// Writes bytes of `from`, at most up to the end of the line, and what comes before or at the
+    /// end of the line. Returns the number of bytes of `from` that it wrote. Precondition: `from`
+    /// isn't empty.
     fn write_line(&mut self, from: &[u8]) -> Result<usize, DeviceFault>
         requires { 0 < length from.now }
         ensures some { IfOk result (λ n. 0 < n) }
@@ -382,7 +382,8 @@ impl<'n, 'w, W: Output> NumberedLines<'n, 'w, W> {
     }
 }
 
-/// Whether `sha256sum` writes this byte of a file's name as a backslash and a letter or a backslash.
+/// Whether `sha256sum` writes this byte of a file's name as a backslash and a letter or a
+/// backslash.
 fn is_escaped(byte: u8) -> bool {
     matches!(byte, b'\\' | b'\n' | b'\r')
 }

@@ -96,8 +96,8 @@ impl ShowTask {
 
 /// Guesses what an input is, after a run that reads it in this `form` has refused its first message
 /// with `fault`. Returns `None` if `fault` says nothing about the input, or if the input looks like
-/// what it is read as, or like nothing known. `first` has the first bytes of the input; the input has at least
-/// `given` bytes.
+/// what it is read as, or like nothing known. `first` has the first bytes of the input; the input
+/// has at least `given` bytes.
 pub fn guess(form: InputForm, fault: Fault, first: &[u8], given: u64) -> Option<Guess> {
     if is_of_devices(fault) {
         return None;

@@ -295,8 +295,8 @@ impl ParsedArguments {
         Some(ArgumentFault::NotOfCommand(subcommand, option))
     }
 
-    /// Returns the fault if the line has an option of `show`, and another command. Returns `None` if
-    /// it has no such option, or no command yet.
+    /// Returns the fault if the line has an option of `show`, and another command. Returns `None`
+    /// if it has no such option, or no command yet.
     fn show_exclusion(&self) -> Option<ArgumentFault>
         ensures { result ≡ show_exclusion self.now.subcommand self.now }
     {
@@ -324,8 +324,8 @@ impl ParsedArguments {
     }
 
     /// Returns the fault if two of the line's options can't be used together; otherwise `None`. Hex
-    /// digits are written neither as raw words nor packed, JSON has no colors, and raw words are never
-    /// read packed.
+    /// digits are written neither as raw words nor packed, JSON has no colors, and raw words are
+    /// never read packed.
     fn form_exclusion(&self) -> Option<ArgumentFault>
         ensures { result ≡ form_exclusion self.now }
     {
@@ -438,8 +438,8 @@ impl ParsedArguments {
         }
     }
 
-    /// Returns the line with `text` as the value of `value_option`; `None` if `text` isn't a valid value
-    /// of `value_option`.
+    /// Returns the line with `text` as the value of `value_option`; `None` if `text` isn't a valid
+    /// value of `value_option`.
     fn with_value(self, value_option: ValueOption, text: &str) -> Option<Self>
         ensures { result ≡ parsed_with_value value_option text.now self }
     {
@@ -494,7 +494,8 @@ impl ParsedArguments {
     }
 
     /// Returns what `text`, as the value of `value_option`, does to the line; the error `fault` if
-    /// `text` isn't a valid value of `value_option`; an error if the command doesn't have `value_option`.
+    /// `text` isn't a valid value of `value_option`; an error if the command doesn't have
+    /// `value_option`.
     fn with_value_or(
         self,
         value_option: ValueOption,
@@ -598,7 +599,8 @@ impl ParsedArguments {
         }
     }
 
-    /// Returns what the command `subcommand` does to the line; the error `UnknownCommand` if `subcommand` is
+    /// Returns what the command `subcommand` does to the line; the error `UnknownCommand` if
+    /// `subcommand` is
     /// `None`.
     fn with_command(self, subcommand: Option<Subcommand>) -> Result<ArgumentStep, ArgumentFault>
         ensures { result ≡ command_step subcommand self }

@@ -89,7 +89,8 @@ impl Reading {
         )
     }
 
-    /// Reads the next message, and tests whether it is sound. Returns `false` at the end of the input.
+    /// Reads the next message, and tests whether it is sound. Returns `false` at the end of the
+    /// input.
     fn read<R: Input>(&mut self, limits: ReaderOptions, input: &mut R) -> Result<bool, DiffFault>
         requires { R.has_failed input.old ≡ false }
         ensures sound { result ≡ Ok true → IsReadable
@@ -205,16 +206,16 @@ fn push_longer<W: Output>(output: &mut W, number: u64, side: Side) -> Result<(),
     )
 }
 
-/// Compares each message of `left` with the message of the same number of `right`, and writes for each
-/// two what `compare_messages` writes about them. If one input has more messages, writes
+/// Compares each message of `left` with the message of the same number of `right`, and writes for
+/// each two what `compare_messages` writes about them. If one input has more messages, writes
 /// `message N: only in the first file` or `.. the second file`, where N is the number of the first
 /// of them, and reads no further.
 ///
 /// Both inputs are streams of frames. The number of words of each message may be at most the
 /// traversal limit. Each message has to be sound within the limits.
 ///
-/// Refusals: `Refused` if a frame can't be read, or a message isn't sound; `TooLong` if the line of a
-/// message is too long; `AllocationFailed`; `WriteFailed` if the output failed. What was written
+/// Refusals: `Refused` if a frame can't be read, or a message isn't sound; `TooLong` if the line of
+/// a message is too long; `AllocationFailed`; `WriteFailed` if the output failed. What was written
 /// before stays written.
 pub fn run_diff<L: BufferedInput, R: BufferedInput, W: BufferedOutput>(
     alloc: Global,

@@ -11,8 +11,8 @@ use capnp_words::error::ErrorKind;
 pub enum Fault {
     /// The message's frame can't be read, or the answer can't be written.
     Frame(FrameError),
-    /// The message can't be copied, tested or measured: why, and at which of its pointers, if it is at
-    /// one.
+    /// The message can't be copied, tested or measured: why, and at which of its pointers, if it is
+    /// at one.
     Layout(ErrorKind, Option<RefusedPointer>),
     /// There are more messages than a `u64` can count.
     TooManyMessages,

@@ -57,8 +57,8 @@ impl Path {
         })
     }
 
-    /// Returns the path with the index that `text` states after its indexes; `None` if `text` states
-    /// none, or if the path has 32 indexes already.
+    /// Returns the path with the index that `text` states after its indexes; `None` if `text`
+    /// states none, or if the path has 32 indexes already.
     fn with_text(self, text: &str) -> Option<Self>
         ensures { result ≡ path_with (index_of text.now) self }
     {
@@ -69,8 +69,8 @@ impl Path {
     }
 }
 
-/// Parses a path: 1 to 32 indexes between dots, each in decimal digits, with or without brackets, as
-/// in `0.2.[7].1`. Returns `None` for any other text, also if an index doesn't fit a `u32`.
+/// Parses a path: 1 to 32 indexes between dots, each in decimal digits, with or without brackets,
+/// as in `0.2.[7].1`. Returns `None` for any other text, also if an index doesn't fit a `u32`.
 pub(super) fn path_of(text: &str) -> Option<Path>
     ensures { result ≡ path_of text.now }
 {

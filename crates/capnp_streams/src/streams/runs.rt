@@ -152,8 +152,8 @@ fn next<A: Allocator, R: BufferedInput, W: BufferedOutput>(
 ///   `not canonical: REASON at segment S, word W`.
 /// - `Size`: the line `words N caps M`, without landing pads.
 ///
-/// If the task's path has indexes, `Canon`, `Digest` and `Size` are about the part of each message to
-/// which it leads; a message in which it leads nowhere is refused with `NoSuchPlace`.
+/// If the task's path has indexes, `Canon`, `Digest` and `Size` are about the part of each message
+/// to which it leads; a message in which it leads nowhere is refused with `NoSuchPlace`.
 ///
 /// The run ends at the first message that isn't answered: its frame can't be read, the message is
 /// refused, or the output fails. Unless the output failed, the output then has the answers to all

@@ -75,8 +75,8 @@ fn show_next<R: BufferedInput, W: BufferedOutput>(
 /// The number of words of each message may be at most the traversal limit. At most `MOST_BYTES`
 /// bytes are written for a message. What `bytes` of the task says isn't looked at: a caller bounds
 /// the output itself, by `BoundedOutput`. The run ends at the first message whose frame can't be
-/// read, if memory runs out, or if the output fails. Unless the output failed, it then has the texts
-/// of all messages before this one, and no byte for this one.
+/// read, if memory runs out, or if the output fails. Unless the output failed, it then has the
+/// texts of all messages before this one, and no byte for this one.
 pub fn run_show<R: BufferedInput, W: BufferedOutput>(
     alloc: Global,
     task: ShowTask,

@@ -63,8 +63,8 @@ pub struct DiffTask {
     pub unpack: bool,
     /// Whether each input is the raw words of one message, not frames.
     pub from_flat: bool,
-    /// Whether nothing is written to the output, so that only the program's exit status says whether
-    /// the messages differ.
+    /// Whether nothing is written to the output, so that only the program's exit status says
+    /// whether the messages differ.
     pub quiet: bool,
 }
 
