@@ -5,17 +5,17 @@ use Rattle.capnp_arena_traits.specs.View.{View}
 use Rattle.capnp_format.specs.Forest.{target, target_in}
 use Rattle.capnp_format.specs.Means.{Leads, Means}
 use Rattle.capnp_format.specs.Path.{Element, put_tree, tree_at}
-use Rattle.capnp_format.specs.Path.{node, PathLeads}
 use Rattle.capnp_format.specs.Segments.{Segments, Target}
 use Rattle.capnp_format.specs.Tree.{Tree, Null, Pointers, Trees, count}
 use Rattle.capnp_making.specs.Makes.{MakesObject, call_at}
 use Rattle.capnp_making.specs.Stored.{IsReplaced, IsStored}
-use Rattle.capnp_making.proofs.Filling.{Holds, holder_put, pointers_holder}
+use Rattle.capnp_making.proofs.Filling.{holder_put, pointers_holder}
 use Rattle.capnp_making.proofs.Replace.{put_tree-count}
 use Rattle.capnp_making.proofs.Replaced.{stored_within}
 use Rattle.capnp_readers.specs.declared.readers.list_reader.ListPlace.{ListPlace}
 use Rattle.capnp_builders.specs.Held.{HasList}
 use Rattle.typed_building.specs.Elements.{MakesElement, list_call}
+use Rattle.typed_building.specs.There.{call_on_element}
 
 pointers_lead : (S : Segments) (s p : ℕ) (ts : Trees) → IsStored S s p (Pointers ts) → Leads S s p (target S s p)
 pointers_lead S s p ts y = (let m = y.means in there m.0 m.1 m.2)
@@ -52,20 +52,21 @@ element_set S R s p list ts i u range puts h =
     record { stored = turned.0.stored; plain = (h.plain.0, h.plain.1 ∙ sym (put_tree-count ts i u)); is_place = rw to_a h.is_place }
 
 -- an object for an element, or null after a refusal
-pub element_made : {V : Type 0} (r : Result V ErrorKind) (old new : View) (list : ListPlace) (i s at : ℕ) (u : Tree) (n : ℕ) → MakesObject r (call_at s at old new) u n → s ≡ list.segment → at ≡ list.byte / 8 + i → i < list.count → MakesElement r (list_call list old.words new.words) i u
-element_made {V} r old new list i s at u n made of_segment is range =
-    there r (subst (λ z. MakesObject r (call_at list.segment z old new) u n) is (subst (λ z. MakesObject r (call_at z at old new) u n) of_segment made))
-  where
-    there : (r : Result V ErrorKind) → MakesObject r (call_at list.segment (list.byte / 8 + i) old new) u n → MakesElement r (list_call list old.words new.words) i u
-    there (Ok v) made = record {
-      sets = λ s p ts h. element_set old.words new.words s p list ts i u range (made.made (tree_at ts i) (element_stored old.words s p list ts i range h)) h;
-      replaces = λ s p ts h. (element_turns old.words new.words s p list ts i u range (made.made (tree_at ts i) (element_stored old.words s p list ts i range h)) h).0;
-      refused = λ s p ts h. tt;
-      emptied = λ s p ts h. tt;
-    }
-    there (Err k) made = record {
-      sets = λ s p ts h. tt;
-      replaces = λ s p ts h. tt;
-      refused = λ s p ts h. element_set old.words new.words s p list ts i Null range (made.refused (tree_at ts i) (element_stored old.words s p list ts i range h)) h;
-      emptied = λ s p ts h. (element_turns old.words new.words s p list ts i Null range (made.refused (tree_at ts i) (element_stored old.words s p list ts i range h)) h).0;
-    }
+
+pub object_at : {V : Type 0} (r : Result V ErrorKind) (old new : View) (list : ListPlace) (i s at : ℕ) (u : Tree) (n : ℕ) → MakesObject r (call_at s at old new) u n → s ≡ list.segment → at ≡ list.byte / 8 + i → MakesObject r (call_on_element list i old new) u n
+object_at r old new list i s at u n made of_segment is =
+    subst (λ z. MakesObject r (call_at list.segment z old new) u n) is (subst (λ z. MakesObject r (call_at z at old new) u n) of_segment made)
+
+pub element_made : {V : Type 0} (r : Result V ErrorKind) (old new : View) (list : ListPlace) (i : ℕ) (u : Tree) (n : ℕ) → MakesObject r (call_on_element list i old new) u n → i < list.count → MakesElement r (list_call list old.words new.words) i u
+element_made (Ok v) old new list i u n made range = record {
+  sets = λ s p ts h. element_set old.words new.words s p list ts i u range (made.made (tree_at ts i) (element_stored old.words s p list ts i range h)) h;
+  replaces = λ s p ts h. (element_turns old.words new.words s p list ts i u range (made.made (tree_at ts i) (element_stored old.words s p list ts i range h)) h).0;
+  refused = λ s p ts h. tt;
+  emptied = λ s p ts h. tt;
+}
+element_made (Err k) old new list i u n made range = record {
+  sets = λ s p ts h. tt;
+  replaces = λ s p ts h. tt;
+  refused = λ s p ts h. element_set old.words new.words s p list ts i Null range (made.refused (tree_at ts i) (element_stored old.words s p list ts i range h)) h;
+  emptied = λ s p ts h. (element_turns old.words new.words s p list ts i Null range (made.refused (tree_at ts i) (element_stored old.words s p list ts i range h)) h).0;
+}

@@ -1,12 +1,12 @@
 -- What a struct of a message has in its segment: its data words, and the pointers of its children.
-use Rattle.std.proofs.Common.{◌≡◌, ℕ, pred, ◌+◌, ◌*◌, ◌/◌, ◌%◌, ◌^◌, ◌<◌, List, length, get_or, drop, take, refl, sym, ap, ap₂, ◌∙◌, subst, arith}
+use Rattle.std.proofs.Common.{◌≡◌, ℕ, pred, ◌+◌, ◌*◌, ◌/◌, ◌%◌, ◌^◌, ◌<◌, List, length, get_or, drop, sym, ap, ap₂, ◌∙◌, subst, arith}
 use Rattle.std.proofs.lemmas.List.{get_or-take, get_or-drop}
 use Rattle.capnp_format.specs.Fields.{field_in}
 use Rattle.capnp_format.specs.Forest.{target, target_in}
 use Rattle.capnp_format.specs.Means.{Means}
 use Rattle.capnp_format.specs.Path.{put_struct, tree_at}
 use Rattle.capnp_format.specs.Segments.{HasWords, Segments, Target, segment, word_at}
-use Rattle.capnp_format.specs.Tree.{Tree, Null, Struct, Structs, Trees, count}
+use Rattle.capnp_format.specs.Tree.{Null, Struct, Structs, Trees, count}
 use Rattle.capnp_format.proofs.ZeroWords.{zero_is_null}
 use Rattle.capnp_making.specs.Stored.{IsStored}
 use Rattle.capnp_making.proofs.FillingElements.{put_struct-count, put_struct-here}

@@ -1,17 +1,18 @@
 -- What calls that are made of two do to a struct: the tag of a union, and then its member.
-use Rattle.std.proofs.Common.{◌≡◌, ℕ, ◌+◌, ◌<◌, Bool, true, false, cond, not, refl, List, [], ◌∷◌, Result, Ok, Err, subst}
+use Rattle.std.proofs.Common.{◌≡◌, ℕ, zero, suc, ◌+◌, ◌<◌, Bool, true, false, cond, not, refl, List, [], ◌∷◌, ◌++◌, length, get_or, Result, Ok, Err, sym, subst, arith}
 use Rattle.capnp_words.specs.declared.error.ErrorKind.{ErrorKind}
 use Rattle.capnp_format.specs.Path.{put_tree, tree_at}
 use Rattle.capnp_format.specs.Segments.{Segments}
 use Rattle.capnp_format.specs.Tree.{Tree, Null, Trees}
-use Rattle.capnp_making.specs.Stored.{Puts}
+use Rattle.capnp_making.specs.Stored.{IsReplaced, Puts}
+use Rattle.capnp_making.proofs.Filling.{unchanged}
 use Rattle.capnp_making.proofs.Replaced.{replaced_again}
 use Rattle.capnp_readers.specs.declared.readers.struct_reader.StructPlace.{StructPlace}
-use Rattle.capnp_builders.specs.Held.{CallIn, HasStruct, Holder, MakesChild, ReplacesChild, ReplacesField, SetsChild, SetsField, call_in, held_tree}
+use Rattle.capnp_builders.specs.Held.{CallIn, HasStruct, MakesChild, ReplacesChild, ReplacesField, SetsChild, SetsField, call_in, held_tree}
 use Rattle.capnp_builders.proofs.HeldStructs.{child_replaced, child_set, child_stored}
 use Rattle.capnp_builders.specs.Places.{Field, field}
-use Rattle.typed_building.specs.Members.{MakesMember, ReplacesMember, SetsMember, tag_field, with_data}
-use Rattle.typed_building.specs.Slots.{ReplacesSlots, ZeroesSlots, null_child, null_children, zero_all_data, zero_data}
+use Rattle.typed_building.specs.Members.{MakesMember, ReplacesChildMember, ReplacesMember, SetsChildMember, SetsMember, tag_field, with_data}
+use Rattle.typed_building.specs.Slots.{BeginsGroup, HoldsSlot, HoldsSlots, ReplacesGroup, ReplacesSlots, ZeroesSlots, null_child, null_children, zero_all_data, zero_data}
 use Rattle.typed_building.specs.declared.slots.Slot.{Slot}
 use Rattle.typed_building.specs.declared.tag.Tag.{Tag}
 
@@ -68,12 +69,55 @@ replaces_child S R place i at u puts is inside = λ x ws ts h.
     (let there : Puts S R place.segment (place.pointers_at + i) u = subst (λ z. Puts S R place.segment z u) is puts in
     child_replaced S R x place ws ts i u inside (there (tree_at ts i) (child_stored S x place ws ts i inside h)) h)
 
--- several parts that become zero, one after another
-pub zeroes_first : (S M R : Segments) (place : StructPlace) (slot : Slot) (slots : List Slot) → ZeroesSlots (call_in place S M) (slot ∷ []) → ZeroesSlots (call_in place M R) slots → ZeroesSlots (call_in place S R) (slot ∷ slots)
-zeroes_first S M R place slot slots one rest = λ x ws ts h. rest x (zero_data ws slot) (null_child ts slot) (one x ws ts h)
+-- a member that is a pointer, which always gets its new value
+pub sets_child_member : (S M R : Segments) (place : StructPlace) (tag : Tag) (i : ℕ) (u : Tree) → SetsField (call_in place S M) (tag_field tag) → SetsChild (λ z. z) (call_in place M R) i u → SetsChildMember (λ z. z) (call_in place S R) tag i u
+sets_child_member S M R place tag i u first then = λ x ws ts h. then x (with_data ws (tag_field tag)) ts (first x ws ts h)
 
-pub replaces_first : (S M R : Segments) (place : StructPlace) (slot : Slot) (slots : List Slot) → ZeroesSlots (call_in place S M) (slot ∷ []) → ReplacesSlots (call_in place S M) (slot ∷ []) → ReplacesSlots (call_in place M R) slots → ReplacesSlots (call_in place S R) (slot ∷ slots)
-replaces_first S M R place slot slots set one rest = λ x ws ts h.
-    (let vs : List ℕ = zero_data ws slot in
-    let us : Trees = null_child ts slot in
-    replaced_again S M R x.segment x.at (held_tree x.lead ws ts) (held_tree x.lead vs us) (held_tree x.lead (zero_all_data vs slots) (null_children us slots)) (one x ws ts h) (rest x vs us (set x ws ts h)))
+pub replaces_child_member : (S M R : Segments) (place : StructPlace) (tag : Tag) (i : ℕ) (u : Tree) → SetsField (call_in place S M) (tag_field tag) → ReplacesField (call_in place S M) (tag_field tag) → ReplacesChild (λ z. z) (call_in place M R) i u → ReplacesChildMember (λ z. z) (call_in place S R) tag i u
+replaces_child_member S M R place tag i u first replaced then = λ x ws ts h.
+    (let vs : List ℕ = with_data ws (tag_field tag) in
+    replaced_again S M R x.segment x.at (held_tree x.lead ws ts) (held_tree x.lead vs ts) (held_tree x.lead vs (put_tree ts i u)) (replaced x ws ts h) (then x vs ts (first x ws ts h)))
+
+-- several parts that become zero, one after another
+
+zero_last : (ws : List ℕ) (slots : List Slot) (slot : Slot) → zero_all_data ws (slots ++ slot ∷ []) ≡ zero_data (zero_all_data ws slots) slot
+zero_last ws [] slot = refl
+zero_last ws (first ∷ slots) slot = zero_last (zero_data ws first) slots slot
+
+null_last : (ts : Trees) (slots : List Slot) (slot : Slot) → null_children ts (slots ++ slot ∷ []) ≡ null_child (null_children ts slots) slot
+null_last ts [] slot = refl
+null_last ts (first ∷ slots) slot = null_last (null_child ts first) slots slot
+
+pub zeroes_last : (S M R : Segments) (place : StructPlace) (slots : List Slot) (slot : Slot) → ZeroesSlots (call_in place S M) slots → ZeroesSlots (call_in place M R) (slot ∷ []) → ZeroesSlots (call_in place S R) (slots ++ slot ∷ [])
+zeroes_last S M R place slots slot first last = λ x ws ts h.
+    (let vs : List ℕ = zero_all_data ws slots in
+    let us : Trees = null_children ts slots in
+    subst (λ y. HasStruct R x place (zero_all_data ws (slots ++ slot ∷ [])) y) (sym (null_last ts slots slot))
+    (subst (λ y. HasStruct R x place y (null_child us slot)) (sym (zero_last ws slots slot)) (last x vs us (first x ws ts h))))
+
+pub replaces_last : (S M R : Segments) (place : StructPlace) (slots : List Slot) (slot : Slot) → ZeroesSlots (call_in place S M) slots → ReplacesSlots (call_in place S M) slots → ReplacesSlots (call_in place M R) (slot ∷ []) → ReplacesSlots (call_in place S R) (slots ++ slot ∷ [])
+replaces_last S M R place slots slot set first last = λ x ws ts h.
+    (let vs : List ℕ = zero_all_data ws slots in
+    let us : Trees = null_children ts slots in
+    subst (λ y. IsReplaced S R x.segment x.at (held_tree x.lead ws ts) (held_tree x.lead (zero_all_data ws (slots ++ slot ∷ [])) y)) (sym (null_last ts slots slot))
+    (subst (λ y. IsReplaced S R x.segment x.at (held_tree x.lead ws ts) (held_tree x.lead y (null_child us slot))) (sym (zero_last ws slots slot))
+    (replaced_again S M R x.segment x.at (held_tree x.lead ws ts) (held_tree x.lead vs us) (held_tree x.lead (zero_data vs slot) (null_child us slot)) (first x ws ts h) (last x vs us (set x ws ts h)))))
+
+pub replaces_none : (S : Segments) (place : StructPlace) → ReplacesSlots (call_in place S S) []
+replaces_none S place = λ x ws ts h. unchanged S x.segment x.at (held_tree x.lead ws ts) h.stored
+
+-- the tag of a group, and then its parts
+
+pub begins_group : (S M R : Segments) (place : StructPlace) (tag : Tag) (slots : List Slot) → SetsField (call_in place S M) (tag_field tag) → ZeroesSlots (call_in place M R) slots → BeginsGroup (call_in place S R) tag slots
+begins_group S M R place tag slots first rest = λ x ws ts h. rest x (with_data ws (tag_field tag)) ts (first x ws ts h)
+
+pub replaces_group : (S M R : Segments) (place : StructPlace) (tag : Tag) (slots : List Slot) → SetsField (call_in place S M) (tag_field tag) → ReplacesField (call_in place S M) (tag_field tag) → ReplacesSlots (call_in place M R) slots → ReplacesGroup (call_in place S R) tag slots
+replaces_group S M R place tag slots first replaced rest = λ x ws ts h.
+    (let vs : List ℕ = with_data ws (tag_field tag) in
+    replaced_again S M R x.segment x.at (held_tree x.lead ws ts) (held_tree x.lead vs ts) (held_tree x.lead (zero_all_data vs slots) (null_children ts slots)) (replaced x ws ts h) (rest x vs ts (first x ws ts h)))
+
+-- each of the parts is inside the struct
+pub holds_at : (place : StructPlace) (slots : List Slot) (i : ℕ) (d : Slot) → i < length slots → HoldsSlots place slots → HoldsSlot place (get_or slots i d)
+holds_at place [] i d less h = absurd (omega arith)
+holds_at place (slot ∷ slots) zero d less h = h.0
+holds_at place (slot ∷ slots) (suc i) d less h = holds_at place slots i d (omega arith) h.1

@@ -2,3 +2,5 @@ pub mod There
 pub mod Members
 pub mod Elements
 pub mod Slots
+pub mod Copied
+pub mod Opened

@@ -1,5 +1,5 @@
 -- What a struct has once parts of it are zero.
-use Rattle.std.specs.Prelude.{ℕ, ◌<◌, List, [], ◌∷◌}
+use Rattle.std.specs.Prelude.{ℕ, ◌<◌, List, [], ◌∷◌, ⊤}
 use Rattle.capnp_format.specs.Path.{put_tree}
 use Rattle.capnp_format.specs.Tree.{Null, Trees}
 use Rattle.capnp_making.specs.Stored.{IsReplaced}
@@ -7,8 +7,9 @@ use Rattle.capnp_readers.specs.Sections.{IsInside}
 use Rattle.capnp_readers.specs.declared.readers.struct_reader.StructPlace.{StructPlace}
 use Rattle.capnp_builders.specs.Held.{CallIn, HasStruct, Holder, held_tree}
 use Rattle.capnp_builders.specs.Places.{field, number_field}
-use Rattle.typed_building.specs.Members.{with_data}
+use Rattle.typed_building.specs.Members.{tag_field, with_data}
 use Rattle.typed_building.specs.declared.slots.Slot.{Slot}
+use Rattle.typed_building.specs.declared.tag.Tag.{Tag}
 use Rattle.typed_building.specs.declared.slots.Slot.TheVariants.{Bit, Byte, TwoBytes, FourBytes, EightBytes, Pointer}
 
 -- The part is inside a struct of this place.
@@ -19,6 +20,11 @@ HoldsSlot place (TwoBytes i) = IsInside place.bits 16 i
 HoldsSlot place (FourBytes i) = IsInside place.bits 32 i
 HoldsSlot place (EightBytes i) = IsInside place.bits 64 i
 HoldsSlot place (Pointer i) = i < place.pointers
+
+-- Each of these parts is inside a struct of this place.
+abbrev pub HoldsSlots : StructPlace → List Slot → Type 0
+HoldsSlots place [] = ⊤
+HoldsSlots place (slot ∷ slots) = HoldsSlot place slot × HoldsSlots place slots
 
 -- The data words ws, once a part is zero.
 abbrev pub zero_data : List ℕ → Slot → List ℕ
@@ -56,3 +62,17 @@ ReplacesSlots c slots =
     (x : Holder) (ws : List ℕ) (ts : Trees) → HasStruct c.old x c.place ws ts →
     IsReplaced c.old c.new x.segment x.at (held_tree x.lead ws ts)
     (held_tree x.lead (zero_all_data ws slots) (null_children ts slots))
+
+-- The call writes the tag of a union, and makes these parts of the struct zero or null.
+abbrev pub BeginsGroup : CallIn → Tag → List Slot → Type 0
+BeginsGroup c tag slots =
+    (x : Holder) (ws : List ℕ) (ts : Trees) → HasStruct c.old x c.place ws ts →
+    HasStruct c.new x c.place (zero_all_data (with_data ws (tag_field tag)) slots)
+    (null_children ts slots)
+
+-- The call writes the tag, makes these parts zero or null, and changes nothing else of the message.
+abbrev pub ReplacesGroup : CallIn → Tag → List Slot → Type 0
+ReplacesGroup c tag slots =
+    (x : Holder) (ws : List ℕ) (ts : Trees) → HasStruct c.old x c.place ws ts →
+    IsReplaced c.old c.new x.segment x.at (held_tree x.lead ws ts)
+    (held_tree x.lead (zero_all_data (with_data ws (tag_field tag)) slots) (null_children ts slots))

@@ -1,5 +1,5 @@
 -- Structs and lists that are in a message being built.
-use Rattle.std.specs.Prelude.{◌≡◌, ℕ, ◌+◌, ◌*◌, ◌<◌, ◌≤◌}
+use Rattle.std.specs.Prelude.{◌≡◌, ℕ, ◌+◌, ◌*◌, ◌/◌, ◌<◌, ◌≤◌}
 use Rattle.capnp_format.specs.Segments.{Segments}
 use Rattle.capnp_arena_traits.specs.View.{View}
 use Rattle.capnp_making.specs.Makes.{CallAt, call_at}
@@ -33,3 +33,7 @@ pub record HasListPlace (S : Segments) (size : ElementSize) (list : ListPlace) :
 -- A call at pointer i of the struct at this place: the message before and after it.
 abbrev pub call_on : StructPlace → ℕ → View → View → CallAt
 call_on place i old new = call_at place.segment (place.pointers_at + i) old new
+
+-- A call at element i of the list of pointers at this place: the message before and after it.
+abbrev pub call_on_element : ListPlace → ℕ → View → View → CallAt
+call_on_element list i old new = call_at list.segment (list.byte / 8 + i) old new

@@ -3,8 +3,10 @@
 //! that nothing else of the message changes.
 #![tactic(auto)]
 
+pub mod copying;
 pub mod groups;
 pub mod list;
+pub mod opening;
 pub mod reading;
 pub mod slots;
 pub mod tag;

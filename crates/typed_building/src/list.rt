@@ -1,16 +1,19 @@
 //! The elements of a list of a message being built.
 ghost use Rattle.std.specs.Prelude.{◌≡◌, ℕ, List, ◌+◌, ◌*◌, ◌/◌, ◌^◌, ◌<◌, ◌≤◌, ◌++◌, ◌∷◌, [], IfOk, cond, length, slice_set};
+ghost use Rattle.capnp_format.specs.Numbers.{words_for};
 ghost use Rattle.capnp_format.specs.Segments.{Grows};
 ghost use Rattle.capnp_format.specs.Path.{put_tree};
 ghost use Rattle.capnp_format.specs.Tree.{Flat, Trees};
 ghost use Rattle.capnp_words.specs.Sizes.{size_number};
 ghost use Rattle.capnp_words.specs.declared.wire_pointer.ElementSize.TheVariants.{Bit, Pointer};
-ghost use Rattle.capnp_making.specs.Made.{zero_list, zero_structs};
+ghost use Rattle.capnp_making.specs.Made.{list_words, zero_list, zero_structs};
+ghost use Rattle.capnp_making.specs.Makes.{MakesObject};
+ghost use Rattle.capnp_widening.specs.Anew.{OnlyWrites};
 ghost use Rattle.capnp_readers.specs.Readers.{IsStructPlace};
 ghost use Rattle.capnp_builders.specs.Held.{HasList, HasStruct, Holder};
 ghost use Rattle.capnp_builders.specs.Places.{element_place};
 ghost use Rattle.typed_building.specs.Elements.{MakesElement, list_call};
-ghost use Rattle.typed_building.specs.There.{HasStructsPlace, HasListPlace, HasStructPlace};
+ghost use Rattle.typed_building.specs.There.{HasStructsPlace, HasListPlace, HasStructPlace, call_on_element};
 
 use capnp_arena_traits::arena::BuilderArena;
 pub use capnp_builders::fields::set_element;
@@ -41,14 +44,17 @@ pub fn set_bool<A: BuilderArena>(arena: &mut A, list: ListPlace, index: u32, val
     requires there { HasListPlace (A.view arena.old).words Bit list }
     requires range { index < list.count }
     ensures grows { Grows (A.view arena.old).words (A.view arena.new).words }
-    ensures sets { (s p size : ℕ) (ns : List ℕ) → HasList (A.view arena.old).words s p list (Flat size ns)
-        → HasList (A.view arena.new).words s p list (Flat size (slice_set ns index (cond value 1 0))) }
+    ensures sets { (s p size : ℕ) (ns : List ℕ)
+        → HasList (A.view arena.old).words s p list (Flat size ns)
+        → HasList (A.view arena.new).words s p list
+        (Flat size (slice_set ns index (cond value 1 0))) }
     ensures sets_child { (x : Holder) (place : StructPlace) (ws : List ℕ) (ts : Trees)
         (i size : ℕ) (ns : List ℕ) → i < place.pointers
         → HasList (A.view arena.old).words place.segment (place.pointers_at + i) list (Flat size ns)
         → HasStruct (A.view arena.old).words x place ws (put_tree ts i (Flat size ns))
         → HasStruct (A.view arena.new).words x place ws
         (put_tree ts i (Flat size (slice_set ns index (cond value 1 0)))) }
+    ensures memory { OnlyWrites (A.view arena.old) (A.view arena.new) }
 {
     let bit = 8 * list.byte + u64::from(index);
     numbers::set_bit(arena, list.segment, bit, value);
@@ -66,13 +72,12 @@ fn pointer_place<A: BuilderArena>(arena: &A, list: ListPlace, index: u32) -> Str
     builders::element_place(list, index)
 }
 
-/// Makes element `index` of a list of pointers lead to a new text: the bytes of `text`, followed by a
-/// zero byte. Precondition: `index` is below the number of elements.
+/// Makes element `index` of a list of pointers lead to a new text: the bytes of `text`, followed by
+/// a zero byte. Precondition: `index` is below the number of elements.
 ///
 /// Refusals, if no segment has room: `AllocationFailed` if memory runs out;
 /// `MessageTooLarge(usize::MAX)` if the message already has 4,294,967,295 segments. After a refusal
 /// the element is null.
-#[tactic(auto, using(crate::proofs::Elements::element_made))]
 pub fn set_text<A: BuilderArena>(
     arena: &mut A,
     list: ListPlace,
@@ -82,21 +87,24 @@ pub fn set_text<A: BuilderArena>(
     requires there { HasListPlace (A.view arena.old).words Pointer list }
     requires range { index < list.count }
     requires few { length text.now + 1 < 2 ^ 29 }
+    ensures object { MakesObject result
+        (call_on_element list index (A.view arena.old) (A.view arena.new))
+        (Flat 2 (text.now ++ 0 ∷ [])) (words_for 2 (length text.now + 1)) }
     ensures grows { Grows (A.view arena.old).words (A.view arena.new).words }
-    ensures element { MakesElement result (list_call list (A.view arena.old).words (A.view arena.new).words) index
+    ensures element { MakesElement result
+        (list_call list (A.view arena.old).words (A.view arena.new).words) index
         (Flat 2 (text.now ++ 0 ∷ [])) }
 {
     let place = pointer_place(&*arena, list, index);
     fields::set_text(arena, place, 0, text)
 }
 
-/// Makes element `index` of a list of pointers lead to new data, the bytes of `contents`. Precondition:
-/// `index` is below the number of elements.
+/// Makes element `index` of a list of pointers lead to new data, the bytes of `contents`.
+/// Precondition: `index` is below the number of elements.
 ///
 /// Refusals, if no segment has room: `AllocationFailed` if memory runs out;
 /// `MessageTooLarge(usize::MAX)` if the message already has 4,294,967,295 segments. After a refusal
 /// the element is null.
-#[tactic(auto, using(crate::proofs::Elements::element_made))]
 pub fn set_data<A: BuilderArena>(
     arena: &mut A,
     list: ListPlace,
@@ -106,8 +114,12 @@ pub fn set_data<A: BuilderArena>(
     requires there { HasListPlace (A.view arena.old).words Pointer list }
     requires range { index < list.count }
     requires few { length contents.now < 2 ^ 29 }
+    ensures object { MakesObject result
+        (call_on_element list index (A.view arena.old) (A.view arena.new))
+        (Flat 2 contents.now) (words_for 2 (length contents.now)) }
     ensures grows { Grows (A.view arena.old).words (A.view arena.new).words }
-    ensures element { MakesElement result (list_call list (A.view arena.old).words (A.view arena.new).words) index
+    ensures element { MakesElement result
+        (list_call list (A.view arena.old).words (A.view arena.new).words) index
         (Flat 2 contents.now) }
 {
     let place = pointer_place(&*arena, list, index);
@@ -115,13 +127,12 @@ pub fn set_data<A: BuilderArena>(
 }
 
 /// Makes element `index` of a list of pointers lead to a new list of `count` elements that aren't
-/// structs, all zero or null, and returns the list's place. Preconditions: `index` is below the number
-/// of elements; `size` isn't `InlineComposite`.
+/// structs, all zero or null, and returns the list's place. Preconditions: `index` is below the
+/// number of elements; `size` isn't `InlineComposite`.
 ///
 /// Refusals, if no segment has room: `AllocationFailed` if memory runs out;
 /// `MessageTooLarge(usize::MAX)` if the message already has 4,294,967,295 segments. After a refusal
 /// the element is null.
-#[tactic(auto, using(crate::proofs::Elements::element_made))]
 pub fn init_list<A: BuilderArena>(
     arena: &mut A,
     list: ListPlace,
@@ -133,10 +144,14 @@ pub fn init_list<A: BuilderArena>(
     requires range { index < list.count }
     requires few { count < 2 ^ 29 }
     requires plain { size_number size ≤ 6 }
+    ensures object { MakesObject result
+        (call_on_element list index (A.view arena.old) (A.view arena.new))
+        (zero_list (size_number size) count) (list_words (size_number size) count) }
     ensures grows { Grows (A.view arena.old).words (A.view arena.new).words }
     ensures there { IfOk result (HasListPlace (A.view arena.new).words size) }
     ensures count { IfOk result (λ inner. inner.count ≡ count) }
-    ensures element { MakesElement result (list_call list (A.view arena.old).words (A.view arena.new).words) index
+    ensures element { MakesElement result
+        (list_call list (A.view arena.old).words (A.view arena.new).words) index
         (zero_list (size_number size) count) }
 {
     let place = pointer_place(&*arena, list, index);
@@ -144,13 +159,12 @@ pub fn init_list<A: BuilderArena>(
 }
 
 /// Makes element `index` of a list of pointers lead to a new list of `count` structs, all zero, and
-/// returns the list's place. Preconditions: `index` is below the number of elements; the structs have
-/// fewer than 2^29 words.
+/// returns the list's place. Preconditions: `index` is below the number of elements; the structs
+/// have fewer than 2^29 words.
 ///
 /// Refusals, if no segment has room: `AllocationFailed` if memory runs out;
 /// `MessageTooLarge(usize::MAX)` if the message already has 4,294,967,295 segments. After a refusal
 /// the element is null.
-#[tactic(auto, using(crate::proofs::Elements::element_made))]
 pub fn init_struct_list<A: BuilderArena>(
     arena: &mut A,
     list: ListPlace,
@@ -162,10 +176,14 @@ pub fn init_struct_list<A: BuilderArena>(
     requires range { index < list.count }
     requires few { count < 2 ^ 30 }
     requires words { count * (size.data_words + size.pointers) < 2 ^ 29 }
+    ensures object { MakesObject result
+        (call_on_element list index (A.view arena.old) (A.view arena.new))
+        (zero_structs count size) (1 + count * (size.data_words + size.pointers)) }
     ensures grows { Grows (A.view arena.old).words (A.view arena.new).words }
     ensures there { IfOk result (HasStructsPlace (A.view arena.new).words size) }
     ensures count { IfOk result (λ inner. inner.count ≡ count) }
-    ensures element { MakesElement result (list_call list (A.view arena.old).words (A.view arena.new).words) index
+    ensures element { MakesElement result
+        (list_call list (A.view arena.old).words (A.view arena.new).words) index
         (zero_structs count size) }
 {
     let place = pointer_place(&*arena, list, index);

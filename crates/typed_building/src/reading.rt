@@ -1,8 +1,8 @@
 //! What a struct of a message being built holds.
-ghost use Rattle.std.specs.Prelude.{◌≡◌, ◌≢◌, ◌↔◌, ◌+◌, ◌*◌, ◌<◌, ℕ, List, Err, IfOk, IsTrue, bit_xor};
+ghost use Rattle.std.specs.Prelude.{◌≡◌, ◌≢◌, ◌↔◌, ◌+◌, ◌*◌, ◌<◌, ℕ, List, IsTrue, bit_xor};
 ghost use Rattle.capnp_format.specs.Fields.{field_in};
 ghost use Rattle.capnp_format.specs.Path.{tree_at};
-ghost use Rattle.capnp_format.specs.Tree.{Capability, Null, Trees};
+ghost use Rattle.capnp_format.specs.Tree.{Null, Trees};
 ghost use Rattle.capnp_readers.specs.Readers.{IsStructPlace};
 ghost use Rattle.capnp_readers.specs.Sections.{IsInside};
 ghost use Rattle.capnp_builders.specs.Held.{HasStruct, Holder};
@@ -17,8 +17,8 @@ use capnp_words::mask::Mask;
 use capnp_words::primitive::Primitive;
 use capnp_words::zero::Zero;
 
-/// Returns the number at `offset` of a struct's data, counted in numbers of type `T`. Precondition: the
-/// number is inside the data section.
+/// Returns the number at `offset` of a struct's data, counted in numbers of type `T`. Precondition:
+/// the number is inside the data section.
 pub fn get_number<A: BuilderArena, T: Primitive + Zero>(
     arena: &A,
     place: StructPlace,
@@ -35,8 +35,8 @@ pub fn get_number<A: BuilderArena, T: Primitive + Zero>(
     numbers::get_number(arena, place.segment, byte)
 }
 
-/// Returns the number at `offset` of a struct's data, like `get_number`, of a field whose default value
-/// is `default`: the exclusive or of what is stored and the default.
+/// Returns the number at `offset` of a struct's data, like `get_number`, of a field whose default
+/// value is `default`: the exclusive or of what is stored and the default.
 pub fn get_number_or<A: BuilderArena, T: Primitive + Zero + Mask>(
     arena: &A,
     place: StructPlace,

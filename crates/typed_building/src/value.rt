@@ -1,15 +1,18 @@
 //! The fields of a struct of a message being built.
 ghost use Rattle.std.specs.Prelude.{◌≡◌, ◌+◌, ◌*◌, ◌^◌, ◌<◌, ◌≤◌, ◌++◌, ◌∷◌, [], IfOk, bit_xor, cond, length};
+ghost use Rattle.capnp_format.specs.Numbers.{words_for};
 ghost use Rattle.capnp_format.specs.Segments.{Grows};
 ghost use Rattle.capnp_format.specs.Tree.{Capability, Flat, Null};
 ghost use Rattle.capnp_words.specs.Sizes.{size_number};
-ghost use Rattle.capnp_making.specs.Made.{zero_list, zero_struct, zero_structs};
+ghost use Rattle.capnp_making.specs.Made.{list_words, zero_list, zero_struct, zero_structs};
+ghost use Rattle.capnp_making.specs.Makes.{Allocates};
+ghost use Rattle.capnp_widening.specs.Anew.{OnlyWrites};
 ghost use Rattle.capnp_readers.specs.Readers.{IsStructPlace};
 ghost use Rattle.capnp_readers.specs.Sections.{IsInside};
 ghost use Rattle.capnp_builders.specs.Held.{ReplacesChild, ReplacesField, SetsChild, SetsField, call_in};
 ghost use Rattle.capnp_builders.specs.Places.{IsAligned, field, number_field};
-ghost use Rattle.typed_building.specs.Members.{MakesMember, ReplacesMember, SetsMember, tag_field};
-ghost use Rattle.typed_building.specs.There.{HasStructsPlace, HasListPlace, HasStructPlace};
+ghost use Rattle.typed_building.specs.Members.{MakesMember, ReplacesChildMember, ReplacesMember, SetsChildMember, SetsMember, tag_field};
+ghost use Rattle.typed_building.specs.There.{HasStructsPlace, HasListPlace, HasStructPlace, call_on};
 
 use crate::tag::Tag;
 use capnp_arena_traits::arena::BuilderArena;
@@ -26,9 +29,9 @@ use capnp_words::primitive::Primitive;
 use capnp_words::wire_pointer::{ElementSize, StructSize};
 use capnp_words::zero::Zero;
 
-/// Writes the number at `offset` of a struct's data, counted in numbers of type `T`, of a field whose
-/// default value is `default`: stores the exclusive or of `value` and the default. Precondition: the
-/// field is inside the data section.
+/// Writes the number at `offset` of a struct's data, counted in numbers of type `T`, of a field
+/// whose default value is `default`: stores the exclusive or of `value` and the default.
+/// Precondition: the field is inside the data section.
 #[tactic(auto, using(crate::proofs::Sets::sets_as, crate::proofs::Sets::replaces_as))]
 pub fn set_number_or<A: BuilderArena, T: Primitive + Zero + Mask>(
     arena: &mut A,
@@ -41,12 +44,15 @@ pub fn set_number_or<A: BuilderArena, T: Primitive + Zero + Mask>(
     requires inside { IsStructPlace (A.view arena.old).words place }
     requires field { IsInside place.bits (8 * T.BYTES) offset }
     ensures grows { Grows (A.view arena.old).words (A.view arena.new).words }
-    ensures sets { SetsField (call_in place (A.view arena.old).words (A.view arena.new).words)
+    ensures sets { SetsField
+        (call_in place (A.view arena.old).words (A.view arena.new).words)
         (number_field T.BYTES offset
         (bit_xor (T.bits_of value) (T.mask_bits default))) }
-    ensures replaces { ReplacesField (call_in place (A.view arena.old).words (A.view arena.new).words)
+    ensures replaces { ReplacesField
+        (call_in place (A.view arena.old).words (A.view arena.new).words)
         (number_field T.BYTES offset
         (bit_xor (T.bits_of value) (T.mask_bits default))) }
+    ensures memory { OnlyWrites (A.view arena.old) (A.view arena.new) }
 {
     fields::set_number(arena, place, offset, T::mask(value, default));
 }
@@ -63,23 +69,29 @@ pub fn set_bool_or_true<A: BuilderArena>(
     requires inside { IsStructPlace (A.view arena.old).words place }
     requires field { offset < place.bits }
     ensures grows { Grows (A.view arena.old).words (A.view arena.new).words }
-    ensures sets { SetsField (call_in place (A.view arena.old).words (A.view arena.new).words)
+    ensures sets { SetsField
+        (call_in place (A.view arena.old).words (A.view arena.new).words)
         (field offset 1 (cond value 0 1)) }
-    ensures replaces { ReplacesField (call_in place (A.view arena.old).words (A.view arena.new).words)
+    ensures replaces { ReplacesField
+        (call_in place (A.view arena.old).words (A.view arena.new).words)
         (field offset 1 (cond value 0 1)) }
+    ensures memory { OnlyWrites (A.view arena.old) (A.view arena.new) }
 {
     fields::set_bool(arena, place, offset, !value);
 }
 
-/// Writes the tag of a union: sets a member without a value. Precondition: the tag is inside the data
-/// section.
+/// Writes the tag of a union: sets a member without a value. Precondition: the tag is inside the
+/// data section.
 pub fn set_tag<A: BuilderArena>(arena: &mut A, place: StructPlace, tag: Tag)
     requires aligned { IsAligned place }
     requires inside { IsStructPlace (A.view arena.old).words place }
     requires tag { IsInside place.bits 16 tag.offset }
     ensures grows { Grows (A.view arena.old).words (A.view arena.new).words }
-    ensures sets { SetsField (call_in place (A.view arena.old).words (A.view arena.new).words) (tag_field tag) }
-    ensures replaces { ReplacesField (call_in place (A.view arena.old).words (A.view arena.new).words) (tag_field tag) }
+    ensures sets { SetsField
+        (call_in place (A.view arena.old).words (A.view arena.new).words) (tag_field tag) }
+    ensures replaces { ReplacesField
+        (call_in place (A.view arena.old).words (A.view arena.new).words) (tag_field tag) }
+    ensures memory { OnlyWrites (A.view arena.old) (A.view arena.new) }
 {
     fields::set_number(arena, place, tag.offset, tag.number);
 }
@@ -99,10 +111,13 @@ pub fn set_number_member<A: BuilderArena, T: Primitive + Zero>(
     requires tag { IsInside place.bits 16 tag.offset }
     requires field { IsInside place.bits (8 * T.BYTES) offset }
     ensures grows { Grows (A.view arena.old).words (A.view arena.new).words }
-    ensures sets { SetsMember (call_in place (A.view arena.old).words (A.view arena.new).words) tag
+    ensures sets { SetsMember
+        (call_in place (A.view arena.old).words (A.view arena.new).words) tag
         (number_field T.BYTES offset (T.bits_of value)) }
-    ensures replaces { ReplacesMember (call_in place (A.view arena.old).words (A.view arena.new).words) tag
+    ensures replaces { ReplacesMember
+        (call_in place (A.view arena.old).words (A.view arena.new).words) tag
         (number_field T.BYTES offset (T.bits_of value)) }
+    ensures memory { OnlyWrites (A.view arena.old) (A.view arena.new) }
 {
     set_tag(arena, place, tag);
     fields::set_number(arena, place, offset, value);
@@ -124,19 +139,22 @@ pub fn set_number_or_member<A: BuilderArena, T: Primitive + Zero + Mask>(
     requires tag { IsInside place.bits 16 tag.offset }
     requires field { IsInside place.bits (8 * T.BYTES) offset }
     ensures grows { Grows (A.view arena.old).words (A.view arena.new).words }
-    ensures sets { SetsMember (call_in place (A.view arena.old).words (A.view arena.new).words) tag
+    ensures sets { SetsMember
+        (call_in place (A.view arena.old).words (A.view arena.new).words) tag
         (number_field T.BYTES offset
         (bit_xor (T.bits_of value) (T.mask_bits default))) }
-    ensures replaces { ReplacesMember (call_in place (A.view arena.old).words (A.view arena.new).words) tag
+    ensures replaces { ReplacesMember
+        (call_in place (A.view arena.old).words (A.view arena.new).words) tag
         (number_field T.BYTES offset
         (bit_xor (T.bits_of value) (T.mask_bits default))) }
+    ensures memory { OnlyWrites (A.view arena.old) (A.view arena.new) }
 {
     set_tag(arena, place, tag);
     set_number_or(arena, place, offset, value, default);
 }
 
-/// Sets the member of a union that is a bit: writes its tag, and then bit `offset`. Precondition: tag
-/// and bit are inside the data section.
+/// Sets the member of a union that is a bit: writes its tag, and then bit `offset`. Precondition:
+/// tag and bit are inside the data section.
 #[tactic(auto, using(crate::proofs::Sets::sets_member, crate::proofs::Sets::replaces_member))]
 pub fn set_bool_member<A: BuilderArena>(
     arena: &mut A,
@@ -150,17 +168,20 @@ pub fn set_bool_member<A: BuilderArena>(
     requires tag { IsInside place.bits 16 tag.offset }
     requires field { offset < place.bits }
     ensures grows { Grows (A.view arena.old).words (A.view arena.new).words }
-    ensures sets { SetsMember (call_in place (A.view arena.old).words (A.view arena.new).words) tag
+    ensures sets { SetsMember
+        (call_in place (A.view arena.old).words (A.view arena.new).words) tag
         (field offset 1 (cond value 1 0)) }
-    ensures replaces { ReplacesMember (call_in place (A.view arena.old).words (A.view arena.new).words) tag
+    ensures replaces { ReplacesMember
+        (call_in place (A.view arena.old).words (A.view arena.new).words) tag
         (field offset 1 (cond value 1 0)) }
+    ensures memory { OnlyWrites (A.view arena.old) (A.view arena.new) }
 {
     set_tag(arena, place, tag);
     fields::set_bool(arena, place, offset, value);
 }
 
-/// Sets the member of a union that is a bit whose default value is `true`, like `set_bool_member` and
-/// `set_bool_or_true`. Precondition: tag and bit are inside the data section.
+/// Sets the member of a union that is a bit whose default value is `true`, like `set_bool_member`
+/// and `set_bool_or_true`. Precondition: tag and bit are inside the data section.
 #[tactic(auto, using(crate::proofs::Sets::sets_member, crate::proofs::Sets::replaces_member))]
 pub fn set_bool_or_true_member<A: BuilderArena>(
     arena: &mut A,
@@ -174,18 +195,21 @@ pub fn set_bool_or_true_member<A: BuilderArena>(
     requires tag { IsInside place.bits 16 tag.offset }
     requires field { offset < place.bits }
     ensures grows { Grows (A.view arena.old).words (A.view arena.new).words }
-    ensures sets { SetsMember (call_in place (A.view arena.old).words (A.view arena.new).words) tag
+    ensures sets { SetsMember
+        (call_in place (A.view arena.old).words (A.view arena.new).words) tag
         (field offset 1 (cond value 0 1)) }
-    ensures replaces { ReplacesMember (call_in place (A.view arena.old).words (A.view arena.new).words) tag
+    ensures replaces { ReplacesMember
+        (call_in place (A.view arena.old).words (A.view arena.new).words) tag
         (field offset 1 (cond value 0 1)) }
+    ensures memory { OnlyWrites (A.view arena.old) (A.view arena.new) }
 {
     set_tag(arena, place, tag);
     set_bool_or_true(arena, place, offset, value);
 }
 
-/// Sets the member of a union that is a text: writes its tag, and makes pointer `index` lead to a new
-/// text, the bytes of `text`, followed by a zero byte. Precondition: tag and pointer are inside the
-/// struct.
+/// Sets the member of a union that is a text: writes its tag, and makes pointer `index` lead to a
+/// new text, the bytes of `text`, followed by a zero byte. Precondition: tag and pointer are inside
+/// the struct.
 ///
 /// Refusals, if no segment has room: `AllocationFailed` if memory runs out;
 /// `MessageTooLarge(usize::MAX)` if the message already has 4,294,967,295 segments.
@@ -204,8 +228,12 @@ pub fn set_text_member<A: BuilderArena>(
     requires field { index < place.pointers }
     requires few { length text.now + 1 < 2 ^ 29 }
     ensures grows { Grows (A.view arena.old).words (A.view arena.new).words }
-    ensures member { MakesMember result (call_in place (A.view arena.old).words (A.view arena.new).words) tag index
+    ensures member { MakesMember result
+        (call_in place (A.view arena.old).words (A.view arena.new).words) tag index
         (Flat 2 (text.now ++ 0 ∷ [])) }
+    ensures memory { Allocates result
+        (call_on place index (A.view arena.old) (A.view arena.new))
+        (words_for 2 (length text.now + 1)) }
 {
     set_tag(arena, place, tag);
     fields::set_text(arena, place, index, text)
@@ -231,15 +259,20 @@ pub fn set_data_member<A: BuilderArena>(
     requires field { index < place.pointers }
     requires few { length contents.now < 2 ^ 29 }
     ensures grows { Grows (A.view arena.old).words (A.view arena.new).words }
-    ensures member { MakesMember result (call_in place (A.view arena.old).words (A.view arena.new).words) tag index
+    ensures member { MakesMember result
+        (call_in place (A.view arena.old).words (A.view arena.new).words) tag index
         (Flat 2 contents.now) }
+    ensures memory { Allocates result
+        (call_on place index (A.view arena.old) (A.view arena.new))
+        (words_for 2 (length contents.now)) }
 {
     set_tag(arena, place, tag);
     fields::set_data(arena, place, index, contents)
 }
 
 /// Sets the member of a union that is a struct: writes its tag, and makes pointer `index` lead to a
-/// new struct, all zero, whose place it returns. Precondition: tag and pointer are inside the struct.
+/// new struct, all zero, whose place it returns. Precondition: tag and pointer are inside the
+/// struct.
 ///
 /// Refusals, if no segment has room: `AllocationFailed` if memory runs out;
 /// `MessageTooLarge(usize::MAX)` if the message already has 4,294,967,295 segments.
@@ -258,8 +291,12 @@ pub fn init_struct_member<A: BuilderArena>(
     requires field { index < place.pointers }
     ensures grows { Grows (A.view arena.old).words (A.view arena.new).words }
     ensures there { IfOk result (HasStructPlace (A.view arena.new).words size) }
-    ensures member { MakesMember result (call_in place (A.view arena.old).words (A.view arena.new).words) tag index
+    ensures member { MakesMember result
+        (call_in place (A.view arena.old).words (A.view arena.new).words) tag index
         (zero_struct size) }
+    ensures memory { Allocates result
+        (call_on place index (A.view arena.old) (A.view arena.new))
+        (size.data_words + size.pointers) }
 {
     set_tag(arena, place, tag);
     fields::init_struct(arena, place, index, size)
@@ -290,8 +327,12 @@ pub fn init_struct_list_member<A: BuilderArena>(
     ensures grows { Grows (A.view arena.old).words (A.view arena.new).words }
     ensures there { IfOk result (HasStructsPlace (A.view arena.new).words size) }
     ensures count { IfOk result (λ list. list.count ≡ count) }
-    ensures member { MakesMember result (call_in place (A.view arena.old).words (A.view arena.new).words) tag index
+    ensures member { MakesMember result
+        (call_in place (A.view arena.old).words (A.view arena.new).words) tag index
         (zero_structs count size) }
+    ensures memory { Allocates result
+        (call_on place index (A.view arena.old) (A.view arena.new))
+        (1 + count * (size.data_words + size.pointers)) }
 {
     set_tag(arena, place, tag);
     fields::init_struct_list(arena, place, index, count, size)
@@ -322,24 +363,31 @@ pub fn init_list_member<A: BuilderArena>(
     ensures grows { Grows (A.view arena.old).words (A.view arena.new).words }
     ensures there { IfOk result (HasListPlace (A.view arena.new).words size) }
     ensures count { IfOk result (λ list. list.count ≡ count) }
-    ensures member { MakesMember result (call_in place (A.view arena.old).words (A.view arena.new).words) tag index
+    ensures member { MakesMember result
+        (call_in place (A.view arena.old).words (A.view arena.new).words) tag index
         (zero_list (size_number size) count) }
+    ensures memory { Allocates result
+        (call_on place index (A.view arena.old) (A.view arena.new))
+        (list_words (size_number size) count) }
 {
     set_tag(arena, place, tag);
     fields::init_list(arena, place, index, size, count)
 }
 
-/// Makes a pointer of a struct null, and zeroes what it held. Precondition: `index` is below the number
-/// of pointers.
-#[tactic(auto, using(crate::proofs::Sets::sets_child, crate::proofs::Sets::replaces_child, capnp_contents::proofs::Growing::pruned_grows))]
+/// Makes a pointer of a struct null, and zeroes what it held. Precondition: `index` is below the
+/// number of pointers.
+#[tactic(auto, using(capnp_contents::proofs::Growing::pruned_grows))]
 pub fn clear<A: BuilderArena>(arena: &mut A, place: StructPlace, index: usize)
     requires inside { IsStructPlace (A.view arena.old).words place }
     requires field { index < place.pointers }
     ensures grows { Grows (A.view arena.old).words (A.view arena.new).words }
-    ensures sets { SetsChild (λ after. after) (call_in place (A.view arena.old).words (A.view arena.new).words)
+    ensures sets { SetsChild (λ after. after)
+        (call_in place (A.view arena.old).words (A.view arena.new).words)
         index Null }
-    ensures replaces { ReplacesChild (λ after. after) (call_in place (A.view arena.old).words (A.view arena.new).words)
+    ensures replaces { ReplacesChild (λ after. after)
+        (call_in place (A.view arena.old).words (A.view arena.new).words)
         index Null }
+    ensures memory { OnlyWrites (A.view arena.old) (A.view arena.new) }
 {
     let at = place.pointers_at + index as u32;
     making::clear(arena, place.segment, at);
@@ -347,7 +395,6 @@ pub fn clear<A: BuilderArena>(arena: &mut A, place: StructPlace, index: usize)
 
 /// Makes a pointer of a struct the capability with index `capability` in the message's capability
 /// table, and zeroes what it held. Precondition: `index` is below the number of pointers.
-#[tactic(auto, using(crate::proofs::Sets::sets_child, crate::proofs::Sets::replaces_child))]
 pub fn set_capability<A: BuilderArena>(
     arena: &mut A,
     place: StructPlace,
@@ -357,11 +404,41 @@ pub fn set_capability<A: BuilderArena>(
     requires inside { IsStructPlace (A.view arena.old).words place }
     requires field { index < place.pointers }
     ensures grows { Grows (A.view arena.old).words (A.view arena.new).words }
-    ensures sets { SetsChild (λ after. after) (call_in place (A.view arena.old).words (A.view arena.new).words)
+    ensures sets { SetsChild (λ after. after)
+        (call_in place (A.view arena.old).words (A.view arena.new).words)
         index (Capability capability) }
-    ensures replaces { ReplacesChild (λ after. after) (call_in place (A.view arena.old).words (A.view arena.new).words)
+    ensures replaces { ReplacesChild (λ after. after)
+        (call_in place (A.view arena.old).words (A.view arena.new).words)
         index (Capability capability) }
+    ensures memory { OnlyWrites (A.view arena.old) (A.view arena.new) }
 {
     let at = place.pointers_at + index as u32;
     initializing::set_capability(arena, place.segment, at, capability);
+}
+
+/// Sets the member of a union that is a capability: writes its tag, and makes pointer `index` the
+/// capability with index `capability`. Zeroes what the pointer held. Precondition: tag and pointer
+/// are inside the struct.
+pub fn set_capability_member<A: BuilderArena>(
+    arena: &mut A,
+    place: StructPlace,
+    tag: Tag,
+    index: usize,
+    capability: u32,
+)
+    requires aligned { IsAligned place }
+    requires inside { IsStructPlace (A.view arena.old).words place }
+    requires tag { IsInside place.bits 16 tag.offset }
+    requires field { index < place.pointers }
+    ensures grows { Grows (A.view arena.old).words (A.view arena.new).words }
+    ensures sets { SetsChildMember (λ after. after)
+        (call_in place (A.view arena.old).words (A.view arena.new).words) tag index
+        (Capability capability) }
+    ensures replaces { ReplacesChildMember (λ after. after)
+        (call_in place (A.view arena.old).words (A.view arena.new).words) tag index
+        (Capability capability) }
+    ensures memory { OnlyWrites (A.view arena.old) (A.view arena.new) }
+{
+    set_tag(arena, place, tag);
+    set_capability(arena, place, index, capability);
 }

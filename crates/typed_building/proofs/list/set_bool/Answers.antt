@@ -4,6 +4,7 @@ use Rattle.capnp_format.specs.Numbers.{element_bits}
 use Rattle.capnp_making.specs.Fields.{with_field}
 use Rattle.capnp_words.specs.Sizes.{size_number}
 use Rattle.capnp_readers.specs.Sections.{step_bits}
+use Rattle.capnp_builders.proofs.HeldMade.{field_writes}
 use Rattle.capnp_builders.proofs.HeldLists.{WritesElement, element_set, element_set_within}
 use Rattle.typed_building.proofs.list.set_bool.Goals as goal
 
@@ -29,3 +30,6 @@ returns-clause-sets g c = λ s p size ns h. element_set s p size ns (writes g c)
 
 pub returns-clause-sets_child : goal.returns-clause-sets_child
 returns-clause-sets_child g c = λ x place ws ts i size ns inside h there. element_set_within x place ws ts i size ns (writes g c) inside h there
+
+pub returns-clause-memory : goal.returns-clause-memory
+returns-clause-memory g c = field_writes _ _ c.args.list.segment (8 * c.args.list.byte + c.from.result) 1 (cond c.args.value 1 0) c.set_bit.ensures.written

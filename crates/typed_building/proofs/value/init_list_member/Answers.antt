@@ -1,5 +1,9 @@
+use Rattle.typed_building.proofs.Memory.{allocates_written}
 use Rattle.typed_building.proofs.Sets.{makes_member}
 use Rattle.typed_building.proofs.value.init_list_member.Goals as goal
 
 pub returns-clause-member : goal.returns-clause-member
 returns-clause-member g c = makes_member c.init_list.result (g.A.BuilderArena.view c.args.arena.now).words (g.A.BuilderArena.view c.set_tag.new.arena).words (g.A.BuilderArena.view c.init_list.new.arena).words c.args.place c.args.tag c.args.index _ c.set_tag.ensures.sets c.set_tag.ensures.replaces c.init_list.ensures.child
+
+pub returns-clause-memory : goal.returns-clause-memory
+returns-clause-memory g c = allocates_written c.init_list.result _ _ _ _ _ _ c.set_tag.ensures.memory c.init_list.ensures.object.memory

@@ -1,4 +1,5 @@
 use Rattle.capnp_builders.specs.Places.{number_field}
+use Rattle.capnp_widening.proofs.WrittenAnew.{writes_both}
 use Rattle.typed_building.proofs.Sets.{replaces_member, sets_member}
 use Rattle.typed_building.proofs.value.set_number_member.Goals as goal
 
@@ -7,3 +8,6 @@ returns-clause-sets g c = sets_member (g.A.BuilderArena.view c.args.arena.now).w
 
 pub returns-clause-replaces : goal.returns-clause-replaces
 returns-clause-replaces g c = replaces_member (g.A.BuilderArena.view c.args.arena.now).words (g.A.BuilderArena.view c.set_tag.new.arena).words (g.A.BuilderArena.view c.set_number.new.arena).words c.args.place c.args.tag (number_field g.T.Primitive.BYTES c.args.offset (g.T.Primitive.bits_of c.args.value)) c.set_tag.ensures.sets c.set_tag.ensures.replaces c.set_number.ensures.replaces
+
+pub returns-clause-memory : goal.returns-clause-memory
+returns-clause-memory g c = writes_both _ _ _ c.set_tag.ensures.memory c.set_number.ensures.memory

@@ -1,0 +1,11 @@
+use Rattle.std.proofs.Common.{rules, subst}
+use Rattle.capnp_value_copies.specs.ListValues.{list_read}
+use Rattle.capnp_builders.specs.Held.{MakesChild, call_in}
+use Rattle.typed_building.specs.Copied.{copied_list}
+use Rattle.typed_building.proofs.Copied.{child_copied, list_shown}
+use Rattle.typed_building.proofs.copying.set_list_from.Goals as goal
+
+pub returns-clause-child : goal.returns-clause-child
+returns-clause-child g c = λ t shows.
+    subst (λ (a : g.row.A.Denot). MakesChild c.set_list.result (call_in c.args.place (g.A.BuilderArena.view c.args.arena.now).words (g.A.BuilderArena.view a).words) c.args.index (copied_list c.args.from.now.element_size c.args.from.now.struct_size t)) (search rules)
+    (child_copied c.set_list.result (list_read g.B.ReaderArena c.args.from.now) (g.A.BuilderArena.view c.args.arena.now) (g.A.BuilderArena.view c.set_list.new.self.arena.now) _ _ c.args.place c.args.index (copied_list c.args.from.now.element_size c.args.from.now.struct_size t) c.requires.field (λ v read. list_shown g.B.ReaderArena c.args.from.now t v _ _ shows read) c.set_list.ensures.copied c.set_list.ensures.refused)
