@@ -1,5 +1,5 @@
 //! AddressBook
-ghost use Rattle.std.specs.Prelude.{IfOk, IsTrue, List, ℕ, ◌*◌, ◌+◌, ◌<◌, ◌^◌, ◌↔◌, ◌≡◌, ◌≢◌};
+ghost use Rattle.std.specs.Prelude.{IfOk, IsOk, IsTrue, List, ℕ, ◌*◌, ◌+◌, ◌<◌, ◌^◌, ◌↔◌, ◌≡◌, ◌≢◌};
 ghost use Rattle.addressbook_building.specs.Sizes.{address_book_size, person_size};
 ghost use Rattle.capnp_builders.specs.Held.{HasStruct, Holder, MakesChild, call_in, element_of, pointer_to};
 ghost use Rattle.capnp_builders.specs.Places.{element_place};
@@ -8,15 +8,23 @@ ghost use Rattle.capnp_format.specs.Tree.{Null, Struct, Tree, Trees};
 ghost use Rattle.capnp_making.specs.Made.{nulls, words_of_zero, zero_elements, zero_struct, zero_structs};
 ghost use Rattle.capnp_making.specs.Makes.{MakesObject, call_at};
 ghost use Rattle.capnp_making.specs.Stored.{IsStored};
+ghost use Rattle.capnp_objects.specs.Wanted.{plain};
+ghost use Rattle.capnp_readers.specs.Values.{ShowsListOf};
+ghost use Rattle.capnp_copies.specs.Rooms.{CanBeCopied};
+ghost use Rattle.capnp_value_copies.specs.ListValues.{list_read};
+ghost use Rattle.capnp_widening.specs.Rooms.{WiderListFits};
+ghost use Rattle.typed_building.specs.Copied.{copied_list};
+ghost use Rattle.typed_building.specs.Opened.{OpensChild, opened_list};
 ghost use Rattle.typed_building.specs.There.{HasStructsPlace, HasStructPlace, call_on};
 ghost use Rattle.typed_reading.specs.Values.{child};
 
 use crate::person;
-use capnp_arena_traits::arena::BuilderArena;
+use capnp_arena_traits::arena::{BuilderArena, ReaderArena};
 use capnp_readers::readers::{ListPlace, StructPlace};
 use capnp_words::error::ErrorKind;
+use capnp_words::read_limiter::ReadLimiter;
 use capnp_words::wire_pointer::StructSize;
-use typed_building::{list, reading, value};
+use typed_building::{copying, list, opening, reading, value};
 
 /// The sections of an AddressBook.
 pub const SIZE: StructSize = StructSize {
@@ -79,6 +87,52 @@ impl Builder {
             Ok(place) => Ok(person::Builders { place }),
             Err(k) => Err(k),
         }
+    }
+
+    /// Returns people, for writing. Makes a list whose structs are too small wider; null is a list
+    /// without elements.
+    pub fn get_people<A: BuilderArena>(self, arena: &mut A) -> Result<person::Builders, ErrorKind>
+        requires { HasStructPlace (A.view arena.old).words address_book_size self.place }
+        ensures fits { WiderListFits
+            (IsStored (A.view arena.old).words self.place.segment (self.place.pointers_at + 0))
+            (A.view arena.old) self.place.segment (self.place.pointers_at + 0)
+            person_size
+            → IsOk result }
+        ensures child { OpensChild result
+            (call_in self.place (A.view arena.old).words (A.view arena.new).words) 0
+            (opened_list person_size) }
+        ensures there { (x : Holder) (ws : List ℕ) (ts : Trees)
+            → HasStruct (A.view arena.old).words x self.place ws ts
+            → IfOk result (λ list.
+            HasStructsPlace (A.view arena.new).words person_size list.place) }
+        ensures grows { (x : Holder) (ws : List ℕ) (ts : Trees)
+            → HasStruct (A.view arena.old).words x self.place ws ts
+            → Grows (A.view arena.old).words (A.view arena.new).words }
+    {
+        match opening::get_struct_list(arena, self.place, 0, person::SIZE) {
+            Ok(place) => Ok(person::Builders { place }),
+            Err(k) => Err(k),
+        }
+    }
+
+    /// Sets people to a copy of `from`. Charges `lim` what reading what its pointers lead to costs.
+    pub fn set_people<A: BuilderArena, B: ReaderArena>(
+        self,
+        arena: &mut A,
+        from: &addressbook_reading::person::Readers<'_, B>,
+        lim: &mut ReadLimiter,
+    ) -> Result<(), ErrorKind>
+        requires { HasStructPlace (A.view arena.old).words address_book_size self.place }
+        ensures fits { CanBeCopied (list_read B.ReaderArena from.now.list.reader) plain lim.old
+            (A.view arena.old) self.place.segment
+            → IsOk result }
+        ensures grows { Grows (A.view arena.old).words (A.view arena.new).words }
+        ensures child { (t : Tree) → ShowsListOf B.ReaderArena from.now.list.reader t
+            → MakesChild result
+            (call_in self.place (A.view arena.old).words (A.view arena.new).words) 0
+            (copied_list from.now.list.reader.element_size from.now.list.reader.struct_size t) }
+    {
+        copying::set_list_from(arena, self.place, 0, &from.list.reader, lim)
     }
 
     /// Whether the pointer of people is not null.

@@ -1,5 +1,5 @@
 //! Person
-ghost use Rattle.std.specs.Prelude.{IfOk, IsTrue, List, [], length, ℕ, ◌*◌, ◌++◌, ◌+◌, ◌<◌, ◌^◌, ◌↔◌, ◌∷◌, ◌≡◌, ◌≢◌};
+ghost use Rattle.std.specs.Prelude.{IfOk, IsOk, IsTrue, List, [], length, ℕ, ◌*◌, ◌++◌, ◌+◌, ◌<◌, ◌^◌, ◌↔◌, ◌∷◌, ◌≡◌, ◌≢◌};
 ghost use Rattle.addressbook_building.specs.Sizes.{person_phone_number_size, person_size};
 ghost use Rattle.addressbook_reading.specs.Schema.{person_id};
 ghost use Rattle.capnp_builders.specs.Held.{HasStruct, Holder, MakesChild, ReplacesField, SetsField, call_in, element_of, pointer_to};
@@ -10,15 +10,26 @@ ghost use Rattle.capnp_format.specs.Tree.{Flat, Null, Struct, Tree, Trees};
 ghost use Rattle.capnp_making.specs.Made.{nulls, words_of_zero, zero_elements, zero_struct, zero_structs};
 ghost use Rattle.capnp_making.specs.Makes.{MakesObject, call_at};
 ghost use Rattle.capnp_making.specs.Stored.{IsStored};
+ghost use Rattle.capnp_objects.specs.Wanted.{plain};
+ghost use Rattle.capnp_readers.specs.Values.{ShowsListOf};
+ghost use Rattle.capnp_copies.specs.Rooms.{CanBeCopied};
+ghost use Rattle.capnp_value_copies.specs.ListValues.{list_read};
+ghost use Rattle.capnp_widening.specs.Rooms.{WiderListFits};
+ghost use Rattle.typed_building.specs.Copied.{copied_list};
+ghost use Rattle.typed_building.specs.Opened.{OpensChild, opened_list};
+ghost use Rattle.capnp_widening.specs.Anew.{OnlyWrites};
+ghost use Rattle.typed_building.specs.Slots.{ReplacesSlots, ZeroesSlots};
 ghost use Rattle.typed_building.specs.There.{HasStructsPlace, HasStructPlace, call_on};
 ghost use Rattle.typed_reading.specs.Values.{child};
 
 use crate::{person_employment, person_phone_number};
-use capnp_arena_traits::arena::BuilderArena;
+use capnp_arena_traits::arena::{BuilderArena, ReaderArena};
 use capnp_readers::readers::{ListPlace, StructPlace};
 use capnp_words::error::ErrorKind;
+use capnp_words::read_limiter::ReadLimiter;
 use capnp_words::wire_pointer::StructSize;
-use typed_building::{list, reading, value};
+use typed_building::slots::Slot;
+use typed_building::{copying, groups, list, opening, reading, value};
 
 /// The sections of a Person.
 pub const SIZE: StructSize = StructSize {
@@ -62,6 +73,7 @@ impl Builder {
         ensures replaces { ReplacesField
             (call_in self.place (A.view arena.old).words (A.view arena.new).words)
             (field 0 32 value) }
+        ensures memory { OnlyWrites (A.view arena.old) (A.view arena.new) }
     {
         value::set_number(arena, self.place, 0, value);
     }
@@ -157,6 +169,55 @@ impl Builder {
         }
     }
 
+    /// Returns phones, for writing. Makes a list whose structs are too small wider; null is a list
+    /// without elements.
+    pub fn get_phones<A: BuilderArena>(
+        self,
+        arena: &mut A,
+    ) -> Result<person_phone_number::Builders, ErrorKind>
+        requires { HasStructPlace (A.view arena.old).words person_size self.place }
+        ensures fits { WiderListFits
+            (IsStored (A.view arena.old).words self.place.segment (self.place.pointers_at + 2))
+            (A.view arena.old) self.place.segment (self.place.pointers_at + 2)
+            person_phone_number_size
+            → IsOk result }
+        ensures child { OpensChild result
+            (call_in self.place (A.view arena.old).words (A.view arena.new).words) 2
+            (opened_list person_phone_number_size) }
+        ensures there { (x : Holder) (ws : List ℕ) (ts : Trees)
+            → HasStruct (A.view arena.old).words x self.place ws ts
+            → IfOk result (λ list.
+            HasStructsPlace (A.view arena.new).words person_phone_number_size list.place) }
+        ensures grows { (x : Holder) (ws : List ℕ) (ts : Trees)
+            → HasStruct (A.view arena.old).words x self.place ws ts
+            → Grows (A.view arena.old).words (A.view arena.new).words }
+    {
+        match opening::get_struct_list(arena, self.place, 2, person_phone_number::SIZE) {
+            Ok(place) => Ok(person_phone_number::Builders { place }),
+            Err(k) => Err(k),
+        }
+    }
+
+    /// Sets phones to a copy of `from`. Charges `lim` what reading what its pointers lead to costs.
+    pub fn set_phones<A: BuilderArena, B: ReaderArena>(
+        self,
+        arena: &mut A,
+        from: &addressbook_reading::person_phone_number::Readers<'_, B>,
+        lim: &mut ReadLimiter,
+    ) -> Result<(), ErrorKind>
+        requires { HasStructPlace (A.view arena.old).words person_size self.place }
+        ensures fits { CanBeCopied (list_read B.ReaderArena from.now.list.reader) plain lim.old
+            (A.view arena.old) self.place.segment
+            → IsOk result }
+        ensures grows { Grows (A.view arena.old).words (A.view arena.new).words }
+        ensures child { (t : Tree) → ShowsListOf B.ReaderArena from.now.list.reader t
+            → MakesChild result
+            (call_in self.place (A.view arena.old).words (A.view arena.new).words) 2
+            (copied_list from.now.list.reader.element_size from.now.list.reader.struct_size t) }
+    {
+        copying::set_list_from(arena, self.place, 2, &from.list.reader, lim)
+    }
+
     /// Whether the pointer of phones is not null.
     pub fn has_phones<A: BuilderArena>(self, arena: &A) -> bool
         requires { HasStructPlace (A.view arena.now).words person_size self.place }
@@ -165,6 +226,25 @@ impl Builder {
             → (IsTrue result ↔ (child 2 (Struct ws ts) ≢ Null)) }
     {
         reading::has(arena, self.place, 2)
+    }
+
+    /// employment :group
+    ///
+    /// Makes all fields of the group zero or null.
+    pub fn init_employment<A: BuilderArena>(self, arena: &mut A) -> person_employment::Builder
+        requires { HasStructPlace (A.view arena.old).words person_size self.place }
+        ensures grows { Grows (A.view arena.old).words (A.view arena.new).words }
+        ensures zeroes { ZeroesSlots
+            (call_in self.place (A.view arena.old).words (A.view arena.new).words)
+            (Slot.TwoBytes 2 ∷ Slot.Pointer 3 ∷ []) }
+        ensures replaces { ReplacesSlots
+            (call_in self.place (A.view arena.old).words (A.view arena.new).words)
+            (Slot.TwoBytes 2 ∷ Slot.Pointer 3 ∷ []) }
+        ensures memory { OnlyWrites (A.view arena.old) (A.view arena.new) }
+        ensures place { result.place ≡ self.place }
+    {
+        groups::zero_slots(arena, self.place, &[Slot::TwoBytes(2), Slot::Pointer(3)]);
+        person_employment::Builder { place: self.place }
     }
 
     /// employment :group

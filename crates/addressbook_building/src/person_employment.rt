@@ -5,10 +5,13 @@ ghost use Rattle.addressbook_reading.specs.OfPersonEmploymentWhich.{person_emplo
 ghost use Rattle.addressbook_reading.specs.Schema.{person_employment_tag};
 ghost use Rattle.capnp_builders.specs.Held.{HasStruct, Holder, ReplacesField, SetsField, call_in};
 ghost use Rattle.capnp_builders.specs.Places.{field};
+ghost use Rattle.capnp_format.specs.Numbers.{words_for};
 ghost use Rattle.capnp_format.specs.Segments.{Grows};
 ghost use Rattle.capnp_format.specs.Tree.{Flat, Null, Struct, Trees};
+ghost use Rattle.capnp_making.specs.Makes.{Allocates};
+ghost use Rattle.capnp_widening.specs.Anew.{OnlyWrites};
 ghost use Rattle.typed_building.specs.Members.{MakesMember, tagged};
-ghost use Rattle.typed_building.specs.There.{HasStructPlace};
+ghost use Rattle.typed_building.specs.There.{HasStructPlace, call_on};
 ghost use Rattle.typed_reading.specs.Values.{child};
 
 use addressbook_reading::person_employment_which;
@@ -37,6 +40,7 @@ impl Builder {
         ensures replaces { ReplacesField
             (call_in self.place (A.view arena.old).words (A.view arena.new).words)
             (field 32 16 0) }
+        ensures memory { OnlyWrites (A.view arena.old) (A.view arena.new) }
     {
         let tag = Tag {
             offset: 2,
@@ -53,6 +57,9 @@ impl Builder {
         ensures member { MakesMember result
             (call_in self.place (A.view arena.old).words (A.view arena.new).words)
             (tagged 2 1) 3 (Flat 2 (text.now ++ 0 ∷ [])) }
+        ensures memory { Allocates result
+            (call_on self.place 3 (A.view arena.old) (A.view arena.new))
+            (words_for 2 (length text.now + 1)) }
     {
         let tag = Tag {
             offset: 2,
@@ -69,6 +76,9 @@ impl Builder {
         ensures member { MakesMember result
             (call_in self.place (A.view arena.old).words (A.view arena.new).words)
             (tagged 2 2) 3 (Flat 2 (text.now ++ 0 ∷ [])) }
+        ensures memory { Allocates result
+            (call_on self.place 3 (A.view arena.old) (A.view arena.new))
+            (words_for 2 (length text.now + 1)) }
     {
         let tag = Tag {
             offset: 2,
@@ -87,6 +97,7 @@ impl Builder {
         ensures replaces { ReplacesField
             (call_in self.place (A.view arena.old).words (A.view arena.new).words)
             (field 32 16 3) }
+        ensures memory { OnlyWrites (A.view arena.old) (A.view arena.new) }
     {
         let tag = Tag {
             offset: 2,
@@ -103,10 +114,12 @@ impl Builder {
         requires { HasStructPlace (A.view arena.now).words person_size self.place }
         ensures value { (x : Holder) (ws : List ℕ) (ts : Trees)
             → HasStruct (A.view arena.now).words x self.place ws ts
-            → IfOk result (λ e. person_employment_which_number e ≡ person_employment_tag (Struct ws ts)) }
+            → IfOk result (λ e.
+            person_employment_which_number e ≡ person_employment_tag (Struct ws ts)) }
         ensures unknown { (x : Holder) (ws : List ℕ) (ts : Trees)
             → HasStruct (A.view arena.now).words x self.place ws ts
-            → IfErr result (λ e. (e.0 ≡ person_employment_tag (Struct ws ts)) × (4 ≤ person_employment_tag (Struct ws ts))) }
+            → IfErr result (λ e. (e.0 ≡ person_employment_tag (Struct ws ts))
+            × (4 ≤ person_employment_tag (Struct ws ts))) }
     {
         person_employment_which::of_number(reading::get_number(arena, self.place, 2))
     }

@@ -11,6 +11,7 @@ ghost use Rattle.capnp_format.specs.Tree.{Flat, Null, Struct, Tree, Trees};
 ghost use Rattle.capnp_making.specs.Made.{nulls, words_of_zero, zero_struct};
 ghost use Rattle.capnp_making.specs.Makes.{MakesObject, call_at};
 ghost use Rattle.capnp_making.specs.Stored.{IsStored};
+ghost use Rattle.capnp_widening.specs.Anew.{OnlyWrites};
 ghost use Rattle.typed_building.specs.There.{HasStructsPlace, HasStructPlace, call_on};
 ghost use Rattle.typed_reading.specs.Values.{child};
 
@@ -57,7 +58,8 @@ impl Builder {
 
     /// number @0 :Text
     pub fn set_number<A: BuilderArena>(self, arena: &mut A, text: &[u8]) -> Result<(), ErrorKind>
-        requires there { HasStructPlace (A.view arena.old).words person_phone_number_size self.place }
+        requires there { HasStructPlace (A.view arena.old).words
+            person_phone_number_size self.place }
         requires few { length text.now + 1 < 2 ^ 29 }
         ensures object { MakesObject result
             (call_on self.place 0 (A.view arena.old) (A.view arena.new))
@@ -91,6 +93,7 @@ impl Builder {
         ensures replaces { ReplacesField
             (call_in self.place (A.view arena.old).words (A.view arena.new).words)
             (field 0 16 (person_phone_number_type_number value)) }
+        ensures memory { OnlyWrites (A.view arena.old) (A.view arena.new) }
     {
         value::set_number(
             arena,
@@ -105,10 +108,12 @@ impl Builder {
         requires { HasStructPlace (A.view arena.now).words person_phone_number_size self.place }
         ensures value { (x : Holder) (ws : List ℕ) (ts : Trees)
             → HasStruct (A.view arena.now).words x self.place ws ts
-            → IfOk result (λ e. person_phone_number_type_number e ≡ person_phone_number_type (Struct ws ts)) }
+            → IfOk result (λ e.
+            person_phone_number_type_number e ≡ person_phone_number_type (Struct ws ts)) }
         ensures unknown { (x : Holder) (ws : List ℕ) (ts : Trees)
             → HasStruct (A.view arena.now).words x self.place ws ts
-            → IfErr result (λ e. (e.0 ≡ person_phone_number_type (Struct ws ts)) × (3 ≤ person_phone_number_type (Struct ws ts))) }
+            → IfErr result (λ e. (e.0 ≡ person_phone_number_type (Struct ws ts))
+            × (3 ≤ person_phone_number_type (Struct ws ts))) }
     {
         person_phone_number_type::of_number(reading::get_number(arena, self.place, 0))
     }
@@ -131,9 +136,11 @@ impl Builders {
 
     /// Returns element `index`. Precondition: `index` is below the number of elements.
     pub fn get<A: BuilderArena>(self, arena: &A, index: u32) -> Builder
-        requires there { HasStructsPlace (A.view arena.now).words person_phone_number_size self.place }
+        requires there { HasStructsPlace (A.view arena.now).words
+            person_phone_number_size self.place }
         requires range { index < self.place.count }
-        ensures there { HasStructPlace (A.view arena.now).words person_phone_number_size result.place }
+        ensures there { HasStructPlace (A.view arena.now).words
+            person_phone_number_size result.place }
         ensures place { result.place ≡ element_place self.place.size self.place index }
     {
         Builder {
