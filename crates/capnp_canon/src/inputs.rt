@@ -11,7 +11,7 @@ use capnp_framing::framing::FrameError;
 use capnp_packing::buffered::{BufferedInput, BufferedOutput};
 use capnp_refusals::refusals::RefusedPointer;
 use capnp_streams::devices::{BufReaderInput, NamedLines, NumberedLines};
-use capnp_streams::looks::{InputForm, guess};
+use capnp_streams::looks::{InputForm, guess_of};
 use capnp_streams::seen::{DeviceLog, Logged};
 use capnp_streams::streams::{self, Command, Fault, ShowTask, Stop, Summary, Task};
 use std::alloc::{AllocError, Global};
@@ -289,7 +289,7 @@ pub fn refuse(rt: &HostRuntime, form: InputForm, name: Option<&str>, stop: Stop,
     };
     let front = seen.front();
     if stop.answered == 0 {
-        if let Some(looks) = guess(form, stop.fault, front.first(), front.given()) {
+        if let Some(looks) = guess_of(form, stop.fault, front.first(), front.given()) {
             let _ = eprintln!(rt;
                 "capnp_canon: {name}{colon}the input looks like {}",
                 looks.text()

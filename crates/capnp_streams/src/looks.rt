@@ -98,7 +98,7 @@ impl ShowTask {
 /// with `fault`. Returns `None` if `fault` says nothing about the input, or if the input looks like
 /// what it is read as, or like nothing known. `first` has the first bytes of the input; the input
 /// has at least `given` bytes.
-pub fn guess(form: InputForm, fault: Fault, first: &[u8], given: u64) -> Option<Guess> {
+pub fn guess_of(form: InputForm, fault: Fault, first: &[u8], given: u64) -> Option<Guess> {
     if is_of_devices(fault) {
         return None;
     }
