@@ -110,7 +110,7 @@ test('parts of messages', () => {
     assert.throws(() => call(one.subarray(0, 12), [0]), { code: 'SegmentIsNotWholeWords', pointer: undefined });
   }
   passed('parts of messages', count);
-  assert.deepEqual([count, ...forms.values()], [66, 66, 165, 66]);
+  assert.deepEqual([count, ...forms.values()], [70, 70, 175, 70]);
 });
 
 test('the extent of messages', () => {

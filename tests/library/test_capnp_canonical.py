@@ -107,7 +107,7 @@ for name, *line in LINES:
 class Parts(unittest.TestCase):
     def test_parts(self):
         lines = [line.split() for line in PARTS.read_text().splitlines() if not line.startswith('#')]
-        self.assertEqual(len(lines), 66)
+        self.assertEqual(len(lines), 70)
         module = capnp_canonical
         of_frames = module.copy_flat_at, module.digest_at, module.size_at
         of_segments = module.segments_copy_flat_at, module.segments_digest_at, module.segments_size_at

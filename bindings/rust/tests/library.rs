@@ -652,7 +652,7 @@ fn parts() -> Tested {
         }
         count += 1;
     }
-    assert_eq!(count, 66);
+    assert_eq!(count, 70);
     Ok(())
 }
 
