@@ -1,6 +1,6 @@
 //! Turns lists into lists of structs that have at least a requested size.
 ghost use Rattle.std.specs.Prelude.{ℕ, ◌⊎◌, ◌≡◌, ◌<◌, ◌≤◌, ◌^◌, ◌↔◌, IsTrue, IsOk, IfOk};
-ghost use Rattle.capnp_format.specs.Segments.{IsPlace};
+ghost use Rattle.capnp_format.specs.Segments.{Grows, IsPlace};
 ghost use Rattle.capnp_format.specs.Tree.{Tree, Elements, Null, Structs};
 ghost use Rattle.capnp_words.specs.Sizes.{size_number};
 ghost use Rattle.capnp_making.specs.Makes.{call_at};
@@ -48,6 +48,7 @@ pub fn get_struct_list<A: BuilderArena>(
         × IsStored (A.view arena.old).words id at (Structs d q es)
         × (size.data_words ≤ d) × (size.pointers ≤ q))
         → IsOk result × (A.view arena.new ≡ A.view arena.old) }
+    ensures grows { Grows (A.view arena.old).words (A.view arena.new).words }
 {
     match existing::get_list(arena, id, at, ElementSize::Void)? {
         Some(old) => {
@@ -85,7 +86,9 @@ fn widen_list<A: BuilderArena>(
     requires few { old.count < 2 ^ 30 }
     requires narrow { size_number old.size ≡ 7 → size.data_words ≤ old.struct_size.data_words
         → size.pointers ≤ old.struct_size.pointers → ⊥ }
-    ensures { WidensList result old size (call_at id at (A.view arena.old) (A.view arena.new)) }
+    ensures widens { WidensList result old size
+        (call_at id at (A.view arena.old) (A.view arena.new)) }
+    ensures grows { Grows (A.view arena.old).words (A.view arena.new).words }
 {
     if old.size == ElementSize::Bit {
         return Err(ErrorKind::FoundBitListWhereStructListWasExpected);

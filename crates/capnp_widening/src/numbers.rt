@@ -3,7 +3,7 @@
 ghost use Rattle.std.specs.Prelude.{◌≡◌, ◌↔◌, ◌<◌, ◌≤◌, ◌+◌, ◌*◌, ◌^◌, IsTrue, length, IsOk, IfOk, IfErr, OnErr};
 ghost use Rattle.capnp_arena_traits.specs.View.{KeepsLimits};
 ghost use Rattle.capnp_format.specs.Numbers.{element_bits, words_for};
-ghost use Rattle.capnp_format.specs.Segments.{segment, IsPlace};
+ghost use Rattle.capnp_format.specs.Segments.{Grows, segment, IsPlace};
 ghost use Rattle.capnp_words.specs.Sizes.{size_number};
 ghost use Rattle.capnp_making.specs.Made.{structs_words};
 ghost use Rattle.capnp_format.specs.Fields.{field_in};
@@ -38,8 +38,9 @@ pub(crate) fn widen_numbers<A: BuilderArena>(
     requires kind { (2 ≤ size_number old.size) × (size_number old.size ≤ 5) }
     requires data { 0 < size.data_words }
     requires small { old.count * (size.data_words + size.pointers) < 2 ^ 29 }
-    ensures { MakesListOfStructs result (IsList (A.view arena.old).words id at old) size
+    ensures makes { MakesListOfStructs result (IsList (A.view arena.old).words id at old) size
         (call_at id at (A.view arena.old) (A.view arena.new)) }
+    ensures grows { Grows (A.view arena.old).words (A.view arena.new).words }
 {
     if !are_numbers_inside(arena, old) {
         return Err(ErrorKind::MessageContainsOutOfBoundsPointer);
@@ -84,6 +85,7 @@ fn remake_numbers<A: BuilderArena>(
         (structs_words old.count size)) }
     ensures few { GrowsByAtMost (A.view arena.old).words (A.view arena.new).words
         (structs_words old.count size + 1) }
+    ensures grows { Grows (A.view arena.old).words (A.view arena.new).words }
     ensures fits { HasRoom (A.view arena.old) id (structs_words old.count size) → IsOk result }
 {
     let pointer = word_of(arena, id, at);

@@ -2,7 +2,7 @@
 //! specification, "Structs" and "Lists").
 ghost use Rattle.std.specs.Prelude.{◌-◌, ◌≡◌, ◌+◌, ◌^◌, ◌≤◌, IsOk, Some, IfOk, OnOk, IfErr, OnErr};
 ghost use Rattle.capnp_format.specs.Forest.{target};
-ghost use Rattle.capnp_format.specs.Segments.{IsPlace, word_at};
+ghost use Rattle.capnp_format.specs.Segments.{Grows, IsPlace, word_at};
 ghost use Rattle.capnp_format.specs.Tree.{Tree, Null};
 ghost use Rattle.capnp_contents.specs.Existing.{StructLiesIn, struct_in};
 ghost use Rattle.capnp_format.specs.Word.{struct_word};
@@ -43,6 +43,7 @@ pub fn open_struct<A: BuilderArena>(
         (call_at id at (A.view arena.old) (A.view arena.new)) t }
     ensures wide { IfOk result (IsAtLeast size) }
     ensures memory { UsesMemory result (A.view arena.old) (A.view arena.new) }
+    ensures grows { Grows (A.view arena.old).words (A.view arena.new).words }
     ensures named { (word_at (A.view arena.old).words id at ≡ 0 → ⊥)
         → IfErr result (IsNoWider size (call_at id at (A.view arena.old) (A.view arena.new))) }
     ensures fits { OpeningFits (A.view arena.old) id at size → IsOk result }
@@ -91,6 +92,7 @@ fn new_struct<A: BuilderArena>(
         (call_at id at (A.view arena.old) (A.view arena.new)) Null }
     ensures wide { IfOk result (IsAtLeast size) }
     ensures memory { UsesMemory result (A.view arena.old) (A.view arena.new) }
+    ensures grows { Grows (A.view arena.old).words (A.view arena.new).words }
     ensures fits { HasRoom (A.view arena.old) id (size.data_words + size.pointers) → IsOk result }
     ensures taken { OnOk result (TakesWords (A.view arena.old) (A.view arena.new) id
         (size.data_words + size.pointers)) }
@@ -133,6 +135,7 @@ fn open_narrow_struct<A: BuilderArena>(
         (call_at place.segment place.at (A.view arena.old) (A.view arena.new)) t }
     ensures wide { IfOk result (IsAtLeast size) }
     ensures memory { UsesMemory result (A.view arena.old) (A.view arena.new) }
+    ensures grows { Grows (A.view arena.old).words (A.view arena.new).words }
     ensures named { IfErr result (RefusesToBecome
         (IsStored (A.view arena.old).words place.segment place.at) (struct_opened size)
         (A.view arena.old) (A.view arena.new)) }
@@ -165,6 +168,7 @@ pub fn open_struct_list<A: BuilderArena>(
     ensures opened { (t : Tree) → IsStored (A.view arena.old).words id at t
         → OpensExistingList size result (call_at id at (A.view arena.old) (A.view arena.new)) t }
     ensures memory { UsesMemory result (A.view arena.old) (A.view arena.new) }
+    ensures grows { Grows (A.view arena.old).words (A.view arena.new).words }
     ensures named { IfErr result (RefusesWider (IsStored (A.view arena.old).words id at) size
         (A.view arena.old) (A.view arena.new)) }
     ensures fits { WiderListFits (IsStored (A.view arena.old).words id at)

@@ -191,8 +191,9 @@ pub(crate) fn widen_rows<A: BuilderArena>(
     requires place { IsPlace (A.view arena.old).words id at }
     requires wider { CanBecome old size }
     requires small { old.count * (size.data_words + size.pointers) < 2 ^ 29 }
-    ensures { MakesListOfStructs result (StoresRows (A.view arena.old).words id at old) size
+    ensures makes { MakesListOfStructs result (StoresRows (A.view arena.old).words id at old) size
         (call_at id at (A.view arena.old) (A.view arena.new)) }
+    ensures grows { Grows (A.view arena.old).words (A.view arena.new).words }
 {
     if !are_inside(arena, old) {
         return Err(ErrorKind::MessageContainsOutOfBoundsPointer);
@@ -226,6 +227,7 @@ fn remake_rows<A: BuilderArena>(
         (call_at id at (A.view arena.old) (A.view arena.new)) }
     ensures full { IfErr result (RefusesGrowth (A.view arena.old) (A.view arena.new)
         (structs_words old.count size) (old.count * old.size.pointers)) }
+    ensures grows { Grows (A.view arena.old).words (A.view arena.new).words }
     ensures fits { (to : WordPlace)
         → HasRoomAndPads (A.view arena.old) id (structs_words old.count size) old.segment
         (near_pointers (A.view arena.old).words (element_moves old to size)) → IsOk result }

@@ -4,7 +4,7 @@
 //! words are zero.
 ghost use Rattle.std.specs.Prelude.{ℕ, Some, ◌≡◌, ◌≢◌, ◌↔◌, ◌<◌, ◌≤◌, ◌+◌, ◌*◌, ◌^◌, max, List, IsTrue, length, IsOk, IfOk, OnOk, IfErr, OnErr};
 ghost use Rattle.capnp_arena_traits.specs.View.{KeepsLimits};
-ghost use Rattle.capnp_format.specs.Segments.{segment, IsPlace};
+ghost use Rattle.capnp_format.specs.Segments.{Grows, segment, IsPlace};
 ghost use Rattle.capnp_format.specs.Forest.{target};
 ghost use Rattle.capnp_format.specs.Tree.{Tree, Trees, Struct, count};
 ghost use Rattle.capnp_contents.specs.Existing.{StructLiesIn, struct_in};
@@ -152,6 +152,7 @@ pub(crate) fn widen_known<A: BuilderArena>(
         → IsStored (A.view arena.old).words id at (Struct ws ts)
         → GrowsByAtMost (A.view arena.old).words (A.view arena.new).words
         (widened_words (widened size ws ts) + 1 + 2 * count ts) }
+    ensures grows { Grows (A.view arena.old).words (A.view arena.new).words }
 {
     let wide = greater_size(old.size, size);
     widen_struct(arena, id, at, old, wide)
@@ -227,6 +228,7 @@ fn widen_struct<A: BuilderArena>(
         (size.data_words + size.pointers) old.size.pointers) }
     ensures few { GrowsByAtMost (A.view arena.old).words (A.view arena.new).words
         (size.data_words + size.pointers + 1 + 2 * old.size.pointers) }
+    ensures grows { Grows (A.view arena.old).words (A.view arena.new).words }
     ensures fits { (to : WordPlace) → HasRoomAndPads (A.view arena.old) id
         (size.data_words + size.pointers) old.segment
         (near_pointers (A.view arena.old).words (row_of_moves

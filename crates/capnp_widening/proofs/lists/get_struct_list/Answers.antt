@@ -47,7 +47,7 @@ returns-in_ok-list-in-Some-clause-widened g c =
     let S : Segments = (g.A.BuilderArena.view c.args.arena.now).words in
     let R : Segments = (g.A.BuilderArena.view c.widen_list.new.arena).words in
     let found = λ (t : Tree) (x : IsStored S c.args.id c.args.at t). sym (ap Ok c.in-Some.is) ∙ c.in_ok-old.ensures.found t x in
-    let widens = c.in_ok-list-in-Some.ensures.widened in
+    let widens = c.in_ok-list-in-Some.ensures.widens.widened in
     λ t x.
     (let (u, e, made) = list_widens S R c.args.id c.args.at c.args.size c.in-Some.old c.in_ok-list-in-Some.list found widens t x in
     (u, e, made, list_leads S R c.args.id c.args.at c.args.size c.in-Some.old c.in_ok-list-in-Some.list found widens t u x e))
@@ -121,7 +121,7 @@ returns-in-None-clause-wider g c =
 -- A list is found, and remade or returned unchanged.
 pub returns-in_ok-list-in-Some-clause-wider : goal.returns-in_ok-list-in-Some-clause-wider
 returns-in_ok-list-in-Some-clause-wider g c =
-    let e = c.in_ok-list-in-Some.ensures.wider in
+    let e = c.in_ok-list-in-Some.ensures.widens.wider in
     record {
       anew = λ t u x some becomes narrow. e.anew t u (x, sym (sym (ap Ok c.in-Some.is) ∙ c.in_ok-old.ensures.found t x)) some becomes narrow;
       granted = e.granted;
@@ -136,7 +136,7 @@ returns-in_ok-list-in-Some-clause-wider g c =
 pub returns-in_err-list-in-Some-clause-wider : goal.returns-in_err-list-in-Some-clause-wider
 returns-in_err-list-in-Some-clause-wider g c =
     let p = err_from_is_err_and c.from_residual-in_err-list-in-Some.result c.from_residual-in_err-list-in-Some.ensures.1 in
-    let e = c.in_err-list-in-Some.ensures.wider in
+    let e = c.in_err-list-in-Some.ensures.widens.wider in
     rw (p.1, p.2) (record {
       anew = tt;
       granted = tt;

@@ -46,16 +46,16 @@ is_wider l size element wide no_bit narrow same wd wp = record {
   pointers = wp ∙ ap (λ (o : StructSize). max o.pointers size.pointers) same;
 }
 
-pub returns-then-eq : goal.returns-then-eq
-returns-then-eq g c =
+pub returns-then-eq-clause-widens : goal.returns-then-eq-clause-widens
+returns-then-eq-clause-widens g c =
     let v : View = g.A.BuilderArena.view c.args.arena.now in
     let bit : c.args.old.size ≡ Bit = search rules in
     unwidened _ c.args.old c.args.size v c.args.id c.args.at (bits_spent v)
     (λ t i. bits_refused v.words c.args.id c.args.at t c.args.old c.args.size.data_words c.args.size.pointers (ap size_number bit) i)
 
 -- Structs that take too many words are refused with the number of these words.
-pub returns-then-words-ge536870912 : goal.returns-then-words-ge536870912
-returns-then-words-ge536870912 g c =
+pub returns-then-words-ge536870912-clause-widens : goal.returns-then-words-ge536870912-clause-widens
+returns-then-words-ge536870912-clause-widens g c =
     let v : View = g.A.BuilderArena.view c.args.arena.now in
     let wide = c.greater_size-wide.result in
     let no_bit : c.args.old.size ≡ Bit → ⊥ = search rules in
@@ -66,8 +66,8 @@ returns-then-words-ge536870912 g c =
     unwidened _ c.args.old c.args.size v c.args.id c.args.at (too_large_spent v (c.from.result * c.from-2.result))
     (λ t i. becomes v.words c.args.id c.args.at t c.args.old c.args.size wide w i ∙ subst (λ x. limited n (as_structs wide t) ≡ Err (MessageTooLarge x)) (sym same) (too_many n (as_structs wide t) many))
 
-pub returns-in-Byte : goal.returns-in-Byte
-returns-in-Byte g c =
+pub returns-in-Byte-clause-widens : goal.returns-in-Byte-clause-widens
+returns-in-Byte-clause-widens g c =
     let a : View = g.A.BuilderArena.view c.args.arena.now in
     let b : View = g.A.BuilderArena.view c.widen_numbers.new.arena in
     let wide = c.greater_size-wide.result in
@@ -77,10 +77,10 @@ returns-in-Byte g c =
     let same : c.from.result * c.from-2.result ≡ n = ap₂ (λ x y. x * y) c.from.ensures (c.from-2.ensures ∙ c.total.ensures) in
     let few : n < 2 ^ 29 = subst (λ x. x < 2 ^ 29) same (omega arith) in
     widens c.widen_numbers.result (IsList a.words c.args.id c.args.at c.args.old) c.args.old c.args.size wide (call_at c.args.id c.args.at a b) (λ t i. i)
-    (λ t i. becomes a.words c.args.id c.args.at t c.args.old c.args.size wide w i ∙ few_enough n (as_structs wide t) few) c.widen_numbers.ensures
+    (λ t i. becomes a.words c.args.id c.args.at t c.args.old c.args.size wide w i ∙ few_enough n (as_structs wide t) few) c.widen_numbers.ensures.makes
 
-pub returns-in_default : goal.returns-in_default
-returns-in_default g c =
+pub returns-in_default-clause-widens : goal.returns-in_default-clause-widens
+returns-in_default-clause-widens g c =
     let a : View = g.A.BuilderArena.view c.args.arena.now in
     let b : View = g.A.BuilderArena.view c.widen_rows.new.arena in
     let wide = c.greater_size-wide.result in
@@ -93,4 +93,4 @@ returns-in_default g c =
     let whole = is_whole c.args.old.size no_bit no.not-Byte no.not-TwoBytes no.not-FourBytes no.not-EightBytes in
     widens c.widen_rows.result (StoresRows a.words c.args.id c.args.at c.element_rows.result) c.args.old c.args.size wide (call_at c.args.id c.args.at a b)
     (λ t i. subst (λ rows. StoresRows a.words c.args.id c.args.at rows t) (sym c.element_rows.ensures) (in_rows a.words c.args.id c.args.at t c.args.old whole i))
-    (λ t i. becomes a.words c.args.id c.args.at t c.args.old c.args.size wide w i ∙ few_enough n (as_structs wide t) few) c.widen_rows.ensures
+    (λ t i. becomes a.words c.args.id c.args.at t c.args.old c.args.size wide w i ∙ few_enough n (as_structs wide t) few) c.widen_rows.ensures.makes

@@ -16,6 +16,8 @@ use Rattle.capnp_widening.proofs.StructSteps.{nothing_grown}
 use Rattle.capnp_widening.proofs.TakingWords.{pruned_writes}
 use Rattle.capnp_widening.proofs.WrittenAnew.{keeps_writes, writes_both}
 use Rattle.capnp_widening.proofs.Statements.{copied_numbers, settled_room}
+use Rattle.capnp_contents.proofs.Growing.{grows_again, pruned_grows}
+use Rattle.capnp_making.proofs.Written.{same_grows}
 use Rattle.capnp_widening.proofs.numbers.remake_numbers.Goals as goal
 
 -- The room is inside its segment, which has fewer than 2^29 words.
@@ -193,3 +195,22 @@ returns-in_err-room-clause-fits g c =
     (let v : View = g.A.BuilderArena.view c.args.arena.now in
     let n : ℕ = 1 + c.args.old.count * (c.args.size.data_words + c.args.size.pointers) in
     (c.in_err-room.ensures.room.fits c.args.id 0 (no_pads v c.args.id n c.args.id h)).0))
+
+-- No segment becomes shorter.
+pub returns-clause-grows : goal.returns-clause-grows
+returns-clause-grows g c =
+    let S : Segments = (g.A.BuilderArena.view c.args.arena.now).words in
+    let B : Segments = (g.A.BuilderArena.view c.begin_list.new.arena).words in
+    let D : Segments = (g.A.BuilderArena.view c.copy_numbers.new.arena).words in
+    let R : Segments = (g.A.BuilderArena.view c.settle.new.arena).words in
+    let Z : Segments = (g.A.BuilderArena.view c.zero_part.new.arena).words in
+    let Q : Segments = (g.A.BuilderArena.view c.zero_pads.new.arena).words in
+    let (T, room, tagged) = c.in_ok-room.ensures.begun in
+    let (o, settled, shaped, segment_of, start_of) = settled_room c.settle.ensures.settled in
+    let copied = c.copy_numbers.ensures.copied in
+    let tag = same_grows T B (record { segments = tagged.segments; words = tagged.words }) in
+    let copy = same_grows B D (record { segments = copied.segments; words = copied.words }) in
+    let set = same_grows D R (record { segments = settled.segments; words = settled.words }) in
+    let zeroed = grows_again R Z Q (pruned_grows c.zero_part.ensures.pruned) (pruned_grows c.zero_pads.ensures.pruned) in
+    let written = grows_again B D Q copy (grows_again D R Q set zeroed) in
+    grows_again S T Q room.0.grows (grows_again T B Q tag written)

@@ -4,6 +4,7 @@ use Rattle.capnp_arena_traits.specs.View.{View}
 use Rattle.capnp_making.proofs.MadeWords.{word_put}
 use Rattle.capnp_making.proofs.Taken.{leads_behind}
 use Rattle.capnp_widening.proofs.StructsOpened.{struct_made, struct_unmade, no_truth}
+use Rattle.capnp_contents.proofs.Growing.{replaced_grows}
 use Rattle.capnp_widening.proofs.opening.new_struct.Goals as goal
 
 pub returns-clause-behind : goal.returns-clause-behind
@@ -26,3 +27,6 @@ returns-in_err-start-clause-opened g c =
 pub returns-clause-empty : goal.returns-clause-empty
 returns-clause-empty g c = λ none.
     (word_put (g.A.BuilderArena.view c.args.arena.now).words (g.A.BuilderArena.view c.make_struct.new.arena).words c.args.id c.args.at _ c.requires.place (c.in_ok-start.ensures.empty none)).here
+
+pub returns-clause-grows : goal.returns-clause-grows
+returns-clause-grows g c = replaced_grows c.in_ok-start.ensures.made

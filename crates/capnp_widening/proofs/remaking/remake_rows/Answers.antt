@@ -24,6 +24,8 @@ use Rattle.capnp_widening.specs.Anew.{OnlyWrites}
 use Rattle.capnp_widening.proofs.TakingWords.{pruned_writes}
 use Rattle.capnp_widening.proofs.WrittenAnew.{keeps_writes, writes_both}
 use Rattle.capnp_widening.proofs.Statements.{settled_room}
+use Rattle.capnp_contents.proofs.Growing.{grows_again, pruned_grows}
+use Rattle.capnp_making.proofs.Written.{same_grows}
 use Rattle.capnp_widening.proofs.remaking.remake_rows.Goals as goal
 
 -- The room is inside its segment, which has fewer than 2^29 words.
@@ -291,3 +293,31 @@ returns-in-Err-clause-fits g c = λ to h.
           (λ y l. tagged.kept k y (none_elsewhere _ _ _ k y other) ∙ room.0.kept k y l) in
           c.in-Err.ensures.fits other (subst (λ i. HasPadRoom B k i) (sym same) left))
     ])
+
+-- No segment becomes shorter.
+pub returns-in-Ok-clause-grows : goal.returns-in-Ok-clause-grows
+returns-in-Ok-clause-grows g c =
+    let S : Segments = (g.A.BuilderArena.view c.args.arena.now).words in
+    let B : Segments = (g.A.BuilderArena.view c.begin_list.new.arena).words in
+    let P : Segments = (g.A.BuilderArena.view c.fill_rows.new.arena).words in
+    let R : Segments = (g.A.BuilderArena.view c.settle.new.arena).words in
+    let Z : Segments = (g.A.BuilderArena.view c.zero_part.new.arena).words in
+    let Q : Segments = (g.A.BuilderArena.view c.zero_pads.new.arena).words in
+    let (T, room, tagged) = c.in_ok-room.ensures.begun in
+    let (o, settled, shaped, segment_of, start_of) = settled_room c.settle.ensures.settled in
+    let tag = same_grows T B (record { segments = tagged.segments; words = tagged.words }) in
+    let set = same_grows P R (record { segments = settled.segments; words = settled.words }) in
+    let zeroed = grows_again R Z Q (pruned_grows c.zero_part.ensures.pruned) (pruned_grows c.zero_pads.ensures.pruned) in
+    let filled = grows_again B P Q c.fill_rows.ensures.longer (grows_again P R Q set zeroed) in
+    grows_again S T Q room.0.grows (grows_again T B Q tag filled)
+
+pub returns-in-Err-clause-grows : goal.returns-in-Err-clause-grows
+returns-in-Err-clause-grows g c =
+    let S : Segments = (g.A.BuilderArena.view c.args.arena.now).words in
+    let B : Segments = (g.A.BuilderArena.view c.begin_list.new.arena).words in
+    let U : Segments = (g.A.BuilderArena.view c.fill_rows.new.arena).words in
+    let Z : Segments = (g.A.BuilderArena.view c.zero_part-in-Err.new.arena).words in
+    let (T, room, tagged) = c.in_ok-room.ensures.begun in
+    let tag = same_grows T B (record { segments = tagged.segments; words = tagged.words }) in
+    let filled = grows_again B U Z c.fill_rows.ensures.longer (pruned_grows c.zero_part-in-Err.ensures.pruned) in
+    grows_again S T Z room.0.grows (grows_again T B Z tag filled)

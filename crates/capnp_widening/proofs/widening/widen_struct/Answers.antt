@@ -18,6 +18,8 @@ use Rattle.capnp_widening.specs.Anew.{OnlyWrites}
 use Rattle.capnp_widening.proofs.TakingWords.{pruned_writes}
 use Rattle.capnp_widening.proofs.WrittenAnew.{keeps_writes, writes_both}
 use Rattle.capnp_widening.proofs.Statements.{settled_room, row_moves}
+use Rattle.capnp_contents.proofs.Growing.{grows_again, pruned_grows}
+use Rattle.capnp_making.proofs.Written.{same_grows}
 use Rattle.capnp_widening.proofs.widening.widen_struct.Goals as goal
 
 data_inside : (start d q : ℕ) {length : ℕ} → start + d + q ≤ length → start + d ≤ length
@@ -338,3 +340,35 @@ returns-in-Err-clause-fits g c = λ to h.
           let e : n ≡ near_pointers D.words (row_moves k p v r old.size.pointers) + 0 = omega (arith, same) in
           ((moved other).fits 0 (subst (λ i. HasPadRoom D k i) e first)).0)
     ])
+
+-- No segment becomes shorter.
+pub returns-in-Ok-clause-grows : goal.returns-in-Ok-clause-grows
+returns-in-Ok-clause-grows g c =
+    let S : Segments = (g.A.BuilderArena.view c.args.arena.now).words in
+    let T : Segments = (g.A.BuilderArena.view c.take.new.arena).words in
+    let D : Segments = (g.A.BuilderArena.view c.copy_words.new.arena).words in
+    let P : Segments = (g.A.BuilderArena.view c.move_row.new.arena).words in
+    let R : Segments = (g.A.BuilderArena.view c.settle.new.arena).words in
+    let Z : Segments = (g.A.BuilderArena.view c.zero_part.new.arena).words in
+    let Q : Segments = (g.A.BuilderArena.view c.zero_pads.new.arena).words in
+    let (b, settled, shaped, segment_of, start_of) = settled_room c.settle.ensures.settled in
+    let copied = c.copy_words.ensures.copied in
+    let copy = same_grows T D (record { segments = copied.segments; words = copied.words }) in
+    let set = same_grows P R (record { segments = settled.segments; words = settled.words }) in
+    let zeroed = grows_again R Z Q (pruned_grows c.zero_part.ensures.pruned) (pruned_grows c.zero_pads.ensures.pruned) in
+    let moved = grows_again D P Q c.in-Ok.ensures.moves.longer (grows_again P R Q set zeroed) in
+    grows_again S T Q c.in_ok-room.ensures.taken.0.grows (grows_again T D Q copy moved)
+
+pub returns-in-Err-clause-grows : goal.returns-in-Err-clause-grows
+returns-in-Err-clause-grows g c =
+    let S : Segments = (g.A.BuilderArena.view c.args.arena.now).words in
+    let T : Segments = (g.A.BuilderArena.view c.take.new.arena).words in
+    let D : Segments = (g.A.BuilderArena.view c.copy_words.new.arena).words in
+    let P : Segments = (g.A.BuilderArena.view c.move_row.new.arena).words in
+    let U : Segments = (g.A.BuilderArena.view c.unmove_row.new.arena).words in
+    let Z : Segments = (g.A.BuilderArena.view c.zero_part-in-Err.new.arena).words in
+    let copied = c.copy_words.ensures.copied in
+    let copy = same_grows T D (record { segments = copied.segments; words = copied.words }) in
+    let undone = grows_again P U Z (pruned_grows c.unmove_row.ensures.pruned) (pruned_grows c.zero_part-in-Err.ensures.pruned) in
+    let moved = grows_again D P Z c.in-Err.ensures.moves.longer undone in
+    grows_again S T Z c.in_ok-room.ensures.taken.0.grows (grows_again T D Z copy moved)
