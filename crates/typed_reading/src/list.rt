@@ -467,10 +467,11 @@ pub fn get_structs_or<'a, A: ReaderArena>(
         → child index t ≢ Null → FitsSize InlineComposite (child index t)
         → Affords start.charging lim.old (child_cost A.ReaderArena shows index) → IsOk result }
     ensures default_answered { (t d : Tree) → ShowsStructOf A.ReaderArena reader.now t
-        → child index t ≡ Null → IsDefault default.now d → FitsSize InlineComposite d → IsOk result }
+        → child index t ≡ Null → IsDefault default.now d → FitsSize InlineComposite d
+        → IsOk result }
 {
-    let reader = get_list_or(reader, index, ElementSize::InlineComposite, default, lim)?;
-    Ok(StructsReader { reader })
+    let list = get_list_or(reader, index, ElementSize::InlineComposite, default, lim)?;
+    Ok(StructsReader { reader: list })
 }
 
 /// Returns the list of numbers that a pointer of a struct leads to, like `get_numbers`; that of
@@ -524,8 +525,8 @@ pub fn get_texts_or<'a, A: ReaderArena>(
     ensures default_answered { (t d : Tree) → ShowsStructOf A.ReaderArena reader.now t
         → child index t ≡ Null → IsDefault default.now d → FitsSize Pointer d → IsOk result }
 {
-    let reader = get_list_or(reader, index, ElementSize::Pointer, default, lim)?;
-    Ok(TextsReader { reader })
+    let list = get_list_or(reader, index, ElementSize::Pointer, default, lim)?;
+    Ok(TextsReader { reader: list })
 }
 
 /// Returns the list of data that a pointer of a struct leads to, like `get_data_list`; that of
@@ -550,8 +551,8 @@ pub fn get_data_list_or<'a, A: ReaderArena>(
     ensures default_answered { (t d : Tree) → ShowsStructOf A.ReaderArena reader.now t
         → child index t ≡ Null → IsDefault default.now d → FitsSize Pointer d → IsOk result }
 {
-    let reader = get_list_or(reader, index, ElementSize::Pointer, default, lim)?;
-    Ok(DataListReader { reader })
+    let list = get_list_or(reader, index, ElementSize::Pointer, default, lim)?;
+    Ok(DataListReader { reader: list })
 }
 
 /// Returns the list of pointers that a pointer of a struct leads to, like `get_pointers`; that of
@@ -576,6 +577,6 @@ pub fn get_pointers_or<'a, A: ReaderArena>(
     ensures default_answered { (t d : Tree) → ShowsStructOf A.ReaderArena reader.now t
         → child index t ≡ Null → IsDefault default.now d → FitsSize Pointer d → IsOk result }
 {
-    let reader = get_list_or(reader, index, ElementSize::Pointer, default, lim)?;
-    Ok(PointersReader { reader })
+    let list = get_list_or(reader, index, ElementSize::Pointer, default, lim)?;
+    Ok(PointersReader { reader: list })
 }

@@ -40,7 +40,8 @@ pub fn root<'a, A: ReaderArena>(
         → Means (message (A.segments arena.now)) (levels (A.nesting arena.now)) 0 0 t c
         → IfOk result (λ r. (shows : ShowsStructOf A.ReaderArena r t)
         → Paid charging (charged charging lim.old 1) lim.new (c - shows.cost) 1) }
-    ensures stays { IfOk result (λ r. StaysIn (source_start A.ReaderArena (Source.Arena arena.entry))
+    ensures stays { IfOk result (λ r.
+        StaysIn (source_start A.ReaderArena (Source.Arena arena.entry))
         (source_start A.ReaderArena r.source)) }
 {
     let root = PointerReader::get_root_from_arena(arena, lim)?;
@@ -255,9 +256,9 @@ pub fn get_struct<'a, A: ReaderArena>(
     reader.get_pointer_field(index).get_struct(lim, None)
 }
 
-/// Returns the struct that a pointer of a struct leads to, like `get_struct`; that of `default`, which
-/// is one segment with its pointer in the first word, if the pointer is null. Reading the default
-/// charges nothing. Precondition: `default` has fewer than 2^32 words.
+/// Returns the struct that a pointer of a struct leads to, like `get_struct`; that of `default`,
+/// which is one segment with its pointer in the first word, if the pointer is null. Reading the
+/// default charges nothing. Precondition: `default` has fewer than 2^32 words.
 pub fn get_struct_or<'a, A: ReaderArena>(
     reader: &StructReader<'a, A>,
     index: usize,
