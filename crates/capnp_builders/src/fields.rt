@@ -190,8 +190,8 @@ pub fn init_struct<A: BuilderArena>(
 /// structs, all zero or null, and returns the list's place. Preconditions: `index` is below the
 /// number of pointers; `size` isn't `InlineComposite`.
 ///
-/// Refusals, if no segment has room: `AllocationFailed` if memory runs out; `MessageTooLarge(n)` if n
-/// is above 536,870,911, where n is the number of the list's words, plus one for a landing pad;
+/// Refusals, if no segment has room: `AllocationFailed` if memory runs out; `MessageTooLarge(n)` if
+/// n is above 536,870,911, where n is the number of the list's words, plus one for a landing pad;
 /// `MessageTooLarge(usize::MAX)` if the message already has 4,294,967,295 segments. After a refusal
 /// the pointer is null.
 pub fn init_list<A: BuilderArena>(
@@ -235,8 +235,8 @@ pub fn init_list<A: BuilderArena>(
 /// and returns the list's place. `builders::element_place` says where each of the structs is.
 /// Preconditions: `index` is below the number of pointers; the structs have fewer than 2^29 words.
 ///
-/// Refusals, if no segment has room: `AllocationFailed` if memory runs out; `MessageTooLarge(n)` if n
-/// is above 536,870,911, where n is the number of the structs' words, plus two for the tag and a
+/// Refusals, if no segment has room: `AllocationFailed` if memory runs out; `MessageTooLarge(n)` if
+/// n is above 536,870,911, where n is the number of the structs' words, plus two for the tag and a
 /// landing pad; `MessageTooLarge(usize::MAX)` if the message already has 4,294,967,295 segments.
 /// After a refusal the pointer is null.
 pub fn init_struct_list<A: BuilderArena>(
@@ -279,8 +279,8 @@ pub fn init_struct_list<A: BuilderArena>(
 
 /// Returns the list that pointer `index` of the pointer section leads to. Changes nothing. If the
 /// pointer is null, returns a list of void without elements. The elements may be wider than `size`,
-/// and may be structs that begin with such an element. Preconditions: `index` is below the number of
-/// pointers; `size` isn't `InlineComposite`.
+/// and may be structs that begin with such an element. Preconditions: `index` is below the number
+/// of pointers; `size` isn't `InlineComposite`.
 ///
 /// Refusals: `ExistingPointerIsNotAList` if the pointer leads to something other than a list;
 /// `ExistingListValueIsIncompatibleWithExpectedType` if the elements are narrower than `size`;

@@ -15,9 +15,9 @@ ghost use Rattle.capnp_builders.specs.Content.{TakesBytes, HoldContent, up_to};
 ghost use Rattle.capnp_builders.specs.Held.{HasStruct, Holder};
 ghost use Rattle.capnp_builders.specs.Places.{struct_place};
 
-/// If calls replace the value of pointer i of a struct by u, the struct has u as its child i, and is
-/// otherwise as before (encoding specification, "Structs"). So what is known of a child's pointer is
-/// known of the struct that has it.
+/// If calls replace the value of pointer i of a struct by u, the struct has u as its child i, and
+/// is otherwise as before (encoding specification, "Structs"). So what is known of a child's
+/// pointer is known of the struct that has it.
 pub fn child_replaced()
     ensures { (S R : Segments) (x : Holder) (place : StructPlace) (ws : List ℕ) (ts : Trees) (i : ℕ)
         (u : Tree) → i < place.pointers

@@ -1,6 +1,7 @@
 //! Canonical form (encoding specification, "Canonicalization") for C, and for languages that call
-//! C. Copies, tests, measures and hashes a message that is given as a frame in a buffer, as segments,
-//! or as the words of its only segment. Also unpacks packed bytes. Keeps no state between calls.
+//! C. Copies, tests, measures and hashes a message that is given as a frame in a buffer, as
+//! segments, or as the words of its only segment. Also unpacks packed bytes. Keeps no state between
+//! calls.
 //!
 //! `bindings/c/capnp_canonical.h` says how to call each function. A function returns 0 if it
 //! succeeded, otherwise the number of a refusal. The functions for names, texts and versions are
@@ -203,9 +204,9 @@ pub extern "C" fn capnp_canonical_size(
     }
 }
 
-/// Tests whether the message whose frame is at the front of `frame` is sound: whether its root means
-/// a value within both limits, which may have capabilities. Stores in `extent` how deep the value
-/// is, how much it holds, and what reading it costs. Takes no memory.
+/// Tests whether the message whose frame is at the front of `frame` is sound: whether its root
+/// means a value within both limits, which may have capabilities. Stores in `extent` how deep the
+/// value is, how much it holds, and what reading it costs. Takes no memory.
 ///
 /// Answers 0 exactly for such messages. For others, `extent` is all 0.
 #[unsafe(no_mangle)]
@@ -239,10 +240,10 @@ pub extern "C" fn capnp_canonical_validate(
 /// stores its place and refusal in `pointer`; all 0 if the whole value is read. For use after
 /// another call is refused: the message is read once more. Takes no memory.
 ///
-/// `reading` says how the message is read, within the limits of `capnp_canonical_check`: 0 as by the
-/// calls that validate and those that test; 1 as by those that copy and those that hash; 2 as by
-/// those that measure. Any other number counts as 0. Refused only if there is no such frame; then
-/// `pointer` is all 0 too.
+/// `reading` says how the message is read, within the limits of `capnp_canonical_check`: 0 as by
+/// the calls that validate and those that test; 1 as by those that copy and those that hash; 2 as
+/// by those that measure. Any other number counts as 0. Refused only if there is no such frame;
+/// then `pointer` is all 0 too.
 #[unsafe(no_mangle)]
 pub extern "C" fn capnp_canonical_locate(
     frame: &[u8],
@@ -270,9 +271,9 @@ pub extern "C" fn capnp_canonical_locate(
 }
 
 /// Stores in `digest` the SHA-256 of the canonical words of the message whose frame is at the front
-/// of `frame`: of the bytes that `capnp_canonical_copy_flat` writes. `nesting` and `words` limit the
-/// reading, as in `capnp_canonical_check`. After a refusal `digest` is all 0. The refusals are those
-/// of `capnp_canonical_copy_flat`, except that there is always room.
+/// of `frame`: of the bytes that `capnp_canonical_copy_flat` writes. `nesting` and `words` limit
+/// the reading, as in `capnp_canonical_check`. After a refusal `digest` is all 0. The refusals are
+/// those of `capnp_canonical_copy_flat`, except that there is always room.
 #[unsafe(no_mangle)]
 pub extern "C" fn capnp_canonical_digest(
     alloc: Global,
@@ -383,12 +384,12 @@ pub extern "C" fn capnp_canonical_unpack(packed: &[u8], to: &mut [u8], written: 
 }
 
 /// Unpacks the next bytes of a packed stream to the front of `to`, and goes on from where the last
-/// call with this `unpacking` stopped; at the start of a stream its numbers are 0. Stops when `to` is
-/// full or no packed bytes are left. Stores how many it took in `taken`, and returns the number of
-/// bytes written. Is never refused, and takes no memory.
+/// call with this `unpacking` stopped; at the start of a stream its numbers are 0. Stops when `to`
+/// is full or no packed bytes are left. Stores how many it took in `taken`, and returns the number
+/// of bytes written. Is never refused, and takes no memory.
 ///
-/// Takes only the packed bytes that it needs for what it writes, and the count after the last word if
-/// that is in `packed`.
+/// Takes only the packed bytes that it needs for what it writes, and the count after the last word
+/// if that is in `packed`.
 #[unsafe(no_mangle)]
 pub extern "C" fn capnp_canonical_unpack_piece(
     unpacking: &mut Unpacking,

@@ -49,8 +49,8 @@ impl BrokenPointer {
     }
 }
 
-/// The command that reads a message like the reading with this number. A number of no reading counts
-/// as 0.
+/// The command that reads a message like the reading with this number. A number of no reading
+/// counts as 0.
 fn command_of_reading(reading: u32) -> Command
     ensures { result ≡ command_of_reading reading }
 {

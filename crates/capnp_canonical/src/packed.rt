@@ -88,8 +88,8 @@ pub fn unpack(packed: &[u8], to: &mut [u8]) -> Result<usize, Refusal>
 }
 
 /// Unpacks the next bytes of a packed stream to the front of `to`: first the zero bytes that are
-/// due, and then what `packed` unpacks to. Stores how far the stream is unpacked in `unpacking`, and
-/// how many packed bytes it took in `taken`. Returns the number of bytes written.
+/// due, and then what `packed` unpacks to. Stores how far the stream is unpacked in `unpacking`,
+/// and how many packed bytes it took in `taken`. Returns the number of bytes written.
 pub fn unpack_further(
     unpacking: &mut Unpacking,
     packed: &[u8],

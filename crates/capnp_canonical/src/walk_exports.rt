@@ -40,11 +40,11 @@ fn walk<S: ReaderSegments + Drop>(
     }
 }
 
-/// Lists the objects of the message whose frame is at the front of `frame`: writes an entry for each
-/// struct, list and capability to `objects`, each before those that its own pointers lead to, and
-/// stores their number in `count`. Null pointers have no entry, and neither has an element of a list
-/// of structs. Reads the message within `nesting` and `words`, like `capnp_canonical_validate`. Takes
-/// no memory.
+/// Lists the objects of the message whose frame is at the front of `frame`: writes an entry for
+/// each struct, list and capability to `objects`, each before those that its own pointers lead to,
+/// and stores their number in `count`. Null pointers have no entry, and neither has an element of a
+/// list of structs. Reads the message within `nesting` and `words`, like
+/// `capnp_canonical_validate`. Takes no memory.
 ///
 /// Answers 0 if all objects are listed; 1 if there are more than `objects` has room for: those that
 /// fit are written, and all are counted. If the message isn't sound, the answer is that of

@@ -1,4 +1,5 @@
-//! Copies, tests, measures and hashes a message given as the words of its only segment, without a frame.
+//! Copies, tests, measures and hashes a message given as the words of its only segment, without a
+//! frame.
 ghost use Rattle.std.specs.Prelude.{◌≡◌, ◌⊎◌, ◌∷◌, [], ◌≤◌, length, take, drop, IfOk, IfErr, OnErr};
 ghost use Rattle.capnp_arena_traits.specs.Limits.{IsSmall};
 ghost use Rattle.capnp_arena.specs.Output.{output_bytes};

@@ -10,10 +10,10 @@ ghost use Rattle.capnp_refusals.specs.RefusedPointers.{refused_pointer};
 ghost use Rattle.capnp_walks.specs.Figures.{figures, objects_of};
 ghost use Rattle.capnp_walks.specs.Walks.{walk_message};
 
-/// If the root of a message means a value within the limits, the list has all objects of that value,
-/// each before its children, and the children in order (`listed`). A walk stops exactly if the
-/// message isn't valid, at the pointer at which its validation stops (`stops`). With a traversal limit
-/// of x words, the list has at most x objects (`few`).
+/// If the root of a message means a value within the limits, the list has all objects of that
+/// value, each before its children, and the children in order (`listed`). A walk stops exactly if
+/// the message isn't valid, at the pointer at which its validation stops (`stops`). With a
+/// traversal limit of x words, the list has at most x objects (`few`).
 pub fn objects_listed()
     ensures listed { (S : Segments) (limits : ReaderOptions) (readable : IsReadable S limits)
         → map figures (walk_message S limits).0 ≡ objects_of readable.value }

@@ -34,8 +34,9 @@ pub struct WalkedMessage {
 /// `validate_of`. A walk that is refused ends at that pointer; the entries before it are kept.
 ///
 /// If `objects` is too short, the objects that don't fit are counted, but not written. So
-/// `result.count` is the number of entries that the array needs. Entries of `objects` after the last
-/// object are unchanged. If `limits` has a traversal limit, `result.count` is at most that limit.
+/// `result.count` is the number of entries that the array needs. Entries of `objects` after the
+/// last object are unchanged. If `limits` has a traversal limit, `result.count` is at most that
+/// limit.
 pub fn walk_of<S: ReaderSegments + Drop>(
     segments: S,
     limits: ReaderOptions,

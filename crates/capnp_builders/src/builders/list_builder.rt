@@ -27,9 +27,9 @@ pub struct ListBuilder<'a, A> {
 
 #[tactic(auto, using(capnp_readers::proofs::Sections::elements, crate::proofs::ElementPlaces::element_inside))]
 /// Returns the place of element `index` of `list` as a struct: a struct has its own sections, a
-/// pointer becomes a struct's only pointer, and a number a struct's data section. Preconditions: the
-/// elements aren't bits; `index` is below the number of elements; the list is inside a segment, and
-/// starts at a word.
+/// pointer becomes a struct's only pointer, and a number a struct's data section. Preconditions:
+/// the elements aren't bits; `index` is below the number of elements; the list is inside a segment,
+/// and starts at a word.
 pub fn element_place(list: ListPlace, index: u32) -> StructPlace
     requires range { index < list.count }
     requires whole { size_number list.size ≢ 1 }

@@ -29,8 +29,8 @@ pub struct WalkedObject {
     pub segment: u64,
     /// The position of the pointer in its segment, in words.
     pub pointer_word: u32,
-    /// The position of the object in its segment, in words: of its first word; in a list of structs,
-    /// of the first word after the tag; 0 for a capability.
+    /// The position of the object in its segment, in words: of its first word; in a list of
+    /// structs, of the first word after the tag; 0 for a capability.
     pub word: u32,
     /// What the object is: 0 to 7 for a list, which is the format's number of its element size,
     /// `STRUCT`, or `CAPABILITY`.
@@ -45,7 +45,8 @@ pub struct WalkedObject {
     pub pointers: u16,
 }
 
-// Returns the entry of the object that the pointer at `pointer` leads to; `None` for a null pointer.
+// Returns the entry of the object that the pointer at `pointer` leads to; `None` for a null
+// pointer.
 fn walked_object(parent: u64, pointer: Place<'_>, object: Object<'_>) -> Option<WalkedObject>
     ensures { result ≡ walked_object parent pointer.entry.segment pointer.entry.at
         (object_shape object.entry) }

@@ -14,8 +14,8 @@ use capnp_refusals::refusals::RefusedPointer;
 use capnp_words::read_limiter::ReadLimiter;
 
 /// Lists the object that the pointer `from`, a message's root, leads to, and all objects below it:
-/// adds their entries at index `count` of `objects`. Returns the pointer at which it stops; `None` if
-/// it reads the whole value.
+/// adds their entries at index `count` of `objects`. Returns the pointer at which it stops; `None`
+/// if it reads the whole value.
 pub(crate) fn walk_value<A: ReaderArena>(
     from: &Pointer<'_, A>,
     objects: &mut [WalkedObject],
