@@ -2,12 +2,10 @@
 -- value that is there.
 use Rattle.std.proofs.Common.{◌≡◌, inl, inr, ℕ, Result, Ok, Err, sym, subst}
 use Rattle.capnp_words.specs.declared.error.ErrorKind.{ErrorKind}
-use Rattle.capnp_format.specs.Segments.{Grows}
 use Rattle.capnp_format.specs.Tree.{Tree}
 use Rattle.capnp_arena_traits.specs.View.{View}
 use Rattle.capnp_making.specs.Stored.{IsStored}
 use Rattle.capnp_making.specs.Makes.{CallAt, call_at}
-use Rattle.capnp_contents.proofs.Growing.{grows_again}
 use Rattle.capnp_builders.specs.Defaults.{DefaultUse, ignored, denied, copied, WithDefault, PutsDefaultOver}
 
 -- a result isn't both a success and a refusal
@@ -23,14 +21,3 @@ then_does (denied k) s p a m b t x r P stored (e, same) f = absurd (no_refusal x
 then_does (copied bytes) s p a m b t x r P stored (inl (mid, value, put, (ok, same))) f =
     inl (mid, value, put, subst (λ (v : View). P (call_at s p v b) value) same (f value (subst (λ (v : View). IsStored v.words s p value) (sym same) put.replaced.stored)))
 then_does (copied bytes) s p a m b t x r P stored (inr e) f = absurd e
-
--- the place has some value after the default is put
-pub stands_then : (w : DefaultUse) (s p : ℕ) (a m : View) (t : Tree) (x : Unit {0}) → IsStored a.words s p t → PutsDefaultOver w (call_at s p a m) t (Ok x) → (u : Tree) × IsStored m.words s p u
-stands_then ignored s p a m t x stored (ok, same) = (t, subst (λ (v : View). IsStored v.words s p t) (sym same) stored)
-stands_then (denied k) s p a m t x stored (e, same) = absurd (no_refusal x k e)
-stands_then (copied bytes) s p a m t x stored (inl (mid, value, put, (ok, same))) = (value, subst (λ (v : View). IsStored v.words s p value) (sym same) put.replaced.stored)
-stands_then (copied bytes) s p a m t x stored (inr e) = absurd e
-
--- no segment becomes shorter while the default is put, and then while the call does its own work
-pub grows_then : (w : DefaultUse) (s p : ℕ) (a m b : View) (t : Tree) (x : Unit {0}) → Grows a.words m.words → IsStored a.words s p t → PutsDefaultOver w (call_at s p a m) t (Ok x) → ((u : Tree) → IsStored m.words s p u → Grows m.words b.words) → Grows a.words b.words
-grows_then w s p a m b t x first stored put f = let (u, stands) = stands_then w s p a m t x stored put in grows_again a.words m.words b.words first (f u stands)

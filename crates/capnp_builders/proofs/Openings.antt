@@ -11,8 +11,6 @@ use Rattle.capnp_arena_traits.specs.View.{View}
 use Rattle.capnp_contents.specs.declared.existing.ExistingList.{ExistingList}
 use Rattle.capnp_contents.specs.declared.existing.ExistingStruct.{ExistingStruct}
 use Rattle.capnp_making.specs.Stored.{IsStored}
-use Rattle.capnp_contents.proofs.Growing.{replaced_grows}
-use Rattle.capnp_making.proofs.FillingChains.{no_growth}
 use Rattle.capnp_making.proofs.Leading.{leads_segment}
 use Rattle.capnp_readers.specs.declared.readers.list_reader.ListPlace.{ListPlace}
 use Rattle.capnp_readers.specs.declared.readers.struct_reader.StructPlace.{StructPlace}
@@ -112,19 +110,3 @@ list_refused a b s p (Structs d q es) size k o = refused_as size (call_at s p a 
 
 pub still_there : (a m b : View) (s p : ℕ) → IsPlace a.words s p → Grows a.words m.words → Grows m.words b.words → IsPlace b.words s p
 still_there a m b s p place grows longer = omega (arith, place, grows.words s, longer.words s)
-
-same_grows : (a b : View) → b ≡ a → Grows a.words b.words
-same_grows a b same = subst (λ (v : View). Grows a.words v.words) (sym same) (no_growth a.words)
-
-pub opens_grows : {B : Type 0} (size : StructSize) (G : Segments → ℕ → ℕ → Tree → B → Type 0) (a b : View) (s p : ℕ) (t : Tree) (r : Result Tree ErrorKind) (o : Result B ErrorKind) → Opens size G (call_at s p a b) t r o → Grows a.words b.words
-opens_grows size G a b s p t (Ok u) (Ok x) o = replaced_grows o.replaced
-opens_grows size G a b s p t (Ok u) (Err k) o = replaced_grows o.stands
-opens_grows size G a b s p t (Err k) result o = same_grows a b o.1
-
-pub list_grows : (size : StructSize) (a b : View) (s p : ℕ) (t : Tree) (o : Result (Option ExistingList) ErrorKind) → OpensAll size o (call_at s p a b) t → Grows a.words b.words
-list_grows size a b s p Null o (e, same) = same_grows a b same
-list_grows size a b s p (Capability i) o c = opens_grows size LeadsToAll a b s p (Capability i) (list_widened size.data_words size.pointers (Capability i)) o c
-list_grows size a b s p (Struct ws ts) o c = opens_grows size LeadsToAll a b s p (Struct ws ts) (list_widened size.data_words size.pointers (Struct ws ts)) o c
-list_grows size a b s p (Flat n ns) o c = opens_grows size LeadsToAll a b s p (Flat n ns) (list_widened size.data_words size.pointers (Flat n ns)) o c
-list_grows size a b s p (Pointers ts) o c = opens_grows size LeadsToAll a b s p (Pointers ts) (list_widened size.data_words size.pointers (Pointers ts)) o c
-list_grows size a b s p (Structs d q es) o c = opens_grows size LeadsToAll a b s p (Structs d q es) (list_widened size.data_words size.pointers (Structs d q es)) o c

@@ -34,7 +34,7 @@ use capnp_words::error::ErrorKind;
 use capnp_words::wire_pointer::{ElementSize, StructSize};
 
 impl<'a, A: BuilderArena> PointerBuilder<'a, A> {
-    ghost use Rattle.capnp_builders.specs.Building.{FindsStored, GivesList, GivesStruct, HandsOn, IsNull, IsThere, KeepsBuilder, LooksUp, OfStored, StaysThere, built, calling};
+    ghost use Rattle.capnp_builders.specs.Building.{FindsStored, GivesList, GivesStruct, HandsOn, IsNull, LooksUp, OfStored, StaysThere, built, calling};
 
     /// If the pointer is null, makes it lead to a plain copy of the value of `default` ("Default
     /// Values"). `default` is one segment, and its first word is the pointer to the value. A
@@ -96,10 +96,8 @@ impl<'a, A: BuilderArena> PointerBuilder<'a, A> {
         ensures aligned { IfOk result IsAligned }
         ensures set { (IsNull (built A.view self.old) → ⊥)
             → IfErr result (IsNoWider size (calling A.view self.old self.new)) }
-        ensures there { OfStored (built A.view self.old) (λ t. IsThere (built A.view self.new)) }
-        ensures grows { OfStored (built A.view self.old) (λ t.
-            Grows (A.view self.old.arena.now).words (A.view self.new.arena.now).words) }
-        ensures builder { KeepsBuilder self.old self.new }
+        ensures grows { Grows (A.view self.old.arena.now).words (A.view self.new.arena.now).words }
+        ensures stays { StaysThere A.view self.old self.new }
     {
         put_default(&mut *self.arena, self.segment, self.at, default)?;
         let opened = open_struct(&mut *self.arena, self.segment, self.at, size)?;
@@ -128,8 +126,8 @@ impl<'a, A: BuilderArena> PointerBuilder<'a, A> {
     ) -> Result<StructBuilder<'a, A>, ErrorKind>
         requires { TakesDefault (built A.view self) default }
         ensures arena { IfOk result (λ b. HandsOn A.view self.entry.arena b.arena) }
-        ensures grows { OfStored (built A.view self.entry) (λ t. IfOk result (λ b.
-            Grows (A.view self.entry.arena.now).words (A.view b.arena.now).words)) }
+        ensures grows { IfOk result (λ b.
+            Grows (A.view self.entry.arena.now).words (A.view b.arena.now).words) }
         ensures found { ReachesArena GivesStruct
             (FindsStored A.view (FindsStruct size default.entry) self.entry) result }
         ensures fits { StructFindFits size default.entry
@@ -171,10 +169,8 @@ impl<'a, A: BuilderArena> PointerBuilder<'a, A> {
             (RefusesWider
             (IsStored (A.view self.old.arena.now).words self.old.segment self.old.at)
             size (A.view self.old.arena.now) (A.view self.new.arena.now)) }
-        ensures there { OfStored (built A.view self.old) (λ t. IsThere (built A.view self.new)) }
-        ensures grows { OfStored (built A.view self.old) (λ t.
-            Grows (A.view self.old.arena.now).words (A.view self.new.arena.now).words) }
-        ensures builder { KeepsBuilder self.old self.new }
+        ensures grows { Grows (A.view self.old.arena.now).words (A.view self.new.arena.now).words }
+        ensures stays { StaysThere A.view self.old self.new }
     {
         put_default(&mut *self.arena, self.segment, self.at, default)?;
         let opened = open_struct_list(&mut *self.arena, self.segment, self.at, size)?;
@@ -206,8 +202,8 @@ impl<'a, A: BuilderArena> PointerBuilder<'a, A> {
     ) -> Result<ListBuilder<'a, A>, ErrorKind>
         requires { TakesDefault (built A.view self) default }
         ensures arena { IfOk result (λ b. HandsOn A.view self.entry.arena b.arena) }
-        ensures grows { OfStored (built A.view self.entry) (λ t. IfOk result (λ b.
-            Grows (A.view self.entry.arena.now).words (A.view b.arena.now).words)) }
+        ensures grows { IfOk result (λ b.
+            Grows (A.view self.entry.arena.now).words (A.view b.arena.now).words) }
         ensures found { ReachesArena GivesList
             (FindsStored A.view (FindsStructs size default.entry) self.entry) result }
         ensures fits { StructsFindFits size default.entry

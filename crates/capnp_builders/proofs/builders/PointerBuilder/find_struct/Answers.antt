@@ -9,13 +9,14 @@ use Rattle.capnp_making.specs.Memory.{TakesWords, StandsBehind, start_of}
 use Rattle.capnp_making.proofs.FillingMade.{null_stored}
 use Rattle.capnp_making.proofs.Memory.{words_in}
 use Rattle.capnp_making.proofs.Zeros.{there}
-use Rattle.capnp_widening.specs.Opening.{IsNoWider, LeadsToOne, OpensStruct, struct_opened}
+use Rattle.capnp_widening.specs.Opening.{IsNoWider, OpensStruct}
 use Rattle.capnp_widening.specs.Rooms.{OpeningFits}
 use Rattle.capnp_builders.specs.Defaults.{object_default}
 use Rattle.capnp_builders.specs.Opening.{IsStructGiven}
+use Rattle.capnp_contents.proofs.Growing.{grows_again}
 use Rattle.capnp_builders.proofs.DefaultRooms.{null_left, then_fits, refused_default}
-use Rattle.capnp_builders.proofs.DefaultUses.{then_does, grows_then}
-use Rattle.capnp_builders.proofs.Openings.{struct_opens, struct_refused, opens_grows, still_there}
+use Rattle.capnp_builders.proofs.DefaultUses.{then_does}
+use Rattle.capnp_builders.proofs.Openings.{struct_opens, struct_refused, still_there}
 use Rattle.capnp_builders.proofs.builders.PointerBuilder.find_struct.Goals as goal
 use Rattle.capnp_making.specs.Makes.{call_at}
 
@@ -33,7 +34,7 @@ returns-clause-found g c = record {
       then_does (object_default c.args.default t) s p a m b t c.in_ok-put_default.field-0 (Ok c.struct_place.result) (OpensStruct IsStructGiven c.args.size (Ok c.struct_place.result)) stored (c.in_ok-put_default.ensures.put.put t stored)
       (λ u stands. (let o = c.in_ok-opened.ensures.opened u stands in
       struct_opens m b s p u c.args.size e c.struct_place.result
-      (record { there = there b.words s p (still_there a m b s p c.requires.there c.in_ok-put_default.ensures.put.longer (opens_grows c.args.size LeadsToOne m b s p u (struct_opened c.args.size u) (Ok e) o)); small = small; placed = c.struct_place.ensures.place }) o)));
+      (record { there = there b.words s p (still_there a m b s p c.requires.there c.in_ok-put_default.ensures.put.longer c.in_ok-opened.ensures.grows); small = small; placed = c.struct_place.ensures.place }) o)));
   memory = search rules;
 }
 
@@ -51,23 +52,6 @@ returns-in_err-opened-clause-found g c = record {
       (λ u stands. struct_refused m b s p u c.args.size k (c.in_err-opened.ensures.opened u stands))));
   memory = search rules;
 }
-
-pub returns-in_err-opened-clause-grows : goal.returns-in_err-opened-clause-grows
-returns-in_err-opened-clause-grows g c = λ t stored.
-    (let m : View = g.A.BuilderArena.view c.put_default.new.arena in
-    let b : View = g.A.BuilderArena.view c.open_struct.new.arena in
-    grows_then (object_default c.args.default t) c.args.self.now.segment c.args.self.now.at (g.A.BuilderArena.view c.args.self.now.arena.now) m b t c.in_ok-put_default.field-0 c.in_ok-put_default.ensures.put.longer stored (c.in_ok-put_default.ensures.put.put t stored)
-    (λ u stands. opens_grows c.args.size LeadsToOne m b c.args.self.now.segment c.args.self.now.at u (struct_opened c.args.size u) (Err c.in_err-opened.field-0.0) (c.in_err-opened.ensures.opened u stands)))
-
-pub returns-in_err-opened-clause-there : goal.returns-in_err-opened-clause-there
-returns-in_err-opened-clause-there g c = λ t stored. (let grows = returns-in_err-opened-clause-grows g c t stored in omega (arith, c.requires.there, grows.words c.args.self.now.segment))
-
-pub returns-clause-grows : goal.returns-clause-grows
-returns-clause-grows g c = λ t stored.
-    (let m : View = g.A.BuilderArena.view c.put_default.new.arena in
-    let b : View = g.A.BuilderArena.view c.open_struct.new.arena in
-    grows_then (object_default c.args.default t) c.args.self.now.segment c.args.self.now.at (g.A.BuilderArena.view c.args.self.now.arena.now) m b t c.in_ok-put_default.field-0 c.in_ok-put_default.ensures.put.longer stored (c.in_ok-put_default.ensures.put.put t stored)
-    (λ u stands. opens_grows c.args.size LeadsToOne m b c.args.self.now.segment c.args.self.now.at u (struct_opened c.args.size u) (Ok c.in_ok-opened.opened) (c.in_ok-opened.ensures.opened u stands)))
 
 -- The call isn't refused if there is room: not for the default, and not after that is put.
 pub returns-in_err-put_default-clause-fits : goal.returns-in_err-put_default-clause-fits
@@ -147,3 +131,12 @@ returns-in_err-put_default-clause-refused g c = λ null none.
     let p = c.args.self.now.at in
     let q = err_from_is_err_and c.from_residual.result c.from_residual.ensures.1 in
     rw q.1 (ap words_in (null_left (object_default c.args.default Null) s p a m (Err c.in_err-put_default.field-0.0) none (c.in_err-put_default.ensures.put.put Null (null_stored a.words s p c.requires.there null)))))
+
+-- No segment becomes shorter: not by the default, and not after that.
+pub returns-in_err-opened-clause-grows : goal.returns-in_err-opened-clause-grows
+returns-in_err-opened-clause-grows g c =
+    grows_again (g.A.BuilderArena.view c.args.self.now.arena.now).words (g.A.BuilderArena.view c.put_default.new.arena).words (g.A.BuilderArena.view c.open_struct.new.arena).words c.in_ok-put_default.ensures.put.longer c.in_err-opened.ensures.grows
+
+pub returns-clause-grows : goal.returns-clause-grows
+returns-clause-grows g c =
+    grows_again (g.A.BuilderArena.view c.args.self.now.arena.now).words (g.A.BuilderArena.view c.put_default.new.arena).words (g.A.BuilderArena.view c.open_struct.new.arena).words c.in_ok-put_default.ensures.put.longer c.in_ok-opened.ensures.grows

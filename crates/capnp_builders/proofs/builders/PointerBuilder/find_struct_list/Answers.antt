@@ -1,4 +1,4 @@
-use Rattle.std.proofs.Common.{rules, Ok, Err, subst, arith}
+use Rattle.std.proofs.Common.{rules, Ok, Err, subst}
 use Rattle.std.proofs.lemmas.Bool.{false≢true}
 use Rattle.std.proofs.lemmas.Result.{err_from_is_err_and}
 use Rattle.capnp_arena_traits.specs.View.{View}
@@ -7,9 +7,10 @@ use Rattle.capnp_widening.specs.Rooms.{WiderListFits}
 use Rattle.capnp_widening.specs.RowsRemade.{RefusesWider}
 use Rattle.capnp_builders.specs.Defaults.{object_default}
 use Rattle.capnp_builders.specs.Opening.{OpensList}
+use Rattle.capnp_contents.proofs.Growing.{grows_again}
 use Rattle.capnp_builders.proofs.DefaultRooms.{then_fits, refused_default}
-use Rattle.capnp_builders.proofs.DefaultUses.{then_does, grows_then}
-use Rattle.capnp_builders.proofs.Openings.{list_opens, list_refused, list_grows, still_there}
+use Rattle.capnp_builders.proofs.DefaultUses.{then_does}
+use Rattle.capnp_builders.proofs.Openings.{list_opens, list_refused, still_there}
 use Rattle.capnp_builders.proofs.builders.PointerBuilder.find_struct_list.Goals as goal
 
 -- The value that is there after the default is put is opened.
@@ -24,19 +25,9 @@ returns-clause-found g c = record {
       let l = c.in_ok-opened.opened in
       then_does (object_default c.args.default t) s p a m b t c.in_ok-put_default.field-0 (Ok c.found_list.result) (OpensList c.args.size (Ok c.found_list.result)) stored (c.in_ok-put_default.ensures.put.put t stored)
       (λ u stands. (let o = c.in_ok-opened.ensures.opened u stands in
-      list_opens m b s p u c.args.size l c.found_list.result (still_there a m b s p c.requires.there c.in_ok-put_default.ensures.put.longer (list_grows c.args.size m b s p u (Ok l) o)) c.found_list.ensures o)));
+      list_opens m b s p u c.args.size l c.found_list.result (still_there a m b s p c.requires.there c.in_ok-put_default.ensures.put.longer c.in_ok-opened.ensures.grows) c.found_list.ensures o)));
   memory = search rules;
 }
-
-pub returns-clause-grows : goal.returns-clause-grows
-returns-clause-grows g c = λ t stored.
-    (let m : View = g.A.BuilderArena.view c.put_default.new.arena in
-    let b : View = g.A.BuilderArena.view c.open_struct_list.new.arena in
-    grows_then (object_default c.args.default t) c.args.self.now.segment c.args.self.now.at (g.A.BuilderArena.view c.args.self.now.arena.now) m b t c.in_ok-put_default.field-0 c.in_ok-put_default.ensures.put.longer stored (c.in_ok-put_default.ensures.put.put t stored)
-    (λ u stands. list_grows c.args.size m b c.args.self.now.segment c.args.self.now.at u (Ok c.in_ok-opened.opened) (c.in_ok-opened.ensures.opened u stands)))
-
-pub returns-clause-there : goal.returns-clause-there
-returns-clause-there g c = λ t stored. (let grows = returns-clause-grows g c t stored in omega (arith, c.requires.there, grows.words c.args.self.now.segment))
 
 pub returns-in_err-opened-clause-found : goal.returns-in_err-opened-clause-found
 returns-in_err-opened-clause-found g c = record {
@@ -52,16 +43,6 @@ returns-in_err-opened-clause-found g c = record {
       (λ u stands. list_refused m b s p u c.args.size k (c.in_err-opened.ensures.opened u stands))));
   memory = search rules;
 }
-
-pub returns-in_err-opened-clause-grows : goal.returns-in_err-opened-clause-grows
-returns-in_err-opened-clause-grows g c = λ t stored.
-    (let m : View = g.A.BuilderArena.view c.put_default.new.arena in
-    let b : View = g.A.BuilderArena.view c.open_struct_list.new.arena in
-    grows_then (object_default c.args.default t) c.args.self.now.segment c.args.self.now.at (g.A.BuilderArena.view c.args.self.now.arena.now) m b t c.in_ok-put_default.field-0 c.in_ok-put_default.ensures.put.longer stored (c.in_ok-put_default.ensures.put.put t stored)
-    (λ u stands. list_grows c.args.size m b c.args.self.now.segment c.args.self.now.at u (Err c.in_err-opened.field-0.0) (c.in_err-opened.ensures.opened u stands)))
-
-pub returns-in_err-opened-clause-there : goal.returns-in_err-opened-clause-there
-returns-in_err-opened-clause-there g c = λ t stored. (let grows = returns-in_err-opened-clause-grows g c t stored in omega (arith, c.requires.there, grows.words c.args.self.now.segment))
 
 -- The call isn't refused if there is room: not for the default, and not after that is put.
 pub returns-in_err-put_default-clause-fits : goal.returns-in_err-put_default-clause-fits
@@ -88,3 +69,12 @@ returns-in_err-opened-clause-set g c = λ some.
     (let b : View = g.A.BuilderArena.view c.open_struct_list.new.arena in
     let q = err_from_is_err_and c.from_residual-in_err-opened.result c.from_residual-in_err-opened.ensures.1 in
     rw (q.1, q.2) (subst (λ (v : View). RefusesWider (IsStored v.words c.args.self.now.segment c.args.self.now.at) c.args.size v b c.in_err-opened.field-0.0) (c.in_ok-put_default.ensures.put.stays some).1 c.in_err-opened.ensures.named))
+
+-- No segment becomes shorter: not by the default, and not after that.
+pub returns-in_err-opened-clause-grows : goal.returns-in_err-opened-clause-grows
+returns-in_err-opened-clause-grows g c =
+    grows_again (g.A.BuilderArena.view c.args.self.now.arena.now).words (g.A.BuilderArena.view c.put_default.new.arena).words (g.A.BuilderArena.view c.open_struct_list.new.arena).words c.in_ok-put_default.ensures.put.longer c.in_err-opened.ensures.grows
+
+pub returns-clause-grows : goal.returns-clause-grows
+returns-clause-grows g c =
+    grows_again (g.A.BuilderArena.view c.args.self.now.arena.now).words (g.A.BuilderArena.view c.put_default.new.arena).words (g.A.BuilderArena.view c.open_struct_list.new.arena).words c.in_ok-put_default.ensures.put.longer c.in_ok-opened.ensures.grows
