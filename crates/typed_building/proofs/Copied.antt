@@ -28,13 +28,15 @@ use Rattle.capnp_readers.specs.declared.readers.list_reader.ListReader.{ListRead
 use Rattle.capnp_readers.specs.declared.readers.struct_reader.StructPlace.{StructPlace}
 use Rattle.capnp_readers.specs.declared.readers.struct_reader.StructReader.{StructReader}
 use Rattle.capnp_copies.specs.Changes.{change}
+use Rattle.capnp_copies.specs.Growth.{TakesAtMost, TakesNone}
 use Rattle.capnp_copies.specs.Originals.{Original, list_original, value_original}
 use Rattle.capnp_copies.specs.Rooms.{CanBeCopied}
+use Rattle.capnp_copies.proofs.Growth.{list_until_within, list_within, none_itself, sections_until_within, sections_within, taken_so, until_within, value_within}
 use Rattle.capnp_copies.proofs.Originals.{lacks_before}
 use Rattle.capnp_value_copies.specs.ListValues.{list_read}
 use Rattle.capnp_value_copies.specs.StructValues.{data_of, section_words, struct_read}
 use Rattle.capnp_value_copies.proofs.DataSections.{whole_section}
-use Rattle.capnp_value_copies.proofs.ListValues.{numbers_held}
+use Rattle.capnp_value_copies.proofs.ListValues.{first_read, numbers_held}
 use Rattle.capnp_builders.specs.Held.{MakesChild, call_in}
 use Rattle.capnp_builders.specs.Kept.{LeavesCleared, PutsCopy}
 use Rattle.capnp_builders.proofs.CopiesHeld.{words_refused_later}
@@ -160,3 +162,35 @@ member_refused (Err k) o old mid new before after place i w refused =
       ];
       memory = keeps_then_spends old mid new k (omega (arith, w.segments)) (keeps_writes old mid w) refused.memory;
     }
+
+-- what such a copy takes
+
+none_before : (old mid : View) → OnlyWrites old mid → TakesNone old mid
+none_before old mid w = record { segments = w.segments; words = w.words; room = λ k l. ap (λ (v : View). v.room k) w.limits }
+
+pub struct_taken : {X B : Type 0} (g : Ghosts B) (from : StructReader B g) (r : Result X ErrorKind) (old mid new : View) (before after : Meter) (place : StructPlace) (i : ℕ) → OnlyWrites old mid → TakesAtMost r (struct_read g from) (change plain (call_on place i mid new) before after) →
+    TakesAtMost r (struct_read g from) (change plain (call_on place i old new) before after)
+struct_taken g from r old mid new before after place i w taken =
+    let c = change plain (call_on place i mid new) before after in
+    let d = change plain (call_on place i old new) before after in
+    taken_so r _ _ _ _
+    (λ x. sections_within (data_of g from) (pointers_read g from) from.pointer_count c d (none_before old mid w) (none_itself new) refl x)
+    (λ x. sections_until_within (data_of g from) (pointers_read g from) from.pointer_count c d (none_before old mid w) (none_itself new) refl x) taken
+
+pub list_taken : {X B : Type 0} (g : Ghosts B) (from : ListReader B g) (r : Result X ErrorKind) (old mid new : View) (before after : Meter) (place : StructPlace) (i : ℕ) → OnlyWrites old mid → TakesAtMost r (list_read g from) (change plain (call_on place i mid new) before after) →
+    TakesAtMost r (list_read g from) (change plain (call_on place i old new) before after)
+list_taken g from r old mid new before after place i w taken =
+    let c = change plain (call_on place i mid new) before after in
+    let d = change plain (call_on place i old new) before after in
+    taken_so r _ _ _ _
+    (λ x. list_within from.element_size from.struct_size from.count (first_read g from) c d (none_before old mid w) (none_itself new) refl x)
+    (λ x. list_until_within from.element_size from.struct_size from.count (first_read g from) c d (none_before old mid w) (none_itself new) refl x) taken
+
+pub pointer_taken : {X : Type 0} (from : Reading) (r : Result X ErrorKind) (old mid new : View) (before after : Meter) (place : StructPlace) (i : ℕ) → OnlyWrites old mid → TakesAtMost r (value_original from) (change plain (call_on place i mid new) before after) →
+    TakesAtMost r (value_original from) (change plain (call_on place i old new) before after)
+pointer_taken from r old mid new before after place i w taken =
+    let c = change plain (call_on place i mid new) before after in
+    let d = change plain (call_on place i old new) before after in
+    taken_so r _ _ _ _
+    (λ x. value_within from c d (none_before old mid w) (none_itself new) refl x)
+    (λ x. until_within from c d (none_before old mid w) (none_itself new) refl x) taken

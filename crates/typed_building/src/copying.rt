@@ -199,6 +199,9 @@ pub fn set_struct_from_member<A: BuilderArena, B: ReaderArena>(
     ensures refused { IfErr result (IsNotCopied (struct_read B.ReaderArena from.now)
         (change plain (call_on place index (A.view arena.old) (A.view arena.new))
         lim.old lim.new)) }
+    ensures taken { TakesAtMost result (struct_read B.ReaderArena from.now)
+        (change plain (call_on place index (A.view arena.old) (A.view arena.new))
+        lim.old lim.new) }
     ensures wide { (k : ErrorKind) → (struct_read B.ReaderArena from.now).exceeds plain k
         → (result ≡ Err k) × (lim.new ≡ lim.old) }
     ensures grows { Grows (A.view arena.old).words (A.view arena.new).words }
@@ -237,6 +240,9 @@ pub fn set_list_from_member<A: BuilderArena, B: ReaderArena>(
     ensures refused { IfErr result (IsNotCopied (list_read B.ReaderArena from.now)
         (change plain (call_on place index (A.view arena.old) (A.view arena.new))
         lim.old lim.new)) }
+    ensures taken { TakesAtMost result (list_read B.ReaderArena from.now)
+        (change plain (call_on place index (A.view arena.old) (A.view arena.new))
+        lim.old lim.new) }
     ensures long { (k : ErrorKind) → (list_read B.ReaderArena from.now).exceeds plain k
         → (result ≡ Err k) × (lim.new ≡ lim.old) }
     ensures grows { Grows (A.view arena.old).words (A.view arena.new).words }
@@ -276,6 +282,9 @@ pub fn set_pointer_from_member<A: BuilderArena, B: ReaderArena>(
     ensures refused { IfErr result (IsNotCopied (value_original (read_by B.ReaderArena from.entry))
         (change plain (call_on place index (A.view arena.old) (A.view arena.new))
         lim.old lim.new)) }
+    ensures taken { TakesAtMost result (value_original (read_by B.ReaderArena from.entry))
+        (change plain (call_on place index (A.view arena.old) (A.view arena.new))
+        lim.old lim.new) }
     ensures grows { Grows (A.view arena.old).words (A.view arena.new).words }
     ensures member { (t : Tree) → HasValue (read_by B.ReaderArena from.entry) t
         → MakesMember result

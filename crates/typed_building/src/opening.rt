@@ -60,9 +60,7 @@ pub fn get_struct<A: BuilderArena>(
         (pointer_to place.segment (place.pointers_at + index)) inner
         (struct_data (opened_struct size (tree_at ts index)))
         (struct_children (opened_struct size (tree_at ts index)))) }
-    ensures grows { (x : Holder) (ws : List ℕ) (ts : Trees)
-        → HasStruct (A.view arena.old).words x place ws ts
-        → Grows (A.view arena.old).words (A.view arena.new).words }
+    ensures grows { Grows (A.view arena.old).words (A.view arena.new).words }
 {
     let at = place.pointers_at + index as u32;
     let mut pointer = PointerBuilder {
@@ -116,9 +114,7 @@ pub fn get_struct_list<A: BuilderArena>(
         → IfOk result (λ list. HasStruct (A.view arena.new).words
         (element_of place.segment (place.pointers_at + index) (sized d q) es i)
         (element_place list.size list i) vs us) }
-    ensures grows { (x : Holder) (ws : List ℕ) (ts : Trees)
-        → HasStruct (A.view arena.old).words x place ws ts
-        → Grows (A.view arena.old).words (A.view arena.new).words }
+    ensures grows { Grows (A.view arena.old).words (A.view arena.new).words }
 {
     let at = place.pointers_at + index as u32;
     let mut pointer = PointerBuilder {

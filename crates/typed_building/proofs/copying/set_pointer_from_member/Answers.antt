@@ -1,6 +1,6 @@
 use Rattle.capnp_readers.specs.Readers.{read_by}
 use Rattle.capnp_copies.specs.Originals.{value_original}
-use Rattle.typed_building.proofs.Copied.{can_written, member_read, member_refused}
+use Rattle.typed_building.proofs.Copied.{can_written, member_read, member_refused, pointer_taken}
 use Rattle.typed_building.proofs.Sets.{makes_member}
 use Rattle.typed_building.proofs.copying.set_pointer_from_member.Goals as goal
 
@@ -9,6 +9,9 @@ returns-clause-copied g c = member_read c.set_pointer_from.result (value_origina
 
 pub returns-clause-refused : goal.returns-clause-refused
 returns-clause-refused g c = member_refused c.set_pointer_from.result (value_original (read_by g.B.ReaderArena c.args.from)) _ _ _ _ _ c.args.place c.args.index c.set_tag.ensures.memory c.set_pointer_from.ensures.refused
+
+pub returns-clause-taken : goal.returns-clause-taken
+returns-clause-taken g c = pointer_taken (read_by g.B.ReaderArena c.args.from) c.set_pointer_from.result _ _ _ _ _ c.args.place c.args.index c.set_tag.ensures.memory c.set_pointer_from.ensures.taken
 
 pub returns-clause-fits : goal.returns-clause-fits
 returns-clause-fits g c = λ can. c.set_pointer_from.ensures.fits (can_written (value_original (read_by g.B.ReaderArena c.args.from)) _ _ _ _ c.set_tag.ensures.memory can)

@@ -1,5 +1,5 @@
 use Rattle.capnp_value_copies.specs.StructValues.{struct_read}
-use Rattle.typed_building.proofs.Copied.{can_written, member_read, member_refused}
+use Rattle.typed_building.proofs.Copied.{can_written, member_read, member_refused, struct_taken}
 use Rattle.typed_building.proofs.Sets.{makes_member}
 use Rattle.typed_building.proofs.copying.set_struct_from_member.Goals as goal
 
@@ -8,6 +8,9 @@ returns-clause-copied g c = member_read c.set_struct_from.result (struct_read g.
 
 pub returns-clause-refused : goal.returns-clause-refused
 returns-clause-refused g c = member_refused c.set_struct_from.result (struct_read g.B.ReaderArena c.args.from.now) _ _ _ _ _ c.args.place c.args.index c.set_tag.ensures.memory c.set_struct_from.ensures.refused
+
+pub returns-clause-taken : goal.returns-clause-taken
+returns-clause-taken g c = struct_taken g.B.ReaderArena c.args.from.now c.set_struct_from.result _ _ _ _ _ c.args.place c.args.index c.set_tag.ensures.memory c.set_struct_from.ensures.taken
 
 pub returns-clause-fits : goal.returns-clause-fits
 returns-clause-fits g c = λ can. c.set_struct_from.ensures.fits (can_written (struct_read g.B.ReaderArena c.args.from.now) _ _ _ _ c.set_tag.ensures.memory can)

@@ -41,6 +41,6 @@ returns-clause-made g c = λ x ws ts h.
     (struct_made c.find_struct.result c.args.size (call_on c.args.place c.args.index (g.A.BuilderArena.view c.args.arena.now) (g.A.BuilderArena.view c.find_struct.new.self.arena.now)) (tree_at ts c.args.index) (opens g c (tree_at ts c.args.index) (child_stored (g.A.BuilderArena.view c.args.arena.now).words x c.args.place ws ts c.args.index c.requires.field h)))
 
 pub returns-clause-grows : goal.returns-clause-grows
-returns-clause-grows g c = λ x ws ts h.
+returns-clause-grows g c =
     subst (λ (a : g.row.A.Denot). Grows (g.A.BuilderArena.view c.args.arena.now).words (g.A.BuilderArena.view a).words) (search rules)
-    (c.find_struct.ensures.grows (tree_at ts c.args.index) (child_stored (g.A.BuilderArena.view c.args.arena.now).words x c.args.place ws ts c.args.index c.requires.field h))
+    c.find_struct.ensures.grows
