@@ -17,16 +17,16 @@ use Rattle.capnp_streams.specs.declared.streams.arguments.ArgumentFault.TheVaria
 use Rattle.capnp_streams.specs.declared.streams.arguments.ArgumentFault.TheVariants.{MissingValue, InvalidValue, InvalidAssignment, UnwantedValue}
 use Rattle.capnp_streams.specs.declared.streams.arguments.ArgumentFault.TheVariants.{NotOfCommand, Excluded, Needs}
 use Rattle.capnp_streams.specs.declared.streams.arguments.ParsedArguments.{ParsedArguments}
-use Rattle.capnp_streams.specs.declared.streams.arguments.OptionName.{OptionName}
-use Rattle.capnp_streams.specs.declared.streams.arguments.OptionName.TheVariants.{Help, HelpLetter, Version, VersionLetter, End}
-use Rattle.capnp_streams.specs.declared.streams.arguments.OptionName.TheVariants.{Packed, Pack, Flat as FlatName, FromFlat, Hex, Quiet, Nesting, Words}
-use Rattle.capnp_streams.specs.declared.streams.arguments.OptionName.TheVariants.{Check as CheckName, CheckLetter, At, Json, Values, Depth, Color, Bytes}
-use Rattle.capnp_streams.specs.declared.streams.arguments.ValueOption.{ValueOption}
-use Rattle.capnp_streams.specs.declared.streams.arguments.ValueOption.TheVariants.{Nesting as SetNesting, Words as SetWords, At as SetAt, Depth as SetDepth, Bytes as SetBytes}
+use Rattle.capnp_streams.specs.declared.streams.options.OptionName.{OptionName}
+use Rattle.capnp_streams.specs.declared.streams.options.OptionName.TheVariants.{Help, HelpLetter, Version, VersionLetter, End}
+use Rattle.capnp_streams.specs.declared.streams.options.OptionName.TheVariants.{Packed, Pack, Flat as FlatName, FromFlat, Hex, Quiet, Nesting, Words}
+use Rattle.capnp_streams.specs.declared.streams.options.OptionName.TheVariants.{Check as CheckName, CheckLetter, At, Json, Values, Depth, Color, Bytes}
+use Rattle.capnp_streams.specs.declared.streams.options.ValueOption.{ValueOption}
+use Rattle.capnp_streams.specs.declared.streams.options.ValueOption.TheVariants.{Nesting as SetNesting, Words as SetWords, At as SetAt, Depth as SetDepth, Bytes as SetBytes}
 use Rattle.capnp_streams.specs.declared.streams.arguments.ArgumentStep.{ArgumentStep}
 use Rattle.capnp_streams.specs.declared.streams.arguments.ArgumentStep.TheVariants.{Goes, File, Stops}
-use Rattle.capnp_streams.specs.declared.streams.arguments.Subcommand.{Subcommand}
-use Rattle.capnp_streams.specs.declared.streams.arguments.Subcommand.TheVariants.{Canon as ToCanon, Check as ToCheck, Size as ToSize, Digest as ToDigest, Validate as ToValidate, Show as ToShow, Diff as ToDiff}
+use Rattle.capnp_streams.specs.declared.streams.options.Subcommand.{Subcommand}
+use Rattle.capnp_streams.specs.declared.streams.options.Subcommand.TheVariants.{Canon as ToCanon, Check as ToCheck, Size as ToSize, Digest as ToDigest, Validate as ToValidate, Show as ToShow, Diff as ToDiff}
 use Rattle.capnp_streams.specs.declared.streams.task.Request.{Request}
 use Rattle.capnp_streams.specs.declared.streams.task.Request.TheVariants.{Help as AskHelp, Version as AskVersion, Run, Show, Diff}
 use Rattle.capnp_streams.specs.declared.streams.task.DiffTask.{DiffTask}

@@ -1,155 +1,21 @@
 //! Parses the arguments, one by one.
-ghost use Rattle.std.specs.Prelude.{◌≡◌, ◌<◌, MatchOption, length};
-ghost use Rattle.std.specs.List.{after_first, before_first, position_or_len};
-ghost use Rattle.capnp_streams.specs.Arguments.{assigned_step, budget_of, command_step, end_of, exclusion_of, form_exclusion, has_option_form, is_equals, lacks_check, parsed_diff, parsed_form, parsed_reads_flat, parsed_request, parsed_show, parsed_with_value, named_step, nesting_of, operand_step, option_named, option_step, option_text, parted_step, no_arguments, value_option_text, show_exclusion, step_if_allowed, argument_step, step_or, parsed_task, subcommand_exclusion, subcommand_named, subcommand_text};
+ghost use Rattle.std.specs.Prelude.{◌≡◌};
+ghost use Rattle.capnp_streams.specs.Arguments.{assigned_step, budget_of, command_step, end_of, exclusion_of, form_exclusion, lacks_check, parsed_diff, parsed_form, parsed_reads_flat, parsed_request, parsed_show, parsed_with_value, named_step, nesting_of, operand_step, option_named, option_step, parted_step, no_arguments, show_exclusion, step_if_allowed, argument_step, step_or, parsed_task, subcommand_exclusion};
 
+use super::options::{
+    OptionName, Subcommand, ValueOption, looks_like_option, option_of, parted, subcommand_of,
+};
 use super::path::{Path, path_of};
 use super::task::{DiffTask, Request, ShowTask, Task};
 use capnp_arena::arena::ReaderOptions;
 use capnp_messages::messages::{Command, Form};
 use capnp_messages::text::{parse_budget, parse_nesting};
 
-/// A command of `capnp_canon`, without its options.
-#[derive(Clone, Copy, Debug, PartialEq, Eq)]
-pub enum Subcommand {
-    Canon,
-    Check,
-    Size,
-    Digest,
-    Validate,
-    Show,
-    Diff,
-}
-
-impl Subcommand {
-    /// Returns the argument that is this command.
-    pub fn text(self) -> &'static str
-        ensures { result.now ≡ subcommand_text self }
-    {
-        match self {
-            Subcommand::Canon => "canon",
-            Subcommand::Check => "check",
-            Subcommand::Size => "size",
-            Subcommand::Digest => "digest",
-            Subcommand::Validate => "validate",
-            Subcommand::Show => "show",
-            Subcommand::Diff => "diff",
-        }
-    }
-}
-
-/// The name of an option. `End` is `--`.
-#[derive(Clone, Copy, Debug, PartialEq, Eq)]
-pub enum OptionName {
-    Help,
-    HelpLetter,
-    Version,
-    VersionLetter,
-    End,
-    Packed,
-    Pack,
-    Flat,
-    FromFlat,
-    Hex,
-    Quiet,
-    Nesting,
-    Words,
-    Check,
-    CheckLetter,
-    At,
-    Json,
-    Values,
-    Depth,
-    Color,
-    Bytes,
-}
-
 /// How many pointers below the first one are followed without `--depth`.
 const PLAIN_DEPTH: i32 = 64;
 
 /// How many bytes are written at most without `--bytes`.
 const PLAIN_BYTES: usize = 1 << 30;
-
-/// All options.
-const OPTIONS: [OptionName; 21] = [
-    OptionName::Help,
-    OptionName::HelpLetter,
-    OptionName::Version,
-    OptionName::VersionLetter,
-    OptionName::End,
-    OptionName::Packed,
-    OptionName::Pack,
-    OptionName::Flat,
-    OptionName::FromFlat,
-    OptionName::Hex,
-    OptionName::Quiet,
-    OptionName::Nesting,
-    OptionName::Words,
-    OptionName::Check,
-    OptionName::CheckLetter,
-    OptionName::At,
-    OptionName::Json,
-    OptionName::Values,
-    OptionName::Depth,
-    OptionName::Color,
-    OptionName::Bytes,
-];
-
-impl OptionName {
-    /// Returns the argument that is this option, without a value.
-    pub fn text(self) -> &'static str
-        ensures { result.now ≡ option_text self }
-    {
-        match self {
-            OptionName::Help => "--help",
-            OptionName::HelpLetter => "-h",
-            OptionName::Version => "--version",
-            OptionName::VersionLetter => "-V",
-            OptionName::End => "--",
-            OptionName::Packed => "--packed",
-            OptionName::Pack => "--pack",
-            OptionName::Flat => "--flat",
-            OptionName::FromFlat => "--from-flat",
-            OptionName::Hex => "--hex",
-            OptionName::Quiet => "--quiet",
-            OptionName::Nesting => "--nesting",
-            OptionName::Words => "--words",
-            OptionName::Check => "--check",
-            OptionName::CheckLetter => "-c",
-            OptionName::At => "--at",
-            OptionName::Json => "--json",
-            OptionName::Values => "--values",
-            OptionName::Depth => "--depth",
-            OptionName::Color => "--color",
-            OptionName::Bytes => "--bytes",
-        }
-    }
-}
-
-/// An option with a value.
-#[derive(Clone, Copy, Debug, PartialEq, Eq)]
-pub enum ValueOption {
-    Nesting,
-    Words,
-    At,
-    Depth,
-    Bytes,
-}
-
-impl ValueOption {
-    /// Returns the argument that is this option, without its value.
-    pub fn text(self) -> &'static str
-        ensures { result.now ≡ value_option_text self }
-    {
-        match self {
-            ValueOption::Nesting => "--nesting",
-            ValueOption::Words => "--words",
-            ValueOption::At => "--at",
-            ValueOption::Depth => "--depth",
-            ValueOption::Bytes => "--bytes",
-        }
-    }
-}
 
 /// Why arguments are refused: what is wrong with an argument, or which argument is missing.
 #[derive(Clone, Copy, Debug, PartialEq, Eq)]
@@ -735,61 +601,6 @@ impl ParsedArguments {
             quiet: self.quiet,
         }
     }
-}
-
-/// Whether `text` looks like an option: `-` followed by more. `-` by itself is a file.
-fn looks_like_option(text: &str) -> bool
-    ensures { result ≡ has_option_form text.now }
-{
-    let bytes = text.as_bytes();
-    1 < bytes.len() && bytes[0] == b'-'
-}
-
-/// The option whose text is `text`, if there is one.
-fn option_of(text: &str) -> Option<OptionName>
-    ensures { result ≡ option_named text.now }
-{
-    let mut rest = OPTIONS.as_slice();
-    while let Some((option, more)) = rest.split_first() {
-        if option.text() == text {
-            return Some(*option);
-        }
-        rest = more;
-    }
-    None
-}
-
-/// The command whose text is `text`, if there is one.
-fn subcommand_of(text: &str) -> Option<Subcommand>
-    ensures { result ≡ subcommand_named text.now }
-{
-    if text == "canon" {
-        Some(Subcommand::Canon)
-    } else if text == "check" {
-        Some(Subcommand::Check)
-    } else if text == "size" {
-        Some(Subcommand::Size)
-    } else if text == "digest" {
-        Some(Subcommand::Digest)
-    } else if text == "validate" {
-        Some(Subcommand::Validate)
-    } else if text == "show" {
-        Some(Subcommand::Show)
-    } else if text == "diff" {
-        Some(Subcommand::Diff)
-    } else {
-        None
-    }
-}
-
-/// Returns the parts of `text` before and after its first `=`; `None` if there is no `=`.
-fn parted(text: &str) -> Option<(&str, &str)>
-    ensures { MatchOption result (position_or_len is_equals text.now ≡ length text.now) (λ x.
-        (position_or_len is_equals text.now < length text.now)
-        × (x.0.now ≡ before_first is_equals text.now)
-        × (x.1.now ≡ after_first is_equals text.now)) }
-{
-    text.split_once('=')
 }
 
 /// Returns the nesting limit that `text` states; `None` if `text` doesn't state one.

@@ -1,6 +1,6 @@
 use Rattle.std.proofs.Common.{◌≡◌, length}
 use Rattle.capnp_streams.specs.Arguments.{option_among, option_named}
-use Rattle.capnp_streams.proofs.streams.arguments.option_of.Given as goal
+use Rattle.capnp_streams.proofs.streams.options.option_of.Given as goal
 
 abbrev pub invariant-loop-option : goal.invariant-loop-option
 invariant-loop-option l = record {
