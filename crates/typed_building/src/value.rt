@@ -1,16 +1,16 @@
 //! The fields of a struct of a message being built.
-ghost use Rattle.std.specs.Prelude.{◌≡◌, ◌+◌, ◌*◌, ◌^◌, ◌<◌, ◌≤◌, ◌++◌, ◌∷◌, [], IfOk, bit_xor, cond, length};
+ghost use Rattle.std.specs.Prelude.{◌≡◌, ℕ, List, ◌+◌, ◌*◌, ◌^◌, ◌<◌, ◌≤◌, ◌++◌, ◌∷◌, [], IfOk, bit_xor, cond, length};
 ghost use Rattle.capnp_format.specs.Numbers.{words_for};
 ghost use Rattle.capnp_format.specs.Segments.{Grows};
-ghost use Rattle.capnp_format.specs.Tree.{Capability, Flat, Null};
+ghost use Rattle.capnp_format.specs.Tree.{Capability, Flat, Null, Trees};
 ghost use Rattle.capnp_words.specs.Sizes.{size_number};
-ghost use Rattle.capnp_making.specs.Made.{list_words, zero_list, zero_struct, zero_structs};
+ghost use Rattle.capnp_making.specs.Made.{list_words, nulls, words_of_zero, zero_elements, zero_list, zero_struct, zero_structs};
 ghost use Rattle.capnp_making.specs.Makes.{Allocates};
 ghost use Rattle.capnp_widening.specs.Anew.{OnlyWrites};
 ghost use Rattle.capnp_readers.specs.Readers.{IsStructPlace};
 ghost use Rattle.capnp_readers.specs.Sections.{IsInside};
-ghost use Rattle.capnp_builders.specs.Held.{ReplacesChild, ReplacesField, SetsChild, SetsField, call_in};
-ghost use Rattle.capnp_builders.specs.Places.{IsAligned, field, number_field};
+ghost use Rattle.capnp_builders.specs.Held.{HasList, HasStruct, Holder, ReplacesChild, ReplacesField, SetsChild, SetsField, call_in, element_of, pointer_to};
+ghost use Rattle.capnp_builders.specs.Places.{IsAligned, element_place, field, number_field};
 ghost use Rattle.typed_building.specs.Members.{MakesMember, ReplacesChildMember, ReplacesMember, SetsChildMember, SetsMember, tag_field};
 ghost use Rattle.typed_building.specs.There.{HasStructsPlace, HasListPlace, HasStructPlace, call_on};
 
@@ -291,6 +291,11 @@ pub fn init_struct_member<A: BuilderArena>(
     requires field { index < place.pointers }
     ensures grows { Grows (A.view arena.old).words (A.view arena.new).words }
     ensures there { IfOk result (HasStructPlace (A.view arena.new).words size) }
+    ensures made { (x : Holder) (ws : List ℕ) (ts : Trees)
+        → HasStruct (A.view arena.old).words x place ws ts
+        → IfOk result (λ inner. HasStruct (A.view arena.new).words
+        (pointer_to place.segment (place.pointers_at + index)) inner
+        (words_of_zero size.data_words) (nulls size.pointers)) }
     ensures member { MakesMember result
         (call_in place (A.view arena.old).words (A.view arena.new).words) tag index
         (zero_struct size) }
@@ -327,6 +332,12 @@ pub fn init_struct_list_member<A: BuilderArena>(
     ensures grows { Grows (A.view arena.old).words (A.view arena.new).words }
     ensures there { IfOk result (HasStructsPlace (A.view arena.new).words size) }
     ensures count { IfOk result (λ list. list.count ≡ count) }
+    ensures made { (x : Holder) (ws : List ℕ) (ts : Trees) (i : ℕ) → i < count
+        → HasStruct (A.view arena.old).words x place ws ts
+        → IfOk result (λ list. HasStruct (A.view arena.new).words
+        (element_of place.segment (place.pointers_at + index) size
+        (zero_elements size.data_words size.pointers count) i) (element_place list.size list i)
+        (words_of_zero size.data_words) (nulls size.pointers)) }
     ensures member { MakesMember result
         (call_in place (A.view arena.old).words (A.view arena.new).words) tag index
         (zero_structs count size) }
@@ -363,6 +374,10 @@ pub fn init_list_member<A: BuilderArena>(
     ensures grows { Grows (A.view arena.old).words (A.view arena.new).words }
     ensures there { IfOk result (HasListPlace (A.view arena.new).words size) }
     ensures count { IfOk result (λ list. list.count ≡ count) }
+    ensures made { (x : Holder) (ws : List ℕ) (ts : Trees)
+        → HasStruct (A.view arena.old).words x place ws ts
+        → IfOk result (λ list. HasList (A.view arena.new).words place.segment
+        (place.pointers_at + index) list (zero_list (size_number size) count)) }
     ensures member { MakesMember result
         (call_in place (A.view arena.old).words (A.view arena.new).words) tag index
         (zero_list (size_number size) count) }

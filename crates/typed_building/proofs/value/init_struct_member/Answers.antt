@@ -1,4 +1,5 @@
 use Rattle.typed_building.proofs.Memory.{allocates_written}
+use Rattle.typed_building.specs.Members.{tag_field, with_data}
 use Rattle.typed_building.proofs.Sets.{makes_member}
 use Rattle.typed_building.proofs.value.init_struct_member.Goals as goal
 
@@ -7,3 +8,6 @@ returns-clause-member g c = makes_member c.init_struct.result (g.A.BuilderArena.
 
 pub returns-clause-memory : goal.returns-clause-memory
 returns-clause-memory g c = allocates_written c.init_struct.result _ _ _ _ _ _ c.set_tag.ensures.memory c.init_struct.ensures.object.memory
+
+pub returns-clause-made : goal.returns-clause-made
+returns-clause-made g c = λ x ws ts h. c.init_struct.ensures.made x (with_data ws (tag_field c.args.tag)) ts (c.set_tag.ensures.sets x ws ts h)
