@@ -1,136 +1,383 @@
-//! What generated modules import.
+//! What generated modules import. A table has a block for each module that has names, with an empty
+//! line between them. The first line of a block is the module. Each other line is a part of a generated
+//! text that needs a name of the module, a `|`, and this name.
 
-/// A module that has names, and these names, each after what a generated text contains that needs it.
-pub type ImportsOf = (&'static str, &'static [(&'static str, &'static str)]);
+/// What a generated crate has.
+#[derive(Clone, Copy, Debug, PartialEq, Eq)]
+pub enum Kind {
+    /// Readers.
+    Readers,
+    /// Builders.
+    Builders,
+}
 
-/// Names of clauses.
-pub const GHOST_IMPORTS: &[ImportsOf] = &[
-    (
-        "Rattle.std.specs.Prelude",
-        &[
-            (" ≡ ", "◌≡◌"),
-            (" ≢ ", "◌≢◌"),
-            (" < ", "◌<◌"),
-            (" ≤ ", "◌≤◌"),
-            (" + ", "◌+◌"),
-            (" ↔ ", "◌↔◌"),
-            ("ℕ)", "ℕ"),
-            ("(IsTrue ", "IsTrue"),
-            ("IfOk ", "IfOk"),
-            ("IfErr ", "IfErr"),
-            ("IsOk ", "IsOk"),
-            ("⊤ }", "⊤"),
-        ],
-    ),
-    (
-        "Rattle.std.specs.Int",
-        &[
-            (" cast_unsigned ", "cast_unsigned"),
-            (" w8 ", "w8"),
-            (" w16 ", "w16"),
-            (" w32 ", "w32"),
-            (" w64 ", "w64"),
-        ],
-    ),
-    (
-        "Rattle.capnp_format.specs.Bytes",
-        &[(" message (", "message")],
-    ),
-    ("Rattle.capnp_format.specs.Means", &[(" Means ", "Means")]),
-    (
-        "Rattle.capnp_format.specs.Segments",
-        &[(" AreWords ", "AreWords")],
-    ),
-    (
-        "Rattle.capnp_format.specs.Tree",
-        &[
-            (" Tree) ", "Tree"),
-            (" Capability ", "Capability"),
-            (" Null)", "Null"),
-        ],
-    ),
-    (
-        "Rattle.capnp_words.specs.Meter",
-        &[(" Affords ", "Affords")],
-    ),
-    (
-        "Rattle.capnp_words.specs.declared.wire_pointer.ElementSize.TheVariants",
-        &[
-            (" FitsSize Void ", "Void"),
-            (" FitsSize Bit ", "Bit"),
-            (" FitsSize Byte ", "Byte"),
-            (" FitsSize TwoBytes ", "TwoBytes"),
-            (" FitsSize FourBytes ", "FourBytes"),
-            (" FitsSize EightBytes ", "EightBytes"),
-            (" FitsSize Pointer ", "Pointer"),
-            (" FitsSize InlineComposite ", "InlineComposite"),
-        ],
-    ),
-    (
-        "Rattle.capnp_arena_traits.specs.Checks",
-        &[(" Holds ", "Holds")],
-    ),
-    (
-        "Rattle.capnp_objects.specs.Reading",
-        &[(" source_start ", "source_start")],
-    ),
-    (
-        "Rattle.capnp_objects.specs.Source",
-        &[("(levels ", "levels")],
-    ),
-    (
-        "Rattle.capnp_readers.specs.Readers",
-        &[("(read_by ", "read_by")],
-    ),
-    (
-        "Rattle.capnp_readers.specs.Values",
-        &[
-            (" FitsSize ", "FitsSize"),
-            (" HasStructs ", "HasStructs"),
-            (" HasValue ", "HasValue"),
-            (" IsBytes ", "IsBytes"),
-            (" IsStructOrNull ", "IsStructOrNull"),
-            (" IsText ", "IsText"),
-            (" ShowsListOf ", "ShowsListOf"),
-            (" ShowsStructOf ", "ShowsStructOf"),
-            ("(child_cost ", "child_cost"),
-            (" list_length ", "list_length"),
-            ("(struct_element ", "struct_element"),
-        ],
-    ),
-    ("Rattle.typed_reading.specs.Values", &[("(child ", "child")]),
-];
+impl Kind {
+    /// What the comment of its root module says that it has.
+    pub fn about(self) -> &'static str {
+        match self {
+            Kind::Readers => "Readers",
+            Kind::Builders => "Builders",
+        }
+    }
 
-/// Names of code.
-pub const IMPORTS: &[ImportsOf] = &[
-    (
-        "capnp_arena_traits::arena",
-        &[(" A: ReaderArena>", "ReaderArena")],
-    ),
-    (
-        "capnp_readers::readers",
-        &[
-            (" PointerReader<", "PointerReader"),
-            (" StructReader<", "StructReader"),
-        ],
-    ),
-    ("capnp_words::error", &[(" ErrorKind>", "ErrorKind")]),
-    (
-        "capnp_words::read_limiter",
-        &[("&mut ReadLimiter", "ReadLimiter")],
-    ),
-    ("std::alloc", &[(" AllocError>", "AllocError")]),
-    ("typed_reading::error", &[(" NotInSchema>", "NotInSchema")]),
-    (
-        "typed_reading::list",
-        &[
-            ("list::get_", "self"),
-            ("DataListReader<", "DataListReader"),
-            ("NumbersReader<", "NumbersReader"),
-            ("<PointersReader<", "PointersReader"),
-            (" StructsReader<", "StructsReader"),
-            ("TextsReader<", "TextsReader"),
-        ],
-    ),
-    ("typed_reading", &[("value::", "value")]),
-];
+    /// The file of its first definitions.
+    pub fn definitions(self) -> &'static str {
+        match self {
+            Kind::Readers => "Schema",
+            Kind::Builders => "Sizes",
+        }
+    }
+
+    /// The table of what its modules import for clauses.
+    pub fn ghost_imports(self) -> &'static str {
+        match self {
+            Kind::Readers => GHOST_IMPORTS,
+            Kind::Builders => BUILDER_GHOST_IMPORTS,
+        }
+    }
+
+    /// The table of what its modules import for code.
+    pub fn imports(self) -> &'static str {
+        match self {
+            Kind::Readers => IMPORTS,
+            Kind::Builders => BUILDER_IMPORTS,
+        }
+    }
+}
+
+// Names of clauses of readers.
+const GHOST_IMPORTS: &str = "Rattle.std.specs.Prelude
+ ≡ |◌≡◌
+ ≢ |◌≢◌
+ < |◌<◌
+ ≤ |◌≤◌
+ + |◌+◌
+ ↔ |◌↔◌
+ℕ)|ℕ
+(IsTrue |IsTrue
+IfOk |IfOk
+IfErr |IfErr
+IsOk |IsOk
+⊤ }|⊤
+
+Rattle.std.specs.Int
+ cast_unsigned |cast_unsigned
+ w8 |w8
+ w16 |w16
+ w32 |w32
+ w64 |w64
+
+Rattle.capnp_format.specs.Bytes
+ message (|message
+
+Rattle.capnp_format.specs.Means
+ Means |Means
+
+Rattle.capnp_format.specs.Segments
+ AreWords |AreWords
+
+Rattle.capnp_format.specs.Tree
+ Tree) |Tree
+ Capability |Capability
+ Null)|Null
+
+Rattle.capnp_words.specs.Meter
+ Affords |Affords
+
+Rattle.capnp_words.specs.declared.wire_pointer.ElementSize.TheVariants
+ FitsSize Void |Void
+ FitsSize Bit |Bit
+ FitsSize Byte |Byte
+ FitsSize TwoBytes |TwoBytes
+ FitsSize FourBytes |FourBytes
+ FitsSize EightBytes |EightBytes
+ FitsSize Pointer |Pointer
+ FitsSize InlineComposite |InlineComposite
+
+Rattle.capnp_arena_traits.specs.Checks
+ Holds |Holds
+
+Rattle.capnp_objects.specs.Reading
+ source_start |source_start
+
+Rattle.capnp_objects.specs.Source
+(levels |levels
+
+Rattle.capnp_readers.specs.Readers
+(read_by |read_by
+
+Rattle.capnp_readers.specs.Values
+ FitsSize |FitsSize
+ HasStructs |HasStructs
+ HasValue |HasValue
+ IsBytes |IsBytes
+ IsStructOrNull |IsStructOrNull
+ IsText |IsText
+ ShowsListOf |ShowsListOf
+ ShowsStructOf |ShowsStructOf
+(child_cost |child_cost
+ list_length |list_length
+(struct_element |struct_element
+
+Rattle.typed_reading.specs.Values
+ IsDefault |IsDefault
+(child |child";
+
+// Names of code of readers.
+const IMPORTS: &str = "capnp_arena_traits::arena
+ A: ReaderArena>|ReaderArena
+
+capnp_readers::readers
+ PointerReader<|PointerReader
+ StructReader<|StructReader
+
+capnp_words::error
+ ErrorKind>|ErrorKind
+
+capnp_words::read_limiter
+&mut ReadLimiter|ReadLimiter
+
+std::alloc
+ AllocError>|AllocError
+
+typed_reading::error
+ NotInSchema>|NotInSchema
+
+typed_reading::list
+list::get_|self
+DataListReader<|DataListReader
+NumbersReader<|NumbersReader
+<PointersReader<|PointersReader
+ StructsReader<|StructsReader
+TextsReader<|TextsReader
+
+typed_reading
+ value::|value
+(value::|value";
+
+// Names of clauses of builders.
+const BUILDER_GHOST_IMPORTS: &str = "Rattle.std.specs.Prelude
+ ≡ |◌≡◌
+ ≢ |◌≢◌
+ < |◌<◌
+ ≤ |◌≤◌
+ + |◌+◌
+ * |◌*◌
+ ^ |◌^◌
+ ++ |◌++◌
+ ∷ |◌∷◌
+ ↔ |◌↔◌
+[])|[]
+ℕ)|ℕ
+ List ℕ)|List
+(IsTrue |IsTrue
+IfOk |IfOk
+IfErr |IfErr
+IsOk |IsOk
+(bit_xor |bit_xor
+(cond |cond
+length text.now|length
+length contents.now|length
+
+Rattle.std.specs.Int
+ cast_unsigned |cast_unsigned
+(cast_unsigned |cast_unsigned
+ w8 |w8
+ w16 |w16
+ w32 |w32
+ w64 |w64
+
+Rattle.capnp_format.specs.Numbers
+(words_for |words_for
+
+Rattle.capnp_format.specs.Path
+ struct_at |struct_at
+(tree_at |tree_at
+ tree_at |tree_at
+
+Rattle.capnp_format.specs.Segments
+ Grows |Grows
+ IsPlace |IsPlace
+
+Rattle.capnp_format.specs.Tree
+(Capability |Capability
+ Elements)|Elements
+(Flat |Flat
+ Null)|Null
+ Null |Null
+(Struct |Struct
+ Struct |Struct
+ Structs |Structs
+ Tree)|Tree
+ Trees)|Trees
+ element_count |element_count
+
+Rattle.capnp_words.specs.Sizes
+(sized |sized
+
+Rattle.capnp_words.specs.declared.wire_pointer.ElementSize.TheVariants
+.words Void) }|Void
+ HasElements Void |Void
+.words Bit) }|Bit
+ HasElements Bit |Bit
+.words Byte) }|Byte
+ HasElements Byte |Byte
+.words TwoBytes) }|TwoBytes
+ HasElements TwoBytes |TwoBytes
+.words FourBytes) }|FourBytes
+ HasElements FourBytes |FourBytes
+.words EightBytes) }|EightBytes
+ HasElements EightBytes |EightBytes
+.words Pointer) }|Pointer
+ HasElements Pointer |Pointer
+
+Rattle.capnp_making.specs.Made
+(list_words |list_words
+(nulls |nulls
+(words_of_zero |words_of_zero
+(zero_elements |zero_elements
+(zero_list |zero_list
+(zero_struct |zero_struct
+(zero_structs |zero_structs
+
+Rattle.capnp_making.specs.Makes
+ Allocates |Allocates
+ MakesObject |MakesObject
+(call_at |call_at
+
+Rattle.capnp_making.specs.Stored
+ IsStored |IsStored
+
+Rattle.capnp_widening.specs.Anew
+ OnlyWrites |OnlyWrites
+
+Rattle.capnp_widening.specs.Rooms
+ OpeningFits |OpeningFits
+ WiderListFits|WiderListFits
+
+Rattle.capnp_objects.specs.Wanted
+ plain |plain
+
+Rattle.capnp_readers.specs.Readers
+(read_by |read_by
+
+Rattle.capnp_readers.specs.Values
+ HasValue |HasValue
+ ShowsListOf |ShowsListOf
+ ShowsStructOf |ShowsStructOf
+(struct_children |struct_children
+(struct_data |struct_data
+
+Rattle.capnp_copies.specs.Originals
+(value_original |value_original
+
+Rattle.capnp_copies.specs.Rooms
+ CanBeCopied|CanBeCopied
+
+Rattle.capnp_value_copies.specs.ListValues
+(list_read |list_read
+
+Rattle.capnp_value_copies.specs.StructValues
+(struct_read |struct_read
+
+Rattle.capnp_builders.specs.Held
+ HasList |HasList
+ HasStruct |HasStruct
+ Holder)|Holder
+ MakesChild |MakesChild
+ ReplacesChild |ReplacesChild
+ ReplacesField|ReplacesField
+ SetsChild |SetsChild
+ SetsField|SetsField
+(call_in |call_in
+(element_of |element_of
+(pointer_to |pointer_to
+
+Rattle.capnp_builders.specs.Places
+ element_place |element_place
+(element_place |element_place
+(field |field
+
+Rattle.typed_building.specs.Copied
+(copied_list |copied_list
+(copied_struct |copied_struct
+
+Rattle.typed_building.specs.Members
+ MakesMember |MakesMember
+ ReplacesChildMember |ReplacesChildMember
+ ReplacesMember|ReplacesMember
+ SetsChildMember |SetsChildMember
+ SetsMember|SetsMember
+(tagged |tagged
+
+Rattle.typed_building.specs.Opened
+ HasElements |HasElements
+ OpensChild |OpensChild
+(opened_list |opened_list
+ opened_list |opened_list
+(opened_struct |opened_struct
+
+Rattle.typed_building.specs.Slots
+ BeginsGroup|BeginsGroup
+ ReplacesGroup|ReplacesGroup
+ ReplacesSlots|ReplacesSlots
+ ZeroesSlots|ZeroesSlots
+
+Rattle.typed_building.specs.There
+(HasListPlace |HasListPlace
+ HasStructPlace |HasStructPlace
+ HasStructsPlace |HasStructsPlace
+(call_on |call_on
+
+Rattle.typed_building.specs.declared.slots.Slot
+Slot.|Slot
+
+Rattle.typed_reading.specs.Values
+(child |child";
+
+// Names of code of builders.
+const BUILDER_IMPORTS: &str = "capnp_arena_traits::arena
+<A: BuilderArena|BuilderArena
+ B: ReaderArena>|ReaderArena
+
+capnp_readers::readers
+ ListPlace|ListPlace
+<ListPlace|ListPlace
+ PointerReader<|PointerReader
+: StructPlace,|StructPlace
+
+capnp_words::error
+ ErrorKind>|ErrorKind
+
+capnp_words::read_limiter
+&mut ReadLimiter|ReadLimiter
+
+capnp_words::wire_pointer
+, ElementSize::|ElementSize
+            ElementSize::|ElementSize
+: StructSize =|StructSize
+
+typed_building::slots
+[Slot::|Slot
+            Slot::|Slot
+
+typed_building::tag
+ = Tag {|Tag
+
+typed_building
+ copying::set_|copying
+ groups::zero|groups
+ list::element(|list
+ opening::get_|opening
+reading::get_|reading
+ reading::has|reading
+ value::|value
+
+typed_reading::error
+ NotInSchema>|NotInSchema
+
+typed_reading::list
+&DataListReader<|DataListReader
+&NumbersReader<|NumbersReader
+&PointersReader<|PointersReader
+&TextsReader<|TextsReader";

@@ -3,26 +3,39 @@
 //! needs no proof of its own.
 #![tactic(auto)]
 
+mod builders;
+mod building;
+mod copying;
+mod defaults;
+mod definitions;
+mod fields;
+mod getters;
 mod imports;
 mod model;
 mod modules;
 mod names;
 mod noted;
+mod output;
 mod readers;
 mod request;
+mod setters;
+mod slots;
 mod templates;
 mod text;
 mod writing;
 
 use anyhow::{Result, anyhow};
+use builders::Builders;
 use capnp_arena::arena::{ReaderArena, ReaderArenaImpl, ReaderOptions};
 use capnp_framing::devices::ReaderInput;
 use capnp_framing::framing::read;
 use capnp_words::read_limiter::ReadLimiter;
+use definitions::name_definitions;
 use modules::name_modules;
 use names::snake_case;
 use noted::Noted;
-use readers::{File, Readers};
+use output::File;
+use readers::Readers;
 use request::{Request, read_request};
 use schema_reading::code_generator_request;
 use std::alloc::{AllocError, Global};
@@ -44,12 +57,13 @@ fn requested(rt: &(impl Input + AllocGlobal)) -> Result<Request> {
     request_in(rt.alloc(), &arena, &mut limiter)
 }
 
-/// Reads the request that a message is, and names the modules.
+/// Reads the request that a message is, and names the modules and the definitions.
 fn request_in<A: ReaderArena>(alloc: Global, arena: &A, lim: &mut ReadLimiter) -> Result<Request> {
     let root = code_generator_request::Reader::root(arena, lim)?;
     let mut noted = Noted::new(alloc);
     let mut request = read_request(root, lim, &mut noted);
     name_modules(&mut request.nodes, &mut noted);
+    name_definitions(&mut request.nodes, &mut noted);
     noted.finish()?;
     Ok(request)
 }
@@ -66,15 +80,27 @@ fn stem(file: &str) -> &str {
     }
 }
 
-/// Returns the files of the crate that is requested.
-fn generate(alloc: Global, request: &Request) -> Result<Vec<File>, AllocError> {
+/// Returns the files of the crate of readers.
+fn readers_of(alloc: Global, request: &Request) -> Result<Vec<File>, AllocError> {
     let stem = stem(request.file.as_str());
+    let name = crate_name(alloc, stem, "_reading")?;
+    Readers::new(alloc, name.as_str(), request.nodes.as_slice()).write(stem)
+}
+
+/// Returns the files of the crate of builders.
+fn builders_of(alloc: Global, request: &Request) -> Result<Vec<File>, AllocError> {
+    let stem = stem(request.file.as_str());
+    let name = crate_name(alloc, stem, "_building")?;
+    let reading = crate_name(alloc, stem, "_reading")?;
+    let nodes = request.nodes.as_slice();
+    Builders::new(alloc, name.as_str(), reading.as_str(), nodes).write(stem)
+}
+
+/// The name of a crate.
+fn crate_name(alloc: Global, stem: &str, end: &str) -> Result<String, AllocError> {
     let mut name = snake_case(alloc, stem);
-    name.push("_reading");
-    let name = name.whole()?;
-    let mut readers = Readers::new(alloc, name.as_str(), request.nodes.as_slice());
-    readers.write(stem);
-    readers.files()
+    name.push(end);
+    name.whole()
 }
 
 /// Writes a file, and makes its folder.
@@ -86,11 +112,19 @@ fn write_file<R: Files>(rt: &R, file: &File) -> io::Result<()> {
     fs::write(rt, path, file.text.as_str())
 }
 
+/// Writes files.
+fn write_files<R: Files>(rt: &R, files: &[File]) -> io::Result<()> {
+    for file in files {
+        write_file(rt, file)?;
+    }
+    Ok(())
+}
+
 fn main(rt: HostRuntime) -> Result<()> {
     let request = requested(&rt)?;
-    let files = generate(rt.alloc(), &request)?;
-    for file in files.iter() {
-        write_file(&rt, file)?;
-    }
+    let readers = readers_of(rt.alloc(), &request)?;
+    let builders = builders_of(rt.alloc(), &request)?;
+    write_files(&rt, readers.as_slice())?;
+    write_files(&rt, builders.as_slice())?;
     Ok(())
 }

@@ -119,8 +119,10 @@ pub enum Default {
     Number { literal: String, bits: u64 },
     /// The bytes of a text, or data.
     Bytes(Vec<u8>),
-    /// A struct, a list, or any pointer.
-    Pointer,
+    /// The words of a struct or a list: one segment, with its pointer in the first word.
+    Words(Vec<u8>),
+    /// Something that this program doesn't know.
+    Unknown,
 }
 
 /// A field that isn't a group.
@@ -151,6 +153,12 @@ pub enum FieldKind {
 pub struct Field {
     /// The name in the schema.
     pub name: String,
+    /// The same in snake case. Other fields of the struct have other names.
+    pub snake: String,
+    /// The name of the definition of what readers return; empty if there is none.
+    pub spec: String,
+    /// The name of the definition of the default value, if that is a struct or a list.
+    pub default_spec: String,
     /// The number in the schema; none for a group.
     pub ordinal: Option<u16>,
     /// Its number in its union, or `NO_DISCRIMINANT`.
@@ -167,12 +175,18 @@ pub const NO_DISCRIMINANT: u16 = 0xffff;
 pub struct Struct {
     /// Whether it is a group.
     pub is_group: bool,
+    /// How many words its data section has.
+    pub data_words: u16,
+    /// How many pointers it has.
+    pub pointers: u16,
     /// How many members its union has; 0 if it has none.
     pub members: u16,
     /// Where the number of the member that is set is, counted in 16-bit numbers.
     pub tag_offset: u32,
     /// The name of the module that has the members; empty if there is no union.
     pub which: String,
+    /// The name of the definition of the number of the member that is set.
+    pub tag: String,
     /// The fields, by their order in the request.
     pub fields: Vec<Field>,
 }
@@ -195,6 +209,8 @@ pub enum NodeKind {
 pub struct Node {
     /// The id.
     pub id: u64,
+    /// The id of the declaration that it is in.
+    pub scope: u64,
     /// The name, with those of the scopes around it.
     pub full: String,
     /// The same in snake case.

@@ -11,10 +11,17 @@ pub const MODULE_WORDS: &[&str] = &[
     "while", "async", "await", "dyn", "abstract", "become", "box", "do", "final", "macro",
     "override", "priv", "typeof", "unsized", "virtual", "yield", "try", "gen", "ghost", "requires",
     "ensures", "result", "lib", "std", "core", "main", "value", "list", "syntax", "prim",
+    "copying", "groups", "opening", "reading",
 ];
 
 /// Names that an enum and its variants can't have.
 pub const VARIANT_WORDS: &[&str] = &["Self", "Type", "Below"];
+
+/// Names that an enum can't have, since its modules have other items of these names.
+pub const ENUM_WORDS: &[&str] = &["Number", "NotInSchema"];
+
+/// Names of fields that a builder's calls can't have.
+pub const BUILDER_WORDS: &[&str] = &["root"];
 
 /// Names that the definition of a field can't have, since modules import them too.
 pub const SPEC_WORDS: &[&str] = &[
@@ -30,6 +37,31 @@ pub const SPEC_WORDS: &[&str] = &[
     "data_or",
     "bits_in",
     "bit_xor",
+    "words_for",
+    "tree_at",
+    "struct_at",
+    "element_count",
+    "list_words",
+    "words_of_zero",
+    "zero_elements",
+    "zero_list",
+    "zero_struct",
+    "zero_structs",
+    "call_at",
+    "struct_children",
+    "struct_data",
+    "value_original",
+    "list_read",
+    "struct_read",
+    "call_in",
+    "element_of",
+    "pointer_to",
+    "element_place",
+    "copied_list",
+    "copied_struct",
+    "opened_list",
+    "opened_struct",
+    "call_on",
 ];
 
 /// Returns a name in snake case, in the same way that upstream does: each capital becomes `_` and a

@@ -1,42 +1,24 @@
 //! Generates readers.
 ghost use Rattle.std.specs.Prelude.{◌≤◌};
 
+use crate::fields::{begin_comment, element_size, is_in_data, list_kind, skip, type_of};
+use crate::imports::Kind;
 use crate::model::{Base, Default, Field, FieldKind, Node, NodeKind, Slot, Struct, Type};
-use crate::names::{SPEC_WORDS, VARIANT_WORDS, capitalized, joined, snake_case};
+use crate::names::{VARIANT_WORDS, capitalized};
+use crate::output::{File, Output};
 use crate::templates;
 use crate::text::{Names, Text, Values};
 use crate::writing::Module;
 use std::alloc::{AllocError, Global};
 
-/// A file of a generated crate.
-#[derive(Drop)]
-pub struct File {
-    /// Its path, from the folder of crates on.
-    pub path: String,
-    /// Its text.
-    pub text: String,
-}
-
 /// A crate of readers as it is generated.
 #[derive(Drop)]
 pub struct Readers<'m> {
     alloc: Global,
-    // The name of the crate.
-    name: &'m str,
-    // All declarations.
-    nodes: &'m [Node],
+    // Its files.
+    output: Output<'m>,
     // The definitions of the fields.
     definitions: Text,
-    // The names of these definitions.
-    taken: Names,
-    // The names of the modules.
-    modules: Names,
-    // The files of the numbers of enums and unions.
-    numbers: Names,
-    // The files.
-    files: Vec<File>,
-    // Whether memory was lacking for a file.
-    has_failed: bool,
 }
 
 impl<'m> Readers<'m> {
@@ -44,21 +26,16 @@ impl<'m> Readers<'m> {
     pub fn new(alloc: Global, name: &'m str, nodes: &'m [Node]) -> Self {
         Readers {
             alloc,
-            name,
-            nodes,
+            output: Output::new(alloc, name, name, nodes, Kind::Readers),
             definitions: Text::new(alloc),
-            taken: Names::new(alloc),
-            modules: Names::new(alloc),
-            numbers: Names::new(alloc),
-            files: Vec::new(alloc),
-            has_failed: false,
         }
     }
 
-    /// Writes all files. `stem` is the name of the schema's file, without its ending.
-    pub fn write(&mut self, stem: &str) {
+    /// Writes all files, and returns them. `stem` is the name of the schema's file, without its
+    /// ending.
+    pub fn write(mut self, stem: &str) -> Result<Vec<File>, AllocError> {
         self.definitions.push(templates::DEFINITIONS);
-        let nodes = self.nodes;
+        let nodes = self.output.nodes();
         for node in nodes {
             match &node.kind {
                 NodeKind::Struct(it) => self.write_struct(node, it),
@@ -66,60 +43,19 @@ impl<'m> Readers<'m> {
                 NodeKind::File | NodeKind::Other(_) => {}
             }
         }
-        self.write_lib(stem);
-        self.write_specs();
+        let Readers {
+            mut output,
+            definitions,
+            ..
+        } = self;
+        output.finish_crate(stem, definitions);
+        output.files()
     }
 
-    /// Returns the files that are written.
-    pub fn files(self) -> Result<Vec<File>, AllocError> {
-        let lists = [&self.taken, &self.modules, &self.numbers];
-        if self.has_failed || lists.iter().any(|list| list.has_failed()) {
-            return Err(AllocError);
-        }
-        Ok(self.files)
-    }
-
-    // The declaration with this id.
-    fn node(&self, id: u64) -> Option<&'m Node> {
-        let nodes = self.nodes;
-        nodes.iter().find(|node| node.id == id)
-    }
-
-    // Adds a file. `name` is its name from the crate's folder on.
-    fn add_file(&mut self, name: &Text, text: Text) {
-        let mut path = Text::new(self.alloc);
-        path.push(self.name);
-        path.push("/");
-        path.append(name);
-        if let Ok(path) = path.whole()
-            && let Ok(text) = text.whole()
-            && self.files.push(File { path, text }).is_ok()
-        {
-            return;
-        }
-        self.has_failed = true;
-    }
-
-    // Adds a module's file.
-    fn finish(&mut self, module: &mut Module, about: &str) {
-        self.modules.add(self.alloc, module.name.as_str());
-        let mut name = Text::new(self.alloc);
-        name.push("src/");
-        name.push(module.name.as_str());
-        name.push(".rt");
-        let text = module.text(about, self.name);
-        self.add_file(&name, text);
-    }
-
-    // Adds a definition: `values` has what it is about, its type, its value, and `spec_name`. Puts
-    // its name as `spec`.
-    fn define(&mut self, module: &mut Module, values: &mut Values) {
-        let mut spec = Text::new(self.alloc);
-        spec.push(values.get("spec_name"));
-        self.taken.take(self.alloc, SPEC_WORDS, &mut spec);
-        module.specs.add(self.alloc, spec.as_str());
-        values.put_text("spec", spec);
-        self.definitions.fill(templates::DEFINITION, values);
+    // Adds a definition: `values` has its name, `spec`, what it is about, its type, and its value.
+    fn define(&mut self, module: &mut Module, template: &str, values: &Values) {
+        module.specs.add(self.alloc, values.get("spec"));
+        self.definitions.fill(template, values);
     }
 
     // Writes the module of a struct or a group, and that of its union.
@@ -127,7 +63,6 @@ impl<'m> Readers<'m> {
         let mut module = Module::new(self.alloc, node.module.as_str());
         let mut values = Values::new(self.alloc);
         values.put("full", node.full.as_str());
-        module.body.fill(templates::READER, &values);
         if !it.is_group {
             module.body.push(templates::ROOT);
         }
@@ -135,15 +70,17 @@ impl<'m> Readers<'m> {
         if it.members > 0 {
             self.write_which(&mut module, node, it);
         }
-        module.body.push("}\n");
+        let methods = module.take_body();
+        module.body.fill(templates::READER, &values);
+        module.push_impl("impl<'a, A: ReaderArena> Reader<'a, A> {\n", &methods);
         if !it.is_group {
             module.body.fill(templates::READERS, &values);
         }
-        self.finish(&mut module, node.full.as_str());
+        self.output.finish(&mut module, node.full.as_str());
         if it.members > 0 {
             values.put_filled("about", "Which member of ~full~ is set");
             let members = members(self.alloc, it);
-            self.has_failed = self.has_failed || members.has_failed();
+            self.output.note(members.has_failed());
             self.write_names(
                 it.which.as_str(),
                 "Which",
@@ -155,33 +92,28 @@ impl<'m> Readers<'m> {
 
     // Writes the getters of a struct.
     fn write_getters(&mut self, module: &mut Module, node: &Node, it: &Struct) {
-        let mut names = Names::new(self.alloc);
         for field in it.fields.iter() {
-            let mut name = snake_case(self.alloc, field.name.as_str());
-            names.take(self.alloc, &[], &mut name);
             let mut values = Values::new(self.alloc);
             values.put("full", node.full.as_str());
-            values.put("node", node.snake.as_str());
             values.put("name", field.name.as_str());
-            values.put_text("snake", name);
+            values.put("snake", field.snake.as_str());
+            values.put("spec", field.spec.as_str());
             self.write_field(module, field, &mut values);
         }
-        self.has_failed = self.has_failed || names.has_failed();
     }
 
     // Writes the call that says which member of a union is set.
     fn write_which(&mut self, module: &mut Module, node: &Node, it: &Struct) {
         let mut values = Values::new(self.alloc);
         values.put("full", node.full.as_str());
-        values.put("node", node.snake.as_str());
+        values.put("spec", it.tag.as_str());
         values.put_filled("about", "Which member of ~full~ is set.");
-        values.put_filled("spec_name", "~node~_tag");
         values.put("type", "ℕ");
         values.put_text("value", bits_in(self.alloc, it.tag_offset, 16));
         values.put_number("index", u64::from(it.tag_offset));
         values.put_number("count", u64::from(it.members));
         values.put_filled("read", "value::get_number(&self.reader, ~index~)");
-        self.define(module, &mut values);
+        self.define(module, templates::DEFINITION, &values);
         module.begin();
         module.body.push("    /// Returns which member is set.\n");
         values.put("call", "which");
@@ -210,19 +142,14 @@ impl<'m> Readers<'m> {
         values.put("full", about);
         values.put("type", of);
         values.put("module", name);
-        values.put("crate", self.name);
+        values.put("crate", self.output.name());
         values.put_number("count", names.len() as u64);
         put_variants(self.alloc, names, &mut values);
         module.body.fill(templates::NAMES, &values);
-        let file = joined(self.alloc, name);
-        self.numbers.add(self.alloc, file.as_str());
-        values.put_text("file", file);
-        let mut path = Text::new(self.alloc);
-        path.fill("specs/Of~file~.antt", &values);
         let mut text = Text::new(self.alloc);
         text.fill(templates::NUMBERS, &values);
-        self.add_file(&path, text);
-        self.finish(&mut module, about);
+        self.output.add_numbers(name, text);
+        self.output.finish(&mut module, about);
     }
 
     // Writes the getter of a field.
@@ -243,7 +170,7 @@ impl<'m> Readers<'m> {
 
     // Writes the getter of a group.
     fn write_group(&mut self, module: &mut Module, id: u64, values: &mut Values) {
-        let Some(node) = self.node(id) else {
+        let Some(node) = self.output.node(id) else {
             skip(module, "its group is unknown", values);
             return;
         };
@@ -258,10 +185,14 @@ impl<'m> Readers<'m> {
 
     // Why a field has no getter; empty if it has one.
     fn unreadable(&self, slot: &Slot) -> &'static str {
-        if let Default::Pointer = &slot.default {
-            return "its default value is a pointer";
+        match &slot.default {
+            Default::Unknown => return "its default value is unknown",
+            Default::Words(_) if slot.of.lists == 0 && slot.of.base != Base::Struct => {
+                return "it has a default value, and can lead to anything";
+            }
+            _ => {}
         }
-        match (slot.of.base, self.node(slot.of.id)) {
+        match (slot.of.base, self.output.node(slot.of.id)) {
             (Base::Struct, None) => "its struct is unknown",
             (Base::Enum, None) => "its enum is unknown",
             (Base::Enum, Some(node)) => match &node.kind {
@@ -274,9 +205,8 @@ impl<'m> Readers<'m> {
 
     // Writes the getter of a field that isn't a group.
     fn write_slot(&mut self, module: &mut Module, field: &Field, slot: &Slot, values: &mut Values) {
-        values.put_text("of", self.type_name(slot.of));
+        values.put_text("of", self.output.type_name(slot.of));
         values.put_filled("about", "~full~.~name~");
-        values.put_filled("spec_name", "~node~_~snake~");
         values.put_filled("call", "get_~snake~");
         values.put_number("index", u64::from(slot.offset));
         module.begin();
@@ -286,37 +216,42 @@ impl<'m> Readers<'m> {
         } else {
             put_pointer_field(self.alloc, slot, values);
         }
-        self.define(module, values);
+        self.define(module, templates::DEFINITION, values);
         if is_in_data(slot.of) {
             self.write_number(module, slot.of, values);
-        } else {
-            self.write_pointer(module, slot.of, values);
+            return;
         }
+        if let Default::Words(words) = &slot.default {
+            let spec = field.default_spec.as_str();
+            self.define_default(module, spec, words.as_slice(), values);
+        }
+        self.write_pointer(module, slot.of, values);
     }
 
-    // The name of a type in the schema.
-    fn type_name(&self, of: Type) -> Text {
-        let mut name = Text::new(self.alloc);
-        for _ in 0..of.lists {
-            name.push("List(");
-        }
-        match of.base.name() {
-            Some(known) => name.push(known),
-            None => match self.node(of.id) {
-                Some(node) => name.push(node.full.as_str()),
-                None => name.push("unknown"),
-            },
-        }
-        for _ in 0..of.lists {
-            name.push(")");
-        }
-        name
+    // Adds the definition of the default value of a struct or a list. Puts its name as `default`, and
+    // the bytes as `literal`.
+    fn define_default(
+        &mut self,
+        module: &mut Module,
+        spec: &str,
+        words: &[u8],
+        values: &mut Values,
+    ) {
+        let mut default = Values::new(self.alloc);
+        default.put("full", values.get("full"));
+        default.put("name", values.get("name"));
+        default.put("spec", spec);
+        default.put_filled("about", "The default value of ~full~.~name~, as a message");
+        default.put_text("value", numbers_of(self.alloc, words));
+        self.define(module, templates::DEFAULT, &default);
+        values.put("default", spec);
+        values.put_text("literal", literal_of(self.alloc, words));
     }
 
     // Writes the getter of a number, a bit or an enum, from its name on.
     fn write_number(&self, module: &mut Module, of: Type, values: &mut Values) {
         if of.base == Base::Enum {
-            if let Some(node) = self.node(of.id) {
+            if let Some(node) = self.output.node(of.id) {
                 if let NodeKind::Enum(names) = &node.kind {
                     values.put_number("count", names.len() as u64);
                 }
@@ -339,7 +274,7 @@ impl<'m> Readers<'m> {
     // Writes the getter of a pointer, from its name on, and the call that says whether it is null.
     fn write_pointer(&self, module: &mut Module, of: Type, values: &mut Values) {
         if of.lists <= 1 && of.base == Base::Struct {
-            if let Some(node) = self.node(of.id) {
+            if let Some(node) = self.output.node(of.id) {
                 module.put_path(node.module.as_str(), values);
             }
         }
@@ -361,80 +296,6 @@ impl<'m> Readers<'m> {
         module.sign(false, &has);
         module.body.fill(templates::HAS, &has);
     }
-
-    // Writes the root module.
-    fn write_lib(&mut self, stem: &str) {
-        let mut text = Text::new(self.alloc);
-        let mut values = Values::new(self.alloc);
-        values.put("stem", stem);
-        text.fill(
-            "//! Readers of `~stem~.capnp`, generated by capnpc-rattle.\n",
-            &values,
-        );
-        let nodes = self.nodes;
-        for node in nodes {
-            match &node.kind {
-                NodeKind::Other(what) => not_written(self.alloc, &mut text, node, what),
-                NodeKind::Enum(names) if names.is_empty() => {
-                    not_written(self.alloc, &mut text, node, "an enum without names");
-                }
-                _ => {}
-            }
-        }
-        text.push("#![tactic(auto)]\n\n");
-        self.modules.sort();
-        for module in self.modules.as_slice() {
-            text.push("pub mod ");
-            text.push(module.as_str());
-            text.push(";\n");
-        }
-        let mut name = Text::new(self.alloc);
-        name.push("src/lib.rt");
-        self.add_file(&name, text);
-    }
-
-    // Writes the definitions' files.
-    fn write_specs(&mut self) {
-        let mut text = Text::new(self.alloc);
-        text.push("pub mod Schema\n");
-        self.numbers.sort();
-        for file in self.numbers.as_slice() {
-            text.push("pub mod Of");
-            text.push(file.as_str());
-            text.push("\n");
-        }
-        let mut name = Text::new(self.alloc);
-        name.push("specs/Lib.antt");
-        self.add_file(&name, text);
-        let mut name = Text::new(self.alloc);
-        name.push("specs/Schema.antt");
-        let definitions = std::mem::replace(&mut self.definitions, Text::new(self.alloc));
-        self.add_file(&name, definitions);
-    }
-}
-
-// Whether a field is in its struct's data section.
-fn is_in_data(of: Type) -> bool {
-    of.lists == 0 && of.base.bits() > 0
-}
-
-// Writes the comment of a getter.
-fn begin_comment(module: &mut Module, ordinal: Option<u16>, values: &Values) {
-    module.body.fill("    /// ~name~ ", values);
-    if let Some(ordinal) = ordinal {
-        module.body.push("@");
-        module.body.push_number(u64::from(ordinal));
-        module.body.push(" ");
-    }
-    module.body.fill(":~of~\n", values);
-}
-
-// Writes the line of the root module for a declaration without code.
-fn not_written(alloc: Global, to: &mut Text, node: &Node, what: &str) {
-    let mut values = Values::new(alloc);
-    values.put("full", node.full.as_str());
-    values.put("what", what);
-    to.fill("//!\n//! Not written: `~full~`, ~what~.\n", &values);
 }
 
 // Puts the variants of an enum, what reads them, and their numbers. `values` has the enum's type and
@@ -555,19 +416,6 @@ fn members(alloc: Global, it: &Struct) -> Names {
     names
 }
 
-// The name of an enum: the last part of its full name.
-fn type_of(alloc: Global, node: &Node) -> Text {
-    let full = node.full.as_str();
-    let mut name = match full.rsplit_once('.') {
-        Some((_, last)) => capitalized(alloc, last),
-        None => capitalized(alloc, full),
-    };
-    if VARIANT_WORDS.contains(&name.as_str()) {
-        name.push_char('_');
-    }
-    name
-}
-
 // The definition of a field of a data section: `width` bits, from the field at `offset` on.
 fn bits_in(alloc: Global, offset: u32, width: u64) -> Text
     requires { width ≤ 64 }
@@ -579,15 +427,6 @@ fn bits_in(alloc: Global, offset: u32, width: u64) -> Text
     text.push_number(width);
     text.push(" t");
     text
-}
-
-// Writes a comment in place of a getter.
-fn skip(module: &mut Module, why: &str, values: &mut Values) {
-    values.put("why", why);
-    module.begin();
-    module
-        .body
-        .fill("    // ~name~ isn't written: ~why~.\n", values);
 }
 
 // Writes the getter of the enum `name` of the module `of`, from the getter's name on.
@@ -608,7 +447,10 @@ fn write_one(module: &mut Module, base: Base, values: &mut Values) {
         matches!(base, Base::Text | Base::Data | Base::Struct),
         values,
     );
-    module.body.fill(pointer_template(base), values);
+    let has_default = !values.get("default").is_empty();
+    module
+        .body
+        .fill(pointer_template(base, has_default), values);
 }
 
 // What such a getter returns.
@@ -622,8 +464,9 @@ fn pointer_result(base: Base) -> &'static str {
 }
 
 // The template of such a getter.
-fn pointer_template(base: Base) -> &'static str {
+fn pointer_template(base: Base, has_default: bool) -> &'static str {
     match base {
+        Base::Struct if has_default => templates::STRUCT_OR,
         Base::Text => templates::TEXT,
         Base::Data => templates::DATA,
         Base::Struct => templates::STRUCT,
@@ -640,23 +483,33 @@ fn write_list(module: &mut Module, of: Type, values: &mut Values) {
     values.put("reader", reader);
     values.put("element", of.base.rust_type().unwrap_or("()"));
     values.put_filled("gives", list_result(function));
-    if function == "get_structs" {
-        values.put("list", "r.list.reader");
-        values.put_filled("end", templates::STRUCT_LIST);
-    } else {
-        values.put("list", "r.reader");
-        values.put_filled("end", templates::OTHER_LIST);
-    }
+    let has_default = !values.get("default").is_empty();
+    let of_structs = function == "get_structs";
+    values.put(
+        "list",
+        if of_structs {
+            "r.list.reader"
+        } else {
+            "r.reader"
+        },
+    );
+    values.put_filled("end", list_end(of_structs, has_default));
     module.sign(true, values);
-    module.body.fill(templates::LIST, values);
+    let template = if has_default {
+        templates::LIST_OR
+    } else {
+        templates::LIST
+    };
+    module.body.fill(template, values);
 }
 
-// The element size of a list.
-fn element_size(of: Type) -> &'static str {
-    if of.lists == 1 {
-        of.base.element_size()
-    } else {
-        "Pointer"
+// How such a getter ends.
+fn list_end(of_structs: bool, has_default: bool) -> &'static str {
+    match (of_structs, has_default) {
+        (true, false) => templates::STRUCT_LIST,
+        (true, true) => templates::STRUCT_LIST_OR,
+        (false, false) => templates::OTHER_LIST,
+        (false, true) => templates::OTHER_LIST_OR,
     }
 }
 
@@ -666,20 +519,6 @@ fn list_result(function: &str) -> &'static str {
         "get_structs" => "Result<~path~Readers<'a, A>, ErrorKind>",
         "get_numbers" => "Result<~reader~<'a, A, ~element~>, ErrorKind>",
         _ => "Result<~reader~<'a, A>, ErrorKind>",
-    }
-}
-
-// The function of `typed_reading` that reads a list, and the type that it returns.
-fn list_kind(of: Type) -> (&'static str, &'static str) {
-    if of.lists > 1 {
-        return ("get_pointers", "PointersReader");
-    }
-    match of.base {
-        Base::Struct => ("get_structs", "StructsReader"),
-        Base::Text => ("get_texts", "TextsReader"),
-        Base::Data => ("get_data_list", "DataListReader"),
-        Base::Interface | Base::AnyPointer => ("get_pointers", "PointersReader"),
-        _ => ("get_numbers", "NumbersReader"),
     }
 }
 
@@ -694,10 +533,11 @@ fn numbers_of(alloc: Global, bytes: &[u8]) -> Text {
     numbers
 }
 
-// Bytes as a literal of Rust's.
+// Bytes as a literal of Rust's, in the layout of `rt fmt` after `let default =`.
 fn literal_of(alloc: Global, bytes: &[u8]) -> Text {
     let mut literal = Text::new(alloc);
-    literal.push("b\"");
+    let fits = bytes.len() <= 18;
+    literal.push(if fits { " b\"" } else { "\n            b\"" });
     for byte in bytes {
         literal.push_byte(*byte);
     }

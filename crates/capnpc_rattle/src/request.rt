@@ -1,9 +1,11 @@
 //! Reads the schema compiler's request, a `CodeGeneratorRequest`, by generated readers.
 
+use crate::defaults::copied;
 use crate::model::{Base, Default, Field, FieldKind, Node, NodeKind, Slot, Struct, Type};
 use crate::noted::Noted;
 use crate::text::Text;
 use capnp_arena_traits::arena::ReaderArena;
+use capnp_readers::readers::PointerReader;
 use capnp_words::error::ErrorKind;
 use capnp_words::read_limiter::ReadLimiter;
 use schema_reading::{
@@ -77,6 +79,7 @@ fn read_node<A: ReaderArena>(
     let kind = read_kind(from, lim, noted);
     Node {
         id: from.get_id(),
+        scope: from.get_scope_id(),
         full: noted.copy(full),
         snake: noted.snake(full),
         module: String::new(noted.alloc()),
@@ -152,9 +155,12 @@ fn read_struct<A: ReaderArena>(
     }
     Struct {
         is_group: from.get_is_group(),
+        data_words: from.get_data_word_count(),
+        pointers: from.get_pointer_count(),
         members: from.get_discriminant_count(),
         tag_offset: from.get_discriminant_offset(),
         which: String::new(noted.alloc()),
+        tag: String::new(noted.alloc()),
         fields,
     }
 }
@@ -182,6 +188,9 @@ fn read_field<A: ReaderArena>(
     let kind = read_field_kind(from, lim, noted);
     Field {
         name: noted.copy(name),
+        snake: String::new(noted.alloc()),
+        spec: String::new(noted.alloc()),
+        default_spec: String::new(noted.alloc()),
         ordinal: ordinal_of(from.get_ordinal()),
         discriminant: from.get_discriminant_value(),
         kind,
@@ -301,11 +310,11 @@ fn read_default<A: ReaderArena>(
     match from.which() {
         Ok(value_which::Which::Text) => bytes(from.get_text(lim), noted),
         Ok(value_which::Which::Data) => bytes(from.get_data(lim), noted),
-        Ok(value_which::Which::List) => pointer(from.has_list()),
-        Ok(value_which::Which::Struct) => pointer(from.has_struct()),
-        Ok(value_which::Which::AnyPointer) => pointer(from.has_any_pointer()),
+        Ok(value_which::Which::List) => words(from.get_list(), lim, noted),
+        Ok(value_which::Which::Struct) => words(from.get_struct(), lim, noted),
+        Ok(value_which::Which::AnyPointer) => words(from.get_any_pointer(), lim, noted),
         Ok(which) => number(bits_of(from, which), signed_of(from, which), noted),
-        Err(_) => Default::Pointer,
+        Err(_) => Default::Unknown,
     }
 }
 
@@ -365,11 +374,17 @@ fn bytes(read: Result<&[u8], ErrorKind>, noted: &mut Noted) -> Default {
     Default::Bytes(noted.copy_bytes(bytes))
 }
 
-// The default of a list, a struct, or any pointer.
-fn pointer(is_set: bool) -> Default {
-    if is_set {
-        Default::Pointer
-    } else {
-        Default::Zero
+// The default of a struct, a list, or any pointer.
+fn words<A: ReaderArena>(
+    from: PointerReader<'_, A>,
+    lim: &mut ReadLimiter,
+    noted: &mut Noted,
+) -> Default {
+    if from.is_null() {
+        return Default::Zero;
+    }
+    match noted.got(copied(noted.alloc(), from, lim)) {
+        Some(words) => Default::Words(words),
+        None => Default::Zero,
     }
 }

@@ -18,8 +18,6 @@ impl<'a, A: ReaderArena> Clone for Reader<'a, A> {
 }
 
 impl<'a, A: ReaderArena> Copy for Reader<'a, A> {}
-
-impl<'a, A: ReaderArena> Reader<'a, A> {
 ";
 
 /// The root of a message, which can be a struct, and no group.
@@ -163,7 +161,7 @@ pub const BYTES: &str = "        value::get_~kind~(&self.reader, ~index~, lim)
 ";
 
 /// How a text or data with a default value is returned.
-pub const BYTES_OR: &str = "        let default = ~literal~;
+pub const BYTES_OR: &str = "        let default =~literal~;
         value::get_~kind~_or(&self.reader, ~index~, default, lim)
 ";
 
@@ -180,6 +178,71 @@ pub const STRUCT: &str =
     {
         let reader = value::get_struct(&self.reader, ~index~, lim)?;
         Ok(~path~Reader { reader })
+    }
+";
+
+/// A struct with a default value.
+pub const STRUCT_OR: &str =
+    "        ensures value { (t : Tree) → ShowsStructOf A.ReaderArena self.now.reader t
+            → ~spec~ t ≢ Null → IfOk result (λ r.
+            ShowsStructOf A.ReaderArena r.reader (~spec~ t)) }
+        ensures default { (t d : Tree) → ShowsStructOf A.ReaderArena self.now.reader t
+            → ~spec~ t ≡ Null
+            → IsDefault ~default~ d
+            → IfOk result (λ r. ShowsStructOf A.ReaderArena r.reader d) }
+        ensures answered { let start = source_start A.ReaderArena self.now.reader.source in
+            (t : Tree) (shows : ShowsStructOf A.ReaderArena self.now.reader t)
+            → ~spec~ t ≢ Null
+            → IsStructOrNull (~spec~ t)
+            → Affords start.charging lim.old (child_cost A.ReaderArena shows ~index~)
+            → IsOk result }
+        ensures default_answered { (t d : Tree) → ShowsStructOf A.ReaderArena self.now.reader t
+            → ~spec~ t ≡ Null
+            → IsDefault ~default~ d
+            → IsStructOrNull d → IsOk result }
+    {
+        let default =~literal~;
+        match value::get_struct_or(&self.reader, ~index~, default, lim) {
+            Ok(reader) => Ok(~path~Reader { reader }),
+            Err(k) => Err(k),
+        }
+    }
+";
+
+/// A list with a default value.
+pub const LIST_OR: &str =
+    "        ensures value { (t : Tree) → ShowsStructOf A.ReaderArena self.now.reader t
+            → ~spec~ t ≢ Null → IfOk result (λ r.
+            ShowsListOf A.ReaderArena ~list~ (~spec~ t)) }
+        ensures default { (t d : Tree) → ShowsStructOf A.ReaderArena self.now.reader t
+            → ~spec~ t ≡ Null
+            → IsDefault ~default~ d
+            → IfOk result (λ r. ShowsListOf A.ReaderArena ~list~ d) }
+        ensures answered { let start = source_start A.ReaderArena self.now.reader.source in
+            (t : Tree) (shows : ShowsStructOf A.ReaderArena self.now.reader t)
+            → ~spec~ t ≢ Null
+            → FitsSize ~size~ (~spec~ t)
+            → Affords start.charging lim.old (child_cost A.ReaderArena shows ~index~)
+            → IsOk result }
+        ensures default_answered { (t d : Tree) → ShowsStructOf A.ReaderArena self.now.reader t
+            → ~spec~ t ≡ Null
+            → IsDefault ~default~ d
+            → FitsSize ~size~ d → IsOk result }
+    {
+        let default =~literal~;
+~end~";
+
+/// How a list of structs with a default value is returned.
+pub const STRUCT_LIST_OR: &str =
+    "        match list::get_structs_or(&self.reader, ~index~, default, lim) {
+            Ok(list) => Ok(~path~Readers { list }),
+            Err(k) => Err(k),
+        }
+    }
+";
+
+/// How another list with a default value is returned.
+pub const OTHER_LIST_OR: &str = "        list::~get~_or(&self.reader, ~index~, default, lim)
     }
 ";
 
@@ -266,6 +329,13 @@ abbrev pub ~spec~ : Tree → ~type~
 ~spec~ t = ~value~
 ";
 
+/// The definition of the default value of a struct or a list.
+pub const DEFAULT: &str = "
+-- ~about~
+abbrev pub ~spec~ : List ℕ
+~spec~ = ~value~
+";
+
 /// What is before the definitions of the fields.
 pub const DEFINITIONS: &str = "-- What the fields are in a value.
 use Rattle.std.specs.Prelude.{ℕ, List, bit_xor, ◌∷◌, []}
@@ -274,6 +344,14 @@ use Rattle.capnp_readers.specs.Values.{list_numbers, text_bytes}
 use Rattle.typed_reading.specs.Values.{bits_in, child, data_or, text_or}
 ";
 
+/// How a module imports the definitions of sections of structs.
+pub const SIZES_IMPORT: &str = "ghost use Rattle.~crate~.specs.Sizes.{~specs~};
+";
+
+/// How a module imports the definitions of fields.
+pub const SPECS_IMPORT: &str = "ghost use Rattle.~reading~.specs.Schema.{~specs~};
+";
+
 /// How a module imports the numbers of an enum.
-pub const NUMBERS_IMPORT: &str = "ghost use Rattle.~crate~.specs.Of~file~.{~module~_number};
+pub const NUMBERS_IMPORT: &str = "ghost use Rattle.~reading~.specs.Of~file~.{~module~_number};
 ";

@@ -26,6 +26,13 @@ impl Text {
         }
     }
 
+    /// Appends texts.
+    pub fn push_all(&mut self, parts: &[&str]) {
+        for part in parts {
+            self.push(part);
+        }
+    }
+
     /// Appends a character.
     pub fn push_char(&mut self, part: char) {
         if self.text.push(part).is_err() {
@@ -77,6 +84,11 @@ impl Text {
         self.has_failed = self.has_failed || has_failed;
     }
 
+    /// Whether memory was lacking for a part of it.
+    pub fn has_failed(&self) -> bool {
+        self.has_failed
+    }
+
     /// The text.
     pub fn as_str(&self) -> &str {
         self.text.as_str()
@@ -117,7 +129,7 @@ impl Values {
         }
     }
 
-    /// Adds a word that stands for what is in `text`.
+    /// Adds a word that stands for what is in `text`, from now on.
     pub fn put_text(&mut self, word: &'static str, text: Text) {
         match text.whole() {
             Ok(text) => {
@@ -152,7 +164,7 @@ impl Values {
 
     /// What stands for a word; nothing if it isn't there.
     pub fn get(&self, word: &str) -> &str {
-        match self.values.iter().find(|it| it.word == word) {
+        match self.values.iter().rev().find(|it| it.word == word) {
             Some(value) => value.text.as_str(),
             None => "",
         }

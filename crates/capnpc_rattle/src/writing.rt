@@ -1,12 +1,12 @@
 //! Writes the text of generated files.
 
-use crate::imports::{GHOST_IMPORTS, IMPORTS, ImportsOf};
+use crate::imports::Kind;
 use crate::names::joined;
 use crate::templates;
 use crate::text::{Names, Text, Values};
 use std::alloc::Global;
 
-// Two imports that `rt fmt` makes one of. They are the last of a module.
+// Two imports that `rt fmt` makes one of. They are the last of a module of readers.
 const BOTH: &str = "use typed_reading::list;\nuse typed_reading::value;\n";
 
 /// A module as it grows.
@@ -19,6 +19,8 @@ pub struct Module {
     pub body: Text,
     /// The definitions of fields that it names.
     pub specs: Names,
+    /// The definitions of sections of structs that it names.
+    pub sizes: Names,
     /// The modules whose numbers it names.
     pub numbers: Names,
     /// The modules that it names.
@@ -35,14 +37,15 @@ impl Module {
             name,
             body: Text::new(alloc),
             specs: Names::new(alloc),
+            sizes: Names::new(alloc),
             numbers: Names::new(alloc),
             modules: Names::new(alloc),
         }
     }
 
-    /// Begins an item of an `impl` block, with an empty line unless it is the first.
+    /// Begins an item of an `impl` block, with an empty line unless it is the first of the text.
     pub fn begin(&mut self) {
-        if !self.body.as_str().ends_with("{\n") {
+        if !self.body.as_str().is_empty() {
             self.body.push("\n");
         }
     }
@@ -56,6 +59,108 @@ impl Module {
             self.body.push(line.as_str());
         } else {
             self.body.fill(long_signature(has_limiter), values);
+        }
+    }
+
+    /// Appends the first line of a builder's call, with these parameters. `values` has its `start` and
+    /// its `end`.
+    pub fn sign_builder(&mut self, params: &str, values: &Values) {
+        let mut start = Text::new(self.alloc);
+        start.fill("~start~", values);
+        let mut end = Text::new(self.alloc);
+        end.fill("~end~", values);
+        end.push("\n");
+        self.items("    ", start.as_str(), params, end.as_str(), 100);
+    }
+
+    /// Appends a call, which is a statement of a body: what is before it, the function, the arguments
+    /// with `, ` between them, and what is after it.
+    pub fn call(&mut self, before: &str, function: &str, args: &str, after: &str) {
+        let mut start = Text::new(self.alloc);
+        start.push(before);
+        start.push(function);
+        self.items("        ", start.as_str(), args, after, 60);
+    }
+
+    // Appends items in parentheses: in one line if they have at most `width` columns and the line has at
+    // most 100, and otherwise a line for each.
+    fn items(&mut self, indent: &str, start: &str, items: &str, end: &str, width: usize) {
+        let mut line = Text::new(self.alloc);
+        line.push_all(&[indent, start, "(", items, ")", end]);
+        let first = line.as_str().lines().next().unwrap_or("");
+        if items.len() <= width && first.len() <= 100 {
+            self.body.append(&line);
+            return;
+        }
+        self.body.push_all(&[indent, start, "(\n"]);
+        self.item_lines(indent, items);
+        self.body.push_all(&[indent, ")", end]);
+    }
+
+    // Appends a line for each item. A `, ` between `<` and `>` doesn't end an item.
+    fn item_lines(&mut self, indent: &str, items: &str) {
+        let mut is_inside = false;
+        for (i, item) in items.split(", ").enumerate() {
+            if is_inside {
+                self.body.push(", ");
+            } else {
+                self.body.push(if i == 0 { "" } else { ",\n" });
+                self.body.push(indent);
+                self.body.push("    ");
+            }
+            is_inside = !item.contains('>') && (is_inside || item.contains('<'));
+            self.body.push(item);
+        }
+        self.body.push(",\n");
+    }
+
+    /// Appends a statement that makes an array: what is before it, and its items with `, ` between
+    /// them.
+    pub fn array(&mut self, before: &str, items: &str) {
+        self.body.push("        ");
+        self.body.push(before);
+        if items.len() <= 60 {
+            self.body.push_all(&["[", items, "];\n"]);
+            return;
+        }
+        self.body.push("[\n");
+        self.item_lines("        ", items);
+        self.body.push("        ];\n");
+    }
+
+    /// Appends `template`, filled. A line with over 100 columns is broken after its first
+    /// `.words`.
+    pub fn fill(&mut self, template: &str, values: &Values) {
+        let mut filled = Text::new(self.alloc);
+        filled.fill(template, values);
+        for line in filled.as_str().split_inclusive('\n') {
+            match line.split_once(".words ") {
+                Some((head, rest)) if line.len() > 101 && line.chars().count() > 101 => {
+                    self.body.push_all(&[head, ".words\n            ", rest]);
+                }
+                _ => self.body.push(line),
+            }
+        }
+        self.body.note(filled.has_failed());
+    }
+
+    /// Where memory comes from.
+    pub fn alloc(&self) -> Global {
+        self.alloc
+    }
+
+    /// Takes the text, and leaves none.
+    pub fn take_body(&mut self) -> Text {
+        std::mem::replace(&mut self.body, Text::new(self.alloc))
+    }
+
+    /// Appends an `impl` block with these items, unless there are none.
+    pub fn push_impl(&mut self, head: &str, items: &Text) {
+        if !items.as_str().is_empty() {
+            self.body.push("\n");
+            self.body.push(head);
+            self.body.append(items);
+            self.body.push("}\n");
         }
     }
 
@@ -74,18 +179,19 @@ impl Module {
     }
 
     /// Returns the text of the module's file.
-    pub fn text(&mut self, about: &str, crate_name: &str) -> Text {
+    pub fn text(&mut self, about: &str, crate_name: &str, reading: &str, kind: Kind) -> Text {
         let alloc = self.alloc;
         let mut text = Text::new(alloc);
         let mut values = Values::new(alloc);
         values.put("about", about);
         values.put("crate", crate_name);
+        values.put("reading", reading);
         text.fill("//! ~about~\n", &values);
         imports(
             alloc,
             &mut text,
             self.body.as_str(),
-            GHOST_IMPORTS,
+            kind.ghost_imports(),
             "ghost use ",
             ".",
         );
@@ -94,29 +200,44 @@ impl Module {
         self.modules.sort();
         use_modules(alloc, &mut text, &self.modules);
         let mut uses = Text::new(alloc);
-        imports(alloc, &mut uses, self.body.as_str(), IMPORTS, "use ", "::");
-        push_uses(&mut text, uses.as_str());
-        text.push("\n");
+        imports(
+            alloc,
+            &mut uses,
+            self.body.as_str(),
+            kind.imports(),
+            "use ",
+            "::",
+        );
+        if !uses.as_str().is_empty() {
+            push_uses(&mut text, uses.as_str());
+            text.push("\n");
+        }
         text.push(self.body.as_str());
         text
     }
 
     // Appends the imports of the crate's own definitions.
     fn own_imports(&self, text: &mut Text, values: &mut Values) {
-        if !self.specs.as_slice().is_empty() {
-            let mut specs = Text::new(self.alloc);
-            self.specs.list(&mut specs);
-            values.put_text("specs", specs);
-            text.fill("ghost use Rattle.~crate~.specs.Schema.{~specs~};\n", values);
-        }
+        self.own_import(templates::SIZES_IMPORT, &self.sizes, text, values);
+        self.own_import(templates::SPECS_IMPORT, &self.specs, text, values);
         for module in self.numbers.as_slice() {
             let mut row = Values::new(self.alloc);
-            row.put("crate", values.get("crate"));
+            row.put("reading", values.get("reading"));
             row.put("module", module.as_str());
             row.put_text("file", joined(self.alloc, module.as_str()));
             text.fill(templates::NUMBERS_IMPORT, &row);
         }
         text.note(self.numbers.has_failed());
+    }
+
+    // Appends an import of some definitions, if there are any.
+    fn own_import(&self, template: &str, names: &Names, text: &mut Text, values: &mut Values) {
+        if !names.as_slice().is_empty() {
+            let mut specs = Text::new(self.alloc);
+            names.list(&mut specs);
+            values.put_text("specs", specs);
+            text.fill(template, values);
+        }
     }
 }
 
@@ -183,25 +304,31 @@ fn use_many(to: &mut Text, modules: &[String]) {
     to.push("\n};\n");
 }
 
-// Appends the imports that a module with this body needs. `start` is what a line begins with, and
-// `dot` what separates names.
-fn imports(alloc: Global, to: &mut Text, body: &str, rows: &[ImportsOf], start: &str, dot: &str) {
-    for (module, names) in rows {
-        let mut found = Text::new(alloc);
-        let count = needed(&mut found, body, names);
-        if count > 0 {
-            to.push(start);
-            to.push(module);
-            import(to, found.as_str(), count, dot);
+// Appends the imports that a module with this body needs. `table` is one of those of `Kind`, `start`
+// is what a line begins with, and `dot` what separates names.
+fn imports(alloc: Global, to: &mut Text, body: &str, table: &str, start: &str, dot: &str) {
+    for block in table.split("\n\n") {
+        if let Some((module, rows)) = block.split_once('\n') {
+            let mut found = Text::new(alloc);
+            let count = needed(&mut found, body, rows);
+            if count > 0 {
+                to.push(start);
+                to.push(module);
+                import(to, found.as_str(), count, dot);
+            }
         }
     }
 }
 
-// Appends the names whose needle is in `body`, with commas between them, and returns how many.
-fn needed(to: &mut Text, body: &str, names: &[(&str, &str)]) -> u64 {
+// Appends the names of the rows whose text is in `body`, with commas between them, and returns how
+// many.
+fn needed(to: &mut Text, body: &str, rows: &str) -> u64 {
     let mut count = 0u64;
-    for (needle, name) in names {
-        if body.contains(*needle) {
+    for row in rows.lines() {
+        if let Some((text, name)) = row.split_once('|')
+            && body.contains(text)
+            && !to.as_str().ends_with(name)
+        {
             if count > 0 {
                 to.push(", ");
             }

@@ -1,0 +1,104 @@
+//! Names the fields of structs, and the definitions of what readers return of them.
+
+use crate::model::{Base, Default, Field, FieldKind, Node, NodeKind, Slot};
+use crate::names::{SPEC_WORDS, snake_case};
+use crate::noted::Noted;
+use crate::text::{Names, Text};
+use std::alloc::Global;
+
+/// Names the fields of each struct, and the definitions.
+pub fn name_definitions(nodes: &mut Vec<Node>, noted: &mut Noted) {
+    let mut taken = Names::new(noted.alloc());
+    for node in nodes.iter() {
+        take_own(noted.alloc(), node, &mut taken);
+    }
+    for node in nodes.iter_mut() {
+        name_struct(node, &mut taken, noted);
+    }
+    noted.note(taken.has_failed());
+}
+
+// Takes the names of the definitions that a declaration has besides those of its fields: of a
+// struct, its sections; of an enum and of a union, the numbers.
+fn take_own(alloc: Global, node: &Node, taken: &mut Names) {
+    match &node.kind {
+        NodeKind::Struct(it) => {
+            if !it.is_group {
+                take_name(alloc, node.module.as_str(), "_size", taken);
+            }
+            if it.members > 0 {
+                take_name(alloc, it.which.as_str(), "_number", taken);
+            }
+        }
+        NodeKind::Enum(_) => take_name(alloc, node.module.as_str(), "_number", taken),
+        NodeKind::File | NodeKind::Other(_) => {}
+    }
+}
+
+// Takes the name that begins with `start` and ends with `end`.
+fn take_name(alloc: Global, start: &str, end: &str, taken: &mut Names) {
+    let mut name = Text::new(alloc);
+    name.push(start);
+    name.push(end);
+    taken.note(alloc, name.as_str());
+}
+
+// Names the fields of a struct, and the definition of the tag of its union.
+fn name_struct(node: &mut Node, taken: &mut Names, noted: &mut Noted) {
+    if let NodeKind::Struct(it) = &mut node.kind {
+        name_fields(node.snake.as_str(), &mut it.fields, taken, noted);
+        if it.members > 0 {
+            it.tag = definition(node.snake.as_str(), "_tag", taken, noted);
+        }
+    }
+}
+
+// Names fields. `node` is the name of their struct in snake case.
+fn name_fields(node: &str, fields: &mut Vec<Field>, taken: &mut Names, noted: &mut Noted) {
+    let mut names = Names::new(noted.alloc());
+    for field in fields.iter_mut() {
+        name_field(node, field, &mut names, taken, noted);
+    }
+    noted.note(names.has_failed());
+}
+
+// Names a field. `names` are those of the fields before it.
+fn name_field(
+    node: &str,
+    field: &mut Field,
+    names: &mut Names,
+    taken: &mut Names,
+    noted: &mut Noted,
+) {
+    let mut name = snake_case(noted.alloc(), field.name.as_str());
+    names.take(noted.alloc(), &[], &mut name);
+    let mut end = Text::new(noted.alloc());
+    end.push("_");
+    end.append(&name);
+    field.snake = noted.whole(name);
+    let (has_spec, has_default) = match &field.kind {
+        FieldKind::Slot(slot) => (has_value(slot), matches!(slot.default, Default::Words(_))),
+        _ => (false, false),
+    };
+    if has_spec {
+        field.spec = definition(node, end.as_str(), taken, noted);
+    }
+    if has_default {
+        let default = definition(field.spec.as_str(), "_default", taken, noted);
+        field.default_spec = default;
+    }
+}
+
+// Whether readers return something of a field.
+fn has_value(slot: &Slot) -> bool {
+    slot.of.lists > 0 || slot.of.base != Base::Void
+}
+
+// Returns the name of a definition that no other has: `start`, `end`, and as many `_` as that takes.
+fn definition(start: &str, end: &str, taken: &mut Names, noted: &mut Noted) -> String {
+    let mut name = Text::new(noted.alloc());
+    name.push(start);
+    name.push(end);
+    taken.take(noted.alloc(), SPEC_WORDS, &mut name);
+    noted.whole(name)
+}
