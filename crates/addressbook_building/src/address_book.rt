@@ -1,22 +1,24 @@
 //! AddressBook
-ghost use Rattle.std.specs.Prelude.{IfOk, IsOk, IsTrue, List, ℕ, ◌*◌, ◌+◌, ◌<◌, ◌^◌, ◌↔◌, ◌≡◌, ◌≢◌};
-ghost use Rattle.addressbook_building.specs.Sizes.{address_book_size, person_size};
-ghost use Rattle.capnp_builders.specs.Held.{HasStruct, Holder, MakesChild, call_in, element_of, pointer_to};
-ghost use Rattle.capnp_builders.specs.Places.{element_place};
+ghost use Rattle.std.specs.Prelude.{◌≡◌, ◌≢◌, ◌<◌, ◌+◌, ◌*◌, ◌^◌, ◌↔◌, ℕ, List, IsTrue, IfOk, IsOk};
+ghost use Rattle.capnp_format.specs.Path.{struct_at, tree_at};
 ghost use Rattle.capnp_format.specs.Segments.{Grows, IsPlace};
-ghost use Rattle.capnp_format.specs.Tree.{Null, Struct, Tree, Trees};
+ghost use Rattle.capnp_format.specs.Tree.{Elements, Null, Struct, Structs, Tree, Trees, element_count};
+ghost use Rattle.capnp_words.specs.Sizes.{sized};
 ghost use Rattle.capnp_making.specs.Made.{nulls, words_of_zero, zero_elements, zero_struct, zero_structs};
 ghost use Rattle.capnp_making.specs.Makes.{MakesObject, call_at};
 ghost use Rattle.capnp_making.specs.Stored.{IsStored};
+ghost use Rattle.capnp_widening.specs.Rooms.{WiderListFits};
 ghost use Rattle.capnp_objects.specs.Wanted.{plain};
 ghost use Rattle.capnp_readers.specs.Values.{ShowsListOf};
 ghost use Rattle.capnp_copies.specs.Rooms.{CanBeCopied};
 ghost use Rattle.capnp_value_copies.specs.ListValues.{list_read};
-ghost use Rattle.capnp_widening.specs.Rooms.{WiderListFits};
+ghost use Rattle.capnp_builders.specs.Held.{HasStruct, Holder, MakesChild, call_in, element_of, pointer_to};
+ghost use Rattle.capnp_builders.specs.Places.{element_place};
 ghost use Rattle.typed_building.specs.Copied.{copied_list};
 ghost use Rattle.typed_building.specs.Opened.{OpensChild, opened_list};
-ghost use Rattle.typed_building.specs.There.{HasStructsPlace, HasStructPlace, call_on};
+ghost use Rattle.typed_building.specs.There.{HasStructPlace, HasStructsPlace, call_on};
 ghost use Rattle.typed_reading.specs.Values.{child};
+ghost use Rattle.addressbook_building.specs.Sizes.{person_size, address_book_size};
 
 use crate::person;
 use capnp_arena_traits::arena::{BuilderArena, ReaderArena};
@@ -26,13 +28,13 @@ use capnp_words::read_limiter::ReadLimiter;
 use capnp_words::wire_pointer::StructSize;
 use typed_building::{copying, list, opening, reading, value};
 
-/// The sections of an AddressBook.
+/// The sections of a struct AddressBook.
 pub const SIZE: StructSize = StructSize {
     data_words: 0,
     pointers: 1,
 };
 
-/// Where an AddressBook is.
+/// The place of a struct AddressBook.
 #[derive(Clone, Copy, Debug)]
 pub struct Builder {
     /// The place of the struct.
@@ -40,7 +42,9 @@ pub struct Builder {
 }
 
 impl Builder {
-    /// Makes the root of a message an AddressBook, whose fields have their default values.
+    /// Makes the root of a message a struct AddressBook.
+    ///
+    /// Its fields have their default values.
     pub fn init_root<A: BuilderArena>(arena: &mut A) -> Result<Self, ErrorKind>
         requires { IsPlace (A.view arena.old).words 0 0 }
         ensures object { MakesObject result (call_at 0 0 (A.view arena.old) (A.view arena.new))
@@ -76,8 +80,9 @@ impl Builder {
         ensures made { (x : Holder) (ws : List ℕ) (ts : Trees) (i : ℕ) → i < count
             → HasStruct (A.view arena.old).words x self.place ws ts
             → IfOk result (λ list. HasStruct (A.view arena.new).words
-            (element_of self.place.segment (self.place.pointers_at + 0) person_size
-            (zero_elements 1 4 count) i) (element_place list.place.size list.place i)
+            (element_of self.place.segment (self.place.pointers_at + 0)
+            person_size (zero_elements 1 4 count) i)
+            (element_place list.place.size list.place i)
             (words_of_zero 1) (nulls 4)) }
         ensures child { MakesChild result
             (call_in self.place (A.view arena.old).words (A.view arena.new).words) 0
@@ -89,8 +94,9 @@ impl Builder {
         }
     }
 
-    /// Returns people, for writing. Makes a list whose structs are too small wider; null is a list
-    /// without elements.
+    /// Returns people, for writing.
+    ///
+    /// Makes structs that are too small larger. Null is a list without elements.
     pub fn get_people<A: BuilderArena>(self, arena: &mut A) -> Result<person::Builders, ErrorKind>
         requires { HasStructPlace (A.view arena.old).words address_book_size self.place }
         ensures fits { WiderListFits
@@ -105,6 +111,15 @@ impl Builder {
             → HasStruct (A.view arena.old).words x self.place ws ts
             → IfOk result (λ list.
             HasStructsPlace (A.view arena.new).words person_size list.place) }
+        ensures made { (x : Holder) (ws : List ℕ) (ts : Trees) (d q : ℕ) (es : Elements) (i : ℕ)
+            (vs : List ℕ) (us : Trees)
+            → HasStruct (A.view arena.old).words x self.place ws ts
+            → opened_list person_size (tree_at ts 0)
+            ≡ Structs d q es
+            → i < element_count es → struct_at es i ≡ Struct vs us
+            → IfOk result (λ list. HasStruct (A.view arena.new).words
+            (element_of self.place.segment (self.place.pointers_at + 0) (sized d q) es i)
+            (element_place list.place.size list.place i) vs us) }
         ensures grows { (x : Holder) (ws : List ℕ) (ts : Trees)
             → HasStruct (A.view arena.old).words x self.place ws ts
             → Grows (A.view arena.old).words (A.view arena.new).words }
@@ -115,7 +130,9 @@ impl Builder {
         }
     }
 
-    /// Sets people to a copy of `from`. Charges `lim` what reading what its pointers lead to costs.
+    /// Sets people to a copy of `from`.
+    ///
+    /// Charges `lim` what reading what its pointers lead to costs.
     pub fn set_people<A: BuilderArena, B: ReaderArena>(
         self,
         arena: &mut A,
@@ -123,7 +140,8 @@ impl Builder {
         lim: &mut ReadLimiter,
     ) -> Result<(), ErrorKind>
         requires { HasStructPlace (A.view arena.old).words address_book_size self.place }
-        ensures fits { CanBeCopied (list_read B.ReaderArena from.now.list.reader) plain lim.old
+        ensures fits { CanBeCopied
+            (list_read B.ReaderArena from.now.list.reader) plain lim.old
             (A.view arena.old) self.place.segment
             → IsOk result }
         ensures grows { Grows (A.view arena.old).words (A.view arena.new).words }
@@ -146,7 +164,7 @@ impl Builder {
     }
 }
 
-/// Where a list of AddressBook is.
+/// The place of a list of AddressBook.
 #[derive(Clone, Copy, Debug)]
 pub struct Builders {
     /// The place of the list.

@@ -1,26 +1,29 @@
 //! Person
-ghost use Rattle.std.specs.Prelude.{IfOk, IsOk, IsTrue, List, [], length, ℕ, ◌*◌, ◌++◌, ◌+◌, ◌<◌, ◌^◌, ◌↔◌, ◌∷◌, ◌≡◌, ◌≢◌};
-ghost use Rattle.addressbook_building.specs.Sizes.{person_phone_number_size, person_size};
-ghost use Rattle.addressbook_reading.specs.Schema.{person_id};
-ghost use Rattle.capnp_builders.specs.Held.{HasStruct, Holder, MakesChild, ReplacesField, SetsField, call_in, element_of, pointer_to};
-ghost use Rattle.capnp_builders.specs.Places.{element_place, field};
+ghost use Rattle.std.specs.Prelude.{◌≡◌, ◌≢◌, ◌<◌, ◌+◌, ◌*◌, ◌^◌, ◌++◌, ◌∷◌, ◌↔◌, [], ℕ, List, IsTrue, IfOk, IsOk, length};
 ghost use Rattle.capnp_format.specs.Numbers.{words_for};
+ghost use Rattle.capnp_format.specs.Path.{struct_at, tree_at};
 ghost use Rattle.capnp_format.specs.Segments.{Grows, IsPlace};
-ghost use Rattle.capnp_format.specs.Tree.{Flat, Null, Struct, Tree, Trees};
+ghost use Rattle.capnp_format.specs.Tree.{Elements, Flat, Null, Struct, Structs, Tree, Trees, element_count};
+ghost use Rattle.capnp_words.specs.Sizes.{sized};
 ghost use Rattle.capnp_making.specs.Made.{nulls, words_of_zero, zero_elements, zero_struct, zero_structs};
 ghost use Rattle.capnp_making.specs.Makes.{MakesObject, call_at};
 ghost use Rattle.capnp_making.specs.Stored.{IsStored};
+ghost use Rattle.capnp_widening.specs.Anew.{OnlyWrites};
+ghost use Rattle.capnp_widening.specs.Rooms.{WiderListFits};
 ghost use Rattle.capnp_objects.specs.Wanted.{plain};
 ghost use Rattle.capnp_readers.specs.Values.{ShowsListOf};
 ghost use Rattle.capnp_copies.specs.Rooms.{CanBeCopied};
 ghost use Rattle.capnp_value_copies.specs.ListValues.{list_read};
-ghost use Rattle.capnp_widening.specs.Rooms.{WiderListFits};
+ghost use Rattle.capnp_builders.specs.Held.{HasStruct, Holder, MakesChild, ReplacesField, SetsField, call_in, element_of, pointer_to};
+ghost use Rattle.capnp_builders.specs.Places.{element_place, field};
 ghost use Rattle.typed_building.specs.Copied.{copied_list};
 ghost use Rattle.typed_building.specs.Opened.{OpensChild, opened_list};
-ghost use Rattle.capnp_widening.specs.Anew.{OnlyWrites};
 ghost use Rattle.typed_building.specs.Slots.{ReplacesSlots, ZeroesSlots};
-ghost use Rattle.typed_building.specs.There.{HasStructsPlace, HasStructPlace, call_on};
+ghost use Rattle.typed_building.specs.There.{HasStructPlace, HasStructsPlace, call_on};
+ghost use Rattle.typed_building.specs.declared.slots.Slot.{Slot};
 ghost use Rattle.typed_reading.specs.Values.{child};
+ghost use Rattle.addressbook_building.specs.Sizes.{person_phone_number_size, person_size};
+ghost use Rattle.addressbook_reading.specs.Schema.{person_id};
 
 use crate::{person_employment, person_phone_number};
 use capnp_arena_traits::arena::{BuilderArena, ReaderArena};
@@ -31,13 +34,13 @@ use capnp_words::wire_pointer::StructSize;
 use typed_building::slots::Slot;
 use typed_building::{copying, groups, list, opening, reading, value};
 
-/// The sections of a Person.
+/// The sections of a struct Person.
 pub const SIZE: StructSize = StructSize {
     data_words: 1,
     pointers: 4,
 };
 
-/// Where a Person is.
+/// The place of a struct Person.
 #[derive(Clone, Copy, Debug)]
 pub struct Builder {
     /// The place of the struct.
@@ -45,7 +48,9 @@ pub struct Builder {
 }
 
 impl Builder {
-    /// Makes the root of a message a Person, whose fields have their default values.
+    /// Makes the root of a message a struct Person.
+    ///
+    /// Its fields have their default values.
     pub fn init_root<A: BuilderArena>(arena: &mut A) -> Result<Self, ErrorKind>
         requires { IsPlace (A.view arena.old).words 0 0 }
         ensures object { MakesObject result (call_at 0 0 (A.view arena.old) (A.view arena.new))
@@ -156,8 +161,9 @@ impl Builder {
         ensures made { (x : Holder) (ws : List ℕ) (ts : Trees) (i : ℕ) → i < count
             → HasStruct (A.view arena.old).words x self.place ws ts
             → IfOk result (λ list. HasStruct (A.view arena.new).words
-            (element_of self.place.segment (self.place.pointers_at + 2) person_phone_number_size
-            (zero_elements 1 1 count) i) (element_place list.place.size list.place i)
+            (element_of self.place.segment (self.place.pointers_at + 2)
+            person_phone_number_size (zero_elements 1 1 count) i)
+            (element_place list.place.size list.place i)
             (words_of_zero 1) (nulls 1)) }
         ensures child { MakesChild result
             (call_in self.place (A.view arena.old).words (A.view arena.new).words) 2
@@ -169,8 +175,9 @@ impl Builder {
         }
     }
 
-    /// Returns phones, for writing. Makes a list whose structs are too small wider; null is a list
-    /// without elements.
+    /// Returns phones, for writing.
+    ///
+    /// Makes structs that are too small larger. Null is a list without elements.
     pub fn get_phones<A: BuilderArena>(
         self,
         arena: &mut A,
@@ -188,6 +195,15 @@ impl Builder {
             → HasStruct (A.view arena.old).words x self.place ws ts
             → IfOk result (λ list.
             HasStructsPlace (A.view arena.new).words person_phone_number_size list.place) }
+        ensures made { (x : Holder) (ws : List ℕ) (ts : Trees) (d q : ℕ) (es : Elements) (i : ℕ)
+            (vs : List ℕ) (us : Trees)
+            → HasStruct (A.view arena.old).words x self.place ws ts
+            → opened_list person_phone_number_size (tree_at ts 2)
+            ≡ Structs d q es
+            → i < element_count es → struct_at es i ≡ Struct vs us
+            → IfOk result (λ list. HasStruct (A.view arena.new).words
+            (element_of self.place.segment (self.place.pointers_at + 2) (sized d q) es i)
+            (element_place list.place.size list.place i) vs us) }
         ensures grows { (x : Holder) (ws : List ℕ) (ts : Trees)
             → HasStruct (A.view arena.old).words x self.place ws ts
             → Grows (A.view arena.old).words (A.view arena.new).words }
@@ -198,7 +214,9 @@ impl Builder {
         }
     }
 
-    /// Sets phones to a copy of `from`. Charges `lim` what reading what its pointers lead to costs.
+    /// Sets phones to a copy of `from`.
+    ///
+    /// Charges `lim` what reading what its pointers lead to costs.
     pub fn set_phones<A: BuilderArena, B: ReaderArena>(
         self,
         arena: &mut A,
@@ -206,7 +224,8 @@ impl Builder {
         lim: &mut ReadLimiter,
     ) -> Result<(), ErrorKind>
         requires { HasStructPlace (A.view arena.old).words person_size self.place }
-        ensures fits { CanBeCopied (list_read B.ReaderArena from.now.list.reader) plain lim.old
+        ensures fits { CanBeCopied
+            (list_read B.ReaderArena from.now.list.reader) plain lim.old
             (A.view arena.old) self.place.segment
             → IsOk result }
         ensures grows { Grows (A.view arena.old).words (A.view arena.new).words }
@@ -229,8 +248,13 @@ impl Builder {
     }
 
     /// employment :group
-    ///
-    /// Makes all fields of the group zero or null.
+    pub fn get_employment(self) -> person_employment::Builder
+        ensures { result.place ≡ self.place }
+    {
+        person_employment::Builder { place: self.place }
+    }
+
+    /// Makes the fields of employment zero or null, and returns its builder.
     pub fn init_employment<A: BuilderArena>(self, arena: &mut A) -> person_employment::Builder
         requires { HasStructPlace (A.view arena.old).words person_size self.place }
         ensures grows { Grows (A.view arena.old).words (A.view arena.new).words }
@@ -243,19 +267,13 @@ impl Builder {
         ensures memory { OnlyWrites (A.view arena.old) (A.view arena.new) }
         ensures place { result.place ≡ self.place }
     {
-        groups::zero_slots(arena, self.place, &[Slot::TwoBytes(2), Slot::Pointer(3)]);
-        person_employment::Builder { place: self.place }
-    }
-
-    /// employment :group
-    pub fn get_employment(self) -> person_employment::Builder
-        ensures { result.place ≡ self.place }
-    {
+        let slots = [Slot::TwoBytes(2), Slot::Pointer(3)];
+        groups::zero_slots(arena, self.place, &slots);
         person_employment::Builder { place: self.place }
     }
 }
 
-/// Where a list of Person is.
+/// The place of a list of Person.
 #[derive(Clone, Copy, Debug)]
 pub struct Builders {
     /// The place of the list.

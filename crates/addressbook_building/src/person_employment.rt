@@ -1,20 +1,19 @@
 //! Person.employment
-ghost use Rattle.std.specs.Prelude.{IfErr, IfOk, IsTrue, List, [], length, ℕ, ◌++◌, ◌+◌, ◌<◌, ◌^◌, ◌↔◌, ◌∷◌, ◌≡◌, ◌≢◌, ◌≤◌};
-ghost use Rattle.addressbook_building.specs.Sizes.{person_size};
-ghost use Rattle.addressbook_reading.specs.OfPersonEmploymentWhich.{person_employment_which_number};
-ghost use Rattle.addressbook_reading.specs.Schema.{person_employment_tag};
-ghost use Rattle.capnp_builders.specs.Held.{HasStruct, Holder, ReplacesField, SetsField, call_in};
-ghost use Rattle.capnp_builders.specs.Places.{field};
+ghost use Rattle.std.specs.Prelude.{◌≡◌, ◌≢◌, ◌<◌, ◌≤◌, ◌+◌, ◌^◌, ◌++◌, ◌∷◌, ◌↔◌, [], ℕ, List, IsTrue, IfOk, IfErr, length};
 ghost use Rattle.capnp_format.specs.Numbers.{words_for};
 ghost use Rattle.capnp_format.specs.Segments.{Grows};
 ghost use Rattle.capnp_format.specs.Tree.{Flat, Null, Struct, Trees};
 ghost use Rattle.capnp_making.specs.Makes.{Allocates};
 ghost use Rattle.capnp_widening.specs.Anew.{OnlyWrites};
+ghost use Rattle.capnp_builders.specs.Held.{HasStruct, Holder, ReplacesField, SetsField, call_in};
+ghost use Rattle.capnp_builders.specs.Places.{field};
 ghost use Rattle.typed_building.specs.Members.{MakesMember, tagged};
 ghost use Rattle.typed_building.specs.There.{HasStructPlace, call_on};
 ghost use Rattle.typed_reading.specs.Values.{child};
+ghost use Rattle.addressbook_building.specs.Sizes.{person_size};
+ghost use Rattle.addressbook_reading.specs.Schema.{person_employment_tag};
+ghost use Rattle.addressbook_reading.specs.OfPersonEmploymentWhich.{person_employment_which_number};
 
-use addressbook_reading::person_employment_which;
 use capnp_arena_traits::arena::BuilderArena;
 use capnp_readers::readers::StructPlace;
 use capnp_words::error::ErrorKind;
@@ -22,7 +21,7 @@ use typed_building::tag::Tag;
 use typed_building::{reading, value};
 use typed_reading::error::NotInSchema;
 
-/// Where a Person.employment is.
+/// The place of the group Person.employment.
 #[derive(Clone, Copy, Debug)]
 pub struct Builder {
     /// The place of the struct.
@@ -68,6 +67,16 @@ impl Builder {
         value::set_text_member(arena, self.place, tag, 3, text)
     }
 
+    /// Whether the pointer of employer is not null.
+    pub fn has_employer<A: BuilderArena>(self, arena: &A) -> bool
+        requires { HasStructPlace (A.view arena.now).words person_size self.place }
+        ensures { (x : Holder) (ws : List ℕ) (ts : Trees)
+            → HasStruct (A.view arena.now).words x self.place ws ts
+            → (IsTrue result ↔ (child 3 (Struct ws ts) ≢ Null)) }
+    {
+        reading::has(arena, self.place, 3)
+    }
+
     /// school @6 :Text
     pub fn set_school<A: BuilderArena>(self, arena: &mut A, text: &[u8]) -> Result<(), ErrorKind>
         requires there { HasStructPlace (A.view arena.old).words person_size self.place }
@@ -85,6 +94,16 @@ impl Builder {
             number: 2,
         };
         value::set_text_member(arena, self.place, tag, 3, text)
+    }
+
+    /// Whether the pointer of school is not null.
+    pub fn has_school<A: BuilderArena>(self, arena: &A) -> bool
+        requires { HasStructPlace (A.view arena.now).words person_size self.place }
+        ensures { (x : Holder) (ws : List ℕ) (ts : Trees)
+            → HasStruct (A.view arena.now).words x self.place ws ts
+            → (IsTrue result ↔ (child 3 (Struct ws ts) ≢ Null)) }
+    {
+        reading::has(arena, self.place, 3)
     }
 
     /// selfEmployed @7 :Void
@@ -110,37 +129,18 @@ impl Builder {
     pub fn which<A: BuilderArena>(
         self,
         arena: &A,
-    ) -> Result<person_employment_which::Which, NotInSchema>
+    ) -> Result<addressbook_reading::person_employment_which::Which, NotInSchema>
         requires { HasStructPlace (A.view arena.now).words person_size self.place }
         ensures value { (x : Holder) (ws : List ℕ) (ts : Trees)
             → HasStruct (A.view arena.now).words x self.place ws ts
-            → IfOk result (λ e.
-            person_employment_which_number e ≡ person_employment_tag (Struct ws ts)) }
+            → IfOk result (λ e. person_employment_which_number e
+            ≡ person_employment_tag (Struct ws ts)) }
         ensures unknown { (x : Holder) (ws : List ℕ) (ts : Trees)
             → HasStruct (A.view arena.now).words x self.place ws ts
             → IfErr result (λ e. (e.0 ≡ person_employment_tag (Struct ws ts))
             × (4 ≤ person_employment_tag (Struct ws ts))) }
     {
-        person_employment_which::of_number(reading::get_number(arena, self.place, 2))
-    }
-
-    /// Whether the pointer of employer is not null.
-    pub fn has_employer<A: BuilderArena>(self, arena: &A) -> bool
-        requires { HasStructPlace (A.view arena.now).words person_size self.place }
-        ensures { (x : Holder) (ws : List ℕ) (ts : Trees)
-            → HasStruct (A.view arena.now).words x self.place ws ts
-            → (IsTrue result ↔ (child 3 (Struct ws ts) ≢ Null)) }
-    {
-        reading::has(arena, self.place, 3)
-    }
-
-    /// Whether the pointer of school is not null.
-    pub fn has_school<A: BuilderArena>(self, arena: &A) -> bool
-        requires { HasStructPlace (A.view arena.now).words person_size self.place }
-        ensures { (x : Holder) (ws : List ℕ) (ts : Trees)
-            → HasStruct (A.view arena.now).words x self.place ws ts
-            → (IsTrue result ↔ (child 3 (Struct ws ts) ≢ Null)) }
-    {
-        reading::has(arena, self.place, 3)
+        let number = reading::get_number(arena, self.place, 2);
+        addressbook_reading::person_employment_which::of_number(number)
     }
 }

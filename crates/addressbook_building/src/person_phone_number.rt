@@ -1,10 +1,5 @@
 //! Person.PhoneNumber
-ghost use Rattle.std.specs.Prelude.{IfErr, IfOk, IsTrue, List, [], length, ℕ, ◌++◌, ◌+◌, ◌<◌, ◌^◌, ◌↔◌, ◌∷◌, ◌≡◌, ◌≢◌, ◌≤◌};
-ghost use Rattle.addressbook_building.specs.Sizes.{person_phone_number_size};
-ghost use Rattle.addressbook_reading.specs.OfPersonPhoneNumberType.{person_phone_number_type_number};
-ghost use Rattle.addressbook_reading.specs.Schema.{person_phone_number_type};
-ghost use Rattle.capnp_builders.specs.Held.{HasStruct, Holder, MakesChild, ReplacesField, SetsField, call_in, pointer_to};
-ghost use Rattle.capnp_builders.specs.Places.{element_place, field};
+ghost use Rattle.std.specs.Prelude.{◌≡◌, ◌≢◌, ◌<◌, ◌≤◌, ◌+◌, ◌^◌, ◌++◌, ◌∷◌, ◌↔◌, [], ℕ, List, IsTrue, IfOk, IfErr, length};
 ghost use Rattle.capnp_format.specs.Numbers.{words_for};
 ghost use Rattle.capnp_format.specs.Segments.{Grows, IsPlace};
 ghost use Rattle.capnp_format.specs.Tree.{Flat, Null, Struct, Tree, Trees};
@@ -12,11 +7,15 @@ ghost use Rattle.capnp_making.specs.Made.{nulls, words_of_zero, zero_struct};
 ghost use Rattle.capnp_making.specs.Makes.{MakesObject, call_at};
 ghost use Rattle.capnp_making.specs.Stored.{IsStored};
 ghost use Rattle.capnp_widening.specs.Anew.{OnlyWrites};
-ghost use Rattle.typed_building.specs.There.{HasStructsPlace, HasStructPlace, call_on};
+ghost use Rattle.capnp_builders.specs.Held.{HasStruct, Holder, MakesChild, ReplacesField, SetsField, call_in, pointer_to};
+ghost use Rattle.capnp_builders.specs.Places.{element_place, field};
+ghost use Rattle.typed_building.specs.There.{HasStructPlace, HasStructsPlace, call_on};
 ghost use Rattle.typed_reading.specs.Values.{child};
+ghost use Rattle.addressbook_building.specs.Sizes.{person_phone_number_size};
+ghost use Rattle.addressbook_reading.specs.Schema.{person_phone_number_type};
+ghost use Rattle.addressbook_reading.specs.OfPersonPhoneNumberType.{person_phone_number_type_number};
 
 use crate::person_phone_number_type;
-use addressbook_reading::person_phone_number_type::Type_;
 use capnp_arena_traits::arena::BuilderArena;
 use capnp_readers::readers::{ListPlace, StructPlace};
 use capnp_words::error::ErrorKind;
@@ -24,13 +23,13 @@ use capnp_words::wire_pointer::StructSize;
 use typed_building::{list, reading, value};
 use typed_reading::error::NotInSchema;
 
-/// The sections of a Person.PhoneNumber.
+/// The sections of a struct Person.PhoneNumber.
 pub const SIZE: StructSize = StructSize {
     data_words: 1,
     pointers: 1,
 };
 
-/// Where a Person.PhoneNumber is.
+/// The place of a struct Person.PhoneNumber.
 #[derive(Clone, Copy, Debug)]
 pub struct Builder {
     /// The place of the struct.
@@ -38,7 +37,9 @@ pub struct Builder {
 }
 
 impl Builder {
-    /// Makes the root of a message a Person.PhoneNumber, whose fields have their default values.
+    /// Makes the root of a message a struct Person.PhoneNumber.
+    ///
+    /// Its fields have their default values.
     pub fn init_root<A: BuilderArena>(arena: &mut A) -> Result<Self, ErrorKind>
         requires { IsPlace (A.view arena.old).words 0 0 }
         ensures object { MakesObject result (call_at 0 0 (A.view arena.old) (A.view arena.new))
@@ -84,7 +85,7 @@ impl Builder {
 
     /// type @1 :Person.PhoneNumber.Type
     #[tactic(auto, using(typed_building::proofs::Sets::sets_as, typed_building::proofs::Sets::replaces_as))]
-    pub fn set_type<A: BuilderArena>(self, arena: &mut A, value: Type_)
+    pub fn set_type<A: BuilderArena>(self, arena: &mut A, value: person_phone_number_type::Type_)
         requires { HasStructPlace (A.view arena.old).words person_phone_number_size self.place }
         ensures grows { Grows (A.view arena.old).words (A.view arena.new).words }
         ensures sets { SetsField
@@ -104,22 +105,26 @@ impl Builder {
     }
 
     /// Returns type.
-    pub fn get_type<A: BuilderArena>(self, arena: &A) -> Result<Type_, NotInSchema>
+    pub fn get_type<A: BuilderArena>(
+        self,
+        arena: &A,
+    ) -> Result<person_phone_number_type::Type_, NotInSchema>
         requires { HasStructPlace (A.view arena.now).words person_phone_number_size self.place }
         ensures value { (x : Holder) (ws : List ℕ) (ts : Trees)
             → HasStruct (A.view arena.now).words x self.place ws ts
-            → IfOk result (λ e.
-            person_phone_number_type_number e ≡ person_phone_number_type (Struct ws ts)) }
+            → IfOk result (λ e. person_phone_number_type_number e
+            ≡ person_phone_number_type (Struct ws ts)) }
         ensures unknown { (x : Holder) (ws : List ℕ) (ts : Trees)
             → HasStruct (A.view arena.now).words x self.place ws ts
             → IfErr result (λ e. (e.0 ≡ person_phone_number_type (Struct ws ts))
             × (3 ≤ person_phone_number_type (Struct ws ts))) }
     {
-        person_phone_number_type::of_number(reading::get_number(arena, self.place, 0))
+        let number = reading::get_number(arena, self.place, 0);
+        person_phone_number_type::of_number(number)
     }
 }
 
-/// Where a list of Person.PhoneNumber is.
+/// The place of a list of Person.PhoneNumber.
 #[derive(Clone, Copy, Debug)]
 pub struct Builders {
     /// The place of the list.
