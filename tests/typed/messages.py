@@ -1,10 +1,11 @@
 """Random schemas and random messages, and what is compared: what a program prints by generated readers, with what `capnp
 decode` prints."""
 import random
+import re
 import struct
 import subprocess
 
-from schema import BITS, NO_DISCRIMINANT, always, kind, members, name_of, parsed, unquoted, values
+from schema import BITS, NO_DISCRIMINANT, always, has_default, kind, members, name_of, parsed, unquoted, values
 
 NUMBERS = [name for name in BITS if name != 'enum']
 SHOWN = {'void': 'Void', 'bool': 'Bool', 'text': 'Text', 'data': 'Data', 'float32': 'Float32', 'float64': 'Float64'}
@@ -13,20 +14,33 @@ SHOWN |= {f'{sign}int{bits}': f'{"U" if sign else ""}Int{bits}' for sign in ('',
 WORDS = ['type', 'match', 'self', 'in', 'data', 'record', 'module', 'where', 'open', 'list', 'value', 'result', 'let', 'ghost', 'number', 'fooBar', 'httpURL', 'x1']
 
 
+def older(lines, fields):
+    """A struct as it was when it had this many fields. A union with one member isn't one."""
+    kept = [line for line in lines if all(int(at) < fields for at in re.findall(r'@(\d+)', line))]
+    union = next((i for i, line in enumerate(kept) if line.endswith('union {')), None)
+    return kept[:union] if union is not None and len(kept) - union < 4 else kept
+
+
 class RandomSchema:
-    """A schema of structs that refer to one another, with enums, unions and groups."""
+    """A schema of structs that refer to one another, with enums, unions and groups. Its text is `text`; `old` is that of an old
+    version of it, whose structs and enums lack their last parts."""
 
     def __init__(self, seed, structs, fields):
         self.random = random.Random(seed)
         self.structs = [f'S{i}' if i else 'Root' for i in range(structs)]
         self.enums = [f'E{i}' for i in range(3)]
-        lines = [f'@0x{0x8000000000000000 | self.random.getrandbits(63):x};']
+        new = [f'@0x{0x8000000000000000 | self.random.getrandbits(63):x};']
+        old = [*new]
         for enum in self.enums:
-            names = self.random.sample(WORDS, self.random.randint(1, 8))
-            lines.append(f'enum {enum} {{ {" ".join(f"{name} @{i};" for i, name in enumerate(names))} }}')
+            names = [f'{name} @{i};' for i, name in enumerate(self.random.sample(WORDS, self.random.randint(1, 8)))]
+            new.append(f'enum {enum} {{ {" ".join(names)} }}')
+            old.append(f'enum {enum} {{ {" ".join(names[:self.random.randint(1, len(names))])} }}')
         for name in self.structs:
-            lines += [f'struct {name} {{', *self.struct(self.random.randint(3, fields)), '}']
-        self.text = '\n'.join(lines) + '\n'
+            lines = self.struct(self.random.randint(3, fields))
+            count = sum(line.count('@') for line in lines)
+            new += [f'struct {name} {{', *lines, '}']
+            old += [f'struct {name} {{', *older(lines, count - self.random.randint(0, min(count, 5))), '}']
+        self.text, self.old = '\n'.join(new) + '\n', '\n'.join(old) + '\n'
 
     def name(self, taken):
         name = self.random.choice(WORDS) if self.random.random() < .5 else f'f{len(taken)}'
@@ -167,7 +181,7 @@ class Compared:
         self.fields += 1
         if what == 'enum':
             names = [name_of(it) for it in self.schema.declared(of)['enum']['enumerants']]
-            same = ours == str(names.index(theirs))
+            same = ours == (str(names.index(theirs)) if theirs in names else theirs)
         elif what.startswith('float'):
             # `capnp decode` prints as many digits as it takes, but of old versions of it only 8
             form, size = ('<f', 4) if what == 'float32' else ('<d', 8)
@@ -215,7 +229,9 @@ class Compared:
         if ours is None or 'group' in field:
             return
         what = kind(field['slot']['type'])
-        if what in ('text', 'data'):
+        if has_default(field):
+            self.value(field['slot']['type'], ours, self.schema.default(name_of(field)), where)
+        elif what in ('text', 'data'):
             if bytes(map(int, ours)) != unquoted(field['slot']['defaultValue'].get(what, '""')):
                 raise Difference(where, ours, 'the default value')
         elif what in BITS or ours != 'null' and field['discriminantValue'] == NO_DISCRIMINANT:

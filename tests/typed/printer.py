@@ -1,6 +1,6 @@
 """Writes a program that prints messages by generated readers: each field, in the notation of `capnp decode`, except that enums
 are numbers, and floats their bits, and that bytes are lists."""
-from schema import BITS, RUST, always, kind, members, name_of
+from schema import BITS, RUST, always, has_default, kind, members, name_of
 
 HEAD = '''//! Prints each message of standard input, by generated readers.
 #![tactic(auto)]
@@ -85,10 +85,10 @@ class Printer:
             module = self.schema.nodes[field['group']['typeId']]['module']
             to.append(f'{pad}print_{module}(rt, r.get_{getter}(), lim, depth - 1)?;\n')
         else:
-            self.slot(field['slot']['type'], getter, to, pad)
+            self.slot(field['slot']['type'], getter, to, pad, has_default(field))
         to.append(f'{pad}print!(rt; ", ")?;\n')
 
-    def slot(self, of, getter, to, pad):
+    def slot(self, of, getter, to, pad, is_never_null):
         what = kind(of)
         if what == 'void':
             to.append(f'{pad}print!(rt; "void")?;\n')
@@ -101,7 +101,7 @@ class Printer:
         elif what in ('text', 'data'):
             to.append(f'{pad}print_bytes(rt, r.get_{getter}(lim)?)?;\n')
         else:
-            to.append(f'{pad}if r.has_{getter}() {{\n')
+            to.append(f'{pad}if {"true" if is_never_null else f"r.has_{getter}()"} {{\n')
             if what == 'struct':
                 to.append(f'{pad}    print_{self.schema.declared(of)["module"]}(rt, r.get_{getter}(lim)?, lim, depth - 1)?;\n')
             elif what == 'list':

@@ -8,8 +8,10 @@ BITS = {'bool': 1, 'int8': 8, 'int16': 16, 'int32': 32, 'int64': 64, 'uint8': 8,
 RUST = {'void': '()', 'bool': 'bool', 'enum': 'u16', 'float32': 'u32', 'float64': 'u64'}
 RUST |= {f'{sign}int{bits}': f'{letter}{bits}' for sign, letter in (('', 'i'), ('u', 'u')) for bits in (8, 16, 32, 64)}
 # Names that the generator doesn't give.
-MODULE_WORDS = set('as break const continue crate else enum extern false fn for if impl in let loop match mod move mut pub ref return self static struct super trait true type unsafe use where while async await dyn abstract become box do final macro override priv typeof unsized virtual yield try gen ghost requires ensures result lib std core main value list syntax prim'.split())
+MODULE_WORDS = set('as break const continue crate else enum extern false fn for if impl in let loop match mod move mut pub ref return self static struct super trait true type unsafe use where while async await dyn abstract become box do final macro override priv typeof unsized virtual yield try gen ghost requires ensures result lib std core main value list syntax prim copying groups opening reading'.split())
+BUILDER_WORDS = {'root'}
 VARIANT_WORDS = {'Self', 'Type', 'Below'}
+ENUM_WORDS = VARIANT_WORDS | {'Number', 'NotInSchema'}
 TOKEN = re.compile(r'\s*("(?:[^"\\]|\\.)*"|0x"[^"]*"|[A-Za-z_][\w]*|<[^>]*>|-?[\w.+-]+|[()\[\]=,])')
 NO_DISCRIMINANT = '65535'
 
@@ -28,6 +30,10 @@ def parsed(text):
     def value():
         nonlocal at
         token, at = tokens[at], at + 1
+        if token == '(' and tokens[at] != ')' and tokens[at + 1] == ')':
+            # a number of an enum that the schema has no name for
+            token, at = tokens[at], at + 2
+            return token
         if token == '(':
             found = {}
             while tokens[at] != ')':
@@ -95,6 +101,11 @@ def kind(of):
     return next(iter(of))
 
 
+def has_default(field):
+    """Whether a field is a struct or a list with a default value."""
+    return kind(field['slot']['type']) in ('struct', 'list') and field['slot']['hadExplicitDefault'] == 'true'
+
+
 def name_of(of):
     """The name of a field, or of an enumerant."""
     return unquoted(of['name']).decode()
@@ -136,7 +147,7 @@ class Schema:
             node['full'] = unquoted(node['displayName']).decode().split(':', 1)[1]
             node['snake'] = snake_case(node['full'])
             node['module'] = take(taken, node['snake'])
-            node['type'] = take(set(VARIANT_WORDS), capitalized(node['full'].split('.')[-1]))
+            node['type'] = take(set(ENUM_WORDS), capitalized(node['full'].split('.')[-1]))
         for node in self.written:
             if 'struct' in node:
                 self.name_fields(node)
@@ -147,13 +158,19 @@ class Schema:
                 node['variants'] = [take(used, capitalized(name_of(it))) for it in node['enum'].get('enumerants', [])]
 
     def name_fields(self, node):
-        """Names the getters of a struct, and the variants of its union."""
-        used, variants = set(), set(VARIANT_WORDS)
+        """Names the calls of a struct's fields, and the variants of its union."""
+        used, set_by, variants = set(), set(BUILDER_WORDS), set(VARIANT_WORDS)
         node['fields'] = node['struct'].get('fields', [])
         for field in node['fields']:
             field['getter'] = take(used, snake_case(name_of(field)))
+            field['setter'] = take(set_by, snake_case(name_of(field)))
         for field in sorted(members(node), key=lambda it: int(it['discriminantValue'])):
             field['variant'] = take(variants, capitalized(name_of(field)))
+
+    def default(self, name):
+        """The default value of a field: a schema has a constant for each, which `capnp` prints."""
+        run = subprocess.run(['capnp', 'eval', self.path, f'{name}Default'], stdout=subprocess.PIPE, check=True)
+        return parsed(run.stdout.decode())
 
     def find(self, full):
         """The declaration with this name."""
