@@ -18,8 +18,8 @@ pub fn name_definitions(nodes: &mut Vec<Node>, noted: &mut Noted) {
     noted.note(taken.has_failed());
 }
 
-// Takes the names of the definitions that a declaration has besides those of its fields: of a
-// struct, its sections; of an enum and of a union, the numbers.
+// Takes the names of the definitions of a declaration itself: of a struct, its sections; of an enum
+// and of a union, the numbers.
 fn take_own(alloc: Global, node: &Node, taken: &mut Names) {
     match &node.kind {
         NodeKind::Struct(it) => {

@@ -246,6 +246,7 @@ Rattle.capnp_making.specs.Makes
 (call_at |call_at
 
 Rattle.capnp_making.specs.Stored
+(IsStored |IsStored
  IsStored |IsStored
 
 Rattle.capnp_widening.specs.Anew

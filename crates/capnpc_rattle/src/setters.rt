@@ -17,7 +17,7 @@ pub fn begin_call(module: &mut Module, ordinal: Option<u16>, of: Type, values: &
     }
 }
 
-/// Writes the call that sets a number, a bit or an enum. `named` has the module and the name of an
+/// Writes the call that sets a number without a sign, a bit or an enum. `named` has the module and the name of an
 /// enum.
 pub fn write_number(
     module: &mut Module,
@@ -97,7 +97,6 @@ fn stored(base: Base) -> &'static str {
     match base {
         Base::Bool => "(cond value 1 0)",
         Base::Enum => "(~enum~_number value)",
-        Base::Int8 | Base::Int16 | Base::Int32 | Base::Int64 => "(cast_unsigned w~bits~ value)",
         _ => "value",
     }
 }
