@@ -1,0 +1,104 @@
+//! The messages of a stream of frames.
+ghost use Rattle.std.specs.Prelude.{◌≡◌};
+ghost use Rattle.std.specs.Iterator.{at_most};
+ghost use Rattle.typed_messages.specs.Steps.{ReadsNext, TakesNext};
+
+use super::reading::try_read_message;
+use crate::message::{MessageReader, ReaderOptions};
+use capnp_arena::arena::ReaderSegments;
+use capnp_framing::devices::Input;
+use capnp_framing::framing::{FrameError, OwnedSegments};
+use std::alloc::Global;
+
+/// The messages of a stream of frames, one after another. Each item is a message, or the error with
+/// which the iterator ends: that of `try_read_message`, or `ReadFailed` if the input had failed
+/// before. At the end of the input, and after an error, the iterator is done: each later call of
+/// `next` returns `None`, and reads nothing. An iterator returns at most `u64::MAX` items.
+///
+/// For a packed stream, the input is a `capnp_packing::packing::UnpackingInput`.
+#[derive(Drop)]
+pub struct Messages<R> {
+    input: R,
+    alloc: Global,
+    options: ReaderOptions,
+    // The most items that are still to come.
+    left: u64,
+}
+
+impl<R: Input> Messages<R> {
+    /// Makes an iterator over the messages of `input`. `options` has the limits for each of them: a
+    /// message may have as many words as the traversal limit.
+    pub fn new(alloc: Global, input: R, options: ReaderOptions) -> Self
+        ensures input { result.input ≡ input }
+        ensures options { result.options ≡ options }
+        ensures left { result.left ≡ u64.MAX }
+    {
+        Messages {
+            input,
+            alloc,
+            options,
+            left: u64::MAX,
+        }
+    }
+
+    /// Returns the input, with what comes after the messages that were read.
+    pub fn into_input(self) -> R
+        ensures { result ≡ self.input }
+    {
+        let Messages {
+            input,
+            alloc: _,
+            options: _,
+            left: _,
+        } = self;
+        input
+    }
+}
+
+/// Reads the next message. Returns `None` at the end of the input, and `ReadFailed` if the input has
+/// failed before.
+fn next_message<R: Input>(
+    alloc: Global,
+    input: &mut R,
+    options: ReaderOptions,
+) -> Option<Result<MessageReader<OwnedSegments>, FrameError>>
+    ensures { ReadsNext R.Input ⟦<OwnedSegments as ReaderSegments>⟧ options
+        input.old input.new result }
+{
+    if input.failed() {
+        return Some(Err(FrameError::ReadFailed));
+    }
+    match try_read_message(alloc, input, options) {
+        Ok(Some(message)) => Some(Ok(message)),
+        Ok(None) => None,
+        Err(error) => Some(Err(error)),
+    }
+}
+
+impl<R: Input + Drop> Iterator for Messages<R> {
+    type Item = Result<MessageReader<OwnedSegments>, FrameError>;
+
+    ghost next_gives = { TakesNext R.Input ⟦<OwnedSegments as ReaderSegments>⟧ };
+
+    ghost remaining = { λ s. at_most s.left };
+
+    fn next(&mut self) -> Option<Result<MessageReader<OwnedSegments>, FrameError>> {
+        if self.left == 0 {
+            return None;
+        }
+        match next_message(self.alloc, &mut self.input, self.options) {
+            Some(Ok(message)) => {
+                self.left -= 1;
+                Some(Ok(message))
+            }
+            Some(Err(error)) => {
+                self.left = 0;
+                Some(Err(error))
+            }
+            None => {
+                self.left = 0;
+                None
+            }
+        }
+    }
+}
