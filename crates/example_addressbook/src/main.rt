@@ -2,36 +2,19 @@
 //! of its message to standard output.
 #![tactic(auto)]
 
-ghost use Rattle.std.specs.Prelude.{◌≡◌, ◌≤◌, ◌<◌, ◌+◌, ◌^◌, IfOk, length};
+ghost use Rattle.std.specs.Prelude.{◌≡◌, ◌<◌, ◌+◌, ◌^◌, length};
 ghost use Rattle.capnp_format.specs.Segments.{Grows, IsPlace};
-ghost use Rattle.capnp_arena_traits.specs.Allocations.{max_segment_words};
 ghost use Rattle.addressbook_building.specs.Sizes.{person_phone_number_size, person_size};
 ghost use Rattle.typed_building.specs.There.{HasStructsPlace, HasStructPlace};
 
 use addressbook_building::person_phone_number_type::Type_;
 use addressbook_building::{address_book, person, person_phone_number};
-use capnp_arena::arena::{BuilderArena, BuilderArenaImpl, HeapAllocator};
+use capnp_arena_traits::arena::BuilderArena;
 use capnp_framing::devices::WriterOutput;
-use capnp_framing::framing::write;
 use capnp_words::error::ErrorKind;
-use std::alloc::Global;
 use std::io;
-use std::process::ExitCode;
-
-/// A message being built, in segments on the heap.
-type Built = BuilderArenaImpl<HeapAllocator>;
-
-/// Makes a message with a null root. Each segment gets room for `words` words, or for more if an
-/// object needs more.
-fn empty_message(alloc: Global, words: u32) -> Result<Built, ErrorKind>
-    requires { words ≤ max_segment_words }
-    ensures { IfOk result (λ b. IsPlace (⟦<Built as BuilderArena>⟧.view b).words 0 0) }
-{
-    let mut built = BuilderArenaImpl::new(alloc, HeapAllocator::new(alloc, words));
-    built.allocate_segment(1)?;
-    let _root = built.allocate(0, 1);
-    Ok(built)
-}
+use typed_messages::message::MessageBuilder;
+use typed_messages::serialize::write_message;
 
 /// Sets the fields of a phone number.
 fn fill_phone<A: BuilderArena>(
@@ -132,11 +115,10 @@ fn build<A: BuilderArena>(arena: &mut A) -> Result<(), ErrorKind>
     fill_people(arena, people)
 }
 
-fn main(rt: HostRuntime) -> anyhow::Result<ExitCode> {
-    let mut built = empty_message(rt.alloc(), 1024)?;
-    build(&mut built)?;
-    let segments = built.get_segments_for_output()?;
+fn main(rt: HostRuntime) -> anyhow::Result<()> {
+    let mut message = MessageBuilder::new(rt.alloc(), 1024)?;
+    build(&mut message.arena)?;
     let mut output = WriterOutput::new(io::writer(&rt));
-    write(&mut output, &segments)?;
-    Ok(ExitCode::SUCCESS)
+    write_message(&mut output, &message)?;
+    Ok(())
 }
