@@ -6,11 +6,14 @@ ghost use Rattle.capnp_format.specs.Tree.{Tree};
 ghost use Rattle.capnp_objects.specs.Source.{levels};
 ghost use Rattle.capnp_readers.specs.Values.{HasStructs, struct_element};
 ghost use Rattle.addressbook_reading.specs.Schema.{address_book_people, person_id};
+ghost use Rattle.typed_messages.specs.Reading.{words_of_message};
 
 use addressbook_reading::address_book;
+use capnp_arena::arena::ReaderSegments;
 use capnp_arena_traits::arena::ReaderArena;
 use capnp_words::error::ErrorKind;
 use capnp_words::read_limiter::ReadLimiter;
+use typed_messages::message::MessageReader;
 
 /// Returns the id of the first person of the address book that a message is, or `None` if there are
 /// no people.
@@ -26,4 +29,16 @@ pub fn first_id<A: ReaderArena>(arena: &A, lim: &mut ReadLimiter) -> Result<Opti
         return Ok(None);
     }
     Ok(Some(people.get(0).get_id()))
+}
+
+/// Like `first_id`, for a message with its limits.
+pub fn first_id_in<S: ReaderSegments>(
+    message: &mut MessageReader<S>,
+) -> Result<Option<u32>, ErrorKind>
+    ensures { (t : Tree) (c : ℕ) → Means (words_of_message S.ReaderSegments message.old)
+        (levels message.old.arena.nesting_limit) 0 0 t c
+        → HasStructs (address_book_people t) → IfOk result (λ first. IfSome first
+        (λ id. id ≡ person_id (struct_element (address_book_people t) 0))) }
+{
+    first_id(&message.arena, &mut message.limiter)
 }
