@@ -1,5 +1,6 @@
 //! Tests of capnp_arena, by its public calls: places and words of segments being read, messages
-//! being built, and refused memory. Also tests of capnp_words, capnp_framing and capnp_packing.
+//! being built, and refused memory. Also tests of capnp_words, capnp_framing, capnp_packing and
+//! typed_messages.
 //! They leave out what the test cases (`tests/cases`), the streams of frames (`tests/streams`) and
 //! the runs of whole programs already show.
 #![tactic(auto)]
@@ -10,6 +11,8 @@ mod asking;
 mod building;
 #[cfg(test)]
 mod framing;
+#[cfg(test)]
+mod messages;
 #[cfg(test)]
 mod names;
 #[cfg(test)]
