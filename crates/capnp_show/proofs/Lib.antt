@@ -1,5 +1,12 @@
 pub mod ObjectLemmas
 pub mod CompareLemmas
+pub mod Adds
 pub mod LineParts
 pub mod Arrays
 pub mod Lines
+pub mod Pieces
+pub mod Told
+pub mod Grows
+pub mod Steps
+pub mod Elements
+pub mod Ends

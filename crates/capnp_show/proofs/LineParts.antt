@@ -175,8 +175,7 @@ ends_in_zero (suc n) (b ∷ bs) l e = ap (λ (zs : List ℕ). b ∷ zs) (ends_in
 pub text_and_zero : (bytes : List ℕ) → reads_as_text bytes ≡ true → bytes ≡ without_last bytes ++ (0 ∷ [])
 text_and_zero [] h = absurd (cc h)
 text_and_zero (b ∷ bs) h =
-    let parts = and_parts _ _ h in
-    let first = and_parts _ _ parts.0 in
+    let first = and_parts _ _ h in
     let zero_last : slice_index_or (b ∷ bs) (length (b ∷ bs) - 1) 255 ≡ 0 = eqb-true _ _ first.0 in
     let len : length (b ∷ bs) ≡ suc (length (b ∷ bs) - 1) = omega arith in
     ends_in_zero (length (b ∷ bs) - 1) (b ∷ bs) len zero_last

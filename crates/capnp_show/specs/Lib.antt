@@ -1,2 +1,6 @@
 pub mod Show
 pub mod Line
+pub mod Numbers
+pub mod Adding
+pub mod Shown
+pub mod ShownParts

@@ -40,12 +40,19 @@ escaped (b ∷ bs) = escape b ++ escaped bs
 abbrev pub is_control : ℕ → Bool
 is_control b = (nat_lt b 32 && not (b == 9 || b == 10 || b == 13)) || b == 127
 
--- UTF-8 bytes, which come after the byte `before`, have such a character, or one from U+0080 to
--- U+009F: 194, and then 128 to 159.
+-- The byte after the byte `before` is such a character, or ends one from U+0080 to U+009F: 194, and
+-- then 128 to 159.
+abbrev pub ends_control : ℕ → ℕ → Bool
+ends_control before b = is_control b || (before == 194 && nat_lt b 160)
+
+-- UTF-8 bytes, which come after the byte `before`, have a control character.
 abbrev pub has_control_after : ℕ → List ℕ → Bool
 has_control_after before [] = false
-has_control_after before (b ∷ bs) =
-    is_control b || (before == 194 && nat_lt b 160) || has_control_after b bs
+has_control_after before (b ∷ bs) = ends_control before b || has_control_after b bs
+
+-- The bytes are UTF-8 without these control characters.
+abbrev pub is_plain_text : List ℕ → Bool
+is_plain_text bytes = is_utf8 bytes && not (has_control_after 0 bytes)
 
 -- The bytes read as text: UTF-8 that ends in one zero byte, without these control characters. The
 -- text is the bytes before that zero byte.
@@ -54,8 +61,7 @@ without_last bytes = take (length bytes - 1) bytes
 
 abbrev pub reads_as_text : List ℕ → Bool
 reads_as_text bytes =
-    slice_index_or bytes (length bytes - 1) 255 == 0 && is_utf8 (without_last bytes)
-    && not (has_control_after 0 (without_last bytes))
+    slice_index_or bytes (length bytes - 1) 255 == 0 && is_plain_text (without_last bytes)
 
 -- A list of bytes: as text if it reads as text, and otherwise in hex digits.
 abbrev pub bytes_member : List ℕ → List ℕ

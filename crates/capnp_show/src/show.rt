@@ -7,6 +7,7 @@ mod message;
 mod objects;
 mod path;
 mod text;
+mod values;
 
 pub use compare::{CompareFault, compare_messages};
 pub use message::{ShowFault, Showing, show_message};

@@ -1,14 +1,23 @@
 //! A message as one line of JSON.
+ghost use Rattle.std.specs.Prelude.{◌≡◌, ◌+◌, ◌*◌, ◌≤◌, ◌≢◌, true, false, codes, length, [], None, Ok};
+ghost use Rattle.capnp_objects.specs.Enter.{object_shape};
+ghost use Rattle.capnp_objects.specs.Reading.{segment_read};
+ghost use Rattle.capnp_pointers.specs.Pointers.{reading};
+ghost use Rattle.capnp_messages.specs.Parts.{PathEnd};
+ghost use Rattle.capnp_messages.specs.PathEnds.{IsObjectRead, end_read, end_result};
+ghost use Rattle.capnp_show.specs.Shown.{IsPlain, Shows, add, array_within, show_elements, show_end};
+ghost use Rattle.capnp_show.specs.Shown.{show_object, show_refusal, show_struct, show_structs, show_within, shown};
 
-use super::objects::{bytes_at, number_at, place_at, pointer_after, pointer_inside, read_object};
+use super::objects::{are_bytes, bytes_at, pointer_after, pointer_inside, read_object};
 use super::path::{PathStep, PathText};
-use super::text::{CUT_OBJECT, Ended, Text, text_of};
+use super::text::{CUT_OBJECT, Ended, Text};
 use capnp_arena_traits::arena::ReaderArena;
-use capnp_messages::messages::ElementPlace;
+use capnp_messages::messages::{ElementPlace, Reached};
 use capnp_objects::object::{Object, Place};
 use capnp_pointers::pointers::Pointer;
+use capnp_words::error::ErrorKind;
 use capnp_words::read_limiter::ReadLimiter;
-use capnp_words::wire_pointer::{ElementSize, StructSize, WirePointerKind};
+use capnp_words::wire_pointer::{StructSize, WirePointerKind};
 use std::alloc::Global;
 
 /// A byte of a line that is looked for, and the innermost object whose text has it. An element of a
@@ -54,7 +63,11 @@ pub(super) struct Json {
 
 impl Json {
     /// Makes an empty line.
-    pub(super) fn new(alloc: Global, lim: ReadLimiter, has_places: bool) -> Self {
+    pub(super) fn new(alloc: Global, lim: ReadLimiter, has_places: bool) -> Self
+        ensures places { result.has_places ≡ has_places }
+        ensures search { result.search ≡ None }
+        ensures shown { shown result ≡ record { text = []; lim = lim; sound = true } }
+    {
         Json {
             text: Text::new(alloc),
             is_sound: true,
@@ -65,7 +78,9 @@ impl Json {
     }
 
     /// Adds a step to the path, if something is looked for. Returns how long the path was before.
-    fn enter(&mut self, step: PathStep) -> Result<usize, Ended> {
+    fn enter(&mut self, step: PathStep) -> Result<usize, Ended>
+        ensures { IsPlain self.old → (result ≡ Ok 0) × (self.new ≡ self.old) }
+    {
         match &mut self.search {
             Some(search) => search.path.enter(step),
             None => Ok(0),
@@ -73,7 +88,9 @@ impl Json {
     }
 
     /// Takes back the steps since the path was `len` bytes long.
-    fn leave(&mut self, len: usize) {
+    fn leave(&mut self, len: usize)
+        ensures { IsPlain self.old → self.new ≡ self.old }
+    {
         if let Some(search) = &mut self.search {
             search.path.leave(len);
         }
@@ -81,7 +98,9 @@ impl Json {
 
     /// Ends the text of an object, which began at `start`. Ends the line, too, if this text has the
     /// byte that is looked for.
-    fn end_object(&mut self, start: usize) -> Result<(), Ended> {
+    fn end_object(&mut self, start: usize) -> Result<(), Ended>
+        ensures { IsPlain self.old → (result ≡ Ok tt) × (self.new ≡ self.old) }
+    {
         let end = self.text.len();
         match &mut self.search {
             Some(search) if start <= search.latest && search.at < end => {
@@ -98,19 +117,31 @@ impl Json {
         number: u64,
         segments: u64,
         words: u64,
-    ) -> Result<(), Ended> {
+    ) -> Result<(), Ended>
+        ensures { IsPlain self.old → (result ≡ Ok tt) × (self.new ≡ self.old) }
+    {
         if !self.has_places {
             return Ok(());
         }
-        self.write_number(b"{\"message\":", number)?;
-        self.write_number(b",\"segments\":", segments)?;
-        self.write_number(b",\"words\":", words)?;
+        self.write_message(number, segments, words)
+    }
+
+    /// Writes the number of the message, and its size, as the first members of an object.
+    fn write_message(&mut self, number: u64, segments: u64, words: u64) -> Result<(), Ended> {
+        self.text.push_keyed(b"{\"message\":", number)?;
+        self.text.push_keyed(b",\"segments\":", segments)?;
+        self.text.push_keyed(b",\"words\":", words)?;
         self.text.push(b",\"root\":")
     }
 
     /// Writes what comes after the root.
-    pub(super) fn write_tail(&mut self) -> Result<(), Ended> {
-        self.text.push(if self.has_places { b"}\n" } else { b"\n" })
+    pub(super) fn write_tail(&mut self) -> Result<(), Ended>
+        ensures { IsPlain self.old → Shows result self.new (add (codes "\n") (shown self.old)) }
+    {
+        if self.has_places {
+            return self.text.push(b"}\n");
+        }
+        self.text.push(b"\n")
     }
 
     /// Replaces the line by one that says that it is cut.
@@ -126,33 +157,34 @@ impl Json {
     }
 
     /// Writes why a pointer can't be read, and ends the object.
-    fn write_refusal(&mut self, name: &str) -> Result<(), Ended> {
+    fn write_refusal(&mut self, name: &str) -> Result<(), Ended>
+        ensures { IsPlain self.old → Shows result self.new (show_refusal name.now (shown self.old)) }
+    {
         self.is_sound = false;
-        self.text.push(b"\"refused\":\"")?;
-        self.text.push(name.as_bytes())?;
-        self.text.push(b"\"}")
-    }
-
-    /// Writes a key, which has what comes before it, and a number.
-    fn write_number(&mut self, key: &[u8], n: u64) -> Result<(), Ended> {
-        self.text.push(key)?;
-        self.text.push_number(n)
+        self.text.push_refusal(name.as_bytes())
     }
 
     /// Writes a key and a word of a segment.
     fn write_place(&mut self, key: &[u8], segment: u64, word: u32) -> Result<(), Ended> {
-        self.write_number(key, segment)?;
-        self.write_number(b",", u64::from(word))?;
+        self.text.push_keyed(key, segment)?;
+        self.text.push_keyed(b",", u64::from(word))?;
         self.text.push(b"],")
     }
 
     /// Begins the object of a pointer: where the pointer is, unless places are left out, and its
     /// landing pad if it is a far pointer.
-    fn write_pointer(&mut self, place: Place) -> Result<(), Ended> {
+    fn write_pointer(&mut self, place: Place) -> Result<(), Ended>
+        ensures { IsPlain self.old → Shows result self.new (add (codes "{") (shown self.old)) }
+    {
         self.text.push(b"{")?;
         if !self.has_places {
             return Ok(());
         }
+        self.write_pointer_place(place)
+    }
+
+    /// Writes where a pointer is, and its landing pad if it is a far pointer.
+    fn write_pointer_place(&mut self, place: Place) -> Result<(), Ended> {
         self.write_place(b"\"pointer\":[", place.segment, place.at)?;
         let word = place.word();
         if word.kind() != WirePointerKind::Far {
@@ -170,95 +202,79 @@ impl Json {
     }
 
     /// Writes where an object starts, unless places are left out.
-    fn write_start(&mut self, start: Place) -> Result<(), Ended> {
+    fn write_start(&mut self, start: Place) -> Result<(), Ended>
+        ensures { IsPlain self.old → (result ≡ Ok tt) × (self.new ≡ self.old) }
+    {
         if !self.has_places {
             return Ok(());
         }
         self.write_place(b"\"at\":[", start.segment, start.at)
     }
 
-    /// Writes the rest of the object of a capability.
-    fn write_capability(&mut self, index: u32) -> Result<(), Ended> {
-        self.write_number(b"\"capability\":", u64::from(index))?;
-        self.text.push(b"}")
-    }
-
-    /// Writes the words of a data section in hex digits.
-    fn write_data(&mut self, start: Place, words: u32) -> Result<(), Ended> {
-        self.text.push(b"\"data\":\"")?;
-        self.text.push_hex(bytes_at(start, 8 * words as usize))?;
-        self.text.push(b"\",")
-    }
-
-    /// Writes the rest of the object of a list of bits or numbers.
-    fn write_flat(&mut self, start: Place, size: ElementSize, count: u32) -> Result<(), Ended> {
-        self.write_start(start)?;
-        match size {
-            ElementSize::Void => {
-                self.write_number(b"\"void\":", u64::from(count))?;
-                self.text.push(b"}")
-            }
-            ElementSize::Byte => self.write_bytes(bytes_at(start, count as usize)),
-            _ => self.write_numbers(start, size, count),
+    /// Writes where a struct or a list starts, unless places are left out.
+    fn write_start_of(&mut self, object: Object) -> Result<(), Ended>
+        ensures { IsPlain self.old → (result ≡ Ok tt) × (self.new ≡ self.old) }
+    {
+        match object {
+            Object::Struct { start, .. }
+            | Object::Flat { start, .. }
+            | Object::Pointers { start, .. }
+            | Object::Structs { start, .. } => self.write_start(start),
+            Object::Null | Object::Capability(_) => Ok(()),
         }
     }
+}
 
-    /// Writes the rest of the object of a list of bytes: as text if they read as text, and otherwise
-    /// in hex digits.
-    fn write_bytes(&mut self, bytes: &[u8]) -> Result<(), Ended> {
-        match text_of(bytes) {
-            Some(text) => {
-                self.text.push(b"\"text\":")?;
-                self.text.push_quoted(text.as_bytes())?;
-                self.text.push(b"}")
-            }
-            None => {
-                self.text.push(b"\"bytes\":\"")?;
-                self.text.push_hex(bytes)?;
-                self.text.push(b"\"}")
-            }
-        }
+/// The step to pointer `index` of a list, if `are_elements` is set, or of a struct.
+fn step_to(are_elements: bool, index: u32) -> PathStep {
+    if are_elements {
+        PathStep::Element(index)
+    } else {
+        PathStep::Pointer(index)
     }
+}
 
-    /// Writes the rest of the object of a list of bits, or of numbers of two, four or eight bytes.
-    /// Those of eight bytes are in quotes, since many readers of JSON round larger numbers.
-    fn write_numbers(&mut self, start: Place, size: ElementSize, count: u32) -> Result<(), Ended> {
-        let (key, quote): (&[u8], &[u8]) = match size {
-            ElementSize::Bit => (b"\"bits\":[", b""),
-            ElementSize::TwoBytes => (b"\"u16\":[", b""),
-            ElementSize::FourBytes => (b"\"u32\":[", b""),
-            _ => (b"\"u64\":[", b"\""),
-        };
-        self.text.push(key)?;
-        for i in 0..count {
-            self.text.push(if i == 0 { b"" } else { b"," })?;
-            self.text.push(quote)?;
-            self.text.push_number(number_at(start, size, i))?;
-            self.text.push(quote)?;
-        }
-        self.text.push(b"]}")
+/// Writes what is at the end of a path, and what is at most `depth` pointers below it; or why there
+/// is nothing.
+pub(super) fn json_end<A: ReaderArena>(
+    end: Result<Reached<'_, A>, ErrorKind>,
+    depth: u32,
+    json: &mut Json,
+) -> Result<(), Ended>
+    ensures { (e : PathEnd) → end_result A.ReaderArena end.entry ≡ Ok e → IsPlain json.old
+        → Shows result json.new (show_end depth e (shown json.old)) }
+{
+    match end {
+        Ok(reached) => json_reached(reached, depth, json),
+        Err(kind) => json.write_no_root(kind.name()),
     }
+}
 
-    /// Writes the rest of the object of a list of structs without words: only their number.
-    fn write_count(&mut self, count: u32) -> Result<(), Ended> {
-        self.write_number(b"\"count\":", u64::from(count))?;
-        self.text.push(b"}")
-    }
-
-    /// Writes the sizes of the elements of a list of structs.
-    fn write_sizes(&mut self, size: StructSize) -> Result<(), Ended> {
-        self.write_number(b"\"data_words\":", u64::from(size.data_words))?;
-        self.write_number(b",\"pointer_count\":", u64::from(size.pointers))?;
-        self.text.push(b",")
+/// Writes what a path leads to, and what is at most `depth` pointers below it.
+fn json_reached<A: ReaderArena>(
+    reached: Reached<'_, A>,
+    depth: u32,
+    json: &mut Json,
+) -> Result<(), Ended>
+    ensures { IsPlain json.old → Shows result json.new
+        (show_end depth (end_read A.ReaderArena reached.entry) (shown json.old)) }
+{
+    match reached {
+        Reached::Pointer(root) => json_pointer(root, depth, json),
+        Reached::Element(element) => json_element(element, depth, json),
     }
 }
 
 /// Writes `element`, and what its pointers lead to, at most `depth` pointers below it.
-pub(super) fn json_element<A: ReaderArena>(
+fn json_element<A: ReaderArena>(
     element: ElementPlace<'_, A>,
     depth: u32,
     json: &mut Json,
-) -> Result<(), Ended> {
+) -> Result<(), Ended>
+    ensures { IsPlain json.old → Shows result json.new (show_struct (array_within depth)
+        element.entry.size.data_words element.entry.size.pointers
+        (reading A.ReaderArena element.entry.first) (add (codes "{") (shown json.old))) }
+{
     json.text.push(b"{")?;
     json.write_start(element.first.place)?;
     json_struct(element.first, element.size, depth, json)
@@ -270,44 +286,61 @@ pub(super) fn json_pointer<A: ReaderArena>(
     from: Pointer<'_, A>,
     depth: u32,
     json: &mut Json,
-) -> Result<(), Ended> {
+) -> Result<(), Ended>
+    ensures { IsPlain json.old → Shows result json.new
+        (show_within depth (reading A.ReaderArena from.entry) (shown json.old)) }
+{
     let start = json.text.len();
-    json_object(from, depth, json)?;
+    json_place(from, depth, json)?;
     json.end_object(start)
 }
 
 /// Writes the text of what the pointer `from` leads to.
 #[cycle(json)]
-fn json_object<A: ReaderArena>(
+fn json_place<A: ReaderArena>(
     from: Pointer<'_, A>,
     depth: u32,
     json: &mut Json,
-) -> Result<(), Ended> {
+) -> Result<(), Ended>
+    ensures { IsPlain json.old → Shows result json.new
+        (show_within depth (reading A.ReaderArena from.entry) (shown json.old)) }
+{
     if from.is_null() {
         return json.text.push(b"null");
     }
     json.write_pointer(from.place)?;
     match read_object(from, &mut json.lim) {
+        Ok(object) => json_object(from, object, depth, json),
         Err(kind) => json.write_refusal(kind.name()),
-        Ok(Object::Null) => json.text.push(b"}"),
-        Ok(Object::Capability(index)) => json.write_capability(index),
-        Ok(Object::Flat { start, size, count }) => json.write_flat(start, size, count),
-        Ok(Object::Struct { start, size }) => {
-            json.write_start(start)?;
-            let first = pointer_inside(from, start, 0);
-            json_struct(first, size, depth, json)
+    }
+}
+
+/// Writes the rest of the text of `object`, which was read from the pointer `from`.
+#[cycle(json)]
+fn json_object<A: ReaderArena>(
+    from: Pointer<'_, A>,
+    object: Object<'_>,
+    depth: u32,
+    json: &mut Json,
+) -> Result<(), Ended>
+    requires { IsObjectRead (reading A.ReaderArena from) object }
+    ensures { IsPlain json.old → Shows result json.new
+        (show_object (array_within depth) (reading A.ReaderArena from.entry)
+        (object_shape object.entry) (shown json.old)) }
+{
+    json.write_start_of(object)?;
+    match object {
+        Object::Null => json.text.push(b"}"),
+        Object::Capability(index) => json.text.push_capability(index),
+        Object::Flat { start, size, count } => json.text.push_flat(start, size, count),
+        Object::Struct { start, size } => {
+            json_struct(pointer_inside(from, start, 0), size, depth, json)
         }
-        Ok(Object::Pointers { start, count }) => {
-            json.write_start(start)?;
+        Object::Pointers { start, count } => {
             json_pointers(true, pointer_inside(from, start, 0), count, depth, json)
         }
-        Ok(Object::Structs { start, size, count }) => {
-            json.write_start(start)?;
-            json.write_sizes(size)?;
-            if size.total() == 0 {
-                return json.write_count(count);
-            }
-            json_elements(pointer_inside(from, start, 0), size, count, depth, json)
+        Object::Structs { start, size, count } => {
+            json_structs(pointer_inside(from, start, 0), size, count, depth, json)
         }
     }
 }
@@ -319,9 +352,18 @@ fn json_struct<A: ReaderArena>(
     size: StructSize,
     depth: u32,
     json: &mut Json,
-) -> Result<(), Ended> {
-    json.write_data(start.place, u32::from(size.data_words))?;
-    let first = pointer_after(start, u32::from(size.data_words));
+) -> Result<(), Ended>
+    requires inside { start.place.at + (size.data_words + size.pointers)
+        ≤ length (segment_read (reading A.ReaderArena start)) }
+    ensures { IsPlain json.old → Shows result json.new
+        (show_struct (array_within depth) size.data_words size.pointers
+        (reading A.ReaderArena start.entry) (shown json.old)) }
+{
+    let words = u32::from(size.data_words);
+    let data = bytes_at(start.place, 8 * words as usize);
+    are_bytes(data);
+    json.text.push_data(data)?;
+    let first = pointer_after(start, words);
     json_pointers(false, first, u32::from(size.pointers), depth, json)
 }
 
@@ -334,31 +376,49 @@ fn json_pointers<A: ReaderArena>(
     count: u32,
     depth: u32,
     json: &mut Json,
-) -> Result<(), Ended> {
-    if count > 0 && depth == 0 {
-        return json.text.push(b"\"cut\":\"depth\"}");
+) -> Result<(), Ended>
+    requires inside { first.place.at + count ≤ length (segment_read (reading A.ReaderArena first)) }
+    ensures { IsPlain json.old → Shows result json.new
+        (array_within depth are_elements count (reading A.ReaderArena first.entry) (shown json.old)) }
+{
+    if depth == 0 {
+        return json.text.push_cut(are_elements, count);
     }
-    json.text.push(if are_elements {
-        b"\"list\":["
-    } else {
-        b"\"pointers\":["
-    })?;
+    json.text.push_array(are_elements)?;
     for i in 0..count {
-        if 0 < i {
-            json.text.push(b",")?;
-        }
-        let len = json.enter(if are_elements {
-            PathStep::Element(i)
-        } else {
-            PathStep::Pointer(i)
-        })?;
+        json.text.push_comma(i)?;
+        let len = json.enter(step_to(are_elements, i))?;
         json_pointer(pointer_after(first, i), depth - 1, json)?;
         json.leave(len);
     }
     json.text.push(b"]}")
 }
 
-/// Writes the elements of a list of structs, which start at `first`, and ends the object.
+/// Writes the rest of the text of a list of structs, whose elements start at `first`.
+#[cycle(json)]
+fn json_structs<A: ReaderArena>(
+    first: Pointer<'_, A>,
+    size: StructSize,
+    count: u32,
+    depth: u32,
+    json: &mut Json,
+) -> Result<(), Ended>
+    requires inside { first.place.at + count * (size.data_words + size.pointers)
+        ≤ length (segment_read (reading A.ReaderArena first)) }
+    ensures { IsPlain json.old → Shows result json.new
+        (show_structs (array_within depth) size.data_words size.pointers count
+        (reading A.ReaderArena first.entry) (shown json.old)) }
+{
+    json.text.push_sizes(size)?;
+    if size.total() == 0 {
+        return json.text.push_count(count);
+    }
+    json.text.push(b"\"structs\":[")?;
+    json_elements(first, size, count, depth, json)?;
+    json.text.push(b"]}")
+}
+
+/// Writes the elements of a list of structs, which start at `first`.
 #[cycle(json)]
 fn json_elements<A: ReaderArena>(
     first: Pointer<'_, A>,
@@ -366,19 +426,22 @@ fn json_elements<A: ReaderArena>(
     count: u32,
     depth: u32,
     json: &mut Json,
-) -> Result<(), Ended> {
-    json.text.push(b"\"structs\":[")?;
+) -> Result<(), Ended>
+    requires inside { first.place.at + count * (size.data_words + size.pointers)
+        ≤ length (segment_read (reading A.ReaderArena first)) }
+    ensures { IsPlain json.old → Shows result json.new
+        (show_elements (array_within depth) size.data_words size.pointers 0 count
+        (reading A.ReaderArena first.entry) (shown json.old)) }
+{
     for i in 0..count {
-        if 0 < i {
-            json.text.push(b",")?;
-        }
+        json.text.push_comma(i)?;
         let len = json.enter(PathStep::Element(i))?;
         let start = json.text.len();
         json.text.push(b"{")?;
-        let element = pointer_after(first, i.saturating_mul(size.total()));
+        let element = pointer_after(first, i * size.total());
         json_struct(element, size, depth, json)?;
         json.end_object(start)?;
         json.leave(len);
     }
-    json.text.push(b"]}")
+    Ok(())
 }

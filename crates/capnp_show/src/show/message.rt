@@ -1,9 +1,18 @@
 //! Shows one message.
-ghost use Rattle.std.specs.Prelude.{◌≡◌, ◌≤◌, length, false, OnOk};
+ghost use Rattle.std.specs.Prelude.{◌≡◌, ◌++◌, ◌≤◌, codes, length, false, true, Ok, IfOk, OnOk};
+ghost use Rattle.capnp_words.specs.Meter.{Meter};
+ghost use Rattle.capnp_format.specs.Bytes.{message};
+ghost use Rattle.capnp_format.specs.Tree.{Tree};
 ghost use Rattle.capnp_arena_traits.specs.Limits.{IsSmall};
+ghost use Rattle.capnp_framing.specs.Writing.{Prints};
+ghost use Rattle.capnp_objects.specs.Source.{levels};
+ghost use Rattle.capnp_messages.specs.Parts.{PathEnd, part};
+ghost use Rattle.capnp_show.specs.Line.{value_line};
 ghost use Rattle.capnp_show.specs.Show.{PrintsAtMost};
+ghost use Rattle.capnp_show.specs.Shown.{IsPlain, Shows, add, show_end, shown};
+ghost use Rattle.capnp_show.specs.ShownParts.{IsShownPart};
 
-use super::json::{Json, json_element, json_pointer};
+use super::json::{Json, json_end};
 use super::lines::{Lines, show_element, show_pointer};
 use super::text::{Ended, MOST_BYTES};
 use capnp_arena::arena::{ReaderArena, ReaderArenaImpl, ReaderOptions, ReaderSegments};
@@ -61,6 +70,12 @@ pub fn show_message<S: ReaderSegments + Drop, W: Output>(
     requires works { W.has_failed output.old ≡ false }
     ensures bounded { OnOk result (PrintsAtMost W.Output MOST_BYTES output.old output.new) }
     ensures works { OnOk result (W.has_failed output.new ≡ false) }
+    ensures value { (t : Tree) → showing.json ≡ true → showing.values ≡ true
+        → IsShownPart (message (S.segments segments)) limits path.now showing.depth t
+        → OnOk result (Prints W.Output output.old output.new (value_line t ++ codes "\n")) }
+    ensures sound { (t : Tree) → showing.json ≡ true → showing.values ≡ true
+        → IsShownPart (message (S.segments segments)) limits path.now showing.depth t
+        → IfOk result (λ is_sound. is_sound ≡ true) }
 {
     let count = segments.len() as u64;
     let arena = ReaderArenaImpl::new(segments, limits);
@@ -79,6 +94,7 @@ pub fn show_message<S: ReaderSegments + Drop, W: Output>(
 fn write<W: Output>(output: &mut W, text: &[u8]) -> Result<(), ShowFault>
     requires works { W.has_failed output.old ≡ false }
     requires short { length text.now ≤ MOST_BYTES }
+    ensures written { OnOk result (Prints W.Output output.old output.new text.now) }
     ensures bounded { OnOk result (PrintsAtMost W.Output MOST_BYTES output.old output.new) }
     ensures works { OnOk result (W.has_failed output.new ≡ false) }
 {
@@ -136,14 +152,25 @@ fn json_of<S: ReaderSegments>(
     count: u64,
     path: &[u32],
     arena: &ReaderArenaImpl<S>,
-) -> Result<Json, ShowFault> {
+) -> Result<Json, ShowFault>
+    ensures { (t : Tree) → showing.values ≡ true
+        → IsShownPart (message (⟦<ReaderArenaImpl<S> as ReaderArena>⟧.segments arena.now))
+        limits path.now showing.depth t → arena.now.nesting_limit ≡ limits.nesting_limit
+        → IfOk result (λ json. (json.text.bytes.items ≡ value_line t ++ codes "\n")
+        × (json.is_sound ≡ true)) }
+{
     let lim = ReadLimiter::new(limits.traversal_limit_in_words);
     let mut json = Json::new(alloc, lim, !showing.values);
-    let ended = match write_json(arena, number, count, path, showing.depth, &mut json) {
-        Err(Ended::Full) => json.write_cut(),
-        ended => ended,
-    };
-    match ended {
+    match write_json(arena, number, count, path, showing.depth, &mut json) {
+        Ok(()) => Ok(json),
+        Err(Ended::Full) => cut(json),
+        Err(_) => Err(ShowFault::AllocationFailed),
+    }
+}
+
+/// Returns the line that says that a message isn't shown, since its line would be too long.
+fn cut(mut json: Json) -> Result<Json, ShowFault> {
+    match json.write_cut() {
         Ok(()) => Ok(json),
         Err(_) => Err(ShowFault::AllocationFailed),
     }
@@ -157,12 +184,15 @@ pub(super) fn write_json<S: ReaderSegments>(
     path: &[u32],
     depth: u32,
     json: &mut Json,
-) -> Result<(), Ended> {
+) -> Result<(), Ended>
+    ensures { (e : PathEnd) (m : Meter) → IsPlain json.old
+        → part (message (⟦<ReaderArenaImpl<S> as ReaderArena>⟧.segments arena.now))
+        (levels arena.now.nesting_limit) path.now json.old.lim ≡ (Ok e, m)
+        → Shows result json.new
+        (add (codes "\n") (show_end depth e (record (shown json.old) { lim = m }))) }
+{
     json.write_head(number, count, arena.size_in_words() as u64)?;
-    match read_part(arena, path, &mut json.lim) {
-        Ok(Reached::Pointer(root)) => json_pointer(root, depth, json)?,
-        Ok(Reached::Element(element)) => json_element(element, depth, json)?,
-        Err(kind) => json.write_no_root(kind.name())?,
-    }
+    let end = read_part(arena, path, &mut json.lim);
+    json_end(end, depth, json)?;
     json.write_tail()
 }

@@ -1,8 +1,16 @@
 //! The objects of a message, and the numbers in them.
-ghost use Rattle.std.specs.Prelude.{IfOk};
+ghost use Rattle.std.specs.Prelude.{◌≡◌, ◌+◌, ◌*◌, ◌^◌, ◌<◌, ℕ, pred, take, drop, slice_index, IfOk};
+ghost use Rattle.capnp_format.specs.Bytes.{words_of};
+ghost use Rattle.capnp_objects.specs.declared.object.Purpose.TheVariants.{Value};
+ghost use Rattle.capnp_objects.specs.Enter.{read, result_shape};
 ghost use Rattle.capnp_objects.specs.Objects.{IsHeld};
-ghost use Rattle.capnp_objects.specs.Reading.{source_start};
+ghost use Rattle.capnp_objects.specs.Reading.{behind, source_start};
+ghost use Rattle.capnp_objects.specs.Source.{levels};
 ghost use Rattle.capnp_objects.specs.Entering.{IsObjectHeld};
+ghost use Rattle.capnp_messages.specs.Parts.{inside};
+ghost use Rattle.capnp_messages.specs.PathEnds.{IsObjectRead};
+ghost use Rattle.capnp_pointers.specs.Pointers.{reading};
+ghost use Rattle.capnp_show.specs.Numbers.{number_in, word_index};
 
 use capnp_arena_traits::arena::ReaderArena;
 use capnp_objects::object::{Object, Place};
@@ -16,13 +24,20 @@ pub(super) fn read_object<'a, A: ReaderArena>(
     from: Pointer<'a, A>,
     lim: &mut ReadLimiter,
 ) -> Result<Object<'a>, ErrorKind>
-    ensures { IfOk result (IsObjectHeld (source_start A.ReaderArena from.entry.source).segments) }
+    ensures held { IfOk result
+        (IsObjectHeld (source_start A.ReaderArena from.entry.source).segments) }
+    ensures object { IfOk result (IsObjectRead (reading A.ReaderArena from.entry)) }
+    ensures computed { read Value (reading A.ReaderArena from.entry) lim.old
+        ≡ (result_shape result, lim.new) }
 {
     from.source.read_object(from.place, from.nesting_limit, lim)
 }
 
 /// The place `words` words after `start`. It saturates nowhere inside of an object.
-pub(super) fn place_at(start: Place, words: u32) -> Place {
+pub(super) fn place_at(start: Place, words: u32) -> Place
+    ensures bytes { result.bytes.now ≡ start.entry.bytes.now }
+    ensures at { start.entry.at + words < 2 ^ 32 → result.at ≡ start.entry.at + words }
+{
     Place {
         at: start.at.saturating_add(words),
         ..start
@@ -36,6 +51,8 @@ pub(super) fn pointer_inside<'a, A: ReaderArena>(
     words: u32,
 ) -> Pointer<'a, A>
     requires { IsHeld (source_start A.ReaderArena from.source).segments start }
+    ensures { start.entry.at + words < 2 ^ 32 → reading A.ReaderArena result
+        ≡ inside (reading A.ReaderArena from.entry) start.entry.segment (start.entry.at + words) }
 {
     Pointer {
         source: from.source,
@@ -43,15 +60,25 @@ pub(super) fn pointer_inside<'a, A: ReaderArena>(
             at: start.at.saturating_add(words),
             ..start
         },
-        nesting_limit: from.nesting_limit.saturating_sub(1),
+        nesting_limit: less(from.nesting_limit),
     }
+}
+
+/// The nesting limit with one level less.
+fn less(nesting_limit: i32) -> i32
+    ensures { levels result ≡ pred (levels nesting_limit) }
+{
+    nesting_limit.saturating_sub(1)
 }
 
 /// The pointer `words` words after the pointer `first` of the same object.
 pub(super) fn pointer_after<'a, A: ReaderArena>(
     first: Pointer<'a, A>,
     words: u32,
-) -> Pointer<'a, A> {
+) -> Pointer<'a, A>
+    ensures { first.entry.place.at + words < 2 ^ 32
+        → reading A.ReaderArena result ≡ behind (reading A.ReaderArena first.entry) words }
+{
     Pointer {
         source: first.source,
         place: Place {
@@ -62,8 +89,16 @@ pub(super) fn pointer_after<'a, A: ReaderArena>(
     }
 }
 
+/// Does nothing: its contract says what bytes are.
+pub(super) fn are_bytes(bytes: &[u8])
+    ensures { (i : ℕ) → slice_index bytes.now i < 256 }
+{
+}
+
 /// The `count` bytes from `start` on; fewer if the segment has fewer.
-pub(super) fn bytes_at<'a>(start: Place<'a>, count: usize) -> &'a [u8] {
+pub(super) fn bytes_at<'a>(start: Place<'a>, count: usize) -> &'a [u8]
+    ensures { result.now ≡ take count (drop (8 * start.entry.at) start.entry.bytes.now) }
+{
     let all = start.bytes;
     let from = (8 * start.at as usize).min(all.len());
     let rest = &all[from..];
@@ -71,12 +106,17 @@ pub(super) fn bytes_at<'a>(start: Place<'a>, count: usize) -> &'a [u8] {
 }
 
 /// Element `index` of a list of bits or numbers of this size, whose elements start at `start`.
-pub(super) fn number_at(start: Place, size: ElementSize, index: u32) -> u64 {
+pub(super) fn number_at(start: Place, size: ElementSize, index: u32) -> u64
+    ensures { start.entry.at + word_index size index < 2 ^ 32 → result ≡ number_in size index
+        (slice_index (words_of start.entry.bytes.now) (start.entry.at + word_index size index)) }
+{
     number_of(place_at(start, word_of(size, index)).word().0, size, index)
 }
 
 /// The word that element `index` of such a list is in, counted from the start of the list.
-fn word_of(size: ElementSize, index: u32) -> u32 {
+fn word_of(size: ElementSize, index: u32) -> u32
+    ensures { result ≡ word_index size index }
+{
     match size {
         ElementSize::Bit => index / 64,
         ElementSize::Byte => index / 8,
@@ -87,12 +127,14 @@ fn word_of(size: ElementSize, index: u32) -> u32 {
 }
 
 /// Element `index` of such a list, which is in this word.
-fn number_of(word: u64, size: ElementSize, index: u32) -> u64 {
+fn number_of(word: u64, size: ElementSize, index: u32) -> u64
+    ensures { result ≡ number_in size index word }
+{
     match size {
-        ElementSize::Bit => word >> (index % 64) & 1,
-        ElementSize::Byte => word >> (index % 8 * 8) & 0xff,
-        ElementSize::TwoBytes => word >> (index % 4 * 16) & 0xffff,
-        ElementSize::FourBytes => word >> (index % 2 * 32) & 0xffff_ffff,
+        ElementSize::Bit => (word >> (index % 64)) % 2,
+        ElementSize::Byte => (word >> (index % 8 * 8)) % 0x100,
+        ElementSize::TwoBytes => (word >> (index % 4 * 16)) % 0x1_0000,
+        ElementSize::FourBytes => (word >> (index % 2 * 32)) % 0x1_0000_0000,
         _ => word,
     }
 }

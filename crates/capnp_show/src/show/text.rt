@@ -1,5 +1,10 @@
 //! A text in memory that can't grow beyond its bound.
-ghost use Rattle.std.specs.Prelude.{◌≤◌, vec_len, length};
+ghost use Rattle.std.specs.Prelude.{◌≡◌, ◌≤◌, ◌<◌, ◌+◌, ◌++◌, ◌∷◌, [], false, true, take, drop, vec_len, length, IfErr, MatchOption, OnOk};
+ghost use Rattle.std.specs.Fmt.{decimal};
+ghost use Rattle.hex.specs.Hex.{encode_lower};
+ghost use Rattle.capnp_show.specs.Adding.{Adds};
+ghost use Rattle.capnp_show.specs.Line.{ends_control, escape, escaped, has_control_after, in_quotes};
+ghost use Rattle.capnp_show.specs.Line.{is_control, is_plain_text, reads_as_text, without_last};
 
 use std::alloc::Global;
 
@@ -44,7 +49,9 @@ pub(super) struct Text {
 
 impl Text {
     /// Makes an empty text.
-    pub(super) fn new(alloc: Global) -> Self {
+    pub(super) fn new(alloc: Global) -> Self
+        ensures { length result.bytes.items ≡ 0 }
+    {
         Text {
             bytes: Vec::new(alloc),
         }
@@ -52,7 +59,8 @@ impl Text {
 
     /// The bytes of the text.
     pub(super) fn bytes(&self) -> &[u8]
-        ensures { length result.now ≤ 67108864 }
+        ensures value { result.now ≡ self.now.bytes.items }
+        ensures bounded { length result.now ≤ 67108864 }
     {
         self.bytes.as_slice()
     }
@@ -68,13 +76,18 @@ impl Text {
     }
 
     /// Removes the bytes from position `len` on.
-    pub(super) fn truncate(&mut self, len: usize) {
+    pub(super) fn truncate(&mut self, len: usize)
+        ensures { self.new.bytes.items ≡ take len self.old.bytes.items }
+    {
         self.bytes.truncate(len);
     }
 
     /// Adds `bytes` if the text then has at most `most` bytes.
     fn push_within(&mut self, most: usize, bytes: &[u8]) -> Result<(), Ended>
         requires { most ≤ 67108864 }
+        ensures added { OnOk result (self.new.bytes.items ≡ self.old.bytes.items ++ bytes.now) }
+        ensures full { IfErr result (λ e. e ≡ Ended.Full
+            → most < length (self.old.bytes.items ++ bytes.now)) }
     {
         if self.bytes.len() > most || most - self.bytes.len() < bytes.len() {
             return Err(Ended::Full);
@@ -86,7 +99,9 @@ impl Text {
     }
 
     /// Adds `bytes`, and leaves `KEPT` bytes free.
-    pub(super) fn push(&mut self, bytes: &[u8]) -> Result<(), Ended> {
+    pub(super) fn push(&mut self, bytes: &[u8]) -> Result<(), Ended>
+        ensures { Adds result self.old.bytes.items self.new.bytes.items bytes.now }
+    {
         self.push_within(MOST_BYTES - KEPT, bytes)
     }
 
@@ -96,10 +111,13 @@ impl Text {
     }
 
     /// Adds a number in decimal digits.
-    pub(super) fn push_number(&mut self, n: u64) -> Result<(), Ended> {
-        if n >= 10 {
-            self.push_number(n / 10)?;
+    pub(super) fn push_number(&mut self, n: u64) -> Result<(), Ended>
+        ensures { Adds result self.old.bytes.items self.new.bytes.items (decimal n) }
+    {
+        if n < 10 {
+            return self.push(&[b'0' + n as u8]);
         }
+        self.push_number(n / 10)?;
         self.push(&[b'0' + (n % 10) as u8])
     }
 
@@ -112,7 +130,9 @@ impl Text {
     }
 
     /// Adds `bytes` in lower case hex digits, two for each byte.
-    pub(super) fn push_hex(&mut self, bytes: &[u8]) -> Result<(), Ended> {
+    pub(super) fn push_hex(&mut self, bytes: &[u8]) -> Result<(), Ended>
+        ensures { Adds result self.old.bytes.items self.new.bytes.items (encode_lower bytes.now) }
+    {
         let mut rest = bytes;
         while !rest.is_empty() {
             let n = rest.len().min(PIECE);
@@ -125,6 +145,7 @@ impl Text {
     /// Adds at most 512 bytes in hex digits.
     fn push_digits(&mut self, bytes: &[u8]) -> Result<(), Ended>
         requires { length bytes.now ≤ 512 }
+        ensures { Adds result self.old.bytes.items self.new.bytes.items (encode_lower bytes.now) }
     {
         let mut buffer = [0u8; 2 * PIECE];
         let digits = &mut buffer[..2 * bytes.len()];
@@ -134,18 +155,26 @@ impl Text {
 
     /// Adds UTF-8 `bytes` in quotes, with the escapes of JSON for quotes, backslashes, tabs and line
     /// ends.
-    pub(super) fn push_quoted(&mut self, bytes: &[u8]) -> Result<(), Ended> {
+    pub(super) fn push_quoted(&mut self, bytes: &[u8]) -> Result<(), Ended>
+        ensures { Adds result self.old.bytes.items self.new.bytes.items
+            (in_quotes (escaped bytes.now)) }
+    {
         self.push(b"\"")?;
+        self.push_escaped(bytes)?;
+        self.push(b"\"")
+    }
+
+    /// Adds UTF-8 `bytes` with these escapes.
+    fn push_escaped(&mut self, bytes: &[u8]) -> Result<(), Ended>
+        ensures { Adds result self.old.bytes.items self.new.bytes.items (escaped bytes.now) }
+    {
         let mut rest = bytes;
-        while let Some(at) = rest.iter().position(|byte| escape_of(*byte).is_some()) {
+        while let Some((at, escape)) = first_escape(rest) {
             self.push(&rest[..at])?;
-            if let Some(escape) = escape_of(rest[at]) {
-                self.push(escape.as_bytes())?;
-            }
+            self.push(escape)?;
             rest = &rest[at + 1..];
         }
-        self.push(rest)?;
-        self.push(b"\"")
+        self.push(rest)
     }
 }
 
@@ -159,42 +188,93 @@ fn hex_digit(n: u64) -> u8 {
     }
 }
 
+/// The position of the first byte of a text that JSON escapes, and its escape.
+fn first_escape(bytes: &[u8]) -> Option<(usize, &'static [u8])>
+    ensures { MatchOption result (escaped bytes.now ≡ bytes.now) (λ found.
+        (found.0 < length bytes.now) × (escaped bytes.now
+        ≡ take found.0 bytes.now ++ (found.1.now ++ escaped (drop (found.0 + 1) bytes.now)))) }
+{
+    for (at, byte) in bytes.iter().enumerate() {
+        if let Some(escape) = escape_of(*byte) {
+            return Some((at, escape));
+        }
+    }
+    None
+}
+
 /// How JSON escapes a byte of a text, if it does.
-fn escape_of(byte: u8) -> Option<&'static str> {
+fn escape_of(byte: u8) -> Option<&'static [u8]>
+    ensures { MatchOption result (escape byte ≡ byte ∷ []) (λ escaped. escaped.now ≡ escape byte) }
+{
     match byte {
-        b'"' => Some("\\\""),
-        b'\\' => Some("\\\\"),
-        b'\t' => Some("\\t"),
-        b'\n' => Some("\\n"),
-        b'\r' => Some("\\r"),
+        b'"' => Some(b"\\\""),
+        b'\\' => Some(b"\\\\"),
+        b'\t' => Some(b"\\t"),
+        b'\n' => Some(b"\\n"),
+        b'\r' => Some(b"\\r"),
         _ => None,
     }
 }
 
 /// The text that `bytes` are, without the zero at its end, if they read as text: UTF-8 that ends in
 /// one zero byte, without control characters other than tabs and line ends.
-pub(super) fn text_of(bytes: &[u8]) -> Option<&str> {
-    match bytes.split_last() {
-        Some((0, front)) => match str::from_utf8(front) {
-            Ok(text) if !has_control(text.as_bytes()) => Some(text),
-            _ => None,
-        },
-        _ => None,
+pub(super) fn text_of(bytes: &[u8]) -> Option<&str>
+    ensures { MatchOption result (reads_as_text bytes.now ≡ false) (λ text.
+        (reads_as_text bytes.now ≡ true) × (text.now ≡ without_last bytes.now)) }
+{
+    let len = bytes.len();
+    if len == 0 {
+        return None;
+    }
+    if bytes[len - 1] != 0 {
+        return None;
+    }
+    plain_text(&bytes[..len - 1])
+}
+
+/// The text that `bytes` are, if they are UTF-8 without such control characters.
+fn plain_text(bytes: &[u8]) -> Option<&str>
+    ensures { MatchOption result (is_plain_text bytes.now ≡ false) (λ text.
+        (is_plain_text bytes.now ≡ true) × (text.now ≡ bytes.now)) }
+{
+    match str::from_utf8(bytes) {
+        Ok(text) => {
+            if has_control(bytes) {
+                return None;
+            }
+            Some(text)
+        }
+        Err(_) => None,
     }
 }
 
 /// Whether UTF-8 bytes have a control character other than a tab, a line feed or a carriage return:
 /// U+0000 to U+001F, U+007F to U+009F.
-fn has_control(bytes: &[u8]) -> bool {
-    bytes.iter().any(|byte| is_control(*byte))
-        || bytes
-            .windows(2)
-            .any(|pair| matches!(pair, [0xc2, next] if *next < 0xa0))
+fn has_control(bytes: &[u8]) -> bool
+    ensures { result ≡ has_control_after 0 bytes.now }
+{
+    let mut before = 0;
+    for byte in bytes {
+        if ends_control(before, *byte) {
+            return true;
+        }
+        before = *byte;
+    }
+    false
+}
+
+/// Whether the byte after the byte `before` is, or ends, such a control character.
+fn ends_control(before: u8, byte: u8) -> bool
+    ensures { result ≡ ends_control before byte }
+{
+    is_control(byte) || before == 0xc2 && byte < 0xa0
 }
 
 /// Whether an ASCII byte is such a control character.
-fn is_control(byte: u8) -> bool {
-    matches!(byte, 0..=8 | 11 | 12 | 14..=31 | 127)
+fn is_control(byte: u8) -> bool
+    ensures { result ≡ is_control byte }
+{
+    byte < 32 && !(byte == b'\t' || byte == b'\n' || byte == b'\r') || byte == 127
 }
 
 /// The first characters of UTF-8 bytes, at most `MOST_TEXT` bytes.

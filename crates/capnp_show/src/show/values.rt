@@ -1,0 +1,233 @@
+//! The parts of a line of JSON that a value determines.
+ghost use Rattle.std.specs.Prelude.{◌≡◌, ◌≢◌, ◌+◌, ◌*◌, ◌^◌, ◌++◌, ◌<◌, ℕ, List, codes, length, map, slice_index};
+ghost use Rattle.std.specs.Fmt.{decimal};
+ghost use Rattle.std.specs.List.{join_with_byte};
+ghost use Rattle.hex.specs.Hex.{encode_lower};
+ghost use Rattle.capnp_words.specs.Sizes.{size_number};
+ghost use Rattle.capnp_objects.specs.declared.object.Object.TheVariants.{Flat as ObjectFlat};
+ghost use Rattle.capnp_objects.specs.Entering.{IsAtHand};
+ghost use Rattle.capnp_show.specs.Adding.{Adds};
+ghost use Rattle.capnp_show.specs.Line.{bytes_member, escaped, flat_member, in_quotes, member};
+ghost use Rattle.capnp_show.specs.Line.{numbers_member};
+ghost use Rattle.capnp_show.specs.Numbers.{flat_numbers, number_text};
+ghost use Rattle.capnp_show.specs.Shown.{array_begin, comma, cut_text, refusal_text};
+ghost use Rattle.capnp_show.specs.Shown.{sizes_members};
+
+use super::objects::{are_bytes, bytes_at, number_at};
+use super::text::{Ended, Text, text_of};
+use capnp_objects::object::Place;
+use capnp_words::wire_pointer::{ElementSize, StructSize};
+
+impl Text {
+    /// Adds what comes before piece `index` of an array: a comma, if it isn't the first one.
+    pub(super) fn push_comma(&mut self, index: u32) -> Result<(), Ended>
+        ensures { Adds result self.old.bytes.items self.new.bytes.items (comma index) }
+    {
+        if index == 0 {
+            return Ok(());
+        }
+        self.push(b",")
+    }
+
+    /// Adds what begins the array of what the pointers of a list lead to, or those of a struct.
+    pub(super) fn push_array(&mut self, are_elements: bool) -> Result<(), Ended>
+        ensures { Adds result self.old.bytes.items self.new.bytes.items
+            (array_begin are_elements) }
+    {
+        if are_elements {
+            return self.push(b"\"list\":[");
+        }
+        self.push(b"\"pointers\":[")
+    }
+
+    /// Adds the array of `count` pointers if none may be followed, and ends the object.
+    pub(super) fn push_cut(&mut self, are_elements: bool, count: u32) -> Result<(), Ended>
+        ensures { Adds result self.old.bytes.items self.new.bytes.items
+            (cut_text are_elements count) }
+    {
+        if count > 0 {
+            return self.push(b"\"cut\":\"depth\"}");
+        }
+        self.push_array(are_elements)?;
+        self.push(b"]}")
+    }
+
+    /// Adds a key, which has what comes before it, and a number.
+    pub(super) fn push_keyed(&mut self, key: &[u8], n: u64) -> Result<(), Ended>
+        ensures { Adds result self.old.bytes.items self.new.bytes.items (key.now ++ decimal n) }
+    {
+        self.push(key)?;
+        self.push_number(n)
+    }
+
+    /// Adds a key and a number, which end an object.
+    fn push_last(&mut self, key: &[u8], n: u64) -> Result<(), Ended>
+        ensures { Adds result self.old.bytes.items self.new.bytes.items
+            (key.now ++ (decimal n ++ codes "}")) }
+    {
+        self.push(key)?;
+        self.push_number(n)?;
+        self.push(b"}")
+    }
+
+    /// Adds the rest of the object of a capability.
+    pub(super) fn push_capability(&mut self, index: u32) -> Result<(), Ended>
+        ensures { Adds result self.old.bytes.items self.new.bytes.items
+            (member (codes "capability") (decimal index) ++ codes "}") }
+    {
+        self.push_last(b"\"capability\":", u64::from(index))
+    }
+
+    /// Adds why a pointer can't be read, and ends the object.
+    pub(super) fn push_refusal(&mut self, name: &[u8]) -> Result<(), Ended>
+        ensures { Adds result self.old.bytes.items self.new.bytes.items (refusal_text name.now) }
+    {
+        self.push(b"\"refused\":\"")?;
+        self.push(name)?;
+        self.push(b"\"}")
+    }
+
+    /// Adds the bytes of a data section in hex digits.
+    pub(super) fn push_data(&mut self, bytes: &[u8]) -> Result<(), Ended>
+        ensures { Adds result self.old.bytes.items self.new.bytes.items
+            (member (codes "data") (in_quotes (encode_lower bytes.now)) ++ codes ",") }
+    {
+        self.push(b"\"data\":\"")?;
+        self.push_hex(bytes)?;
+        self.push(b"\",")
+    }
+
+    /// Adds the rest of the object of a list of bits or numbers.
+    pub(super) fn push_flat(
+        &mut self,
+        start: Place,
+        size: ElementSize,
+        count: u32,
+    ) -> Result<(), Ended>
+        requires at_hand { IsAtHand (ObjectFlat start size count) }
+        requires small { length start.bytes.now < 8 * 2 ^ 32 }
+        ensures { Adds result self.old.bytes.items self.new.bytes.items
+            (flat_member (size_number size) (flat_numbers start.entry size count) ++ codes "}") }
+    {
+        are_bytes(start.bytes);
+        match size {
+            ElementSize::Void => self.push_last(b"\"void\":", u64::from(count)),
+            ElementSize::Byte => self.push_bytes(bytes_at(start, count as usize)),
+            _ => self.push_numbers(start, size, count),
+        }
+    }
+
+    /// Adds the rest of the object of a list of bytes: as text if they read as text, and otherwise
+    /// in hex digits.
+    fn push_bytes(&mut self, bytes: &[u8]) -> Result<(), Ended>
+        ensures { Adds result self.old.bytes.items self.new.bytes.items
+            (bytes_member bytes.now ++ codes "}") }
+    {
+        match text_of(bytes) {
+            Some(text) => self.push_text(text.as_bytes()),
+            None => self.push_hex_member(bytes),
+        }
+    }
+
+    /// Adds the rest of the object of a list of bytes that reads as this text.
+    fn push_text(&mut self, text: &[u8]) -> Result<(), Ended>
+        ensures { Adds result self.old.bytes.items self.new.bytes.items
+            (member (codes "text") (in_quotes (escaped text.now)) ++ codes "}") }
+    {
+        self.push(b"\"text\":")?;
+        self.push_quoted(text)?;
+        self.push(b"}")
+    }
+
+    /// Adds the rest of the object of a list of bytes that doesn't read as text.
+    fn push_hex_member(&mut self, bytes: &[u8]) -> Result<(), Ended>
+        ensures { Adds result self.old.bytes.items self.new.bytes.items
+            (member (codes "bytes") (in_quotes (encode_lower bytes.now)) ++ codes "}") }
+    {
+        self.push(b"\"bytes\":\"")?;
+        self.push_hex(bytes)?;
+        self.push(b"\"}")
+    }
+
+    /// Adds the rest of the object of a list of bits, or of numbers of two, four or eight bytes.
+    fn push_numbers(&mut self, start: Place, size: ElementSize, count: u32) -> Result<(), Ended>
+        requires at_hand { IsAtHand (ObjectFlat start size count) }
+        requires small { length start.bytes.now < 8 * 2 ^ 32 }
+        requires some { size ≢ ElementSize.Void }
+        requires bytes { (i : ℕ) → slice_index start.bytes.now i < 256 }
+        ensures { Adds result self.old.bytes.items self.new.bytes.items
+            (numbers_member (size_number size) (flat_numbers start.entry size count)
+            ++ codes "}") }
+    {
+        self.push(numbers_key(size))?;
+        self.push_each_number(start, size, count)?;
+        self.push(b"]}")
+    }
+
+    /// Adds the elements of a list of bits or numbers, with commas between them.
+    fn push_each_number(&mut self, start: Place, size: ElementSize, count: u32) -> Result<(), Ended>
+        requires at_hand { IsAtHand (ObjectFlat start size count) }
+        requires small { length start.bytes.now < 8 * 2 ^ 32 }
+        requires some { size ≢ ElementSize.Void }
+        requires bytes { (i : ℕ) → slice_index start.bytes.now i < 256 }
+        ensures { Adds result self.old.bytes.items self.new.bytes.items
+            (join_with_byte 44 (map (number_text size) (flat_numbers start.entry size count))) }
+    {
+        for i in 0..count {
+            self.push_comma(i)?;
+            self.push_element(size, number_at(start, size, i))?;
+        }
+        Ok(())
+    }
+
+    /// Adds an element of a list of bits or numbers of this size. Numbers of eight bytes are in
+    /// quotes, since many readers of JSON round larger numbers.
+    fn push_element(&mut self, size: ElementSize, n: u64) -> Result<(), Ended>
+        ensures { Adds result self.old.bytes.items self.new.bytes.items (number_text size n) }
+    {
+        match size {
+            ElementSize::Bit | ElementSize::TwoBytes | ElementSize::FourBytes => self.push_number(n),
+            _ => self.push_quoted_number(n),
+        }
+    }
+
+    /// Adds a number in quotes.
+    fn push_quoted_number(&mut self, n: u64) -> Result<(), Ended>
+        ensures { Adds result self.old.bytes.items self.new.bytes.items (in_quotes (decimal n)) }
+    {
+        self.push(b"\"")?;
+        self.push_number(n)?;
+        self.push(b"\"")
+    }
+
+    /// Adds the sizes of the elements of a list of structs.
+    pub(super) fn push_sizes(&mut self, size: StructSize) -> Result<(), Ended>
+        ensures { Adds result self.old.bytes.items self.new.bytes.items
+            (sizes_members size.data_words size.pointers) }
+    {
+        self.push_keyed(b"\"data_words\":", u64::from(size.data_words))?;
+        self.push_keyed(b",\"pointer_count\":", u64::from(size.pointers))?;
+        self.push(b",")
+    }
+
+    /// Adds the rest of the object of a list of structs without words: only their number.
+    pub(super) fn push_count(&mut self, count: u32) -> Result<(), Ended>
+        ensures { Adds result self.old.bytes.items self.new.bytes.items
+            (member (codes "count") (decimal count) ++ codes "}") }
+    {
+        self.push_last(b"\"count\":", u64::from(count))
+    }
+}
+
+/// What begins the array of the elements of a list of bits or numbers of this size.
+fn numbers_key(size: ElementSize) -> &'static [u8]
+    ensures { (numbers : List ℕ) → numbers_member (size_number size) numbers ++ codes "}"
+        ≡ result.now ++ (join_with_byte 44 (map (number_text size) numbers) ++ codes "]}") }
+{
+    match size {
+        ElementSize::Bit => b"\"bits\":[",
+        ElementSize::TwoBytes => b"\"u16\":[",
+        ElementSize::FourBytes => b"\"u32\":[",
+        _ => b"\"u64\":[",
+    }
+}
