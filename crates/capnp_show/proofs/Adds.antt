@@ -1,5 +1,5 @@
 -- Adding to a text in steps.
-use Rattle.std.proofs.Common.{◌≡◌, ◌≢◌, ℕ, zero, suc, ◌+◌, ◌-◌, ◌*◌, ◌/◌, ◌%◌, ◌<◌, ◌≤◌, Bool, true, false, nat_eq, ◌||◌, List, [], ◌∷◌, ◌++◌, length, take, drop, get_or, Result, Ok, Err, refl, sym, ap, ◌∙◌, arith, append_assoc, append-nil, length-append, length-drop, take-append-drop, subst, eq-eqb}
+use Rattle.std.proofs.Common.{◌≡◌, ◌≢◌, ℕ, ◌+◌, ◌-◌, ◌/◌, ◌%◌, ◌<◌, Bool, true, false, nat_eq, ◌||◌, List, [], ◌∷◌, ◌++◌, length, take, drop, get_or, Result, Ok, Err, refl, sym, ap, ◌∙◌, arith, append_assoc, append-nil, length-append, length-drop, take-append-drop, subst, eq-eqb}
 use Rattle.std.specs.Prelude.{slice_index, slice_index_or, IsErrAnd}
 use Rattle.std.specs.Str.{IsUtf8, is_utf8}
 use Rattle.std.proofs.lemmas.Bool.{ne_eqb}
@@ -10,7 +10,6 @@ use Rattle.hex.specs.Hex.{encode_lower, encode_with, lower_digits}
 use Rattle.capnp_show.specs.Adding.{Adds, max_text}
 use Rattle.capnp_show.specs.Line.{ends_control, escape, escaped, has_control_after, is_plain_text, reads_as_text, without_last}
 use Rattle.capnp_show.specs.declared.show.text.Ended.{Ended}
-use Rattle.capnp_show.specs.declared.show.text.Ended.TheVariants.{Full}
 
 -- What the exit of a `?` returns.
 pub failed : {A E : Type 0} {k : E} (r : Result A E) → IsErrAnd r (λ y. y ≡ k) → r ≡ Err k

@@ -1,5 +1,5 @@
 -- Steps of the program that write a line without places.
-use Rattle.std.proofs.Common.{◌≡◌, ◌≢◌, ◌⊎◌, inl, inr, ℕ, zero, suc, pred, ◌+◌, ◌-◌, ◌*◌, ◌<◌, ◌≤◌, Bool, true, false, nat_eq, List, ◌++◌, length, Result, Ok, Err, refl, sym, ap, ap₂, ◌∙◌, subst, arith, length-append, eq-eqb, add-one}
+use Rattle.std.proofs.Common.{◌≡◌, ◌≢◌, ℕ, zero, suc, ◌+◌, ◌-◌, ◌*◌, ◌<◌, Bool, true, false, nat_eq, List, ◌++◌, length, Result, Ok, Err, refl, sym, ap, ap₂, ◌∙◌, subst, arith, eq-eqb, add-one}
 use Rattle.std.specs.Prelude.{IsErrAnd, codes, if◌then◌else◌}
 use Rattle.std.specs.Fmt.{decimal}
 use Rattle.std.proofs.lemmas.Bool.{ne_eqb}
@@ -8,13 +8,12 @@ use Rattle.capnp_words.specs.Meter.{Meter}
 use Rattle.capnp_objects.specs.declared.object.Purpose.TheVariants.{Value}
 use Rattle.capnp_objects.specs.Enter.{Shape, read}
 use Rattle.capnp_objects.specs.Reading.{Reading, behind, word_of}
-use Rattle.capnp_show.specs.Adding.{Adds, max_text}
+use Rattle.capnp_show.specs.Adding.{Adds}
 use Rattle.capnp_show.specs.Line.{member}
 use Rattle.capnp_show.specs.Shown.{IsPlain, Shown, Shows, ShowsArray, add, array_begin, array_within, comma, cut_text, show_each, show_elements, show_place, show_result, show_struct, show_structs, show_within, shown, sizes_members}
 use Rattle.capnp_show.specs.declared.show.json.Json.{Json}
 use Rattle.capnp_show.specs.declared.show.text.Text.{Text}
 use Rattle.capnp_show.specs.declared.show.text.Ended.{Ended}
-use Rattle.capnp_show.specs.declared.show.text.Ended.TheVariants.{Full}
 use Rattle.capnp_show.proofs.Adds.{failed}
 use Rattle.capnp_show.proofs.Grows.{Longer, added_longer, each_longer, elements_longer, result_longer, shown_longer, within_longer}
 

@@ -1,5 +1,5 @@
 -- The line that is written of a value that can be read is the line of the value.
-use Rattle.std.proofs.Common.{◌≡◌, inl, inr, ℕ, zero, suc, pred, ◌+◌, ◌*◌, ◌<◌, ◌≤◌, Bool, true, false, cond, nat_eq, max, List, [], ◌∷◌, ◌++◌, length, Result, Ok, Err, refl, sym, ap, ap₂, ◌∙◌, subst, arith, append_assoc, append-nil, eq-eqb}
+use Rattle.std.proofs.Common.{◌≡◌, inl, inr, ℕ, zero, suc, pred, ◌+◌, ◌<◌, ◌≤◌, Bool, true, false, nat_eq, List, [], ◌∷◌, ◌++◌, Result, Ok, Err, refl, sym, ap, ◌∙◌, subst, arith, append_assoc, append-nil, eq-eqb}
 use Rattle.std.specs.Prelude.{⊤, codes, if◌then◌else◌}
 use Rattle.std.specs.Fmt.{decimal}
 use Rattle.std.specs.List.{join_with_byte}
@@ -9,12 +9,11 @@ use Rattle.capnp_words.specs.Meter.{Meter}
 use Rattle.capnp_format.specs.Word.{kind, data_words, pointer_count, element_size, list_count, offset_bits, upper_half}
 use Rattle.capnp_format.specs.Numbers.{words_for, unpacked}
 use Rattle.capnp_format.specs.Segments.{Target}
-use Rattle.capnp_format.specs.Tree.{Tree, Null, Capability, Struct, Flat, Pointers, Structs, Trees, no_trees, tree, Elements, no_elements, element, element_count, depth, depth_all, depth_elements}
+use Rattle.capnp_format.specs.Tree.{Tree, Null, Capability, Struct, Pointers, Structs, Trees, no_trees, tree, Elements, no_elements, element, element_count, depth, depth_all, depth_elements}
 use Rattle.capnp_objects.specs.declared.object.Purpose.TheVariants.{Value}
 use Rattle.capnp_objects.specs.Demands.{tag}
-use Rattle.capnp_objects.specs.Enter.{Shape, nothing, capability, struct, flat, pointers, structs, shape, read}
+use Rattle.capnp_objects.specs.Enter.{Shape, nothing, capability, struct, pointers, structs, shape, read}
 use Rattle.capnp_objects.specs.Metered.{Metered, answer, onward}
-use Rattle.capnp_objects.specs.Outcomes.{Entered}
 use Rattle.capnp_objects.specs.Reading.{Reading, behind, word_of, words_from}
 use Rattle.capnp_objects.specs.Spending.{after}
 use Rattle.capnp_objects.specs.Values.{read_values, read_element_values, object_value, value_within, value}
@@ -25,7 +24,7 @@ use Rattle.capnp_objects.proofs.Inverted.{Ends, at_capability, at_object, refuse
 use Rattle.capnp_objects.proofs.Valued.{leaf_is, refusal_is, value_is}
 use Rattle.capnp_messages.specs.Parts.{inside}
 use Rattle.capnp_show.specs.Line.{value_line, lines, element_lines, struct_object, object, member, array, data_member, flat_member}
-use Rattle.capnp_show.specs.Shown.{Shown, add, comma, array_begin, array_within, sizes_members, show_array, show_each, show_elements, show_object, show_place, show_result, show_struct, show_structs, show_within}
+use Rattle.capnp_show.specs.Shown.{Shown, add, comma, array_begin, array_within, sizes_members, show_array, show_each, show_elements, show_object, show_result, show_struct, show_structs, show_within}
 use Rattle.capnp_show.proofs.Pieces.{pieces, no_pieces, next_piece}
 
 abbrev Outcome : Type 0 → Type 0

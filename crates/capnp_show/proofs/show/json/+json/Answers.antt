@@ -1,9 +1,6 @@
-use Rattle.std.proofs.Common.{◌≡◌, ◌≢◌, ℕ, suc, ◌+◌, ◌*◌, ◌-◌, ◌^◌, ◌<◌, ◌≤◌, ◌++◌, List, true, false, length, get_or, refl, ap, ap₂, sym, ◌∙◌, subst, arith, rules, Ok, Err, add-zero}
+use Rattle.std.proofs.Common.{◌≢◌, ℕ, suc, ◌+◌, ◌*◌, ◌-◌, ◌≤◌, ◌++◌, true, false, length, refl, ap, sym, ◌∙◌, subst, arith, Ok, Err, add-zero}
 use Rattle.std.specs.Prelude.{codes}
-use Rattle.std.proofs.lemmas.Int.{to_z-of_z}
 use Rattle.hex.specs.Hex.{encode_lower}
-use mir.Syntax.{w32}
-use mir.Val.{to_z, of_z}
 use Rattle.capnp_objects.specs.Enter.{object_shape}
 use Rattle.capnp_objects.specs.Reading.{Reading, behind, segment_read, word_of, words_from}
 use Rattle.capnp_pointers.specs.Pointers.{reading}
@@ -11,12 +8,12 @@ use Rattle.capnp_messages.specs.Parts.{inside}
 use Rattle.capnp_messages.specs.PathEnds.{IsObjectRead}
 use Rattle.capnp_messages.proofs.PathLemmas.{pointers_room, row_inside, struct_room, structs_room}
 use Rattle.capnp_show.specs.Line.{data_member, in_quotes, member}
-use Rattle.capnp_show.specs.Shown.{IsPlain, Shown, Shows, add, array_begin, array_within, comma, show_each, show_elements, show_object, show_refusal, show_struct, show_structs, show_within, shown}
+use Rattle.capnp_show.specs.Shown.{add, array_begin, array_within, show_elements, show_struct, show_structs, show_within, shown}
 use Rattle.capnp_show.proofs.Adds.{adds_as}
 use Rattle.capnp_show.proofs.Elements.{struct_data}
 use Rattle.capnp_show.proofs.Grows.{elements_begun, elements_opened, elements_rest, structs_longer, within_longer}
-use Rattle.capnp_show.proofs.ObjectLemmas.{flat_room, flat_same, inside_room, small_place}
-use Rattle.capnp_show.proofs.Steps.{array_begun, array_cut, array_opens, each_after, each_first, each_next, each_rest, each_shown, each_whole, element_opened, elements_first, elements_next, elements_whole, lim_plain, place_begun, place_null, place_read, place_written, plain_after, push_after, push_shows, push_stops, push_then, rows_begun, rows_blank, rows_longer, rows_opened, shows_after, shows_as, shows_stops, shows_then, still_plain, still_shows}
+use Rattle.capnp_show.proofs.ObjectLemmas.{flat_room, flat_same, small_place}
+use Rattle.capnp_show.proofs.Steps.{array_begun, array_cut, array_opens, each_after, each_first, each_next, each_rest, each_shown, each_whole, element_opened, elements_first, elements_next, elements_whole, lim_plain, place_begun, place_null, place_written, plain_after, push_after, push_shows, push_stops, push_then, rows_begun, rows_blank, rows_longer, rows_opened, shows_after, shows_as, shows_stops, shows_then, still_plain, still_shows}
 use Rattle.capnp_show.proofs.show.json.+json.Goals as goal
 
 -- ---- a pointer

@@ -1,4 +1,4 @@
-use Rattle.std.proofs.Common.{◌≡◌, ℕ, refl, ap}
+use Rattle.std.proofs.Common.{refl, ap}
 use Rattle.std.specs.Prelude.{codes}
 use Rattle.capnp_objects.specs.Reading.{Reading}
 use Rattle.capnp_pointers.specs.Pointers.{reading}

@@ -1,4 +1,4 @@
-use Rattle.std.proofs.Common.{◌≡◌, ap, sym, ◌∙◌}
+use Rattle.std.proofs.Common.{ap, sym, ◌∙◌}
 use Rattle.capnp_messages.specs.PathEnds.{end_read, end_result}
 use Rattle.capnp_show.specs.Shown.{shown}
 use Rattle.capnp_show.proofs.Ends.{end_shown}

@@ -1,6 +1,5 @@
-use Rattle.std.proofs.Common.{◌≡◌, ◌<◌, length, ap, ◌∙◌, arith, length-append}
+use Rattle.std.proofs.Common.{ap, ◌∙◌, arith, length-append}
 use Rattle.std.specs.Prelude.{codes}
-use Rattle.capnp_words.specs.Meter.{Meter}
 use Rattle.capnp_show.specs.Line.{value_line}
 use Rattle.capnp_show.specs.Shown.{IsPlain, Shown}
 use Rattle.capnp_show.proofs.Ends.{fresh, line_written}

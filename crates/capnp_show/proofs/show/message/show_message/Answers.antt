@@ -1,8 +1,6 @@
-use Rattle.std.proofs.Common.{◌≡◌, ℕ, List, ◌++◌, sym, ◌∙◌, subst}
-use Rattle.std.specs.Prelude.{codes}
+use Rattle.std.proofs.Common.{ℕ, List, sym, ◌∙◌, subst}
 use Rattle.capnp_format.specs.Segments.{Segments}
 use Rattle.capnp_framing.specs.Writing.{Prints}
-use Rattle.capnp_show.specs.Line.{value_line}
 use Rattle.capnp_show.specs.ShownParts.{IsShownPart}
 use Rattle.capnp_show.proofs.show.message.show_message.Goals as goal
 

@@ -1,8 +1,5 @@
-use Rattle.std.proofs.Common.{◌≡◌, ap, sym, ◌∙◌}
+use Rattle.std.proofs.Common.{ap, sym, ◌∙◌}
 use Rattle.std.specs.Prelude.{codes}
-use Rattle.capnp_format.specs.Bytes.{message}
-use Rattle.capnp_objects.specs.Source.{levels}
-use Rattle.capnp_messages.specs.Parts.{part}
 use Rattle.capnp_show.specs.Shown.{add, show_end, shown}
 use Rattle.capnp_show.proofs.Ends.{end_there}
 use Rattle.capnp_show.proofs.Grows.{added_longer}

@@ -1,4 +1,4 @@
-use Rattle.std.proofs.Common.{◌≡◌, ◌++◌, ◌+◌, drop, take, sym, ap, ◌∙◌}
+use Rattle.std.proofs.Common.{◌++◌, ◌+◌, drop, take, sym, ap, ◌∙◌}
 use Rattle.capnp_show.specs.Line.{escaped}
 use Rattle.capnp_show.proofs.Adds.{escape_next, escape_none}
 use Rattle.capnp_show.proofs.show.text.first_escape.Goals as goal

@@ -1,4 +1,4 @@
-use Rattle.std.proofs.Common.{◌≡◌, ℕ, ◌<◌, ◌+◌, ◌||◌, Bool, true, false, length, drop, get_or, sym, ap, ◌∙◌, refl, arith}
+use Rattle.std.proofs.Common.{ℕ, ◌<◌, ◌+◌, ◌||◌, length, drop, get_or, sym, ap, ◌∙◌, arith}
 use Rattle.capnp_show.specs.Line.{has_control_after}
 use Rattle.capnp_show.proofs.Adds.{control_next}
 use Rattle.capnp_show.proofs.show.text.has_control.Goals as goal

@@ -1,4 +1,4 @@
-use Rattle.std.proofs.Common.{ℕ, ◌+◌, ◌%◌, [], ◌∷◌, sym, arith}
+use Rattle.std.proofs.Common.{◌+◌, ◌%◌, [], ◌∷◌, sym, arith}
 use Rattle.std.proofs.lemmas.Fmt.{decimal_digit, decimal_step}
 use Rattle.capnp_show.proofs.Adds.{adds_as, adds_stops, adds_then}
 use Rattle.capnp_show.proofs.show.text.Text.+push_number.Goals as goal

@@ -1,4 +1,4 @@
-use Rattle.std.proofs.Common.{◌≡◌, ◌++◌, sym, arith}
+use Rattle.std.proofs.Common.{sym, arith}
 use Rattle.std.specs.Prelude.{codes}
 use Rattle.capnp_show.proofs.Adds.{adds_as, adds_stops, adds_then}
 use Rattle.capnp_show.proofs.Pieces.{cut_none, cut_some}

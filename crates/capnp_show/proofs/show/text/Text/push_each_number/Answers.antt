@@ -1,7 +1,6 @@
-use Rattle.std.proofs.Common.{◌≡◌, ℕ, List, [], ◌++◌, ◌+◌, ◌<◌, length, map, drop, get_or, refl, ap, sym, ◌∙◌, arith, length-drop}
+use Rattle.std.proofs.Common.{◌≡◌, ℕ, List, ◌++◌, ◌+◌, ◌<◌, length, map, drop, get_or, refl, ap, sym, ◌∙◌, arith, length-drop}
 use Rattle.std.proofs.lemmas.List.{nil_from_length}
 use Rattle.capnp_show.specs.Numbers.{flat_numbers, number_text}
-use Rattle.capnp_show.specs.Shown.{comma}
 use Rattle.capnp_show.proofs.Adds.{all_added, part_added, part_stops}
 use Rattle.capnp_show.proofs.Elements.{element_read, length_numbers}
 use Rattle.capnp_show.proofs.Pieces.{number_next, no_pieces, pieces}

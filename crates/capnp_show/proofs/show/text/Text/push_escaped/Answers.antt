@@ -1,4 +1,4 @@
-use Rattle.std.proofs.Common.{◌≡◌, ℕ, ◌+◌, List, ◌++◌, ap, sym, ◌∙◌, drop, take, length, arith}
+use Rattle.std.proofs.Common.{◌+◌, ◌++◌, ap, sym, ◌∙◌, drop}
 use Rattle.capnp_show.specs.Line.{escaped}
 use Rattle.capnp_show.proofs.Adds.{last_added, part_added, part_stops, rest_of}
 use Rattle.capnp_show.proofs.show.text.Text.push_escaped.Goals as goal

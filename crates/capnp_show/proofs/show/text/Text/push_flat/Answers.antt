@@ -1,7 +1,7 @@
-use Rattle.std.proofs.Common.{◌≡◌, ◌≢◌, ℕ, List, ◌++◌, length, refl, sym, ap, ◌∙◌, arith}
+use Rattle.std.proofs.Common.{◌++◌, sym, ap, ◌∙◌, arith}
 use Rattle.std.specs.Prelude.{codes}
 use Rattle.std.specs.Fmt.{decimal}
-use Rattle.capnp_words.specs.declared.wire_pointer.ElementSize.TheVariants.{Byte, Void}
+use Rattle.capnp_words.specs.declared.wire_pointer.ElementSize.TheVariants.{Void}
 use Rattle.capnp_show.specs.Line.{bytes_member, member}
 use Rattle.capnp_show.specs.Numbers.{flat_numbers}
 use Rattle.capnp_show.proofs.Adds.{adds_as}

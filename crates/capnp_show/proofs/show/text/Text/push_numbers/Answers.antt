@@ -1,4 +1,4 @@
-use Rattle.std.proofs.Common.{◌≡◌, ℕ, List, ◌++◌, map, sym}
+use Rattle.std.proofs.Common.{ℕ, List, ◌++◌, map, sym}
 use Rattle.std.specs.Prelude.{codes}
 use Rattle.std.specs.List.{join_with_byte}
 use Rattle.capnp_show.specs.Numbers.{flat_numbers, number_text}

@@ -1,9 +1,7 @@
-use Rattle.std.proofs.Common.{◌≡◌, ℕ, List, [], ◌∷◌, ◌++◌, refl, sym, ap, ◌∙◌, append_assoc, append-nil, arith}
+use Rattle.std.proofs.Common.{◌++◌, refl}
 use Rattle.std.specs.Prelude.{codes}
-use Rattle.std.specs.Fmt.{decimal}
-use Rattle.hex.specs.Hex.{encode_lower}
-use Rattle.capnp_show.specs.Line.{escaped, in_quotes, member}
-use Rattle.capnp_show.proofs.Adds.{adds_as, adds_none, adds_stops, adds_then, adds_three}
+use Rattle.capnp_show.specs.Line.{escaped}
+use Rattle.capnp_show.proofs.Adds.{adds_as, adds_stops, adds_then, adds_three}
 use Rattle.capnp_show.proofs.show.text.Text.push_quoted.Goals as goal
 
 pub returns-in_err-push : goal.returns-in_err-push
