@@ -1,5 +1,5 @@
 -- What a canonical copy of a pointer states about the pointer's message.
-use Rattle.std.proofs.Common.{◌≡◌, ◌⊎◌, inl, inr, true, sym, subst, arith, ℕ, ◌+◌, ◌*◌, ◌<◌, ◌≤◌, [], ◌∷◌, length, map, sum, Bool, IsTrue, Option}
+use Rattle.std.proofs.Common.{◌≡◌, ◌⊎◌, inl, inr, true, sym, subst, arith, ◌∙◌, ◌==◌, max, ℕ, ◌+◌, ◌*◌, ◌<◌, ◌≤◌, [], ◌∷◌, length, map, sum, Bool, IsTrue, Option}
 use Rattle.capnp_words.specs.Meter.{FitsIn, Meter, unused}
 use Rattle.capnp_words.specs.declared.error.ErrorKind.{ErrorKind}
 use Rattle.capnp_words.specs.declared.error.ErrorKind.TheVariants.{AllocationFailed}
@@ -17,7 +17,7 @@ use Rattle.capnp_objects.specs.Spending.{Paid, pointers_in}
 use Rattle.capnp_objects.specs.Wanted.{canonical}
 use Rattle.capnp_objects.proofs.Refusals.{unreadable}
 use Rattle.capnp_messages.specs.Copies.{LacksMemoryOr, RefusesCopy}
-use Rattle.capnp_messages.specs.Tries.{IsMadeByFirstTry, NeedsMoreRoom, as_asked, room_of_try}
+use Rattle.capnp_messages.specs.Tries.{IsMadeByFirstTry, NeedsMoreRoom, room_of_try, words_read}
 use Rattle.capnp_messages.proofs.TryLemmas.{moved_tries}
 use Rattle.callers.specs.Truly.{read_at}
 use Rattle.callers.proofs.Copied.{asked_no_more}
@@ -59,6 +59,20 @@ pub asked_at : {r : Reading} {S : Segments} {n s p : ℕ} (offers : ℕ → ℕ 
 asked_at {S = S} offers refusals made same tries =
     let there = moved_tries offers refusals made same tries in
     (room_of_try (total S) there.try, there.asked, λ t c means. asked_no_more S there.try (λ j less. there.before j less t c means))
+
+-- Whether exactly the requested words are offered.
+abbrev pub as_asked : ℕ → ℕ → Bool
+as_asked asked words = words == asked
+
+offered : (least room asked : ℕ) → least ≡ 0 → IsTrue (room == max least asked) → IsTrue (room == asked)
+offered least room asked none is = grind arith
+
+-- a heap that adds no words offers those that are requested
+pub tries_as_asked : {r : Reading} {refusals : ℕ} {made : View} (least : ℕ) → least ≡ 0 → refusals ≡ 0 →
+    IsMadeByFirstTry r (λ asked words. words == max least asked) refusals made → IsMadeByFirstTry r as_asked 0 made
+tries_as_asked {r} {refusals} {made} least none yet tries =
+    let asks : ℕ = room_of_try (words_read r) tries.try in
+    record { try = tries.try; asked = offered least (made.room 0) asks none tries.asked; before = tries.before; granted = tries.granted ∙ yet }
 
 just_asked : (k room : ℕ) → IsTrue (as_asked k room) → room ≡ k
 just_asked k room is = grind arith

@@ -15,8 +15,10 @@ ghost use Rattle.capnp_messages.specs.Copies.{RefusesCopy};
 ghost use Rattle.callers.specs.Truly.{read_at};
 
 use crate::theorem::pointer_at;
-use capnp_arena::arena::{BuilderArena, ReaderArena, ReaderArenaImpl, ReaderSegments};
-use capnp_messages::messages::{CanonicalCopy, copy_canonical};
+use capnp_arena::arena::{
+    BuilderArena, BuilderArenaImpl, HeapAllocator, ReaderArena, ReaderArenaImpl, ReaderSegments,
+};
+use capnp_messages::messages::canonicalize_pointer;
 use capnp_readers::readers::PointerPlace;
 use capnp_words::error::ErrorKind;
 use capnp_words::read_limiter::ReadLimiter;
@@ -36,7 +38,7 @@ pub fn heap_copy_at<S: ReaderSegments>(
     arena: &ReaderArenaImpl<S>,
     place: PointerPlace,
     lim: &mut ReadLimiter,
-) -> Result<CanonicalCopy, ErrorKind>
+) -> Result<BuilderArenaImpl<HeapAllocator>, ErrorKind>
     requires place { IsPlace (message (⟦<ReaderArenaImpl<S> as ReaderArena>⟧.segments arena.now))
         place.segment place.word }
     ensures exactly_where { (t : Tree) (c : ℕ)
@@ -49,13 +51,14 @@ pub fn heap_copy_at<S: ReaderSegments>(
         × Means (message (⟦<ReaderArenaImpl<S> as ReaderArena>⟧.segments arena.now))
         (levels arena.now.nesting_limit) place.segment place.word t c
         × IsFree t × Paid true lim.old lim.new c (pointers_in t)
-        × ((⟦<CanonicalCopy as BuilderArena>⟧.view made).words ≡ encoding (trim t) ∷ [])) }
+        × ((⟦<BuilderArenaImpl<HeapAllocator> as BuilderArena>⟧.view made).words
+        ≡ encoding (trim t) ∷ [])) }
     ensures asked { IfOk result (λ made. (t : Tree) (c : ℕ)
         → Means (message (⟦<ReaderArenaImpl<S> as ReaderArena>⟧.segments arena.now))
         (levels arena.now.nesting_limit) place.segment place.word t c
-        → ((⟦<CanonicalCopy as BuilderArena>⟧.view made).room 0 ≤ sum (map length
+        → ((⟦<BuilderArenaImpl<HeapAllocator> as BuilderArena>⟧.view made).room 0 ≤ sum (map length
         (message (⟦<ReaderArenaImpl<S> as ReaderArena>⟧.segments arena.now))) + 1)
-        ⊎ ((⟦<CanonicalCopy as BuilderArena>⟧.view made).room 0
+        ⊎ ((⟦<BuilderArenaImpl<HeapAllocator> as BuilderArena>⟧.view made).room 0
         < 2 * (1 + word_count (trim t)))) }
     ensures unread { OnErr result (lim.new ≡ lim.old) }
     ensures refused { IfErr result (λ k. (k ≡ AllocationFailed) ⊎ RefusesCopy
@@ -63,5 +66,9 @@ pub fn heap_copy_at<S: ReaderSegments>(
         (levels arena.now.nesting_limit) place.segment place.word)
         lim.old.left max_segment_words k) }
 {
-    copy_canonical(alloc, pointer_at(arena, place), lim)
+    let heap = HeapAllocator::new(alloc, 0);
+    match canonicalize_pointer(alloc, heap, pointer_at(arena, place), lim) {
+        Ok(made) => Ok(made),
+        Err((kind, _)) => Err(kind),
+    }
 }

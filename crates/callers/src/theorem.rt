@@ -44,8 +44,8 @@ use capnp_edits::edit::{Edit, apply_all};
 use capnp_framing::devices::{Output, write_all};
 use capnp_framing::framing::FrameError;
 use capnp_messages::messages::{
-    CanonicalError, Form, canonical_bytes, canonical_with, copy_canonical_with, is_canonical,
-    read_root, write_copy,
+    CanonicalError, Form, canonical_bytes, canonicalize, canonicalize_pointer, check, read_root,
+    write_copy,
 };
 use capnp_pointers::pointers::Pointer;
 use capnp_readers::readers::{PointerPlace, PointerReader, StructPlace};
@@ -88,7 +88,8 @@ pub fn canonical_copy<A: Allocator, S: ReaderSegments + Drop>(
         (λ e. LacksMemoryOr (A.refusals allocator) (A.refusals e.1) e.0
         (RefusesCanon (message (S.segments segments)) limits e.0)) }
 {
-    match canonical_with(alloc, allocator, segments, limits) {
+    let source = ReaderArenaImpl::new(segments, limits);
+    match canonicalize(alloc, allocator, &source, limits.traversal_limit_in_words) {
         Ok(made) => {
             is_short(&made);
             Ok(made)
@@ -169,7 +170,7 @@ pub fn canonical_copy_in_bytes<W: Output, A: Allocator, S: ReaderSegments + Drop
         (RefusesCanon (message (S.segments segments)) limits k) × (output.new ≡ output.old))
         ⊎ ((e.0 ≡ CanonicalError.Frame WriteFailed) × (W.has_failed output.new ≡ true))) }
 {
-    match canonical_with(alloc, allocator, segments, limits) {
+    match canonical_copy(alloc, allocator, segments, limits) {
         Ok(made) => match write_bytes(output, &made, form) {
             Ok(()) => Ok(()),
             Err(error) => Err((error, made.into_allocator())),
@@ -277,7 +278,11 @@ pub fn canonical_test<S: ReaderSegments + Drop>(
     ensures computed { whole_result (check (message (S.segments segments)) limits) ≡ result }
     ensures refused { IfErr result (RefusesCheck (message (S.segments segments)) limits) }
 {
-    is_canonical(segments, limits)
+    let source = ReaderArenaImpl::new(segments, limits);
+    match check(&source, limits.traversal_limit_in_words) {
+        Ok(fault) => Ok(fault.is_none()),
+        Err(kind) => Err(kind),
+    }
 }
 
 /// Tests whether the pointer at `place` leads to a value in canonical form. `head` is the position
@@ -368,7 +373,7 @@ pub fn canonical_copy_at<A: Allocator, S: ReaderSegments>(
         (levels arena.now.nesting_limit) place.segment place.word)
         lim.old.left max_segment_words e.0)) }
 {
-    copy_canonical_with(alloc, allocator, pointer_at(arena, place), lim)
+    canonicalize_pointer(alloc, allocator, pointer_at(arena, place), lim)
 }
 
 /// Makes, in `arena`, the canonical copy of the value that the pointer at `place` of `source` leads

@@ -1,24 +1,25 @@
-//! Makes a canonical copy of a message, for any type that holds the message's segments.
-ghost use Rattle.std.specs.Prelude.{◌≡◌, ◌≢◌, ◌⊎◌, ◌≤◌, ◌<◌, ◌+◌, ◌*◌, ◌/◌, ◌^◌, ◌∷◌, [], ℕ, List, length, take, drop, Some, IfOk, IfErr, OnErr};
+//! Makes a canonical copy of a message, tests it for canonical form, and measures it, for any type
+//! that holds the message's segments.
+ghost use Rattle.std.specs.Prelude.{◌≡◌, ◌<◌, ◌+◌, ◌/◌, ◌^◌, ◌∷◌, [], ℕ, List, length, Some, IfOk, IfErr};
 ghost use Rattle.std.specs.Int.{to_le_bytes, w32};
 ghost use Rattle.capnp_format.specs.Bytes.{message};
-ghost use Rattle.capnp_format.specs.Canonical.{encoding, trim};
-ghost use Rattle.capnp_format.specs.Tree.{Tree};
 ghost use Rattle.capnp_arena_traits.specs.Limits.{IsSmall};
 ghost use Rattle.capnp_framing.specs.Frames.{bytes_of_words, frame};
-ghost use Rattle.capnp_messages.specs.Messages.{HasSizeOf, IsFaultOf};
-ghost use Rattle.capnp_messages.specs.Commands.{RefusesAnswer, form_bytes};
+ghost use Rattle.capnp_messages.specs.Messages.{HasSizeOf, arena_limits};
+ghost use Rattle.capnp_messages.specs.Commands.{form_bytes};
 ghost use Rattle.capnp_messages.specs.declared.messages.command.Command.{Command};
-ghost use Rattle.capnp_canonical.specs.Calls.{Fills, IsCopyOf, RefusesRoom, limits_of, table_bytes};
+ghost use Rattle.capnp_canonical.specs.Calls.{Fills, IsCopyOf, RefusesMeaning, RefusesRoom, TestFinds, limits_of, table_bytes};
 ghost use Rattle.capnp_canonical.specs.declared.refusal.Refusal.{Refusal};
 
 use crate::refusal::Refusal;
 use capnp_arena::arena::{
     BuilderArenaImpl, HeapAllocator, ReaderArena, ReaderArenaImpl, ReaderOptions, ReaderSegments,
 };
+use capnp_messages::messages;
 use capnp_messages::messages::{
-    Form, LentMemory, canonical_bytes, canonical_from, canonical_in_room, canonical_segment,
+    Form, LentMemory, canonical_bytes, canonical_segment, canonicalize, canonicalize_into,
 };
+use capnp_pointers::pointers::{CanonicalFault, MessageSize};
 use std::alloc::Global;
 
 /// The limits for reading a message.
@@ -110,16 +111,18 @@ fn copy_on_heap<S: ReaderSegments>(
     alloc: Global,
     form: Form,
     source: &ReaderArenaImpl<S>,
-    limits: ReaderOptions,
+    traversal_limit_in_words: Option<usize>,
     to: &mut [u8],
 ) -> Result<usize, Refusal>
-    requires { source.now.nesting_limit ≡ limits.nesting_limit }
-    ensures copied { Fills result to.old to.new (IsCopyOf form limits
+    ensures copied { Fills result to.old to.new (IsCopyOf form
+        (arena_limits source.now.nesting_limit traversal_limit_in_words)
         (message (⟦<ReaderArenaImpl<S> as ReaderArena>⟧.segments source.now))) }
-    ensures refused { IfErr result (RefusesRoom form limits (length to.old)
+    ensures refused { IfErr result (RefusesRoom form
+        (arena_limits source.now.nesting_limit traversal_limit_in_words) (length to.old)
         (message (⟦<ReaderArenaImpl<S> as ReaderArena>⟧.segments source.now))) }
 {
-    match canonical_from(alloc, HeapAllocator::new(alloc, 0), source, limits) {
+    let allocator = HeapAllocator::new(alloc, 0);
+    match canonicalize(alloc, allocator, source, traversal_limit_in_words) {
         Ok(made) => put(form, canonical_bytes(&made), to),
         Err((kind, _)) => Err(Refusal::Layout(kind)),
     }
@@ -130,23 +133,25 @@ fn copy_small<S: ReaderSegments>(
     alloc: Global,
     form: Form,
     source: &ReaderArenaImpl<S>,
-    limits: ReaderOptions,
+    traversal_limit_in_words: Option<usize>,
     to: &mut [u8],
 ) -> Result<usize, Refusal>
-    requires { source.now.nesting_limit ≡ limits.nesting_limit }
-    ensures copied { Fills result to.old to.new (IsCopyOf form limits
+    ensures copied { Fills result to.old to.new (IsCopyOf form
+        (arena_limits source.now.nesting_limit traversal_limit_in_words)
         (message (⟦<ReaderArenaImpl<S> as ReaderArena>⟧.segments source.now))) }
-    ensures refused { IfErr result (RefusesRoom form limits (length to.old)
+    ensures refused { IfErr result (RefusesRoom form
+        (arena_limits source.now.nesting_limit traversal_limit_in_words) (length to.old)
         (message (⟦<ReaderArenaImpl<S> as ReaderArena>⟧.segments source.now))) }
 {
     let mut memory = [0u8; SMALL];
     let mut made = BuilderArenaImpl::new(alloc, LentMemory::new(memory.as_mut_slice()));
-    match canonical_in_room(&mut made, SMALL as u32 / 8, source, limits) {
+    let room = SMALL as u32 / 8;
+    match canonicalize_into(&mut made, room, source, traversal_limit_in_words) {
         Ok(fits) => {
             if fits {
                 put(form, canonical_bytes(&made), to)
             } else {
-                copy_on_heap(alloc, form, source, limits, to)
+                copy_on_heap(alloc, form, source, traversal_limit_in_words, to)
             }
         }
         Err(kind) => Err(Refusal::Layout(kind)),
@@ -159,18 +164,19 @@ fn copy_large<S: ReaderSegments>(
     alloc: Global,
     form: Form,
     source: &ReaderArenaImpl<S>,
-    limits: ReaderOptions,
+    traversal_limit_in_words: Option<usize>,
     to: &mut [u8],
 ) -> Result<usize, Refusal>
-    requires { source.now.nesting_limit ≡ limits.nesting_limit }
-    ensures copied { Fills result to.old to.new (IsCopyOf form limits
+    ensures copied { Fills result to.old to.new (IsCopyOf form
+        (arena_limits source.now.nesting_limit traversal_limit_in_words)
         (message (⟦<ReaderArenaImpl<S> as ReaderArena>⟧.segments source.now))) }
-    ensures refused { IfErr result (RefusesRoom form limits (length to.old)
+    ensures refused { IfErr result (RefusesRoom form
+        (arena_limits source.now.nesting_limit traversal_limit_in_words) (length to.old)
         (message (⟦<ReaderArenaImpl<S> as ReaderArena>⟧.segments source.now))) }
 {
-    match canonical_segment(source, limits) {
+    match canonical_segment(source, traversal_limit_in_words) {
         Some(words) => put(form, words, to),
-        None => copy_on_heap(alloc, form, source, limits, to),
+        None => copy_on_heap(alloc, form, source, traversal_limit_in_words, to),
     }
 }
 
@@ -196,8 +202,46 @@ pub fn copy<S: ReaderSegments + Drop>(
 {
     let source = ReaderArenaImpl::new(segments, limits);
     if source.size_in_words() < SMALL / 8 {
-        copy_small(alloc, form, &source, limits, to)
+        copy_small(alloc, form, &source, limits.traversal_limit_in_words, to)
     } else {
-        copy_large(alloc, form, &source, limits, to)
+        copy_large(alloc, form, &source, limits.traversal_limit_in_words, to)
+    }
+}
+
+/// Returns why and where the message in `segments` isn't canonical; `None` if it is.
+pub fn check<S: ReaderSegments + Drop>(
+    segments: S,
+    limits: Limits,
+) -> Result<Option<CanonicalFault>, Refusal>
+    requires { IsSmall (S.segments segments) }
+    ensures found { IfOk result (λ o. TestFinds (limits_of limits.nesting limits.words) o
+        (message (S.segments segments))) }
+    ensures refused { IfErr result
+        (RefusesMeaning Command.Check (limits_of limits.nesting limits.words)
+        (message (S.segments segments))) }
+{
+    let options = limits.options();
+    let source = ReaderArenaImpl::new(segments, options);
+    match messages::check(&source, options.traversal_limit_in_words) {
+        Ok(found) => Ok(found),
+        Err(kind) => Err(Refusal::Layout(kind)),
+    }
+}
+
+/// Counts the words and capabilities of the message in `segments`, without the root pointer and
+/// landing pads.
+pub fn size<S: ReaderSegments + Drop>(segments: S, limits: Limits) -> Result<MessageSize, Refusal>
+    requires { IsSmall (S.segments segments) }
+    ensures size { IfOk result (λ z. HasSizeOf (message (S.segments segments))
+        (limits_of limits.nesting limits.words) z.word_count z.cap_count) }
+    ensures refused { IfErr result
+        (RefusesMeaning Command.Size (limits_of limits.nesting limits.words)
+        (message (S.segments segments))) }
+{
+    let options = limits.options();
+    let source = ReaderArenaImpl::new(segments, options);
+    match messages::size(&source, options.traversal_limit_in_words) {
+        Ok(size) => Ok(size),
+        Err(kind) => Err(Refusal::Layout(kind)),
     }
 }

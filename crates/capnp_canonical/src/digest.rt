@@ -8,8 +8,8 @@ ghost use Rattle.capnp_messages.specs.declared.messages.command.Form.{Form};
 ghost use Rattle.capnp_canonical.specs.Calls.{RefusesMeaning};
 
 use crate::refusal::Refusal;
-use capnp_arena::arena::{HeapAllocator, ReaderOptions, ReaderSegments};
-use capnp_messages::messages::digest_with;
+use capnp_arena::arena::{HeapAllocator, ReaderArenaImpl, ReaderOptions, ReaderSegments};
+use capnp_messages::messages;
 use std::alloc::Global;
 
 /// Returns the SHA-256 of the canonical words of the message in `segments`.
@@ -26,7 +26,10 @@ pub fn digest<S: ReaderSegments + Drop>(
     ensures refused { IfErr result (RefusesMeaning (Command.Canon Form.Flat) limits
         (message (S.segments segments))) }
 {
-    let (digest, _) = digest_with(alloc, HeapAllocator::new(alloc, 0), segments, limits);
+    let source = ReaderArenaImpl::new(segments, limits);
+    let allocator = HeapAllocator::new(alloc, 0);
+    let words = limits.traversal_limit_in_words;
+    let (digest, _) = messages::digest(alloc, allocator, &source, words);
     match digest {
         Ok(digest) => Ok(digest),
         Err(kind) => Err(Refusal::Layout(kind)),

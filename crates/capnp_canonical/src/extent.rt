@@ -3,15 +3,16 @@ ghost use Rattle.std.specs.Prelude.{◌≡◌, ◌⊎◌, IfOk, IfErr};
 ghost use Rattle.capnp_format.specs.Bytes.{message};
 ghost use Rattle.capnp_arena_traits.specs.Limits.{IsSmall};
 ghost use Rattle.capnp_canonical.specs.Calls.{InFrame, InSegments, InWords, RefusesBytes, RefusesSegment, RefusesSegments, limits_of};
-ghost use Rattle.capnp_canonical.specs.Validation.{ExtentIs, RefusesExtent, no_extent, told_extent};
+ghost use Rattle.capnp_canonical.specs.Validation.{ExtentIs, RefusesExtent, told_extent};
 
 use crate::calls::Limits;
 use crate::frames::message_in;
 use crate::refusal::Refusal;
 use crate::segments::LentSegments;
 use crate::words::message_of;
-use capnp_arena::arena::ReaderSegments;
-use capnp_messages::messages::{MessageExtent, validate_of};
+use capnp_arena::arena::{ReaderArenaImpl, ReaderSegments};
+use capnp_messages::messages;
+use capnp_messages::messages::MessageExtent;
 
 /// How deep the value of a message is, how much it holds, and what reading it costs.
 #[repr(C)]
@@ -60,7 +61,9 @@ fn validate<S: ReaderSegments + Drop>(segments: S, limits: Limits) -> Result<Sou
     ensures refused { IfErr result (RefusesExtent (limits_of limits.nesting limits.words)
         (message (S.segments segments))) }
 {
-    match validate_of(segments, limits.options()) {
+    let options = limits.options();
+    let source = ReaderArenaImpl::new(segments, options);
+    match messages::validate(&source, options.traversal_limit_in_words) {
         Ok(found) => Ok(SoundMessage::of(found)),
         Err(kind) => Err(Refusal::Layout(kind)),
     }

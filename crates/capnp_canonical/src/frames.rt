@@ -1,24 +1,23 @@
 //! Copies, tests, measures and hashes the message whose frame is at the front of a buffer (encoding
 //! specification, "Serialization Over a Stream").
-ghost use Rattle.std.specs.Prelude.{◌≡◌, ◌⊎◌, ◌≤◌, length, take, drop, Ok, IfOk, IfErr, OnErr};
+ghost use Rattle.std.specs.Prelude.{◌≡◌, ◌⊎◌, length, Ok, IfOk, IfErr};
 ghost use Rattle.capnp_format.specs.Bytes.{message};
 ghost use Rattle.capnp_arena_traits.specs.Limits.{IsSmall};
 ghost use Rattle.capnp_framing.specs.Flat.{BeginsWithFrame};
 ghost use Rattle.capnp_framing.specs.Frames.{frame};
 ghost use Rattle.capnp_framing.specs.Prefix.{size_from_prefix};
-ghost use Rattle.capnp_messages.specs.CanonicalMessages.{IsCanonicalMessage};
 ghost use Rattle.capnp_messages.specs.Messages.{HasSizeOf};
 ghost use Rattle.capnp_messages.specs.Digests.{IsDigestOf};
 ghost use Rattle.capnp_messages.specs.declared.messages.command.Command.{Command};
 ghost use Rattle.capnp_messages.specs.declared.messages.command.Form.{Form};
 ghost use Rattle.capnp_canonical.specs.Calls.{Fills, InFrame, IsCopyOf, RefusesBytes, RefusesMeaning, RefusesPrefix, RefusesRoom, TestFinds, limits_of};
 
-use crate::calls::{Limits, copy};
+use crate::calls::{Limits, check, copy, size};
 use crate::digest::digest;
 use crate::refusal::Refusal;
 use capnp_arena::arena::ReaderSegments;
 use capnp_framing::framing::{FrameSegments, read_from_flat_slice, size_from_prefix};
-use capnp_messages::messages::{Form, canonical_fault_of, size_of};
+use capnp_messages::messages::Form;
 use capnp_pointers::pointers::{CanonicalFault, MessageSize};
 use std::alloc::Global;
 
@@ -68,7 +67,7 @@ pub fn check_frame(frame: &[u8], limits: Limits) -> Result<Option<CanonicalFault
         (λ S. RefusesMeaning Command.Check (limits_of limits.nesting limits.words) S r)) }
 {
     let segments = message_in(frame, limits.words)?;
-    Ok(canonical_fault_of(segments, limits.options())?)
+    check(segments, limits)
 }
 
 /// Counts the words and capabilities of the message whose frame is at the front of `frame`, without
@@ -81,7 +80,7 @@ pub fn size_frame(frame: &[u8], limits: Limits) -> Result<MessageSize, Refusal>
         (λ S. RefusesMeaning Command.Size (limits_of limits.nesting limits.words) S r)) }
 {
     let segments = message_in(frame, limits.words)?;
-    Ok(size_of(segments, limits.options())?)
+    size(segments, limits)
 }
 
 /// Returns the size in bytes of the frame at the front of `bytes`. Refuses a message of more than

@@ -1,9 +1,10 @@
 //! Copies, measures and hashes a part of a message: the value to which a path leads.
 //! Takes the message's frame, its segments, or the words of its only segment.
-ghost use Rattle.std.specs.Prelude.{◌≡◌, ◌⊎◌, length, IfOk, IfErr};
+ghost use Rattle.std.specs.Prelude.{◌⊎◌, length, IfOk, IfErr};
 ghost use Rattle.capnp_format.specs.Bytes.{message};
 ghost use Rattle.capnp_arena_traits.specs.Limits.{IsSmall};
 ghost use Rattle.capnp_messages.specs.MessageParts.{IsDigestOfPart};
+ghost use Rattle.capnp_messages.specs.Messages.{arena_limits};
 ghost use Rattle.capnp_canonical.specs.Calls.{Fills, InFrame, InSegments, InWords, RefusesBytes, RefusesSegment, RefusesSegments, limits_of};
 ghost use Rattle.capnp_canonical.specs.Parts.{HasPartSize, IsCopyOfPart, RefusesPartOf, RefusesPartRoom, RefusesPartSize};
 
@@ -13,10 +14,10 @@ use crate::refusal::Refusal;
 use crate::segments::LentSegments;
 use crate::words::message_of;
 use capnp_arena::arena::{
-    BuilderArenaImpl, HeapAllocator, ReaderArena, ReaderArenaImpl, ReaderOptions, ReaderSegments,
+    BuilderArenaImpl, HeapAllocator, ReaderArena, ReaderArenaImpl, ReaderSegments,
 };
 use capnp_messages::messages::{
-    LentMemory, canonical_bytes, canonical_part_from, canonical_part_in_room, digest_of_part,
+    LentMemory, canonical_bytes, canonicalize_part, canonicalize_part_into, digest_of_part,
     size_of_part,
 };
 use capnp_pointers::pointers::MessageSize;
@@ -32,16 +33,18 @@ fn copy_part_on_heap<S: ReaderSegments>(
     alloc: Global,
     source: &ReaderArenaImpl<S>,
     path: &[u32],
-    limits: ReaderOptions,
+    traversal_limit_in_words: Option<usize>,
     to: &mut [u8],
 ) -> Result<usize, Refusal>
-    requires { source.now.nesting_limit ≡ limits.nesting_limit }
-    ensures copied { Fills result to.old to.new (IsCopyOfPart limits path.now
+    ensures copied { Fills result to.old to.new (IsCopyOfPart
+        (arena_limits source.now.nesting_limit traversal_limit_in_words) path.now
         (message (⟦<ReaderArenaImpl<S> as ReaderArena>⟧.segments source.now))) }
-    ensures refused { IfErr result (RefusesPartRoom limits path.now (length to.old)
+    ensures refused { IfErr result (RefusesPartRoom
+        (arena_limits source.now.nesting_limit traversal_limit_in_words) path.now (length to.old)
         (message (⟦<ReaderArenaImpl<S> as ReaderArena>⟧.segments source.now))) }
 {
-    match canonical_part_from(alloc, HeapAllocator::new(alloc, 0), source, path, limits) {
+    let allocator = HeapAllocator::new(alloc, 0);
+    match canonicalize_part(alloc, allocator, source, path, traversal_limit_in_words) {
         Ok(made) => put_flat(canonical_bytes(&made), to),
         Err((kind, _)) => Err(Refusal::Layout(kind)),
     }
@@ -52,23 +55,25 @@ fn copy_part<S: ReaderSegments>(
     alloc: Global,
     source: &ReaderArenaImpl<S>,
     path: &[u32],
-    limits: ReaderOptions,
+    traversal_limit_in_words: Option<usize>,
     to: &mut [u8],
 ) -> Result<usize, Refusal>
-    requires { source.now.nesting_limit ≡ limits.nesting_limit }
-    ensures copied { Fills result to.old to.new (IsCopyOfPart limits path.now
+    ensures copied { Fills result to.old to.new (IsCopyOfPart
+        (arena_limits source.now.nesting_limit traversal_limit_in_words) path.now
         (message (⟦<ReaderArenaImpl<S> as ReaderArena>⟧.segments source.now))) }
-    ensures refused { IfErr result (RefusesPartRoom limits path.now (length to.old)
+    ensures refused { IfErr result (RefusesPartRoom
+        (arena_limits source.now.nesting_limit traversal_limit_in_words) path.now (length to.old)
         (message (⟦<ReaderArenaImpl<S> as ReaderArena>⟧.segments source.now))) }
 {
     let mut memory = [0u8; SMALL];
     let mut made = BuilderArenaImpl::new(alloc, LentMemory::new(memory.as_mut_slice()));
-    match canonical_part_in_room(&mut made, SMALL as u32 / 8, source, path, limits) {
+    let room = SMALL as u32 / 8;
+    match canonicalize_part_into(&mut made, room, source, path, traversal_limit_in_words) {
         Ok(fits) => {
             if fits {
                 put_flat(canonical_bytes(&made), to)
             } else {
-                copy_part_on_heap(alloc, source, path, limits, to)
+                copy_part_on_heap(alloc, source, path, traversal_limit_in_words, to)
             }
         }
         Err(kind) => Err(Refusal::Layout(kind)),
@@ -96,7 +101,7 @@ fn copy_at<S: ReaderSegments + Drop>(
 {
     let options = limits.options();
     let source = ReaderArenaImpl::new(segments, options);
-    copy_part(alloc, &source, path, options, to)
+    copy_part(alloc, &source, path, options.traversal_limit_in_words, to)
 }
 
 /// Returns the SHA-256 of the canonical words of the part of the message in `segments` to which
@@ -117,7 +122,8 @@ fn digest_at<S: ReaderSegments + Drop>(
     let options = limits.options();
     let source = ReaderArenaImpl::new(segments, options);
     let allocator = HeapAllocator::new(alloc, 0);
-    let (digest, _) = digest_of_part(alloc, allocator, &source, path, options);
+    let words = options.traversal_limit_in_words;
+    let (digest, _) = digest_of_part(alloc, allocator, &source, path, words);
     match digest {
         Ok(digest) => Ok(digest),
         Err(kind) => Err(Refusal::Layout(kind)),
@@ -141,7 +147,7 @@ fn size_at<S: ReaderSegments + Drop>(
 {
     let options = limits.options();
     let source = ReaderArenaImpl::new(segments, options);
-    Ok(size_of_part(&source, path, options)?)
+    Ok(size_of_part(&source, path, options.traversal_limit_in_words)?)
 }
 
 /// Makes the canonical copy of the part of the message at the front of `frame` to which `path`

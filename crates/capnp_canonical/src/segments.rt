@@ -1,18 +1,17 @@
 //! Copies, tests, measures and hashes a message in the caller's segments.
-ghost use Rattle.std.specs.Prelude.{◌≡◌, ◌⊎◌, ◌≤◌, map, length, take, drop, IfOk, IfErr, OnErr};
+ghost use Rattle.std.specs.Prelude.{◌≡◌, ◌⊎◌, map, length, IfOk, IfErr};
 ghost use Rattle.capnp_arena_traits.specs.Limits.{AreSmall, IsSmall};
-ghost use Rattle.capnp_messages.specs.CanonicalMessages.{IsCanonicalMessage};
 ghost use Rattle.capnp_messages.specs.Messages.{HasSizeOf};
 ghost use Rattle.capnp_messages.specs.Digests.{IsDigestOf};
 ghost use Rattle.capnp_messages.specs.declared.messages.command.Command.{Command};
 ghost use Rattle.capnp_messages.specs.declared.messages.command.Form.{Form};
 ghost use Rattle.capnp_canonical.specs.Calls.{AreWholeWords, Fills, InSegments, IsCopyOf, RefusesMeaning, RefusesRoom, RefusesSegments, TestFinds, lent_bytes, limits_of};
 
-use crate::calls::{Limits, copy};
+use crate::calls::{Limits, check, copy, size};
 use crate::digest::digest;
 use crate::refusal::Refusal;
 use capnp_arena::arena::{ReaderSegments, SegmentArray};
-use capnp_messages::messages::{Form, canonical_fault_of, size_of};
+use capnp_messages::messages::Form;
 use capnp_pointers::pointers::{CanonicalFault, MessageSize};
 use capnp_words::error::ErrorKind;
 use std::alloc::Global;
@@ -99,7 +98,7 @@ pub fn check_segments(segments: &[&[u8]], limits: Limits) -> Result<Option<Canon
         (λ S. RefusesMeaning Command.Check (limits_of limits.nesting limits.words) S r)) }
 {
     let lent = LentSegments::new(segments)?;
-    Ok(canonical_fault_of(lent, limits.options())?)
+    check(lent, limits)
 }
 
 /// Counts the words and capabilities of the message in `segments`, without the root pointer and
@@ -112,7 +111,7 @@ pub fn size_segments(segments: &[&[u8]], limits: Limits) -> Result<MessageSize, 
         (λ S. RefusesMeaning Command.Size (limits_of limits.nesting limits.words) S r)) }
 {
     let lent = LentSegments::new(segments)?;
-    Ok(size_of(lent, limits.options())?)
+    size(lent, limits)
 }
 
 /// Returns the SHA-256 of the canonical words of the message in `segments`.

@@ -1,6 +1,6 @@
 //! Copies, tests, measures and hashes a message given as the words of its only segment, without a
 //! frame.
-ghost use Rattle.std.specs.Prelude.{◌≡◌, ◌⊎◌, ◌∷◌, [], ◌≤◌, length, take, drop, IfOk, IfErr, OnErr};
+ghost use Rattle.std.specs.Prelude.{◌≡◌, ◌⊎◌, ◌∷◌, [], length, IfOk, IfErr};
 ghost use Rattle.capnp_arena_traits.specs.Limits.{IsSmall};
 ghost use Rattle.capnp_arena.specs.Output.{output_bytes};
 ghost use Rattle.capnp_messages.specs.Messages.{HasSizeOf};
@@ -9,12 +9,12 @@ ghost use Rattle.capnp_messages.specs.declared.messages.command.Command.{Command
 ghost use Rattle.capnp_messages.specs.declared.messages.command.Form.{Form};
 ghost use Rattle.capnp_canonical.specs.Calls.{Fills, InWords, IsCopyOf, IsOneSegment, RefusesMeaning, RefusesRoom, RefusesSegment, TestFinds, limits_of};
 
-use crate::calls::{Limits, copy};
+use crate::calls::{Limits, check, copy, size};
 use crate::digest::digest;
 use crate::refusal::Refusal;
 use crate::segments::without_null;
 use capnp_arena::arena::OutputSegments;
-use capnp_messages::messages::{Form, canonical_fault_of, size_of};
+use capnp_messages::messages::Form;
 use capnp_pointers::pointers::{CanonicalFault, MessageSize};
 use capnp_words::error::ErrorKind;
 use std::alloc::Global;
@@ -63,7 +63,7 @@ pub fn check_words(words: &[u8], limits: Limits) -> Result<Option<CanonicalFault
         (λ S. RefusesMeaning Command.Check (limits_of limits.nesting limits.words) S r)) }
 {
     let message = message_of(words)?;
-    Ok(canonical_fault_of(message, limits.options())?)
+    check(message, limits)
 }
 
 /// Counts the words and capabilities of the message whose one segment is `words`, without the root
@@ -76,7 +76,7 @@ pub fn size_words(words: &[u8], limits: Limits) -> Result<MessageSize, Refusal>
         (λ S. RefusesMeaning Command.Size (limits_of limits.nesting limits.words) S r)) }
 {
     let message = message_of(words)?;
-    Ok(size_of(message, limits.options())?)
+    size(message, limits)
 }
 
 /// Returns the SHA-256 of the canonical words of the message whose one segment is `words`.

@@ -9,8 +9,9 @@ pub use capnp_framing::framing::{
     read_into_with, read_segment_into, read_segment_into_with, write,
 };
 pub use capnp_messages::messages::{
-    CanonicalCopy, CanonicalError, CopyMemory, MessageExtent, canonical_bytes, canonical_fault,
-    canonical_segment, is_canonical_message, laws, validate, validate_of, write_copy,
+    CanonicalError, CopyMemory, MessageExtent, canonical_bytes, canonical_fault, canonical_segment,
+    canonicalize, canonicalize_into, check, is_canonical_message, laws, size, validate,
+    validate_root, write_copy,
 };
 pub use capnp_readers::readers::{CanonicalFault, CanonicalFaultReason};
-pub use pointed::{copy_canonical, copy_canonical_with, read_root, write_canonical};
+pub use pointed::{canonicalize_pointer, read_root, write_canonical};

@@ -1,5 +1,5 @@
 -- A message that is canonical as a whole is its own canonical copy.
-use Rattle.std.proofs.Common.{◌≡◌, slice_get, ℕ, ℤ, ◌+◌, ◌/◌, ◌≤◌, List, [], ◌∷◌, length, Option, Some, None, sym, ap, ◌∙◌, subst, arith}
+use Rattle.std.proofs.Common.{◌≡◌, slice_get, ℕ, ◌+◌, ◌/◌, ◌≤◌, List, [], ◌∷◌, length, Option, Some, None, sym, ap, ◌∙◌, subst, arith}
 use Rattle.capnp_words.specs.Meter.{Meter, FitsIn, unused}
 use Rattle.capnp_format.specs.Bytes.{message, words_of}
 use Rattle.capnp_format.specs.Canonical.{charge, encoding, trim}
@@ -19,13 +19,11 @@ covers_less None n more less covered = tt
 covers_less (Some left) n more less covered = omega arith
 
 -- what the test of a canonical message found and paid is the message's value within the limits
-pub value_within : {S : Segments} {limits : ReaderOptions} {n : ℤ} {old new : Meter} → n ≡ limits.nesting_limit →
-    old ≡ unused limits.traversal_limit_in_words → IsWithinLevels S (levels n) → IsPaid S old new →
-    (t : Tree) × IsValueOf S limits t × IsCanonicalOf S t
-value_within {S} {limits} {n} {old} {new} nesting begun within (t, canonical, paid) =
+pub value_within : {S : Segments} (limits : ReaderOptions) {old new : Meter} → old ≡ unused limits.traversal_limit_in_words →
+    IsWithinLevels S (levels limits.nesting_limit) → IsPaid S old new → (t : Tree) × IsValueOf S limits t × IsCanonicalOf S t
+value_within {S} limits begun within (t, canonical, paid) =
     let budget : Option ℕ = limits.traversal_limit_in_words in
-    let deep : depth t ≤ levels limits.nesting_limit =
-    subst (λ (z : ℤ). depth t ≤ levels z) nesting (within t canonical) in
+    let deep : depth t ≤ levels limits.nesting_limit = within t canonical in
     let covered : FitsIn budget (1 + charge t) =
     subst (λ (m : Meter). FitsIn m.left (1 + charge t)) begun paid.covers in (
       t,
@@ -59,11 +57,11 @@ StandsWithin segments limits bytes =
     × ((t : Tree) × IsValueOf (message segments) limits t × IsCanonicalOf (message segments) t)
 
 -- if a message is canonical, its first segment is all of it
-pub segment_stands : {B : List (List ℕ)} {bytes : List ℕ} {limits : ReaderOptions} {n : ℤ} {old new : Meter} →
-    slice_get B 0 ≡ Some bytes → n ≡ limits.nesting_limit → old ≡ unused limits.traversal_limit_in_words →
-    IsWithinLevels (message B) (levels n) → IsPaid (message B) old new → StandsWithin B limits bytes
-segment_stands {B} {bytes} got nesting begun within (t, canonical, paid) =
-    (only_bytes B bytes (one_segment B (t, canonical)) got, value_within nesting begun within (t, canonical, paid))
+pub segment_stands : {B : List (List ℕ)} {bytes : List ℕ} (limits : ReaderOptions) {old new : Meter} →
+    slice_get B 0 ≡ Some bytes → old ≡ unused limits.traversal_limit_in_words →
+    IsWithinLevels (message B) (levels limits.nesting_limit) → IsPaid (message B) old new → StandsWithin B limits bytes
+segment_stands {B} {bytes} limits got begun within (t, canonical, paid) =
+    (only_bytes B bytes (one_segment B (t, canonical)) got, value_within limits begun within (t, canonical, paid))
 
 -- the segment has all words of the message
 pub few_words : {B : List (List ℕ)} {bytes : List ℕ} {limits : ReaderOptions} → StandsWithin B limits bytes →

@@ -1,6 +1,7 @@
 -- The test of a whole message: how it goes, and what its outcome means.
-use Rattle.std.specs.Prelude.{IsNone, IfErr, IfOk, IfSome, is_some, not}
-use Rattle.std.proofs.Common.{◌↔◌, Bool, ℤ, ◌≡◌, ◌≢◌, inl, inr, ℕ, ◌+◌, ◌≤◌, true, false, nat_lt, min, Option, Some, None, Result, Ok, Err, IsOk, length, refl, sym, ap, ap₂, ◌∙◌, subst, arith, eq-eqb, lt-ltb}
+use Rattle.std.specs.Prelude.{IsNone, IsTrue, IfErr, IfNone, IfOk, IfSome, is_some, not}
+use Rattle.std.specs.Bool.{OnTrue}
+use Rattle.std.proofs.Common.{◌↔◌, Bool, ◌≡◌, ◌≢◌, inl, inr, ℕ, ◌+◌, ◌≤◌, true, false, nat_lt, min, Option, Some, None, Result, Ok, Err, IsOk, length, refl, sym, ap, ap₂, ◌∙◌, subst, arith, eq-eqb, lt-ltb}
 use Rattle.std.proofs.lemmas.Bool.{ne_eqb, false≢true}
 use Rattle.capnp_words.specs.declared.error.ErrorKind.{ErrorKind}
 use Rattle.capnp_words.specs.Meter.{Meter, FitsIn, spent, unused}
@@ -171,12 +172,8 @@ other_count S n c m (Some f) many (other, (reason, seg, word)) is =
     ∙ ap (λ y. record { segment = f.segment; word = f.word; reason = y }) (sym reason))
 
 -- Within the limits of a reader's options.
-pub within_limits : {S T : Segments} (limits : ReaderOptions) {z : ℤ} {old m' : Meter} {x : Result (Option CanonicalFault) ErrorKind} → T ≡ S → z ≡ limits.nesting_limit → old ≡ unused limits.traversal_limit_in_words → message_tested T (levels z) old ≡ (x, m') → check S limits ≡ x
-within_limits {S} {T} limits {z} {old} {m'} {x} same nesting begun is =
-    let m : Meter = unused limits.traversal_limit_in_words in
-    let there = subst (λ (y : Meter). message_tested T (levels z) y ≡ (x, m')) begun is in
-    let inside = subst (λ (y : ℤ). message_tested T (levels y) m ≡ (x, m')) nesting there in
-    ap (λ p. p.0) (subst (λ (X : Segments). message_tested X (levels limits.nesting_limit) m ≡ (x, m')) same inside)
+pub within_limits : (S : Segments) (limits : ReaderOptions) {old m' : Meter} {x : Result (Option CanonicalFault) ErrorKind} → old ≡ unused limits.traversal_limit_in_words → message_tested S (levels limits.nesting_limit) old ≡ (x, m') → check S limits ≡ x
+within_limits S limits {m' = m'} {x = x} begun is = ap (λ p. p.0) (subst (λ (m : Meter). message_tested S (levels limits.nesting_limit) m ≡ (x, m')) begun is)
 
 pub fault_if : (S : Segments) (limits : ReaderOptions) (result : Result (Option CanonicalFault) ErrorKind) → check S limits ≡ result → IfOk result (λ o. IfSome o (IsFaultOf S limits))
 fault_if S limits (Ok None) is = tt
@@ -192,6 +189,13 @@ whole_if S limits None true is none = ap whole_result is
 whole_if S limits (Some f) false is none = ap whole_result is
 whole_if S limits None false is none = absurd (false≢true none)
 whole_if S limits (Some f) true is none = absurd (false≢true (sym none))
+
+-- Whether there is no fault, as a Bool: what that says, and that it is within the limits.
+pub whole_tells : (C W : Type 0) (o : Option CanonicalFault) (b : Bool) → is_some o ≡ not b → (IsNone o ↔ C) → IfNone o W → (IsTrue b ↔ C) × OnTrue b W
+whole_tells C W None true none exactly within = ((λ yes. exactly.0 refl, λ holds. refl), within)
+whole_tells C W (Some f) false none exactly within = ((λ yes. absurd (false≢true yes), λ holds. absurd (false≢true (sym (exactly.1 holds)))), tt)
+whole_tells C W None false none exactly within = absurd (false≢true none)
+whole_tells C W (Some f) true none exactly within = absurd (false≢true (sym none))
 
 pub whole_is : (o : Option CanonicalFault) (b : Bool) (m : Meter) → is_some o ≡ not b → onward (λ (e : Option CanonicalFault). answer (is_whole e)) (Ok o, m) ≡ (Ok b, m)
 whole_is None true m none = refl

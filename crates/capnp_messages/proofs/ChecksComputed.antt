@@ -33,7 +33,7 @@ tested S limits = message_tested S (levels limits.nesting_limit) (unused limits.
 
 value_of : (S : Segments) (limits : ReaderOptions) (x : Outcome) → Tells S (levels limits.nesting_limit) (unused limits.traversal_limit_in_words) x → x.0 ≡ Ok None → (t : Tree) × IsCanonicalOf S t × IsValueOf S limits t
 value_of S limits (Ok None, m') (t, canonical, deep, paid) is =
-    let (u, value, same) = value_within {S = S} {limits = limits} refl refl (λ v other. subst (λ (w : Tree). depth w ≤ levels limits.nesting_limit) (one_canonical_value S t v canonical other) deep) (t, canonical, paid) in
+    let (u, value, same) = value_within {S = S} limits refl (λ v other. subst (λ (w : Tree). depth w ≤ levels limits.nesting_limit) (one_canonical_value S t v canonical other) deep) (t, canonical, paid) in
     (u, same, value)
 value_of S limits (Ok (Some f), m') says is = absurd (cc is)
 value_of S limits (Err k, m') says is = absurd (cc is)

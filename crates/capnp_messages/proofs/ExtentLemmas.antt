@@ -1,6 +1,6 @@
 -- A message is validated exactly if its root means a value within the limits, whose extent is then
 -- returned.
-use Rattle.std.proofs.Common.{◌≡◌, ◌↔◌, inl, inr, ℤ, ℕ, ◌+◌, true, Option, Some, None, Result, Ok, Err, IsOk, IfOk, refl, sym, ap, ◌∙◌, subst, arith}
+use Rattle.std.proofs.Common.{◌≡◌, ◌↔◌, inl, inr, ℕ, ◌+◌, true, Option, Some, None, Result, Ok, Err, IsOk, IfOk, refl, sym, ap, ◌∙◌, subst, arith}
 use Rattle.std.proofs.lemmas.Bool.{false≢true}
 use Rattle.std.specs.Prelude.{option_map}
 use Rattle.capnp_words.specs.declared.error.ErrorKind.{ErrorKind}
@@ -87,9 +87,7 @@ extent_if S limits (Ok y) e = elim (validated S limits) [
 ]
 
 -- The message of the program.
-pub from_root : {S T : Segments} {limits : ReaderOptions} {n : ℤ} {before m : Meter} {result : Result Extent ErrorKind} → T ≡ S → n ≡ limits.nesting_limit → before ≡ unused limits.traversal_limit_in_words →
-    root_extent T (levels n) before ≡ (result, m) → validate S limits ≡ with_cost limits.traversal_limit_in_words (result, m)
-from_root {S} {T} {limits} {n} {before} {m} {result} same nesting begun e =
-    let here = subst (λ (X : Segments). root_extent X (levels n) before ≡ (result, m)) same e in
-    let there = subst (λ (z : ℤ). root_extent S (levels z) before ≡ (result, m)) nesting here in
-    ap (with_cost limits.traversal_limit_in_words) (subst (λ (x : Meter). root_extent S (levels limits.nesting_limit) x ≡ (result, m)) begun there)
+pub from_root : (S : Segments) (limits : ReaderOptions) {before m : Meter} {result : Result Extent ErrorKind} → before ≡ unused limits.traversal_limit_in_words →
+    root_extent S (levels limits.nesting_limit) before ≡ (result, m) → validate S limits ≡ with_cost limits.traversal_limit_in_words (result, m)
+from_root S limits {m = m} {result = result} begun e =
+    ap (with_cost limits.traversal_limit_in_words) (subst (λ (x : Meter). root_extent S (levels limits.nesting_limit) x ≡ (result, m)) begun e)

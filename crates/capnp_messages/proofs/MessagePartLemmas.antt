@@ -1,5 +1,5 @@
 -- What following a path states about the part of the message.
-use Rattle.std.proofs.Common.{◌≡◌, ◌⊎◌, inl, inr, ℕ, ℤ, ◌+◌, ◌≤◌, List, [], ◌∷◌, length, drop, Bool, true, false, Option, Result, Ok, sym, ap, ◌∙◌, subst, arith, length-drop, length-take}
+use Rattle.std.proofs.Common.{◌≡◌, ◌⊎◌, inl, inr, ℕ, ◌+◌, ◌≤◌, List, [], ◌∷◌, length, drop, Bool, true, false, Option, Result, Ok, sym, ap, ◌∙◌, subst, arith, length-drop, length-take}
 use Rattle.capnp_words.specs.declared.error.ErrorKind.{ErrorKind}
 use Rattle.capnp_words.specs.Meter.{Affords, Meter, unused}
 use Rattle.capnp_format.specs.Canonical.{IsFree, encoding, trim, word_count}
@@ -18,11 +18,9 @@ use Rattle.capnp_messages.specs.MessageParts.{IsPartOf, RefusesPart, part_refuse
 use Rattle.capnp_messages.specs.Parts.{PathEnd, part, to_element, to_pointer}
 
 -- The path is followed within the limits.
-pub part_here : (S : Segments) (limits : ReaderOptions) (path : List ℕ) (z : ℤ) (m : Meter) (o : Result PathEnd ErrorKind × Meter) →
-    z ≡ limits.nesting_limit → m ≡ unused limits.traversal_limit_in_words → part S (levels z) path m ≡ o → part_within S limits path ≡ o
-part_here S limits path z m o nesting begun e =
-    let within = subst (λ (x : ℤ). part S (levels x) path m ≡ o) nesting e in
-    subst (λ (x : Meter). part S (levels limits.nesting_limit) path x ≡ o) begun within
+pub part_here : (S : Segments) (limits : ReaderOptions) (path : List ℕ) (m : Meter) (o : Result PathEnd ErrorKind × Meter) →
+    m ≡ unused limits.traversal_limit_in_words → part S (levels limits.nesting_limit) path m ≡ o → part_within S limits path ≡ o
+part_here S limits path m o begun e = subst (λ (x : Meter). part S (levels limits.nesting_limit) path x ≡ o) begun e
 
 -- What was read means a value without capabilities, and the limiter covers its cost.
 record IsRead (e : PathEnd) (m : Meter) (t : Tree) : Type 0 where

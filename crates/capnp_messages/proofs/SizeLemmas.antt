@@ -68,11 +68,10 @@ size_found {S} {limits} {r} {m} {m'} (Ok z) root e =
     record { counted = size_at_root root e; of_value = λ t n cost means. (let same = size_is (root_within S limits) n m m' z t cost placed means in (ap (λ y. y.word_count) same, ap (λ y. y.cap_count) same)) }
 size_found (Err k) root e = tt
 
-pub size_without_root : (limits : ReaderOptions) {S T : Segments} {before : Meter} {k : ErrorKind} →
-    T ≡ S → before ≡ unused limits.traversal_limit_in_words → RefusesRoot T before.left k → message_size S limits ≡ Err k
-size_without_root limits {S} {T} {before} {k} same begun refused =
-    let there = subst (λ (X : Segments). RefusesRoot X before.left k) same refused in
-    let here : RefusesRoot S limits.traversal_limit_in_words k = subst (λ (x : Meter). RefusesRoot S x.left k) begun there in
+pub size_without_root : (limits : ReaderOptions) {S : Segments} {before : Meter} {k : ErrorKind} →
+    before ≡ unused limits.traversal_limit_in_words → RefusesRoot S before.left k → message_size S limits ≡ Err k
+size_without_root limits {S} {k = k} begun refused =
+    let here : RefusesRoot S limits.traversal_limit_in_words k = subst (λ (x : Meter). RefusesRoot S x.left k) begun refused in
     ap (λ o. (onward (λ (x : Reading). measure x (only_words 0)) o).0) (root_stops S (levels limits.nesting_limit) limits.traversal_limit_in_words k here)
 
 -- What this says of a result.

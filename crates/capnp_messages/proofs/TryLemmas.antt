@@ -1,5 +1,5 @@
 -- How much room a try requests, and when there is another try.
-use Rattle.std.proofs.Common.{◌≡◌, inl, inr, ℕ, ◌+◌, ◌*◌, ◌/◌, ◌<◌, ◌==◌, suc, max, min, IsTrue, Bool, true, false, List, [], ◌∷◌, length, Option, refl, ap, sym, ◌∙◌, subst, arith}
+use Rattle.std.proofs.Common.{◌≡◌, inl, inr, ℕ, ◌+◌, ◌*◌, ◌/◌, ◌<◌, suc, min, IsTrue, Bool, true, false, List, [], ◌∷◌, length, Option, refl, ap, sym, ◌∙◌, subst, arith}
 use Rattle.std.proofs.lemmas.Bool.{cases_lt}
 use Rattle.capnp_words.specs.declared.error.ErrorKind.{ErrorKind}
 use Rattle.capnp_format.specs.Bytes.{message, words_of}
@@ -14,7 +14,7 @@ use Rattle.capnp_framing.specs.Reading.{total}
 use Rattle.capnp_messages.specs.Copies.{LacksMemoryOr, is_message_too_large}
 use Rattle.capnp_messages.specs.EndValues.{EndIsMadeByFirstTry, EndNeedsMoreRoom, EndStops, RefusesEndCopy, end_place}
 use Rattle.capnp_messages.specs.Parts.{PathEnd, to_pointer}
-use Rattle.capnp_messages.specs.Tries.{IsMadeByFirstTry, as_asked, room_of_try, words_read}
+use Rattle.capnp_messages.specs.Tries.{IsMadeByFirstTry, room_of_try, words_read}
 use Rattle.capnp_messages.proofs.CanonLemmas.{large_wants, never_stops}
 
 -- The tries have come to one that requests this room: what those before it request is too little.
@@ -49,19 +49,9 @@ made_by_try {e} {offers} {there} {room} {refusals} {yet} {made} come same none a
 pub first_at_pointer : {r : Reading} {offers : ℕ → ℕ → Bool} {refusals : ℕ} {made : View} → EndIsMadeByFirstTry (to_pointer r) offers refusals made → IsMadeByFirstTry r offers refusals made
 first_at_pointer made = record { try = made.try; asked = made.asked; before = made.before; granted = made.granted }
 
-offered : (least room asked : ℕ) → least ≡ 0 → IsTrue (room == max least asked) → IsTrue (room == asked)
-offered least room asked none is = grind arith
-
 -- the first try that has made the words, with the place written in another form
 pub moved_tries : {r q : Reading} (offers : ℕ → ℕ → Bool) (refusals : ℕ) (made : View) → r ≡ q → IsMadeByFirstTry r offers refusals made → IsMadeByFirstTry q offers refusals made
 moved_tries offers refusals made place tries = subst (λ (x : Reading). IsMadeByFirstTry x offers refusals made) place tries
-
--- a heap that adds no words offers those that are requested
-pub tries_as_asked : {r : Reading} {refusals : ℕ} {made : View} (least : ℕ) → least ≡ 0 → refusals ≡ 0 →
-    IsMadeByFirstTry r (λ asked words. words == max least asked) refusals made → IsMadeByFirstTry r as_asked 0 made
-tries_as_asked {r} {refusals} {made} least none yet tries =
-    let asks : ℕ = room_of_try (words_read r) tries.try in
-    record { try = tries.try; asked = offered least (made.room 0) asks none tries.asked; before = tries.before; granted = tries.granted ∙ yet }
 
 -- a try that is refused because something is too large has too little room
 pub try_outgrown : (e : PathEnd) (left : Option ℕ) {room : ℕ} {k : ErrorKind} → is_message_too_large k ≡ true → RefusesEndCopy e left room k → EndNeedsMoreRoom e room

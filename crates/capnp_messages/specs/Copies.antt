@@ -5,15 +5,17 @@ use Rattle.capnp_words.specs.declared.error.ErrorKind.TheVariants.{AllocationFai
 use Rattle.capnp_words.specs.declared.error.ErrorKind.TheVariants.{MessageTooLarge}
 use Rattle.capnp_words.specs.Meter.{Meter, unused}
 use Rattle.capnp_format.specs.Canonical.{trim, encoding}
+use Rattle.capnp_format.specs.Segments.{Target}
 use Rattle.capnp_format.specs.Tree.{Tree}
 use Rattle.capnp_arena_traits.specs.Allocations.{one_more}
 use Rattle.capnp_arena_traits.specs.View.{View}
-use Rattle.capnp_objects.specs.Outcomes.{Reads}
+use Rattle.capnp_objects.specs.declared.object.Purpose.TheVariants.{Value}
+use Rattle.capnp_objects.specs.Outcomes.{Entered, Reads}
 use Rattle.capnp_objects.specs.Reading.{Reading}
-use Rattle.capnp_objects.specs.Refusals.{Refused}
+use Rattle.capnp_objects.specs.Refusals.{Refused, StopsWithin}
 use Rattle.capnp_objects.specs.Wanted.{canonical}
-use Rattle.capnp_copies.specs.Changes.{ComesToObject}
-use Rattle.capnp_copies.specs.Originals.{value_original}
+use Rattle.capnp_copies.specs.Changes.{IsMadeOf}
+use Rattle.capnp_copies.specs.Costs.{spent_until}
 use Rattle.capnp_messages.specs.Tries.{NeedsMoreRoom}
 use Rattle.capnp_words.specs.Names.{is_allocation_name}
 
@@ -22,11 +24,13 @@ abbrev pub is_message_too_large : ErrorKind → Bool
 is_message_too_large (MessageTooLarge w) = true
 is_message_too_large _ = false
 
--- Copying what r means comes to an object that doesn't fit: the object's words, the root's word and
--- the words charged before it are together more than `room`.
+-- Copying what r means comes to an object that doesn't fit: the object's n words, the root's word
+-- and the words charged before it are together more than `room`. This is `ComesToObject` of a value.
 abbrev pub OutgrowsRoom : Reading → Option ℕ → ℕ → Type 0
 OutgrowsRoom r left room =
-    (m : Meter) × ComesToObject (value_original r) canonical (unused left) m (λ n all. room < 1 + all)
+    (m : Meter) × ((n : ℕ) × (stops : StopsWithin canonical
+    (λ s i j. (a : Target) × Entered Value s i j a × IsMadeOf canonical s a n) r (unused left) m) ×
+    (room < 1 + ((spent_until stops).words + n)))
 
 -- A copy of what r means, into a fresh segment of `room` words, is refused with k. Either k is
 -- `MessageTooLarge(room)`, and the copy needs more than `room` words; the limit `left` allows

@@ -1,5 +1,5 @@
 -- What a whole message has within the limits of a reader's options, and why it is refused.
-use Rattle.std.specs.Prelude.{◌≡◌, ◌⊎◌, ℕ, ◌+◌, ◌≤◌, Option, Some, Result, Ok, Err, IsOk}
+use Rattle.std.specs.Prelude.{◌≡◌, ◌⊎◌, ℕ, ℤ, ◌+◌, ◌≤◌, Option, Some, Result, Ok, Err, IsOk}
 use Rattle.capnp_words.specs.declared.error.ErrorKind.{ErrorKind}
 use Rattle.capnp_words.specs.Meter.{FitsIn, less, unused}
 use Rattle.capnp_format.specs.Canonical.{IsFree, trim, word_count}
@@ -18,6 +18,11 @@ use Rattle.capnp_messages.specs.Roots.{CoversRoot, RefusesRoot, message_root, re
 use Rattle.capnp_messages.specs.Copies.{RefusesCopy}
 use Rattle.capnp_messages.specs.CanonicalMessages.{CanBeTested}
 use Rattle.capnp_messages.specs.Check.{check}
+
+-- The limits within which a call reads an arena: the arena's nesting limit, and a traversal limit in
+-- words.
+abbrev pub arena_limits : ℤ → Option ℕ → ReaderOptions
+arena_limits nesting words = record { nesting_limit = nesting; traversal_limit_in_words = words }
 
 -- The root of S means a value, with or without capabilities, within the nesting limit. The
 -- traversal limit covers what reading it costs, and one word for the root pointer ("Messages",

@@ -1,5 +1,5 @@
 -- The room in which a canonical copy is tried.
-use Rattle.std.specs.Prelude.{◌≡◌, ℕ, ◌+◌, ◌*◌, ◌<◌, ◌≤◌, ◌==◌, zero, suc, min, if◌then◌else◌, Bool, IsTrue}
+use Rattle.std.specs.Prelude.{◌≡◌, ℕ, ◌+◌, ◌*◌, ◌<◌, ◌≤◌, zero, suc, min, if◌then◌else◌, Bool, IsTrue}
 use Rattle.capnp_arena_traits.specs.Allocations.{max_segment_words}
 use Rattle.capnp_arena_traits.specs.View.{View}
 use Rattle.capnp_format.specs.Canonical.{trim, word_count}
@@ -22,10 +22,6 @@ room_of_try words (suc k) = min (2 * room_of_try words k) max_segment_words
 -- The words of the message that r reads; 0 if r reads a default value.
 abbrev pub words_read : Reading → ℕ
 words_read r = if r.of_default then 0 else total r.segments
-
--- Whether exactly the requested words are offered.
-abbrev pub as_asked : ℕ → ℕ → Bool
-as_asked asked words = words == asked
 
 -- A try made the canonical words of what r means: the room of its segment is one offered for what
 -- this try requests, what each earlier try requests is too little, and memory was refused

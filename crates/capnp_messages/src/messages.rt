@@ -7,7 +7,6 @@ mod canonical_error;
 mod canonical_message;
 mod command;
 mod copy_memory;
-mod digest;
 pub mod laws;
 mod lent_memory;
 mod message_fault;
@@ -18,24 +17,23 @@ mod pointer_run;
 mod root;
 mod validation;
 mod whole;
+mod whole_digest;
 mod writing;
 
 pub use as_it_stands::canonical_segment;
-pub use canonical_copy::{CanonicalCopy, copy_canonical, copy_canonical_with};
+pub use canonical_copy::canonicalize_pointer;
 pub use canonical_error::CanonicalError;
 pub use canonical_message::is_canonical_message;
 pub use command::{Command, Form};
 pub use copy_memory::CopyMemory;
-pub use digest::{digest_from, digest_with};
 pub use lent_memory::LentMemory;
 pub use message_fault::canonical_fault;
-pub use part::{canonical_part_from, canonical_part_in_room, size_of_part};
+pub use part::{canonicalize_part, canonicalize_part_into, size_of_part};
 pub use part_digest::digest_of_part;
 pub use path::{Reached, follow_path, read_part};
 pub use pointer_run::ElementPlace;
 pub use root::read_root;
-pub use validation::{MessageExtent, validate, validate_of};
-pub use whole::{
-    canonical_fault_of, canonical_from, canonical_in_room, canonical_with, is_canonical, size_of,
-};
+pub use validation::{MessageExtent, validate, validate_root};
+pub use whole::{canonicalize, canonicalize_into, check, size};
+pub use whole_digest::digest;
 pub use writing::{canonical_bytes, write_canonical, write_copy, write_words};

@@ -31,7 +31,7 @@ pub struct WalkedMessage {
 /// has one entry for each of them. Takes no memory.
 ///
 /// Reads within `limits`, in the order of the pointers, and counts, charges and refuses like
-/// `validate_of`. A walk that is refused ends at that pointer; the entries before it are kept.
+/// `validate` of `capnp_messages`. A walk that is refused ends at that pointer; the entries before it are kept.
 ///
 /// If `objects` is too short, the objects that don't fit are counted, but not written. So
 /// `result.count` is the number of entries that the array needs. Entries of `objects` after the

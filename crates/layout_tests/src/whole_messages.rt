@@ -6,8 +6,8 @@ use capnp_layout::arena::{
 use capnp_layout::devices::MemoryInput;
 use capnp_layout::error::ErrorKind;
 use capnp_layout::framing::{
-    FrameError, OwnedSegments, copy_canonical, copy_canonical_with, is_canonical_message,
-    read_root, read_segment_into, validate,
+    FrameError, OwnedSegments, canonicalize, canonicalize_pointer, check, is_canonical_message,
+    read_root, read_segment_into, validate_root,
 };
 use capnp_layout::read_limiter::ReadLimiter;
 use std::process::Abort;
@@ -34,12 +34,29 @@ fn copies(rt: HostRuntime) {
     let words = bytes_of(rt.alloc(), CANONICAL).expect(&rt, "digits");
     let mut lim = ReadLimiter::new(Some(8));
     let root = read_root(&source, &mut lim).expect(&rt, "a root");
-    let made = copy_canonical(rt.alloc(), root, &mut lim).expect(&rt, "a copy");
-    assert!(rt; has_only(&made, words.as_slice()) && lim.left() == Some(4));
+    for left in [4, 1] {
+        let heap = HeapAllocator::new(rt.alloc(), 0);
+        match canonicalize_pointer(rt.alloc(), heap, root, &mut lim) {
+            Ok(made) => assert!(rt; has_only(&made, words.as_slice()) && lim.left() == Some(left)),
+            Err(_) => assert!(rt; false, "a copy"),
+        }
+    }
+}
+
+/// To copy a whole message costs one word for the root, and the words of the struct.
+#[test]
+fn whole_copies(rt: HostRuntime) {
+    let source = arena_of(rt.alloc(), LONG, ReaderOptions::default()).expect(&rt, "a message");
+    let words = bytes_of(rt.alloc(), CANONICAL).expect(&rt, "digits");
     let heap = HeapAllocator::new(rt.alloc(), 0);
-    match copy_canonical_with(rt.alloc(), heap, root, &mut lim) {
-        Ok(made) => assert!(rt; has_only(&made, words.as_slice()) && lim.left() == Some(1)),
+    match canonicalize(rt.alloc(), heap, &source, Some(4)) {
+        Ok(made) => assert!(rt; has_only(&made, words.as_slice())),
         Err(_) => assert!(rt; false, "a copy"),
+    }
+    let heap = HeapAllocator::new(rt.alloc(), 0);
+    match canonicalize(rt.alloc(), heap, &source, Some(3)) {
+        Ok(_) => assert!(rt; false, "a refusal"),
+        Err((kind, _)) => assert!(rt; kind == ErrorKind::ReadLimitExceeded),
     }
 }
 
@@ -57,6 +74,11 @@ fn canonical_messages(rt: HostRuntime) {
         let arena = arena_of(rt.alloc(), text, ReaderOptions::default()).expect(&rt, "a message");
         let mut lim = ReadLimiter::new(Some(budget));
         assert!(rt; is_canonical_message(&arena, &mut lim) == want, "{text}");
+        let found = match check(&arena, Some(budget)) {
+            Ok(fault) => Ok(fault.is_none()),
+            Err(kind) => Err(kind),
+        };
+        assert!(rt; found == want, "{text}");
     }
 }
 
@@ -116,7 +138,7 @@ fn validated_messages(rt: HostRuntime) {
         };
         let arena = arena_of(rt.alloc(), text, options).expect(&rt, "a message");
         let mut lim = ReadLimiter::new(Some(budget));
-        let got = match validate(&arena, &mut lim) {
+        let got = match validate_root(&arena, &mut lim) {
             Ok(extent) => Ok((extent.depth, extent.words, extent.capabilities)),
             Err(kind) => Err(kind),
         };

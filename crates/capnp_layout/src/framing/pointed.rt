@@ -18,7 +18,7 @@ ghost use Rattle.capnp_objects.specs.Wanted.{canonical};
 ghost use Rattle.capnp_readers.specs.Readers.{read_by};
 ghost use Rattle.capnp_messages.specs.Copies.{HoldsCanonicalWords, LacksMemoryOr, RefusesCopy};
 ghost use Rattle.capnp_messages.specs.Roots.{CoversRoot, RefusesRoot, message_root};
-ghost use Rattle.capnp_messages.specs.Tries.{IsMadeByFirstTry, as_asked};
+ghost use Rattle.capnp_messages.specs.Tries.{IsMadeByFirstTry};
 
 use capnp_arena::arena::{
     Allocator, BuilderArena, BuilderArenaImpl, ReaderArena, ReaderArenaImpl, ReaderSegments,
@@ -26,7 +26,7 @@ use capnp_arena::arena::{
 use capnp_framing::devices::Output;
 use capnp_framing::framing::FrameError;
 use capnp_messages::messages;
-use capnp_messages::messages::{CanonicalCopy, CanonicalError};
+use capnp_messages::messages::CanonicalError;
 use capnp_readers::readers::PointerReader;
 use capnp_words::error::ErrorKind;
 use capnp_words::read_limiter::ReadLimiter;
@@ -67,7 +67,7 @@ pub fn read_root<'a, S: ReaderSegments>(
 /// Refusals: the first refusal of reading the value of `from`; `MessageTooLarge(536870911)` if the
 /// copy has more than 536,870,911 words; `AllocationFailed`, which the allocator counts, if memory
 /// ran out.
-pub fn copy_canonical_with<A: Allocator, B: ReaderArena>(
+pub fn canonicalize_pointer<A: Allocator, B: ReaderArena>(
     alloc: Global,
     allocator: A,
     from: PointerReader<'_, B>,
@@ -84,36 +84,18 @@ pub fn copy_canonical_with<A: Allocator, B: ReaderArena>(
         (RefusesCopy (read_by B.ReaderArena from.entry) lim.old.left max_segment_words e.0)) }
     ensures unread { OnErr result (lim.new ≡ lim.old) }
 {
-    messages::copy_canonical_with(alloc, allocator, from.pointer(), lim)
-}
-
-/// Like `copy_canonical_with`, but with memory from the heap. The segment of each try has exactly
-/// as many words as the try requests.
-pub fn copy_canonical<B: ReaderArena>(
-    alloc: Global,
-    from: PointerReader<'_, B>,
-    lim: &mut ReadLimiter,
-) -> Result<CanonicalCopy, ErrorKind>
-    ensures copied { IfOk result (λ made. (t : Tree)
-        × Reads canonical (read_by B.ReaderArena from.entry) lim.old lim.new t
-        × HoldsCanonicalWords (⟦<CanonicalCopy as BuilderArena>⟧.view made) t) }
-    ensures tries { IfOk result (λ made. IsMadeByFirstTry (read_by B.ReaderArena from.entry)
-        as_asked 0 (⟦<CanonicalCopy as BuilderArena>⟧.view made)) }
-    ensures refused { IfErr result (λ k. (k ≡ AllocationFailed)
-        ⊎ RefusesCopy (read_by B.ReaderArena from.entry) lim.old.left max_segment_words k) }
-    ensures unread { OnErr result (lim.new ≡ lim.old) }
-{
-    messages::copy_canonical(alloc, from.pointer(), lim)
+    messages::canonicalize_pointer(alloc, allocator, from.pointer(), lim)
 }
 
 /// Writes the value of `from` as the frame of a canonical message: one segment with the value's
 /// canonical words.
 ///
-/// Copies the value first, like `copy_canonical`. `lim` is charged for one copy, and counts each
-/// non-null pointer once, even if a segment was too small and the copy was made again.
+/// Copies the value first, like `canonicalize_pointer`, with memory from the heap. `lim` is charged
+/// for one copy, and counts each non-null pointer once, even if a segment was too small and the copy
+/// was made again.
 ///
-/// Refusals: `Layout`, with the refusal of `copy_canonical`, if the value can't be copied; `Frame`
-/// if the output fails. After `Layout`, nothing has been written, and `lim` is unchanged. After
+/// Refusals: `Layout`, with the refusal of the copy, if the value can't be copied; `Frame` if the
+/// output fails. After `Layout`, nothing has been written, and `lim` is unchanged. After
 /// `Frame`, `lim` has been charged for the copy, and how many bytes were written is unspecified.
 pub fn write_canonical<W: Output, B: ReaderArena>(
     alloc: Global,

@@ -1,5 +1,5 @@
 //! Finds the canonical words of a message (encoding specification, "Canonicalization").
-ghost use Rattle.std.specs.Prelude.{◌≡◌, OnOk, IfOk, IfErr};
+ghost use Rattle.std.specs.Prelude.{OnOk, IfOk, IfErr};
 ghost use Rattle.capnp_format.specs.Bytes.{message};
 ghost use Rattle.capnp_format.specs.Tree.{Tree};
 ghost use Rattle.capnp_arena_traits.specs.Limits.{IsSmall};
@@ -12,8 +12,10 @@ ghost use Rattle.capnp_layout.specs.Messages.{segments_in};
 use super::args::Args;
 use super::limits::within_limits;
 use super::lines::Message;
-use capnp_arena::arena::{Allocator, BuilderArena, BuilderArenaImpl, ReaderOptions};
-use capnp_messages::messages::canonical_with;
+use capnp_arena::arena::{
+    Allocator, BuilderArena, BuilderArenaImpl, ReaderArenaImpl, ReaderOptions,
+};
+use capnp_messages::messages::canonicalize;
 use capnp_words::error::ErrorKind;
 use std::alloc::Global;
 
@@ -38,7 +40,10 @@ pub(crate) fn canonical<A: Allocator>(
         (RefusesMessage (segments_in source) (Args.Canon options) e.0)) }
 {
     match within_limits(&source) {
-        Ok(()) => canonical_with(alloc, allocator, source, options),
+        Ok(()) => {
+            let arena = ReaderArenaImpl::new(source, options);
+            canonicalize(alloc, allocator, &arena, options.traversal_limit_in_words)
+        }
         Err(kind) => Err((kind, allocator)),
     }
 }

@@ -1,6 +1,6 @@
 //! Runs the commands that read or write frames (encoding specification, "Serialization Over a
 //! Stream").
-ghost use Rattle.std.specs.Prelude.{◌≡◌, ◌≢◌, ◌⊎◌, ◌≤◌, ℕ, length, true, false, IsOk, IfOk, IfErr, OnErr, OnOk};
+ghost use Rattle.std.specs.Prelude.{◌≡◌, ◌≤◌, length, false, IsOk, IfOk, IfErr, OnOk};
 ghost use Rattle.capnp_format.specs.Bytes.{message};
 ghost use Rattle.capnp_arena_traits.specs.Limits.{IsSmall};
 ghost use Rattle.capnp_layout.specs.Commands.{HasAnswer, HoldsFrame, RefusesFrame, TellsCanonical, WhyRefused};
@@ -14,9 +14,9 @@ use super::lines::Message;
 use super::refusal::Refusal;
 use super::writing::write_message_check;
 use crate::devices::Output;
-use capnp_arena::arena::{ReaderOptions, ReaderSegments};
+use capnp_arena::arena::{ReaderArenaImpl, ReaderOptions, ReaderSegments};
 use capnp_framing::framing::{FrameError, FrameSegments, MAX_SEGMENTS, read_from_flat_slice};
-use capnp_messages::messages::is_canonical;
+use capnp_messages::messages::check;
 use capnp_words::error::ErrorKind;
 
 /// The largest number of words that a message read from a frame may have.
@@ -51,8 +51,9 @@ fn is_canonical_frame(lines: &Message, options: ReaderOptions) -> Result<bool, R
     ensures refused { IfErr result (WhyRefused (segments_in lines.now) (Args.FramedCheck options)) }
 {
     let frame = frame_in(lines)?;
-    match is_canonical(frame, options) {
-        Ok(yes) => Ok(yes),
+    let source = ReaderArenaImpl::new(frame, options);
+    match check(&source, options.traversal_limit_in_words) {
+        Ok(fault) => Ok(fault.is_none()),
         Err(kind) => Err(Refusal::Layout(kind)),
     }
 }

@@ -9,7 +9,7 @@ ghost use Rattle.capnp_layout.specs.Messages.{segments_in};
 use super::args::Args;
 use super::limits::within_limits;
 use super::lines::Message;
-use capnp_arena::arena::ReaderOptions;
+use capnp_arena::arena::{ReaderArenaImpl, ReaderOptions};
 use capnp_messages::messages;
 use capnp_readers::readers::MessageSize;
 use capnp_words::error::ErrorKind;
@@ -23,5 +23,6 @@ pub(crate) fn size_of(source: Message, options: ReaderOptions) -> Result<Message
     ensures refused { IfErr result (RefusesMessage (segments_in source) (Args.Size options)) }
 {
     within_limits(&source)?;
-    messages::size_of(source, options)
+    let arena = ReaderArenaImpl::new(source, options);
+    messages::size(&arena, options.traversal_limit_in_words)
 }

@@ -3,9 +3,9 @@
 //! has; each further try requests twice as many words as the try before; no try requests more than
 //! 536,870,911 words. Below this limit, all tries together take no longer than twice the last try.
 //! During a try the message has no allocator, so the copy can't get a second segment.
-ghost use Rattle.std.specs.Prelude.{◌≡◌, ◌⊎◌, ◌<◌, ◌≤◌, ◌+◌, ◌*◌, ◌++◌, ◌∷◌, [], false, length, min, ℕ, IsTrue, OnOk, IfOk, OnErr, IfErr};
+ghost use Rattle.std.specs.Prelude.{◌≡◌, ◌⊎◌, ◌<◌, ◌≤◌, ◌+◌, ◌*◌, ◌∷◌, [], false, length, min, IsTrue, OnOk, IfOk, OnErr, IfErr};
 ghost use Rattle.std.specs.Bool.{OnFalse, OnTrue};
-ghost use Rattle.capnp_format.specs.Canonical.{trim, encoding};
+ghost use Rattle.capnp_format.specs.Canonical.{encoding};
 ghost use Rattle.capnp_format.specs.Tree.{Tree};
 ghost use Rattle.capnp_words.specs.Meter.{Meter, raised, unused};
 ghost use Rattle.capnp_words.specs.declared.error.ErrorKind.TheVariants.{AllocationFailed};
@@ -20,11 +20,11 @@ ghost use Rattle.capnp_messages.specs.EndValues.{EndIsMadeByFirstTry, EndNeedsMo
 ghost use Rattle.capnp_messages.specs.PathEnds.{end_read};
 ghost use Rattle.capnp_words.specs.Names.{is_allocation_name};
 ghost use Rattle.capnp_messages.specs.CanonicalErrors.{IsLeftOf};
-ghost use Rattle.capnp_messages.specs.Tries.{IsMadeByFirstTry, IsSegmentRoom, as_asked, room_of_try, words_read};
+ghost use Rattle.capnp_messages.specs.Tries.{IsMadeByFirstTry, IsSegmentRoom, room_of_try, words_read};
 
 use super::path::Reached;
 use capnp_arena::arena::{
-    Allocator, BuilderArena, BuilderArenaImpl, HeapAllocator, MAX_SEGMENT_WORDS, ReaderArena,
+    Allocator, BuilderArena, BuilderArenaImpl, MAX_SEGMENT_WORDS, ReaderArena,
 };
 use capnp_arena_traits::arena::WordPlace;
 use capnp_copies::copy::{copy_struct, copy_value};
@@ -318,7 +318,7 @@ pub(super) fn copy_in_room<A: Allocator, B: ReaderArena>(
     }
 }
 
-/// Copies what `from` leads to like `copy_canonical_with`.
+/// Copies what `from` leads to like `canonicalize_pointer`.
 pub(super) fn copy_reached_with<A: Allocator, B: ReaderArena>(
     alloc: Global,
     allocator: A,
@@ -352,9 +352,9 @@ pub(super) fn copy_reached_with<A: Allocator, B: ReaderArena>(
     }
 }
 
-/// Copies the value of `from` in canonical form (encoding specification, "Canonicalization") into a
-/// message of one segment, which `allocator` grants. If refused, returns the allocator, and leaves
-/// `lim` unchanged.
+/// Makes the canonical copy of the value that the pointer `from` leads to (encoding specification,
+/// "Canonicalization"): a message of one segment, whose memory `allocator` grants. If refused,
+/// returns the allocator, and leaves `lim` unchanged.
 ///
 /// Finds the size of the segment by tries. The first try requests one word more than the source
 /// message has, and each further try twice as many words as the try before, but none more than
@@ -363,7 +363,7 @@ pub(super) fn copy_reached_with<A: Allocator, B: ReaderArena>(
 ///
 /// Refusals: the first one met while reading `from`; `MessageTooLarge(536870911)` if the copy has
 /// more than 536,870,911 words; `AllocationFailed`, which the allocator counts, if memory ran out.
-pub fn copy_canonical_with<A: Allocator, B: ReaderArena>(
+pub fn canonicalize_pointer<A: Allocator, B: ReaderArena>(
     alloc: Global,
     allocator: A,
     from: Pointer<'_, B>,
@@ -381,29 +381,4 @@ pub fn copy_canonical_with<A: Allocator, B: ReaderArena>(
     ensures unread { OnErr result (lim.new ≡ lim.old) }
 {
     copy_reached_with(alloc, allocator, Reached::Pointer(from), lim)
-}
-
-/// A message in canonical form, in a segment on the heap.
-pub type CanonicalCopy = BuilderArenaImpl<HeapAllocator>;
-
-/// Like `copy_canonical_with`, with memory from the heap. Each try allocates exactly the words that
-/// it requests.
-pub fn copy_canonical<B: ReaderArena>(
-    alloc: Global,
-    from: Pointer<'_, B>,
-    lim: &mut ReadLimiter,
-) -> Result<CanonicalCopy, ErrorKind>
-    ensures copied { IfOk result (λ made. (t : Tree)
-        × Reads canonical (reading B.ReaderArena from.entry) lim.old lim.new t
-        × HoldsCanonicalWords (⟦<CanonicalCopy as BuilderArena>⟧.view made) t) }
-    ensures tries { IfOk result (λ made. IsMadeByFirstTry (reading B.ReaderArena from.entry)
-        as_asked 0 (⟦<CanonicalCopy as BuilderArena>⟧.view made)) }
-    ensures refused { IfErr result (λ k. (k ≡ AllocationFailed)
-        ⊎ RefusesCopy (reading B.ReaderArena from.entry) lim.old.left max_segment_words k) }
-    ensures unread { OnErr result (lim.new ≡ lim.old) }
-{
-    match copy_canonical_with(alloc, HeapAllocator::new(alloc, 0), from, lim) {
-        Ok(made) => Ok(made),
-        Err((kind, _)) => Err(kind),
-    }
 }

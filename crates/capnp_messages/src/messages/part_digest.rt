@@ -3,12 +3,13 @@ ghost use Rattle.std.specs.Prelude.{◌≡◌, IfOk, IfErr, OnOk};
 ghost use Rattle.capnp_format.specs.Bytes.{message};
 ghost use Rattle.capnp_messages.specs.Copies.{LacksMemoryOr};
 ghost use Rattle.capnp_messages.specs.MessageParts.{IsDigestOfPart, RefusesPart};
+ghost use Rattle.capnp_messages.specs.Messages.{arena_limits};
 
 use super::lent_memory::LentMemory;
-use super::part::{canonical_part_from, canonical_part_in_room};
+use super::part::{canonicalize_part, canonicalize_part_into};
 use super::writing::canonical_bytes;
 use capnp_arena::arena::{
-    Allocator, BuilderArenaImpl, ReaderArena, ReaderArenaImpl, ReaderOptions, ReaderSegments,
+    Allocator, BuilderArenaImpl, ReaderArena, ReaderArenaImpl, ReaderSegments,
 };
 use capnp_words::error::ErrorKind;
 use sha2::{Digest, Sha256};
@@ -24,17 +25,18 @@ fn digest_of_part_copy<A: Allocator, S: ReaderSegments>(
     allocator: A,
     source: &ReaderArenaImpl<S>,
     path: &[u32],
-    limits: ReaderOptions,
+    traversal_limit_in_words: Option<usize>,
 ) -> (Result<[u8; 32], ErrorKind>, A)
-    requires { source.now.nesting_limit ≡ limits.nesting_limit }
     ensures digest { IfOk result.0 (IsDigestOfPart
-        (message (⟦<ReaderArenaImpl<S> as ReaderArena>⟧.segments source.now)) limits path.now) }
+        (message (⟦<ReaderArenaImpl<S> as ReaderArena>⟧.segments source.now))
+        (arena_limits source.now.nesting_limit traversal_limit_in_words) path.now) }
     ensures refused { IfErr result.0
         (λ k. LacksMemoryOr (A.refusals allocator) (A.refusals result.1) k (RefusesPart
-        (message (⟦<ReaderArenaImpl<S> as ReaderArena>⟧.segments source.now)) limits path.now k)) }
+        (message (⟦<ReaderArenaImpl<S> as ReaderArena>⟧.segments source.now))
+        (arena_limits source.now.nesting_limit traversal_limit_in_words) path.now k)) }
     ensures kept { OnOk result.0 (A.refusals result.1 ≡ A.refusals allocator) }
 {
-    match canonical_part_from(alloc, allocator, source, path, limits) {
+    match canonicalize_part(alloc, allocator, source, path, traversal_limit_in_words) {
         Ok(made) => {
             let digest = Sha256::digest(canonical_bytes(&made));
             (Ok(digest), made.into_allocator())
@@ -45,33 +47,36 @@ fn digest_of_part_copy<A: Allocator, S: ReaderSegments>(
 
 /// Returns the SHA-256 of the canonical words of the part of the message in `source` to which
 /// `path` leads, and the allocator. Equal values have the same digest, in any message and at the
-/// end of any path. Precondition: the nesting limit of `source` is that of `limits`.
+/// end of any path.
 ///
-/// Refuses what `canonical_part_from` refuses. The words are made in stack memory if there are at
+/// Reads within the nesting limit of `source` and `traversal_limit_in_words`. Refuses what
+/// `canonicalize_part` refuses. The words are made in stack memory if there are at
 /// most 64. Otherwise the copy takes memory from `allocator`, and returns it.
 pub fn digest_of_part<A: Allocator, S: ReaderSegments>(
     alloc: Global,
     allocator: A,
     source: &ReaderArenaImpl<S>,
     path: &[u32],
-    limits: ReaderOptions,
+    traversal_limit_in_words: Option<usize>,
 ) -> (Result<[u8; 32], ErrorKind>, A)
-    requires { source.now.nesting_limit ≡ limits.nesting_limit }
     ensures digest { IfOk result.0 (IsDigestOfPart
-        (message (⟦<ReaderArenaImpl<S> as ReaderArena>⟧.segments source.now)) limits path.now) }
+        (message (⟦<ReaderArenaImpl<S> as ReaderArena>⟧.segments source.now))
+        (arena_limits source.now.nesting_limit traversal_limit_in_words) path.now) }
     ensures refused { IfErr result.0
         (λ k. LacksMemoryOr (A.refusals allocator) (A.refusals result.1) k (RefusesPart
-        (message (⟦<ReaderArenaImpl<S> as ReaderArena>⟧.segments source.now)) limits path.now k)) }
+        (message (⟦<ReaderArenaImpl<S> as ReaderArena>⟧.segments source.now))
+        (arena_limits source.now.nesting_limit traversal_limit_in_words) path.now k)) }
     ensures kept { OnOk result.0 (A.refusals result.1 ≡ A.refusals allocator) }
 {
     let mut memory = [0u8; SMALL];
     let mut made = BuilderArenaImpl::new(alloc, LentMemory::new(memory.as_mut_slice()));
-    match canonical_part_in_room(&mut made, SMALL as u32 / 8, source, path, limits) {
+    let room = SMALL as u32 / 8;
+    match canonicalize_part_into(&mut made, room, source, path, traversal_limit_in_words) {
         Ok(fits) => {
             if fits {
                 (Ok(Sha256::digest(canonical_bytes(&made))), allocator)
             } else {
-                digest_of_part_copy(alloc, allocator, source, path, limits)
+                digest_of_part_copy(alloc, allocator, source, path, traversal_limit_in_words)
             }
         }
         Err(kind) => (Err(kind), allocator),

@@ -1,13 +1,12 @@
 //! Finds out whether the whole value of a message can be read.
 ghost use Rattle.std.specs.Prelude.{◌≡◌, ◌↔◌, IsOk, IfOk};
 ghost use Rattle.capnp_format.specs.Bytes.{message};
-ghost use Rattle.capnp_arena_traits.specs.Limits.{IsSmall};
 ghost use Rattle.capnp_objects.specs.Source.{levels};
 ghost use Rattle.capnp_messages.specs.Extents.{HasExtent, root_extent, validate, words_taken};
-ghost use Rattle.capnp_messages.specs.Messages.{IsReadable};
+ghost use Rattle.capnp_messages.specs.Messages.{IsReadable, arena_limits};
 
 use super::root::read_root;
-use capnp_arena::arena::{ReaderArena, ReaderArenaImpl, ReaderOptions, ReaderSegments};
+use capnp_arena::arena::{ReaderArena, ReaderArenaImpl, ReaderSegments};
 use capnp_pointers::pointers::Extent;
 use capnp_words::error::ErrorKind;
 use capnp_words::read_limiter::ReadLimiter;
@@ -29,7 +28,7 @@ pub struct MessageExtent {
 /// `Pointer::validate`. Refusals of the root pointer, which charge nothing: `InvalidSegmentId(0)`
 /// if there are no segments; `MessageContainsOutOfBoundsPointer` if the first segment has no word;
 /// `ReadLimitExceeded` if `lim` has no word left.
-pub fn validate<S: ReaderSegments>(
+pub fn validate_root<S: ReaderSegments>(
     arena: &ReaderArenaImpl<S>,
     lim: &mut ReadLimiter,
 ) -> Result<Extent, ErrorKind>
@@ -40,27 +39,30 @@ pub fn validate<S: ReaderSegments>(
     root.validate(lim)
 }
 
-/// Tests whether a message is sound: whether its root means a value, which may have capabilities,
-/// within `limits`. Returns how deep the value is, how much it holds, and what reading it costs.
-/// Takes no memory.
+/// Tests whether the message in `source` is sound: whether its root means a value, which may have
+/// capabilities, within the nesting limit of `source` and `traversal_limit_in_words`. Returns how
+/// deep the value is, how much it holds, and what reading it costs. Takes no memory.
 ///
-/// Refuses like `validate`, with the first fault found.
-pub fn validate_of<S: ReaderSegments + Drop>(
-    segments: S,
-    limits: ReaderOptions,
+/// Refuses like `validate_root`, with the first fault found.
+pub fn validate<S: ReaderSegments>(
+    source: &ReaderArenaImpl<S>,
+    traversal_limit_in_words: Option<usize>,
 ) -> Result<MessageExtent, ErrorKind>
-    requires { IsSmall (S.segments segments) }
-    ensures computed { validate (message (S.segments segments)) limits ≡ result }
-    ensures exactly { IsOk result ↔ IsReadable (message (S.segments segments)) limits }
-    ensures extent { IfOk result (HasExtent (message (S.segments segments)) limits) }
+    ensures computed { validate
+        (message (⟦<ReaderArenaImpl<S> as ReaderArena>⟧.segments source.now))
+        (arena_limits source.now.nesting_limit traversal_limit_in_words) ≡ result }
+    ensures exactly { IsOk result ↔ IsReadable
+        (message (⟦<ReaderArenaImpl<S> as ReaderArena>⟧.segments source.now))
+        (arena_limits source.now.nesting_limit traversal_limit_in_words) }
+    ensures extent { IfOk result (HasExtent
+        (message (⟦<ReaderArenaImpl<S> as ReaderArena>⟧.segments source.now))
+        (arena_limits source.now.nesting_limit traversal_limit_in_words)) }
 {
-    let arena = ReaderArenaImpl::new(segments, limits);
-    let limit = limits.traversal_limit_in_words;
-    let mut lim = ReadLimiter::new(limit);
-    let value = validate(&arena, &mut lim)?;
+    let mut lim = ReadLimiter::new(traversal_limit_in_words);
+    let value = validate_root(source, &mut lim)?;
     Ok(MessageExtent {
         value,
-        cost: words_taken(limit, lim.left()),
+        cost: words_taken(traversal_limit_in_words, lim.left()),
     })
 }
 

@@ -1,6 +1,6 @@
 //! Writes a message in canonical form as a frame (encoding specification, "Canonicalization" and
 //! "Serialization Over a Stream").
-ghost use Rattle.std.specs.Prelude.{◌≡◌, ◌⊎◌, ◌∷◌, ◌<◌, ◌≤◌, ◌*◌, ◌/◌, ◌^◌, [], ℕ, List, false, true, length, OnOk, OnErr, IfErr};
+ghost use Rattle.std.specs.Prelude.{◌≡◌, ◌⊎◌, ◌∷◌, ◌<◌, ◌≤◌, ◌*◌, ◌/◌, ◌^◌, [], ℕ, List, false, true, length, OnOk, IfErr};
 ghost use Rattle.capnp_words.specs.declared.error.ErrorKind.{ErrorKind};
 ghost use Rattle.capnp_words.specs.declared.error.ErrorKind.TheVariants.{AllocationFailed};
 ghost use Rattle.capnp_format.specs.Bytes.{message, words_of};
@@ -17,7 +17,7 @@ ghost use Rattle.capnp_pointers.specs.Pointers.{reading};
 ghost use Rattle.capnp_messages.specs.Commands.{form_bytes};
 ghost use Rattle.capnp_messages.specs.Copies.{RefusesCopy};
 
-use super::canonical_copy::copy_canonical_with;
+use super::canonical_copy::canonicalize_pointer;
 use super::canonical_error::CanonicalError;
 use super::command::Form;
 use super::copy_memory::CopyMemory;
@@ -102,8 +102,8 @@ pub fn write_copy<W: Output, A: Allocator>(
 /// Writes the value of `from` as the frame of a canonical message: one segment with the value's
 /// canonical words.
 ///
-/// Copies the value first, like `copy_canonical`. `lim` is charged for one copy, and counts each
-/// non-null pointer once, even if a segment was too small and the copy was made again.
+/// Copies the value first, like `canonicalize_pointer`. `lim` is charged for one copy, and counts
+/// each non-null pointer once, even if a segment was too small and the copy was made again.
 ///
 /// Refusals: `Layout` if the value can't be copied, with `MessageTooLarge(536870911)` inside if the
 /// copy has more than 536,870,911 words. After `Layout`, nothing is written, and `lim` is
@@ -131,7 +131,7 @@ pub fn write_canonical<W: Output, B: ReaderArena>(
     ensures charged { IfErr result (λ e. (f : FrameError) → e ≡ CanonicalError.Frame f →
         (t : Tree) × Reads canonical (reading B.ReaderArena from.entry) lim.old lim.new t) }
 {
-    match copy_canonical_with(alloc, CopyMemory::new(alloc), from, lim) {
+    match canonicalize_pointer(alloc, CopyMemory::new(alloc), from, lim) {
         Ok(made) => write_copy(output, &made),
         Err((kind, _)) => Err(CanonicalError::Layout(kind)),
     }

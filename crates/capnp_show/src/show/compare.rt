@@ -39,7 +39,7 @@ struct Difference {
 /// `left`; `>` and its text in `right`. Of a text, at most 1,024 bytes are written, and then two dots.
 ///
 /// A pointer that can't be read has the name of its refusal in the line. So equal lines are equal
-/// values only if both messages are sound (`validate_of` of `capnp_messages`).
+/// values only if both messages are sound (`validate` of `capnp_messages`).
 ///
 /// Refusals: `AllocationFailed` if memory runs out, and `TooLong` if a line would have more than
 /// `MOST_BYTES` bytes, and then nothing is written; `WriteFailed` if the output fails. Takes memory

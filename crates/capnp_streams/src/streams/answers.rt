@@ -6,15 +6,13 @@ ghost use Rattle.capnp_format.specs.Bytes.{message};
 ghost use Rattle.capnp_streams.specs.Streams.{Answers, CountsRefusals, question_on, with_pointer};
 
 use super::fault::Fault;
-use super::parts::{copy_asked, digest_asked, size_asked};
+use super::parts::{check, copy_asked, digest_asked, size_asked, validate};
 use super::task::Task;
 use super::writing::{write_canonical, write_canonical_words, write_fault, write_hex_line};
 use capnp_arena::arena::{Allocator, ReaderArena, ReaderArenaImpl, ReaderSegments};
 use capnp_framing::devices::{DeviceFault, Output};
 use capnp_framing::framing::FrameError;
-use capnp_messages::messages::{
-    Command, Form, canonical_bytes, canonical_fault_of, canonical_segment, validate_of,
-};
+use capnp_messages::messages::{Command, Form, canonical_bytes, canonical_segment};
 use capnp_messages::text::{write_extent, write_size};
 use capnp_refusals::refusals::pointer_of_refusal;
 use std::alloc::Global;
@@ -136,7 +134,7 @@ fn canon<A: Allocator, S: ReaderSegments + Drop, W: Output>(
 {
     let source = ReaderArenaImpl::new(segments, task.limits);
     if memory.was_canonical && task.path.is_whole() {
-        if let Some(words) = canonical_segment(&source, task.limits) {
+        if let Some(words) = canonical_segment(&source, task.limits.traversal_limit_in_words) {
             return if_written(write_canonical_words(output, words, task.hex, form), true);
         }
     }
@@ -188,7 +186,7 @@ pub(super) fn answer<A: Allocator, S: ReaderSegments + Drop, W: Output>(
 {
     match task.command {
         Command::Canon(form) => canon(memory, form, task, segments, output),
-        Command::Check => match canonical_fault_of(segments, task.limits) {
+        Command::Check => match check(segments, task.limits) {
             Ok(None) => if_written(write_canonical(output), true),
             Ok(Some(fault)) => if_written(write_fault(output, fault), false),
             Err(kind) => Err(Fault::Layout(kind, None)),
@@ -198,7 +196,7 @@ pub(super) fn answer<A: Allocator, S: ReaderSegments + Drop, W: Output>(
             Err(kind) => Err(Fault::Layout(kind, None)),
         },
         Command::Digest => digest(memory, task, segments, output),
-        Command::Validate => match validate_of(segments, task.limits) {
+        Command::Validate => match validate(segments, task.limits) {
             Ok(extent) => if_written(write_extent(output, extent.value), true),
             Err(kind) => Err(Fault::Layout(kind, None)),
         },

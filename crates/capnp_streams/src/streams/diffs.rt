@@ -7,12 +7,13 @@ ghost use Rattle.capnp_framing.specs.Writing.{IsUnwritten};
 ghost use Rattle.capnp_messages.specs.Messages.{IsReadable};
 
 use super::fault::Fault;
+use super::parts::validate;
 use super::runs::{Stop, words_of};
 use super::task::DiffTask;
 use capnp_arena::arena::{ReaderOptions, ReaderSegments};
 use capnp_framing::devices::{DeviceFault, Input, Output, write_all};
 use capnp_framing::framing::{FrameError, OwnedSegments, read_into, read_segment_into};
-use capnp_messages::messages::{Command, validate_of};
+use capnp_messages::messages::Command;
 use capnp_messages::text::write_number;
 use capnp_packing::buffered::{BufferedInput, BufferedOutput, pass_on_before_waiting};
 use capnp_packing::packing::UnpackingInput;
@@ -141,7 +142,7 @@ fn fault_of(segments: &OwnedSegments, limits: ReaderOptions) -> Option<Fault>
     ensures { IsNone result
         → IsReadable (message (⟦<OwnedSegments as ReaderSegments>⟧.segments segments.now)) limits }
 {
-    match validate_of(segments, limits) {
+    match validate(segments, limits) {
         Ok(_) => None,
         Err(kind) => {
             let pointer = pointer_of_refusal(kind, Command::Validate, segments, limits);

@@ -1,53 +1,58 @@
 //! Copies, hashes and measures what a task is about: the whole message, or the part of it to which
-//! the task's path leads.
-ghost use Rattle.std.specs.Prelude.{◌≡◌, IfOk, IfErr, OnOk};
+//! the task's path leads. Tests whole messages.
+ghost use Rattle.std.specs.Prelude.{◌≡◌, ◌↔◌, IsNone, IsOk, IfOk, IfErr, IfNone, IfSome, OnOk};
 ghost use Rattle.capnp_format.specs.Bytes.{message};
 ghost use Rattle.capnp_format.specs.Tree.{Tree};
 ghost use Rattle.capnp_arena_traits.specs.Limits.{IsSmall};
+ghost use Rattle.capnp_messages.specs.CanonicalMessages.{IsCanonicalMessage};
 ghost use Rattle.capnp_messages.specs.Copies.{HoldsCanonicalWords, LacksMemoryOr};
+ghost use Rattle.capnp_messages.specs.Extents.{HasExtent, validate};
+ghost use Rattle.capnp_messages.specs.Messages.{IsCanonicalWithin, IsFaultOf, IsReadable, RefusesCheck, arena_limits};
 ghost use Rattle.capnp_streams.specs.Asked.{HasSizeAt, IsDigestAt, IsValueAt, RefusesCopyAt, RefusesSizeAt};
 ghost use Rattle.capnp_streams.specs.Paths.{path_indexes};
 
 use super::task::Task;
 use capnp_arena::arena::{
-    Allocator, BuilderArena, BuilderArenaImpl, ReaderArena, ReaderArenaImpl, ReaderSegments,
+    Allocator, BuilderArena, BuilderArenaImpl, ReaderArena, ReaderArenaImpl, ReaderOptions,
+    ReaderSegments,
 };
-use capnp_messages::messages::{
-    canonical_from, canonical_part_from, digest_of_part, digest_with, size_of, size_of_part,
-};
-use capnp_pointers::pointers::MessageSize;
+use capnp_messages::messages;
+use capnp_messages::messages::MessageExtent;
+use capnp_pointers::pointers::{CanonicalFault, MessageSize};
 use capnp_words::error::ErrorKind;
 use std::alloc::Global;
 
-/// Makes the canonical copy that `task` asks for of the message in `source`, like `canonical_from`
-/// or `canonical_part_from`.
+/// Makes the canonical copy that `task` asks for of the message in `source`, like `canonicalize` or
+/// `canonicalize_part`, within the nesting limit of `source`.
 pub(super) fn copy_asked<A: Allocator, S: ReaderSegments>(
     alloc: Global,
     allocator: A,
     source: &ReaderArenaImpl<S>,
     task: Task,
 ) -> Result<BuilderArenaImpl<A>, (ErrorKind, A)>
-    requires { source.now.nesting_limit ≡ task.limits.nesting_limit }
     ensures copied { IfOk result (λ made. (t : Tree) × IsValueAt
-        (message (⟦<ReaderArenaImpl<S> as ReaderArena>⟧.segments source.now)) task.limits
+        (message (⟦<ReaderArenaImpl<S> as ReaderArena>⟧.segments source.now))
+        (arena_limits source.now.nesting_limit task.limits.traversal_limit_in_words)
         (path_indexes task.path) t
         × HoldsCanonicalWords (⟦<BuilderArenaImpl<A> as BuilderArena>⟧.view made) t) }
     ensures granted { IfOk result (λ made.
         (⟦<BuilderArenaImpl<A> as BuilderArena>⟧.view made).refusals ≡ A.refusals allocator) }
     ensures refused { IfErr result
         (λ e. LacksMemoryOr (A.refusals allocator) (A.refusals e.1) e.0 (RefusesCopyAt
-        (message (⟦<ReaderArenaImpl<S> as ReaderArena>⟧.segments source.now)) task.limits
+        (message (⟦<ReaderArenaImpl<S> as ReaderArena>⟧.segments source.now))
+        (arena_limits source.now.nesting_limit task.limits.traversal_limit_in_words)
         (path_indexes task.path) e.0)) }
 {
+    let words = task.limits.traversal_limit_in_words;
     let path = task.path.indexes();
     if path.is_empty() {
-        canonical_from(alloc, allocator, source, task.limits)
+        messages::canonicalize(alloc, allocator, source, words)
     } else {
-        canonical_part_from(alloc, allocator, source, path, task.limits)
+        messages::canonicalize_part(alloc, allocator, source, path, words)
     }
 }
 
-/// Returns the digest that `task` asks for of the message, and the allocator, like `digest_with` or
+/// Returns the digest that `task` asks for of the message, and the allocator, like `digest` or
 /// `digest_of_part`.
 pub(super) fn digest_asked<A: Allocator, S: ReaderSegments + Drop>(
     alloc: Global,
@@ -63,15 +68,17 @@ pub(super) fn digest_asked<A: Allocator, S: ReaderSegments + Drop>(
         (RefusesCopyAt (message (S.segments segments)) task.limits (path_indexes task.path) k)) }
     ensures kept { OnOk result.0 (A.refusals result.1 ≡ A.refusals allocator) }
 {
+    let source = ReaderArenaImpl::new(segments, task.limits);
+    let words = task.limits.traversal_limit_in_words;
     let path = task.path.indexes();
     if path.is_empty() {
-        return digest_with(alloc, allocator, segments, task.limits);
+        messages::digest(alloc, allocator, &source, words)
+    } else {
+        messages::digest_of_part(alloc, allocator, &source, path, words)
     }
-    let source = ReaderArenaImpl::new(segments, task.limits);
-    digest_of_part(alloc, allocator, &source, path, task.limits)
 }
 
-/// Counts the words and capabilities that `task` asks for, like `size_of` or `size_of_part`.
+/// Counts the words and capabilities that `task` asks for, like `size` or `size_of_part`.
 pub(super) fn size_asked<S: ReaderSegments + Drop>(
     segments: S,
     task: Task,
@@ -82,10 +89,44 @@ pub(super) fn size_asked<S: ReaderSegments + Drop>(
     ensures refused { IfErr result
         (RefusesSizeAt (message (S.segments segments)) task.limits (path_indexes task.path)) }
 {
+    let source = ReaderArenaImpl::new(segments, task.limits);
+    let words = task.limits.traversal_limit_in_words;
     let path = task.path.indexes();
     if path.is_empty() {
-        return size_of(segments, task.limits);
+        messages::size(&source, words)
+    } else {
+        messages::size_of_part(&source, path, words)
     }
-    let source = ReaderArenaImpl::new(segments, task.limits);
-    size_of_part(&source, path, task.limits)
+}
+
+/// Returns where and why the message in `segments` isn't canonical as a whole, or `None` if it is,
+/// like `check` of `capnp_messages`.
+pub(super) fn check<S: ReaderSegments + Drop>(
+    segments: S,
+    limits: ReaderOptions,
+) -> Result<Option<CanonicalFault>, ErrorKind>
+    requires { IsSmall (S.segments segments) }
+    ensures exactly { IfOk result (λ o. IsNone o
+        ↔ IsCanonicalMessage (message (S.segments segments))) }
+    ensures within { IfOk result (λ o. IfNone o
+        (IsCanonicalWithin (message (S.segments segments)) limits)) }
+    ensures fault { IfOk result (λ o. IfSome o (IsFaultOf (message (S.segments segments)) limits)) }
+    ensures refused { IfErr result (RefusesCheck (message (S.segments segments)) limits) }
+{
+    let source = ReaderArenaImpl::new(segments, limits);
+    messages::check(&source, limits.traversal_limit_in_words)
+}
+
+/// Tests whether the message in `segments` is sound, like `validate` of `capnp_messages`.
+pub(super) fn validate<S: ReaderSegments + Drop>(
+    segments: S,
+    limits: ReaderOptions,
+) -> Result<MessageExtent, ErrorKind>
+    requires { IsSmall (S.segments segments) }
+    ensures computed { validate (message (S.segments segments)) limits ≡ result }
+    ensures exactly { IsOk result ↔ IsReadable (message (S.segments segments)) limits }
+    ensures extent { IfOk result (HasExtent (message (S.segments segments)) limits) }
+{
+    let source = ReaderArenaImpl::new(segments, limits);
+    messages::validate(&source, limits.traversal_limit_in_words)
 }

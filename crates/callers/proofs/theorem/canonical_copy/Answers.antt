@@ -11,7 +11,7 @@ use Rattle.callers.proofs.theorem.canonical_copy.Goals as goal
 
 pub returns-in-Ok-clause-exactly_what : goal.returns-in-Ok-clause-exactly_what
 returns-in-Ok-clause-exactly_what g c =
-    let (t, value, words) = c.in-Ok.ensures.copied in
+    let (t, value, words) = rw (c.new-source.ensures.words, c.new-source.ensures.nesting) at c.in-Ok.ensures.copied in
     let long = canonical_long (message (g.S.ReaderSegments.segments c.args.segments)) (levels c.args.limits.nesting_limit) 0 0 t value.cost value.means in
     let same = ap (λ (M : Segments). length (segment M 0)) words in
     (t, value, omega (arith, same, long, c.is_short.ensures), words)
@@ -19,13 +19,16 @@ returns-in-Ok-clause-exactly_what g c =
 pub returns-in-Ok-clause-asked : goal.returns-in-Ok-clause-asked
 returns-in-Ok-clause-asked g c =
     let S = message (g.S.ReaderSegments.segments c.args.segments) in
-    let tries = c.in-Ok.ensures.tries in (
+    let tries = rw (c.new-source.ensures.words, c.new-source.ensures.nesting) at c.in-Ok.ensures.tries in (
       room_of_try (total S) tries.try,
       tries.asked,
       λ t value.
           asked_no_more S tries.try (λ j less. tries.before j less t value.cost value.means),
     )
 
-pub returns-in-Err-clause-exactly_where : goal.returns-in-Err-clause-exactly_where
-returns-in-Err-clause-exactly_where g c = λ has.
-    copy_lacks_memory (message (g.S.ReaderSegments.segments c.args.segments)) c.args.limits has c.in-Err.ensures.refused
+pub returns-clause-exactly_where : goal.returns-clause-exactly_where
+returns-clause-exactly_where g c = λ has.
+    copy_lacks_memory (message (g.S.ReaderSegments.segments c.args.segments)) c.args.limits has (rw (c.new-source.ensures.words, c.new-source.ensures.nesting) at c.in-Err.ensures.refused)
+
+pub returns-clause-refused : goal.returns-clause-refused
+returns-clause-refused g c = rw (c.new-source.ensures.words, c.new-source.ensures.nesting) at c.in-Err.ensures.refused

@@ -12,11 +12,11 @@ pub returns-clause-copied : goal.returns-clause-copied
 returns-clause-copied g c =
     let limits : c.options-options.result ≡ limits_of c.args.limits.nesting c.args.limits.words = c.options-options.ensures in
     let S : Segments = message (g.S.ReaderSegments.segments c.args.segments) in
-    fills_weaker (λ bytes is. subst (λ (l : ReaderOptions). IsCopyOfPart l c.args.path.now S bytes) limits is) (rw c.new-source.ensures.words at c.copy_part.ensures.copied)
+    fills_weaker (λ bytes is. subst (λ (l : ReaderOptions). IsCopyOfPart l c.args.path.now S bytes) limits is) (rw (c.new-source.ensures.words, c.new-source.ensures.nesting) at c.copy_part.ensures.copied)
 
 pub returns-clause-refused : goal.returns-clause-refused
 returns-clause-refused g c =
     let limits : c.options-options.result ≡ limits_of c.args.limits.nesting c.args.limits.words = c.options-options.ensures in
     let S : Segments = message (g.S.ReaderSegments.segments c.args.segments) in
     IfErr-weaker c.copy_part.result _ _ (λ r no. subst (λ (l : ReaderOptions). RefusesPartRoom l c.args.path.now (length c.args.to.now) S r) limits no)
-    (rw c.new-source.ensures.words at c.copy_part.ensures.refused)
+    (rw (c.new-source.ensures.words, c.new-source.ensures.nesting) at c.copy_part.ensures.refused)

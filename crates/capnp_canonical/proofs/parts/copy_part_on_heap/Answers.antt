@@ -2,6 +2,7 @@ use Rattle.std.proofs.Common.{◌∙◌, inl, length, refl}
 use Rattle.std.proofs.lemmas.Result.{IfErr-weaker}
 use Rattle.capnp_format.specs.Canonical.{encoding, trim}
 use Rattle.capnp_messages.proofs.CanonLemmas.{or_memory}
+use Rattle.capnp_messages.specs.Messages.{arena_limits}
 use Rattle.capnp_canonical.proofs.CallLemmas.{fills_weaker, fit_segment}
 use Rattle.capnp_canonical.proofs.PartLemmas.{no_room_for_part}
 use Rattle.capnp_canonical.proofs.parts.copy_part_on_heap.Goals as goal
@@ -21,4 +22,4 @@ returns-in-Ok-clause-refused g c =
     let (t, value, is_made) = c.in-Ok.ensures.copied in
     let bytes = c.canonical_bytes.ensures.bytes (encoding (trim t)) is_made in
     let few = fit_segment (encoding (trim t)) bytes c.canonical_bytes.ensures.short in
-    IfErr-weaker c.put_flat.result _ _ (λ r no. no_room_for_part c.args.limits c.args.path.now (length c.args.to.now) t value few bytes no) c.put_flat.ensures.refused
+    IfErr-weaker c.put_flat.result _ _ (λ r no. no_room_for_part (arena_limits c.args.source.now.nesting_limit c.args.traversal_limit_in_words) c.args.path.now (length c.args.to.now) t value few bytes no) c.put_flat.ensures.refused

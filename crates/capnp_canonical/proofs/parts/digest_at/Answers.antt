@@ -13,13 +13,13 @@ pub returns-in-Ok-clause-digest : goal.returns-in-Ok-clause-digest
 returns-in-Ok-clause-digest g c =
     let limits : c.options-options.result ≡ limits_of c.args.limits.nesting c.args.limits.words = c.options-options.ensures in
     let S : Segments = message (g.S.ReaderSegments.segments c.args.segments) in
-    let made = rw (c.in-Ok.is, c.new-source.ensures.words) at c.digest_of_part-digest.ensures.digest in
+    let made = rw (c.in-Ok.is, c.new-source.ensures.words, c.new-source.ensures.nesting) at c.digest_of_part-digest.ensures.digest in
     subst (λ (l : ReaderOptions). IsDigestOfPart S l c.args.path.now c.in-Ok.digest) limits made
 
 pub returns-clause-refused : goal.returns-clause-refused
 returns-clause-refused g c =
     let limits : c.options-options.result ≡ limits_of c.args.limits.nesting c.args.limits.words = c.options-options.ensures in
     let S : Segments = message (g.S.ReaderSegments.segments c.args.segments) in
-    let refused = rw (c.in-Err.is, c.new-source.ensures.words) at c.digest_of_part-digest.ensures.refused in
+    let refused = rw (c.in-Err.is, c.new-source.ensures.words, c.new-source.ensures.nesting) at c.digest_of_part-digest.ensures.refused in
     let no : RefusesPartOf c.options-options.result c.args.path.now S (Layout c.in-Err.kind) = (c.in-Err.kind, refl, or_memory refused) in
     subst (λ (l : ReaderOptions). RefusesPartOf l c.args.path.now S (Layout c.in-Err.kind)) limits no

@@ -1,18 +1,16 @@
-use Rattle.std.proofs.Common.{◌≡◌, ◌∷◌, [], ℕ, List, subst}
+use Rattle.std.proofs.Common.{List, ℕ, inr, subst}
+use Rattle.std.proofs.lemmas.Result.{IfErr-weaker, IfOk-weaker}
 use Rattle.capnp_format.specs.Bytes.{message}
-use Rattle.capnp_arena.specs.declared.arena.reader_arena_impl.ReaderOptions.{ReaderOptions}
-use Rattle.capnp_canonical.specs.Calls.{TestFinds, limits_of}
-use Rattle.capnp_canonical.proofs.CallLemmas.{test_finds}
+use Rattle.capnp_messages.specs.declared.messages.command.Command.TheVariants.{Check}
+use Rattle.capnp_canonical.specs.Calls.{RefusesMeaning, TestFinds, limits_of}
 use Rattle.capnp_canonical.proofs.words.check_words.Goals as goal
 
 pub returns-clause-found : goal.returns-clause-found
 returns-clause-found c =
-    let found = c.in_ok-canonical_fault_of.field-0 in
-    let limits : c.options.result ≡ limits_of c.args.limits.nesting c.args.limits.words = c.options.ensures in
-    let finds =
-    test_finds c.options.result _ found c.in_ok-canonical_fault_of.ensures.exactly c.in_ok-canonical_fault_of.ensures.within c.in_ok-canonical_fault_of.ensures.fault in
-    let given : List (List ℕ) = c.args.words.now ∷ [] in
-    let there = subst (λ (B : List (List ℕ)). TestFinds c.options.result found (message B)) c.in_ok-message.ensures.segments finds in (
-      c.in_ok-message.ensures.whole,
-      subst (λ (l : ReaderOptions). TestFinds l found (message given)) limits there,
-    )
+    let limits = limits_of c.args.limits.nesting c.args.limits.words in
+    IfOk-weaker c.check.result _ _ (λ o is. (c.in_ok-message.ensures.whole, subst (λ (B : List (List ℕ)). TestFinds limits o (message B)) c.in_ok-message.ensures.segments is)) c.check.ensures.found
+
+pub returns-clause-refused : goal.returns-clause-refused
+returns-clause-refused c =
+    let limits = limits_of c.args.limits.nesting c.args.limits.words in
+    IfErr-weaker c.check.result _ _ (λ r no. inr (c.in_ok-message.ensures.whole, subst (λ (B : List (List ℕ)). RefusesMeaning Check limits (message B) r) c.in_ok-message.ensures.segments no)) c.check.ensures.refused

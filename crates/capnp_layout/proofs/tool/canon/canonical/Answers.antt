@@ -10,4 +10,10 @@ returns-in-Err-clause-refused g c =
 
 pub returns-in-Ok-clause-refused : goal.returns-in-Ok-clause-refused
 returns-in-Ok-clause-refused g c =
-    IfErr-weaker c.canonical_with.result _ _ (λ e. refuses_segments c.args.options (segments_in c.args.source)) c.canonical_with.ensures.refused
+    IfErr-weaker c.canonicalize.result _ _ (λ e. refuses_segments c.args.options (segments_in c.args.source)) (rw (c.new-arena.ensures.words, c.new-arena.ensures.nesting) at c.canonicalize.ensures.refused)
+
+pub returns-in-Ok-clause-value : goal.returns-in-Ok-clause-value
+returns-in-Ok-clause-value g c = rw (c.new-arena.ensures.words, c.new-arena.ensures.nesting) at c.canonicalize.ensures.copied
+
+pub returns-in-Ok-clause-tries : goal.returns-in-Ok-clause-tries
+returns-in-Ok-clause-tries g c = rw (c.new-arena.ensures.words, c.new-arena.ensures.nesting) at c.canonicalize.ensures.tries

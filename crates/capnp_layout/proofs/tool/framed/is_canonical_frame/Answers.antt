@@ -3,6 +3,7 @@ use Rattle.std.proofs.lemmas.Result.{err_from_is_err_and}
 use Rattle.capnp_format.specs.Segments.{Segments}
 use Rattle.capnp_messages.specs.Messages.{RefusesCheck}
 use Rattle.capnp_messages.proofs.AnsweredLemmas.{check_alone, check_refused}
+use Rattle.capnp_messages.proofs.CheckedLemmas.{whole_tells}
 use Rattle.capnp_layout.proofs.FrameCommands.{frame_not_refused, one_message}
 use Rattle.capnp_layout.proofs.tool.framed.is_canonical_frame.Goals as goal
 
@@ -16,8 +17,15 @@ returns-in_err-frame-clause-refused c =
 
 pub returns-in-Err-clause-answered : goal.returns-in-Err-clause-answered
 returns-in-Err-clause-answered c = λ (S, holds, tested).
-    let refused = subst (λ (T : Segments). RefusesCheck T c.args.options c.in-Err.kind) (one_message c.in_ok-frame.ensures.holds holds) c.in-Err.ensures.refused in
+    let refused = subst (λ (T : Segments). RefusesCheck T c.args.options c.in-Err.kind) (one_message c.in_ok-frame.ensures.holds holds) (rw (c.new-source.ensures.words, c.new-source.ensures.nesting) at c.in-Err.ensures.refused) in
     absurd (check_refused S c.args.options (tested (check_alone S c.args.options refused)) refused)
 
 pub returns-in-Err-clause-refused : goal.returns-in-Err-clause-refused
-returns-in-Err-clause-refused c = inr (_, c.in_ok-frame.ensures.holds, (c.in-Err.kind, refl, c.in-Err.ensures.refused))
+returns-in-Err-clause-refused c = inr (_, c.in_ok-frame.ensures.holds, (c.in-Err.kind, refl, (rw (c.new-source.ensures.words, c.new-source.ensures.nesting) at c.in-Err.ensures.refused)))
+
+pub returns-in-Ok-clause-tells : goal.returns-in-Ok-clause-tells
+returns-in-Ok-clause-tells c =
+    let exactly = rw c.new-source.ensures.words at c.in-Ok.ensures.exactly in
+    let within = rw (c.new-source.ensures.words, c.new-source.ensures.nesting) at c.in-Ok.ensures.within in
+    let (says, inside) = whole_tells _ _ c.in-Ok.fault c.is_none.result c.is_none.ensures exactly within in
+    (_, c.in_ok-frame.ensures.holds, says, inside)

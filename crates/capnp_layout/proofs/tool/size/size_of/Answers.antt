@@ -1,5 +1,7 @@
 use Rattle.std.proofs.Common.{rules, inl, inr, IsOk}
 use Rattle.std.proofs.lemmas.Result.{err_from_is_err_and, IfErr-weaker}
+use Rattle.capnp_arena_traits.specs.Limits.{IsSmall}
+use Rattle.capnp_layout.specs.Messages.{segments_in}
 use Rattle.capnp_layout.proofs.tool.size.size_of.Goals as goal
 
 pub returns-in_err-within_limits-clause-refused : goal.returns-in_err-within_limits-clause-refused
@@ -8,4 +10,13 @@ returns-in_err-within_limits-clause-refused c =
     rw (p.1, p.2) (inl (c.in_err-within_limits.ensures.named, λ small. (let within : IsOk c.within_limits.result = c.within_limits.ensures.small.1 small in absurd (search rules))))
 
 pub returns-clause-refused : goal.returns-clause-refused
-returns-clause-refused c = IfErr-weaker c.size_of.result _ _ (λ k. inr) c.size_of.ensures.refused
+returns-clause-refused c = IfErr-weaker c.size.result _ _ (λ k. inr) (rw (c.new-arena.ensures.words, c.new-arena.ensures.nesting) at c.size.ensures.refused)
+
+pub returns-clause-size : goal.returns-clause-size
+returns-clause-size c = rw (c.new-arena.ensures.words, c.new-arena.ensures.nesting) at c.size.ensures.size
+
+pub returns-clause-exactly : goal.returns-clause-exactly
+returns-clause-exactly c =
+    let small : IsSmall (segments_in c.args.source) = search rules in
+    let exactly = rw (c.new-arena.ensures.words, c.new-arena.ensures.nesting) at c.size.ensures.exactly in
+    (λ answered. (small, exactly.0 answered), λ (fits, has). exactly.1 has)

@@ -12,7 +12,7 @@ use Rattle.capnp_messages.proofs.messages.writing.write_canonical.Goals as goal
 
 pub returns-in-Ok-clause-written : goal.returns-in-Ok-clause-written
 returns-in-Ok-clause-written g c =
-    frame_written (reading g.B.ReaderArena c.args.from) _ c.args.lim.now c.copy_canonical_with.new.lim c.write_copy.result (Prints g.W.Output c.args.output.now c.write_copy.new.output) c.in-Ok.ensures.copied c.write_copy.ensures.written
+    frame_written (reading g.B.ReaderArena c.args.from) _ c.args.lim.now c.canonicalize_pointer.new.lim c.write_copy.result (Prints g.W.Output c.args.output.now c.write_copy.new.output) c.in-Ok.ensures.copied c.write_copy.ensures.written
 
 pub returns-in-Ok-clause-charged : goal.returns-in-Ok-clause-charged
 returns-in-Ok-clause-charged g c =

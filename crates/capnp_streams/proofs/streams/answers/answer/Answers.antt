@@ -45,16 +45,16 @@ returns-in-Err-size_asked-clause-answer g c =
 pub returns-in-Err-size_asked-clause-memory : goal.returns-in-Err-size_asked-clause-memory
 returns-in-Err-size_asked-clause-memory g c = rw c.in-Size.is (memory_counted _ _ _ Size _ c.requires.there refl (λ n. refl))
 
-pub returns-in-Ok-validate_of-clause-answer : goal.returns-in-Ok-validate_of-clause-answer
-returns-in-Ok-validate_of-clause-answer g c =
-    rw c.in-Validate.is (answer_written _ _ _ _ _ _ (extent_line c.in-Ok-validate_of.extent.value) c.write_extent.ensures c.if_written-in-Ok-validate_of.ensures.written c.if_written-in-Ok-validate_of.ensures.failed (refl, (c.in-Ok-validate_of.extent, c.in-Ok-validate_of.ensures.extent, refl)))
+pub returns-in-Ok-validate-clause-answer : goal.returns-in-Ok-validate-clause-answer
+returns-in-Ok-validate-clause-answer g c =
+    rw c.in-Validate.is (answer_written _ _ _ _ _ _ (extent_line c.in-Ok-validate.extent.value) c.write_extent.ensures c.if_written-in-Ok-validate.ensures.written c.if_written-in-Ok-validate.ensures.failed (refl, (c.in-Ok-validate.extent, c.in-Ok-validate.ensures.extent, refl)))
 
-pub returns-in-Ok-validate_of-clause-memory : goal.returns-in-Ok-validate_of-clause-memory
-returns-in-Ok-validate_of-clause-memory g c = rw c.in-Validate.is (memory_counted _ _ _ Validate _ c.requires.there refl (written_uncounted Validate _ _ _ c.if_written-in-Ok-validate_of.ensures.written c.if_written-in-Ok-validate_of.ensures.failed))
+pub returns-in-Ok-validate-clause-memory : goal.returns-in-Ok-validate-clause-memory
+returns-in-Ok-validate-clause-memory g c = rw c.in-Validate.is (memory_counted _ _ _ Validate _ c.requires.there refl (written_uncounted Validate _ _ _ c.if_written-in-Ok-validate.ensures.written c.if_written-in-Ok-validate.ensures.failed))
 
-pub returns-in-Err-validate_of-clause-answer : goal.returns-in-Err-validate_of-clause-answer
-returns-in-Err-validate_of-clause-answer g c =
-    rw c.in-Validate.is (answer_refuses _ _ _ _ c.in-Err-validate_of.ensures.computed)
+pub returns-in-Err-validate-clause-answer : goal.returns-in-Err-validate-clause-answer
+returns-in-Err-validate-clause-answer g c =
+    rw c.in-Validate.is (answer_refuses _ _ _ _ c.in-Err-validate.ensures.computed)
 
-pub returns-in-Err-validate_of-clause-memory : goal.returns-in-Err-validate_of-clause-memory
-returns-in-Err-validate_of-clause-memory g c = rw c.in-Validate.is (memory_counted _ _ _ Validate _ c.requires.there refl (λ n. refl))
+pub returns-in-Err-validate-clause-memory : goal.returns-in-Err-validate-clause-memory
+returns-in-Err-validate-clause-memory g c = rw c.in-Validate.is (memory_counted _ _ _ Validate _ c.requires.there refl (λ n. refl))

@@ -18,7 +18,7 @@ returns-in-Some-clause-answer g c =
     let few : length (encoding (trim t)) ≤ max_segment_words = omega (arith, ap length is, words c.in-Some.words.now, c.in-Some.ensures.short) in
     let none : length (path_indexes c.args.task.path) ≡ 0 = search rules in
     let value' = of_whole (λ path. IsValueAt (message (g.S.ReaderSegments.segments c.args.segments)) c.args.task.limits path t) (path_indexes c.args.task.path) none
-    (rw c.new-source.ensures.words at value) in
+    (rw (c.new-source.ensures.words, c.new-source.ensures.nesting) at value) in
     answer_written _ _ _ _ _ _ (written_words c.args.task.hex c.args.form (words_of c.in-Some.words.now)) c.write_canonical_words.ensures
     c.if_written.ensures.written c.if_written.ensures.failed (refl, (t, value', few, ap (written_words c.args.task.hex c.args.form) is))
 

@@ -13,7 +13,7 @@ use Rattle.capnp_streams.proofs.streams.answers.canon_copy.Goals as goal
 
 pub returns-in-Ok-clause-answer : goal.returns-in-Ok-clause-answer
 returns-in-Ok-clause-answer g c =
-    let (t, value, is_made) = c.in-Ok.ensures.copied in
+    let (t, value, is_made) = rw c.requires.nesting at c.in-Ok.ensures.copied in
     let only : words_of c.canonical_bytes-words.result.now ∷ [] ≡ encoding (trim t) ∷ [] = sym c.canonical_bytes-words.ensures.words ∙ is_made in
     let same : words_of c.canonical_bytes-words.result.now ≡ encoding (trim t) = cc in
     let few : length (encoding (trim t)) ≤ max_segment_words = omega (arith, ap length same, words c.canonical_bytes-words.result.now, c.canonical_bytes-words.ensures.short) in
@@ -27,7 +27,7 @@ returns-in-Ok-clause-memory g c =
     (written_uncounted (Canon c.args.form) _ _ _ c.if_written.ensures.written c.if_written.ensures.failed)
 
 pub returns-in-Err-clause-answer : goal.returns-in-Err-clause-answer
-returns-in-Err-clause-answer g c = answer_refuses _ _ _ _ (or_memory c.in-Err.ensures.refused)
+returns-in-Err-clause-answer g c = answer_refuses _ _ _ _ (or_memory (rw c.requires.nesting at c.in-Err.ensures.refused))
 
 pub returns-in-Err-clause-memory : goal.returns-in-Err-clause-memory
 returns-in-Err-clause-memory g c =
@@ -35,5 +35,5 @@ returns-in-Err-clause-memory g c =
     record {
       there = refl;
       kept = tt;
-      counted = rw here (copy_counted _ c.args.task.limits (path_indexes c.args.task.path) c.in-Err.ensures.refused);
+      counted = rw here (copy_counted _ c.args.task.limits (path_indexes c.args.task.path) (rw c.requires.nesting at c.in-Err.ensures.refused));
     }

@@ -1,0 +1,30 @@
+use Rattle.std.proofs.Common.{rules, IsOk, refl}
+use Rattle.std.proofs.lemmas.Result.{IfErr-weaker, IfOk-weaker}
+use Rattle.capnp_messages.specs.Messages.{arena_limits}
+use Rattle.capnp_messages.proofs.TryLemmas.{moved_tries}
+use Rattle.capnp_messages.proofs.MessageLemmas.{AtRoot, at_root, copy_of, copy_refused}
+use Rattle.capnp_messages.proofs.messages.whole.canonicalize.Goals as goal
+
+pub returns-in-Ok-clause-copied : goal.returns-in-Ok-clause-copied
+returns-in-Ok-clause-copied g c =
+    let read : IsOk c.read_root.result = search rules in
+    let at : AtRoot _ (arena_limits c.args.source.now.nesting_limit c.args.traversal_limit_in_words) _ c.read_root.new.lim =
+    at_root refl refl c.new-lim.ensures c.in-Ok.ensures.place
+    c.in-Ok.ensures.charged (c.read_root.ensures.exactly.0 read) in
+    IfOk-weaker c.canonicalize_pointer.result _ _ (λ made. copy_of at) c.canonicalize_pointer.ensures.copied
+
+pub returns-in-Ok-clause-tries : goal.returns-in-Ok-clause-tries
+returns-in-Ok-clause-tries g c =
+    let read : IsOk c.read_root.result = search rules in
+    let at : AtRoot _ (arena_limits c.args.source.now.nesting_limit c.args.traversal_limit_in_words) _ c.read_root.new.lim =
+    at_root refl refl c.new-lim.ensures c.in-Ok.ensures.place
+    c.in-Ok.ensures.charged (c.read_root.ensures.exactly.0 read) in
+    IfOk-weaker c.canonicalize_pointer.result _ _ (λ made. moved_tries (g.A.Allocator.offers c.args.allocator) _ _ at.place) c.canonicalize_pointer.ensures.tries
+
+pub returns-in-Ok-clause-refused : goal.returns-in-Ok-clause-refused
+returns-in-Ok-clause-refused g c =
+    let read : IsOk c.read_root.result = search rules in
+    let at : AtRoot _ (arena_limits c.args.source.now.nesting_limit c.args.traversal_limit_in_words) _ c.read_root.new.lim =
+    at_root refl refl c.new-lim.ensures c.in-Ok.ensures.place
+    c.in-Ok.ensures.charged (c.read_root.ensures.exactly.0 read) in
+    IfErr-weaker c.canonicalize_pointer.result _ _ (λ e. copy_refused at) c.canonicalize_pointer.ensures.refused

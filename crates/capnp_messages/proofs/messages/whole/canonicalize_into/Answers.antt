@@ -1,0 +1,30 @@
+use Rattle.std.proofs.Common.{rules, IsOk, refl}
+use Rattle.std.proofs.lemmas.Bool.{OnFalse_at, OnFalse_from, OnTrue_at, OnTrue_from}
+use Rattle.std.proofs.lemmas.Result.{IfErr-weaker, IfOk-weaker}
+use Rattle.capnp_messages.specs.Messages.{arena_limits}
+use Rattle.capnp_messages.proofs.MessageLemmas.{AtRoot, at_root, own_copy_needs, own_copy_of, own_copy_refused}
+use Rattle.capnp_messages.proofs.messages.whole.canonicalize_into.Goals as goal
+
+pub returns-clause-copied : goal.returns-clause-copied
+returns-clause-copied g c =
+    let read : IsOk c.read_root.result = search rules in
+    let at : AtRoot _ (arena_limits c.args.source.now.nesting_limit c.args.traversal_limit_in_words) _ c.read_root.new.lim =
+    at_root refl refl c.new-lim.ensures c.in_ok-root.ensures.place
+    c.in_ok-root.ensures.charged (c.read_root.ensures.exactly.0 read) in
+    IfOk-weaker c.copy_in_room.result _ _ (λ fits h. OnTrue_from fits _ (λ e. own_copy_of at c.left.ensures (OnTrue_at e h))) c.copy_in_room.ensures.copied
+
+pub returns-clause-small : goal.returns-clause-small
+returns-clause-small g c =
+    let read : IsOk c.read_root.result = search rules in
+    let at : AtRoot _ (arena_limits c.args.source.now.nesting_limit c.args.traversal_limit_in_words) _ c.read_root.new.lim =
+    at_root refl refl c.new-lim.ensures c.in_ok-root.ensures.place
+    c.in_ok-root.ensures.charged (c.read_root.ensures.exactly.0 read) in
+    IfOk-weaker c.copy_in_room.result _ _ (λ fits h. OnFalse_from fits _ (λ e. own_copy_needs at (OnFalse_at e h))) c.copy_in_room.ensures.small
+
+pub returns-clause-refused : goal.returns-clause-refused
+returns-clause-refused g c =
+    let read : IsOk c.read_root.result = search rules in
+    let at : AtRoot _ (arena_limits c.args.source.now.nesting_limit c.args.traversal_limit_in_words) _ c.read_root.new.lim =
+    at_root refl refl c.new-lim.ensures c.in_ok-root.ensures.place
+    c.in_ok-root.ensures.charged (c.read_root.ensures.exactly.0 read) in
+    IfErr-weaker c.copy_in_room.result _ _ (λ k h. own_copy_refused at c.left.ensures h) c.copy_in_room.ensures.refused
