@@ -20,7 +20,7 @@ use Rattle.capnp_objects.proofs.Refusals.{affords_less}
 use Rattle.capnp_messages.specs.EndValues.{EndMeans, end_place}
 use Rattle.capnp_messages.specs.Parts.{PathEnd, part, to_element, to_pointer}
 use Rattle.capnp_show.specs.Line.{value_line}
-use Rattle.capnp_show.specs.Shown.{Shown, Shows, add, show_end, shown}
+use Rattle.capnp_show.specs.Shown.{Shown, Shows, add, show_end, shown_json}
 use Rattle.capnp_show.specs.ShownParts.{IsShownPart}
 use Rattle.capnp_show.specs.declared.show.json.Json.{Json}
 use Rattle.capnp_show.specs.declared.show.text.Ended.{Ended}
@@ -58,9 +58,9 @@ end_told d (to_element r n q) s t c (ws, ts, is, long, counts, here, means) cove
 -- ---- a whole line
 
 -- A path's end that is read after a step that changed nothing.
-pub end_there : (j0 j1 : Json) (o : Result PathEnd ErrorKind) (m1 m : Meter) (e : PathEnd) → j1 ≡ j0 → ◌≡◌ {A = Result PathEnd ErrorKind × Meter} (o, m1) (Ok e, m) → (o ≡ Ok e) × (shown (record j1 { lim = m1 }) ≡ record (shown j0) { lim = m })
+pub end_there : (j0 j1 : Json) (o : Result PathEnd ErrorKind) (m1 m : Meter) (e : PathEnd) → j1 ≡ j0 → ◌≡◌ {A = Result PathEnd ErrorKind × Meter} (o, m1) (Ok e, m) → (o ≡ Ok e) × (shown_json (record j1 { lim = m1 }) ≡ record (shown_json j0) { lim = m })
 end_there j0 j1 o m1 m e same both =
-    (ap (λ (x : Result PathEnd ErrorKind × Meter). x.0) both, ap₂ (λ (j : Json) (n : Meter). record (shown j) { lim = n }) same (ap (λ (x : Result PathEnd ErrorKind × Meter). x.1) both))
+    (ap (λ (x : Result PathEnd ErrorKind × Meter). x.0) both, ap₂ (λ (j : Json) (n : Meter). record (shown_json j) { lim = n }) same (ap (λ (x : Result PathEnd ErrorKind × Meter). x.1) both))
 
 -- What is written of the end that was found.
 pub end_shown : {A : Type 0} {res : Result A Ended} {j : Json} (d : ℕ) (s : Shown) (o : Result PathEnd ErrorKind) (x e : PathEnd) → o ≡ Ok x → o ≡ Ok e → Shows res j (show_end d x s) → Shows res j (show_end d e s)
@@ -75,8 +75,8 @@ fresh m = record { text = []; lim = m; sound = true }
 
 -- What a call writes, if it writes the line of what a path's end shows.
 pub line_written : {A : Type 0} {res : Result A Ended} (S : Segments) (limits : ReaderOptions) (path : List ℕ) (d : ℕ) (t : Tree) (z : ℤ) (j0 j : Json) → IsShownPart S limits path d t → z ≡ limits.nesting_limit →
-    shown j0 ≡ fresh (unused limits.traversal_limit_in_words) →
-    ((e : PathEnd) (m : Meter) → part S (levels z) path j0.lim ≡ (Ok e, m) → Shows res j (add (codes "\n") (show_end d e (record (shown j0) { lim = m })))) →
+    shown_json j0 ≡ fresh (unused limits.traversal_limit_in_words) →
+    ((e : PathEnd) (m : Meter) → part S (levels z) path j0.lim ≡ (Ok e, m) → Shows res j (add (codes "\n") (show_end d e (record (shown_json j0) { lim = m })))) →
     (m : Meter) × Shows res j (record { text = value_line t ++ codes "\n"; lim = m; sound = true })
 line_written {res = res} S limits path d t z j0 j is nesting begins writes =
     let leads : part S (levels z) path j0.lim ≡ (Ok is.path_end, is.left) =

@@ -10,21 +10,21 @@ use Rattle.capnp_objects.specs.Enter.{Shape, read}
 use Rattle.capnp_objects.specs.Reading.{Reading, behind, word_of}
 use Rattle.capnp_show.specs.Adding.{Adds}
 use Rattle.capnp_show.specs.Line.{member}
-use Rattle.capnp_show.specs.Shown.{IsPlain, Shown, Shows, ShowsArray, add, array_begin, array_within, comma, cut_text, show_each, show_elements, show_place, show_result, show_struct, show_structs, show_within, shown, sizes_members}
+use Rattle.capnp_show.specs.Shown.{IsPlain, Shown, Shows, ShowsArray, add, array_begin, array_within, comma, cut_text, show_each, show_elements, show_place, show_result, show_struct, show_structs, show_within, shown_json, sizes_members}
 use Rattle.capnp_show.specs.declared.show.json.Json.{Json}
 use Rattle.capnp_show.specs.declared.show.text.Text.{Text}
 use Rattle.capnp_show.specs.declared.show.text.Ended.{Ended}
 use Rattle.capnp_show.proofs.Adds.{failed}
 use Rattle.capnp_show.proofs.Grows.{Longer, added_longer, each_longer, elements_longer, result_longer, shown_longer, within_longer}
 
-pub text_added : (j : Json) (t : Text) (xs : List ℕ) → t.bytes.items ≡ j.text.bytes.items ++ xs → shown (record j { text = t }) ≡ add xs (shown j)
-text_added j t xs e = ap (λ zs. record (shown j) { text = zs }) e
+pub text_added : (j : Json) (t : Text) (xs : List ℕ) → t.bytes.items ≡ j.text.bytes.items ++ xs → shown_json (record j { text = t }) ≡ add xs (shown_json j)
+text_added j t xs e = ap (λ zs. record (shown_json j) { text = zs }) e
 
 pub still_plain : (j : Json) (t : Text) → IsPlain j → IsPlain (record j { text = t })
 still_plain j t plain = record { no_places = plain.no_places; no_search = plain.no_search }
 
 -- Bytes are added to the text of a line.
-pub push_shows : {A : Type 0} {r : Result A Ended} {xs : List ℕ} (j : Json) (t : Text) → IsPlain j → Adds r j.text.bytes.items t.bytes.items xs → Shows r (record j { text = t }) (add xs (shown j))
+pub push_shows : {A : Type 0} {r : Result A Ended} {xs : List ℕ} (j : Json) (t : Text) → IsPlain j → Adds r j.text.bytes.items t.bytes.items xs → Shows r (record j { text = t }) (add xs (shown_json j))
 push_shows {r = Ok x} {xs} j t plain a = record { plain = still_plain j t plain; written = text_added j t xs a.added; full = tt }
 push_shows {r = Err k} j t plain a = record { plain = tt; written = tt; full = a.full }
 
@@ -32,7 +32,7 @@ push_shows {r = Err k} j t plain a = record { plain = tt; written = tt; full = a
 pub shows_stops : {A B : Type 0} {k : Ended} {j0 : Json} {s0 : Shown} (r : Result A Ended) (j : Json) (s : Shown) → IsErrAnd r (λ y. y ≡ k) → Shows {A = B} (Err k) j0 s0 → Longer s0 s → Shows r j s
 shows_stops {k = k} r j s h shows longer = rw (failed r h) (let w : Shows (Err k) j s = record { plain = tt; written = tt; full = λ is. let over = shows.full is in omega (arith, over, longer) } in w)
 
-pub push_stops : {A B : Type 0} {k : Ended} {to xs : List ℕ} (j0 : Json) (r : Result A Ended) (j : Json) (s : Shown) → IsErrAnd r (λ y. y ≡ k) → Adds {A = B} (Err k) j0.text.bytes.items to xs → Longer (add xs (shown j0)) s → Shows r j s
+pub push_stops : {A B : Type 0} {k : Ended} {to xs : List ℕ} (j0 : Json) (r : Result A Ended) (j : Json) (s : Shown) → IsErrAnd r (λ y. y ≡ k) → Adds {A = B} (Err k) j0.text.bytes.items to xs → Longer (add xs (shown_json j0)) s → Shows r j s
 push_stops {k = k} j0 r j s h a longer = rw (failed r h) (let w : Shows (Err k) j s = record { plain = tt; written = tt; full = λ is. let over = a.full is in omega (arith, over, longer) } in w)
 
 -- What a step writes of a line, under another name.
@@ -89,22 +89,22 @@ lim_plain m plain = record { no_places = plain.no_places; no_search = plain.no_s
 pub plain_after : {j j1 : Json} → j1 ≡ j → IsPlain j → IsPlain j1
 plain_after e plain = subst IsPlain (sym e) plain
 
-pub push_after : {A : Type 0} {r : Result A Ended} {xs : List ℕ} (j j1 : Json) (t : Text) → j1 ≡ j → IsPlain j → Adds r j1.text.bytes.items t.bytes.items xs → Shows r (record j1 { text = t }) (add xs (shown j))
-push_after {xs = xs} j j1 t e plain a = shows_as (ap (λ z. add xs (shown z)) e) (push_shows j1 t (plain_after e plain) a)
+pub push_after : {A : Type 0} {r : Result A Ended} {xs : List ℕ} (j j1 : Json) (t : Text) → j1 ≡ j → IsPlain j → Adds r j1.text.bytes.items t.bytes.items xs → Shows r (record j1 { text = t }) (add xs (shown_json j))
+push_after {xs = xs} j j1 t e plain a = shows_as (ap (λ z. add xs (shown_json z)) e) (push_shows j1 t (plain_after e plain) a)
 
-pub shows_after : {A : Type 0} {r : Result A Ended} {j2 : Json} (f : Reading → Shown → Shown) (r0 r1 : Reading) (j j1 : Json) → r1 ≡ r0 → j1 ≡ j → IsPlain j → (IsPlain j1 → Shows r j2 (f r1 (shown j1))) → Shows r j2 (f r0 (shown j))
-shows_after f r0 r1 j j1 at e plain h = shows_as (ap₂ (λ q z. f q (shown z)) at e) (h (plain_after e plain))
+pub shows_after : {A : Type 0} {r : Result A Ended} {j2 : Json} (f : Reading → Shown → Shown) (r0 r1 : Reading) (j j1 : Json) → r1 ≡ r0 → j1 ≡ j → IsPlain j → (IsPlain j1 → Shows r j2 (f r1 (shown_json j1))) → Shows r j2 (f r0 (shown_json j))
+shows_after f r0 r1 j j1 at e plain h = shows_as (ap₂ (λ q z. f q (shown_json z)) at e) (h (plain_after e plain))
 
 -- After a step that wrote s.
 pub push_then : {A B : Type 0} {r : Result A Ended} {x : B} {xs : List ℕ} (j1 : Json) (t : Text) (s : Shown) → Shows (Ok x) j1 s → Adds r j1.text.bytes.items t.bytes.items xs → Shows r (record j1 { text = t }) (add xs s)
 push_then {xs = xs} j1 t s one a = shows_as (ap (add xs) one.written) (push_shows j1 t one.plain a)
 
-pub shows_then : {A B : Type 0} {r : Result A Ended} {x : B} {j1 j2 : Json} (f : Reading → Shown → Shown) (r0 r1 : Reading) (s : Shown) → r1 ≡ r0 → Shows (Ok x) j1 s → (IsPlain j1 → Shows r j2 (f r1 (shown j1))) → Shows r j2 (f r0 s)
+pub shows_then : {A B : Type 0} {r : Result A Ended} {x : B} {j1 j2 : Json} (f : Reading → Shown → Shown) (r0 r1 : Reading) (s : Shown) → r1 ≡ r0 → Shows (Ok x) j1 s → (IsPlain j1 → Shows r j2 (f r1 (shown_json j1))) → Shows r j2 (f r0 s)
 shows_then f r0 r1 s at one h = shows_as (ap₂ (λ q z. f q z) at one.written) (h one.plain)
 
 -- A pointer's object was read, or refused, and is written.
 pub place_written : {A B : Type 0} {res : Result A Ended} {x : B} {j1 j3 : Json} (d : ℕ) (r : Reading) (s : Shown) (o : Result Shape ErrorKind) (m : Meter) → word_of r ≢ 0 → Shows (Ok x) j1 (add (codes "{") s) → read Value r j1.lim ≡ (o, m) →
-    Shows res j3 (show_result (array_within d) r (o, m) (shown j1)) → Shows res j3 (show_within d r s)
+    Shows res j3 (show_result (array_within d) r (o, m) (shown_json j1)) → Shows res j3 (show_within d r s)
 place_written d r s o m some begun e h =
     let opened = begun.written in
     let there : read Value r s.lim ≡ (o, m) = ap (λ (z : Shown). read Value r z.lim) (sym opened) ∙ e in
@@ -135,7 +135,7 @@ elements_first below d q count k r s all =
 
 -- A comma, a step on the path, a pointer, and the step back.
 pub each_shown : {A B : Type 0} {res : Result B Ended} {x : A} {j3 : Json} (d i : ℕ) (r q : Reading) (j j2 : Json) (t : Text) → IsPlain j → Adds (Ok x) j.text.bytes.items t.bytes.items (comma i) → j2 ≡ record j { text = t } → q ≡ behind r i →
-    (IsPlain j2 → Shows res j3 (show_within d q (shown j2))) → Shows res j3 (show_within d (behind r i) (add (comma i) (shown j)))
+    (IsPlain j2 → Shows res j3 (show_within d q (shown_json j2))) → Shows res j3 (show_within d (behind r i) (add (comma i) (shown_json j)))
 each_shown d i r q j j2 t plain comma_added entered at h =
     let with_comma = push_shows j t plain comma_added in
     shows_as (ap (show_within d (behind r i)) with_comma.written) (shows_after (show_within d) (behind r i) q (record j { text = t }) j2 at entered with_comma.plain h)
@@ -150,7 +150,7 @@ each_next f i count k r s next whole so_far e is =
 
 -- A comma and the brace of an element.
 pub element_opened : {A B : Type 0} {res : Result B Ended} {x : A} (i : ℕ) (j j2 : Json) (t u : Text) → IsPlain j → Adds (Ok x) j.text.bytes.items t.bytes.items (comma i) → j2 ≡ record j { text = t } → Adds res j2.text.bytes.items u.bytes.items (codes "{") →
-    Shows res (record j2 { text = u }) (add (codes "{") (add (comma i) (shown j)))
+    Shows res (record j2 { text = u }) (add (codes "{") (add (comma i) (shown_json j)))
 element_opened i j j2 t u plain comma_added entered brace =
     let with_comma = push_shows j t plain comma_added in
     shows_as (ap (add (codes "{")) with_comma.written) (push_after (record j { text = t }) j2 u entered with_comma.plain brace)

@@ -127,8 +127,8 @@ show_end d (to_pointer r) s = show_within d r s
 show_end d (to_element r n q) s = show_struct (array_within d) n q r (add (codes "{") s)
 
 -- A line of the program, as far as it is written.
-abbrev pub shown : Json → Shown
-shown json = record { text = json.text.bytes.items; lim = json.lim; sound = json.is_sound }
+abbrev pub shown_json : Json → Shown
+shown_json json = record { text = json.text.bytes.items; lim = json.lim; sound = json.is_sound }
 
 -- The line is without places, and nothing is looked for.
 pub record IsPlain (json : Json) : Type 0 where
@@ -139,5 +139,5 @@ pub record IsPlain (json : Json) : Type 0 where
 -- long.
 pub record Shows {A : Type 0} (result : Result A Ended) (json : Json) (s : Shown) : Type 0 where
   pub plain : OnOk result (IsPlain json)
-  pub written : OnOk result (shown json ≡ s)
+  pub written : OnOk result (shown_json json ≡ s)
   pub full : IfErr result (λ e. e ≡ Full → max_text < length s.text)

@@ -6,7 +6,7 @@ ghost use Rattle.capnp_pointers.specs.Pointers.{reading};
 ghost use Rattle.capnp_messages.specs.Parts.{PathEnd};
 ghost use Rattle.capnp_messages.specs.PathEnds.{IsObjectRead, end_read, end_result};
 ghost use Rattle.capnp_show.specs.Shown.{IsPlain, Shows, add, array_within, show_elements, show_end};
-ghost use Rattle.capnp_show.specs.Shown.{show_object, show_refusal, show_struct, show_structs, show_within, shown};
+ghost use Rattle.capnp_show.specs.Shown.{show_object, show_refusal, show_struct, show_structs, show_within, shown_json};
 
 use super::objects::{are_bytes, bytes_at, pointer_after, pointer_inside, read_object};
 use super::path::{PathStep, PathText};
@@ -66,7 +66,7 @@ impl Json {
     pub(super) fn new(alloc: Global, lim: ReadLimiter, has_places: bool) -> Self
         ensures places { result.has_places ≡ has_places }
         ensures search { result.search ≡ None }
-        ensures shown { shown result ≡ record { text = []; lim = lim; sound = true } }
+        ensures shown { shown_json result ≡ record { text = []; lim = lim; sound = true } }
     {
         Json {
             text: Text::new(alloc),
@@ -112,12 +112,7 @@ impl Json {
     }
 
     /// Writes what comes before the root: the number of the message, and its size.
-    pub(super) fn write_head(
-        &mut self,
-        number: u64,
-        segments: u64,
-        words: u64,
-    ) -> Result<(), Ended>
+    pub(super) fn write_head(&mut self, number: u64, segments: u64, words: u64) -> Result<(), Ended>
         ensures { IsPlain self.old → (result ≡ Ok tt) × (self.new ≡ self.old) }
     {
         if !self.has_places {
@@ -136,7 +131,7 @@ impl Json {
 
     /// Writes what comes after the root.
     pub(super) fn write_tail(&mut self) -> Result<(), Ended>
-        ensures { IsPlain self.old → Shows result self.new (add (codes "\n") (shown self.old)) }
+        ensures { IsPlain self.old → Shows result self.new (add (codes "\n") (shown_json self.old)) }
     {
         if self.has_places {
             return self.text.push(b"}\n");
@@ -158,7 +153,7 @@ impl Json {
 
     /// Writes why a pointer can't be read, and ends the object.
     fn write_refusal(&mut self, name: &str) -> Result<(), Ended>
-        ensures { IsPlain self.old → Shows result self.new (show_refusal name.now (shown self.old)) }
+        ensures { IsPlain self.old → Shows result self.new (show_refusal name.now (shown_json self.old)) }
     {
         self.is_sound = false;
         self.text.push_refusal(name.as_bytes())
@@ -174,7 +169,7 @@ impl Json {
     /// Begins the object of a pointer: where the pointer is, unless places are left out, and its
     /// landing pad if it is a far pointer.
     fn write_pointer(&mut self, place: Place) -> Result<(), Ended>
-        ensures { IsPlain self.old → Shows result self.new (add (codes "{") (shown self.old)) }
+        ensures { IsPlain self.old → Shows result self.new (add (codes "{") (shown_json self.old)) }
     {
         self.text.push(b"{")?;
         if !self.has_places {
@@ -242,7 +237,7 @@ pub(super) fn json_end<A: ReaderArena>(
     json: &mut Json,
 ) -> Result<(), Ended>
     ensures { (e : PathEnd) → end_result A.ReaderArena end.entry ≡ Ok e → IsPlain json.old
-        → Shows result json.new (show_end depth e (shown json.old)) }
+        → Shows result json.new (show_end depth e (shown_json json.old)) }
 {
     match end {
         Ok(reached) => json_reached(reached, depth, json),
@@ -257,7 +252,7 @@ fn json_reached<A: ReaderArena>(
     json: &mut Json,
 ) -> Result<(), Ended>
     ensures { IsPlain json.old → Shows result json.new
-        (show_end depth (end_read A.ReaderArena reached.entry) (shown json.old)) }
+        (show_end depth (end_read A.ReaderArena reached.entry) (shown_json json.old)) }
 {
     match reached {
         Reached::Pointer(root) => json_pointer(root, depth, json),
@@ -273,7 +268,7 @@ fn json_element<A: ReaderArena>(
 ) -> Result<(), Ended>
     ensures { IsPlain json.old → Shows result json.new (show_struct (array_within depth)
         element.entry.size.data_words element.entry.size.pointers
-        (reading A.ReaderArena element.entry.first) (add (codes "{") (shown json.old))) }
+        (reading A.ReaderArena element.entry.first) (add (codes "{") (shown_json json.old))) }
 {
     json.text.push(b"{")?;
     json.write_start(element.first.place)?;
@@ -288,7 +283,7 @@ pub(super) fn json_pointer<A: ReaderArena>(
     json: &mut Json,
 ) -> Result<(), Ended>
     ensures { IsPlain json.old → Shows result json.new
-        (show_within depth (reading A.ReaderArena from.entry) (shown json.old)) }
+        (show_within depth (reading A.ReaderArena from.entry) (shown_json json.old)) }
 {
     let start = json.text.len();
     json_place(from, depth, json)?;
@@ -303,7 +298,7 @@ fn json_place<A: ReaderArena>(
     json: &mut Json,
 ) -> Result<(), Ended>
     ensures { IsPlain json.old → Shows result json.new
-        (show_within depth (reading A.ReaderArena from.entry) (shown json.old)) }
+        (show_within depth (reading A.ReaderArena from.entry) (shown_json json.old)) }
 {
     if from.is_null() {
         return json.text.push(b"null");
@@ -326,7 +321,7 @@ fn json_object<A: ReaderArena>(
     requires { IsObjectRead (reading A.ReaderArena from) object }
     ensures { IsPlain json.old → Shows result json.new
         (show_object (array_within depth) (reading A.ReaderArena from.entry)
-        (object_shape object.entry) (shown json.old)) }
+        (object_shape object.entry) (shown_json json.old)) }
 {
     json.write_start_of(object)?;
     match object {
@@ -357,7 +352,7 @@ fn json_struct<A: ReaderArena>(
         ≤ length (segment_read (reading A.ReaderArena start)) }
     ensures { IsPlain json.old → Shows result json.new
         (show_struct (array_within depth) size.data_words size.pointers
-        (reading A.ReaderArena start.entry) (shown json.old)) }
+        (reading A.ReaderArena start.entry) (shown_json json.old)) }
 {
     let words = u32::from(size.data_words);
     let data = bytes_at(start.place, 8 * words as usize);
@@ -379,7 +374,7 @@ fn json_pointers<A: ReaderArena>(
 ) -> Result<(), Ended>
     requires inside { first.place.at + count ≤ length (segment_read (reading A.ReaderArena first)) }
     ensures { IsPlain json.old → Shows result json.new
-        (array_within depth are_elements count (reading A.ReaderArena first.entry) (shown json.old)) }
+        (array_within depth are_elements count (reading A.ReaderArena first.entry) (shown_json json.old)) }
 {
     if depth == 0 {
         return json.text.push_cut(are_elements, count);
@@ -407,7 +402,7 @@ fn json_structs<A: ReaderArena>(
         ≤ length (segment_read (reading A.ReaderArena first)) }
     ensures { IsPlain json.old → Shows result json.new
         (show_structs (array_within depth) size.data_words size.pointers count
-        (reading A.ReaderArena first.entry) (shown json.old)) }
+        (reading A.ReaderArena first.entry) (shown_json json.old)) }
 {
     json.text.push_sizes(size)?;
     if size.total() == 0 {
@@ -431,7 +426,7 @@ fn json_elements<A: ReaderArena>(
         ≤ length (segment_read (reading A.ReaderArena first)) }
     ensures { IsPlain json.old → Shows result json.new
         (show_elements (array_within depth) size.data_words size.pointers 0 count
-        (reading A.ReaderArena first.entry) (shown json.old)) }
+        (reading A.ReaderArena first.entry) (shown_json json.old)) }
 {
     for i in 0..count {
         json.text.push_comma(i)?;

@@ -9,7 +9,7 @@ ghost use Rattle.capnp_objects.specs.Source.{levels};
 ghost use Rattle.capnp_messages.specs.Parts.{PathEnd, part};
 ghost use Rattle.capnp_show.specs.Line.{value_line};
 ghost use Rattle.capnp_show.specs.Show.{PrintsAtMost};
-ghost use Rattle.capnp_show.specs.Shown.{IsPlain, Shows, add, show_end, shown};
+ghost use Rattle.capnp_show.specs.Shown.{IsPlain, Shows, add, show_end, shown_json};
 ghost use Rattle.capnp_show.specs.ShownParts.{IsShownPart};
 
 use super::json::{Json, json_end};
@@ -189,7 +189,7 @@ pub(super) fn write_json<S: ReaderSegments>(
         → part (message (⟦<ReaderArenaImpl<S> as ReaderArena>⟧.segments arena.now))
         (levels arena.now.nesting_limit) path.now json.old.lim ≡ (Ok e, m)
         → Shows result json.new
-        (add (codes "\n") (show_end depth e (record (shown json.old) { lim = m }))) }
+        (add (codes "\n") (show_end depth e (record (shown_json json.old) { lim = m }))) }
 {
     json.write_head(number, count, arena.size_in_words() as u64)?;
     let end = read_part(arena, path, &mut json.lim);

@@ -72,10 +72,7 @@ fn less(nesting_limit: i32) -> i32
 }
 
 /// The pointer `words` words after the pointer `first` of the same object.
-pub(super) fn pointer_after<'a, A: ReaderArena>(
-    first: Pointer<'a, A>,
-    words: u32,
-) -> Pointer<'a, A>
+pub(super) fn pointer_after<'a, A: ReaderArena>(first: Pointer<'a, A>, words: u32) -> Pointer<'a, A>
     ensures { first.entry.place.at + words < 2 ^ 32
         → reading A.ReaderArena result ≡ behind (reading A.ReaderArena first.entry) words }
 {
@@ -92,8 +89,7 @@ pub(super) fn pointer_after<'a, A: ReaderArena>(
 /// Does nothing: its contract says what bytes are.
 pub(super) fn are_bytes(bytes: &[u8])
     ensures { (i : ℕ) → slice_index bytes.now i < 256 }
-{
-}
+{}
 
 /// The `count` bytes from `start` on; fewer if the segment has fewer.
 pub(super) fn bytes_at<'a>(start: Place<'a>, count: usize) -> &'a [u8]

@@ -186,7 +186,9 @@ impl Text {
         ensures { Adds result self.old.bytes.items self.new.bytes.items (number_text size n) }
     {
         match size {
-            ElementSize::Bit | ElementSize::TwoBytes | ElementSize::FourBytes => self.push_number(n),
+            ElementSize::Bit | ElementSize::TwoBytes | ElementSize::FourBytes => self.push_number(
+                n,
+            ),
             _ => self.push_quoted_number(n),
         }
     }

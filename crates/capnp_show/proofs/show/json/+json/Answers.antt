@@ -8,7 +8,7 @@ use Rattle.capnp_messages.specs.Parts.{inside}
 use Rattle.capnp_messages.specs.PathEnds.{IsObjectRead}
 use Rattle.capnp_messages.proofs.PathLemmas.{pointers_room, row_inside, struct_room, structs_room}
 use Rattle.capnp_show.specs.Line.{data_member, in_quotes, member}
-use Rattle.capnp_show.specs.Shown.{add, array_begin, array_within, show_elements, show_struct, show_structs, show_within, shown}
+use Rattle.capnp_show.specs.Shown.{add, array_begin, array_within, show_elements, show_struct, show_structs, show_within, shown_json}
 use Rattle.capnp_show.proofs.Adds.{adds_as}
 use Rattle.capnp_show.proofs.Elements.{struct_data}
 use Rattle.capnp_show.proofs.Grows.{elements_begun, elements_opened, elements_rest, structs_longer, within_longer}
@@ -25,36 +25,36 @@ json_pointer-returns-in_err-json_place g t c =
 pub json_pointer-returns : goal.json_pointer-returns
 json_pointer-returns g t c =
     λ plain.
-        let h = c.in_ok-json_place.ensures plain in
-        still_shows c.end_object.result c.end_object.new.self (c.end_object.ensures h.plain) h
+    let h = c.in_ok-json_place.ensures plain in
+    still_shows c.end_object.result c.end_object.new.self (c.end_object.ensures h.plain) h
 
 pub json_place-returns-then-is_null : goal.json_place-returns-then-is_null
 json_place-returns-then-is_null g t c =
     let r : Reading = reading g.A.ReaderArena c.args.from in
-    λ plain. shows_as (sym (place_null (array_within c.args.depth) r (shown c.args.json.now) (c.if-is_null.ensures.0 refl))) (push_shows c.args.json.now c.push.new.self plain c.push.ensures)
+    λ plain. shows_as (sym (place_null (array_within c.args.depth) r (shown_json c.args.json.now) (c.if-is_null.ensures.0 refl))) (push_shows c.args.json.now c.push.new.self plain c.push.ensures)
 
 pub json_place-returns-in_err-write_pointer : goal.json_place-returns-in_err-write_pointer
 json_place-returns-in_err-write_pointer g t c =
     let r : Reading = reading g.A.ReaderArena c.args.from in
     let some : word_of r ≢ 0 = λ e. absurd (cc (c.if-is_null.ensures.1 e)) in
-    λ plain. shows_stops c.from_residual.result _ _ c.from_residual.ensures.1 (c.in_err-write_pointer.ensures plain) (place_begun c.args.depth r (shown c.args.json.now) some)
+    λ plain. shows_stops c.from_residual.result _ _ c.from_residual.ensures.1 (c.in_err-write_pointer.ensures plain) (place_begun c.args.depth r (shown_json c.args.json.now) some)
 
 pub json_place-returns-in-Ok : goal.json_place-returns-in-Ok
 json_place-returns-in-Ok g t c =
     let r : Reading = reading g.A.ReaderArena c.args.from in
     let some : word_of r ≢ 0 = λ e. absurd (cc (c.if-is_null.ensures.1 e)) in
     λ plain.
-        let begun = c.in_ok-write_pointer.ensures plain in
-        place_written c.args.depth r (shown c.args.json.now) (Ok (object_shape c.in-Ok.object)) c.read_object.new.lim some begun c.in-Ok.ensures.computed (c.json_object.ensures (lim_plain c.read_object.new.lim begun.plain))
+    let begun = c.in_ok-write_pointer.ensures plain in
+    place_written c.args.depth r (shown_json c.args.json.now) (Ok (object_shape c.in-Ok.object)) c.read_object.new.lim some begun c.in-Ok.ensures.computed (c.json_object.ensures (lim_plain c.read_object.new.lim begun.plain))
 
 pub json_place-returns-in-Err : goal.json_place-returns-in-Err
 json_place-returns-in-Err g t c =
     let r : Reading = reading g.A.ReaderArena c.args.from in
     let some : word_of r ≢ 0 = λ e. absurd (cc (c.if-is_null.ensures.1 e)) in
     λ plain.
-        let begun = c.in_ok-write_pointer.ensures plain in
-        place_written c.args.depth r (shown c.args.json.now) (Err c.in-Err.kind) c.read_object.new.lim some begun c.in-Err.ensures.computed
-        (rw c.name.ensures at (c.write_refusal.ensures (lim_plain c.read_object.new.lim begun.plain)))
+    let begun = c.in_ok-write_pointer.ensures plain in
+    place_written c.args.depth r (shown_json c.args.json.now) (Err c.in-Err.kind) c.read_object.new.lim some begun c.in-Err.ensures.computed
+    (rw c.name.ensures at (c.write_refusal.ensures (lim_plain c.read_object.new.lim begun.plain)))
 
 -- ---- an object
 
@@ -104,8 +104,8 @@ json_struct-returns-in_err-push_data g t c =
     let d : ℕ = c.args.size.data_words in
     let bytes = struct_data r c.args.start.place d c.from-words.result c.bytes_at-data.result.now c.args.start.held (omega (arith, c.requires.inside)) c.from-words.ensures c.bytes_at-data.ensures c.are_bytes.ensures in
     λ plain.
-        push_stops c.args.json.now _ _ _ c.from_residual.ensures.1 (adds_as (ap (λ bs. member (codes "data") (in_quotes (encode_lower bs)) ++ codes ",") bytes) c.in_err-push_data.ensures)
-        (within_longer c.args.depth false c.args.size.pointers (behind r d) (add (data_member (words_from r d) ++ codes ",") (shown c.args.json.now)))
+    push_stops c.args.json.now _ _ _ c.from_residual.ensures.1 (adds_as (ap (λ bs. member (codes "data") (in_quotes (encode_lower bs)) ++ codes ",") bytes) c.in_err-push_data.ensures)
+    (within_longer c.args.depth false c.args.size.pointers (behind r d) (add (data_member (words_from r d) ++ codes ",") (shown_json c.args.json.now)))
 
 pub json_struct-returns : goal.json_struct-returns
 json_struct-returns g t c =
@@ -114,36 +114,36 @@ json_struct-returns g t c =
     let bytes = struct_data r c.args.start.place d c.from-words.result c.bytes_at-data.result.now c.args.start.held (omega (arith, c.requires.inside)) c.from-words.ensures c.bytes_at-data.ensures c.are_bytes.ensures in
     let at = c.pointer_after-first.ensures (omega (arith, c.from-words.ensures, c.requires.inside, c.args.start.held.1, c.args.start.held.2)) ∙ ap (behind r) c.from-words.ensures in
     λ plain.
-        let begun = push_shows c.args.json.now c.push_data.new.self plain (adds_as (ap (λ bs. member (codes "data") (in_quotes (encode_lower bs)) ++ codes ",") bytes) c.in_ok-push_data.ensures) in
-        shows_then (array_within c.args.depth false c.args.size.pointers) (behind r d) _ _ at begun (rw c.from.ensures at c.json_pointers.ensures)
+    let begun = push_shows c.args.json.now c.push_data.new.self plain (adds_as (ap (λ bs. member (codes "data") (in_quotes (encode_lower bs)) ++ codes ",") bytes) c.in_ok-push_data.ensures) in
+    shows_then (array_within c.args.depth false c.args.size.pointers) (behind r d) _ _ at begun (rw c.from.ensures at c.json_pointers.ensures)
 
 -- ---- pointers
 
 pub json_pointers-returns-then-depth-eq0 : goal.json_pointers-returns-then-depth-eq0
 json_pointers-returns-then-depth-eq0 g t c =
     let r : Reading = reading g.A.ReaderArena c.args.first in
-    λ plain. shows_as (sym (array_cut c.args.depth c.args.count c.args.are_elements r (shown c.args.json.now) c.if-depth-eq0.true)) (push_shows c.args.json.now c.push_cut.new.self plain c.push_cut.ensures)
+    λ plain. shows_as (sym (array_cut c.args.depth c.args.count c.args.are_elements r (shown_json c.args.json.now) c.if-depth-eq0.true)) (push_shows c.args.json.now c.push_cut.new.self plain c.push_cut.ensures)
 
 pub json_pointers-returns-in_err-push_array : goal.json_pointers-returns-in_err-push_array
 json_pointers-returns-in_err-push_array g t c =
     let r : Reading = reading g.A.ReaderArena c.args.first in
-    λ plain. push_stops c.args.json.now _ _ _ c.from_residual.ensures.1 c.in_err-push_array.ensures (array_begun c.args.depth c.args.count c.args.are_elements r (shown c.args.json.now) (omega (arith, c.if-depth-eq0.false)))
+    λ plain. push_stops c.args.json.now _ _ _ c.from_residual.ensures.1 c.in_err-push_array.ensures (array_begun c.args.depth c.args.count c.args.are_elements r (shown_json c.args.json.now) (omega (arith, c.if-depth-eq0.false)))
 
 pub json_pointers-loop-i-init : goal.json_pointers-loop-i-init
 json_pointers-loop-i-init g t c =
     let r : Reading = reading g.A.ReaderArena c.args.first in
     λ plain.
-        let begun = push_shows c.args.json.now c.push_array.new.self plain c.in_ok-push_array.ensures in
-        (begun.plain, λ k e. each_first (show_within (c.args.depth - 1)) c.args.count k r (add (array_begin c.args.are_elements) (shown c.args.json.now)) _ e begun.written)
+    let begun = push_shows c.args.json.now c.push_array.new.self plain c.in_ok-push_array.ensures in
+    (begun.plain, λ k e. each_first (show_within (c.args.depth - 1)) c.args.count k r (add (array_begin c.args.are_elements) (shown_json c.args.json.now)) _ e begun.written)
 
 pub json_pointers-returns-in_err-push_comma : goal.json_pointers-returns-in_err-push_comma
 json_pointers-returns-in_err-push_comma g t c =
     let r : Reading = reading g.A.ReaderArena c.args.first in
     let i : ℕ = c.loop-i.i in
     λ plain.
-        let (kept, so_far) = c.loop-i.invariant plain in
-        let whole = each_whole c.args.depth c.args.count i c.args.are_elements r (shown c.args.json.now) (shown c.loop-i.json) (omega (arith, c.if-depth-eq0.false)) c.loop-i-test.true so_far in
-        push_stops c.loop-i.json _ _ _ c.from_residual-in_err-push_comma.ensures.1 c.in_err-push_comma.ensures (each_rest (c.args.depth - 1) i (c.args.count - suc i) (behind r i) (shown c.loop-i.json) _ whole)
+    let (kept, so_far) = c.loop-i.invariant plain in
+    let whole = each_whole c.args.depth c.args.count i c.args.are_elements r (shown_json c.args.json.now) (shown_json c.loop-i.json) (omega (arith, c.if-depth-eq0.false)) c.loop-i-test.true so_far in
+    push_stops c.loop-i.json _ _ _ c.from_residual-in_err-push_comma.ensures.1 c.in_err-push_comma.ensures (each_rest (c.args.depth - 1) i (c.args.count - suc i) (behind r i) (shown_json c.loop-i.json) _ whole)
 
 pub json_pointers-returns-in_err-len : goal.json_pointers-returns-in_err-len
 json_pointers-returns-in_err-len g t c =
@@ -155,11 +155,11 @@ json_pointers-returns-in_err-json_pointer g t c =
     let i : ℕ = c.loop-i.i in
     let at = c.pointer_after.ensures (omega (arith, c.loop-i-test.true, c.requires.inside, c.args.first.held.1, c.args.first.held.2)) in
     λ plain.
-        let (kept, so_far) = c.loop-i.invariant plain in
-        let whole = each_whole c.args.depth c.args.count i c.args.are_elements r (shown c.args.json.now) (shown c.loop-i.json) (omega (arith, c.if-depth-eq0.false)) c.loop-i-test.true so_far in
-        let entered = (c.in_ok-len.ensures (still_plain c.loop-i.json c.push_comma.new.self kept)).1 in
-        let one = each_shown (c.args.depth - 1) i r _ c.loop-i.json c.enter.new.self c.push_comma.new.self kept c.in_ok-push_comma.ensures entered at c.in_err-json_pointer.ensures in
-        shows_stops c.from_residual-in_err-json_pointer.result _ _ c.from_residual-in_err-json_pointer.ensures.1 one (each_after (c.args.depth - 1) i (c.args.count - suc i) (behind r i) (shown c.loop-i.json) _ whole)
+    let (kept, so_far) = c.loop-i.invariant plain in
+    let whole = each_whole c.args.depth c.args.count i c.args.are_elements r (shown_json c.args.json.now) (shown_json c.loop-i.json) (omega (arith, c.if-depth-eq0.false)) c.loop-i-test.true so_far in
+    let entered = (c.in_ok-len.ensures (still_plain c.loop-i.json c.push_comma.new.self kept)).1 in
+    let one = each_shown (c.args.depth - 1) i r _ c.loop-i.json c.enter.new.self c.push_comma.new.self kept c.in_ok-push_comma.ensures entered at c.in_err-json_pointer.ensures in
+    shows_stops c.from_residual-in_err-json_pointer.result _ _ c.from_residual-in_err-json_pointer.ensures.1 one (each_after (c.args.depth - 1) i (c.args.count - suc i) (behind r i) (shown_json c.loop-i.json) _ whole)
 
 pub json_pointers-loop-i-preserved : goal.json_pointers-loop-i-preserved
 json_pointers-loop-i-preserved g t c =
@@ -167,43 +167,43 @@ json_pointers-loop-i-preserved g t c =
     let i : ℕ = c.loop-i.i in
     let at = c.pointer_after.ensures (omega (arith, c.loop-i-test.true, c.requires.inside, c.args.first.held.1, c.args.first.held.2)) in
     λ plain.
-        let (kept, so_far) = c.loop-i.invariant plain in
-        let entered = (c.in_ok-len.ensures (still_plain c.loop-i.json c.push_comma.new.self kept)).1 in
-        let one = each_shown (c.args.depth - 1) i r _ c.loop-i.json c.enter.new.self c.push_comma.new.self kept c.in_ok-push_comma.ensures entered at c.in_ok-json_pointer.ensures in
-        let left = c.leave.ensures one.plain in
-        (plain_after left one.plain, λ k e. each_next (show_within (c.args.depth - 1)) i c.args.count k r (shown c.loop-i.json) (shown c.leave.new.self) _ so_far e (ap shown left ∙ one.written))
+    let (kept, so_far) = c.loop-i.invariant plain in
+    let entered = (c.in_ok-len.ensures (still_plain c.loop-i.json c.push_comma.new.self kept)).1 in
+    let one = each_shown (c.args.depth - 1) i r _ c.loop-i.json c.enter.new.self c.push_comma.new.self kept c.in_ok-push_comma.ensures entered at c.in_ok-json_pointer.ensures in
+    let left = c.leave.ensures one.plain in
+    (plain_after left one.plain, λ k e. each_next (show_within (c.args.depth - 1)) i c.args.count k r (shown_json c.loop-i.json) (shown_json c.leave.new.self) _ so_far e (ap shown_json left ∙ one.written))
 
 pub json_pointers-returns : goal.json_pointers-returns
 json_pointers-returns g t c =
     let r : Reading = reading g.A.ReaderArena c.args.first in
     λ plain.
-        let (kept, so_far) = c.loop-i.invariant plain in
-        let last = so_far 0 (omega (arith, c.loop-i-test.false, c.loop-i.auto.i-end)) in
-        shows_as (ap (add (codes "]}")) (sym last) ∙ sym (array_opens c.args.depth c.args.count c.args.are_elements r (shown c.args.json.now) (omega (arith, c.if-depth-eq0.false))))
-        (push_shows c.loop-i.json c.push.new.self kept c.push.ensures)
+    let (kept, so_far) = c.loop-i.invariant plain in
+    let last = so_far 0 (omega (arith, c.loop-i-test.false, c.loop-i.auto.i-end)) in
+    shows_as (ap (add (codes "]}")) (sym last) ∙ sym (array_opens c.args.depth c.args.count c.args.are_elements r (shown_json c.args.json.now) (omega (arith, c.if-depth-eq0.false))))
+    (push_shows c.loop-i.json c.push.new.self kept c.push.ensures)
 
 -- ---- a list of structs
 
 pub json_structs-returns-in_err-push_sizes : goal.json_structs-returns-in_err-push_sizes
 json_structs-returns-in_err-push_sizes g t c =
     let r : Reading = reading g.A.ReaderArena c.args.first in
-    λ plain. push_stops c.args.json.now _ _ _ c.from_residual.ensures.1 c.in_err-push_sizes.ensures (structs_longer (array_within c.args.depth) (within_longer c.args.depth) c.args.size.data_words c.args.size.pointers c.args.count r (shown c.args.json.now))
+    λ plain. push_stops c.args.json.now _ _ _ c.from_residual.ensures.1 c.in_err-push_sizes.ensures (structs_longer (array_within c.args.depth) (within_longer c.args.depth) c.args.size.data_words c.args.size.pointers c.args.count r (shown_json c.args.json.now))
 
 pub json_structs-returns-then-total-eq0 : goal.json_structs-returns-then-total-eq0
 json_structs-returns-then-total-eq0 g t c =
     let r : Reading = reading g.A.ReaderArena c.args.first in
     let none = sym c.total.ensures ∙ c.if-total-eq0.true in
     λ plain.
-        let sizes = push_shows c.args.json.now c.push_sizes.new.self plain c.in_ok-push_sizes.ensures in
-        shows_as (sym (rows_blank (array_within c.args.depth) c.args.size.data_words c.args.size.pointers c.args.count r (shown c.args.json.now) none)) (push_then _ c.push_count.new.self _ sizes c.push_count.ensures)
+    let sizes = push_shows c.args.json.now c.push_sizes.new.self plain c.in_ok-push_sizes.ensures in
+    shows_as (sym (rows_blank (array_within c.args.depth) c.args.size.data_words c.args.size.pointers c.args.count r (shown_json c.args.json.now) none)) (push_then _ c.push_count.new.self _ sizes c.push_count.ensures)
 
 pub json_structs-returns-in_err-push : goal.json_structs-returns-in_err-push
 json_structs-returns-in_err-push g t c =
     let r : Reading = reading g.A.ReaderArena c.args.first in
     let some : c.args.size.data_words + c.args.size.pointers ≢ 0 = λ e. c.if-total-eq0.false (c.total.ensures ∙ e) in
     λ plain.
-        let sizes = push_shows c.args.json.now c.push_sizes.new.self plain c.in_ok-push_sizes.ensures in
-        shows_stops c.from_residual-in_err-push.result _ _ c.from_residual-in_err-push.ensures.1 (push_then _ c.push.new.self _ sizes c.in_err-push.ensures) (rows_begun c.args.depth c.args.size.data_words c.args.size.pointers c.args.count r (shown c.args.json.now) some)
+    let sizes = push_shows c.args.json.now c.push_sizes.new.self plain c.in_ok-push_sizes.ensures in
+    shows_stops c.from_residual-in_err-push.result _ _ c.from_residual-in_err-push.ensures.1 (push_then _ c.push.new.self _ sizes c.in_err-push.ensures) (rows_begun c.args.depth c.args.size.data_words c.args.size.pointers c.args.count r (shown_json c.args.json.now) some)
 
 pub json_structs-returns-in_err-json_elements : goal.json_structs-returns-in_err-json_elements
 json_structs-returns-in_err-json_elements g t c =
@@ -212,10 +212,10 @@ json_structs-returns-in_err-json_elements g t c =
     let q : ℕ = c.args.size.pointers in
     let some : d + q ≢ 0 = λ e. c.if-total-eq0.false (c.total.ensures ∙ e) in
     λ plain.
-        let sizes = push_shows c.args.json.now c.push_sizes.new.self plain c.in_ok-push_sizes.ensures in
-        let begun = push_then _ c.push.new.self _ sizes c.in_ok-push.ensures in
-        let rows = shows_then (show_elements (array_within c.args.depth) d q 0 c.args.count) r r _ refl begun c.in_err-json_elements.ensures in
-        shows_stops c.from_residual-in_err-json_elements.result _ _ c.from_residual-in_err-json_elements.ensures.1 rows (rows_longer c.args.depth d q c.args.count r (shown c.args.json.now) some)
+    let sizes = push_shows c.args.json.now c.push_sizes.new.self plain c.in_ok-push_sizes.ensures in
+    let begun = push_then _ c.push.new.self _ sizes c.in_ok-push.ensures in
+    let rows = shows_then (show_elements (array_within c.args.depth) d q 0 c.args.count) r r _ refl begun c.in_err-json_elements.ensures in
+    shows_stops c.from_residual-in_err-json_elements.result _ _ c.from_residual-in_err-json_elements.ensures.1 rows (rows_longer c.args.depth d q c.args.count r (shown_json c.args.json.now) some)
 
 pub json_structs-returns : goal.json_structs-returns
 json_structs-returns g t c =
@@ -224,17 +224,17 @@ json_structs-returns g t c =
     let q : ℕ = c.args.size.pointers in
     let some : d + q ≢ 0 = λ e. c.if-total-eq0.false (c.total.ensures ∙ e) in
     λ plain.
-        let sizes = push_shows c.args.json.now c.push_sizes.new.self plain c.in_ok-push_sizes.ensures in
-        let begun = push_then _ c.push.new.self _ sizes c.in_ok-push.ensures in
-        let rows = shows_then (show_elements (array_within c.args.depth) d q 0 c.args.count) r r _ refl begun c.in_ok-json_elements.ensures in
-        shows_as (sym (rows_opened c.args.depth d q c.args.count r (shown c.args.json.now) some)) (push_then _ c.push-2.new.self _ rows c.push-2.ensures)
+    let sizes = push_shows c.args.json.now c.push_sizes.new.self plain c.in_ok-push_sizes.ensures in
+    let begun = push_then _ c.push.new.self _ sizes c.in_ok-push.ensures in
+    let rows = shows_then (show_elements (array_within c.args.depth) d q 0 c.args.count) r r _ refl begun c.in_ok-json_elements.ensures in
+    shows_as (sym (rows_opened c.args.depth d q c.args.count r (shown_json c.args.json.now) some)) (push_then _ c.push-2.new.self _ rows c.push-2.ensures)
 
 -- ---- elements
 
 pub json_elements-loop-i-init : goal.json_elements-loop-i-init
 json_elements-loop-i-init g t c =
     let r : Reading = reading g.A.ReaderArena c.args.first in
-    λ plain. (plain, λ k e. elements_first (array_within c.args.depth) c.args.size.data_words c.args.size.pointers c.args.count k r (shown c.args.json.now) e)
+    λ plain. (plain, λ k e. elements_first (array_within c.args.depth) c.args.size.data_words c.args.size.pointers c.args.count k r (shown_json c.args.json.now) e)
 
 pub json_elements-returns-in_err-push_comma : goal.json_elements-returns-in_err-push_comma
 json_elements-returns-in_err-push_comma g t c =
@@ -244,9 +244,9 @@ json_elements-returns-in_err-push_comma g t c =
     let i : ℕ = c.loop-i.i in
     let below = array_within c.args.depth in
     λ plain.
-        let (kept, so_far) = c.loop-i.invariant plain in
-        let whole = elements_whole below d q c.args.count i r (shown c.args.json.now) (shown c.loop-i.json) c.loop-i-test.true so_far in
-        push_stops c.loop-i.json _ _ _ c.from_residual.ensures.1 c.in_err-push_comma.ensures (elements_begun below (within_longer c.args.depth) d q i (c.args.count - suc i) (behind r (i * (d + q))) (shown c.loop-i.json) _ whole)
+    let (kept, so_far) = c.loop-i.invariant plain in
+    let whole = elements_whole below d q c.args.count i r (shown_json c.args.json.now) (shown_json c.loop-i.json) c.loop-i-test.true so_far in
+    push_stops c.loop-i.json _ _ _ c.from_residual.ensures.1 c.in_err-push_comma.ensures (elements_begun below (within_longer c.args.depth) d q i (c.args.count - suc i) (behind r (i * (d + q))) (shown_json c.loop-i.json) _ whole)
 
 pub json_elements-returns-in_err-len : goal.json_elements-returns-in_err-len
 json_elements-returns-in_err-len g t c =
@@ -260,11 +260,11 @@ json_elements-returns-in_err-push g t c =
     let i : ℕ = c.loop-i.i in
     let below = array_within c.args.depth in
     λ plain.
-        let (kept, so_far) = c.loop-i.invariant plain in
-        let whole = elements_whole below d q c.args.count i r (shown c.args.json.now) (shown c.loop-i.json) c.loop-i-test.true so_far in
-        let entered = (c.in_ok-len.ensures (still_plain c.loop-i.json c.push_comma.new.self kept)).1 in
-        let opened = element_opened i c.loop-i.json c.enter.new.self c.push_comma.new.self c.push.new.self kept c.in_ok-push_comma.ensures entered c.in_err-push.ensures in
-        shows_stops c.from_residual-in_err-push.result _ _ c.from_residual-in_err-push.ensures.1 opened (elements_opened below (within_longer c.args.depth) d q i (c.args.count - suc i) (behind r (i * (d + q))) (shown c.loop-i.json) _ whole)
+    let (kept, so_far) = c.loop-i.invariant plain in
+    let whole = elements_whole below d q c.args.count i r (shown_json c.args.json.now) (shown_json c.loop-i.json) c.loop-i-test.true so_far in
+    let entered = (c.in_ok-len.ensures (still_plain c.loop-i.json c.push_comma.new.self kept)).1 in
+    let opened = element_opened i c.loop-i.json c.enter.new.self c.push_comma.new.self c.push.new.self kept c.in_ok-push_comma.ensures entered c.in_err-push.ensures in
+    shows_stops c.from_residual-in_err-push.result _ _ c.from_residual-in_err-push.ensures.1 opened (elements_opened below (within_longer c.args.depth) d q i (c.args.count - suc i) (behind r (i * (d + q))) (shown_json c.loop-i.json) _ whole)
 
 pub json_elements-returns-in_err-json_struct : goal.json_elements-returns-in_err-json_struct
 json_elements-returns-in_err-json_struct g t c =
@@ -276,20 +276,20 @@ json_elements-returns-in_err-json_struct g t c =
     let room = row_inside c.args.first.place.at c.args.count i c.total.result d q _ c.requires.inside c.loop-i-test.true c.total.ensures in
     let at = c.pointer_after-element.ensures (omega (arith, room, c.args.first.held.1, c.args.first.held.2)) ∙ ap (λ w. behind r (i * w)) c.total.ensures in
     λ plain.
-        let (kept, so_far) = c.loop-i.invariant plain in
-        let whole = elements_whole below d q c.args.count i r (shown c.args.json.now) (shown c.loop-i.json) c.loop-i-test.true so_far in
-        let entered = (c.in_ok-len.ensures (still_plain c.loop-i.json c.push_comma.new.self kept)).1 in
-        let opened = element_opened i c.loop-i.json c.enter.new.self c.push_comma.new.self c.push.new.self kept c.in_ok-push_comma.ensures entered c.in_ok-push.ensures in
-        let one = shows_then (show_struct below d q) (behind r (i * (d + q))) _ _ at opened c.in_err-json_struct.ensures in
-        shows_stops c.from_residual-in_err-json_struct.result _ _ c.from_residual-in_err-json_struct.ensures.1 one (elements_rest below (within_longer c.args.depth) d q i (c.args.count - suc i) (behind r (i * (d + q))) (shown c.loop-i.json) _ whole)
+    let (kept, so_far) = c.loop-i.invariant plain in
+    let whole = elements_whole below d q c.args.count i r (shown_json c.args.json.now) (shown_json c.loop-i.json) c.loop-i-test.true so_far in
+    let entered = (c.in_ok-len.ensures (still_plain c.loop-i.json c.push_comma.new.self kept)).1 in
+    let opened = element_opened i c.loop-i.json c.enter.new.self c.push_comma.new.self c.push.new.self kept c.in_ok-push_comma.ensures entered c.in_ok-push.ensures in
+    let one = shows_then (show_struct below d q) (behind r (i * (d + q))) _ _ at opened c.in_err-json_struct.ensures in
+    shows_stops c.from_residual-in_err-json_struct.result _ _ c.from_residual-in_err-json_struct.ensures.1 one (elements_rest below (within_longer c.args.depth) d q i (c.args.count - suc i) (behind r (i * (d + q))) (shown_json c.loop-i.json) _ whole)
 
 pub json_elements-returns-in_err-end_object : goal.json_elements-returns-in_err-end_object
 json_elements-returns-in_err-end_object g t c =
     λ plain.
-        let kept = (c.loop-i.invariant plain).0 in
-        let entered = (c.in_ok-len.ensures (still_plain c.loop-i.json c.push_comma.new.self kept)).1 in
-        let opened = element_opened c.loop-i.i c.loop-i.json c.enter.new.self c.push_comma.new.self c.push.new.self kept c.in_ok-push_comma.ensures entered c.in_ok-push.ensures in
-        absurd (cc ((c.in_err-end_object.ensures (c.in_ok-json_struct.ensures opened.plain).plain).0))
+    let kept = (c.loop-i.invariant plain).0 in
+    let entered = (c.in_ok-len.ensures (still_plain c.loop-i.json c.push_comma.new.self kept)).1 in
+    let opened = element_opened c.loop-i.i c.loop-i.json c.enter.new.self c.push_comma.new.self c.push.new.self kept c.in_ok-push_comma.ensures entered c.in_ok-push.ensures in
+    absurd (cc ((c.in_err-end_object.ensures (c.in_ok-json_struct.ensures opened.plain).plain).0))
 
 pub json_elements-loop-i-preserved : goal.json_elements-loop-i-preserved
 json_elements-loop-i-preserved g t c =
@@ -301,14 +301,14 @@ json_elements-loop-i-preserved g t c =
     let room = row_inside c.args.first.place.at c.args.count i c.total.result d q _ c.requires.inside c.loop-i-test.true c.total.ensures in
     let at = c.pointer_after-element.ensures (omega (arith, room, c.args.first.held.1, c.args.first.held.2)) ∙ ap (λ w. behind r (i * w)) c.total.ensures in
     λ plain.
-        let (kept, so_far) = c.loop-i.invariant plain in
-        let entered = (c.in_ok-len.ensures (still_plain c.loop-i.json c.push_comma.new.self kept)).1 in
-        let opened = element_opened i c.loop-i.json c.enter.new.self c.push_comma.new.self c.push.new.self kept c.in_ok-push_comma.ensures entered c.in_ok-push.ensures in
-        let one = shows_then (show_struct below d q) (behind r (i * (d + q))) _ _ at opened c.in_ok-json_struct.ensures in
-        let ended = (c.in_ok-end_object.ensures one.plain).1 in
-        let left = c.leave.ensures (plain_after ended one.plain) in
-        let same = left ∙ ended in
-        (plain_after same one.plain, λ k e. elements_next below d q i c.args.count k r (shown c.loop-i.json) (shown c.leave.new.self) _ so_far e (ap shown same ∙ one.written))
+    let (kept, so_far) = c.loop-i.invariant plain in
+    let entered = (c.in_ok-len.ensures (still_plain c.loop-i.json c.push_comma.new.self kept)).1 in
+    let opened = element_opened i c.loop-i.json c.enter.new.self c.push_comma.new.self c.push.new.self kept c.in_ok-push_comma.ensures entered c.in_ok-push.ensures in
+    let one = shows_then (show_struct below d q) (behind r (i * (d + q))) _ _ at opened c.in_ok-json_struct.ensures in
+    let ended = (c.in_ok-end_object.ensures one.plain).1 in
+    let left = c.leave.ensures (plain_after ended one.plain) in
+    let same = left ∙ ended in
+    (plain_after same one.plain, λ k e. elements_next below d q i c.args.count k r (shown_json c.loop-i.json) (shown_json c.leave.new.self) _ so_far e (ap shown_json same ∙ one.written))
 
 pub json_elements-json_struct-requires : goal.json_elements-json_struct-requires
 json_elements-json_struct-requires g t c κs within =
@@ -324,6 +324,6 @@ json_elements-json_struct-requires g t c κs within =
 pub json_elements-returns : goal.json_elements-returns
 json_elements-returns g t c =
     λ plain.
-        let (kept, so_far) = c.loop-i.invariant plain in
-        let last = so_far 0 (omega (arith, c.loop-i-test.false, c.loop-i.auto.i-end)) in
-        record { plain = kept; written = sym last; full = tt }
+    let (kept, so_far) = c.loop-i.invariant plain in
+    let last = so_far 0 (omega (arith, c.loop-i-test.false, c.loop-i.auto.i-end)) in
+    record { plain = kept; written = sym last; full = tt }
