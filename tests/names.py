@@ -23,7 +23,6 @@ FUNCTION = re.compile(r'( *)(?:abbrev |unfoldable )?pub (\S+) :')
 SOURCE_TYPE = re.compile(r'^(?:pub(?:\([a-z]+\))? )?(?:struct|enum|trait|type) (\w+)', re.MULTILINE)
 # Type names that several library crates share. Each is public in at least one of them, so it keeps its name.
 SHARED = {
-    'Fault': 'why a message isn\'t canonical, in the library for C; why a message of a stream is refused',
     'Place': 'a word of a segment that is read; the position of a reader of packed bytes',
     'PrimitiveElement': 'the types that an element of a list can be read as; the same for reading and writing',
     'Refusal': 'why a call of the library for C is refused; why a command of layout_tool is refused',

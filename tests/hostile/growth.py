@@ -23,15 +23,15 @@ ALONE = {
 # Edits and builder calls that leave null if memory is refused; all others leave what was there.
 MAKING = {'is', 'il', 'isl', 'it', 'id', 'st', 'sd', 'cf', 'ss', 'sl'}
 MAKING_CALLS = {
-    'put_struct', 'init_struct', 'put_list', 'init_list', 'put_struct_list', 'init_struct_list', 'init_text', 'init_data',
+    'init_struct_place', 'init_struct', 'init_list_place', 'init_list', 'init_struct_list_place', 'init_struct_list', 'init_text', 'init_data',
     'set_text', 'set_data', 'put_default', 'copy', 'set_struct', 'set_list', 'set_struct_element', 'set_section',
 }
 # The calls that open a struct or a list of structs. Their last argument may be a default.
-OPENING_CALLS = {'find_struct', 'get_struct', 'find_struct_list', 'get_struct_list'}
+OPENING_CALLS = {'get_struct_place', 'get_struct', 'get_struct_list_place', 'get_struct_list'}
 # The position of the argument of an edit or a builder call that is a number of elements or bytes.
 COUNTS = {
     'il': 1, 'isl': 0, 'it': 0, 'id': 0,
-    'put_list': 1, 'init_list': 1, 'put_struct_list': 0, 'init_struct_list': 0, 'init_text': 0, 'init_data': 0,
+    'init_list_place': 1, 'init_list': 1, 'init_struct_list_place': 0, 'init_struct_list': 0, 'init_text': 0, 'init_data': 0,
 }
 
 

@@ -128,7 +128,7 @@ class Copier:
     def signed(self, field, is_member, pad):
         """Copies a number with a sign, which generated builders have no call for."""
         default = int(field['slot']['defaultValue'].get(kind(field['slot']['type']), 0))
-        tag = f'typed_building::tag::Tag {{ offset: {self.tag_offset}, number: {field["discriminantValue"]} }}, ' if is_member else ''
+        tag = f'typed_building::tag::UnionTag {{ offset: {self.tag_offset}, number: {field["discriminantValue"]} }}, ' if is_member else ''
         call = f'set_number{"_or" if default else ""}{"_member" if is_member else ""}'
         return f'{pad}typed_building::value::{call}(arena, to.place, {tag}{field["slot"]["offset"]}, r.get_{field["getter"]}(){f", {default}" if default else ""});\n'
 

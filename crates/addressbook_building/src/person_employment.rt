@@ -17,7 +17,7 @@ ghost use Rattle.addressbook_reading.specs.OfPersonEmploymentWhich.{person_emplo
 use capnp_arena_traits::arena::BuilderArena;
 use capnp_readers::readers::StructPlace;
 use capnp_words::error::ErrorKind;
-use typed_building::tag::Tag;
+use typed_building::tag::UnionTag;
 use typed_building::{reading, value};
 use typed_reading::error::NotInSchema;
 
@@ -41,7 +41,7 @@ impl Builder {
             (field 32 16 0) }
         ensures memory { OnlyWrites (A.view arena.old) (A.view arena.new) }
     {
-        let tag = Tag {
+        let tag = UnionTag {
             offset: 2,
             number: 0,
         };
@@ -60,7 +60,7 @@ impl Builder {
             (call_on self.place 3 (A.view arena.old) (A.view arena.new))
             (words_for 2 (length text.now + 1)) }
     {
-        let tag = Tag {
+        let tag = UnionTag {
             offset: 2,
             number: 1,
         };
@@ -89,7 +89,7 @@ impl Builder {
             (call_on self.place 3 (A.view arena.old) (A.view arena.new))
             (words_for 2 (length text.now + 1)) }
     {
-        let tag = Tag {
+        let tag = UnionTag {
             offset: 2,
             number: 2,
         };
@@ -118,7 +118,7 @@ impl Builder {
             (field 32 16 3) }
         ensures memory { OnlyWrites (A.view arena.old) (A.view arena.new) }
     {
-        let tag = Tag {
+        let tag = UnionTag {
             offset: 2,
             number: 3,
         };

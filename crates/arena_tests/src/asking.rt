@@ -1,6 +1,6 @@
 //! Tests what an arena requests from its allocator: segments and rows. A row is the arena's entry
 //! for a segment, in a list that the arena holds.
-use crate::steps::{take, take_of};
+use crate::steps::{take, try_allocate};
 use capnp_arena::arena::{
     Allocator, BuilderArena, BuilderArenaImpl, HeapAllocator, OutputSegments, ReaderArena,
     ReaderSegments, copy_words, set_word, zero_words,
@@ -18,8 +18,8 @@ fn write_words<A: BuilderArena>(rt: &impl Abort, arena: &mut A) {
 }
 
 fn take_words<A: BuilderArena>(rt: &impl Abort, arena: &mut A) {
-    assert!(rt; take_of(rt, arena, 0, 2) == None);
-    assert!(rt; take_of(rt, arena, 0, 0) == Some(3));
+    assert!(rt; try_allocate(rt, arena, 0, 2) == None);
+    assert!(rt; try_allocate(rt, arena, 0, 0) == Some(3));
     assert!(rt; take(arena, 1) == Ok((0, 3)));
     assert!(rt; arena.allocated_mut(0).is_some());
     assert!(rt; arena.allocated_mut(1).is_none());
@@ -73,7 +73,7 @@ fn words_elsewhere(rt: HostRuntime) {
 /// Allocates the two words of segment `id`, and writes them. Lets the arena choose the segment of
 /// the second word; so the caller passes an arena whose first segment with room is `id`.
 fn use_segment<A: BuilderArena>(rt: &impl Abort, arena: &mut A, id: u32) {
-    assert!(rt; take_of(rt, arena, id, 1) == Some(0));
+    assert!(rt; try_allocate(rt, arena, id, 1) == Some(0));
     assert!(rt; take(arena, 1) == Ok((id, 1)));
     match arena.allocated_mut(id) {
         Some(bytes) => bytes.fill(b'3'),

@@ -1,5 +1,5 @@
 //! Tests of arenas whose first segment is in the scratch space: memory lent by the caller.
-use crate::steps::{take, take_of};
+use crate::steps::{take, try_allocate};
 use capnp_arena::arena::{
     Allocator, BuilderArena, BuilderArenaImpl, ScratchSegment, ScratchSpaceHeapAllocator, Segment,
 };
@@ -10,7 +10,7 @@ use test_support::has_words;
 /// Allocates all four words of the first segment, checks that they are zero, and writes them. Then
 /// allocates words that don't fit there.
 fn outgrow<A: BuilderArena>(rt: &impl Abort, alloc: Global, arena: &mut A) {
-    assert!(rt; take_of(rt, arena, 0, 4) == Some(0));
+    assert!(rt; try_allocate(rt, arena, 0, 4) == Some(0));
     let zeros = "0000000000000000 0000000000000000 0000000000000000 0000000000000000";
     assert!(rt; has_words(alloc, arena, zeros));
     match arena.allocated_mut(0) {
@@ -18,7 +18,7 @@ fn outgrow<A: BuilderArena>(rt: &impl Abort, alloc: Global, arena: &mut A) {
         None => assert!(rt; false),
     }
     assert!(rt; take(arena, 5) == Ok((1, 0)));
-    assert!(rt; take_of(rt, arena, 1, 1) == None);
+    assert!(rt; try_allocate(rt, arena, 1, 1) == None);
     assert!(rt; arena.refused() == 0);
 }
 

@@ -11,7 +11,7 @@ pub fn take<A: BuilderArena>(arena: &mut A, amount: u32) -> Result<(u32, u32), E
 
 /// Allocates `amount` words in segment `id`. Returns where they start; `None` if the segment has no
 /// room for them. Fails if there is no segment `id`.
-pub fn take_of<A: BuilderArena>(
+pub fn try_allocate<A: BuilderArena>(
     rt: &impl Abort,
     arena: &mut A,
     id: u32,

@@ -34,13 +34,13 @@ fn check_pointer<A: BuilderArena>(rt: &impl Abort, arena: &mut A) {
     pointer.clear();
     pointer.set_capability(3);
     assert!(rt; pointer.get_capability() == Ok(3));
-    let _place = pointer.put_struct(size).expect(rt, "room");
+    let _place = pointer.init_struct_place(size).expect(rt, "room");
     assert!(rt; !pointer.is_null());
 }
 
 fn put_struct<'a, A: BuilderArena>(rt: &impl Abort, arena: &'a mut A) -> StructBuilder<'a, A> {
     let mut pointer = root(rt, arena);
-    let place = pointer.put_struct(ONE_EACH).expect(rt, "room");
+    let place = pointer.init_struct_place(ONE_EACH).expect(rt, "room");
     pointer.into_struct(place)
 }
 
@@ -80,7 +80,7 @@ fn check_fields<A: BuilderArena>(rt: &impl Abort, arena: &mut A) {
 fn check_elements<A: BuilderArena>(rt: &impl Abort, arena: &mut A) {
     let mut pointer = root(rt, arena);
     let place = pointer
-        .put_list(ElementSize::TwoBytes, 4)
+        .init_list_place(ElementSize::TwoBytes, 4)
         .expect(rt, "room");
     let mut list = pointer.into_list(place);
     assert!(rt; list.reborrow().len() == 4 && !list.is_empty());
@@ -102,14 +102,14 @@ fn objects(rt: HostRuntime) {
 fn write_bytes<A: BuilderArena>(rt: &impl Abort, arena: &mut A) {
     let mut pointer = root(rt, arena);
     pointer.set_data(b"abc\0x").expect(rt, "room");
-    let place = pointer.find_data(None).expect(rt, "data");
+    let place = pointer.get_data_place(None).expect(rt, "data");
     let bytes = pointer.bytes_mut(place);
     assert!(rt; bytes.len() == 5 && &*bytes == b"abc\0x".as_slice());
     bytes[0] = b'y';
 }
 
-/// `bytes_mut` lends the bytes of the data that `find_data` finds, and what is written there is
-/// written in the message.
+/// `bytes_mut` lends the bytes of the data that `get_data_place` finds, and what is written there
+/// is written in the message.
 #[test]
 fn bytes(rt: HostRuntime) {
     let mut arena = message(&rt, rt.alloc());

@@ -14,9 +14,9 @@ use Rattle.capnp_making.specs.Stored.{Puts}
 use Rattle.capnp_making.proofs.FillingMade.{null_stored}
 use Rattle.capnp_objects.specs.Outcomes.{Reads}
 use Rattle.capnp_objects.specs.Reading.{Reading}
-use Rattle.capnp_objects.specs.Spending.{pointers_in, after as left_after}
+use Rattle.capnp_objects.specs.Spending.{pointers_in, after_charge as left_after}
 use Rattle.capnp_objects.specs.Wanted.{canonical}
-use Rattle.capnp_copies.specs.Changes.{MakesCopy, change}
+use Rattle.capnp_copies.specs.Changes.{MakesCopy, copy_call}
 use Rattle.capnp_copies.specs.Originals.{value_original}
 use Rattle.capnp_copies.specs.Rooms.{CanBeCopied}
 use Rattle.capnp_builders.specs.Kept.{LeavesCleared}
@@ -82,11 +82,11 @@ null_root {v} {w} {s} {p} root =
 -- what is made there is the copy of the value; it is the whole message exactly if it fits
 pub made_there : {S : Segments} {limits : ReaderOptions} {r : Reading} {m after : Meter} {v w : View} {s p : ℕ} (made : View) → AtRoot S limits r m →
     IsFreshRoot v w s p → length (segment made.words 0) ≤ made.room 0 →
-    MakesCopy (value_original r) (change canonical (call_at s p w made) m after) →
+    MakesCopy (value_original r) (copy_call canonical (call_at s p w made) m after) →
     (t : Tree) × IsValueOf S limits t × (1 + word_count (trim t) ≤ v.room 0 ↔ (made.words ≡ encoding (trim t) ∷ []))
 made_there {S} {limits} {r} {m} {after} {v} made at root within makes =
-    let here : MakesCopy (value_original r) (change canonical (call_at 0 0 v made) m after) =
-    at_first (λ x s p. MakesCopy (value_original r) (change canonical (call_at s p x made) m after)) root makes in
+    let here : MakesCopy (value_original r) (copy_call canonical (call_at 0 0 v made) m after) =
+    at_first (λ x s p. MakesCopy (value_original r) (copy_call canonical (call_at s p x made) m after)) root makes in
     let copy = made_copy r (left_of limits) v made m after root.fresh at.left here in
     let read = subst (λ (x : Meter). Reads canonical r x after copy.0) (sym at.left) copy.1 in
     let long = canonical_long r.segments r.levels r.segment r.at copy.0 copy.1.cost copy.1.means in
@@ -104,10 +104,10 @@ made_there {S} {limits} {r} {m} {after} {v} made at root within makes =
 
 -- and no request is refused then
 pub unasked_there : {r : Reading} {m after : Meter} {v w : View} {s p : ℕ} (made : View) → IsFreshRoot v w s p →
-    MakesCopy (value_original r) (change canonical (call_at s p w made) m after) → made.refusals ≡ v.refusals
+    MakesCopy (value_original r) (copy_call canonical (call_at s p w made) m after) → made.refusals ≡ v.refusals
 unasked_there {r} {m} {after} {v} made root makes =
-    let here : MakesCopy (value_original r) (change canonical (call_at 0 0 v made) m after) =
-    at_first (λ x s p. MakesCopy (value_original r) (change canonical (call_at s p x made) m after)) root makes in
+    let here : MakesCopy (value_original r) (copy_call canonical (call_at 0 0 v made) m after) =
+    at_first (λ x s p. MakesCopy (value_original r) (copy_call canonical (call_at s p x made) m after)) root makes in
     ap (λ (x : View). x.refusals) here.memory.0
 
 -- if a message stores only null, all its words are zero
@@ -124,11 +124,11 @@ zeros_there {v} new root puts =
 
 -- and its refusal is true of the message that was read
 pub refused_there : {S : Segments} {limits : ReaderOptions} {r : Reading} {m after : Meter} {v w : View} {s p : ℕ} (new : View) (k : ErrorKind) → AtRoot S limits r m →
-    IsFreshRoot v w s p → LeavesCleared (value_original r) (change canonical (call_at s p w new) m after) k →
+    IsFreshRoot v w s p → LeavesCleared (value_original r) (copy_call canonical (call_at s p w new) m after) k →
     RefusesAt S limits k (RefusesCopyAnywhere (root_within S limits) (left_of limits) (v.room 0) k)
 refused_there {S} {limits} {r} {m} {after} {v} new k at root leaves =
-    let here : LeavesCleared (value_original r) (change canonical (call_at 0 0 v new) m after) k =
-    at_first (λ x s p. LeavesCleared (value_original r) (change canonical (call_at s p x new) m after) k) root leaves in
+    let here : LeavesCleared (value_original r) (copy_call canonical (call_at 0 0 v new) m after) k =
+    at_first (λ x s p. LeavesCleared (value_original r) (copy_call canonical (call_at s p x new) m after) k) root leaves in
     let null = null_stored v.words 0 0 (root_there v.words root.fresh) (root_null v.words root.fresh) in
     let why = refused_copy r (left_of limits) v new m after k root.fresh at.left (record { why = here.why; left = here.cleared Null null; memory = here.memory }) in
     inr (at.covers, subst (λ (x : Reading). RefusesCopyAnywhere x (left_of limits) (v.room 0) k) at.place why)

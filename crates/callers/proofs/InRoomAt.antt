@@ -4,7 +4,7 @@ use Rattle.capnp_words.specs.declared.error.ErrorKind.{ErrorKind}
 use Rattle.capnp_words.specs.Meter.{Meter, FitsIn}
 use Rattle.capnp_format.specs.Forest.{IsForest}
 use Rattle.capnp_format.specs.Segments.{Segments, segment}
-use Rattle.capnp_format.specs.Canonical.{IsFree, encoding, trim, word_count}
+use Rattle.capnp_format.specs.Canonical.{HasNoCapabilities, encoding, trim, word_count}
 use Rattle.capnp_format.specs.Means.{Means}
 use Rattle.capnp_format.specs.Tree.{Tree, Null}
 use Rattle.capnp_arena_traits.specs.View.{View}
@@ -12,9 +12,9 @@ use Rattle.capnp_making.specs.Makes.{call_at}
 use Rattle.capnp_making.proofs.Replaced.{forest_updated}
 use Rattle.capnp_objects.specs.Outcomes.{Reads}
 use Rattle.capnp_objects.specs.Reading.{Reading}
-use Rattle.capnp_objects.specs.Spending.{Paid, pointers_in, after as left_after}
+use Rattle.capnp_objects.specs.Spending.{Paid, pointers_in, after_charge as left_after}
 use Rattle.capnp_objects.specs.Wanted.{canonical}
-use Rattle.capnp_copies.specs.Changes.{MakesCopy, RefusesToCopy, change}
+use Rattle.capnp_copies.specs.Changes.{MakesCopy, RefusesToCopy, copy_call}
 use Rattle.capnp_copies.specs.Originals.{value_original}
 use Rattle.capnp_copies.specs.Rooms.{CanBeCopied}
 use Rattle.capnp_copies.proofs.Copying.{fresh_made}
@@ -27,7 +27,7 @@ use Rattle.callers.proofs.InRoom.{IsFreshRoot, at_first}
 use Rattle.capnp_format.proofs.Slices.{only_segment}
 
 pub fits_here : {S : Segments} {n i j : ℕ} {r : Reading} {m : Meter} (v w : View) (id : ℕ) → r ≡ read_at S n i j → w ≡ v → id ≡ 0 →
-    v.words ≡ (0 ∷ []) ∷ [] → (t : Tree) (c : ℕ) → Means S n i j t c → IsFree t → FitsIn m.left c → 1 + word_count (trim t) ≤ v.room 0 →
+    v.words ≡ (0 ∷ []) ∷ [] → (t : Tree) (c : ℕ) → Means S n i j t c → HasNoCapabilities t → FitsIn m.left c → 1 + word_count (trim t) ≤ v.room 0 →
     CanBeCopied (value_original r) canonical m w id
 fits_here {S} {n} {i} {j} {r} {m} v w id at same first is t c means free covers fits =
     let room : length (segment v.words 0) + word_count (trim t) ≤ v.room 0 =
@@ -46,7 +46,7 @@ fits_here {S} {n} {i} {j} {r} {m} v w id at same first is t c means free covers 
 
 -- a copy to the root of a fresh message is all of the message exactly if it fits its segment, and means the value in any case
 made_first : (r : Reading) (m after : Meter) (v made : View) → v.words ≡ (0 ∷ []) ∷ [] → length (segment made.words 0) ≤ made.room 0 →
-    (makes : MakesCopy (value_original r) (change canonical (call_at 0 0 v made) m after)) →
+    (makes : MakesCopy (value_original r) (copy_call canonical (call_at 0 0 v made) m after)) →
     (1 + word_count (trim makes.value) ≤ v.room 0 ↔ (made.words ≡ encoding (trim makes.value) ∷ [])) × IsForest made.words (trim makes.value)
 made_first r m after v made fresh within makes =
     let t : Tree = makes.value in
@@ -67,22 +67,22 @@ made_first r m after v made fresh within makes =
 
 pub made_here : {S : Segments} {n i j : ℕ} {r : Reading} {m after : Meter} {v w : View} {s p : ℕ} (made : View) → r ≡ read_at S n i j →
     IsFreshRoot v w s p → length (segment made.words 0) ≤ made.room 0 →
-    MakesCopy (value_original r) (change canonical (call_at s p w made) m after) →
-    (t : Tree) × (c : ℕ) × Means S n i j t c × IsFree t × Paid true m after c (pointers_in t) ×
+    MakesCopy (value_original r) (copy_call canonical (call_at s p w made) m after) →
+    (t : Tree) × (c : ℕ) × Means S n i j t c × HasNoCapabilities t × Paid true m after c (pointers_in t) ×
     (1 + word_count (trim t) ≤ v.room 0 ↔ (made.words ≡ encoding (trim t) ∷ [])) × IsForest made.words (trim t)
 made_here {S} {n} {i} {j} {r} {m} {after} {v} made at root within makes =
-    let first = at_first (λ x s p. MakesCopy (value_original r) (change canonical (call_at s p x made) m after)) root makes in
-    let here : MakesCopy (value_original (read_at S n i j)) (change canonical (call_at 0 0 v made) m after) =
-    subst (λ (x : Reading). MakesCopy (value_original x) (change canonical (call_at 0 0 v made) m after)) at first in
+    let first = at_first (λ x s p. MakesCopy (value_original r) (copy_call canonical (call_at s p x made) m after)) root makes in
+    let here : MakesCopy (value_original (read_at S n i j)) (copy_call canonical (call_at 0 0 v made) m after) =
+    subst (λ (x : Reading). MakesCopy (value_original x) (copy_call canonical (call_at 0 0 v made) m after)) at first in
     let read : Reads canonical (read_at S n i j) m after here.value = here.is_read in
     let (whole, means) = made_first (read_at S n i j) m after v made root.fresh within here in
     (here.value, read.cost, read.means, read.takes (λ e. absurd (cc e)), record { covers = read.covers; spent = read.spent }, whole, means)
 
 -- and is refused truly
 pub refused_here : {S : Segments} {n i j : ℕ} {r : Reading} {m after : Meter} {v w : View} {s p : ℕ} (new : View) (k : ErrorKind) → r ≡ read_at S n i j →
-    IsFreshRoot v w s p → LeavesCleared (value_original r) (change canonical (call_at s p w new) m after) k →
-    RefusesToCopy (value_original (read_at S n i j)) (change canonical (call_at 0 0 v new) m after) k
+    IsFreshRoot v w s p → LeavesCleared (value_original r) (copy_call canonical (call_at s p w new) m after) k →
+    RefusesToCopy (value_original (read_at S n i j)) (copy_call canonical (call_at 0 0 v new) m after) k
 refused_here {r = r} {m = m} {after = after} {v = v} new k at root leaves =
-    let here : LeavesCleared (value_original r) (change canonical (call_at 0 0 v new) m after) k =
-    at_first (λ x s p. LeavesCleared (value_original r) (change canonical (call_at s p x new) m after) k) root leaves in
-    subst (λ (x : Reading). RefusesToCopy (value_original x) (change canonical (call_at 0 0 v new) m after) k) at here.why
+    let here : LeavesCleared (value_original r) (copy_call canonical (call_at 0 0 v new) m after) k =
+    at_first (λ x s p. LeavesCleared (value_original r) (copy_call canonical (call_at s p x new) m after) k) root leaves in
+    subst (λ (x : Reading). RefusesToCopy (value_original x) (copy_call canonical (call_at 0 0 v new) m after) k) at here.why

@@ -2,7 +2,7 @@
 use Rattle.std.proofs.Common.{◌≡◌, ◌↔◌, Bool, IsTrue, ℕ, ◌+◌, true, Result, Ok, Err, IsOk, IfOk, subst}
 use Rattle.capnp_words.specs.declared.error.ErrorKind.{ErrorKind}
 use Rattle.capnp_words.specs.Meter.{Meter}
-use Rattle.capnp_format.specs.Canonical.{Stands, charge, word_count}
+use Rattle.capnp_format.specs.Canonical.{HasCanonicalAt, charge, word_count}
 use Rattle.capnp_format.specs.Means.{Means}
 use Rattle.capnp_format.specs.Segments.{Segments}
 use Rattle.capnp_format.specs.Tree.{Tree}
@@ -19,7 +19,7 @@ pub tested_there : {r : Reading} {S : Segments} {n s p : ℕ} (head end : ℕ) (
 tested_there head end m after result same is = subst (λ (x : Reading). IsTestOf x head m result end after) same is
 
 pub exactly_there : {r : Reading} {S : Segments} {n s p : ℕ} (head end : ℕ) (m after : Meter) (result : Result Bool ErrorKind) → r ≡ read_at S n s p → HasSmallSegment r → IsTestOf r head m result end after →
-    IfOk result (λ yes. IsTrue yes ↔ ((t : Tree) × Stands S s p head t))
+    IfOk result (λ yes. IsTrue yes ↔ ((t : Tree) × HasCanonicalAt S s p head t))
 exactly_there {r} {S} {n} {s} {p} head end m after result same small is =
     result_exactly (read_at S n s p) head end m after result (subst (λ (x : Reading). HasSmallSegment x) same small) (tested_there head end m after result same is)
 
@@ -30,7 +30,7 @@ answered_there {r} {S} {n} {s} {p} head end m after result same can is = result_
 -- What the test finds there: its value, which the place means within the levels, and what that costs.
 abbrev FoundAt : Segments → ℕ → ℕ → ℕ → Progress → Progress → Type 0
 FoundAt S n s p from to =
-    (t : Tree) × Stands S s p from.head t × Means S n s p t (charge t) × (to.head ≡ from.head + word_count t) ×
+    (t : Tree) × HasCanonicalAt S s p from.head t × Means S n s p t (charge t) × (to.head ≡ from.head + word_count t) ×
     Paid true from.meter to.meter (charge t) (pointers_in t)
 
 found_at : (S : Segments) (n s p : ℕ) (from to : Progress) → IsFound (read_at S n s p) from to → FoundAt S n s p from to
@@ -42,7 +42,7 @@ found_if_true S n s p from to (Ok b) found = λ is. found_at S n s p from to (fo
 found_if_true S n s p from to (Err k) found = tt
 
 pub found_there : {r : Reading} {S : Segments} {n s p : ℕ} (head end : ℕ) (m after : Meter) (result : Result Bool ErrorKind) → r ≡ read_at S n s p → HasSmallSegment r → IsTestOf r head m result end after →
-    IfOk result (λ yes. IsTrue yes → (t : Tree) × Stands S s p head t × Means S n s p t (charge t) × (end ≡ head + word_count t) ×
+    IfOk result (λ yes. IsTrue yes → (t : Tree) × HasCanonicalAt S s p head t × Means S n s p t (charge t) × (end ≡ head + word_count t) ×
     Paid true m after (charge t) (pointers_in t))
 found_there {r} {S} {n} {s} {p} head end m after result same small is =
     found_if_true S n s p (progress head m) (progress end after) result

@@ -8,7 +8,7 @@ ghost use Rattle.capnp_builders.specs.Places.{IsStructOf};
 ghost use Rattle.capnp_making.specs.Stored.{Puts};
 ghost use Rattle.capnp_readers.specs.Readers.{IsStructPlace};
 ghost use Rattle.capnp_format.specs.Bytes.{message};
-ghost use Rattle.capnp_edits.specs.Edits.{TakesAll};
+ghost use Rattle.capnp_edits.specs.Edits.{EditsTake};
 ghost use Rattle.capnp_format.specs.Forest.{IsForest};
 ghost use Rattle.capnp_format.specs.Means.{Means};
 ghost use Rattle.capnp_format.specs.Numbers.{words_for};
@@ -77,7 +77,7 @@ fn root_struct<A: BuilderArena>(arena: &mut A, size: StructSize) -> Result<Struc
         (Puts (A.view arena.old).words (A.view arena.new).words 0 0 Null) }
 {
     let mut root = PointerBuilder::get_root(arena);
-    root.put_struct(size)
+    root.init_struct_place(size)
 }
 
 /// Makes the first pointer of the struct at `place` lead to a struct of `size`.
@@ -99,7 +99,7 @@ fn field_struct<A: BuilderArena>(
         segment: place.segment,
         at: place.pointers_at,
     };
-    field.put_struct(size)
+    field.init_struct_place(size)
 }
 
 /// Returns a reader of the output segments of the message `built`. The reader has the same words as
@@ -133,7 +133,7 @@ pub fn edited<'a, L: Allocator>(
     requires each { length outcomes.old ≡ length edits.now }
     ensures meant { IfOk result (λ r. (t : Tree)
         → IsForest (⟦<BuilderArenaImpl<L> as BuilderArena>⟧.view built.old).words t
-        → (u : Tree) × TakesAll edits.now outcomes.new t u × (n : ℕ) × (c : ℕ)
+        → (u : Tree) × EditsTake edits.now outcomes.new t u × (n : ℕ) × (c : ℕ)
         × Means (message (⟦<ReaderArenaImpl<OutputSegments<'a>> as ReaderArena>⟧.segments r))
         n 0 0 u c) }
     ensures refused { IfErr result (λ k. k ≡ AllocationFailed) }
@@ -159,7 +159,7 @@ fn root_with_room<A: BuilderArena>(
         × ((A.view arena.new).room 0 ≡ (A.view arena.old).room 0)) }
 {
     let mut root = PointerBuilder::get_root(arena);
-    root.put_struct(size)
+    root.init_struct_place(size)
 }
 
 /// Makes the first pointer of the struct at `place` lead to `text`.

@@ -4,7 +4,7 @@ ghost use Rattle.std.specs.Prelude.{◌≡◌, ◌⊎◌, ◌∷◌, ◌+◌, �
 ghost use Rattle.capnp_words.specs.declared.error.ErrorKind.TheVariants.{AllocationFailed};
 ghost use Rattle.capnp_words.specs.Meter.{FitsIn};
 ghost use Rattle.capnp_format.specs.Bytes.{message};
-ghost use Rattle.capnp_format.specs.Canonical.{IsFree, encoding, trim, word_count};
+ghost use Rattle.capnp_format.specs.Canonical.{HasNoCapabilities, encoding, trim, word_count};
 ghost use Rattle.capnp_format.specs.Means.{Means};
 ghost use Rattle.capnp_format.specs.Segments.{IsPlace};
 ghost use Rattle.capnp_format.specs.Tree.{Tree};
@@ -44,13 +44,13 @@ pub fn heap_copy_at<S: ReaderSegments>(
     ensures exactly_where { (t : Tree) (c : ℕ)
         → Means (message (⟦<ReaderArenaImpl<S> as ReaderArena>⟧.segments arena.now))
         (levels arena.now.nesting_limit) place.segment place.word t c
-        → IsFree t → FitsIn lim.old.left c
+        → HasNoCapabilities t → FitsIn lim.old.left c
         → 1 + word_count (trim t) ≤ max_segment_words
         → IfErr result (λ k. k ≡ AllocationFailed) }
     ensures exactly_what { IfOk result (λ made. (t : Tree) × (c : ℕ)
         × Means (message (⟦<ReaderArenaImpl<S> as ReaderArena>⟧.segments arena.now))
         (levels arena.now.nesting_limit) place.segment place.word t c
-        × IsFree t × Paid true lim.old lim.new c (pointers_in t)
+        × HasNoCapabilities t × Paid true lim.old lim.new c (pointers_in t)
         × ((⟦<BuilderArenaImpl<HeapAllocator> as BuilderArena>⟧.view made).words
         ≡ encoding (trim t) ∷ [])) }
     ensures asked { IfOk result (λ made. (t : Tree) (c : ℕ)

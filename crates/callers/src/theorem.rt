@@ -5,13 +5,13 @@ ghost use Rattle.std.specs.Prelude.{◌≡◌, ◌↔◌, ◌⊎◌, ◌∷◌, 
 ghost use Rattle.capnp_words.specs.declared.error.ErrorKind.TheVariants.{AllocationFailed};
 ghost use Rattle.capnp_words.specs.Meter.{FitsIn};
 ghost use Rattle.capnp_format.specs.Bytes.{message};
-ghost use Rattle.capnp_format.specs.Canonical.{ForOffset, IsFree, Stands, charge, encoding, trim, word_count};
+ghost use Rattle.capnp_format.specs.Canonical.{ForOffset, HasNoCapabilities, HasCanonicalAt, charge, encoding, trim, word_count};
 ghost use Rattle.capnp_format.specs.Means.{Means};
 ghost use Rattle.capnp_format.specs.Segments.{AreWords, IsPlace, segment, word_at};
 ghost use Rattle.capnp_format.specs.Tree.{Null, Tree, depth};
 ghost use Rattle.capnp_arena_traits.specs.Allocations.{max_segment_words, one_more};
 ghost use Rattle.capnp_arena_traits.specs.Limits.{IsSmall};
-ghost use Rattle.capnp_copies.specs.Changes.{RefusesToCopy, change};
+ghost use Rattle.capnp_copies.specs.Changes.{RefusesToCopy, copy_call};
 ghost use Rattle.capnp_copies.specs.Originals.{value_original};
 ghost use Rattle.capnp_framing.specs.Writing.{Prints};
 ghost use Rattle.capnp_framing.specs.declared.framing.frame_error.FrameError.TheVariants.{WriteFailed};
@@ -24,7 +24,7 @@ ghost use Rattle.capnp_objects.specs.Spending.{Paid, pointers_in};
 ghost use Rattle.capnp_objects.specs.Wanted.{canonical};
 ghost use Rattle.capnp_pointers.specs.Testing.{head_found, head_moved, test_value};
 ghost use Rattle.capnp_pointers.specs.Pointers.{reading};
-ghost use Rattle.capnp_edits.specs.Edits.{IsApplied, TakesAll};
+ghost use Rattle.capnp_edits.specs.Edits.{IsApplied, EditsTake};
 ghost use Rattle.capnp_edits.specs.Steps.{AreSteps};
 ghost use Rattle.capnp_messages.specs.CanonicalMessages.{IsCanonicalMessage, IsCanonicalOf};
 ghost use Rattle.capnp_messages.specs.Check.{check, whole_result};
@@ -304,15 +304,15 @@ pub fn canonical_test_at<S: ReaderSegments>(
         place.segment place.word }
     ensures exactly { let words = message (⟦<ReaderArenaImpl<S> as ReaderArena>⟧.segments arena.now)
         in IfOk result (λ yes. IsTrue yes
-        ↔ ((t : Tree) × Stands words place.segment place.word head.old t)) }
+        ↔ ((t : Tree) × HasCanonicalAt words place.segment place.word head.old t)) }
     ensures answered { let words = message (⟦<ReaderArenaImpl<S> as ReaderArena>⟧.segments arena.now)
-        in (t : Tree) → Stands words place.segment place.word head.old t
+        in (t : Tree) → HasCanonicalAt words place.segment place.word head.old t
         → ForOffset t (head.old ≤ length (segment words place.segment))
         → depth t ≤ levels arena.now.nesting_limit → FitsIn lim.old.left (charge t)
         → IsOk result }
     ensures found { let words = message (⟦<ReaderArenaImpl<S> as ReaderArena>⟧.segments arena.now)
         in IfOk result (λ yes. IsTrue yes
-        → (t : Tree) × Stands words place.segment place.word head.old t
+        → (t : Tree) × HasCanonicalAt words place.segment place.word head.old t
         × Means words (levels arena.now.nesting_limit) place.segment place.word t (charge t)
         × (head.new ≡ head.old + word_count t)
         × Paid true lim.old lim.new (charge t) (pointers_in t)) }
@@ -345,14 +345,14 @@ pub fn canonical_copy_at<A: Allocator, S: ReaderSegments>(
     ensures exactly_where { (t : Tree) (c : ℕ)
         → Means (message (⟦<ReaderArenaImpl<S> as ReaderArena>⟧.segments arena.now))
         (levels arena.now.nesting_limit) place.segment place.word t c
-        → IsFree t → FitsIn lim.old.left c
+        → HasNoCapabilities t → FitsIn lim.old.left c
         → 1 + word_count (trim t) ≤ max_segment_words
         → IfErr result (λ e. (e.0 ≡ AllocationFailed)
         × (A.refusals e.1 ≡ one_more (A.refusals allocator))) }
     ensures exactly_what { IfOk result (λ made. (t : Tree) × (c : ℕ)
         × Means (message (⟦<ReaderArenaImpl<S> as ReaderArena>⟧.segments arena.now))
         (levels arena.now.nesting_limit) place.segment place.word t c
-        × IsFree t × Paid true lim.old lim.new c (pointers_in t)
+        × HasNoCapabilities t × Paid true lim.old lim.new c (pointers_in t)
         × ((⟦<BuilderArenaImpl<A> as BuilderArena>⟧.view made).words
         ≡ encoding (trim t) ∷ [])) }
     ensures asked { IfOk result (λ made. (n : ℕ)
@@ -399,12 +399,12 @@ pub fn canonical_copy_at_in_room<A: BuilderArena, S: ReaderSegments>(
     ensures fits { (t : Tree) (c : ℕ)
         → Means (message (⟦<ReaderArenaImpl<S> as ReaderArena>⟧.segments source.now))
         (levels source.now.nesting_limit) place.segment place.word t c
-        → IsFree t → FitsIn lim.old.left c
+        → HasNoCapabilities t → FitsIn lim.old.left c
         → 1 + word_count (trim t) ≤ (A.view arena.old).room 0 → IsOk result }
     ensures made { IfOk result (λ _. (t : Tree) × (c : ℕ)
         × Means (message (⟦<ReaderArenaImpl<S> as ReaderArena>⟧.segments source.now))
         (levels source.now.nesting_limit) place.segment place.word t c
-        × IsFree t × Paid true lim.old lim.new c (pointers_in t)
+        × HasNoCapabilities t × Paid true lim.old lim.new c (pointers_in t)
         × (1 + word_count (trim t) ≤ (A.view arena.old).room 0
         ↔ ((A.view arena.new).words ≡ encoding (trim t) ∷ []))
         × IsForest (A.view arena.new).words (trim t)) }
@@ -413,7 +413,7 @@ pub fn canonical_copy_at_in_room<A: BuilderArena, S: ReaderSegments>(
     ensures refused { IfErr result (RefusesToCopy (value_original
         (read_at (message (⟦<ReaderArenaImpl<S> as ReaderArena>⟧.segments source.now))
         (levels source.now.nesting_limit) place.segment place.word))
-        (change canonical (call_at 0 0 (A.view arena.old) (A.view arena.new)) lim.old lim.new)) }
+        (copy_call canonical (call_at 0 0 (A.view arena.old) (A.view arena.new)) lim.old lim.new)) }
 {
     let from = PointerReader::of_pointer(pointer_at(source, place));
     PointerBuilder::get_root(arena).copy_from(from, lim, true)
@@ -465,7 +465,7 @@ pub fn struct_made<A: BuilderArena>(
     ensures named { IfErr result (IsRefusedFor (A.view builder.old.arena.now)
         (A.view builder.new.arena.now) (size.data_words + size.pointers)) }
 {
-    builder.put_struct(size)
+    builder.init_struct_place(size)
 }
 
 /// Applies `edits`, any of which may be refused.
@@ -479,7 +479,7 @@ pub fn edited_tree<A: BuilderArena>(
     outcomes: &mut [Option<ErrorKind>],
 )
     requires each { length outcomes.old ≡ length edits.now }
-    ensures applied { IsApplied (TakesAll edits.now outcomes.new) (A.view arena.old).words
+    ensures applied { IsApplied (EditsTake edits.now outcomes.new) (A.view arena.old).words
         (A.view arena.new).words }
     ensures refused { AreRefusedTruly (A.view arena.old) (A.view arena.new) edits.now
         outcomes.new }

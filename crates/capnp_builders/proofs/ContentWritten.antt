@@ -11,7 +11,7 @@ use Rattle.capnp_making.specs.Zeroed.{IsPruned}
 use Rattle.capnp_making.proofs.FillingChains.{filled_grows}
 use Rattle.capnp_making.proofs.Zeros.{lengths_kept}
 use Rattle.capnp_objects.specs.Reading.{Reading}
-use Rattle.capnp_copies.specs.Changes.{Change, CopiesChildren, CopiesFirst}
+use Rattle.capnp_copies.specs.Changes.{CopyCall, CopiesChildren, CopiesFirst}
 use Rattle.capnp_copies.specs.Forms.{kept_each}
 use Rattle.capnp_readers.specs.declared.readers.struct_reader.StructPlace.{StructPlace}
 use Rattle.capnp_builders.specs.Content.{content_byte, with_fields, fields_from, with_content}
@@ -57,7 +57,7 @@ pub bit_is : (x : ℕ) → cond (nat_eq (bit_and x 1) 1) 1 0 ≡ x % 2
 bit_is x = ap (λ y. cond (nat_eq y 1) 1 0) (and_mask x 1) ∙ lowest (x % 2) (omega arith)
 
 -- the segments after pointers were copied or one was refused
-pub each_grows : (r : Reading) (n : ℕ) (c : Change) (result : Result (Unit {0}) ErrorKind) → IfOk result (λ _. CopiesChildren r n c) → IfErr result (CopiesFirst r n c) → Grows c.old.words c.new.words
+pub each_grows : (r : Reading) (n : ℕ) (c : CopyCall) (result : Result (Unit {0}) ErrorKind) → IfOk result (λ _. CopiesChildren r n c) → IfErr result (CopiesFirst r n c) → Grows c.old.words c.new.words
 each_grows r n c (Ok x) copied refused = filled_grows c.old.words c.new.words c.segment c.at (kept_each c.form copied.children) copied.made
 each_grows r n c (Err k) copied refused =
     let first = filled_grows c.old.words refused.filled c.segment c.at refused.first refused.made in

@@ -17,7 +17,7 @@ use Rattle.capnp_making.proofs.Replaced.{replaced_again}
 use Rattle.capnp_making.proofs.Taken.{ends_after}
 use Rattle.capnp_objects.specs.Reading.{Reading}
 use Rattle.capnp_objects.specs.Wanted.{Form}
-use Rattle.capnp_copies.specs.Changes.{Change, MakesCopy, StopsCopy}
+use Rattle.capnp_copies.specs.Changes.{CopyCall, MakesCopy, StopsCopy}
 use Rattle.capnp_copies.specs.Rooms.{CanBeCopied}
 use Rattle.capnp_copies.specs.Forms.{kept}
 use Rattle.capnp_copies.specs.Originals.{Original, value_original}
@@ -34,7 +34,7 @@ null_replaced S R s p t place null made = λ u stored.
     subst (λ v. IsReplaced S R s p v t) (sym same) made)
 
 -- if a segment's only word was null, its words are those of the copy
-pub fresh_copied : {X : Type 0} (o : Result X ErrorKind) (r : Reading) (c : Change) → IsPlace c.old.words c.segment c.at → segment c.old.words c.segment ≡ 0 ∷ [] → IfOk o (λ _. MakesCopy (value_original r) c) → IfOk o (λ _. FillsSegment r c)
+pub fresh_copied : {X : Type 0} (o : Result X ErrorKind) (r : Reading) (c : CopyCall) → IsPlace c.old.words c.segment c.at → segment c.old.words c.segment ≡ 0 ∷ [] → IfOk o (λ _. MakesCopy (value_original r) c) → IfOk o (λ _. FillsSegment r c)
 fresh_copied (Ok x) r c place one made = (made.value, made.is_read, λ fits. fresh_made c.old.words c.segment c.at (kept c.form made.value) (place, one) (made.stands fits))
 fresh_copied (Err k) r c place one made = tt
 
@@ -43,7 +43,7 @@ first_segment zero p place = refl
 first_segment (suc s) p place = absurd (omega (arith, place))
 
 -- if a message's only word was null, and it still has one segment, its words are those of the copy
-pub alone_copied : {X : Type 0} (o : Result X ErrorKind) (r : Reading) (c : Change) → IsPlace c.old.words c.segment c.at → c.old.words ≡ (0 ∷ []) ∷ [] → IfOk o (λ _. MakesCopy (value_original r) c) → IfOk o (λ _. FillsMessage r c)
+pub alone_copied : {X : Type 0} (o : Result X ErrorKind) (r : Reading) (c : CopyCall) → IsPlace c.old.words c.segment c.at → c.old.words ≡ (0 ∷ []) ∷ [] → IfOk o (λ _. MakesCopy (value_original r) c) → IfOk o (λ _. FillsMessage r c)
 alone_copied (Ok x) r c place fresh copied =
     let first : c.segment ≡ 0 = first_segment c.segment c.at (subst (λ (S : Segments). IsPlace S c.segment c.at) fresh place) in
     let only : segment c.old.words c.segment ≡ 0 ∷ [] = ap (λ i. segment c.old.words i) first ∙ ap (λ (S : Segments). segment S 0) fresh in
@@ -61,7 +61,7 @@ on_err (Ok x) P Q h f = tt
 on_err (Err k) P Q h f = f k h
 
 -- no segment becomes shorter, whether the copy is made or refused
-pub copy_grows : {X : Type 0} (result : Result X ErrorKind) (o : Original Tree) (c : Change) → IfOk result (λ _. MakesCopy o c) → IfErr result (StopsCopy o c Null) → Grows c.old.words c.new.words
+pub copy_grows : {X : Type 0} (result : Result X ErrorKind) (o : Original Tree) (c : CopyCall) → IfOk result (λ _. MakesCopy o c) → IfErr result (StopsCopy o c Null) → Grows c.old.words c.new.words
 copy_grows (Ok x) o c copied refused = replaced_grows copied.made
 copy_grows (Err k) o c copied refused = replaced_grows refused.left
 
@@ -78,7 +78,7 @@ can_later o form m a b s limits pruned can = record { small = can.small; value =
 
 -- a copy to a place that was cleared first, or is null
 
-pub put_copied : {o : Original Tree} (c : Change) (mid : View) → KeepsLimits c.old mid → IsPruned c.old.words mid.words → Puts c.old.words mid.words c.segment c.at Null → MakesCopy o (record c { old = mid }) → PutsCopy o c
+pub put_copied : {o : Original Tree} (c : CopyCall) (mid : View) → KeepsLimits c.old mid → IsPruned c.old.words mid.words → Puts c.old.words mid.words c.segment c.at Null → MakesCopy o (record c { old = mid }) → PutsCopy o c
 put_copied c mid limits only null made = record {
   value = made.value;
   is_read = made.is_read;
@@ -91,7 +91,7 @@ put_copied c mid limits only null made = record {
   stands = made.stands;
 }
 
-pub put_stopped : {o : Original Tree} {k : ErrorKind} (c : Change) (mid : View) → KeepsLimits c.old mid → IsPruned c.old.words mid.words → Puts c.old.words mid.words c.segment c.at Null → StopsCopy o (record c { old = mid }) Null k → LeavesCleared o c k
+pub put_stopped : {o : Original Tree} {k : ErrorKind} (c : CopyCall) (mid : View) → KeepsLimits c.old mid → IsPruned c.old.words mid.words → Puts c.old.words mid.words c.segment c.at Null → StopsCopy o (record c { old = mid }) Null k → LeavesCleared o c k
 put_stopped {o = o} {k = k} c mid limits only null stop = record {
   why = elim stop.why [
     | inl x ↦ inl (

@@ -8,18 +8,18 @@ use Rattle.capnp_arena_traits.specs.View.{View}
 use Rattle.capnp_objects.specs.Wanted.{of_default}
 use Rattle.capnp_objects.proofs.Refusals.{breaks_off_spends, unreadable}
 use Rattle.capnp_objects.proofs.Truths.{unlimited_refusal}
-use Rattle.capnp_copies.specs.Changes.{Change, change, MakesCopy, StopsCopy}
+use Rattle.capnp_copies.specs.Changes.{CopyCall, copy_call, MakesCopy, StopsCopy}
 use Rattle.capnp_copies.specs.Growth.{TakesAtMost}
 use Rattle.capnp_copies.specs.Originals.{value_original}
 use Rattle.capnp_making.specs.Makes.{call_at}
 use Rattle.capnp_builders.specs.Defaults.{default_root, DropsDefault, PutsDefault, RefusesDefault}
 
 -- The copy of a default to position at of segment id.
-abbrev pub default_copy : ℕ → ℕ → View → View → Change
-default_copy id at old new = change of_default (call_at id at old new) (unused None) (unused None)
+abbrev pub default_copy : ℕ → ℕ → View → View → CopyCall
+default_copy id at old new = copy_call of_default (call_at id at old new) (unused None) (unused None)
 
 -- reading a default spends nothing, whether it ends or stops
-pub nothing_spent : {X E : Type 0} (o : Result X E) (bytes : List ℕ) (id at : ℕ) (old new : View) (m m' : Meter) → TakesAtMost o (value_original (default_root bytes)) (change of_default (call_at id at old new) m m') → m' ≡ m
+pub nothing_spent : {X E : Type 0} (o : Result X E) (bytes : List ℕ) (id at : ℕ) (old new : View) (m m' : Meter) → TakesAtMost o (value_original (default_root bytes)) (copy_call of_default (call_at id at old new) m m') → m' ≡ m
 nothing_spent (Ok x) bytes id at old new m m' taken = taken.1.spent
 nothing_spent (Err k) bytes id at old new m m' taken = let (g, r, covers, spent, few) = breaks_off_spends taken.0 in spent
 

@@ -6,7 +6,7 @@ use Rattle.capnp_words.specs.Sizes.{size_number}
 use Rattle.capnp_words.specs.declared.wire_pointer.ElementSize.{ElementSize}
 use Rattle.capnp_words.specs.declared.wire_pointer.ElementSize.TheVariants.{Void, Bit, Byte, TwoBytes, FourBytes, EightBytes, Pointer, InlineComposite}
 use Rattle.capnp_readers.specs.Readers.{IsStructPlace, IsListPlace}
-use Rattle.capnp_readers.specs.Sections.{bytes_for, elements_words, HoldsPointer, pointers_behind}
+use Rattle.capnp_readers.specs.Sections.{bytes_for, elements_words, HoldsPointer, pointers_offset}
 use Rattle.capnp_readers.specs.declared.readers.struct_reader.StructPlace.{StructPlace}
 use Rattle.capnp_readers.specs.declared.readers.list_reader.ListPlace.{ListPlace}
 use Rattle.capnp_readers.proofs.Sections.{words_within, pointers_within, flat_words, number_within, number_bytes}
@@ -51,5 +51,5 @@ pub element_inside : (S : Segments) (list : ListPlace) (i : ℕ) (place : Struct
 element_inside S list i place whole inside l e = at_size S list i list.size place refl whole inside l e
 
 -- the pointer of an element is inside its segment
-pub pointer_inside : (S : Segments) (list : ListPlace) (i : ℕ) → IsListPlace S list → i < list.count → HoldsPointer list.size list.struct_size → IsPlace S list.segment (list.byte / 8 + pointers_behind list.size list.struct_size i)
+pub pointer_inside : (S : Segments) (list : ListPlace) (i : ℕ) → IsListPlace S list → i < list.count → HoldsPointer list.size list.struct_size → IsPlace S list.segment (list.byte / 8 + pointers_offset list.size list.struct_size i)
 pointer_inside S list i (there, aligned, fits) l holds = omega (arith, fits, pointers_within list.size list.struct_size list.count i holds l)

@@ -15,7 +15,7 @@ use Rattle.capnp_readers.specs.declared.readers.struct_reader.StructReader.{Stru
 use Rattle.capnp_words.specs.declared.error.ErrorKind.{ErrorKind}
 use Rattle.capnp_objects.specs.Wanted.{plain}
 use Rattle.capnp_readers.specs.Sizes.{pointers_read}
-use Rattle.capnp_copies.specs.Changes.{Change, CopiesChildren, change, CopiesFirst}
+use Rattle.capnp_copies.specs.Changes.{CopyCall, CopiesChildren, copy_call, CopiesFirst}
 use Rattle.capnp_copies.specs.Rooms.{CanBeCopied}
 use Rattle.capnp_copies.specs.Originals.{children_original}
 use Rattle.capnp_making.specs.Makes.{call_at}
@@ -49,9 +49,9 @@ AreCleared S R s p zero = R ≡ S
 AreCleared S R s p (suc n) = (M : Segments) × AreCleared S M s p n × Puts M R s (p + n) Null
 
 -- A call that copies pointers as plain values, to the pointers of a struct from the first on.
-abbrev pub pointers_copied : StructPlace → View → View → Meter → Meter → Change
+abbrev pub pointers_copied : StructPlace → View → View → Meter → Meter → CopyCall
 pointers_copied place old new before after =
-    change plain (call_at place.segment place.pointers_at old new) before after
+    copy_call plain (call_at place.segment place.pointers_at old new) before after
 
 -- From S to M content is written in the data section of a struct, and then all its pointers become
 -- null.
@@ -80,12 +80,12 @@ module _ {A : Type 0} (g : Ghosts A) where
 
   -- The data is copied, and then as many pointers as both structs have; or copying these is refused
   -- with k.
-  abbrev pub TakesContent : StructReader A g → StructPlace → Change → Type 0
+  abbrev pub TakesContent : StructReader A g → StructPlace → CopyCall → Type 0
   TakesContent value place c = (mid : View) × TakesData value place c.old mid ×
       CopiesChildren (pointers_read g value) (min place.pointers value.pointer_count)
       (record c { old = mid })
 
-  abbrev pub StopsAtContent : StructReader A g → StructPlace → Change → ErrorKind → Type 0
+  abbrev pub StopsAtContent : StructReader A g → StructPlace → CopyCall → ErrorKind → Type 0
   StopsAtContent value place c k =
       (mid : View) × TakesData value place c.old mid ×
       CopiesFirst (pointers_read g value) (min place.pointers value.pointer_count)
@@ -93,7 +93,7 @@ module _ {A : Type 0} (g : Ghosts A) where
 
   -- The pointers that both structs have can be read, and the words of what they mean fit after
   -- those of the struct's segment.
-  abbrev pub ContentFits : StructReader A g → StructPlace → Change → Type 0
+  abbrev pub ContentFits : StructReader A g → StructPlace → CopyCall → Type 0
   ContentFits value place c =
       CanBeCopied (children_original (pointers_read g value)
       (min place.pointers value.pointer_count)) c.form c.before c.old c.segment

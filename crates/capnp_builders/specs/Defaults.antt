@@ -19,7 +19,7 @@ use Rattle.capnp_objects.specs.Outcomes.{MeansThere}
 use Rattle.capnp_objects.specs.Reading.{Reading}
 use Rattle.capnp_objects.specs.Source.{default_segment, default_segments}
 use Rattle.capnp_objects.specs.Wanted.{of_default}
-use Rattle.capnp_copies.specs.Changes.{IsCopiedInRoom, IsTooLarge, LacksRoom, change}
+use Rattle.capnp_copies.specs.Changes.{IsCopiedInRoom, IsTooLarge, LacksRoom, copy_call}
 use Rattle.capnp_copies.specs.Growth.{MakesAtMost}
 use Rattle.capnp_copies.specs.Originals.{value_original}
 use Rattle.capnp_copies.specs.Rooms.{CanBeCopied}
@@ -44,7 +44,7 @@ default_root bytes =
 -- which a capability is too; or there is no room for one of its objects.
 abbrev pub RefusesDefault : List ℕ → CallAt → ErrorKind → Type 0
 RefusesDefault bytes c k =
-    let copy = change of_default c (unused None) (unused None) in
+    let copy = copy_call of_default c (unused None) (unused None) in
     HasFault of_default (default_root bytes) k
     ⊎ (LacksRoom (value_original (default_root bytes)) copy k ×
     IsTooLarge (value_original (default_root bytes)) copy)

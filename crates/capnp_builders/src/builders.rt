@@ -19,7 +19,7 @@ ghost use Rattle.capnp_builders.specs.Places.{IsAligned, IsStructOf, IsListOf};
 ghost use Rattle.capnp_words.specs.declared.error.ErrorKind.{ErrorKind};
 ghost use Rattle.capnp_builders.specs.Reads.{IsArenaOf, IsPointerReader};
 ghost use Rattle.capnp_objects.specs.Wanted.{canonical, plain};
-ghost use Rattle.capnp_copies.specs.Changes.{MakesCopy, change};
+ghost use Rattle.capnp_copies.specs.Changes.{MakesCopy, copy_call};
 ghost use Rattle.capnp_copies.specs.Rooms.{CanBeCopied};
 ghost use Rattle.capnp_copies.specs.Forms.{form_of};
 ghost use Rattle.capnp_copies.specs.Growth.{TakesAtMost};
@@ -175,7 +175,7 @@ impl<'a, A: BuilderArena> PointerBuilder<'a, A> {
     /// `MessageTooLarge(usize::MAX)` if the message already has 4,294,967,295 segments. After a
     /// refusal the pointer is null.
     #[inline(always)]
-    pub fn put_struct(&mut self, size: StructSize) -> Result<StructPlace, ErrorKind>
+    pub fn init_struct_place(&mut self, size: StructSize) -> Result<StructPlace, ErrorKind>
         requires { IsThere (built A.view self.old) }
         ensures object { MakesObject result (calling A.view self.old self.new)
             (zero_struct size) (size.data_words + size.pointers) }
@@ -210,7 +210,7 @@ impl<'a, A: BuilderArena> PointerBuilder<'a, A> {
     ///
     /// Refusals, if no segment has room: `AllocationFailed` if memory runs out;
     /// `MessageTooLarge(usize::MAX)` if the message already has 4,294,967,295 segments. After a
-    /// refusal the pointer is null; the contract of `put_struct` states what else holds.
+    /// refusal the pointer is null; the contract of `init_struct_place` states what else holds.
     #[inline(always)]
     pub fn init_struct(mut self, size: StructSize) -> Result<StructBuilder<'a, A>, ErrorKind>
         requires { IsThere (built A.view self) }
@@ -227,7 +227,7 @@ impl<'a, A: BuilderArena> PointerBuilder<'a, A> {
             word_at (A.view b.arena.now).words self.entry.segment self.entry.at
             ≡ struct_word (2 ^ 30 - 1) 0 0) }
     {
-        let place = self.put_struct(size)?;
+        let place = self.init_struct_place(size)?;
         Ok(self.into_struct(place))
     }
 
@@ -242,7 +242,7 @@ impl<'a, A: BuilderArena> PointerBuilder<'a, A> {
     /// plus one for a landing pad; `MessageTooLarge(usize::MAX)` if the message already has
     /// 4,294,967,295 segments. After a refusal the pointer is null.
     #[inline(always)]
-    pub fn put_list(&mut self, size: ElementSize, count: u32) -> Result<ListPlace, ErrorKind>
+    pub fn init_list_place(&mut self, size: ElementSize, count: u32) -> Result<ListPlace, ErrorKind>
         requires there { IsThere (built A.view self.old) }
         requires few { count < 2 ^ 29 }
         requires plain { size_number size ≤ 6 }
@@ -278,8 +278,8 @@ impl<'a, A: BuilderArena> PointerBuilder<'a, A> {
     /// Refusals, if no segment has room: `AllocationFailed` if memory runs out;
     /// `MessageTooLarge(n)` if n is above 536,870,911, where n is the number of the list's words,
     /// plus one for a landing pad; `MessageTooLarge(usize::MAX)` if the message already has
-    /// 4,294,967,295 segments. After a refusal the pointer is null; the contract of `put_list`
-    /// states what else holds.
+    /// 4,294,967,295 segments. After a refusal the pointer is null; the contract of
+    /// `init_list_place` states what else holds.
     #[inline(always)]
     pub fn init_list(
         mut self,
@@ -302,7 +302,7 @@ impl<'a, A: BuilderArena> PointerBuilder<'a, A> {
             LeadsToEnd (calling_last A.view self.entry b.arena.now)
             (list_words (size_number size) count)) }
     {
-        let place = self.put_list(size, count)?;
+        let place = self.init_list_place(size, count)?;
         Ok(self.into_list(place))
     }
 
@@ -316,7 +316,7 @@ impl<'a, A: BuilderArena> PointerBuilder<'a, A> {
     /// `MessageTooLarge(n)` if n is above 536,870,911, where n is the number of the structs' words,
     /// plus two for the tag and a landing pad; `MessageTooLarge(usize::MAX)` if the message already
     /// has 4,294,967,295 segments. After a refusal the pointer is null.
-    pub fn put_struct_list(&mut self, count: u32, size: StructSize) -> Result<ListPlace, ErrorKind>
+    pub fn init_struct_list_place(&mut self, count: u32, size: StructSize) -> Result<ListPlace, ErrorKind>
         requires there { IsThere (built A.view self.old) }
         requires few { count < 2 ^ 30 }
         requires words { count * (size.data_words + size.pointers) < 2 ^ 29 }
@@ -338,7 +338,7 @@ impl<'a, A: BuilderArena> PointerBuilder<'a, A> {
     /// `MessageTooLarge(n)` if n is above 536,870,911, where n is the number of the structs' words,
     /// plus two for the tag and a landing pad; `MessageTooLarge(usize::MAX)` if the message already
     /// has 4,294,967,295 segments. After a refusal the pointer is null; the contract of
-    /// `put_struct_list` states what else holds.
+    /// `init_struct_list_place` states what else holds.
     pub fn init_struct_list(
         mut self,
         count: u32,
@@ -357,7 +357,7 @@ impl<'a, A: BuilderArena> PointerBuilder<'a, A> {
             IsListOf (calling_last A.view self.entry b.arena.now)
             (λ a. struct_list a size.data_words size.pointers count) b.place) }
     {
-        let place = self.put_struct_list(count, size)?;
+        let place = self.init_struct_list_place(count, size)?;
         Ok(self.into_list(place))
     }
 
@@ -388,8 +388,8 @@ impl<'a, A: BuilderArena> PointerBuilder<'a, A> {
     ///
     /// Refusals, if no segment has room: `AllocationFailed` if memory runs out;
     /// `MessageTooLarge(usize::MAX)` if the message already has 4,294,967,295 segments. After a
-    /// refusal the pointer is null. `put_list` followed by `bytes_mut` does the same. The contracts
-    /// of these two calls also state what the message is once the bytes are written.
+    /// refusal the pointer is null. `init_list_place` followed by `bytes_mut` does the same. The
+    /// contracts of these two calls also state what the message is once the bytes are written.
     pub fn init_data(self, size: u32) -> Result<&'a mut [u8], ErrorKind>
         requires there { IsThere (built A.view self) }
         requires few { size < 2 ^ 29 }
@@ -409,8 +409,8 @@ impl<'a, A: BuilderArena> PointerBuilder<'a, A> {
     ///
     /// Refusals, if no segment has room: `AllocationFailed` if memory runs out;
     /// `MessageTooLarge(usize::MAX)` if the message already has 4,294,967,295 segments. After a
-    /// refusal the pointer is null. `put_list` followed by `bytes_mut` does the same. The contracts
-    /// of these two calls also state what the message is once the bytes are written.
+    /// refusal the pointer is null. `init_list_place` followed by `bytes_mut` does the same. The
+    /// contracts of these two calls also state what the message is once the bytes are written.
     pub fn init_text(self, size: u32) -> Result<&'a mut [u8], ErrorKind>
         requires there { IsThere (built A.view self) }
         requires few { size + 1 < 2 ^ 29 }
@@ -508,27 +508,27 @@ impl<'a, A: BuilderArena> PointerBuilder<'a, A> {
         requires place { IsThere (built A.view self.old) }
         ensures copied { IfOk result (λ _. PutsCopy
             (value_original (read_by B.ReaderArena from.entry))
-            (change (form_of canonicalize) (calling A.view self.old self.new) lim.old lim.new)) }
+            (copy_call (form_of canonicalize) (calling A.view self.old self.new) lim.old lim.new)) }
         ensures near { IsNull (built A.view self.old)
             → IfOk result
             (λ _. MakesCopy (value_original (read_by B.ReaderArena from.entry))
-            (change (form_of canonicalize) (calling A.view self.old self.new) lim.old lim.new)) }
+            (copy_call (form_of canonicalize) (calling A.view self.old self.new) lim.old lim.new)) }
         ensures fresh { segment (A.view self.old.arena.now).words self.old.segment ≡ 0 ∷ []
             → IfOk result
             (λ _. FillsSegment (read_by B.ReaderArena from.entry)
-            (change (form_of canonicalize) (calling A.view self.old self.new) lim.old lim.new)) }
+            (copy_call (form_of canonicalize) (calling A.view self.old self.new) lim.old lim.new)) }
         ensures alone { (A.view self.old.arena.now).words ≡ (0 ∷ []) ∷ []
             → IfOk result
             (λ _. FillsMessage (read_by B.ReaderArena from.entry)
-            (change (form_of canonicalize) (calling A.view self.old self.new) lim.old lim.new)) }
+            (copy_call (form_of canonicalize) (calling A.view self.old self.new) lim.old lim.new)) }
         ensures fits { CanBeCopied (value_original (read_by B.ReaderArena from.entry))
             (form_of canonicalize) lim.old (A.view self.old.arena.now) self.old.segment
             → IsOk result }
         ensures refused { IfErr result (LeavesCleared
             (value_original (read_by B.ReaderArena from.entry))
-            (change (form_of canonicalize) (calling A.view self.old self.new) lim.old lim.new)) }
+            (copy_call (form_of canonicalize) (calling A.view self.old self.new) lim.old lim.new)) }
         ensures taken { TakesAtMost result (value_original (read_by B.ReaderArena from.entry))
-            (change (form_of canonicalize) (calling A.view self.old self.new) lim.old lim.new) }
+            (copy_call (form_of canonicalize) (calling A.view self.old self.new) lim.old lim.new) }
         ensures grows { Grows (A.view self.old.arena.now).words (A.view self.new.arena.now).words }
         ensures stays { StaysThere A.view self.old self.new }
     {
@@ -572,14 +572,14 @@ impl<'a, A: BuilderArena> PointerBuilder<'a, A> {
     ) -> Result<(), ErrorKind>
         requires place { IsThere (built A.view self.old) }
         ensures copied { IfOk result (λ _. PutsCopy (struct_read B.ReaderArena value.now)
-            (change (form_of canonicalize) (calling A.view self.old self.new) lim.old lim.new)) }
+            (copy_call (form_of canonicalize) (calling A.view self.old self.new) lim.old lim.new)) }
         ensures fits { CanBeCopied (struct_read B.ReaderArena value.now)
             (form_of canonicalize) lim.old (A.view self.old.arena.now) self.old.segment
             → IsOk result }
         ensures refused { IfErr result (LeavesCleared (struct_read B.ReaderArena value.now)
-            (change (form_of canonicalize) (calling A.view self.old self.new) lim.old lim.new)) }
+            (copy_call (form_of canonicalize) (calling A.view self.old self.new) lim.old lim.new)) }
         ensures taken { TakesAtMost result (struct_read B.ReaderArena value.now)
-            (change (form_of canonicalize) (calling A.view self.old self.new) lim.old lim.new) }
+            (copy_call (form_of canonicalize) (calling A.view self.old self.new) lim.old lim.new) }
         ensures wide { (k : ErrorKind) → (struct_read B.ReaderArena value.now).exceeds
             (form_of canonicalize) k → (result ≡ Err k) × (lim.new ≡ lim.old) }
         ensures grows { Grows (A.view self.old.arena.now).words (A.view self.new.arena.now).words }
@@ -622,14 +622,14 @@ impl<'a, A: BuilderArena> PointerBuilder<'a, A> {
     ) -> Result<(), ErrorKind>
         requires place { IsThere (built A.view self.old) }
         ensures copied { IfOk result (λ _. PutsCopy (list_read B.ReaderArena value.now)
-            (change (form_of canonicalize) (calling A.view self.old self.new) lim.old lim.new)) }
+            (copy_call (form_of canonicalize) (calling A.view self.old self.new) lim.old lim.new)) }
         ensures fits { CanBeCopied (list_read B.ReaderArena value.now)
             (form_of canonicalize) lim.old (A.view self.old.arena.now) self.old.segment
             → IsOk result }
         ensures refused { IfErr result (LeavesCleared (list_read B.ReaderArena value.now)
-            (change (form_of canonicalize) (calling A.view self.old self.new) lim.old lim.new)) }
+            (copy_call (form_of canonicalize) (calling A.view self.old self.new) lim.old lim.new)) }
         ensures taken { TakesAtMost result (list_read B.ReaderArena value.now)
-            (change (form_of canonicalize) (calling A.view self.old self.new) lim.old lim.new) }
+            (copy_call (form_of canonicalize) (calling A.view self.old self.new) lim.old lim.new) }
         ensures long { (k : ErrorKind) → (list_read B.ReaderArena value.now).exceeds
             (form_of canonicalize) k → (result ≡ Err k) × (lim.new ≡ lim.old) }
         ensures grows { Grows (A.view self.old.arena.now).words (A.view self.new.arena.now).words }

@@ -13,7 +13,7 @@ use capnp_refusals::refusals::RefusedPointer;
 use capnp_streams::devices::{BufReaderInput, NamedLines, NumberedLines};
 use capnp_streams::looks::{InputForm, guess_of};
 use capnp_streams::seen::{DeviceLog, Logged};
-use capnp_streams::streams::{self, Command, Fault, ShowTask, Stop, Summary, Task};
+use capnp_streams::streams::{self, Command, StreamError, ShowTask, Stop, Summary, Task};
 use std::alloc::{AllocError, Global};
 use std::fs::File;
 use std::io::{self, BufReader, Read};
@@ -202,7 +202,7 @@ fn answer<R: Read + Drop, W: BufferedOutput>(
     match run(rt, job, BufReaderInput::new(reader), output) {
         Ok(summary) => Ok(summary.holds),
         Err(stop) => {
-            if matches!(stop.fault, Fault::Frame(FrameError::WriteFailed)) {
+            if matches!(stop.fault, StreamError::Frame(FrameError::WriteFailed)) {
                 return Err(Unanswered::WriteFailed);
             }
             pass_on(output)?;
@@ -239,7 +239,7 @@ fn run<R: BufferedInput + Drop, W: BufferedOutput>(
 }
 
 /// The result of a run over one message, after its answer.
-fn only(answered: Result<bool, Fault>) -> Result<Summary, Stop> {
+fn only(answered: Result<bool, StreamError>) -> Result<Summary, Stop> {
     match answered {
         Ok(holds) => Ok(Summary {
             messages: 1,

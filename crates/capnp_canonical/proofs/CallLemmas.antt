@@ -29,7 +29,7 @@ use Rattle.capnp_messages.specs.declared.messages.command.Form.{Form}
 use Rattle.capnp_messages.specs.declared.messages.command.Form.TheVariants.{Framed, Flat}
 use Rattle.capnp_messages.proofs.AnsweredLemmas.{answer_refused, check_alone, check_refused, size_refused}
 use Rattle.capnp_messages.proofs.FramesLemmas.{no_bytes_begin}
-use Rattle.capnp_canonical.specs.Calls.{AreWholeWords, Fills, InFrame, IsCopyOf, IsGranted, IsOneSegment, RefusesBytes, RefusesMeaning, RefusesRoom, RefusesSegments, RefusesSegment, TestFinds, TestIs, no_fault, table_bytes, told_fault}
+use Rattle.capnp_canonical.specs.Calls.{AreWholeWords, Fills, InFrame, IsCopyOf, IsGranted, IsOneSegment, RefusesBytes, RefusesMeaning, RefusesRoom, RefusesSegments, RefusesSegment, TestFinds, TestIs, no_fault, table_bytes, c_fault}
 use Rattle.capnp_canonical.specs.Numbers.{answer_number}
 use Rattle.capnp_canonical.specs.declared.fault.Fault.{Fault}
 use Rattle.capnp_canonical.specs.declared.refusal.Refusal.{Refusal}
@@ -100,7 +100,7 @@ test_finds limits S None exactly within fault = within
 test_finds limits S (Some f) exactly within fault = (λ is. (let wrong : true ≡ false = exactly.1 is in cc), fault)
 
 pub test_told : (limits : ReaderOptions) (S : Segments) (told : Fault) (o : Option CanonicalFault) (b : Bool) →
-    is_some o ≡ not b → IfSome o (λ f. told ≡ told_fault f) → (IsNone o → told ≡ no_fault) →
+    is_some o ≡ not b → IfSome o (λ f. told ≡ c_fault f) → (IsNone o → told ≡ no_fault) →
     TestFinds limits o S → TestIs limits b told S
 test_told limits S told None true e m n h = (h, n refl)
 test_told limits S told None false e m n h = absurd (let wrong : false ≡ true = e in cc)

@@ -16,7 +16,7 @@ use Rattle.capnp_arena.specs.declared.arena.reader_arena_impl.ReaderOptions.{Rea
 use Rattle.capnp_objects.specs.declared.object.Purpose.TheVariants.{Value}
 use Rattle.capnp_objects.specs.Enter.{Shape, capability, flat, nothing, pointers, read, struct, structs}
 use Rattle.capnp_objects.specs.Metered.{onward, outcome}
-use Rattle.capnp_objects.specs.Reading.{Reading, behind}
+use Rattle.capnp_objects.specs.Reading.{Reading, place_past}
 use Rattle.capnp_objects.specs.Source.{levels}
 use Rattle.capnp_pointers.specs.declared.pointers.sizes.MessageSize.{MessageSize}
 use Rattle.capnp_pointers.specs.Measure.{FitSize, measure, measure_pointers, only_words}
@@ -38,7 +38,7 @@ same_end {e} {f} is = sym (ap (λ (x : PathEnd). (end_place x).segments) (let th
 run_stays : (r : Reading) (n i : ℕ) (f : PathEnd) → end_at (pointer_in r n i) ≡ Ok f → (end_place f).segments ≡ r.segments
 run_stays r n i f e = chosen (nat_lt i n) e
   where
-    chosen : (b : Bool) → end_at (cond b (Ok (behind r i)) (Err NoSuchPlace)) ≡ Ok f → (end_place f).segments ≡ r.segments
+    chosen : (b : Bool) → end_at (cond b (Ok (place_past r i)) (Err NoSuchPlace)) ≡ Ok f → (end_place f).segments ≡ r.segments
     chosen true e = same_end e
     chosen false e = never e
 
@@ -58,7 +58,7 @@ object_stays r (capability j) i f e = never e
 object_stays r (flat s p z n) i f e = never e
 
 step_stays : (e : PathEnd) (i : ℕ) (m m' : Meter) (f : PathEnd) → step e i m ≡ (Ok f, m') → (end_place f).segments ≡ (end_place e).segments
-step_stays (to_element r d q) i m m' f e = run_stays (behind r d) q i f (ap (λ o. o.0) e)
+step_stays (to_element r d q) i m m' f e = run_stays (place_past r d) q i f (ap (λ o. o.0) e)
 step_stays (to_pointer r) i m m' f e = entered (read Value r m) e
   where
     entered : (o : Result Shape ErrorKind × Meter) → onward (λ o. outcome (end_in r o i)) o ≡ (Ok f, m') → (end_place f).segments ≡ r.segments
@@ -104,10 +104,10 @@ pointers_add r no_trees c z y m m' fits means is =
     let same : z ≡ y = (let both = ap (λ o. o.0) is in cc both) in
     record { words = omega (arith, ap (λ (x : MessageSize). x.word_count) same); caps = omega (arith, ap (λ (x : MessageSize). x.cap_count) same) }
 pointers_add r (tree t ts) c z y m m' fits (a, b, one, rest, g) is =
-    go (λ x n held after. pointers_add (behind r 1) ts b x y n m' held rest after) (measure r z m) (value_counts r r.levels t (a, one) z m fits) is
+    go (λ x n held after. pointers_add (place_past r 1) ts b x y n m' held rest after) (measure r z m) (value_counts r r.levels t (a, one) z m fits) is
   where
-    go : ((x : MessageSize) (n : Meter) → FitSize x.word_count x.cap_count → measure_pointers (count ts) (behind r 1) x n ≡ (Ok y, m') → Adds x y ts) → (o : Result MessageSize ErrorKind × Meter) → Counts r z m (of_tree t a) o →
-        onward (measure_pointers (count ts) (behind r 1)) o ≡ (Ok y, m') → Adds z y (tree t ts)
+    go : ((x : MessageSize) (n : Meter) → FitSize x.word_count x.cap_count → measure_pointers (count ts) (place_past r 1) x n ≡ (Ok y, m') → Adds x y ts) → (o : Result MessageSize ErrorKind × Meter) → Counts r z m (of_tree t a) o →
+        onward (measure_pointers (count ts) (place_past r 1)) o ≡ (Ok y, m') → Adds z y (tree t ts)
     go others (Ok x, n) first after =
         let next = others x n first.fits after in
         record { words = omega (arith, first.words, next.words); caps = omega (arith, first.caps, next.caps) }
@@ -116,8 +116,8 @@ pointers_add r (tree t ts) c z y m m' fits (a, b, one, rest, g) is =
 end_size_is : (e : PathEnd) (m m' : Meter) (z : MessageSize) (t : Tree) (c : ℕ) → IsEndThere e → measure_end e m ≡ (Ok z, m') → EndMeans e t c → z ≡ value_size t
 end_size_is (to_pointer r) m m' z t c there is means = size_is r r.levels m m' z t c is means
 end_size_is (to_element r d q) m m' z t c there is (ws, ts, same, long, many, here, means) =
-    let measured : measure_pointers (count ts) (behind r d) (only_words (d + q)) m ≡ (Ok z, m') = ap (λ n. measure_pointers n (behind r d) (only_words (d + q)) m) many ∙ is in
-    let adds = pointers_add (behind r d) ts c (only_words (d + q)) z m m' (omega (arith, there.few_words, there.few_pointers), omega arith) means measured in
+    let measured : measure_pointers (count ts) (place_past r d) (only_words (d + q)) m ≡ (Ok z, m') = ap (λ n. measure_pointers n (place_past r d) (only_words (d + q)) m) many ∙ is in
+    let adds = pointers_add (place_past r d) ts c (only_words (d + q)) z m m' (omega (arith, there.few_words, there.few_pointers), omega arith) means measured in
     let words : z.word_count ≡ word_count (Struct ws ts) = omega (arith, adds.words, long, many) in
     let caps : z.cap_count ≡ capabilities (Struct ws ts) = omega (arith, adds.caps) in
     ap₂ (λ i j. record { word_count = i; cap_count = j }) words caps ∙ ap value_size (sym same)

@@ -146,8 +146,8 @@ table_bytes Flat = 0
 abbrev pub no_fault : Fault
 no_fault = record { reason = 0; word = 0; segment = 0 }
 
-abbrev pub told_fault : CanonicalFault → Fault
-told_fault f = record { reason = reason_number f.reason; word = f.word; segment = f.segment }
+abbrev pub c_fault : CanonicalFault → Fault
+c_fault f = record { reason = reason_number f.reason; word = f.word; segment = f.segment }
 
 -- The test of a message finds a fault, or none if the message is the canonical one of a value within the limits.
 abbrev pub TestFinds : ReaderOptions → Option CanonicalFault → Segments → Type 0
@@ -158,4 +158,4 @@ TestFinds limits (Some f) S = (IsCanonicalMessage S → ⊥) × IsFaultOf S limi
 abbrev pub TestIs : ReaderOptions → Bool → Fault → Segments → Type 0
 TestIs limits true fault S = IsCanonicalWithin S limits × (fault ≡ no_fault)
 TestIs limits false fault S =
-    (IsCanonicalMessage S → ⊥) × ((f : CanonicalFault) × IsFaultOf S limits f × (fault ≡ told_fault f))
+    (IsCanonicalMessage S → ⊥) × ((f : CanonicalFault) × IsFaultOf S limits f × (fault ≡ c_fault f))

@@ -19,11 +19,11 @@ command_of_reading reading =
 abbrev pub no_pointer : BrokenPointer
 no_pointer = record { refusal = 0; word = 0; segment = 0 }
 
-abbrev pub told_pointer : Option RefusedPointer → BrokenPointer
-told_pointer (Some p) =
+abbrev pub c_pointer : Option RefusedPointer → BrokenPointer
+c_pointer (Some p) =
     record { refusal = error_number p.refusal; word = p.word; segment = p.segment }
-told_pointer None = no_pointer
+c_pointer None = no_pointer
 
 -- The pointer at which this reading of S stops, within the limits, is p.
 abbrev pub PointerIs : ℕ → ReaderOptions → BrokenPointer → Segments → Type 0
-PointerIs reading limits p S = p ≡ told_pointer (refused_pointer (command_of_reading reading) S limits)
+PointerIs reading limits p S = p ≡ c_pointer (refused_pointer (command_of_reading reading) S limits)

@@ -18,8 +18,8 @@ or_zero None = 0
 abbrev pub no_extent : SoundMessage
 no_extent = record { words = 0; capabilities = 0; cost = 0; depth = 0 }
 
-abbrev pub told_extent : MessageExtent → SoundMessage
-told_extent x =
+abbrev pub c_extent : MessageExtent → SoundMessage
+c_extent x =
     record {
       words = x.value.words;
       capabilities = x.value.capabilities;
@@ -30,7 +30,7 @@ told_extent x =
 -- S means a value within the limits, with this extent.
 abbrev pub ExtentIs : ReaderOptions → SoundMessage → Segments → Type 0
 ExtentIs limits extent S =
-    (x : MessageExtent) × HasExtent S limits x × (extent ≡ told_extent x)
+    (x : MessageExtent) × HasExtent S limits x × (extent ≡ c_extent x)
 
 -- S doesn't mean a value within the limits, for the reason that `validate` has.
 abbrev pub RefusesExtent : ReaderOptions → Segments → Refusal → Type 0

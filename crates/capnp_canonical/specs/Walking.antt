@@ -15,8 +15,8 @@ walk_answer (Some p) n room = error_number p.refusal
 walk_answer None n room = if nat_lt room n then 1 else 0
 
 -- What a walk leaves in the array `old`, the number of its objects, and its answer.
-abbrev pub told_walk : Walking (List WalkedObject) → List WalkedObject → List WalkedObject × ℕ × ℕ
-told_walk w old =
+abbrev pub c_walk : Walking (List WalkedObject) → List WalkedObject → List WalkedObject × ℕ × ℕ
+c_walk w old =
     let n = capped (length w.0) in
     (written_over w.0 old, n, walk_answer w.1 n (length old))
 

@@ -3,7 +3,7 @@ ghost use Rattle.std.specs.Prelude.{◌≡◌, ◌⊎◌, IfOk, IfErr};
 ghost use Rattle.capnp_format.specs.Bytes.{message};
 ghost use Rattle.capnp_arena_traits.specs.Limits.{IsSmall};
 ghost use Rattle.capnp_canonical.specs.Calls.{InFrame, InSegments, InWords, RefusesBytes, RefusesSegment, RefusesSegments, limits_of};
-ghost use Rattle.capnp_canonical.specs.Validation.{ExtentIs, RefusesExtent, told_extent};
+ghost use Rattle.capnp_canonical.specs.Validation.{ExtentIs, RefusesExtent, c_extent};
 
 use crate::calls::Limits;
 use crate::frames::message_in;
@@ -39,7 +39,7 @@ pub const NOT_SOUND: SoundMessage = SoundMessage {
 impl SoundMessage {
     /// Returns the extent that was found.
     fn of(found: MessageExtent) -> Self
-        ensures { result ≡ told_extent found }
+        ensures { result ≡ c_extent found }
     {
         SoundMessage {
             words: found.value.words,

@@ -1,6 +1,6 @@
 //! The fault of a message that isn't canonical, in the form for C.
 ghost use Rattle.std.specs.Prelude.{◌≡◌, IfSome, IsNone};
-ghost use Rattle.capnp_canonical.specs.Calls.{no_fault, told_fault};
+ghost use Rattle.capnp_canonical.specs.Calls.{no_fault, c_fault};
 ghost use Rattle.capnp_canonical.specs.Numbers.{reason_number};
 
 use capnp_pointers::pointers::{CanonicalFault, CanonicalFaultReason};
@@ -49,7 +49,7 @@ fn number_of(reason: CanonicalFaultReason) -> u32
 impl Fault {
     /// Returns the fault `found` with its reason as a number; `NO_FAULT` for `None`.
     pub fn of(found: Option<CanonicalFault>) -> Self
-        ensures fault { IfSome found (λ f. result ≡ told_fault f) }
+        ensures fault { IfSome found (λ f. result ≡ c_fault f) }
         ensures none { IsNone found → result ≡ no_fault }
     {
         match found {

@@ -3,7 +3,7 @@ ghost use Rattle.std.specs.Prelude.{◌≡◌, IfOk, IfErr};
 ghost use Rattle.capnp_format.specs.Bytes.{message};
 ghost use Rattle.capnp_arena_traits.specs.Limits.{IsSmall};
 ghost use Rattle.capnp_canonical.specs.Calls.{InFrame, InSegments, InWords, RefusesBytes, RefusesSegment, RefusesSegments, limits_of};
-ghost use Rattle.capnp_canonical.specs.Locating.{PointerIs, command_of_reading, told_pointer};
+ghost use Rattle.capnp_canonical.specs.Locating.{PointerIs, command_of_reading, c_pointer};
 
 use crate::calls::Limits;
 use crate::frames::message_in;
@@ -36,7 +36,7 @@ pub const NO_POINTER: BrokenPointer = BrokenPointer {
 impl BrokenPointer {
     /// Returns the pointer that was found, with its refusal as a number; `NO_POINTER` for `None`.
     fn of(found: Option<RefusedPointer>) -> Self
-        ensures { result ≡ told_pointer found }
+        ensures { result ≡ c_pointer found }
     {
         match found {
             Some(pointer) => BrokenPointer {

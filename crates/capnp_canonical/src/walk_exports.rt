@@ -4,7 +4,7 @@ ghost use Rattle.capnp_format.specs.Bytes.{message};
 ghost use Rattle.capnp_arena_traits.specs.Limits.{IsSmall};
 ghost use Rattle.capnp_canonical.specs.Calls.{InFrame, InSegments, InWords, RefusesBytes, RefusesSegment, RefusesSegments, limits_of};
 ghost use Rattle.capnp_walks.specs.Walks.{walk_message};
-ghost use Rattle.capnp_canonical.specs.Walking.{NotWalked, told_walk};
+ghost use Rattle.capnp_canonical.specs.Walking.{NotWalked, c_walk};
 
 use crate::calls::Limits;
 use crate::frames::message_in;
@@ -22,7 +22,7 @@ fn walk<S: ReaderSegments + Drop>(
     count: &mut usize,
 ) -> u32
     requires { IsSmall (S.segments segments) }
-    ensures { (objects.new, count.new, result) ≡ told_walk (walk_message
+    ensures { (objects.new, count.new, result) ≡ c_walk (walk_message
         (message (S.segments segments)) (limits_of limits.nesting limits.words)) objects.old }
 {
     let walked = walk_of(segments, limits.options(), objects);
@@ -59,7 +59,7 @@ pub extern "C" fn capnp_canonical_walk(
     count: &mut usize,
 ) -> u32
     ensures { InFrame frame.now words (λ S. (objects.new, count.new, result)
-        ≡ told_walk (walk_message S (limits_of nesting words)) objects.old)
+        ≡ c_walk (walk_message S (limits_of nesting words)) objects.old)
         ⊎ NotWalked (RefusesBytes frame.now words) objects.old objects.new count.new result }
 {
     match message_in(frame, words) {
@@ -81,7 +81,7 @@ pub extern "C" fn capnp_canonical_segments_walk(
     count: &mut usize,
 ) -> u32
     ensures { InSegments segments.now (λ S. (objects.new, count.new, result)
-        ≡ told_walk (walk_message S (limits_of nesting words)) objects.old)
+        ≡ c_walk (walk_message S (limits_of nesting words)) objects.old)
         ⊎ NotWalked (RefusesSegments segments.now) objects.old objects.new count.new result }
 {
     match LentSegments::new(segments) {
@@ -103,7 +103,7 @@ pub extern "C" fn capnp_canonical_words_walk(
     count: &mut usize,
 ) -> u32
     ensures { InWords bytes.now (λ S. (objects.new, count.new, result)
-        ≡ told_walk (walk_message S (limits_of nesting words)) objects.old)
+        ≡ c_walk (walk_message S (limits_of nesting words)) objects.old)
         ⊎ NotWalked (RefusesSegment bytes.now) objects.old objects.new count.new result }
 {
     match message_of(bytes) {

@@ -6,7 +6,7 @@ use Rattle.capnp_format.specs.Tree.{Tree, Null}
 use Rattle.capnp_format.specs.Forest.{times, cover}
 use Rattle.capnp_arena_traits.specs.View.{View}
 use Rattle.capnp_arena_traits.specs.declared.arena.WordPlace.{WordPlace}
-use Rattle.capnp_making.specs.Memory.{StandsBehind}
+use Rattle.capnp_making.specs.Memory.{ComesAfter}
 use Rattle.capnp_format.specs.Path.{extent, word_interval}
 use Rattle.capnp_making.specs.Stored.{IsReplaced, IsStored}
 use Rattle.capnp_making.specs.Zeroed.{IsApart, IsZeroed}
@@ -28,14 +28,14 @@ old_zeroed S M R s p u zeroed made = λ t stored v r held.
     made.kept v r beside (omega (arith, stored.inside v r some, z.words v)) ∙ z.zero v r some)
 
 -- An object that is after all that was there starts at or after the old end of its segment.
-starts_behind : (old : View) (id n : ℕ) (h : WordPlace) → 0 < n → StandsBehind old id n h → length (segment old.words h.segment) ≤ h.at
+starts_behind : (old : View) (id n : ℕ) (h : WordPlace) → 0 < n → ComesAfter old id n h → length (segment old.words h.segment) ≤ h.at
 starts_behind old id n h some x = elim (cases_lt (old.room id) (length (segment old.words id) + n)) [
   | inl full ↦ (let (next, start) = x.far full in omega (arith, start))
   | inr fits ↦ (let (there, start) = x.near some (omega (arith, fits)) in omega (arith, start, ap (λ v. length (segment old.words v)) there))
 ]
 
 -- Then bytes are written in the object: the old words stay zero.
-pub old_beside : (old : View) (M R : Segments) (id p n : ℕ) (h : WordPlace) (xs : List ℕ) → ZeroesOld old.words M id p → StandsBehind old id n h → WritesBytes M R h xs → length xs ≤ 8 * n →
+pub old_beside : (old : View) (M R : Segments) (id p n : ℕ) (h : WordPlace) (xs : List ℕ) → ZeroesOld old.words M id p → ComesAfter old id n h → WritesBytes M R h xs → length xs ≤ 8 * n →
     h.at + n ≤ length (segment M h.segment) → ZeroesOld old.words R id p
 old_beside old M R id p n h xs zero behind writes enough claim = λ t stored v r held.
     (let whole = times-first (word_interval id p) (cover old.words id p t) v r in

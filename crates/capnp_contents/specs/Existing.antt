@@ -168,13 +168,13 @@ pub record FindsListAt (S : Segments) (s p : ℕ) (expected : ElementSize)
   pub few : IfOk result (λ found. IfSome found (λ list. list.count < 2 ^ 30))
 
 -- The sections of the struct e are inside their segment.
-abbrev pub StructLiesIn : Segments → ExistingStruct → Type 0
-StructLiesIn S e = e.start + e.size.data_words + e.size.pointers ≤ length (segment S e.segment)
+abbrev pub IsStructInside : Segments → ExistingStruct → Type 0
+IsStructInside S e = e.start + e.size.data_words + e.size.pointers ≤ length (segment S e.segment)
 
 -- The struct that is found at (s, p), with its own size. Its sections are inside their segment.
 pub record FindsStructAt (S : Segments) (s p : ℕ) (result : Option ExistingStruct) : Type 0 where
   pub found : (t : Tree) → IsStored S s p t → result ≡ struct_in (target S s p) t
-  pub inside : IfSome result (StructLiesIn S)
+  pub inside : IfSome result (IsStructInside S)
 
 -- The n bytes at the target a.
 abbrev pub bytes_at : Target → ℕ → ExistingBytes
@@ -195,8 +195,8 @@ abbrev pub AreInside : Segments → ExistingBytes → Type 0
 AreInside S b = b.start + words_for 2 b.length ≤ length (segment S b.segment)
 
 -- The words that hold the bytes b are inside their segment, which is there.
-abbrev pub BytesLieIn : Segments → ExistingBytes → Type 0
-BytesLieIn S b = (b.segment < length S) × AreInside S b
+abbrev pub AreBytesInside : Segments → ExistingBytes → Type 0
+AreBytesInside S b = (b.segment < length S) × AreInside S b
 
 -- n bytes from word p on.
 abbrev pub bytes_in : List ℕ → ℕ → ℕ → List ℕ

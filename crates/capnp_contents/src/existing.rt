@@ -10,7 +10,7 @@ ghost use Rattle.capnp_format.specs.Word.{data_words, list_count, offset_bits, p
 ghost use Rattle.capnp_words.specs.Sizes.{size_number};
 ghost use Rattle.capnp_making.specs.Landings.{target_of};
 ghost use Rattle.capnp_making.specs.Stored.{IsStored};
-ghost use Rattle.capnp_contents.specs.Existing.{BytesLieIn, capability_of, capability_in, listed, landing_in, is_unfound, plain_misfit, structs_misfit, unless, plain_list, struct_list, data_in, text_in, AreInside, FindsAt, FindsListAt, FindsStructAt, bytes_in, ends_in_zero};
+ghost use Rattle.capnp_contents.specs.Existing.{AreBytesInside, capability_of, capability_in, listed, landing_in, is_unfound, plain_misfit, structs_misfit, unless, plain_list, struct_list, data_in, text_in, AreInside, FindsAt, FindsListAt, FindsStructAt, bytes_in, ends_in_zero};
 
 use capnp_arena_traits::arena::BuilderArena;
 use capnp_making::landing::{PointerTarget, landing_of, length_of, word_of};
@@ -368,7 +368,7 @@ pub fn get_text<A: BuilderArena>(
 
 /// Whether the segment of `bytes` exists, and has all these bytes.
 pub fn are_inside<A: BuilderArena>(arena: &A, bytes: ExistingBytes) -> bool
-    ensures { IsTrue result ↔ BytesLieIn (A.view arena.now).words bytes }
+    ensures { IsTrue result ↔ AreBytesInside (A.view arena.now).words bytes }
 {
     match arena.get_segment(bytes.segment) {
         Ok(segment) => {

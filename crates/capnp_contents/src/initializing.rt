@@ -9,7 +9,7 @@ ghost use Rattle.capnp_words.specs.Sizes.{size_number};
 ghost use Rattle.capnp_arena_traits.specs.View.{KeepsLimits};
 ghost use Rattle.capnp_making.specs.Made.{zero_struct, zero_structs, zero_list, list_words};
 ghost use Rattle.capnp_making.specs.Makes.{call_at};
-ghost use Rattle.capnp_making.specs.Near.{HasOwnRoom, StartsBehind};
+ghost use Rattle.capnp_making.specs.Near.{HasOwnRoom, StartsAtEnd};
 ghost use Rattle.capnp_making.specs.Stored.{Puts};
 ghost use Rattle.capnp_making.specs.Zeroed.{IsPrunedBut};
 ghost use Rattle.capnp_contents.specs.Initialized.{GivesObject};
@@ -77,7 +77,7 @@ pub fn init_list<A: BuilderArena>(
     ensures gives { GivesObject result (call_at id at (A.view arena.old) (A.view arena.new))
         (zero_list (size_number size) count) (list_words (size_number size) count) }
     ensures at_end { HasOwnRoom (A.view arena.old) id (list_words (size_number size) count)
-        → IfOk result (StartsBehind (A.view arena.old).words id) }
+        → IfOk result (StartsAtEnd (A.view arena.old).words id) }
     ensures grows { Grows (A.view arena.old).words (A.view arena.new).words }
 {
     zero_object(arena, id, at);

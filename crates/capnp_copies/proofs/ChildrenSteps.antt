@@ -7,7 +7,7 @@ use Rattle.capnp_format.specs.Canonical.{word_count_all}
 use Rattle.capnp_format.proofs.Children.{with_last}
 use Rattle.capnp_arena_traits.specs.View.{View}
 use Rattle.capnp_arena_traits.specs.Written.{with_segment}
-use Rattle.capnp_objects.specs.Reading.{Reading, behind}
+use Rattle.capnp_objects.specs.Reading.{Reading, place_past}
 use Rattle.capnp_objects.specs.Wanted.{Form}
 use Rattle.capnp_copies.specs.Copied.{with_children}
 use Rattle.capnp_copies.proofs.Copied.{copied}
@@ -32,7 +32,7 @@ pub now_long : {b : Form} {r : Reading} {old mid : View} {id i at : ℕ} {m m' :
 now_long {b = b} {old = old} {id = id} {at = at} le first = length_children (segment old.words id) at (kept_each b first.children) (shaped first) (omega (arith, first.counts, kept_each-count b first.children))
 
 -- The next child, once it is copied.
-pub child_put : {b : Form} {r : Reading} {old mid new : View} {id i at : ℕ} {m m' m'' : Meter} → IsPlace old.words id (at + i) → length (segment mid.words id) < 2 ^ 29 → (first : CopiesChildren r i (call_of b old mid id m m') at) → (next : CopiesValue (behind r i) (call_of b mid new id m' m'') (at + i)) →
+pub child_put : {b : Form} {r : Reading} {old mid new : View} {id i at : ℕ} {m m' m'' : Meter} → IsPlace old.words id (at + i) → length (segment mid.words id) < 2 ^ 29 → (first : CopiesChildren r i (call_of b old mid id m m') at) → (next : CopiesValue (place_past r i) (call_of b mid new id m' m'') (at + i)) →
     AreCopied old.words new.words id at (kept_each b (with_last first.children next.value))
 child_put {b} {r} {old} {mid} {new} {id} {i} {at} {m} {m'} {m''} place few first next =
     let W : List ℕ = segment old.words id in

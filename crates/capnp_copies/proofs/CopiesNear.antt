@@ -6,7 +6,7 @@ use Rattle.capnp_format.specs.Tree.{Tree, Trees, Elements, count, element_count}
 use Rattle.capnp_arena_traits.specs.View.{View}
 use Rattle.capnp_arena_traits.specs.Written.{with_segment, overwritten, extended}
 use Rattle.capnp_objects.specs.Outcomes.{Reads, ReadsAll, ReadsElements}
-use Rattle.capnp_objects.specs.Reading.{Reading, behind, words_from}
+use Rattle.capnp_objects.specs.Reading.{Reading, place_past, words_from}
 use Rattle.capnp_objects.specs.Wanted.{Form}
 use Rattle.capnp_format.specs.Canonical.{cut_to}
 use Rattle.capnp_copies.specs.Forms.{kept, kept_each, kept_elements}
@@ -55,7 +55,7 @@ pub record CopiesElements (r : Reading) (sizes : ElementSizes) (i : ℕ) (c : Ca
 pub record CopiesElement (r : Reading) (sizes : ElementSizes) (c : Call) (at : ℕ) : Type 0 where
   pub children : Trees
   pub counts : count children ≡ sizes.kept.pointers
-  pub are_read : ReadsAll c.form (behind r sizes.source.data_words) c.before c.after children
+  pub are_read : ReadsAll c.form (place_past r sizes.source.data_words) c.before c.after children
   pub made :
       c.new.words
       ≡ with_segment c.old.words c.id

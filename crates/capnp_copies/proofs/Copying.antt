@@ -5,7 +5,7 @@ use Rattle.capnp_format.specs.Tree.{Tree}
 use Rattle.capnp_format.specs.Canonical.{encoding}
 use Rattle.capnp_arena_traits.proofs.WordsOver.{segment_here}
 use Rattle.capnp_words.specs.declared.error.ErrorKind.{ErrorKind}
-use Rattle.capnp_copies.specs.Changes.{Change, StopsCopy}
+use Rattle.capnp_copies.specs.Changes.{CopyCall, StopsCopy}
 use Rattle.capnp_copies.proofs.Copied.{copied}
 use Rattle.capnp_copies.specs.Originals.{Original}
 use Rattle.capnp_copies.proofs.InPlace.{IsCopied}
@@ -20,7 +20,7 @@ there (xs ∷ S) (suc s) p l = omega (arith, there S s p l)
 -- Copies.
 
 -- A copy is refused, and leaves some value.
-abbrev pub StopsHalfway : Original Tree → Change → ErrorKind → Type 0
+abbrev pub StopsHalfway : Original Tree → CopyCall → ErrorKind → Type 0
 StopsHalfway o c k = (t : Tree) × StopsCopy o c t k
 
 -- After a copy into a segment of one zero word, the segment is the encoding of the value.

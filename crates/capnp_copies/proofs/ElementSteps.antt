@@ -9,7 +9,7 @@ use Rattle.capnp_format.proofs.Slices.{length_words}
 use Rattle.capnp_arena_traits.specs.View.{View}
 use Rattle.capnp_arena_traits.specs.Written.{with_segment, with_words, overwritten}
 use Rattle.capnp_objects.specs.Outcomes.{ReadsElements}
-use Rattle.capnp_objects.specs.Reading.{Reading, behind, segment_read, words_from}
+use Rattle.capnp_objects.specs.Reading.{Reading, place_past, segment_read, words_from}
 use Rattle.capnp_objects.specs.Wanted.{Form}
 use Rattle.capnp_objects.proofs.Copies.{with_last_element}
 use Rattle.capnp_copies.specs.Forms.{kept_each, kept_elements}
@@ -34,7 +34,7 @@ pub record DataPut (r : Reading) (sizes : ElementSizes) (old mid : View) (id at 
 
 -- The children of an element, once its words are written.
 pub children_put : {b : Form} {r : Reading} {sizes : ElementSizes} {old mid new : View} {id at : ℕ} {us : List ℕ} {m m' : Meter} → DataPut r sizes old mid id at us →
-    (children : CopiesChildren (behind r sizes.source.data_words) sizes.kept.pointers (call_of b mid new id m m') (at + sizes.kept.data_words)) →
+    (children : CopiesChildren (place_past r sizes.source.data_words) sizes.kept.pointers (call_of b mid new id m m') (at + sizes.kept.data_words)) →
     new.words ≡ with_segment old.words id (with_children (overwritten (segment old.words id) at (words_from r sizes.kept.data_words)) (at + sizes.kept.data_words) (kept_each b children.children))
 children_put {b} {r} {sizes} {old} {mid} {new} {id} {at} {us} put children =
     let e : ℕ = sizes.kept.data_words in
@@ -128,7 +128,7 @@ next_inside {r} {sizes} {n} {i} width here is =
 
 -- The words of the next element, and of its children, once they are written.
 pub row_put : {b : Form} {r : Reading} {sizes : ElementSizes} {n i w id at : ℕ} {old mid new : View} {m m' m'' : Meter} (here : AtRow r sizes n i w (call_of b old mid id m m') at) →
-    (next : CopiesElement (behind r (i * (sizes.source.data_words + sizes.source.pointers))) sizes (call_of b mid new id m' m'') (at + i * w)) →
+    (next : CopiesElement (place_past r (i * (sizes.source.data_words + sizes.source.pointers))) sizes (call_of b mid new id m' m'') (at + i * w)) →
     new.words
     ≡ with_segment old.words id
     (rows_laid (take at (segment old.words id)) sizes.kept.data_words sizes.kept.pointers

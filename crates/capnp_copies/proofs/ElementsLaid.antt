@@ -5,7 +5,7 @@ use Rattle.std.proofs.lemmas.List.{take-take}
 use Rattle.capnp_format.specs.Segments.{Segments, segment, words_at}
 use Rattle.capnp_format.specs.Tree.{Trees, no_trees, tree, Elements, no_elements, element, count, element_count}
 use Rattle.capnp_words.specs.declared.wire_pointer.StructSize.{StructSize}
-use Rattle.capnp_objects.specs.Reading.{Reading, behind, pointers_of}
+use Rattle.capnp_objects.specs.Reading.{Reading, place_past, pointers_of}
 use Rattle.capnp_objects.specs.Wanted.{Form}
 use Rattle.capnp_copies.specs.declared.widths.ElementSizes.{ElementSizes}
 use Rattle.capnp_format.specs.Canonical.{take_trees, cut_to, word_count_all, word_count_elements, rows, element_bodies}
@@ -83,7 +83,7 @@ one_row r no_trees no_trees h g len = refl
 one_row r no_trees (tree u us) h g len = absurd (omega arith)
 one_row r (tree t ts) no_trees h g len = absurd (omega arith)
 one_row r (tree t ts) (tree u us) (k, (x, y, first, others, f)) (c, (a, b, one, rest, g)) len =
-    ap₂ tree (one_value r.segments r.levels r.levels r.segment r.at t u x a first one).0 (one_row (behind r 1) ts us (y, others) (b, rest) (omega arith))
+    ap₂ tree (one_value r.segments r.levels r.levels r.segment r.at t u x a first one).0 (one_row (place_past r 1) ts us (y, others) (b, rest) (omega arith))
 
 -- One place means both lists of elements.
 abbrev pub BothMeant : Reading → StructSize → Elements → Elements → Type 0
@@ -101,7 +101,7 @@ next_element_words b r sizes no_elements (element ws ts us) (h, (c, (a, e, long,
 next_element_words b r sizes (element vs ts es) (element ws us os) ((k, (x, y, long', len', has', first, others, f)), (c, (a, e, long, len, has, one, rest, g))) lt =
     let d : ℕ = sizes.source.data_words in
     let q : ℕ = sizes.source.pointers in
-    let same = ap (λ v. word_count_all (take_trees sizes.kept.pointers (kept_each b v))) (one_row (behind r d) ts us (x, first) (a, one) (len' ∙ sym len)) in
+    let same = ap (λ v. word_count_all (take_trees sizes.kept.pointers (kept_each b v))) (one_row (place_past r d) ts us (x, first) (a, one) (len' ∙ sym len)) in
     let z = next_element_words b (record r { at = r.at + d + q }) sizes es os ((y, others), (e, rest)) (omega arith) in (
       z.0,
       z.1,

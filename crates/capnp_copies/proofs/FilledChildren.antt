@@ -14,11 +14,11 @@ use Rattle.capnp_making.proofs.FillingChains.{filled_grows, filled_ahead, filled
 use Rattle.capnp_making.proofs.Memory.{keeps_itself, keeps_both, keeps_then_spends}
 use Rattle.capnp_objects.specs.Outcomes.{Reads}
 use Rattle.capnp_objects.specs.Refusals.{Refused}
-use Rattle.capnp_objects.specs.Reading.{Reading, behind}
+use Rattle.capnp_objects.specs.Reading.{Reading, place_past}
 use Rattle.capnp_objects.specs.Wanted.{Form}
 use Rattle.capnp_objects.proofs.Copies.{read_none, read_more}
 use Rattle.capnp_copies.specs.Copied.{with_children}
-use Rattle.capnp_copies.specs.Changes.{change, MakesCopy, CopiesChildren, StopsAtChildren}
+use Rattle.capnp_copies.specs.Changes.{copy_call, MakesCopy, CopiesChildren, StopsAtChildren}
 use Rattle.capnp_copies.specs.Originals.{value_original, children_original}
 use Rattle.capnp_copies.specs.Forms.{kept, kept_each}
 use Rattle.capnp_copies.proofs.ChildrenCopied.{no_children}
@@ -32,7 +32,7 @@ use Rattle.capnp_copies.proofs.TooLarge.{child_too_large}
 use Rattle.capnp_copies.proofs.KeptChildren.{kept_none, kept_each-count, kept_each-with_last}
 use Rattle.capnp_making.specs.Makes.{call_at}
 
-pub no_child : (r : Reading) (b : Form) (s p : ℕ) (v : View) (m : Meter) → CopiesChildren r 0 (change b (call_at s p v v) m m)
+pub no_child : (r : Reading) (b : Form) (s p : ℕ) (v : View) (m : Meter) → CopiesChildren r 0 (copy_call b (call_at s p v v) m m)
 no_child r b s p v m = record {
   children = no_trees;
   counts = refl;
@@ -43,24 +43,24 @@ no_child r b s p v m = record {
 }
 
 -- No segment gets shorter while the first children are copied.
-pub children_grow : {r : Reading} {b : Form} {s p i : ℕ} {old mid : View} {m m' : Meter} → CopiesChildren r i (change b (call_at s p old mid) m m') → Grows old.words mid.words
+pub children_grow : {r : Reading} {b : Form} {s p i : ℕ} {old mid : View} {m m' : Meter} → CopiesChildren r i (copy_call b (call_at s p old mid) m m') → Grows old.words mid.words
 children_grow {b = b} {s = s} {p = p} {old = old} {mid = mid} first = filled_grows old.words mid.words s p (kept_each b first.children) first.made
 
 -- The pointer after them is unchanged.
-pub child_ahead : {r : Reading} {b : Form} {s p i : ℕ} {old mid : View} {m m' : Meter} → CopiesChildren r i (change b (call_at s p old mid) m m') → p + i < length (segment old.words s) → word_at mid.words s (p + i) ≡ word_at old.words s (p + i)
+pub child_ahead : {r : Reading} {b : Form} {s p i : ℕ} {old mid : View} {m m' : Meter} → CopiesChildren r i (copy_call b (call_at s p old mid) m m') → p + i < length (segment old.words s) → word_at mid.words s (p + i) ≡ word_at old.words s (p + i)
 child_ahead {b = b} {s = s} {p = p} {i = i} {old = old} {mid = mid} first place =
     filled_ahead old.words mid.words s p (kept_each b first.children) (p + i) first.made (omega (arith, kept_each-count b first.children, first.counts)) place
 
-one_filled : {r : Reading} {b : Form} {s p i : ℕ} {old mid : View} {m m' : Meter} (new : View) (t : Tree) (first : CopiesChildren r i (change b (call_at s p old mid) m m')) → IsReplaced mid.words new.words s (p + i) Null t → AreFilled old.words new.words s p (with_last (kept_each b first.children) t)
+one_filled : {r : Reading} {b : Form} {s p i : ℕ} {old mid : View} {m m' : Meter} (new : View) (t : Tree) (first : CopiesChildren r i (copy_call b (call_at s p old mid) m m')) → IsReplaced mid.words new.words s (p + i) Null t → AreFilled old.words new.words s p (with_last (kept_each b first.children) t)
 one_filled {b = b} {s = s} {p = p} {old = old} {mid = mid} new t first made =
     filled_more old.words mid.words new.words s p (kept_each b first.children) t first.made
     (subst (λ j. IsReplaced mid.words new.words s (p + j) Null t) (sym (kept_each-count b first.children ∙ first.counts)) made)
 
-pub child_copied : {r : Reading} {b : Form} {s p i : ℕ} {old mid new : View} {m m' m'' : Meter} → IsPlace old.words s (p + i) → length (segment mid.words s) < 2 ^ 29 → CopiesChildren r i (change b (call_at s p old mid) m m') → MakesCopy (value_original (behind r i)) (change b (call_at s (p + i) mid new) m' m'') → CopiesChildren r (i + 1) (change b (call_at s p old new) m m'')
+pub child_copied : {r : Reading} {b : Form} {s p i : ℕ} {old mid new : View} {m m' m'' : Meter} → IsPlace old.words s (p + i) → length (segment mid.words s) < 2 ^ 29 → CopiesChildren r i (copy_call b (call_at s p old mid) m m') → MakesCopy (value_original (place_past r i)) (copy_call b (call_at s (p + i) mid new) m' m'') → CopiesChildren r (i + 1) (copy_call b (call_at s p old new) m m'')
 child_copied {r} {b} {s} {p} {i} {old} {mid} {new} {m} {m'} {m''} place few first next =
     let ts : Trees = first.children in
     let u : Tree = next.value in
-    let here : Reads b (behind r (count ts)) m' m'' u = rw first.counts next.is_read in
+    let here : Reads b (place_past r (count ts)) m' m'' u = rw first.counts next.is_read in
     record {
       children = with_last ts u;
       counts = count-with_last ts u ∙ omega (arith, first.counts);
@@ -70,15 +70,15 @@ child_copied {r} {b} {s} {p} {i} {old} {mid} {new} {m} {m'} {m''} place few firs
       stands = child_tight b place few (children_grow first).segments next.made.segments first next;
     }
 
-pub child_stops : {r : Reading} {b : Form} {s p i n : ℕ} {old mid new : View} {m m' m'' : Meter} {k : ErrorKind} → IsPlace old.words s (p + i) → i < n → CopiesChildren r i (change b (call_at s p old mid) m m') → TakesForCopy (children_original r i) (change b (call_at s p old mid) m m') → StopsHalfway (value_original (behind r i)) (change b (call_at s (p + i) mid new) m' m'') k →
-    StopsAtChildren r n (change b (call_at s p old new) m m'') k
+pub child_stops : {r : Reading} {b : Form} {s p i n : ℕ} {old mid new : View} {m m' m'' : Meter} {k : ErrorKind} → IsPlace old.words s (p + i) → i < n → CopiesChildren r i (copy_call b (call_at s p old mid) m m') → TakesForCopy (children_original r i) (copy_call b (call_at s p old mid) m m') → StopsHalfway (value_original (place_past r i)) (copy_call b (call_at s (p + i) mid new) m' m'') k →
+    StopsAtChildren r n (copy_call b (call_at s p old new) m m'') k
 child_stops {r} {b} {s} {p} {i} {n} {old} {mid} {new} {m} {m'} {m''} {k} place less first taken (t, stop) =
     let ts : Trees = first.children in
     let fewer : count ts < n = omega (arith, first.counts) in
     record {
-      why = refuses_children r n (change b (call_at s p old new) m m'') k (elim stop.why [
+      why = refuses_children r n (copy_call b (call_at s p old new) m m'') k (elim stop.why [
         | inl x ↦ inl (child_comes new (there old.words s (p + i) place) less first.memory taken x.0, child_too_large b place less first x.1)
-        | inr y ↦ elim y [ inl x ↦ inr (record { first = ts; fewer = fewer; mid = m'; are_read = first.are_read; stops = (let h : Refused b (behind r (count ts)) m' m'' k = rw first.counts x in h) }) | inr none ↦ absurd none ]
+        | inr y ↦ elim y [ inl x ↦ inr (record { first = ts; fewer = fewer; mid = m'; are_read = first.are_read; stops = (let h : Refused b (place_past r (count ts)) m' m'' k = rw first.counts x in h) }) | inr none ↦ absurd none ]
       ]);
       left = with_last (kept_each b ts) t;
       few = omega (arith, count-with_last (kept_each b ts) t, kept_each-count b ts, first.counts);

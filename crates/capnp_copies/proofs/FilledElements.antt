@@ -15,11 +15,11 @@ use Rattle.capnp_making.proofs.FillingChains.{element_grows, elements_grow, elem
 use Rattle.capnp_making.proofs.Memory.{keeps_itself, keeps_both, keeps_written, keeps_then_spends, words_refused_after}
 use Rattle.capnp_making.proofs.WordsPut.{words_put}
 use Rattle.capnp_objects.specs.Outcomes.{ReadsAll}
-use Rattle.capnp_objects.specs.Reading.{Reading, behind, segment_read, words_from, pointers_of}
+use Rattle.capnp_objects.specs.Reading.{Reading, place_past, segment_read, words_from, pointers_of}
 use Rattle.capnp_objects.specs.Wanted.{Form, canonical}
 use Rattle.capnp_objects.proofs.Copies.{read_no_element, with_last_element}
 use Rattle.capnp_objects.proofs.Walked.{row_within}
-use Rattle.capnp_copies.specs.Changes.{Change, change, HasNulls, CopiesChildren, StopsAtChildren, CopiesRows, StopsAtElements, RefusesToCopy}
+use Rattle.capnp_copies.specs.Changes.{CopyCall, copy_call, HasNulls, CopiesChildren, StopsAtChildren, CopiesRows, StopsAtElements, RefusesToCopy}
 use Rattle.capnp_copies.specs.Forms.{kept_each, kept_elements}
 use Rattle.capnp_copies.specs.declared.widths.ElementSizes.{ElementSizes}
 use Rattle.capnp_copies.proofs.TightElements.{CopiesElement, element_tight, no_row_tight, no_width_tight, row_tight}
@@ -39,8 +39,8 @@ use Rattle.capnp_making.specs.Makes.{call_at}
 -- One element.
 
 -- A call that copies the kept sections of an element is refused.
-pub record StopsAtElement (r : Reading) (sizes : ElementSizes) (c : Change) (k : ErrorKind) : Type 0 where
-  pub why : RefusesToCopy (children_original (behind r sizes.source.data_words) sizes.kept.pointers) c k
+pub record StopsAtElement (r : Reading) (sizes : ElementSizes) (c : CopyCall) (k : ErrorKind) : Type 0 where
+  pub why : RefusesToCopy (children_original (place_past r sizes.source.data_words) sizes.kept.pointers) c k
   pub left : Trees
   pub few : count left ≤ sizes.kept.pointers
   pub made : IsElementFilled c.old.words c.new.words c.segment c.at (words_from r sizes.kept.data_words) left
@@ -64,8 +64,8 @@ element_made : {r : Reading} {sizes : ElementSizes} {old mid : View} {s p : ℕ}
 element_made {r} {sizes} {old} {mid} {s} {p} new ts put f =
     record { written = mid.words; writes = ap (λ (v : View). v.words) put.writes; filled = subst (λ i. AreFilled mid.words new.words s (p + i) ts) (sym (data_long put)) f }
 
-pub element_copied : {r : Reading} {sizes : ElementSizes} {b : Form} {s p : ℕ} {old mid new : View} {m m' : Meter} → DataWritten r sizes old mid s p → CopiesChildren (behind r sizes.source.data_words) sizes.kept.pointers (change b (call_at s (p + sizes.kept.data_words) mid new) m m') →
-    CopiesElement r sizes (change b (call_at s p old new) m m')
+pub element_copied : {r : Reading} {sizes : ElementSizes} {b : Form} {s p : ℕ} {old mid new : View} {m m' : Meter} → DataWritten r sizes old mid s p → CopiesChildren (place_past r sizes.source.data_words) sizes.kept.pointers (copy_call b (call_at s (p + sizes.kept.data_words) mid new) m m') →
+    CopiesElement r sizes (copy_call b (call_at s p old new) m m')
 element_copied {r} {sizes} {b} {s} {p} {old} {mid} {new} put children = record {
   children = children.children;
   counts = children.counts;
@@ -87,12 +87,12 @@ element_too_large b from n {r} {sizes} {s} {p} {old} {mid} put large =
     subst (AreTooLarge b from n (length (segment old.words s))) (data_room_as put) (subst (λ k. AreTooLarge b from n k (mid.room s)) (data_long_as put) large)
 
 pub element_stops : {r : Reading} {sizes : ElementSizes} {b : Form} {s p : ℕ} {old mid new : View} {m m' : Meter} {k : ErrorKind} → DataWritten r sizes old mid s p →
-    StopsAtChildren (behind r sizes.source.data_words) sizes.kept.pointers (change b (call_at s (p + sizes.kept.data_words) mid new) m m') k → StopsAtElement r sizes (change b (call_at s p old new) m m') k
+    StopsAtChildren (place_past r sizes.source.data_words) sizes.kept.pointers (copy_call b (call_at s (p + sizes.kept.data_words) mid new) m m') k → StopsAtElement r sizes (copy_call b (call_at s p old new) m m') k
 element_stops {r} {sizes} {b} {s} {p} {old} {mid} {new} {m} {m'} {k} put stop = record {
-  why = refuses_children (behind r sizes.source.data_words) sizes.kept.pointers (change b (call_at s p old new) m m') k (elim (children_refused (behind r sizes.source.data_words) sizes.kept.pointers (change b (call_at s (p + sizes.kept.data_words) mid new) m m') k stop.why) [
+  why = refuses_children (place_past r sizes.source.data_words) sizes.kept.pointers (copy_call b (call_at s p old new) m m') k (elim (children_refused (place_past r sizes.source.data_words) sizes.kept.pointers (copy_call b (call_at s (p + sizes.kept.data_words) mid new) m m') k stop.why) [
     | inl x ↦ inl (
       (x.0.0, x.0.1, (words_refused_after old mid new x.0.0 k (keeps_written old mid _ put.writes) x.0.2.0, omega (arith, x.0.2.1, data_long_as put, data_room_as put))),
-      element_too_large b (behind r sizes.source.data_words) sizes.kept.pointers put x.1,
+      element_too_large b (place_past r sizes.source.data_words) sizes.kept.pointers put x.1,
     )
     | inr x ↦ inr x
   ]);
@@ -110,7 +110,7 @@ elements_more S R Q s p d q no_elements ws ts e long len one =
 elements_more S R Q s p d q (element vs us es) ws ts (M, a, b, first, rest) long len one =
     (M, a, b, first, elements_more M R Q s (p + d + q) d q es ws ts rest long len (subst (λ i. IsElementFilled R Q s i ws ts) (let f : p + suc (element_count es) * (d + q) ≡ p + d + q + element_count es * (d + q) = grind arith in f) one))
 
-pub no_row : (r : Reading) (sizes : ElementSizes) (n : ℕ) (b : Form) (s p : ℕ) (v : View) (m : Meter) → CopiesRows r sizes 0 n (change b (call_at s p v v) m m)
+pub no_row : (r : Reading) (sizes : ElementSizes) (n : ℕ) (b : Form) (s p : ℕ) (v : View) (m : Meter) → CopiesRows r sizes 0 n (copy_call b (call_at s p v v) m m)
 no_row r sizes n b s p v m = record {
   elements = no_elements;
   counts = refl;
@@ -127,7 +127,7 @@ no_row r sizes n b s p v m = record {
     none _ = refl
 
 -- If no section is kept, there is nothing to copy.
-pub no_width : (r : Reading) (sizes : ElementSizes) (n : ℕ) (b : Form) (s p : ℕ) (v : View) (m : Meter) → SourceKept b r sizes n → sizes.kept.data_words + sizes.kept.pointers ≡ 0 → CopiesRows r sizes n 0 (change b (call_at s p v v) m m)
+pub no_width : (r : Reading) (sizes : ElementSizes) (n : ℕ) (b : Form) (s p : ℕ) (v : View) (m : Meter) → SourceKept b r sizes n → sizes.kept.data_words + sizes.kept.pointers ≡ 0 → CopiesRows r sizes n 0 (copy_call b (call_at s p v v) m m)
 no_width r sizes n b s p v m fits none =
     let no_data : 0 ≡ sizes.kept.data_words = omega arith in
     let no_pointers : 0 ≡ sizes.kept.pointers = omega arith in
@@ -149,7 +149,7 @@ pub record AtRow (r : Reading) (sizes : ElementSizes) (n i : ℕ) (b : Form) (s 
   pub zero : (j : ℕ) → j < n * (sizes.kept.data_words + sizes.kept.pointers) → word_at old.words s (p + j) ≡ 0
   pub wide : 0 < sizes.kept.data_words + sizes.kept.pointers
   pub more : i < n
-  pub rows : CopiesRows r sizes i (n - i) (change b (call_at s p old mid) m m')
+  pub rows : CopiesRows r sizes i (n - i) (copy_call b (call_at s p old mid) m m')
 
 module _ {r : Reading} {sizes : ElementSizes} {n i : ℕ} {b : Form} {s p : ℕ} {old mid : View} {m m' : Meter} (here : AtRow r sizes n i b s p old mid m m') where
   abbrev pub d : ℕ
@@ -190,17 +190,17 @@ module _ {r : Reading} {sizes : ElementSizes} {n i : ℕ} {b : Form} {s p : ℕ}
   next_inside = omega (arith, row_within i n (sizes.source.data_words + sizes.source.pointers) here.more, here.fits.inside)
 
   abbrev next_words : List ℕ
-  next_words = words_from (behind r (i * (sizes.source.data_words + sizes.source.pointers))) d
+  next_words = words_from (place_past r (i * (sizes.source.data_words + sizes.source.pointers))) d
 
   next_long : length next_words ≡ d
   next_long = length_words r.segments r.segment (r.at + i * (sizes.source.data_words + sizes.source.pointers)) d (omega (arith, next_inside, here.fits.less_data))
 
   -- The data words of the next row are written.
   pub row_written : {put : View} → put ≡ record mid { words = with_words mid.words s (p + i * (d + q)) next_words } →
-      DataWritten (behind r (i * (sizes.source.data_words + sizes.source.pointers))) sizes mid put s (p + i * (d + q))
+      DataWritten (place_past r (i * (sizes.source.data_words + sizes.source.pointers))) sizes mid put s (p + i * (d + q))
   row_written writes = record { inside = omega (arith, next_inside, here.fits.less_data); room = omega (arith, next_room); writes = writes }
 
-  pub row_copied : {new : View} {m'' : Meter} → CopiesElement (behind r (i * (sizes.source.data_words + sizes.source.pointers))) sizes (change b (call_at s (p + i * (d + q)) mid new) m' m'') → CopiesRows r sizes (i + 1) (n - (i + 1)) (change b (call_at s p old new) m m'')
+  pub row_copied : {new : View} {m'' : Meter} → CopiesElement (place_past r (i * (sizes.source.data_words + sizes.source.pointers))) sizes (copy_call b (call_at s (p + i * (d + q)) mid new) m' m'') → CopiesRows r sizes (i + 1) (n - (i + 1)) (copy_call b (call_at s p old new) m m'')
   row_copied {new} {m''} next =
       let es : Elements = here.rows.elements in
       let one : ReadsAll b (pointers_of r sizes.source (element_count es)) m' m'' next.children = rw here.rows.counts next.are_read in
@@ -208,7 +208,7 @@ module _ {r : Reading} {sizes : ElementSizes} {n i : ℕ} {b : Form} {s p : ℕ}
       let at : IsElementFilled mid.words new.words s (p + element_count laid * (d + q)) next_words (kept_each b next.children) = rw rows_before next.made in
       let made = elements_more old.words mid.words new.words s p d q laid next_words (kept_each b next.children) here.rows.made next_long (kept_each-count b next.children ∙ next.counts) at in
       let shape : cut_to d q (kept_elements b a.all) ≡ with_last_element laid next_words (kept_each b next.children) =
-      a.shape ∙ ap (λ j. with_last_element laid (words_from (behind r (j * (sizes.source.data_words + sizes.source.pointers))) d) (kept_each b next.children)) here.rows.counts in
+      a.shape ∙ ap (λ j. with_last_element laid (words_from (place_past r (j * (sizes.source.data_words + sizes.source.pointers))) d) (kept_each b next.children)) here.rows.counts in
       record {
         elements = a.all;
         counts = a.counts ∙ omega (arith, here.rows.counts);
@@ -218,12 +218,12 @@ module _ {r : Reading} {sizes : ElementSizes} {n i : ℕ} {b : Form} {s p : ℕ}
         stands = row_tight {r = r} {sizes = sizes} b row_place rows_grow.segments (element_grows mid.words new.words s (p + i * (d + q)) next_words (kept_each b next.children) next.made (omega (arith, next_room, next_long))).segments here.fits here.wide here.more here.rows next a.all shape;
       }
 
-  pub row_stops : {new : View} {m'' : Meter} {k : ErrorKind} → TakesForCopy (elements_original r sizes i) (change b (call_at s p old mid) m m') → StopsAtElement (behind r (i * (sizes.source.data_words + sizes.source.pointers))) sizes (change b (call_at s (p + i * (d + q)) mid new) m' m'') k → StopsAtElements r sizes n (change b (call_at s p old new) m m'') k
+  pub row_stops : {new : View} {m'' : Meter} {k : ErrorKind} → TakesForCopy (elements_original r sizes i) (copy_call b (call_at s p old mid) m m') → StopsAtElement (place_past r (i * (sizes.source.data_words + sizes.source.pointers))) sizes (copy_call b (call_at s (p + i * (d + q)) mid new) m' m'') k → StopsAtElements r sizes n (copy_call b (call_at s p old new) m m'') k
   row_stops {new} {m''} {k} taken stop =
       let es : Elements = here.rows.elements in
       let fewer : element_count es < n = omega (arith, here.rows.counts, here.more) in
       record {
-        why = elim (children_refused (pointers_of r sizes.source i) q (change b (call_at s (p + i * (d + q)) mid new) m' m'') k stop.why) [
+        why = elim (children_refused (pointers_of r sizes.source i) q (copy_call b (call_at s (p + i * (d + q)) mid new) m' m'') k stop.why) [
           | inl x ↦ inl (
             row_comes new here.fits (there old.words s p row_place) here.more here.rows.memory taken x.0,
             λ last. elements_large b r sizes n (length (segment old.words s)) (old.room s) (row_too_large {new = new} {m'' = m''} b here.fits here.wide here.more here.rows x.1 last),
@@ -278,17 +278,17 @@ module _ {r : Reading} {sizes : ElementSizes} {n i : ℕ} {b : Form} {s p : ℕ}
       }
 
   pub row_put : {put : View} {w v f : ℕ} {bs ws : List ℕ} → w ≡ sizes.source.data_words + sizes.source.pointers → v ≡ d + q → f ≡ d → bs ≡ segment_read r → ws ≡ take f (drop (r.at + i * w) bs) → put ≡ record mid { words = with_words mid.words s (p + i * v) ws } →
-      DataWritten (behind r (i * (sizes.source.data_words + sizes.source.pointers))) sizes mid put s (p + i * (d + q))
+      DataWritten (place_past r (i * (sizes.source.data_words + sizes.source.pointers))) sizes mid put s (p + i * (d + q))
   row_put {put} {w} {v} {f} {bs} {ws} is_w is_v is_f is_bs is_ws writes =
       let section : ws ≡ next_words = is_ws ∙ ap (λ j. take f (drop (r.at + i * j) bs)) is_w ∙ ap (λ j. take j (drop (r.at + i * (sizes.source.data_words + sizes.source.pointers)) bs)) is_f ∙ ap (λ us. take d (drop (r.at + i * (sizes.source.data_words + sizes.source.pointers)) us)) is_bs in
       row_written (writes ∙ ap (λ us. record mid { words = with_words mid.words s (p + i * v) us }) section ∙ ap (λ j. record mid { words = with_words mid.words s (p + i * j) next_words }) is_v)
 
   pub row_done : {put new : View} {m'' : Meter} {w v f g h l : ℕ} → w ≡ sizes.source.data_words + sizes.source.pointers → v ≡ d + q → f ≡ sizes.source.data_words → g ≡ d → h ≡ q → l ≡ r.levels →
-      DataWritten (behind r (i * (sizes.source.data_words + sizes.source.pointers))) sizes mid put s (p + i * (d + q)) → CopiesChildren (record (behind (behind r (i * w)) f) { levels = l }) h (change b (call_at s (p + i * v + g) put new) m' m'') →
-      CopiesRows r sizes (i + 1) (n - (i + 1)) (change b (call_at s p old new) m m'')
+      DataWritten (place_past r (i * (sizes.source.data_words + sizes.source.pointers))) sizes mid put s (p + i * (d + q)) → CopiesChildren (record (place_past (place_past r (i * w)) f) { levels = l }) h (copy_call b (call_at s (p + i * v + g) put new) m' m'') →
+      CopiesRows r sizes (i + 1) (n - (i + 1)) (copy_call b (call_at s p old new) m m'')
   row_done is_w is_v is_f is_g is_h is_l put children = row_copied (element_copied put (rw (is_w, is_v, is_f, is_g, is_h, is_l) at children))
 
-  pub row_refused : {put new : View} {m'' : Meter} {k : ErrorKind} {w v f g h l : ℕ} → w ≡ sizes.source.data_words + sizes.source.pointers → v ≡ d + q → f ≡ sizes.source.data_words → g ≡ d → h ≡ q → l ≡ r.levels → TakesForCopy (elements_original r sizes i) (change b (call_at s p old mid) m m') →
-      DataWritten (behind r (i * (sizes.source.data_words + sizes.source.pointers))) sizes mid put s (p + i * (d + q)) → StopsAtChildren (record (behind (behind r (i * w)) f) { levels = l }) h (change b (call_at s (p + i * v + g) put new) m' m'') k →
-      StopsAtElements r sizes n (change b (call_at s p old new) m m'') k
+  pub row_refused : {put new : View} {m'' : Meter} {k : ErrorKind} {w v f g h l : ℕ} → w ≡ sizes.source.data_words + sizes.source.pointers → v ≡ d + q → f ≡ sizes.source.data_words → g ≡ d → h ≡ q → l ≡ r.levels → TakesForCopy (elements_original r sizes i) (copy_call b (call_at s p old mid) m m') →
+      DataWritten (place_past r (i * (sizes.source.data_words + sizes.source.pointers))) sizes mid put s (p + i * (d + q)) → StopsAtChildren (record (place_past (place_past r (i * w)) f) { levels = l }) h (copy_call b (call_at s (p + i * v + g) put new) m' m'') k →
+      StopsAtElements r sizes n (copy_call b (call_at s p old new) m m'') k
   row_refused is_w is_v is_f is_g is_h is_l taken put stop = row_stops taken (element_stops put (rw (is_w, is_v, is_f, is_g, is_h, is_l) at stop))

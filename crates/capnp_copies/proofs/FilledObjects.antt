@@ -8,7 +8,7 @@ use Rattle.capnp_format.specs.Canonical.{cut_to}
 use Rattle.capnp_arena_traits.specs.View.{View}
 use Rattle.capnp_making.specs.Made.{zero_structs, nulls, structs_words}
 use Rattle.capnp_making.specs.Memory.{HasRoom, KeepsMemory, IsRefusedFor, RefusesWords}
-use Rattle.capnp_making.specs.Near.{HasOwnRoom, StartsBehind}
+use Rattle.capnp_making.specs.Near.{HasOwnRoom, StartsAtEnd}
 use Rattle.capnp_making.specs.Stored.{IsReplaced}
 use Rattle.capnp_arena_traits.specs.declared.arena.WordPlace.{WordPlace}
 use Rattle.capnp_making.proofs.Filling.{unchanged}
@@ -17,7 +17,7 @@ use Rattle.capnp_making.proofs.FillingMade.{IsBegun, null_stored, pointers_done,
 use Rattle.capnp_making.proofs.Memory.{keeps_both, keeps_then_spends, made_refused}
 use Rattle.capnp_objects.specs.Reading.{Reading, segment_read}
 use Rattle.capnp_objects.specs.Wanted.{Form, canonical}
-use Rattle.capnp_copies.specs.Changes.{change, MakesCopy, CopiesChildren, StopsAtChildren, CopiesRows, StopsAtElements}
+use Rattle.capnp_copies.specs.Changes.{copy_call, MakesCopy, CopiesChildren, StopsAtChildren, CopiesRows, StopsAtElements}
 use Rattle.capnp_copies.specs.Forms.{kept_each, kept_elements}
 use Rattle.capnp_copies.specs.Originals.{pointers_original, structs_original}
 use Rattle.capnp_copies.specs.declared.widths.ElementSizes.{ElementSizes}
@@ -38,7 +38,7 @@ pub nothing_left : (S R : Segments) (s p : ℕ) → IsPlace S s p → word_at S 
 nothing_left S R s p place null same = subst (λ T. IsReplaced S T s p Null Null) (sym same) (unchanged S s p Null (null_stored S s p place null))
 
 pub nothing_made : (b : Form) (s p n : ℕ) (old new : View) (m m' : Meter) (k : ErrorKind) → IsPlace old.words s p → word_at old.words s p ≡ 0 → IsRefusedFor old new n k → new.words ≡ old.words → (HasRoom old s n → ⊥) →
-    RefusesWords old new n k × LeavesSomeValue (change b (call_at s p old new) m m') k
+    RefusesWords old new n k × LeavesSomeValue (copy_call b (call_at s p old new) m m') k
 nothing_made b s p n old new m m' k place null named same full =
     let r = made_refused old new s n k named same full in
     (r.0, ((Null, nothing_left old.words new.words s p place null same), r.1))
@@ -50,7 +50,7 @@ pub record ObjectBegun (s p n : ℕ) (old mid : View) (h : WordPlace) (t : Tree)
   pub begun : IsBegun old.words mid.words s p n h t
   pub memory : KeepsMemory old mid
 
-pub pointers_copied : {b : Form} {r : Reading} {i s p : ℕ} {old mid new : View} {h : WordPlace} {m m' : Meter} → ObjectBegun s p i old mid h (Pointers (nulls i)) → PointersMade i s p old mid h → CopiesChildren r i (change b (call_at h.segment h.at mid new) m m') → MakesCopy (pointers_original i r) (change b (call_at s p old new) m m')
+pub pointers_copied : {b : Form} {r : Reading} {i s p : ℕ} {old mid new : View} {h : WordPlace} {m m' : Meter} → ObjectBegun s p i old mid h (Pointers (nulls i)) → PointersMade i s p old mid h → CopiesChildren r i (copy_call b (call_at h.segment h.at mid new) m m') → MakesCopy (pointers_original i r) (copy_call b (call_at s p old new) m m')
 pointers_copied {b} {r} {i} {s} {p} {old} {mid} {new} {h} o near children =
     let ts : Trees = kept_each b children.children in
     let whole = pointers_whole old.words mid.words new.words s p i h ts o.begun children.made (kept_each-count b children.children ∙ children.counts) in
@@ -62,12 +62,12 @@ pointers_copied {b} {r} {i} {s} {p} {old} {mid} {new} {h} o near children =
       stands = pointers_tight b (children_grow children).segments near children;
     }
 
-pub pointers_stop : {b : Form} {r : Reading} {i s p : ℕ} {old mid new : View} {h : WordPlace} {m m' : Meter} {k : ErrorKind} → ObjectBegun s p i old mid h (Pointers (nulls i)) → ObjectMade s p i old mid h → (HasOwnRoom old s i → StartsBehind old.words s h) → StopsAtChildren r i (change b (call_at h.segment h.at mid new) m m') k →
-    StopsHalfway (pointers_original i r) (change b (call_at s p old new) m m') k
+pub pointers_stop : {b : Form} {r : Reading} {i s p : ℕ} {old mid new : View} {h : WordPlace} {m m' : Meter} {k : ErrorKind} → ObjectBegun s p i old mid h (Pointers (nulls i)) → ObjectMade s p i old mid h → (HasOwnRoom old s i → StartsAtEnd old.words s h) → StopsAtChildren r i (copy_call b (call_at h.segment h.at mid new) m m') k →
+    StopsHalfway (pointers_original i r) (copy_call b (call_at s p old new) m m') k
 pointers_stop {b} {r} {i} {s} {p} {old} {mid} {new} {h} {m} {m'} {k} o made at_end stop =
     let begins : Begins s h.segment i old mid = record { there = there old.words s p made.place; taken = made.taken; memory = o.memory; near = λ room. (at_end room).0; far = λ full. (made.behind.far full).0 } in
     halfway (
-    elim (children_refused r i (change b (call_at h.segment h.at mid new) m m') k stop.why) [
+    elim (children_refused r i (copy_call b (call_at h.segment h.at mid new) m m') k stop.why) [
       | inl x ↦ inl (inr (pointers_come new begins x.0), pointers_large b r i (length (segment old.words s)) (old.room s) (pointers_too_large b r made at_end x.1))
       | inr x ↦ inr (inl x)
     ]
@@ -81,7 +81,7 @@ widths_keep canonical r sizes i widths = omega (arith, ap (λ s. s.pointers) wid
 widths_keep _ r sizes i same = same
 
 pub structs_copied : {b : Form} {r : Reading} {sizes : ElementSizes} {i s p : ℕ} {old mid new : View} {h : WordPlace} {m m' : Meter} → r.at + i * (sizes.source.data_words + sizes.source.pointers) ≤ length (segment_read r) → KeepsWidths b r sizes.source i sizes.kept →
-    ObjectBegun s p (1 + i * (sizes.kept.data_words + sizes.kept.pointers)) old mid h (zero_structs i sizes.kept) → StructsMade i s p sizes.kept old mid h → CopiesRows r sizes i 0 (change b (call_at h.segment (h.at + 1) mid new) m m') → MakesCopy (structs_original sizes.source i r) (change b (call_at s p old new) m m')
+    ObjectBegun s p (1 + i * (sizes.kept.data_words + sizes.kept.pointers)) old mid h (zero_structs i sizes.kept) → StructsMade i s p sizes.kept old mid h → CopiesRows r sizes i 0 (copy_call b (call_at h.segment (h.at + 1) mid new) m m') → MakesCopy (structs_original sizes.source i r) (copy_call b (call_at s p old new) m m')
 structs_copied {b} {r} {sizes} {i} {s} {p} {old} {mid} {new} {h} inside widths o near elements =
     let d : ℕ = sizes.kept.data_words in
     let q : ℕ = sizes.kept.pointers in
@@ -98,7 +98,7 @@ structs_copied {b} {r} {sizes} {i} {s} {p} {old} {mid} {new} {h} inside widths o
 
 pub structs_stop : {b : Form} {r : Reading} {sizes : ElementSizes} {i s p : ℕ} {old mid new : View} {h : WordPlace} {m m' : Meter} {k : ErrorKind} → r.at + i * (sizes.source.data_words + sizes.source.pointers) ≤ length (segment_read r) → KeepsWidths b r sizes.source i sizes.kept →
     ObjectBegun s p (1 + i * (sizes.kept.data_words + sizes.kept.pointers)) old mid h (zero_structs i sizes.kept) → StructsMade i s p sizes.kept old mid h → 1 + i * (sizes.kept.data_words + sizes.kept.pointers) ≤ structs_words i sizes.source →
-    StopsAtElements r sizes i (change b (call_at h.segment (h.at + 1) mid new) m m') k → StopsHalfway (structs_original sizes.source i r) (change b (call_at s p old new) m m') k
+    StopsAtElements r sizes i (copy_call b (call_at h.segment (h.at + 1) mid new) m m') k → StopsHalfway (structs_original sizes.source i r) (copy_call b (call_at s p old new) m m') k
 structs_stop {b} {r} {sizes} {i} {s} {p} {old} {mid} {new} {h} {m} {m'} {k} inside widths o near less stop =
     let begins : Begins s h.segment (1 + i * (sizes.kept.data_words + sizes.kept.pointers)) old mid = record { there = there old.words s p near.place; taken = near.taken; memory = near.memory; near = λ room. (near.behind.near (omega arith) room).0; far = λ full. (near.behind.far full).0 } in
     halfway (

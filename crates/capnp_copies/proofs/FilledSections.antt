@@ -12,7 +12,7 @@ use Rattle.capnp_format.proofs.Slices.{length_words}
 use Rattle.capnp_arena_traits.specs.View.{View}
 use Rattle.capnp_arena_traits.specs.Written.{with_word, with_words}
 use Rattle.capnp_making.specs.Made.{zero_struct, words_of_zero, nulls}
-use Rattle.capnp_making.specs.Memory.{KeepsMemory, StandsBehind, TakesWords}
+use Rattle.capnp_making.specs.Memory.{KeepsMemory, ComesAfter, TakesWords}
 use Rattle.capnp_making.proofs.NearMade.{HasStructRoom, with_struct}
 use Rattle.capnp_making.specs.Stored.{IsReplaced}
 use Rattle.capnp_arena_traits.specs.declared.arena.WordPlace.{WordPlace}
@@ -20,10 +20,10 @@ use Rattle.capnp_making.proofs.FillingMade.{IsBegun, struct_ready, struct_done, 
 use Rattle.capnp_making.proofs.Memory.{keeps_both, keeps_written, keeps_then_spends, words_refused_after}
 use Rattle.capnp_making.proofs.WordsPut.{words_put}
 use Rattle.capnp_objects.specs.Outcomes.{ReadsAll}
-use Rattle.capnp_objects.specs.Reading.{Reading, behind, segment_read, words_from}
+use Rattle.capnp_objects.specs.Reading.{Reading, place_past, segment_read, words_from}
 use Rattle.capnp_objects.specs.Spending.{pointers_in_all}
 use Rattle.capnp_objects.specs.Wanted.{Form, canonical}
-use Rattle.capnp_copies.specs.Changes.{change, ComesToObject, FindsNoRoom, MakesCopy, CopiesChildren, StopsAtChildren}
+use Rattle.capnp_copies.specs.Changes.{copy_call, ComesToObject, FindsNoRoom, MakesCopy, CopiesChildren, StopsAtChildren}
 use Rattle.capnp_copies.proofs.Copying.{StopsHalfway}
 use Rattle.capnp_copies.specs.Forms.{kept, kept_each}
 use Rattle.capnp_copies.specs.Originals.{kept_count, children_original, sections_original}
@@ -77,7 +77,7 @@ pub record SectionsBegun (b : Form) (ws : List ℕ) (r : Reading) (q : ℕ) (lea
   pub place : IsPlace old.words s p
   pub within : length (segment mid.words h.segment) ≤ mid.room h.segment
   pub taken : TakesWords old made s (least.data_words + least.pointers)
-  pub behind : StandsBehind old s (least.data_words + least.pointers) h
+  pub behind : ComesAfter old s (least.data_words + least.pointers) h
   pub near : HasStructRoom old s least → made.words ≡ with_struct old.words s p least
   pub empty : least.data_words + least.pointers ≡ 0 → made.words ≡ with_word old.words s p (struct_word (2 ^ 30 - 1) 0 0)
 
@@ -134,7 +134,7 @@ module _ {b : Form} {ws : List ℕ} {r : Reading} {q : ℕ} {least : StructSize}
   pub sections_inside : r.at + least.pointers ≤ length (segment_read r)
   sections_inside = omega (arith, fewer, o.cut.inside)
 
-  pub sections_copied : {new : View} {m m' : Meter} → CopiesChildren r least.pointers (change b (call_at h.segment (h.at + least.data_words) mid new) m m') → MakesCopy (sections_original ws r q) (change b (call_at s p old new) m m')
+  pub sections_copied : {new : View} {m m' : Meter} → CopiesChildren r least.pointers (copy_call b (call_at h.segment (h.at + least.data_words) mid new) m m') → MakesCopy (sections_original ws r q) (copy_call b (call_at s p old new) m m')
   sections_copied {new} {m} {m'} children =
       let f = sections_kept b ws r q m m' children.children o.cut.inside (children.counts ∙ o.cut.of_pointers) children.are_read in
       let whole = struct_whole old.words made.words mid.words new.words s p least.pointers h section (kept_each b children.children) is_begun writes (rw (sym long) at children.made) (kept_each-count b children.children ∙ children.counts) in
@@ -162,14 +162,14 @@ module _ {b : Form} {ws : List ℕ} {r : Reading} {q : ℕ} {least : StructSize}
   begins = struct_begins s p least old made h o.place o.taken o.memory o.behind o.begun.start o.empty
 
   -- A child without room after the struct's data words are written had no room before that.
-  before : (new : View) {m m' : Meter} {k : ErrorKind} → ComesToObject (children_original r least.pointers) b m m' (FindsNoRoom (change b (call_at h.segment (h.at + least.data_words) mid new) m m') k) →
-      ComesToObject (children_original r least.pointers) b m m' (FindsNoRoom (change b (call_at h.segment (h.at + least.data_words) made new) m m') k)
+  before : (new : View) {m m' : Meter} {k : ErrorKind} → ComesToObject (children_original r least.pointers) b m m' (FindsNoRoom (copy_call b (call_at h.segment (h.at + least.data_words) mid new) m m') k) →
+      ComesToObject (children_original r least.pointers) b m m' (FindsNoRoom (copy_call b (call_at h.segment (h.at + least.data_words) made new) m m') k)
   before new {k = k} (w, stops, (refused, full)) = (w, stops, (words_refused_after made mid new w k (keeps_written made mid _ o.writes) refused, omega (arith, full, same_long, same_room)))
 
-  pub sections_stop : {new : View} {m m' : Meter} {k : ErrorKind} → StopsAtChildren r least.pointers (change b (call_at h.segment (h.at + least.data_words) mid new) m m') k → StopsHalfway (sections_original ws r q) (change b (call_at s p old new) m m') k
+  pub sections_stop : {new : View} {m m' : Meter} {k : ErrorKind} → StopsAtChildren r least.pointers (copy_call b (call_at h.segment (h.at + least.data_words) mid new) m m') k → StopsHalfway (sections_original ws r q) (copy_call b (call_at s p old new) m m') k
   sections_stop {new} {m} {m'} {k} stop =
       halfway (
-      elim (children_refused r least.pointers (change b (call_at h.segment (h.at + least.data_words) mid new) m m') k stop.why) [
+      elim (children_refused r least.pointers (copy_call b (call_at h.segment (h.at + least.data_words) mid new) m m') k stop.why) [
         | inl x ↦ inl (inr (sections_come ws new fewer less begins (before new x.0)), sections_large b ws r q (length (segment old.words s)) (old.room s) (exceeds x.1))
         | inr x ↦ inr (inl (stops_sooner fewer x))
       ]
@@ -178,10 +178,10 @@ module _ {b : Form} {ws : List ℕ} {r : Reading} {q : ℕ} {least : StructSize}
 
 -- The same in the words of a call, which has the other names f, g, k and l for what it found.
 
-pub sections_done : {b : Form} {ws : List ℕ} {q : ℕ} {least : StructSize} {s p : ℕ} {old made mid new : View} {h : WordPlace} {m m' : Meter} {f g k l : ℕ} (r : Reading) (n : ℕ) → SectionsBegun b ws (behind r n) q least s p old made mid h → f ≡ n → g ≡ least.data_words → k ≡ least.pointers → l ≡ r.levels →
-    CopiesChildren (record (behind r f) { levels = l }) k (change b (call_at h.segment (h.at + g) mid new) m m') → MakesCopy (sections_original ws (behind r n) q) (change b (call_at s p old new) m m')
+pub sections_done : {b : Form} {ws : List ℕ} {q : ℕ} {least : StructSize} {s p : ℕ} {old made mid new : View} {h : WordPlace} {m m' : Meter} {f g k l : ℕ} (r : Reading) (n : ℕ) → SectionsBegun b ws (place_past r n) q least s p old made mid h → f ≡ n → g ≡ least.data_words → k ≡ least.pointers → l ≡ r.levels →
+    CopiesChildren (record (place_past r f) { levels = l }) k (copy_call b (call_at h.segment (h.at + g) mid new) m m') → MakesCopy (sections_original ws (place_past r n) q) (copy_call b (call_at s p old new) m m')
 sections_done r n o is_f is_g is_k is_l children = sections_copied o (rw (is_f, is_g, is_k, is_l) at children)
 
-pub sections_refused : {b : Form} {ws : List ℕ} {q : ℕ} {least : StructSize} {s p : ℕ} {old made mid new : View} {h : WordPlace} {m m' : Meter} {e : ErrorKind} {f g k l : ℕ} (r : Reading) (n : ℕ) → SectionsBegun b ws (behind r n) q least s p old made mid h → f ≡ n → g ≡ least.data_words → k ≡ least.pointers → l ≡ r.levels →
-    StopsAtChildren (record (behind r f) { levels = l }) k (change b (call_at h.segment (h.at + g) mid new) m m') e → StopsHalfway (sections_original ws (behind r n) q) (change b (call_at s p old new) m m') e
+pub sections_refused : {b : Form} {ws : List ℕ} {q : ℕ} {least : StructSize} {s p : ℕ} {old made mid new : View} {h : WordPlace} {m m' : Meter} {e : ErrorKind} {f g k l : ℕ} (r : Reading) (n : ℕ) → SectionsBegun b ws (place_past r n) q least s p old made mid h → f ≡ n → g ≡ least.data_words → k ≡ least.pointers → l ≡ r.levels →
+    StopsAtChildren (record (place_past r f) { levels = l }) k (copy_call b (call_at h.segment (h.at + g) mid new) m m') e → StopsHalfway (sections_original ws (place_past r n) q) (copy_call b (call_at s p old new) m m') e
 sections_refused r n o is_f is_g is_k is_l stop = sections_stop o (rw (is_f, is_g, is_k, is_l) at stop)

@@ -23,7 +23,7 @@ use Rattle.capnp_making.proofs.PlacedStructs.{capability_made}
 use Rattle.capnp_objects.specs.Objects.{IsObject}
 use Rattle.capnp_objects.specs.Outcomes.{Reads}
 use Rattle.capnp_objects.specs.Refusals.{Stopped, here}
-use Rattle.capnp_objects.specs.Reading.{Reading, behind, words_from}
+use Rattle.capnp_objects.specs.Reading.{Reading, place_past, words_from}
 use Rattle.capnp_objects.specs.Wanted.{Form, plain, canonical, of_default}
 use Rattle.capnp_objects.specs.declared.object.Place.{Place}
 use Rattle.capnp_objects.specs.declared.object.Object.TheVariants.{Null as ObjectNull, Capability as ObjectCapability, Struct as ObjectStruct, Flat as ObjectFlat, Pointers as ObjectPointers, Structs as ObjectStructs}
@@ -31,7 +31,7 @@ use Rattle.capnp_objects.specs.declared.object.Purpose.TheVariants.{Value}
 use Rattle.capnp_objects.proofs.Limits.{not_for_memory}
 use Rattle.capnp_objects.proofs.Objects.{read_null, read_flat, read_struct, read_pointers, read_structs}
 use Rattle.capnp_objects.proofs.Refusals.{stops_struct, stops_pointers, stops_structs}
-use Rattle.capnp_copies.specs.Changes.{as_numbers, change, IsCopiedInRoom, StayInSegment, MakesCopy}
+use Rattle.capnp_copies.specs.Changes.{as_numbers, copy_call, IsCopiedInRoom, StayInSegment, MakesCopy}
 use Rattle.capnp_copies.proofs.Copying.{StopsHalfway}
 use Rattle.capnp_copies.specs.Forms.{kept}
 use Rattle.capnp_copies.proofs.InPlace.{IsCopied}
@@ -48,12 +48,12 @@ use Rattle.capnp_objects.proofs.Valued.{stopped_form}
 use Rattle.capnp_objects.proofs.Followed.{leads_there}
 use Rattle.capnp_making.specs.Makes.{call_at}
 
-pub object_stops : {r : Reading} {b : Form} {s p : ℕ} {v : View} {m m' : Meter} {k : ErrorKind} → IsPlace v.words s p → word_at v.words s p ≡ 0 → Stopped Value b r m m' k → StopsHalfway (value_original r) (change b (call_at s p v v) m m') k
+pub object_stops : {r : Reading} {b : Form} {s p : ℕ} {v : View} {m m' : Meter} {k : ErrorKind} → IsPlace v.words s p → word_at v.words s p ≡ 0 → Stopped Value b r m m' k → StopsHalfway (value_original r) (copy_call b (call_at s p v v) m m') k
 object_stops {r} {b} {s} {p} {v} {m} {m'} {k} place null h =
     halfway (inr (inl (here h)))
     ((Null, nothing_left v.words v.words s p place null refl), spends_nothing v v k (not_the_allocator k (λ e. not_for_memory (here (subst (Stopped Value b r m m') e h)))) (keeps_itself v))
 
-pub read_stops : {r : Reading} {b : Form} {s p : ℕ} {v : View} {m m' : Meter} {k : ErrorKind} → IsPlace v.words s p → word_at v.words s p ≡ 0 → Stopped Value plain r m m' k → StopsHalfway (value_original r) (change b (call_at s p v v) m m') k
+pub read_stops : {r : Reading} {b : Form} {s p : ℕ} {v : View} {m m' : Meter} {k : ErrorKind} → IsPlace v.words s p → word_at v.words s p ≡ 0 → Stopped Value plain r m m' k → StopsHalfway (value_original r) (copy_call b (call_at s p v v) m m') k
 read_stops {b = b} place null h = object_stops place null (stopped_form b h)
 
 -- Null pointers and capabilities.
@@ -62,7 +62,7 @@ kept_null : (b : Form) → kept b Null ≡ Null
 kept_null canonical = refl
 kept_null _ = refl
 
-pub null_copied : {r : Reading} {b : Form} {s p : ℕ} {v : View} {m m' : Meter} → IsObject Value r m m' ObjectNull → IsPlace v.words s p → word_at v.words s p ≡ 0 → MakesCopy (value_original r) (change b (call_at s p v v) m m')
+pub null_copied : {r : Reading} {b : Form} {s p : ℕ} {v : View} {m m' : Meter} → IsObject Value r m m' ObjectNull → IsPlace v.words s p → word_at v.words s p ≡ 0 → MakesCopy (value_original r) (copy_call b (call_at s p v v) m m')
 null_copied {r} {b} {s} {p} {v} {m} {m'} object place null = record {
   value = Null;
   is_read = subst (λ x. Reads b r m x Null) (sym object.1) (read_null m object.0);
@@ -75,7 +75,7 @@ unfoldable pub capability_read : {r : Reading} (m m' : Meter) (i : ℕ) → IsOb
 capability_read {r} m m' i (a, l, low, e, covers, spent) =
     record { cost = a.pads; means = (a, leads_there r a l (λ f. omega (arith, f, low)), (let f : a.word ≡ capability_word i = omega (arith, low, e) in f), refl); takes = λ f. absurd (f refl); covers = covers; spent = spent }
 
-pub capability_copied : {r : Reading} {s p i : ℕ} {old new : View} {m m' : Meter} → IsObject Value r m m' (ObjectCapability i) → IsPlace old.words s p → new ≡ record old { words = with_word old.words s p (capability_word i) } → MakesCopy (value_original r) (change plain (call_at s p old new) m m')
+pub capability_copied : {r : Reading} {s p i : ℕ} {old new : View} {m m' : Meter} → IsObject Value r m m' (ObjectCapability i) → IsPlace old.words s p → new ≡ record old { words = with_word old.words s p (capability_word i) } → MakesCopy (value_original r) (copy_call plain (call_at s p old new) m m')
 capability_copied {r} {s} {p} {i} {old} {new} {m} {m'} object place writes = record {
   value = Capability i;
   is_read = capability_read m m' i object;
@@ -84,10 +84,10 @@ capability_copied {r} {s} {p} {i} {old} {new} {m} {m'} object place writes = rec
   stands = λ fits. ap (λ (v : View). v.words) writes ∙ ap (λ ws. with_segment old.words s (set ws p (capability_word i))) (sym (append-nil (segment old.words s)));
 }
 
-pub capability_stops : {r : Reading} {s p i : ℕ} {v : View} {m m' : Meter} → IsObject Value r m m' (ObjectCapability i) → IsPlace v.words s p → word_at v.words s p ≡ 0 → StopsHalfway (value_original r) (change canonical (call_at s p v v) m m') CannotCreateACanonicalMessageWithACapability
+pub capability_stops : {r : Reading} {s p i : ℕ} {v : View} {m m' : Meter} → IsObject Value r m m' (ObjectCapability i) → IsPlace v.words s p → word_at v.words s p ≡ 0 → StopsHalfway (value_original r) (copy_call canonical (call_at s p v v) m m') CannotCreateACanonicalMessageWithACapability
 capability_stops {i = i} {m = m} {m'} object place null = object_stops place null (capability_stopped m m' i object)
 
-pub default_stops : {r : Reading} {s p i : ℕ} {v : View} {m m' : Meter} → IsObject Value r m m' (ObjectCapability i) → IsPlace v.words s p → word_at v.words s p ≡ 0 → StopsHalfway (value_original r) (change of_default (call_at s p v v) m m') UnknownPointerType
+pub default_stops : {r : Reading} {s p i : ℕ} {v : View} {m m' : Meter} → IsObject Value r m m' (ObjectCapability i) → IsPlace v.words s p → word_at v.words s p ≡ 0 → StopsHalfway (value_original r) (copy_call of_default (call_at s p v v) m m') UnknownPointerType
 default_stops {i = i} {m = m} {m'} object place null = object_stops place null (default_stopped m m' i object)
 
 -- The call that copies a capability.
@@ -98,13 +98,13 @@ pub record CapabilityCopied (result : Result (Unit {0}) ErrorKind) (b : Form) (s
   pub unchanged : OnErr result (new ≡ old)
 
 pub capability_value : {b : Form} {s p i : ℕ} {old new : View} (r : Reading) (m m' : Meter) (result : Result (Unit {0}) ErrorKind) → IsObject Value r m m' (ObjectCapability i) → IsPlace old.words s p → CapabilityCopied result b s p i old new →
-    IfOk result (λ _. MakesCopy (value_original r) (change b (call_at s p old new) m m'))
+    IfOk result (λ _. MakesCopy (value_original r) (copy_call b (call_at s p old new) m m'))
 capability_value {b} {s} {p} {i} {old} {new} r m m' (Ok x) object place o =
-    subst (λ f. MakesCopy (value_original r) (change f (call_at s p old new) m m')) (sym o.as_it_stands) (capability_copied object place o.copied)
+    subst (λ f. MakesCopy (value_original r) (copy_call f (call_at s p old new) m m')) (sym o.as_it_stands) (capability_copied object place o.copied)
 capability_value r m m' (Err k) object place o = tt
 
 pub capability_value_stops : {b : Form} {s p i : ℕ} {old new : View} (r : Reading) (m m' : Meter) (result : Result (Unit {0}) ErrorKind) → IsObject Value r m m' (ObjectCapability i) → IsPlace old.words s p → word_at old.words s p ≡ 0 → CapabilityCopied result b s p i old new →
-    IfErr result (StopsHalfway (value_original r) (change b (call_at s p old new) m m'))
+    IfErr result (StopsHalfway (value_original r) (copy_call b (call_at s p old new) m m'))
 capability_value_stops r m m' (Ok x) object place null o = tt
 capability_value_stops {b} {s} {p} {i} {old} {new} r m m' (Err k) object place null o = elim o.refused [
   | inl x ↦ rw (x.0, x.1, o.unchanged) (capability_stops object place null)
@@ -114,7 +114,7 @@ capability_value_stops {b} {s} {p} {i} {old} {new} r m m' (Err k) object place n
 -- A struct.
 
 pub struct_value : {r : Reading} {b : Form} {s p levels : ℕ} {old new : View} {m m' m'' : Meter} {size : StructSize} (start : Place) → (0 < r.levels → levels ≡ pred r.levels) → IsObject Value r m m' (ObjectStruct start size) →
-    MakesCopy (sections_original (words_from (inside r levels start) size.data_words) (behind (inside r levels start) size.data_words) size.pointers) (change b (call_at s p old new) m' m'') → MakesCopy (value_original r) (change b (call_at s p old new) m m'')
+    MakesCopy (sections_original (words_from (inside r levels start) size.data_words) (place_past (inside r levels start) size.data_words) size.pointers) (copy_call b (call_at s p old new) m' m'') → MakesCopy (value_original r) (copy_call b (call_at s p old new) m m'')
 struct_value {r} {b} {m = m} {m'' = m''} {size = size} start less (a, o, z, (held, es, eb), ed, eq) struct =
     let en = less o.meets.levels in
     let e : start.at ≡ a.start = omega arith in
@@ -128,7 +128,7 @@ struct_value {r} {b} {m = m} {m'' = m''} {size = size} start less (a, o, z, (hel
     }
 
 pub struct_value_stops : {r : Reading} {b : Form} {s p levels : ℕ} {old new : View} {m m' m'' : Meter} {size : StructSize} {k : ErrorKind} (start : Place) → (0 < r.levels → levels ≡ pred r.levels) → IsObject Value r m m' (ObjectStruct start size) →
-    StopsHalfway (sections_original (words_from (inside r levels start) size.data_words) (behind (inside r levels start) size.data_words) size.pointers) (change b (call_at s p old new) m' m'') k → StopsHalfway (value_original r) (change b (call_at s p old new) m m'') k
+    StopsHalfway (sections_original (words_from (inside r levels start) size.data_words) (place_past (inside r levels start) size.data_words) size.pointers) (copy_call b (call_at s p old new) m' m'') k → StopsHalfway (value_original r) (copy_call b (call_at s p old new) m m'') k
 struct_value_stops {r} {b} {s} {levels = levels} {old = old} {new = new} {m = m} {m'' = m''} {size = size} {k = k} start less (a, o, z, (held, es, eb), ed, eq) (t, stop) =
     let ws : List ℕ = words_from (inside r levels start) size.data_words in
     let en = less o.meets.levels in
@@ -138,7 +138,7 @@ struct_value_stops {r} {b} {s} {levels = levels} {old = old} {new = new} {m = m}
         why = elim stop.why [
           | inl x ↦ inl (
             struct_value_comes old new start less (a, o, z, (held, es, eb), ed, eq) x.0,
-            struct_value_too_large b (length (segment old.words s)) (old.room s) start less (a, o, z, (held, es, eb), ed, eq) (sections_beyond b ws (behind (inside r levels start) size.data_words) size.pointers (length (segment old.words s)) (old.room s) x.1),
+            struct_value_too_large b (length (segment old.words s)) (old.room s) start less (a, o, z, (held, es, eb), ed, eq) (sections_beyond b ws (place_past (inside r levels start) size.data_words) size.pointers (length (segment old.words s)) (old.room s) x.1),
           )
           | inr x ↦ elim x [
             | inl refused ↦ inr (inl (stops_struct o z (rw (en, es, e, ed, eq) at refused)))
@@ -153,7 +153,7 @@ struct_value_stops {r} {b} {s} {levels = levels} {old = old} {new = new} {m = m}
 -- A list of pointers.
 
 pub pointers_value : {r : Reading} {b : Form} {s p levels i : ℕ} {old new : View} {m m' m'' : Meter} (start : Place) → (0 < r.levels → levels ≡ pred r.levels) → IsObject Value r m m' (ObjectPointers start i) →
-    MakesCopy (pointers_original i (inside r levels start)) (change b (call_at s p old new) m' m'') → MakesCopy (value_original r) (change b (call_at s p old new) m m'')
+    MakesCopy (pointers_original i (inside r levels start)) (copy_call b (call_at s p old new) m' m'') → MakesCopy (value_original r) (copy_call b (call_at s p old new) m m'')
 pointers_value {r} {b} {m = m} {m'' = m''} start less (a, o, z, six, (held, es, eb), ei) list =
     let en = less o.meets.levels in
     let e : start.at ≡ a.start = omega arith in
@@ -161,7 +161,7 @@ pointers_value {r} {b} {m = m} {m'' = m''} start less (a, o, z, six, (held, es, 
     record { value = list.value; is_read = subst (Reads b r m m'') (sym is) (read_pointers o z six (counts ∙ ei) (rw (en, es, e) at read)); made = list.made; memory = list.memory; stands = list.stands }
 
 pub pointers_value_stops : {r : Reading} {b : Form} {s p levels i : ℕ} {old new : View} {m m' m'' : Meter} {k : ErrorKind} (start : Place) → (0 < r.levels → levels ≡ pred r.levels) → IsObject Value r m m' (ObjectPointers start i) → i < 2 ^ 29 →
-    StopsHalfway (pointers_original i (inside r levels start)) (change b (call_at s p old new) m' m'') k → StopsHalfway (value_original r) (change b (call_at s p old new) m m'') k
+    StopsHalfway (pointers_original i (inside r levels start)) (copy_call b (call_at s p old new) m' m'') k → StopsHalfway (value_original r) (copy_call b (call_at s p old new) m m'') k
 pointers_value_stops {r} {b} {s} {levels = levels} {i} {old = old} {new = new} {m = m} start less (a, o, z, six, (held, es, eb), ei) few (t, stop) =
     let en = less o.meets.levels in
     let e : start.at ≡ a.start = omega arith in (
@@ -182,7 +182,7 @@ pointers_value_stops {r} {b} {s} {levels = levels} {i} {old = old} {new = new} {
 -- A list of structs.
 
 pub structs_value : {r : Reading} {b : Form} {s p levels i : ℕ} {old new : View} {m m' m'' : Meter} {size : StructSize} (start : Place) → (0 < r.levels → levels ≡ pred r.levels) → IsObject Value r m m' (ObjectStructs start size i) →
-    MakesCopy (structs_original size i (inside r levels start)) (change b (call_at s p old new) m' m'') → MakesCopy (value_original r) (change b (call_at s p old new) m m'')
+    MakesCopy (structs_original size i (inside r levels start)) (copy_call b (call_at s p old new) m' m'') → MakesCopy (value_original r) (copy_call b (call_at s p old new) m m'')
 structs_value {r} {b} {m = m} {m'' = m''} {size = size} start less (a, o, z, seven, (held, eu, eb), ei, ed, eq) list =
     let en = less o.meets.levels in
     let e : start.at ≡ a.start + 1 = omega arith in
@@ -196,7 +196,7 @@ structs_value {r} {b} {m = m} {m'' = m''} {size = size} start less (a, o, z, sev
     }
 
 pub structs_value_stops : {r : Reading} {b : Form} {s p levels i : ℕ} {old new : View} {m m' m'' : Meter} {size : StructSize} {k : ErrorKind} (start : Place) → (0 < r.levels → levels ≡ pred r.levels) → IsObject Value r m m' (ObjectStructs start size i) → (i < 2 ^ 30) × (i * (size.data_words + size.pointers) < 2 ^ 29) →
-    StopsHalfway (structs_original size i (inside r levels start)) (change b (call_at s p old new) m' m'') k → StopsHalfway (value_original r) (change b (call_at s p old new) m m'') k
+    StopsHalfway (structs_original size i (inside r levels start)) (copy_call b (call_at s p old new) m' m'') k → StopsHalfway (value_original r) (copy_call b (call_at s p old new) m m'') k
 structs_value_stops {r} {b} {s} {levels = levels} {i} {old = old} {new = new} {m = m} {size = size} start less (a, o, z, seven, (held, eu, eb), ei, ed, eq) few (t, stop) =
     let en = less o.meets.levels in
     let e : start.at ≡ a.start + 1 = omega arith in (
@@ -238,7 +238,7 @@ pub record FlatOutcome (result : Result (Unit {0}) ErrorKind) (s p n : ℕ) (old
   pub fits : HasOwnRoom old s (word_count t) → IsOk result
 
 pub flat_value : {r : Reading} {s p i n : ℕ} {old new : View} {m m' : Meter} {ws : List ℕ} (b : Form) (result : Result (Unit {0}) ErrorKind) (start : Place) (size : ElementSize) → IsObject Value r m m' (ObjectFlat start size i) → n ≡ words_for (size_number size) i →
-    ws ≡ take n (drop start.at (words_of start.bytes.now)) → FlatOutcome result s p (words_for (size_number size) i) old new (Flat (size_number size) (unpacked (size_number size) i ws)) → IfOk result (λ _. MakesCopy (value_original r) (change b (call_at s p old new) m m'))
+    ws ≡ take n (drop start.at (words_of start.bytes.now)) → FlatOutcome result s p (words_for (size_number size) i) old new (Flat (size_number size) (unpacked (size_number size) i ws)) → IfOk result (λ _. MakesCopy (value_original r) (copy_call b (call_at s p old new) m m'))
 flat_value {s = s} {p = p} {i = i} {old = old} {new = new} {m = m} {m' = m'} {ws = ws} b (Ok x) start size object words part f = record {
   value = Flat (size_number size) (unpacked (size_number size) i ws);
   is_read = flat_read_in b start size object words part;
@@ -249,11 +249,11 @@ flat_value {s = s} {p = p} {i = i} {old = old} {new = new} {m = m} {m' = m'} {ws
 flat_value b (Err k) start size object words part f = tt
 
 pub flat_stops : {r : Reading} {s p i n : ℕ} {old new : View} {m m' : Meter} {ws : List ℕ} (b : Form) (result : Result (Unit {0}) ErrorKind) (start : Place) (size : ElementSize) → IsObject Value r m m' (ObjectFlat start size i) → n ≡ words_for (size_number size) i →
-    ws ≡ take n (drop start.at (words_of start.bytes.now)) → IsPlace old.words s p × (word_at old.words s p ≡ 0) → FlatOutcome result s p (words_for (size_number size) i) old new (Flat (size_number size) (unpacked (size_number size) i ws)) → IfErr result (StopsHalfway (value_original r) (change b (call_at s p old new) m m'))
+    ws ≡ take n (drop start.at (words_of start.bytes.now)) → IsPlace old.words s p × (word_at old.words s p ≡ 0) → FlatOutcome result s p (words_for (size_number size) i) old new (Flat (size_number size) (unpacked (size_number size) i ws)) → IfErr result (StopsHalfway (value_original r) (copy_call b (call_at s p old new) m m'))
 flat_stops b (Ok x) start size object words part (place, null) f = tt
 flat_stops {s = s} {p = p} {i = i} {old = old} {new = new} {m = m} {m' = m'} {ws = ws} b (Err k) start size (a, o, z, small, held, ez, ei) words part (place, null) f =
     let full : HasOwnRoom old s (word_count (Flat (size_number size) (unpacked (size_number size) i ws))) → ⊥ = λ room. (let is = f.fits room in cc is) in
     halfway (inl (
-      inr (entered_comes {n = words_for (size_number size) i} (change b (call_at s p old new) m m') k o (as_numbers z small (ap₂ words_for ez ei)) refl (f.refused, omega (arith, full, word_count-flat (size_number size) i ws))),
+      inr (entered_comes {n = words_for (size_number size) i} (copy_call b (call_at s p old new) m m') k o (as_numbers z small (ap₂ words_for ez ei)) refl (f.refused, omega (arith, full, word_count-flat (size_number size) i ws))),
       flat_too_large b (length (segment old.words s)) (old.room s) (flat_read_in b start size (a, o, z, small, held, ez, ei) words part) (λ room. full (omega (arith, room, ap word_count (kept_flat b (size_number size) (unpacked (size_number size) i ws))))),
     )) ((Null, nothing_left old.words new.words s p place null f.kept), f.memory)

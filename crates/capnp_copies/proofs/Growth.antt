@@ -24,11 +24,11 @@ use Rattle.capnp_making.specs.Memory.{Lengthens, IsNextRoom, IsRefusedFor}
 use Rattle.capnp_making.specs.Near.{HasOwnRoom}
 use Rattle.capnp_making.specs.Zeroed.{IsPruned}
 use Rattle.capnp_making.proofs.WordsPut.{words_put}
-use Rattle.capnp_objects.specs.Demands.{own, tag}
+use Rattle.capnp_objects.specs.Demands.{own_charge, tag}
 use Rattle.capnp_objects.specs.Faults.{child_at}
 use Rattle.capnp_objects.specs.Objects.{IsObject}
 use Rattle.capnp_objects.specs.Outcomes.{Reads, ReadsAll, ReadsElements, Entered}
-use Rattle.capnp_objects.specs.Reading.{Reading, behind, segment_read, words_from, pointers_of, tag_size}
+use Rattle.capnp_objects.specs.Reading.{Reading, place_past, segment_read, words_from, pointers_of, tag_size}
 use Rattle.capnp_objects.specs.Refusals.{Stopped, in_struct, in_pointers, in_element, StopsWithin, StopsAmong, StopsAmongElements, here, below, IsTried}
 use Rattle.capnp_objects.specs.Spending.{pointers_in, pointers_in_all, pointers_in_elements}
 use Rattle.capnp_objects.specs.Wanted.{Form, plain, canonical, of_default}
@@ -40,7 +40,7 @@ use Rattle.capnp_objects.proofs.Copies.{read_none, read_more, read_no_element, p
 use Rattle.capnp_objects.proofs.Objects.{own_struct, own_flat, own_pointers, own_structs, read_null, read_flat, read_struct, read_pointers, read_structs}
 use Rattle.capnp_objects.proofs.Refusals.{breaks_off_spends, stops_struct, stops_pointers, stops_structs}
 use Rattle.capnp_objects.proofs.Truths.{few_followed, reading_spends}
-use Rattle.capnp_copies.specs.Changes.{Change, change, StayInSegment}
+use Rattle.capnp_copies.specs.Changes.{CopyCall, copy_call, StayInSegment}
 use Rattle.capnp_copies.specs.Costs.{spent_before, spent_until, spent_among, spent_among_elements}
 use Rattle.capnp_copies.specs.Originals.{value_original, children_original, elements_original, sections_original, numbers_original, pointers_original, structs_original, list_original, kept_count}
 use Rattle.capnp_copies.specs.Growth.{TakesNone, Makes, no_object, near, far, both, MakesAtMost, TakesAtMost}
@@ -137,7 +137,7 @@ made_both {mid = mid} x y = record { words = x.words + y.words; pads = x.pads + 
 pub made_within : {id n p : ℕ} {old mid last new : View} → TakesNone old mid → TakesNone last new → MakesAtMost id mid last n p → MakesAtMost id old new n p
 made_within before after x = made_more (omega arith) (omega arith) (made_both (made_none before) (made_both x (made_none after)))
 
-pub made_elsewhere : {n p : ℕ} (c d : Change) → TakesNone d.old c.old → TakesNone c.new d.new → d.segment ≡ c.segment → MakesAtMost c.segment c.old c.new n p → MakesAtMost d.segment d.old d.new n p
+pub made_elsewhere : {n p : ℕ} (c d : CopyCall) → TakesNone d.old c.old → TakesNone c.new d.new → d.segment ≡ c.segment → MakesAtMost c.segment c.old c.new n p → MakesAtMost d.segment d.old d.new n p
 made_elsewhere {n} {p} c d before after same made = subst (λ id. MakesAtMost id d.old d.new n p) (sym same) (made_within before after made)
 
 -- There is only one next room.
@@ -179,80 +179,80 @@ taken_so (Err k) P P' Q Q' f h taken = h taken
 
 -- Consecutive pointers: none yet, one more, and one that is refused.
 
-pub none_taken : (r : Reading) (b : Form) (s : ℕ) (v : View) (m : Meter) → TakesForCopy (children_original r 0) (change b (call_at s 0 v v) m m)
+pub none_taken : (r : Reading) (b : Form) (s : ℕ) (v : View) (m : Meter) → TakesForCopy (children_original r 0) (copy_call b (call_at s 0 v v) m m)
 unfolding read_none
 none_taken r b s v m = (no_trees, refl, read_none b r m, made_more (omega arith) (omega arith) (made_none (none_itself v)))
 
-pub one_taken : {r : Reading} {b : Form} {s i : ℕ} {old mid new : View} {m m' m'' : Meter} → TakesForCopy (children_original r i) (change b (call_at s 0 old mid) m m') → TakesForCopy (value_original (behind r i)) (change b (call_at s 0 mid new) m' m'') →
-    TakesForCopy (children_original r (i + 1)) (change b (call_at s 0 old new) m m'')
+pub one_taken : {r : Reading} {b : Form} {s i : ℕ} {old mid new : View} {m m' m'' : Meter} → TakesForCopy (children_original r i) (copy_call b (call_at s 0 old mid) m m') → TakesForCopy (value_original (place_past r i)) (copy_call b (call_at s 0 mid new) m' m'') →
+    TakesForCopy (children_original r (i + 1)) (copy_call b (call_at s 0 old new) m m'')
 unfolding read_more
 one_taken {r} {b} {s} {mid = mid} {new} {m' = m'} {m''} (ts, counts, are_read, made) next =
     let t = next.0 in
-    let here : (one : Reads b (behind r (count ts)) m' m'' t) × MakesAtMost s mid new one.cost (pointers_in t) = rw counts (next.1, next.2) in
+    let here : (one : Reads b (place_past r (count ts)) m' m'' t) × MakesAtMost s mid new one.cost (pointers_in t) = rw counts (next.1, next.2) in
     (with_last ts t, count-with_last ts t ∙ omega (arith, counts), read_more are_read here.0, made_more (omega arith) (omega (arith, pointers_in-with_last ts t)) (made_both made here.1))
 
-pub stop_taken : {r : Reading} {b : Form} {s i n : ℕ} {old mid new : View} {m m' m'' : Meter} → i < n → TakesForCopy (children_original r i) (change b (call_at s 0 old mid) m m') → TakesUntilStop (value_original (behind r i)) (change b (call_at s 0 mid new) m' m'') →
-    TakesUntilStop (children_original r n) (change b (call_at s 0 old new) m m'')
+pub stop_taken : {r : Reading} {b : Form} {s i n : ℕ} {old mid new : View} {m m' m'' : Meter} → i < n → TakesForCopy (children_original r i) (copy_call b (call_at s 0 old mid) m m') → TakesUntilStop (value_original (place_past r i)) (copy_call b (call_at s 0 mid new) m' m'') →
+    TakesUntilStop (children_original r n) (copy_call b (call_at s 0 old new) m m'')
 stop_taken {r} {b} {s} {mid = mid} {new} {m' = m'} {m''} less (ts, counts, are_read, made) stop =
-    let here : (one : StopsWithin b (IsTried b) (behind r (count ts)) m' m'') × MakesAtMost s mid new (spent_until one).words (spent_until one).pointers = rw counts (stop.0, stop.1) in
+    let here : (one : StopsWithin b (IsTried b) (place_past r (count ts)) m' m'') × MakesAtMost s mid new (spent_until one).words (spent_until one).pointers = rw counts (stop.0, stop.1) in
     (record { first = ts; fewer = omega (arith, counts, less); mid = m'; are_read = are_read; stops = here.0 }, made_more (omega arith) (omega arith) (made_both made here.1))
 
-pub all_taken : {r : Reading} {b : Form} {s i j : ℕ} {old new : View} {m m' : Meter} → i ≡ j → TakesForCopy (children_original r i) (change b (call_at s 0 old new) m m') → TakesForCopy (children_original r j) (change b (call_at s 0 old new) m m')
+pub all_taken : {r : Reading} {b : Form} {s i j : ℕ} {old new : View} {m m' : Meter} → i ≡ j → TakesForCopy (children_original r i) (copy_call b (call_at s 0 old new) m m') → TakesForCopy (children_original r j) (copy_call b (call_at s 0 old new) m m')
 all_taken same (ts, counts, are_read, made) = (ts, counts ∙ same, are_read, made)
 
 -- The pointers of elements: none yet, those of one more element, and one that is refused.
 
-pub no_row_taken : (r : Reading) (sizes : ElementSizes) (b : Form) (s : ℕ) (v : View) (m : Meter) → TakesForCopy (elements_original r sizes 0) (change b (call_at s 0 v v) m m)
+pub no_row_taken : (r : Reading) (sizes : ElementSizes) (b : Form) (s : ℕ) (v : View) (m : Meter) → TakesForCopy (elements_original r sizes 0) (copy_call b (call_at s 0 v v) m m)
 unfolding read_no_element
 no_row_taken r sizes b s v m = (no_elements, refl, read_no_element b r sizes.source m, made_more (omega arith) (omega arith) (made_none (none_itself v)))
 
-pub blank_taken : (r : Reading) (sizes : ElementSizes) (n : ℕ) (b : Form) (s : ℕ) (v : View) (m : Meter) → SourceKept b r sizes n → sizes.kept.data_words + sizes.kept.pointers ≡ 0 → TakesForCopy (elements_original r sizes n) (change b (call_at s 0 v v) m m)
+pub blank_taken : (r : Reading) (sizes : ElementSizes) (n : ℕ) (b : Form) (s : ℕ) (v : View) (m : Meter) → SourceKept b r sizes n → sizes.kept.data_words + sizes.kept.pointers ≡ 0 → TakesForCopy (elements_original r sizes n) (copy_call b (call_at s 0 v v) m m)
 blank_taken r sizes n b s v m fits none =
     let x = blank_elements b r sizes n m n (omega arith) fits (omega (arith, none)) in
     (x.all, x.counts, x.are_read, made_more (omega arith) (omega arith) (made_none (none_itself v)))
 
-pub row_taken : {r : Reading} {sizes : ElementSizes} {b : Form} {s i n : ℕ} {old mid new : View} {m m' m'' : Meter} → SourceKept b r sizes n → i < n → TakesForCopy (elements_original r sizes i) (change b (call_at s 0 old mid) m m') →
-    TakesForCopy (children_original (pointers_of r sizes.source i) sizes.kept.pointers) (change b (call_at s 0 mid new) m' m'') → TakesForCopy (elements_original r sizes (i + 1)) (change b (call_at s 0 old new) m m'')
+pub row_taken : {r : Reading} {sizes : ElementSizes} {b : Form} {s i n : ℕ} {old mid new : View} {m m' m'' : Meter} → SourceKept b r sizes n → i < n → TakesForCopy (elements_original r sizes i) (copy_call b (call_at s 0 old mid) m m') →
+    TakesForCopy (children_original (pointers_of r sizes.source i) sizes.kept.pointers) (copy_call b (call_at s 0 mid new) m' m'') → TakesForCopy (elements_original r sizes (i + 1)) (copy_call b (call_at s 0 old new) m m'')
 row_taken {r} {sizes} {b} {s} {n = n} {mid = mid} {new} {m} {m'} {m''} fits less (es, counts, are_read, made) (ts, all, next, more) =
     let here : (one : ReadsAll b (pointers_of r sizes.source (element_count es)) m' m'' ts) × MakesAtMost s mid new one.cost (pointers_in_all ts) = rw counts (next, more) in
     let a = one_row_more b r sizes n m m' m'' es ts fits are_read (omega (arith, counts, less)) all here.0 in
     (a.all, a.counts ∙ omega (arith, counts), a.are_read, made_more (omega (arith, a.costs)) (omega (arith, a.follows)) (made_both made here.1))
 
-pub row_stop_taken : {r : Reading} {sizes : ElementSizes} {b : Form} {s i n : ℕ} {old mid new : View} {m m' m'' : Meter} → SourceKept b r sizes n → i < n → TakesForCopy (elements_original r sizes i) (change b (call_at s 0 old mid) m m') →
-    TakesUntilStop (children_original (pointers_of r sizes.source i) sizes.kept.pointers) (change b (call_at s 0 mid new) m' m'') → TakesUntilStop (elements_original r sizes n) (change b (call_at s 0 old new) m m'')
+pub row_stop_taken : {r : Reading} {sizes : ElementSizes} {b : Form} {s i n : ℕ} {old mid new : View} {m m' m'' : Meter} → SourceKept b r sizes n → i < n → TakesForCopy (elements_original r sizes i) (copy_call b (call_at s 0 old mid) m m') →
+    TakesUntilStop (children_original (pointers_of r sizes.source i) sizes.kept.pointers) (copy_call b (call_at s 0 mid new) m' m'') → TakesUntilStop (elements_original r sizes n) (copy_call b (call_at s 0 old new) m m'')
 unfolding stops_sooner
 row_stop_taken {r} {sizes} {b} {s} {mid = mid} {new} {m' = m'} {m''} fits less (es, counts, are_read, made) stop =
     let here : (one : StopsAmong b (IsTried b) (pointers_of r sizes.source (element_count es)) sizes.kept.pointers m' m'') × MakesAtMost s mid new (spent_among one).words (spent_among one).pointers = rw counts (stop.0, stop.1) in
     (record { first = es; fewer = omega (arith, counts, less); mid = m'; are_read = are_read; stops = stops_sooner fits.less_pointers here.0 }, made_more (omega arith) (omega arith) (made_both made here.1))
 
-pub rows_taken : {r : Reading} {b : Form} {s i j : ℕ} {old new : View} {m m' : Meter} (sizes : ElementSizes) → i ≡ j → TakesForCopy (elements_original r sizes i) (change b (call_at s 0 old new) m m') → TakesForCopy (elements_original r sizes j) (change b (call_at s 0 old new) m m')
+pub rows_taken : {r : Reading} {b : Form} {s i j : ℕ} {old new : View} {m m' : Meter} (sizes : ElementSizes) → i ≡ j → TakesForCopy (elements_original r sizes i) (copy_call b (call_at s 0 old new) m m') → TakesForCopy (elements_original r sizes j) (copy_call b (call_at s 0 old new) m m')
 rows_taken sizes same (es, counts, are_read, made) = (es, counts ∙ same, are_read, made)
 
 -- No words are allocated before something is copied, and none afterwards.
 
-pub all_within : {r : Reading} {b : Form} {s i : ℕ} {old mid last new : View} {m m' : Meter} → TakesNone old mid → TakesNone last new → TakesForCopy (children_original r i) (change b (call_at s 0 mid last) m m') → TakesForCopy (children_original r i) (change b (call_at s 0 old new) m m')
+pub all_within : {r : Reading} {b : Form} {s i : ℕ} {old mid last new : View} {m m' : Meter} → TakesNone old mid → TakesNone last new → TakesForCopy (children_original r i) (copy_call b (call_at s 0 mid last) m m') → TakesForCopy (children_original r i) (copy_call b (call_at s 0 old new) m m')
 all_within before after (ts, counts, are_read, made) = (ts, counts, are_read, made_within before after made)
 
-pub among_within : {r : Reading} {b : Form} {s i j : ℕ} {old mid last new : View} {m m' : Meter} → i ≤ j → TakesNone old mid → TakesNone last new → TakesUntilStop (children_original r i) (change b (call_at s 0 mid last) m m') → TakesUntilStop (children_original r j) (change b (call_at s 0 old new) m m')
+pub among_within : {r : Reading} {b : Form} {s i j : ℕ} {old mid last new : View} {m m' : Meter} → i ≤ j → TakesNone old mid → TakesNone last new → TakesUntilStop (children_original r i) (copy_call b (call_at s 0 mid last) m m') → TakesUntilStop (children_original r j) (copy_call b (call_at s 0 old new) m m')
 unfolding stops_sooner
 among_within fewer before after (off, made) = (stops_sooner fewer off, made_within before after made)
 
 -- The same for what a place means, for a struct, and for a list.
 
-pub value_within : (r : Reading) (c d : Change) → TakesNone d.old c.old → TakesNone c.new d.new → d.segment ≡ c.segment → (value_original r).takes c.form c.before c.after (MakesAtMost c.segment c.old c.new) → (value_original r).takes c.form c.before c.after (MakesAtMost d.segment d.old d.new)
+pub value_within : (r : Reading) (c d : CopyCall) → TakesNone d.old c.old → TakesNone c.new d.new → d.segment ≡ c.segment → (value_original r).takes c.form c.before c.after (MakesAtMost c.segment c.old c.new) → (value_original r).takes c.form c.before c.after (MakesAtMost d.segment d.old d.new)
 value_within r c d before after same (t, x, made) = (t, x, made_elsewhere c d before after same made)
 
-pub until_within : (r : Reading) (c d : Change) → TakesNone d.old c.old → TakesNone c.new d.new → d.segment ≡ c.segment → (value_original r).takes_until c.form c.before c.after (MakesAtMost c.segment c.old c.new) → (value_original r).takes_until c.form c.before c.after (MakesAtMost d.segment d.old d.new)
+pub until_within : (r : Reading) (c d : CopyCall) → TakesNone d.old c.old → TakesNone c.new d.new → d.segment ≡ c.segment → (value_original r).takes_until c.form c.before c.after (MakesAtMost c.segment c.old c.new) → (value_original r).takes_until c.form c.before c.after (MakesAtMost d.segment d.old d.new)
 until_within r c d before after same (x, made) = (x, made_elsewhere c d before after same made)
 
-pub sections_within : (ws : List ℕ) (r : Reading) (q : ℕ) (c d : Change) → TakesNone d.old c.old → TakesNone c.new d.new → d.segment ≡ c.segment → (sections_original ws r q).takes c.form c.before c.after (MakesAtMost c.segment c.old c.new) →
+pub sections_within : (ws : List ℕ) (r : Reading) (q : ℕ) (c d : CopyCall) → TakesNone d.old c.old → TakesNone c.new d.new → d.segment ≡ c.segment → (sections_original ws r q).takes c.form c.before c.after (MakesAtMost c.segment c.old c.new) →
     (sections_original ws r q).takes c.form c.before c.after (MakesAtMost d.segment d.old d.new)
 sections_within ws r q c d before after same (ts, counts, x, made) = (ts, counts, x, made_elsewhere c d before after same made)
 
 pub sections_until_more : (ws : List ℕ) (r : Reading) (q : ℕ) (b : Form) (m m' : Meter) (P Q : ℕ → ℕ → Type 0) → ((i j : ℕ) → P i j → Q i j) → (sections_original ws r q).takes_until b m m' P → (sections_original ws r q).takes_until b m m' Q
 sections_until_more ws r q b m m' P Q f tried = elim tried [ inl x ↦ inl (x.0, f _ _ x.1) | inr x ↦ inr (x.0, f _ _ x.1) ]
 
-pub sections_until_within : (ws : List ℕ) (r : Reading) (q : ℕ) (c d : Change) → TakesNone d.old c.old → TakesNone c.new d.new → d.segment ≡ c.segment → (sections_original ws r q).takes_until c.form c.before c.after (MakesAtMost c.segment c.old c.new) →
+pub sections_until_within : (ws : List ℕ) (r : Reading) (q : ℕ) (c d : CopyCall) → TakesNone d.old c.old → TakesNone c.new d.new → d.segment ≡ c.segment → (sections_original ws r q).takes_until c.form c.before c.after (MakesAtMost c.segment c.old c.new) →
     (sections_original ws r q).takes_until c.form c.before c.after (MakesAtMost d.segment d.old d.new)
 sections_until_within ws r q c d before after same tried = sections_until_more ws r q c.form c.before c.after (MakesAtMost c.segment c.old c.new) (MakesAtMost d.segment d.old d.new) (λ i j made. made_elsewhere c d before after same made) tried
 
@@ -276,40 +276,40 @@ list_until_more TwoBytes sections n r b m m' P Q f (same, made) = (same, f _ _ m
 list_until_more FourBytes sections n r b m m' P Q f (same, made) = (same, f _ _ made)
 list_until_more EightBytes sections n r b m m' P Q f (same, made) = (same, f _ _ made)
 
-pub list_within : (size : ElementSize) (sections : StructSize) (n : ℕ) (r : Reading) (c d : Change) → TakesNone d.old c.old → TakesNone c.new d.new → d.segment ≡ c.segment → (list_original size sections n r).takes c.form c.before c.after (MakesAtMost c.segment c.old c.new) →
+pub list_within : (size : ElementSize) (sections : StructSize) (n : ℕ) (r : Reading) (c d : CopyCall) → TakesNone d.old c.old → TakesNone c.new d.new → d.segment ≡ c.segment → (list_original size sections n r).takes c.form c.before c.after (MakesAtMost c.segment c.old c.new) →
     (list_original size sections n r).takes c.form c.before c.after (MakesAtMost d.segment d.old d.new)
 list_within size sections n r c d before after same x = list_more size sections n r c.form c.before c.after (MakesAtMost c.segment c.old c.new) (MakesAtMost d.segment d.old d.new) (λ i j made. made_elsewhere c d before after same made) x
 
-pub list_until_within : (size : ElementSize) (sections : StructSize) (n : ℕ) (r : Reading) (c d : Change) → TakesNone d.old c.old → TakesNone c.new d.new → d.segment ≡ c.segment → (list_original size sections n r).takes_until c.form c.before c.after (MakesAtMost c.segment c.old c.new) →
+pub list_until_within : (size : ElementSize) (sections : StructSize) (n : ℕ) (r : Reading) (c d : CopyCall) → TakesNone d.old c.old → TakesNone c.new d.new → d.segment ≡ c.segment → (list_original size sections n r).takes_until c.form c.before c.after (MakesAtMost c.segment c.old c.new) →
     (list_original size sections n r).takes_until c.form c.before c.after (MakesAtMost d.segment d.old d.new)
 list_until_within size sections n r c d before after same x = list_until_more size sections n r c.form c.before c.after (MakesAtMost c.segment c.old c.new) (MakesAtMost d.segment d.old d.new) (λ i j made. made_elsewhere c d before after same made) x
 
 -- An object is made before pointers are copied to it.
 
-pub pointers_behind : (r : Reading) (i : ℕ) (b : Form) (s k : ℕ) (old mid new : View) (m m' : Meter) → Begins s k i old mid → TakesForCopy (children_original r i) (change b (call_at k 0 mid new) m m') → TakesForCopy (pointers_original i r) (change b (call_at s 0 old new) m m')
+pub pointers_behind : (r : Reading) (i : ℕ) (b : Form) (s k : ℕ) (old mid new : View) (m m' : Meter) → Begins s k i old mid → TakesForCopy (children_original r i) (copy_call b (call_at k 0 mid new) m m') → TakesForCopy (pointers_original i r) (copy_call b (call_at s 0 old new) m m')
 pointers_behind r i b s k old mid new m m' begun (ts, counts, are_read, made) = (ts, counts, are_read, made_object begun made)
 
-pub pointers_stop_behind : (r : Reading) (i : ℕ) (b : Form) (s k : ℕ) (old mid new : View) (m m' : Meter) → Begins s k i old mid → TakesUntilStop (children_original r i) (change b (call_at k 0 mid new) m m') → TakesUntilStop (pointers_original i r) (change b (call_at s 0 old new) m m')
+pub pointers_stop_behind : (r : Reading) (i : ℕ) (b : Form) (s k : ℕ) (old mid new : View) (m m' : Meter) → Begins s k i old mid → TakesUntilStop (children_original r i) (copy_call b (call_at k 0 mid new) m m') → TakesUntilStop (pointers_original i r) (copy_call b (call_at s 0 old new) m m')
 pointers_stop_behind r i b s k old mid new m m' begun (off, made) = inr (off, made_object begun made)
 
-pub structs_behind : (r : Reading) (sizes : ElementSizes) (i n : ℕ) (b : Form) (s k : ℕ) (old mid new : View) (m m' : Meter) → Begins s k n old mid → n ≤ structs_words i sizes.source → TakesForCopy (elements_original r sizes i) (change b (call_at k 0 mid new) m m') →
-    TakesForCopy (structs_original sizes.source i r) (change b (call_at s 0 old new) m m')
+pub structs_behind : (r : Reading) (sizes : ElementSizes) (i n : ℕ) (b : Form) (s k : ℕ) (old mid new : View) (m m' : Meter) → Begins s k n old mid → n ≤ structs_words i sizes.source → TakesForCopy (elements_original r sizes i) (copy_call b (call_at k 0 mid new) m m') →
+    TakesForCopy (structs_original sizes.source i r) (copy_call b (call_at s 0 old new) m m')
 structs_behind r sizes i n b s k old mid new m m' begun less (es, counts, are_read, made) = (es, counts, are_read, made_more (omega (arith, less)) (omega arith) (made_object begun made))
 
-pub structs_stop_behind : (r : Reading) (sizes : ElementSizes) (i n : ℕ) (b : Form) (s k : ℕ) (old mid new : View) (m m' : Meter) → Begins s k n old mid → n ≤ structs_words i sizes.source → TakesUntilStop (elements_original r sizes i) (change b (call_at k 0 mid new) m m') →
-    TakesUntilStop (structs_original sizes.source i r) (change b (call_at s 0 old new) m m')
+pub structs_stop_behind : (r : Reading) (sizes : ElementSizes) (i n : ℕ) (b : Form) (s k : ℕ) (old mid new : View) (m m' : Meter) → Begins s k n old mid → n ≤ structs_words i sizes.source → TakesUntilStop (elements_original r sizes i) (copy_call b (call_at k 0 mid new) m m') →
+    TakesUntilStop (structs_original sizes.source i r) (copy_call b (call_at s 0 old new) m m')
 structs_stop_behind r sizes i n b s k old mid new m m' begun less (off, made) = inr (off, made_more (omega (arith, less)) (omega arith) (made_object begun made))
 
 -- A struct is made of the pointers that are kept, and all its pointers are read.
 
 pub sections_behind : (ws : List ℕ) (r : Reading) (q used n : ℕ) (b : Form) (s k : ℕ) (old mid new : View) (m m' : Meter) → r.at + q ≤ length (segment_read r) → used ≡ kept_count b (words_from r q) → Begins s k n old mid → n ≤ length ws + q →
-    TakesForCopy (children_original r used) (change b (call_at k 0 mid new) m m') → TakesForCopy (sections_original ws r q) (change b (call_at s 0 old new) m m')
+    TakesForCopy (children_original r used) (copy_call b (call_at k 0 mid new) m m') → TakesForCopy (sections_original ws r q) (copy_call b (call_at s 0 old new) m m')
 sections_behind ws r q used n b s k old mid new m m' room cut begun less (ts, counts, are_read, made) =
     let f = sections_kept b [] r q m m' ts room (counts ∙ cut) are_read in
     (f.all, f.counts, f.are_read, made_more (omega (arith, less, f.costs)) (omega (arith, f.follows)) (made_object begun made))
 
-pub sections_stop_behind : (ws : List ℕ) (r : Reading) (q used n : ℕ) (b : Form) (s k : ℕ) (old mid new : View) (m m' : Meter) → used ≤ q → Begins s k n old mid → n ≤ length ws + q → TakesUntilStop (children_original r used) (change b (call_at k 0 mid new) m m') →
-    TakesUntilStop (sections_original ws r q) (change b (call_at s 0 old new) m m')
+pub sections_stop_behind : (ws : List ℕ) (r : Reading) (q used n : ℕ) (b : Form) (s k : ℕ) (old mid new : View) (m m' : Meter) → used ≤ q → Begins s k n old mid → n ≤ length ws + q → TakesUntilStop (children_original r used) (copy_call b (call_at k 0 mid new) m m') →
+    TakesUntilStop (sections_original ws r q) (copy_call b (call_at s 0 old new) m m')
 unfolding stops_sooner
 sections_stop_behind ws r q used n b s k old mid new m m' fewer begun less (off, made) = inr (stops_sooner fewer off, made_more (omega (arith, less)) (omega arith) (made_object begun made))
 
@@ -319,49 +319,49 @@ no_wider n a b c d l m = mul-le-mul_left n (omega (arith, l, m))
 
 -- What a pointer leads to.
 
-pub read_stop_taken : {r : Reading} {b : Form} {s : ℕ} {v : View} {m m' : Meter} {k : ErrorKind} → Stopped Value plain r m m' k → TakesUntilStop (value_original r) (change b (call_at s 0 v v) m m')
+pub read_stop_taken : {r : Reading} {b : Form} {s : ℕ} {v : View} {m m' : Meter} {k : ErrorKind} → Stopped Value plain r m m' k → TakesUntilStop (value_original r) (copy_call b (call_at s 0 v v) m m')
 read_stop_taken {b = b} {v = v} {k = k} stopped = (here (inl (k, stopped_form b stopped)), made_none (none_itself v))
 
-pub null_takes : {r : Reading} {b : Form} {s : ℕ} {v : View} {m m' : Meter} → IsObject Value r m m' ObjectNull → TakesForCopy (value_original r) (change b (call_at s 0 v v) m m')
+pub null_takes : {r : Reading} {b : Form} {s : ℕ} {v : View} {m m' : Meter} → IsObject Value r m m' ObjectNull → TakesForCopy (value_original r) (copy_call b (call_at s 0 v v) m m')
 unfolding read_null
-null_takes {r} {b} {s} {v} {m} object = subst (λ n. TakesForCopy (value_original r) (change b (call_at s 0 v v) m n)) (sym object.1) (Null, read_null m object.0, made_more (omega arith) (omega arith) (made_none (none_itself v)))
+null_takes {r} {b} {s} {v} {m} object = subst (λ n. TakesForCopy (value_original r) (copy_call b (call_at s 0 v v) m n)) (sym object.1) (Null, read_null m object.0, made_more (omega arith) (omega arith) (made_none (none_itself v)))
 
-pub capability_takes : {r : Reading} {s i : ℕ} {old new : View} {m m' : Meter} → IsObject Value r m m' (ObjectCapability i) → TakesNone old new → TakesForCopy (value_original r) (change plain (call_at s 0 old new) m m')
+pub capability_takes : {r : Reading} {s i : ℕ} {old new : View} {m m' : Meter} → IsObject Value r m m' (ObjectCapability i) → TakesNone old new → TakesForCopy (value_original r) (copy_call plain (call_at s 0 old new) m m')
 unfolding capability_read
 capability_takes {i = i} {m = m} {m'} object none = (Capability i, capability_read m m' i object, made_more (omega arith) (omega arith) (made_none none))
 
-pub capability_stop_takes : {r : Reading} {s i : ℕ} {v : View} {m m' : Meter} → IsObject Value r m m' (ObjectCapability i) → TakesUntilStop (value_original r) (change canonical (call_at s 0 v v) m m')
+pub capability_stop_takes : {r : Reading} {s i : ℕ} {v : View} {m m' : Meter} → IsObject Value r m m' (ObjectCapability i) → TakesUntilStop (value_original r) (copy_call canonical (call_at s 0 v v) m m')
 capability_stop_takes {i = i} {v} {m} {m'} object = (here (inl (CannotCreateACanonicalMessageWithACapability, capability_stopped m m' i object)), made_none (none_itself v))
 
-pub default_stop_takes : {r : Reading} {s i : ℕ} {v : View} {m m' : Meter} → IsObject Value r m m' (ObjectCapability i) → TakesUntilStop (value_original r) (change of_default (call_at s 0 v v) m m')
+pub default_stop_takes : {r : Reading} {s i : ℕ} {v : View} {m m' : Meter} → IsObject Value r m m' (ObjectCapability i) → TakesUntilStop (value_original r) (copy_call of_default (call_at s 0 v v) m m')
 default_stop_takes {i = i} {v} {m} {m'} object = (here (inl (UnknownPointerType, default_stopped m m' i object)), made_none (none_itself v))
 
-pub capability_value_takes : {b : Form} {s p i : ℕ} {old new : View} (r : Reading) (m m' : Meter) (result : Result (Unit {0}) ErrorKind) → IsObject Value r m m' (ObjectCapability i) → CapabilityCopied result b s p i old new → TakesAtMost result (value_original r) (change b (call_at s p old new) m m')
+pub capability_value_takes : {b : Form} {s p i : ℕ} {old new : View} (r : Reading) (m m' : Meter) (result : Result (Unit {0}) ErrorKind) → IsObject Value r m m' (ObjectCapability i) → CapabilityCopied result b s p i old new → TakesAtMost result (value_original r) (copy_call b (call_at s p old new) m m')
 capability_value_takes {b} {s} {p} {i} {old} {new} r m m' (Ok x) object o =
-    subst (λ f. TakesForCopy (value_original r) (change f (call_at s 0 old new) m m')) (sym o.as_it_stands) (capability_takes object (none_word old new s p (capability_word i) o.copied))
+    subst (λ f. TakesForCopy (value_original r) (copy_call f (call_at s 0 old new) m m')) (sym o.as_it_stands) (capability_takes object (none_word old new s p (capability_word i) o.copied))
 capability_value_takes {b} {s} {p} {i} {old} {new} r m m' (Err k) object o = elim o.refused [
   | inl x ↦ rw (x.0, o.unchanged) (capability_stop_takes object)
   | inr x ↦ rw (x.0, o.unchanged) (default_stop_takes object)
 ]
 
 -- An object is read, and there is no room for it.
-entered_takes : (r : Reading) (b : Form) (s : ℕ) (old new : View) (m m' m'' : Meter) {a : Target} → Entered Value r m m' a → m'' ≡ m' → MakesAtMost s old new 0 0 → TakesUntilStop (value_original r) (change b (call_at s 0 old new) m m'')
+entered_takes : (r : Reading) (b : Form) (s : ℕ) (old new : View) (m m' m'' : Meter) {a : Target} → Entered Value r m m' a → m'' ≡ m' → MakesAtMost s old new 0 0 → TakesUntilStop (value_original r) (copy_call b (call_at s 0 old new) m m'')
 entered_takes r b s old new m m' m'' {a} o same none =
-    subst (λ n. TakesUntilStop (value_original r) (change b (call_at s 0 old new) m n)) (sym same) (here (inr (a, o)), none)
+    subst (λ n. TakesUntilStop (value_original r) (copy_call b (call_at s 0 old new) m n)) (sym same) (here (inr (a, o)), none)
 
 pub struct_takes : {r : Reading} {b : Form} {s levels : ℕ} {old new : View} {m m' m'' : Meter} {size : StructSize} (start : Place) → (0 < r.levels → levels ≡ pred r.levels) → IsObject Value r m m' (ObjectStruct start size) →
-    TakesForCopy (sections_original (words_from (inside r levels start) size.data_words) (behind (inside r levels start) size.data_words) size.pointers) (change b (call_at s 0 old new) m' m'') → TakesForCopy (value_original r) (change b (call_at s 0 old new) m m'')
+    TakesForCopy (sections_original (words_from (inside r levels start) size.data_words) (place_past (inside r levels start) size.data_words) size.pointers) (copy_call b (call_at s 0 old new) m' m'') → TakesForCopy (value_original r) (copy_call b (call_at s 0 old new) m m'')
 unfolding read_struct
 struct_takes {r} {b} {s} {levels = levels} {old} {new} {m' = m'} {m''} {size} start less (a, o, z, (held, es, eb), ed, eq) (ts, counts, read, made) =
     let en = less o.meets.levels in
     let e : start.at ≡ a.start = omega arith in
     let fewer = length-take size.data_words (drop start.at (segment r.segments start.segment)) in
-    let given : (all : ReadsAll b (behind (inside r levels start) size.data_words) m' m'' ts) × MakesAtMost s old new (size.data_words + size.pointers + all.cost) (1 + pointers_in_all ts) = (read, made_more (omega (arith, fewer)) (omega arith) made) in
+    let given : (all : ReadsAll b (place_past (inside r levels start) size.data_words) m' m'' ts) × MakesAtMost s old new (size.data_words + size.pointers + all.cost) (1 + pointers_in_all ts) = (read, made_more (omega (arith, fewer)) (omega arith) made) in
     let all = rw (en, es, e, ed, eq) at given in
     (Struct (words_at r.segments a.segment a.start (data_words a.word)) ts, read_struct o z (counts ∙ eq) all.0, made_more (omega (arith, own_struct r.segments a z)) (omega arith) all.1)
 
 pub struct_stop_takes : {r : Reading} {b : Form} {s levels : ℕ} {old new : View} {m m' m'' : Meter} {size : StructSize} (start : Place) → (0 < r.levels → levels ≡ pred r.levels) → IsObject Value r m m' (ObjectStruct start size) →
-    TakesUntilStop (sections_original (words_from (inside r levels start) size.data_words) (behind (inside r levels start) size.data_words) size.pointers) (change b (call_at s 0 old new) m' m'') → TakesUntilStop (value_original r) (change b (call_at s 0 old new) m m'')
+    TakesUntilStop (sections_original (words_from (inside r levels start) size.data_words) (place_past (inside r levels start) size.data_words) size.pointers) (copy_call b (call_at s 0 old new) m' m'') → TakesUntilStop (value_original r) (copy_call b (call_at s 0 old new) m m'')
 unfolding stops_struct
 struct_stop_takes {r} {b} {s} {levels} {old} {new} {m} {m'} {m''} {size} start less (a, o, z, (held, es, eb), ed, eq) tried =
     let en = less o.meets.levels in
@@ -369,13 +369,13 @@ struct_stop_takes {r} {b} {s} {levels} {old} {new} {m} {m'} {m''} {size} start l
     elim tried [
       | inl nothing ↦ entered_takes r b s old new m m' m'' o nothing.0 nothing.1
       | inr x ↦
-          (let given : (off : StopsAmong b (IsTried b) (behind (inside r levels start) size.data_words) size.pointers m' m'') × MakesAtMost s old new (size.data_words + size.pointers + (spent_among off).words) (1 + (spent_among off).pointers) = (x.0, made_more (omega (arith, length-take size.data_words (drop start.at (segment r.segments start.segment)))) (omega arith) x.1) in
+          (let given : (off : StopsAmong b (IsTried b) (place_past (inside r levels start) size.data_words) size.pointers m' m'') × MakesAtMost s old new (size.data_words + size.pointers + (spent_among off).words) (1 + (spent_among off).pointers) = (x.0, made_more (omega (arith, length-take size.data_words (drop start.at (segment r.segments start.segment)))) (omega arith) x.1) in
           let off = rw (en, es, e, ed, eq) at given in
           (stops_struct o z off.0, made_more (omega (arith, own_struct r.segments a z)) (omega arith) off.1))
     ]
 
-pub pointers_take : {r : Reading} {b : Form} {s levels i : ℕ} {old new : View} {m m' m'' : Meter} (start : Place) → (0 < r.levels → levels ≡ pred r.levels) → IsObject Value r m m' (ObjectPointers start i) → TakesForCopy (pointers_original i (inside r levels start)) (change b (call_at s 0 old new) m' m'') →
-    TakesForCopy (value_original r) (change b (call_at s 0 old new) m m'')
+pub pointers_take : {r : Reading} {b : Form} {s levels i : ℕ} {old new : View} {m m' m'' : Meter} (start : Place) → (0 < r.levels → levels ≡ pred r.levels) → IsObject Value r m m' (ObjectPointers start i) → TakesForCopy (pointers_original i (inside r levels start)) (copy_call b (call_at s 0 old new) m' m'') →
+    TakesForCopy (value_original r) (copy_call b (call_at s 0 old new) m m'')
 unfolding read_pointers
 pointers_take {r} {b} {s} {levels = levels} {i} {old} {new} {m' = m'} {m''} start less (a, o, z, six, (held, es, eb), ei) (ts, counts, read, made) =
     let en = less o.meets.levels in
@@ -385,7 +385,7 @@ pointers_take {r} {b} {s} {levels = levels} {i} {old} {new} {m' = m'} {m''} star
     (Pointers ts, read_pointers o z six (counts ∙ ei) all.0, made_more (omega (arith, own_pointers r.segments a z six, ei)) (omega arith) all.1)
 
 pub pointers_stop_take : {r : Reading} {b : Form} {s levels i : ℕ} {old new : View} {m m' m'' : Meter} (start : Place) → (0 < r.levels → levels ≡ pred r.levels) → IsObject Value r m m' (ObjectPointers start i) →
-    TakesUntilStop (pointers_original i (inside r levels start)) (change b (call_at s 0 old new) m' m'') → TakesUntilStop (value_original r) (change b (call_at s 0 old new) m m'')
+    TakesUntilStop (pointers_original i (inside r levels start)) (copy_call b (call_at s 0 old new) m' m'') → TakesUntilStop (value_original r) (copy_call b (call_at s 0 old new) m m'')
 unfolding stops_pointers
 pointers_stop_take {r} {b} {s} {levels} {i} {old} {new} {m} {m'} {m''} start less (a, o, z, six, (held, es, eb), ei) tried =
     let en = less o.meets.levels in
@@ -399,7 +399,7 @@ pointers_stop_take {r} {b} {s} {levels} {i} {old} {new} {m} {m'} {m''} start les
     ]
 
 pub structs_take : {r : Reading} {b : Form} {s levels i : ℕ} {old new : View} {m m' m'' : Meter} {size : StructSize} (start : Place) → (0 < r.levels → levels ≡ pred r.levels) → IsObject Value r m m' (ObjectStructs start size i) →
-    TakesForCopy (structs_original size i (inside r levels start)) (change b (call_at s 0 old new) m' m'') → TakesForCopy (value_original r) (change b (call_at s 0 old new) m m'')
+    TakesForCopy (structs_original size i (inside r levels start)) (copy_call b (call_at s 0 old new) m' m'') → TakesForCopy (value_original r) (copy_call b (call_at s 0 old new) m m'')
 unfolding read_structs
 structs_take {r} {b} {s} {levels = levels} {i} {old} {new} {m' = m'} {m''} {size} start less (a, o, z, seven, (held, eu, eb), ei, ed, eq) (es, counts, read, made) =
     let en = less o.meets.levels in
@@ -409,7 +409,7 @@ structs_take {r} {b} {s} {levels = levels} {i} {old} {new} {m' = m'} {m''} {size
     (Structs (data_words (tag r.segments a)) (pointer_count (tag r.segments a)) es, read_structs o z seven (counts ∙ ei) all.0, made_more (omega (arith, own_structs r.segments a z seven, (o.meets.tagged (z, seven)).1)) (omega arith) all.1)
 
 pub structs_stop_take : {r : Reading} {b : Form} {s levels i : ℕ} {old new : View} {m m' m'' : Meter} {size : StructSize} (start : Place) → (0 < r.levels → levels ≡ pred r.levels) → IsObject Value r m m' (ObjectStructs start size i) →
-    TakesUntilStop (structs_original size i (inside r levels start)) (change b (call_at s 0 old new) m' m'') → TakesUntilStop (value_original r) (change b (call_at s 0 old new) m m'')
+    TakesUntilStop (structs_original size i (inside r levels start)) (copy_call b (call_at s 0 old new) m' m'') → TakesUntilStop (value_original r) (copy_call b (call_at s 0 old new) m m'')
 unfolding stops_structs
 structs_stop_take {r} {b} {s} {levels} {i} {old} {new} {m} {m'} {m''} {size} start less (a, o, z, seven, (held, eu, eb), ei, ed, eq) tried =
     let en = less o.meets.levels in
@@ -422,13 +422,13 @@ structs_stop_take {r} {b} {s} {levels} {i} {old} {new} {m} {m'} {m''} {size} sta
           (stops_structs o z seven off.0, made_more (omega (arith, own_structs r.segments a z seven, (o.meets.tagged (z, seven)).1)) (omega arith) off.1))
     ]
 
-pub flat_takes : {r : Reading} {b : Form} {s i : ℕ} {old new : View} {m m' : Meter} (size : ElementSize) (start : Place) → IsObject Value r m m' (ObjectFlat start size i) → MakesAtMost s old new (words_for (size_number size) i) 1 → TakesForCopy (value_original r) (change b (call_at s 0 old new) m m')
+pub flat_takes : {r : Reading} {b : Form} {s i : ℕ} {old new : View} {m m' : Meter} (size : ElementSize) (start : Place) → IsObject Value r m m' (ObjectFlat start size i) → MakesAtMost s old new (words_for (size_number size) i) 1 → TakesForCopy (value_original r) (copy_call b (call_at s 0 old new) m m')
 unfolding read_flat
 flat_takes {r} size start (a, o, z, small, at, es, ec) made =
     let given = rw (es, ec) at made in
     (Flat (element_size a.word) (unpacked (element_size a.word) (list_count a.word) (words_at r.segments a.segment a.start (words_for (element_size a.word) (list_count a.word)))), read_flat o z small, made_more (omega (arith, own_flat r.segments a z small)) (omega arith) given)
 
-pub flat_stop_takes : {r : Reading} {b : Form} {s i : ℕ} {old new : View} {m m' : Meter} (size : ElementSize) (start : Place) → IsObject Value r m m' (ObjectFlat start size i) → TakesNone old new → TakesUntilStop (value_original r) (change b (call_at s 0 old new) m m')
+pub flat_stop_takes : {r : Reading} {b : Form} {s i : ℕ} {old new : View} {m m' : Meter} (size : ElementSize) (start : Place) → IsObject Value r m m' (ObjectFlat start size i) → TakesNone old new → TakesUntilStop (value_original r) (copy_call b (call_at s 0 old new) m m')
 flat_stop_takes {r} {b} {s} {old = old} {new} {m} {m'} size start (a, o, z, small, at, es, ec) none = entered_takes r b s old new m m' m' o refl (made_none none)
 
 -- Nothing is allocated for a list that was read, such as one that is too long; and a list of
@@ -445,7 +445,7 @@ nothing_for_list FourBytes sections n r b m P none = (refl, none)
 nothing_for_list EightBytes sections n r b m P none = (refl, none)
 
 pub numbers_take : {A E : Type 0} (result : Result A E) (size : ElementSize) (n : ℕ) (r : Reading) (b : Form) (s p : ℕ) (old new : View) (m : Meter) → MatchResult result (λ _. MakesAtMost s old new (words_for (size_number size) n) 1) (λ _. TakesNone old new) →
-    TakesAtMost result (numbers_original size n r) (change b (call_at s p old new) m m)
+    TakesAtMost result (numbers_original size n r) (copy_call b (call_at s p old new) m m)
 numbers_take (Ok x) size n r b s p old new m made = (refl, made)
 numbers_take (Err k) size n r b s p old new m none = (refl, made_none none)
 
@@ -469,7 +469,7 @@ abbrev pub Covered : Bool → Meter → ℕ → ℕ → Type 0
 Covered charging m g f = Affords charging m g × (f ≤ g + 1)
 
 pub covered_below : {form : Form} {r : Reading} {m first mid : Meter} {q : ℕ} {a : Target} (g f : ℕ) → Entered Value r m first a → (before : ReadsBefore form r a q first mid) → Covered r.charging mid g f →
-    Covered r.charging m (own Value r.segments a + ((spent_before before).words + g)) (1 + ((spent_before before).pointers + f))
+    Covered r.charging m (own_charge Value r.segments a + ((spent_before before).words + g)) (1 + ((spent_before before).pointers + f))
 covered_below {r = r} {a = a} g f o (in_struct ts z fewer e all) (covers, few) =
     let own_words = own_struct r.segments a z in
     let within = pointers_within_all (child_at r a (pred r.levels) (a.start + data_words a.word)) ts all.cost all.means in
@@ -486,7 +486,7 @@ covered_below {r = r} {m = m} {a = a} g f o (in_element es ts between (z, seven)
     let fits = (o.meets.tagged (z, seven)).1 in
     let in_rows = pointers_within_elements (child_at r a (pred r.levels) (a.start + 1)) (tag_size S a) es rows.cost rows.means in
     let within = pointers_within_all (pointers_of (child_at r a (pred r.levels) (a.start + 1)) (tag_size S a) (element_count es)) ts all.cost all.means in
-    let sum : own Value S a + (rows.cost + (all.cost + g)) ≡ own Value S a + (rows.cost + all.cost + g) = omega arith in (
+    let sum : own_charge Value S a + (rows.cost + (all.cost + g)) ≡ own_charge Value S a + (rows.cost + all.cost + g) = omega arith in (
       subst (Affords r.charging m) sum (affords_both (rows.cost + (all.cost + g)) (paid_own o) (affords_both (all.cost + g) (paid_elements rows) (affords_both g (paid_all all) covers))),
       omega (arith, few, less, own_words, fits, in_rows, within, one_element_more (element_count es) n q fewer, fewer_than_words n (data_words (tag S a)) q),
     )
@@ -501,16 +501,16 @@ covered_by charging m g x charged budget covers = let all : Affords true m g = s
 
 -- The call takes at most x words and x + 1 pads, and follows at most x + 1 pointers. It takes no
 -- pad if x words stay in the segment of the pointer.
-abbrev pub TakesFew : Change → ℕ → Type 0
+abbrev pub TakesFew : CopyCall → ℕ → Type 0
 TakesFew c x = (made : MakesAtMost c.segment c.old c.new x (x + 1)) × (message_words c.new.words ≤ message_words c.old.words + x + made.pads) ×
     (c.segment < length c.old.words → StayInSegment c.old c.new c.segment x → made.pads ≡ 0) × (c.after.followed ≤ c.before.followed + (x + 1))
 
-few_of : (c : Change) (x : ℕ) → MakesAtMost c.segment c.old c.new x (x + 1) → c.after.followed ≤ c.before.followed + (x + 1) → TakesFew c x
+few_of : (c : CopyCall) (x : ℕ) → MakesAtMost c.segment c.old c.new x (x + 1) → c.after.followed ≤ c.before.followed + (x + 1) → TakesFew c x
 few_of c x made followed =
     let apart = pads_apart c.segment made.words made.pads c.old c.new made.made in
     (made, omega (arith, apart.0, made.less), λ there fits. apart.1 there (stay_fewer c.old c.new c.segment x made.words made.less fits), followed)
 
-pub few_taken : (r : Reading) (c : Change) (x : ℕ) (result : Result ⊤ ErrorKind) → r.charging ≡ true → c.before.left ≡ Some x → TakesAtMost result (value_original r) c → TakesFew c x
+pub few_taken : (r : Reading) (c : CopyCall) (x : ℕ) (result : Result ⊤ ErrorKind) → r.charging ≡ true → c.before.left ≡ Some x → TakesAtMost result (value_original r) c → TakesFew c x
 few_taken r c x (Ok done) charged budget whole =
     let paid = covered_by r.charging c.before whole.1.cost x charged budget whole.1.covers in
     let few = pointers_within r.segments r.levels r.segment r.at whole.0 (whole.1.cost, whole.1.means) in

@@ -3,7 +3,7 @@ use Rattle.std.proofs.Common.{◌≡◌, ℕ, ◌+◌, ◌*◌, ◌≤◌, max, 
 use Rattle.capnp_format.specs.Tree.{Tree, Null, Capability, Struct, Flat, Pointers, Structs, Trees, no_trees, tree, Elements, no_elements, element, count, element_count}
 use Rattle.capnp_words.specs.declared.wire_pointer.StructSize.{StructSize}
 use Rattle.capnp_objects.specs.Outcomes.{MeansThere}
-use Rattle.capnp_objects.specs.Reading.{Reading, behind, segment_read, word_of, words_from}
+use Rattle.capnp_objects.specs.Reading.{Reading, place_past, segment_read, word_of, words_from}
 use Rattle.capnp_format.specs.Canonical.{used_from, used_words, is_null, used_trees, data_width, pointer_width}
 use Rattle.capnp_pointers.proofs.Used.{words_at-more}
 use Rattle.capnp_copies.specs.Widths.{most_used}
@@ -24,7 +24,7 @@ pub used_where_meant : (r : Reading) (ts : Trees) (c : ℕ) → r.at + count ts 
 used_where_meant r no_trees c l h = refl
 used_where_meant r (tree t ts) c l (k, m, one, rest, g) =
     ap used_words (words_at-more r.segments r.segment r.at (count ts) (omega arith))
-    ∙ ap₂ used_from (means_is_null r t k one) (used_where_meant (behind r 1) ts m (omega arith) rest)
+    ∙ ap₂ used_from (means_is_null r t k one) (used_where_meant (place_past r 1) ts m (omega arith) rest)
 
 -- The place after one element.
 abbrev next : Reading → StructSize → Reading
@@ -45,5 +45,5 @@ pointers_where_meant r size no_elements c l h = refl
 pointers_where_meant r size (element ws ts es) c l (k, m, long, len, e, all, rest, g) =
     let d : ℕ = size.data_words in
     let q : ℕ = size.pointers in
-    ap₂ max (sym (used_where_meant (behind r d) ts k (omega (arith, len)) all) ∙ ap (λ i. used_words (words_from (behind r d) i)) len)
+    ap₂ max (sym (used_where_meant (place_past r d) ts k (omega (arith, len)) all) ∙ ap (λ i. used_words (words_from (place_past r d) i)) len)
     (pointers_where_meant (next r size) size es m (omega arith) rest ∙ ap (λ i. most_used (segment_read r) i q (d + q) (element_count es)) (let b : r.at + d + q + d ≡ r.at + d + (d + q) = omega arith in b))

@@ -9,22 +9,22 @@ use Rattle.capnp_format.specs.Word.{struct_word}
 use Rattle.capnp_arena_traits.specs.View.{View}
 use Rattle.capnp_arena_traits.specs.Written.{with_word}
 use Rattle.capnp_making.specs.Made.{LeadsToStart}
-use Rattle.capnp_making.specs.Memory.{HasRoom, IsNextRoom, TakesWords, StandsBehind, KeepsMemory}
+use Rattle.capnp_making.specs.Memory.{HasRoom, IsNextRoom, TakesWords, ComesAfter, KeepsMemory}
 use Rattle.capnp_making.specs.Near.{HasOwnRoom}
 use Rattle.capnp_arena_traits.specs.declared.arena.WordPlace.{WordPlace}
 use Rattle.capnp_making.proofs.MadeWords.{word_put}
 use Rattle.capnp_making.proofs.Placed.{empty_made}
-use Rattle.capnp_copies.specs.Changes.{Change, StayInSegment}
+use Rattle.capnp_copies.specs.Changes.{CopyCall, StayInSegment}
 use Rattle.capnp_copies.specs.Growth.{Makes, no_object, near, far, both, MakesAtMost}
 use Rattle.capnp_copies.specs.Originals.{Original}
 use Rattle.capnp_copies.proofs.Copying.{there}
 
 -- What a copy takes if all is read, and if it is refused.
 
-abbrev pub TakesForCopy : {V : Type 0} → Original V → Change → Type 0
+abbrev pub TakesForCopy : {V : Type 0} → Original V → CopyCall → Type 0
 TakesForCopy o c = o.takes c.form c.before c.after (MakesAtMost c.segment c.old c.new)
 
-abbrev pub TakesUntilStop : {V : Type 0} → Original V → Change → Type 0
+abbrev pub TakesUntilStop : {V : Type 0} → Original V → CopyCall → Type 0
 TakesUntilStop o c = o.takes_until c.form c.before c.after (MakesAtMost c.segment c.old c.new)
 
 -- An object that is made.
@@ -44,7 +44,7 @@ empty_start S R s p h place writes lead =
     let made = empty_made S R s p x place (word_put S R s p x place writes) refl in
     lead.0 ∙ ap (λ o. (target_in o).segment) made.leads_there.1
 
-pub struct_begins : (s p : ℕ) (least : StructSize) (old made : View) (h : WordPlace) → IsPlace old.words s p → TakesWords old made s (least.data_words + least.pointers) → KeepsMemory old made → StandsBehind old s (least.data_words + least.pointers) h →
+pub struct_begins : (s p : ℕ) (least : StructSize) (old made : View) (h : WordPlace) → IsPlace old.words s p → TakesWords old made s (least.data_words + least.pointers) → KeepsMemory old made → ComesAfter old s (least.data_words + least.pointers) h →
     LeadsToStart made.words s p h → (least.data_words + least.pointers ≡ 0 → made.words ≡ with_word old.words s p (struct_word (2 ^ 30 - 1) 0 0)) → Begins s h.segment (least.data_words + least.pointers) old made
 struct_begins s p least old made h place taken memory behind lead empty = record {
   there = there old.words s p place;

@@ -18,7 +18,7 @@ use Rattle.capnp_objects.specs.Faults.{LeadsTo}
 use Rattle.capnp_objects.specs.Outcomes.{MeansThere}
 use Rattle.capnp_objects.specs.Refusals.{Stopped, broken}
 use Rattle.capnp_objects.specs.Reading.{Reading}
-use Rattle.capnp_objects.specs.Spending.{after, Paid}
+use Rattle.capnp_objects.specs.Spending.{after_charge, Paid}
 use Rattle.capnp_objects.specs.Wanted.{canonical, of_default}
 use Rattle.capnp_objects.specs.declared.object.Purpose.TheVariants.{Value}
 use Rattle.capnp_objects.proofs.Stops.{same_word}
@@ -40,10 +40,10 @@ inside r levels start = record r { levels = levels; segment = start.segment; at 
 
 -- A capability is refused in canonical form, and in a default.
 
-pads_paid : (charging : Bool) (m m' : Meter) (g : ℕ) → Affords charging m g → m' ≡ after charging m g 1 → Paid charging m m' (g + 0) 1
+pads_paid : (charging : Bool) (m m' : Meter) (g : ℕ) → Affords charging m g → m' ≡ after_charge charging m g 1 → Paid charging m m' (g + 0) 1
 pads_paid charging m m' g covers spent =
     let none : g ≡ g + 0 = omega arith in
-    record { covers = subst (Affords charging m) none covers; spent = spent ∙ ap (λ i. after charging m i 1) none }
+    record { covers = subst (Affords charging m) none covers; spent = spent ∙ ap (λ i. after_charge charging m i 1) none }
 
 pub capability_stopped : {r : Reading} (m m' : Meter) (i : ℕ) → IsObject Value r m m' (ObjectCapability i) → Stopped Value canonical r m m' CannotCreateACanonicalMessageWithACapability
 capability_stopped {r} m m' i (a, l, low, e, covers, spent) = broken a l (refl, low) (pads_paid r.charging m m' a.pads covers spent)

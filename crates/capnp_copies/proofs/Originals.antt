@@ -14,12 +14,12 @@ use Rattle.capnp_arena_traits.specs.View.{View}
 use Rattle.capnp_making.specs.Memory.{SpendsMemory, RefusesWords}
 use Rattle.capnp_making.specs.Stored.{IsReplaced}
 use Rattle.capnp_objects.specs.Outcomes.{MeansThere, Reads, ReadsAll, ReadsElements}
-use Rattle.capnp_objects.specs.Reading.{Reading, behind, words_from}
+use Rattle.capnp_objects.specs.Reading.{Reading, place_past, words_from}
 use Rattle.capnp_objects.specs.Refusals.{Stopped}
-use Rattle.capnp_objects.specs.Spending.{after, pointers_in, pointers_in_all, pointers_in_elements}
+use Rattle.capnp_objects.specs.Spending.{after_charge, pointers_in, pointers_in_all, pointers_in_elements}
 use Rattle.capnp_objects.specs.Wanted.{Form, plain}
 use Rattle.capnp_objects.specs.declared.object.Purpose.TheVariants.{Value}
-use Rattle.capnp_copies.specs.Changes.{Change, ComesToObject, FindsNoRoom, LacksRoom, RefusesToCopy, StopsCopy}
+use Rattle.capnp_copies.specs.Changes.{CopyCall, ComesToObject, FindsNoRoom, LacksRoom, RefusesToCopy, StopsCopy}
 use Rattle.capnp_copies.proofs.Copying.{StopsHalfway}
 use Rattle.capnp_copies.specs.Forms.{kept, kept_each, kept_elements}
 use Rattle.capnp_copies.specs.Originals.{Original, value_original, children_original, elements_original, sections_original, numbers_original, pointers_original, structs_original, list_original, FitsListPointer}
@@ -45,8 +45,8 @@ value_large b r used room large any m m' t read = large t read.cost read.means
 
 pub value_beyond : (b : Form) (r : Reading) (used room : ℕ) → ExceedsRoom b (value_original r) used room → (t : Tree) (c : ℕ) → MeansThere r t c → room < used + word_count (kept b t)
 value_beyond b r used room large t c means =
-    let read : Reads plain r (unused None) (after r.charging (unused None) c (pointers_in t)) t = record { cost = c; means = means; takes = λ f. absurd (f refl); covers = affords_all r.charging c; spent = refl } in
-    large plain (unused None) (after r.charging (unused None) c (pointers_in t)) t read
+    let read : Reads plain r (unused None) (after_charge r.charging (unused None) c (pointers_in t)) t = record { cost = c; means = means; takes = λ f. absurd (f refl); covers = affords_all r.charging c; spent = refl } in
+    large plain (unused None) (after_charge r.charging (unused None) c (pointers_in t)) t read
 
 -- A struct of these data words with q pointers from r on.
 
@@ -54,16 +54,16 @@ abbrev pub AreTooLargeSections : Form → List ℕ → Reading → ℕ → ℕ �
 AreTooLargeSections b ws r q used room = (ts : Trees) (c : ℕ) → count ts ≡ q → MeanThere r ts c → room < used + word_count (kept b (Struct ws ts))
 
 abbrev pub IsTooLargeStruct : Form → Reading → StructSize → ℕ → ℕ → Type 0
-IsTooLargeStruct b r size used room = AreTooLargeSections b (words_from r size.data_words) (behind r size.data_words) size.pointers used room
+IsTooLargeStruct b r size used room = AreTooLargeSections b (words_from r size.data_words) (place_past r size.data_words) size.pointers used room
 
-all_read : (r : Reading) (ts : Trees) (c : ℕ) → MeanThere r ts c → ReadsAll plain r (unused None) (after r.charging (unused None) c (pointers_in_all ts)) ts
+all_read : (r : Reading) (ts : Trees) (c : ℕ) → MeanThere r ts c → ReadsAll plain r (unused None) (after_charge r.charging (unused None) c (pointers_in_all ts)) ts
 all_read r ts c means = record { cost = c; means = means; takes = λ f. absurd (f refl); covers = affords_all r.charging c; spent = refl }
 
 pub sections_large : (b : Form) (ws : List ℕ) (r : Reading) (q used room : ℕ) → AreTooLargeSections b ws r q used room → ExceedsRoom b (sections_original ws r q) used room
 sections_large b ws r q used room large any m m' t (ts, is, counts, read) = subst (λ u. room < used + word_count (kept b u)) (sym is) (large ts read.cost counts read.means)
 
 pub sections_beyond : (b : Form) (ws : List ℕ) (r : Reading) (q used room : ℕ) → ExceedsRoom b (sections_original ws r q) used room → AreTooLargeSections b ws r q used room
-sections_beyond b ws r q used room large ts c counts means = large plain (unused None) (after r.charging (unused None) c (pointers_in_all ts)) (Struct ws ts) (ts, refl, counts, all_read r ts c means)
+sections_beyond b ws r q used room large ts c counts means = large plain (unused None) (after_charge r.charging (unused None) c (pointers_in_all ts)) (Struct ws ts) (ts, refl, counts, all_read r ts c means)
 
 -- i pointers from a place on.
 
@@ -74,30 +74,30 @@ pub children_large : (b : Form) (r : Reading) (i used room : ℕ) → AreTooLarg
 children_large b r i used room large any m m' ts (counts, read) = large ts read.cost counts read.means
 
 pub children_beyond : (b : Form) (r : Reading) (i used room : ℕ) → ExceedsRoom b (children_original r i) used room → AreTooLarge b r i used room
-children_beyond b r i used room large ts c counts means = large plain (unused None) (after r.charging (unused None) c (pointers_in_all ts)) ts (counts, all_read r ts c means)
+children_beyond b r i used room large ts c counts means = large plain (unused None) (after_charge r.charging (unused None) c (pointers_in_all ts)) ts (counts, all_read r ts c means)
 
 -- If there is no room, a request for some n words is refused.
-pub refused_words : {V : Type 0} (o : Original V) (c : Change) (k : ErrorKind) → LacksRoom o c k → (n : ℕ) × RefusesWords c.old c.new n k
+pub refused_words : {V : Type 0} (o : Original V) (c : CopyCall) (k : ErrorKind) → LacksRoom o c k → (n : ℕ) × RefusesWords c.old c.new n k
 refused_words o c k (inl (n, same, makes, (refused, full))) = (n, refused)
 refused_words o c k (inr (n, stops, (refused, full))) = (n, refused)
 
 -- If there is no room in a message, there is none in the one before, if the same objects find none
 -- there.
-pub lacks_before : {V : Type 0} (o : Original V) (c : Change) (v : View) (k : ErrorKind) → ((n all : ℕ) → FindsNoRoom c k n all → FindsNoRoom (record c { old = v }) k n all) → LacksRoom o c k → LacksRoom o (record c { old = v }) k
+pub lacks_before : {V : Type 0} (o : Original V) (c : CopyCall) (v : View) (k : ErrorKind) → ((n all : ℕ) → FindsNoRoom c k n all → FindsNoRoom (record c { old = v }) k n all) → LacksRoom o c k → LacksRoom o (record c { old = v }) k
 lacks_before o c v k f (inl (n, same, makes, found)) = inl (n, same, makes, f n n found)
 lacks_before o c v k f (inr (n, stops, found)) = inr (n, stops, f n ((o.spent stops).words + n) found)
 
 -- And there is none in the one afterwards, if the same words are refused.
-pub lacks_after : {V : Type 0} (o : Original V) (c : Change) (v : View) (k : ErrorKind) → ((n : ℕ) → RefusesWords c.old c.new n k → RefusesWords c.old v n k) → LacksRoom o c k → LacksRoom o (record c { new = v }) k
+pub lacks_after : {V : Type 0} (o : Original V) (c : CopyCall) (v : View) (k : ErrorKind) → ((n : ℕ) → RefusesWords c.old c.new n k → RefusesWords c.old v n k) → LacksRoom o c k → LacksRoom o (record c { new = v }) k
 lacks_after o c v k f (inl (n, same, makes, (refused, full))) = inl (n, same, makes, (f n refused, full))
 lacks_after o c v k f (inr (n, stops, (refused, full))) = inr (n, stops, (f n refused, full))
 
 -- The reason why the copy of children is refused.
-abbrev pub ChildrenRefused : Reading → ℕ → Change → ErrorKind → Type 0
+abbrev pub ChildrenRefused : Reading → ℕ → CopyCall → ErrorKind → Type 0
 ChildrenRefused r i c k =
     (ComesToObject (children_original r i) c.form c.before c.after (FindsNoRoom c k) × AreTooLarge c.form r i (length (segment c.old.words c.segment)) (c.old.room c.segment)) ⊎ RefusedAll c.form r i c.before c.after k
 
-pub children_refused : (r : Reading) (i : ℕ) (c : Change) (k : ErrorKind) → RefusesToCopy (children_original r i) c k → ChildrenRefused r i c k
+pub children_refused : (r : Reading) (i : ℕ) (c : CopyCall) (k : ErrorKind) → RefusesToCopy (children_original r i) c k → ChildrenRefused r i c k
 children_refused r i c k why = elim why [
   | inl x ↦ inl (
     (let comes : ComesToObject (children_original r i) c.form c.before c.after (FindsNoRoom c k) = elim x.0 [ inl none ↦ absurd none.2 | inr y ↦ y ] in comes),
@@ -106,7 +106,7 @@ children_refused r i c k why = elim why [
   | inr y ↦ elim y [ inl refused ↦ inr refused | inr none ↦ absurd none ]
 ]
 
-pub refuses_children : (r : Reading) (i : ℕ) (c : Change) (k : ErrorKind) → ChildrenRefused r i c k → RefusesToCopy (children_original r i) c k
+pub refuses_children : (r : Reading) (i : ℕ) (c : CopyCall) (k : ErrorKind) → ChildrenRefused r i c k → RefusesToCopy (children_original r i) c k
 refuses_children r i c k why = elim why [
   | inl x ↦ inl (inr x.0, children_large c.form r i (length (segment c.old.words c.segment)) (c.old.room c.segment) x.1)
   | inr refused ↦ inr (inl refused)
@@ -121,7 +121,7 @@ pub pointers_large : (b : Form) (r : Reading) (i used room : ℕ) → IsTooLarge
 pointers_large b r i used room large any m m' t (ts, is, counts, read) = subst (λ u. room < used + word_count (kept b u)) (sym is) (large ts read.cost counts read.means)
 
 pub pointers_beyond : (b : Form) (r : Reading) (i used room : ℕ) → ExceedsRoom b (pointers_original i r) used room → IsTooLargePointers b r i used room
-pointers_beyond b r i used room large ts c counts means = large plain (unused None) (after r.charging (unused None) c (pointers_in_all ts)) (Pointers ts) (ts, refl, counts, all_read r ts c means)
+pointers_beyond b r i used room large ts c counts means = large plain (unused None) (after_charge r.charging (unused None) c (pointers_in_all ts)) (Pointers ts) (ts, refl, counts, all_read r ts c means)
 
 -- i elements, cut to the sections of the copy.
 
@@ -129,14 +129,14 @@ abbrev pub AreTooLargeElements : Form → Reading → ElementSizes → ℕ → �
 AreTooLargeElements b r sizes i used room =
     (es : Elements) (c : ℕ) → element_count es ≡ i → ElementsMean r sizes.source es c → room < used + word_count_elements (cut_to sizes.kept.data_words sizes.kept.pointers (kept_elements b es))
 
-elements_read : (r : Reading) (size : StructSize) (es : Elements) (c : ℕ) → ElementsMean r size es c → ReadsElements plain r size (unused None) (after r.charging (unused None) c (pointers_in_elements es)) es
+elements_read : (r : Reading) (size : StructSize) (es : Elements) (c : ℕ) → ElementsMean r size es c → ReadsElements plain r size (unused None) (after_charge r.charging (unused None) c (pointers_in_elements es)) es
 elements_read r size es c means = record { cost = c; means = means; takes = λ f. absurd (f refl); covers = affords_all r.charging c; spent = refl }
 
 pub elements_large : (b : Form) (r : Reading) (sizes : ElementSizes) (i used room : ℕ) → AreTooLargeElements b r sizes i used room → ExceedsRoom b (elements_original r sizes i) used room
 elements_large b r sizes i used room large any m m' es (counts, read) = large es read.cost counts read.means
 
 pub elements_beyond : (b : Form) (r : Reading) (sizes : ElementSizes) (i used room : ℕ) → ExceedsRoom b (elements_original r sizes i) used room → AreTooLargeElements b r sizes i used room
-elements_beyond b r sizes i used room large es c counts means = large plain (unused None) (after r.charging (unused None) c (pointers_in_elements es)) es (counts, elements_read r sizes.source es c means)
+elements_beyond b r sizes i used room large es c counts means = large plain (unused None) (after_charge r.charging (unused None) c (pointers_in_elements es)) es (counts, elements_read r sizes.source es c means)
 
 -- A list of i structs of this size.
 
@@ -149,7 +149,7 @@ structs_large b r size i used room large any m m' t (es, is, counts, read) = sub
 
 pub structs_beyond : (b : Form) (r : Reading) (size : StructSize) (i used room : ℕ) → ExceedsRoom b (structs_original size i r) used room → IsTooLargeList b r size i used room
 structs_beyond b r size i used room large es c counts means =
-    large plain (unused None) (after r.charging (unused None) c (pointers_in_elements es)) (Structs size.data_words size.pointers es) (es, refl, counts, elements_read r size es c means)
+    large plain (unused None) (after_charge r.charging (unused None) c (pointers_in_elements es)) (Structs size.data_words size.pointers es) (es, refl, counts, elements_read r size es c means)
 
 -- A list by its size.
 
@@ -205,14 +205,14 @@ exceeding EightBytes sections n r b k h = h
 
 -- A copy that is refused halfway.
 
-abbrev pub LeavesSomeValue : Change → ErrorKind → Type 0
+abbrev pub LeavesSomeValue : CopyCall → ErrorKind → Type 0
 LeavesSomeValue c k = ((t : Tree) × IsReplaced c.old.words c.new.words c.segment c.at Null t) × SpendsMemory c.old c.new k
 
-pub halfway : {o : Original Tree} {c : Change} {k : ErrorKind} → RefusesToCopy o c k → LeavesSomeValue c k → StopsHalfway o c k
+pub halfway : {o : Original Tree} {c : CopyCall} {k : ErrorKind} → RefusesToCopy o c k → LeavesSomeValue c k → StopsHalfway o c k
 halfway why left = (left.0.0, record { why = why; left = left.0.1; memory = left.1 })
 
 -- A copy that can be made isn't refused.
-pub refused_rightly : {o : Original Tree} {c : Change} {t : Tree} {k : ErrorKind} → ((m : Meter) (u : Tree) → o.stops c.form (λ r i j. Stopped Value c.form r i j k) c.before c.after → o.reads c.form c.before m u → ⊥) → StopsCopy o c t k →
+pub refused_rightly : {o : Original Tree} {c : CopyCall} {t : Tree} {k : ErrorKind} → ((m : Meter) (u : Tree) → o.stops c.form (λ r i j. Stopped Value c.form r i j k) c.before c.after → o.reads c.form c.before m u → ⊥) → StopsCopy o c t k →
     CanBeCopied o c.form c.before c.old c.segment → ⊥
 refused_rightly {c = c} {k = k} apart stop can = elim stop.why [
   | inl x ↦ (let beyond = x.1 c.form c.before can.after can.value can.is_read in omega (arith, beyond, can.room))

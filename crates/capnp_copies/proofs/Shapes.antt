@@ -6,7 +6,7 @@ use Rattle.capnp_format.specs.Tree.{Tree, Null, Capability, Struct, Flat, Pointe
 use Rattle.capnp_words.specs.declared.wire_pointer.StructSize.{StructSize}
 use Rattle.capnp_objects.specs.Faults.{child_at}
 use Rattle.capnp_objects.specs.Outcomes.{MeansThere}
-use Rattle.capnp_objects.specs.Reading.{Reading, behind}
+use Rattle.capnp_objects.specs.Reading.{Reading, place_past}
 use Rattle.capnp_words.specs.Sizes.{sized}
 use Rattle.capnp_format.specs.Canonical.{used_trees, take_trees, data_width, pointer_width, cut_to, trim, trim_each, trim_elements, word_count, word_count_all, word_count_elements, pointers, rows, body, bodies, element_bodies}
 use Rattle.capnp_format.proofs.Digits.{length-digits}
@@ -50,12 +50,12 @@ mutual
 
   pub all_shaped : (r : Reading) (ts : Trees) (c : ℕ) → MeanThere r ts c → AreShaped ts
   all_shaped r no_trees c h = tt
-  all_shaped r (tree t ts) c (k, l, one, rest, g) = (means_shaped r t k one, all_shaped (behind r 1) ts l rest)
+  all_shaped r (tree t ts) c (k, l, one, rest, g) = (means_shaped r t k one, all_shaped (place_past r 1) ts l rest)
 
   pub elements_shaped : (r : Reading) (size : StructSize) (es : Elements) (c : ℕ) → ElementsMean r size es c → AreShapedElements size.data_words size.pointers es
   elements_shaped r size no_elements c h = tt
   elements_shaped r size (element ws ts es) c (k, l, long, len, e, all, rest, g) =
-      (long, len, all_shaped (behind r size.data_words) ts k all, elements_shaped (record r { at = r.at + size.data_words + size.pointers }) size es l rest)
+      (long, len, all_shaped (place_past r size.data_words) ts k all, elements_shaped (record r { at = r.at + size.data_words + size.pointers }) size es l rest)
 
 -- Trimmed trees.
 

@@ -7,9 +7,9 @@ use Rattle.capnp_format.specs.Canonical.{word_count, word_count_all}
 use Rattle.capnp_format.proofs.Children.{with_last}
 use Rattle.capnp_arena_traits.specs.View.{View}
 use Rattle.capnp_making.specs.Memory.{KeepsMemory}
-use Rattle.capnp_objects.specs.Reading.{Reading, behind}
+use Rattle.capnp_objects.specs.Reading.{Reading, place_past}
 use Rattle.capnp_objects.specs.Wanted.{Form}
-use Rattle.capnp_copies.specs.Changes.{change, StayInSegment, MakesCopy, CopiesChildren}
+use Rattle.capnp_copies.specs.Changes.{copy_call, StayInSegment, MakesCopy, CopiesChildren}
 use Rattle.capnp_copies.specs.Originals.{value_original}
 use Rattle.capnp_copies.specs.Forms.{kept, kept_each}
 use Rattle.capnp_copies.proofs.InPlace.{IsCopied, AreCopied}
@@ -24,8 +24,8 @@ use Rattle.capnp_making.specs.Makes.{call_at}
 pub room_kept : (old new : View) (s p : ℕ) → IsPlace old.words s p → KeepsMemory old new → new.room s ≡ old.room s
 room_kept old new s p place memory = memory.1 s (there old.words s p place)
 
-pub child_tight : {r : Reading} {s p i : ℕ} {old mid new : View} {m m' m'' : Meter} (b : Form) → IsPlace old.words s (p + i) → length (segment mid.words s) < 2 ^ 29 → length old.words ≤ length mid.words → length mid.words ≤ length new.words → (first : CopiesChildren r i (change b (call_at s p old mid) m m')) →
-    (next : MakesCopy (value_original (behind r i)) (change b (call_at s (p + i) mid new) m' m'')) → StayInSegment old new s (word_count_all (kept_each b (with_last first.children next.value))) → AreCopied old.words new.words s p (kept_each b (with_last first.children next.value))
+pub child_tight : {r : Reading} {s p i : ℕ} {old mid new : View} {m m' m'' : Meter} (b : Form) → IsPlace old.words s (p + i) → length (segment mid.words s) < 2 ^ 29 → length old.words ≤ length mid.words → length mid.words ≤ length new.words → (first : CopiesChildren r i (copy_call b (call_at s p old mid) m m')) →
+    (next : MakesCopy (value_original (place_past r i)) (copy_call b (call_at s (p + i) mid new) m' m'')) → StayInSegment old new s (word_count_all (kept_each b (with_last first.children next.value))) → AreCopied old.words new.words s p (kept_each b (with_last first.children next.value))
 child_tight {r} {s} {p} {i} {old} {mid} {new} {m} {m'} {m''} b place few grows more first next fits =
     let ts : Trees = first.children in
     let u : Tree = next.value in
@@ -35,5 +35,5 @@ child_tight {r} {s} {p} {i} {old} {mid} {new} {m} {m'} {m''} b place few grows m
     let long : length (segment mid.words s) ≡ length (segment old.words s) + word_count_all (kept_each b ts) = ap length (now place one) ∙ now_long (omega (arith, place)) one in
     let room : mid.room s ≡ old.room s = room_kept old mid s (p + i) place first.memory in
     let stands : IsCopied mid.words new.words s (p + i) (kept b u) = next.stands (stay_later old mid new s s (word_count_all (kept_each b (with_last ts u))) (word_count (kept b u)) (λ f. omega (arith, f, words, long, room)) fits) in
-    let two : ValueCopied (behind r i) (call_of b mid new s m' m'') (p + i) = record { value = u; is_read = next.is_read; made = stands } in
+    let two : ValueCopied (place_past r i) (call_of b mid new s m' m'') (p + i) = record { value = u; is_read = next.is_read; made = stands } in
     child_put place few one two

@@ -10,8 +10,8 @@ use Rattle.capnp_format.specs.Tree.{Tree, Struct, Pointers, Structs, Trees, no_t
 use Rattle.capnp_format.specs.Canonical.{word_count, word_count_all, word_count_elements, pointers, bodies, rows, element_bodies, offset_to}
 use Rattle.capnp_arena_traits.specs.View.{View}
 use Rattle.capnp_arena_traits.specs.Written.{with_segment, with_word, with_words, extended}
-use Rattle.capnp_making.specs.Memory.{KeepsMemory, StandsBehind, TakesWords as TakesRoom}
-use Rattle.capnp_making.specs.Near.{HasOwnRoom, StartsBehind, offset_behind}
+use Rattle.capnp_making.specs.Memory.{KeepsMemory, ComesAfter, TakesWords as TakesRoom}
+use Rattle.capnp_making.specs.Near.{HasOwnRoom, StartsAtEnd, offset_to_end}
 use Rattle.capnp_making.proofs.NearMade.{HasStructRoom, HasStructsRoom, with_struct, with_list, with_struct_list}
 use Rattle.capnp_arena_traits.specs.declared.arena.WordPlace.{WordPlace}
 use Rattle.capnp_objects.specs.Reading.{Reading, segment_read}
@@ -19,7 +19,7 @@ use Rattle.capnp_objects.specs.Wanted.{Form}
 use Rattle.capnp_arena_traits.proofs.WordsOver.{segment_here}
 use Rattle.capnp_making.proofs.NearMade.{long_as}
 use Rattle.capnp_making.proofs.WordsPut.{none_over}
-use Rattle.capnp_copies.specs.Changes.{change, StayInSegment, IsCopiedInRoom, EndsInZeros, CopiesChildren, CopiesRows}
+use Rattle.capnp_copies.specs.Changes.{copy_call, StayInSegment, IsCopiedInRoom, EndsInZeros, CopiesChildren, CopiesRows}
 use Rattle.capnp_copies.specs.Forms.{kept, kept_each}
 use Rattle.capnp_copies.specs.Copied.{with_children}
 use Rattle.capnp_copies.proofs.Copied.{copied}
@@ -68,7 +68,7 @@ pub record StructMade (us : List ℕ) (least : StructSize) (s p : ℕ) (old made
   pub writes : mid ≡ record made { words = with_words made.words h.segment h.at us }
   pub within : length (segment mid.words h.segment) ≤ mid.room h.segment
   pub taken : TakesRoom old made s (least.data_words + least.pointers)
-  pub behind : StandsBehind old s (least.data_words + least.pointers) h
+  pub behind : ComesAfter old s (least.data_words + least.pointers) h
   pub near : HasStructRoom old s least → made.words ≡ with_struct old.words s p least
   pub empty : least.data_words + least.pointers ≡ 0 → made.words ≡ with_word old.words s p (struct_word (2 ^ 30 - 1) 0 0)
 
@@ -80,7 +80,7 @@ module _ {us : List ℕ} {least : StructSize} {s p : ℕ} {old made mid : View} 
   W = segment old.words s
 
   abbrev x : ℕ
-  x = struct_word (offset_behind S s p) least.data_words least.pointers
+  x = struct_word (offset_to_end S s p) least.data_words least.pointers
 
   abbrev P : Segments
   P = with_word S s p x
@@ -94,7 +94,7 @@ module _ {us : List ℕ} {least : StructSize} {s p : ℕ} {old made mid : View} 
   -- The words of the segment, once the data words are written.
   mid_near : HasStructRoom old s least → mid.words ≡ extended P s (us ++ replicate least.pointers 0)
   mid_near fits =
-      let at_end : StartsBehind S s h = o.behind.near fits.0 fits.1 in
+      let at_end : StartsAtEnd S s h = o.behind.near fits.0 fits.1 in
       let taken : made.words ≡ with_segment P s (segment P s ++ replicate (length us + least.pointers) 0) = rw o.long (o.near fits) in
       let start : h.at ≡ length (segment P s) = at_end.1 ∙ sym same_long in
       let put : mid.words ≡ with_words made.words s (length (segment P s)) us = ap (λ (v : View). v.words) o.writes ∙ ap₂ (λ i j. with_words made.words i j us) at_end.0 start in
@@ -125,7 +125,7 @@ module _ {us : List ℕ} {least : StructSize} {s p : ℕ} {old made mid : View} 
       stays S s p x (H + least.data_words) ws (pointers k ts) (drop (H + least.data_words + count ts) V) (bodies ts) o.place (omega (arith, same_long, o.place)) (omega (arith, width, o.long)) children_there in
       pointer_first S s p (Struct us ts) o.place is all
 
-  empty_stands : {r : Reading} {new : View} {m m' : Meter} (b : Form) → least.data_words + least.pointers ≡ 0 → (children : CopiesChildren r least.pointers (change b (call_at h.segment (h.at + least.data_words) mid new) m m')) →
+  empty_stands : {r : Reading} {new : View} {m m' : Meter} (b : Form) → least.data_words + least.pointers ≡ 0 → (children : CopiesChildren r least.pointers (copy_call b (call_at h.segment (h.at + least.data_words) mid new) m m')) →
       new.words ≡ with_segment S s (copied W p (Struct us (kept_each b children.children)))
   empty_stands {r} {new} b none children =
       let ts : Trees = children.children in
@@ -142,7 +142,7 @@ module _ {us : List ℕ} {least : StructSize} {s p : ℕ} {old made mid : View} 
       kept_mid ∙ kept_made ∙ o.empty none ∙ ap (λ ws. with_segment S s (set ws p e)) (sym (append-nil W))
       ∙ ap₂ (λ (xs : List ℕ) t. with_segment S s (copied W p (Struct xs t))) (sym no_words) (sym (ap (kept_each b) no_kids ∙ kept_none b))
 
-  pub struct_tight : {r : Reading} {new : View} {m m' : Meter} (b : Form) → length made.words ≤ length new.words → (children : CopiesChildren r least.pointers (change b (call_at h.segment (h.at + least.data_words) mid new) m m')) → (t : Tree) →
+  pub struct_tight : {r : Reading} {new : View} {m m' : Meter} (b : Form) → length made.words ≤ length new.words → (children : CopiesChildren r least.pointers (copy_call b (call_at h.segment (h.at + least.data_words) mid new) m m')) → (t : Tree) →
       kept b t ≡ Struct us (kept_each b children.children) → IsCopiedInRoom old new s p (kept b t)
   struct_tight {r} {new} {m} {m'} b longer children t form fits =
       cases_of (least.data_words + least.pointers) refl ∙ ap (λ y. with_segment S s (copied W p y)) (sym form)
@@ -155,7 +155,7 @@ module _ {us : List ℕ} {least : StructSize} {s p : ℕ} {old made mid : View} 
           let q : ℕ = least.pointers in
           let words : word_count (kept b t) ≡ d + q + word_count_all ts = ap word_count form ∙ omega (arith, o.long, kept_each-count b children.children, children.counts) in
           let near : HasStructRoom old s least = (omega (arith, same), own_room old made new s p (d + q) o.place o.taken longer (stay_fewer old new s (word_count (kept b t)) (d + q) (omega (arith, words)) fits)) in
-          let at_end : StartsBehind S s h = o.behind.near near.0 near.1 in
+          let at_end : StartsAtEnd S s h = o.behind.near near.0 near.1 in
           let ws : List ℕ = us ++ replicate q 0 in
           let width : length (segment mid.words s) ≡ length W + (d + q) =
           ap (λ T. length (segment T s)) (mid_near near) ∙ length-extended P s ws (there P s p place) ∙ omega (arith, same_long, o.long, length-append us (replicate q 0), length-replicate {A = ℕ} q 0) in
@@ -170,12 +170,12 @@ pub record PointersMade (i s p : ℕ) (old mid : View) (h : WordPlace) : Type 0 
   pub memory : KeepsMemory old mid
   pub taken : TakesRoom old mid s i
   pub near : HasOwnRoom old s i → mid.words ≡ with_list old.words s p 6 i
-  pub at_end : HasOwnRoom old s i → StartsBehind old.words s h
+  pub at_end : HasOwnRoom old s i → StartsAtEnd old.words s h
 
-pub pointers_tight : {r : Reading} {i s p : ℕ} {old mid new : View} {h : WordPlace} {m m' : Meter} (b : Form) → length mid.words ≤ length new.words → PointersMade i s p old mid h → (children : CopiesChildren r i (change b (call_at h.segment h.at mid new) m m')) → IsCopiedInRoom old new s p (kept b (Pointers children.children))
+pub pointers_tight : {r : Reading} {i s p : ℕ} {old mid new : View} {h : WordPlace} {m m' : Meter} (b : Form) → length mid.words ≤ length new.words → PointersMade i s p old mid h → (children : CopiesChildren r i (copy_call b (call_at h.segment h.at mid new) m m')) → IsCopiedInRoom old new s p (kept b (Pointers children.children))
 pointers_tight {r} {i} {s} {p} {old} {mid} {new} {h} {m} {m'} b longer o children fits =
     let S : Segments = old.words in
-    let x : ℕ = list_word (offset_behind S s p) 6 i in
+    let x : ℕ = list_word (offset_to_end S s p) 6 i in
     let P : Segments = with_word S s p x in
     let H : ℕ = length (segment P s) in
     let ws : List ℕ = replicate i 0 in
@@ -187,7 +187,7 @@ pointers_tight {r} {i} {s} {p} {old} {mid} {new} {h} {m} {m'} b longer o childre
     let all_words : ℕ = word_count (kept b (Pointers children.children)) in
     let words : all_words ≡ i + word_count_all ts = ap word_count form ∙ omega (arith, counts) in
     let room : HasOwnRoom old s i = own_room old mid new s p i o.place o.taken longer (stay_fewer old new s all_words i (omega (arith, words)) fits) in
-    let start : StartsBehind S s h = o.at_end room in
+    let start : StartsAtEnd S s h = o.at_end room in
     let mids : mid.words ≡ K = o.near room in
     let place : IsPlace P s p = place_kept S s p x o.place in
     let same_long : H ≡ length (segment S s) = long_as S s p x in
@@ -212,23 +212,23 @@ pub record StructsMade (i s p : ℕ) (least : StructSize) (old mid : View) (h : 
   pub place : IsPlace old.words s p
   pub memory : KeepsMemory old mid
   pub taken : TakesRoom old mid s (1 + i * (least.data_words + least.pointers))
-  pub behind : StandsBehind old s (1 + i * (least.data_words + least.pointers)) h
+  pub behind : ComesAfter old s (1 + i * (least.data_words + least.pointers)) h
   pub near : HasStructsRoom old s i least → mid.words ≡ with_struct_list old.words s p i least
 
 -- The words of its elements are the last ones of the segment.
-pub ends_in_zeros : {i s p : ℕ} {least : StructSize} {old mid new : View} {h : WordPlace} {m m' : Meter} (b : Form) → StructsMade i s p least old mid h → HasStructsRoom old s i least → EndsInZeros (change b (call_at h.segment (h.at + 1) mid new) m m') (i * (least.data_words + least.pointers))
+pub ends_in_zeros : {i s p : ℕ} {least : StructSize} {old mid new : View} {h : WordPlace} {m m' : Meter} (b : Form) → StructsMade i s p least old mid h → HasStructsRoom old s i least → EndsInZeros (copy_call b (call_at h.segment (h.at + 1) mid new) m m') (i * (least.data_words + least.pointers))
 ends_in_zeros {i} {s} {p} {least} {old} {mid} {new} {h} {m} {m'} b o room =
     let S : Segments = old.words in
     let d : ℕ = least.data_words in
     let q : ℕ = least.pointers in
     let w : ℕ = d + q in
-    let x : ℕ = list_word (offset_behind S s p) 7 (i * w) in
+    let x : ℕ = list_word (offset_to_end S s p) 7 (i * w) in
     let tag : ℕ = struct_word i d q in
     let P : Segments = with_word S s p x in
     let H : ℕ = length (segment P s) in
     let ws : List ℕ = tag ∷ replicate (i * w) 0 in
     let V : List ℕ = segment (extended P s ws) s in
-    let start : StartsBehind S s h = o.behind.near (omega arith) room in
+    let start : StartsAtEnd S s h = o.behind.near (omega arith) room in
     let mids : mid.words ≡ extended P s ws = o.near room in
     let place : IsPlace P s p = place_kept S s p x o.place in
     let first : h.at ≡ H = start.1 ∙ sym (long_as S s p x) in
@@ -242,13 +242,13 @@ ends_in_zeros {i} {s} {p} {least} {old} {mid} {new} {h} {m} {m'} b o room =
     record { ends = omega (arith, first, width, ap length here); zero = zero }
 
 pub structs_tight : {r : Reading} {sizes : ElementSizes} {i s p : ℕ} {old mid new : View} {h : WordPlace} {m m' : Meter} (b : Form) → length mid.words ≤ length new.words → r.at + i * (sizes.source.data_words + sizes.source.pointers) ≤ length (segment_read r) → KeepsWidths b r sizes.source i sizes.kept → StructsMade i s p sizes.kept old mid h →
-    (elements : CopiesRows r sizes i 0 (change b (call_at h.segment (h.at + 1) mid new) m m')) → IsCopiedInRoom old new s p (kept b (Structs sizes.source.data_words sizes.source.pointers elements.elements))
+    (elements : CopiesRows r sizes i 0 (copy_call b (call_at h.segment (h.at + 1) mid new) m m')) → IsCopiedInRoom old new s p (kept b (Structs sizes.source.data_words sizes.source.pointers elements.elements))
 structs_tight {r} {sizes} {i} {s} {p} {old} {mid} {new} {h} {m} {m'} b longer inside widths o elements fits =
     let S : Segments = old.words in
     let d : ℕ = sizes.kept.data_words in
     let q : ℕ = sizes.kept.pointers in
     let w : ℕ = d + q in
-    let x : ℕ = list_word (offset_behind S s p) 7 (i * w) in
+    let x : ℕ = list_word (offset_to_end S s p) 7 (i * w) in
     let tag : ℕ = struct_word i d q in
     let P : Segments = with_word S s p x in
     let H : ℕ = length (segment P s) in
@@ -263,7 +263,7 @@ structs_tight {r} {sizes} {i} {s} {p} {old} {mid} {new} {h} {m} {m'} b longer in
     let all_words : ℕ = word_count (kept b whole) in
     let words : all_words ≡ 1 + i * w + word_count_elements fs = ap word_count form ∙ ap (λ j. 1 + j * w + word_count_elements fs) (cut_kept-count b d q es ∙ elements.counts) in
     let room : HasStructsRoom old s i sizes.kept = own_room old mid new s p (1 + i * w) o.place o.taken longer (stay_fewer old new s all_words (1 + i * w) (omega (arith, words)) fits) in
-    let start : StartsBehind S s h = o.behind.near (omega arith) room in
+    let start : StartsAtEnd S s h = o.behind.near (omega arith) room in
     let mids : mid.words ≡ K = o.near room in
     let place : IsPlace P s p = place_kept S s p x o.place in
     let same_long : H ≡ length (segment S s) = long_as S s p x in
@@ -272,7 +272,7 @@ structs_tight {r} {sizes} {i} {s} {p} {old} {mid} {new} {h} {m} {m'} b longer in
     let width : length V ≡ H + (1 + i * w) = ap length shape ∙ length-append (segment P s) ws ∙ (let f : length ws ≡ 1 + i * w = omega (arith, length-replicate {A = ℕ} (i * w) 0) in ap (λ k. H + k) f) in
     let here : segment mid.words h.segment ≡ V = ap₂ (λ T k. segment T k) mids start.0 in
     let no_more : (i + 0) * w ≡ i * w = ap (λ k. k * w) (let f : i + 0 ≡ i = omega arith in f) in
-    let zeros : EndsInZeros (change b (call_at h.segment (h.at + 1) mid new) m m') ((i + 0) * w) = subst (EndsInZeros (change b (call_at h.segment (h.at + 1) mid new) m m')) (sym no_more) (ends_in_zeros {new = new} {m = m} {m' = m'} b o room) in
+    let zeros : EndsInZeros (copy_call b (call_at h.segment (h.at + 1) mid new) m m') ((i + 0) * w) = subst (EndsInZeros (copy_call b (call_at h.segment (h.at + 1) mid new) m m')) (sym no_more) (ends_in_zeros {new = new} {m = m} {m' = m'} b o room) in
     let same_room : mid.room h.segment ≡ old.room s = ap mid.room start.0 ∙ room_kept old mid s p o.place o.memory in
     let stand : new.words ≡ with_segment mid.words h.segment (rows_laid (take (h.at + 1) (segment mid.words h.segment)) d q fs 0) = elements.stands zeros (stay_later old mid new s h.segment all_words (word_count_elements fs) (λ f. omega (arith, f, words, same_room, width, same_long, ap length here)) fits) in
     let stands : new.words ≡ with_segment mid.words s (rows_laid (take (H + 1) (segment mid.words s)) d q fs 0) = stand ∙ ap₂ (λ u a. with_segment mid.words u (rows_laid (take (a + 1) (segment mid.words u)) d q fs 0)) start.0 first in

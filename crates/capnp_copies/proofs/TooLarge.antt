@@ -10,12 +10,12 @@ use Rattle.capnp_format.specs.Word.{offset_bits, data_words, pointer_count, list
 use Rattle.capnp_format.proofs.Trimming.{take_trees-count}
 use Rattle.capnp_format.proofs.Levels.{one_value}
 use Rattle.capnp_arena_traits.specs.View.{View}
-use Rattle.capnp_making.specs.Memory.{HasRoom, KeepsMemory, StandsBehind, TakesWords}
-use Rattle.capnp_making.specs.Near.{HasOwnRoom, StartsBehind}
+use Rattle.capnp_making.specs.Memory.{HasRoom, KeepsMemory, ComesAfter, TakesWords}
+use Rattle.capnp_making.specs.Near.{HasOwnRoom, StartsAtEnd}
 use Rattle.capnp_arena_traits.specs.declared.arena.WordPlace.{WordPlace}
 use Rattle.capnp_objects.specs.Objects.{IsObject}
 use Rattle.capnp_objects.specs.Outcomes.{Reads, MeansThere}
-use Rattle.capnp_objects.specs.Reading.{Reading, behind, segment_read, pointers_of, tag_size}
+use Rattle.capnp_objects.specs.Reading.{Reading, place_past, segment_read, pointers_of, tag_size}
 use Rattle.capnp_words.specs.Sizes.{sized}
 use Rattle.capnp_objects.specs.Demands.{tag}
 use Rattle.capnp_objects.specs.Faults.{child_at}
@@ -23,7 +23,7 @@ use Rattle.capnp_objects.specs.Wanted.{Form}
 use Rattle.capnp_objects.specs.declared.object.Place.{Place}
 use Rattle.capnp_objects.specs.declared.object.Object.TheVariants.{Struct as ObjectStruct, Pointers as ObjectPointers, Structs as ObjectStructs}
 use Rattle.capnp_objects.specs.declared.object.Purpose.TheVariants.{Value}
-use Rattle.capnp_copies.specs.Changes.{change, EndsInZeros, CopiesChildren, CopiesRows}
+use Rattle.capnp_copies.specs.Changes.{copy_call, EndsInZeros, CopiesChildren, CopiesRows}
 use Rattle.capnp_copies.proofs.InPlace.{AreCopied}
 use Rattle.capnp_copies.proofs.CopiesNear.{call_of, CopiesChildren as ChildrenCopied}
 use Rattle.capnp_copies.specs.Originals.{value_original}
@@ -43,8 +43,8 @@ use Rattle.capnp_objects.proofs.Shorthands.{MeanThere}
 use Rattle.capnp_making.specs.Makes.{call_at}
 
 -- A child.
-pub child_too_large : {r : Reading} {s p i n : ℕ} {old mid : View} {m m' : Meter} (b : Form) → IsPlace old.words s (p + i) → i < n → (first : CopiesChildren r i (change b (call_at s p old mid) m m')) →
-    ExceedsRoom b (value_original (behind r i)) (length (segment mid.words s)) (mid.room s) → AreTooLarge b r n (length (segment old.words s)) (old.room s)
+pub child_too_large : {r : Reading} {s p i n : ℕ} {old mid : View} {m m' : Meter} (b : Form) → IsPlace old.words s (p + i) → i < n → (first : CopiesChildren r i (copy_call b (call_at s p old mid) m m')) →
+    ExceedsRoom b (value_original (place_past r i)) (length (segment mid.words s)) (mid.room s) → AreTooLarge b r n (length (segment old.words s)) (old.room s)
 child_too_large {r} {s} {p} {i} {n} {old} {mid} {m} {m'} b place less first large = λ us c len all.
     (let ts : Trees = first.children in
     let x = next_words b r ts us (first.are_read.cost, first.are_read.means) (c, all) (omega (arith, first.counts, len, less)) in
@@ -53,14 +53,14 @@ child_too_large {r} {s} {p} {i} {n} {old} {mid} {m} {m'} b place less first larg
     let one : ChildrenCopied r i (call_of b old mid s m m') p = record { children = ts; counts = first.counts; are_read = first.are_read; made = stand } in
     let long : length (segment mid.words s) ≡ length (segment old.words s) + word_count_all (kept_each b ts) = ap length (now place one) ∙ now_long (omega (arith, place)) one in
     let room : mid.room s ≡ old.room s = room_kept old mid s (p + i) place first.memory in
-    let beyond = value_beyond b (behind r i) (length (segment mid.words s)) (mid.room s) large x.0 x.1 (subst (λ j. MeansThere (behind r j) x.0 x.1) first.counts x.2) in
+    let beyond = value_beyond b (place_past r i) (length (segment mid.words s)) (mid.room s) large x.0 x.1 (subst (λ j. MeansThere (place_past r j) x.0 x.1) first.counts x.2) in
     omega (arith, beyond, long, room, fits, x.3)) in
     omega (arith, no))
 
 -- An element.
 pub row_too_large : {r : Reading} {sizes : ElementSizes} {i n s p : ℕ} {old mid new : View} {m m' m'' : Meter} (b : Form) → SourceKept b r sizes n → 0 < sizes.kept.data_words + sizes.kept.pointers → i < n →
-    (first : CopiesRows r sizes i (n - i) (change b (call_at s p old mid) m m')) → AreTooLarge b (pointers_of r sizes.source i) sizes.kept.pointers (length (segment mid.words s)) (mid.room s) →
-    EndsInZeros (change b (call_at s p old new) m m'') (n * (sizes.kept.data_words + sizes.kept.pointers)) → AreTooLargeElements b r sizes n (length (segment old.words s)) (old.room s)
+    (first : CopiesRows r sizes i (n - i) (copy_call b (call_at s p old mid) m m')) → AreTooLarge b (pointers_of r sizes.source i) sizes.kept.pointers (length (segment mid.words s)) (mid.room s) →
+    EndsInZeros (copy_call b (call_at s p old new) m m'') (n * (sizes.kept.data_words + sizes.kept.pointers)) → AreTooLargeElements b r sizes n (length (segment old.words s)) (old.room s)
 row_too_large {r} {sizes} {i} {n} {s} {p} {old} {mid} {new} {m} {m'} {m''} b fit wide more first large last = λ us c len all.
     (let w : ℕ = sizes.kept.data_words + sizes.kept.pointers in
     let q : ℕ = sizes.kept.pointers in
@@ -68,7 +68,7 @@ row_too_large {r} {sizes} {i} {n} {s} {p} {old} {mid} {new} {m} {m'} {m''} b fit
     let z = next_element_words b r sizes es us ((first.are_read.cost, first.are_read.means), (c, all)) (omega (arith, first.counts, len, more)) in
     let no : (length (segment old.words s) + word_count_elements (cut_kept b sizes us) ≤ old.room s) → ⊥ = λ fits.
     (let to_i : n ≡ i + (n - i) = omega (arith, more) in
-    let before : EndsInZeros (change b (call_at s p old mid) m m') ((i + (n - i)) * w) = record { ends = subst (λ k. p + k * w ≡ length (segment old.words s)) to_i last.ends; zero = last.zero } in
+    let before : EndsInZeros (copy_call b (call_at s p old mid) m m') ((i + (n - i)) * w) = record { ends = subst (λ k. p + k * w ≡ length (segment old.words s)) to_i last.ends; zero = last.zero } in
     let rows : RowsCopied r sizes i (n - i) (call_of b old mid s m m') p =
     record { elements = es; counts = first.counts; are_read = first.are_read; made = first.stands before (inl (omega (arith, fits, z.4))) } in
     let fitting : ElementsFit r sizes n (segment old.words s) p = record { room = last.ends; inside = fit.inside; less_data = fit.less_data; less_pointers = fit.less_pointers } in
@@ -88,7 +88,7 @@ pub record ObjectMade (s p n : ℕ) (old made : View) (h : WordPlace) : Type 0 w
   pub place : IsPlace old.words s p
   pub memory : KeepsMemory old made
   pub taken : TakesWords old made s n
-  pub behind : StandsBehind old s n h
+  pub behind : ComesAfter old s n h
 
 pub sections_too_large : {s p used room all : ℕ} {old made : View} {h : WordPlace} (b : Form) (least : StructSize) (ts : Trees) → ObjectMade s p (least.data_words + least.pointers) old made h → used ≡ length (segment made.words h.segment) → room ≡ made.room h.segment → used ≤ room → count ts ≡ least.pointers →
     room < used + word_count_all (kept_each b ts) → all ≡ least.data_words + least.pointers + word_count_all (kept_each b ts) → old.room s < length (segment old.words s) + all
@@ -116,7 +116,7 @@ sections_too_large {s} {p} {used} {room} {all} {old} {made} {h} b least ts o lon
 pointers_words : (b : Form) (i : ℕ) (us : Trees) → count us ≡ i → word_count (kept b (Pointers us)) ≡ i + word_count_all (kept_each b us)
 pointers_words b i us len = ap word_count (kept_pointers b us) ∙ ap (λ j. j + word_count_all (kept_each b us)) (kept_each-count b us ∙ len)
 
-pub pointers_too_large : (b : Form) (r : Reading) {i s p : ℕ} {old made : View} {h : WordPlace} → ObjectMade s p i old made h → (HasOwnRoom old s i → StartsBehind old.words s h) → AreTooLarge b r i (length (segment made.words h.segment)) (made.room h.segment) →
+pub pointers_too_large : (b : Form) (r : Reading) {i s p : ℕ} {old made : View} {h : WordPlace} → ObjectMade s p i old made h → (HasOwnRoom old s i → StartsAtEnd old.words s h) → AreTooLarge b r i (length (segment made.words h.segment)) (made.room h.segment) →
     IsTooLargePointers b r i (length (segment old.words s)) (old.room s)
 pointers_too_large b r {i} {s} {p} {old} {made} {h} o at_end large = λ us c len all.
     (let beyond = large us c len all in

@@ -10,9 +10,9 @@ use Rattle.capnp_format.proofs.Appending.{append_trees, count-append, means_join
 use Rattle.capnp_making.specs.Made.{nulls}
 use Rattle.capnp_making.proofs.Placed.{count-nulls, nulls_mean}
 use Rattle.capnp_copies.proofs.LeastWidths.{used_where_meant}
-use Rattle.capnp_objects.specs.Spending.{after, pointers_in_all}
+use Rattle.capnp_objects.specs.Spending.{after_charge, pointers_in_all}
 use Rattle.capnp_objects.specs.Outcomes.{MeansThere, ReadsAll}
-use Rattle.capnp_objects.specs.Reading.{Reading, behind, segment_read, words_from}
+use Rattle.capnp_objects.specs.Reading.{Reading, place_past, segment_read, words_from}
 use Rattle.capnp_objects.specs.Wanted.{canonical}
 use Rattle.capnp_objects.proofs.Shorthands.{MeanThere}
 use Rattle.capnp_format.proofs.Slices.{word_in_part}
@@ -77,13 +77,13 @@ nulls_cost : (r : Reading) (ts : Trees) (c : ℕ) → used_trees ts ≤ 0 → Me
 nulls_cost r no_trees c l h = h
 nulls_cost r (tree t ts) c l (k, m, one, rest, g) =
     let e = used_from-past (is_null t) (used_trees ts) l in
-    omega (arith, null_costs r t k e.0 one, nulls_cost (behind r 1) ts m (omega (arith, e.1)) rest)
+    omega (arith, null_costs r t k e.0 one, nulls_cost (place_past r 1) ts m (omega (arith, e.1)) rest)
 
 -- Reading only the used children costs as much as reading all of them.
 pub means_taken : (r : Reading) (ts : Trees) (c m : ℕ) → used_trees ts ≤ m → MeanThere r ts c → MeanThere r (take_trees m ts) c
 means_taken r ts c zero l h = nulls_cost r ts c l h
 means_taken r no_trees c (suc m) l h = h
-means_taken r (tree t ts) c (suc m) l (a, b, one, rest, g) = (a, b, one, means_taken (behind r 1) ts b m (used_from-rest (is_null t) (used_trees ts) m l) rest, g)
+means_taken r (tree t ts) c (suc m) l (a, b, one, rest, g) = (a, b, one, means_taken (place_past r 1) ts b m (used_from-rest (is_null t) (used_trees ts) m l) rest, g)
 
 capabilities-nulls : (ts : Trees) (r : ℕ) → capabilities_all (append_trees ts (nulls r)) ≡ capabilities_all ts
 capabilities-nulls no_trees zero = refl
@@ -124,7 +124,7 @@ fill_nulls {r} {m} {m'} {ts} q read l z =
         means = subst (λ c. MeansAll S r.levels s p (append_trees ts (nulls rest)) c) (let f : read.cost + 0 ≡ read.cost = omega arith in f) (means_joined S r.levels s p ts (nulls rest) read.cost 0 read.means none);
         takes = λ t. capabilities-nulls ts rest ∙ read.takes t;
         covers = read.covers;
-        spent = read.spent ∙ ap (after r.charging m read.cost) (sym (pointers_in-nulls ts rest));
+        spent = read.spent ∙ ap (after_charge r.charging m read.cost) (sym (pointers_in-nulls ts rest));
       };
       first = take_first ts (nulls rest);
       costs = refl;

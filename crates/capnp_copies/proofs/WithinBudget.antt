@@ -5,7 +5,7 @@ use Rattle.capnp_words.specs.Meter.{Affords, Meter}
 use Rattle.capnp_format.specs.Segments.{Target, segment, words_at}
 use Rattle.capnp_format.specs.Word.{offset_bits, data_words, pointer_count}
 use Rattle.capnp_format.proofs.Trimming.{used_words-le}
-use Rattle.capnp_objects.specs.Demands.{own, tag}
+use Rattle.capnp_objects.specs.Demands.{own_charge, tag}
 use Rattle.capnp_objects.specs.Faults.{child_at}
 use Rattle.capnp_objects.specs.Outcomes.{Entered}
 use Rattle.capnp_objects.specs.Reading.{Reading, segment_read, tag_size}
@@ -32,7 +32,7 @@ widths_less canonical r size i =
 widths_less _ r size i = (omega arith, omega arith)
 
 -- The words that are made of an object are at most those that its reading is charged.
-made_within_own : {form : Form} {r : Reading} {m m' : Meter} {a : Target} {n : ℕ} → Entered Value r m m' a → IsMadeOf form r a n → n ≤ own Value r.segments a
+made_within_own : {form : Form} {r : Reading} {m m' : Meter} {a : Target} {n : ℕ} → Entered Value r m m' a → IsMadeOf form r a n → n ≤ own_charge Value r.segments a
 made_within_own {form} {r} {a = a} o (as_struct z e) = omega (
   arith,
   e,
@@ -53,8 +53,8 @@ made_within_own {form} {r} {a = a} o (as_structs (z, seven) e) =
 
 -- All that is spent before an object is made is within the limit.
 pub covered_wanted : {form : Form} (n : ℕ) {r : Reading} {m m' : Meter} (off : StopsWithin form (WantsWords form n) r m m') → Affords r.charging m ((spent_until off).words + n)
-covered_wanted n {r = r} {m} (here stops) = affords_less r.charging m (0 + n) (own Value r.segments stops.0) (omega (arith, made_within_own stops.1 stops.2)) stops.1.covers
+covered_wanted n {r = r} {m} (here stops) = affords_less r.charging m (0 + n) (own_charge Value r.segments stops.0) (omega (arith, made_within_own stops.1 stops.2)) stops.1.covers
 covered_wanted n {r = r} {m} (below a q o before rest) =
     let x = covered_below ((spent_until rest).words + n) 0 o before (covered_wanted n rest, omega arith) in
-    let sum : own Value r.segments a + ((spent_before before).words + ((spent_until rest).words + n)) ≡ own Value r.segments a + ((spent_before before).words + (spent_until rest).words) + n = omega arith in
+    let sum : own_charge Value r.segments a + ((spent_before before).words + ((spent_until rest).words + n)) ≡ own_charge Value r.segments a + ((spent_before before).words + (spent_until rest).words) + n = omega arith in
     subst (Affords r.charging m) sum x.0

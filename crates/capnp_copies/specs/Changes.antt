@@ -19,7 +19,7 @@ use Rattle.capnp_objects.specs.Demands.{IsStructList, tag}
 use Rattle.capnp_objects.specs.Faults.{child_at}
 use Rattle.capnp_objects.specs.Outcomes.{Entered, ReadsAll, ReadsElements}
 use Rattle.capnp_objects.specs.Refusals.{Stopped, Refused, StopsAmongElements}
-use Rattle.capnp_objects.specs.Reading.{Reading, behind, segment_read, tag_size, word_of}
+use Rattle.capnp_objects.specs.Reading.{Reading, place_past, segment_read, tag_size, word_of}
 use Rattle.capnp_objects.specs.Wanted.{Form}
 use Rattle.capnp_objects.specs.declared.object.Purpose.TheVariants.{Value}
 use Rattle.capnp_copies.specs.Forms.{form_in, kept, kept_each, kept_elements}
@@ -33,7 +33,7 @@ use Rattle.capnp_making.specs.Makes.{CallAt, call_at}
 
 -- A call that copies to a place, or from a place of a segment on: the arena and the read limiter,
 -- before and after it.
-pub record Change : Type 0 where
+pub record CopyCall : Type 0 where
   pub form : Form
   pub segment : ℕ
   pub at : ℕ
@@ -43,8 +43,8 @@ pub record Change : Type 0 where
   pub after : Meter
 
 -- A call at a place that copies in this form, with the read limiter before and after it.
-abbrev pub change : Form → CallAt → Meter → Meter → Change
-change form c before after =
+abbrev pub copy_call : Form → CallAt → Meter → Meter → CopyCall
+copy_call form c before after =
     record {
       form = form;
       segment = c.segment;
@@ -56,9 +56,9 @@ change form c before after =
     }
 
 -- A call that copies to a destination.
-abbrev pub change_to : Destination → View → View → Meter → Meter → Change
-change_to to old new before after =
-    change (form_in to.form) (call_at to.place.segment to.place.at old new) before after
+abbrev pub copy_call_to : Destination → View → View → Meter → Meter → CopyCall
+copy_call_to to old new before after =
+    copy_call (form_in to.form) (call_at to.place.segment to.place.at old new) before after
 
 -- S has n null pointers from position p of segment id on.
 pub record HasNulls (S : Segments) (id p n : ℕ) : Type 0 where
@@ -125,40 +125,40 @@ ComesToObject o form m m' P =
     P n ((o.spent x).words + n)
 
 -- The arena refuses n words with k, and the segment of the place has no room for `all` words.
-abbrev pub FindsNoRoom : Change → ErrorKind → ℕ → ℕ → Type 0
+abbrev pub FindsNoRoom : CopyCall → ErrorKind → ℕ → ℕ → Type 0
 FindsNoRoom c k n all = RefusesWords c.old c.new n k ×
     (c.old.room c.segment < length (segment c.old.words c.segment) + all)
 
 -- The arena has no room for an object, and refuses it with k. Either the words of the object were
 -- read before, and nothing else is read; or reading leads to it, and with the words spent before it
 -- needs more than the segment of the place has room for.
-abbrev pub LacksRoom : {V : Type 0} → Original V → Change → ErrorKind → Type 0
+abbrev pub LacksRoom : {V : Type 0} → Original V → CopyCall → ErrorKind → Type 0
 LacksRoom o c k =
     ((n : ℕ) × (c.after ≡ c.before) × o.makes c.form n × FindsNoRoom c k n n) ⊎
     ComesToObject o c.form c.before c.after (FindsNoRoom c k)
 
 -- For every value that can be read, in any form and with any limiter: the words that are kept of it
 -- don't fit after those of the segment.
-abbrev pub IsTooLarge : {V : Type 0} → Original V → Change → Type 0
+abbrev pub IsTooLarge : {V : Type 0} → Original V → CopyCall → Type 0
 IsTooLarge {V} o c =
     (any : Form) (m m' : Meter) (value : V) → o.reads any m m' value →
     c.old.room c.segment < length (segment c.old.words c.segment) + o.words c.form value
 
 -- A copy is refused with k: the arena has no room for an object, and what is copied is too large;
 -- or reading is refused; or what is copied is larger than an object can be.
-abbrev pub RefusesToCopy : {V : Type 0} → Original V → Change → ErrorKind → Type 0
+abbrev pub RefusesToCopy : {V : Type 0} → Original V → CopyCall → ErrorKind → Type 0
 RefusesToCopy o c k =
     (LacksRoom o c k × IsTooLarge o c)
     ⊎ o.stops c.form (λ r m m'. Stopped Value c.form r m m' k) c.before c.after ⊎ o.exceeds c.form k
 
 -- The last n words of the segment are those from the place on, and are zero.
-pub record EndsInZeros (c : Change) (n : ℕ) : Type 0 where
+pub record EndsInZeros (c : CopyCall) (n : ℕ) : Type 0 where
   pub ends : c.at + n ≡ length (segment c.old.words c.segment)
   pub zero : (j : ℕ) → c.at ≤ j → word_at c.old.words c.segment j ≡ 0
 
 -- What is copied is read, and the place, which was null, gets what is kept of its value. Only words
 -- change, and the room of new segments.
-pub record MakesCopy (o : Original Tree) (c : Change) : Type 0 where
+pub record MakesCopy (o : Original Tree) (c : CopyCall) : Type 0 where
   pub value : Tree
   pub is_read : o.reads c.form c.before c.after value
   pub made : IsReplaced c.old.words c.new.words c.segment c.at Null (kept c.form value)
@@ -166,14 +166,14 @@ pub record MakesCopy (o : Original Tree) (c : Change) : Type 0 where
   pub stands : IsCopiedInRoom c.old c.new c.segment c.at (kept c.form value)
 
 -- A copy is refused with k, and leaves t at the place that was null. What was allocated stays.
-pub record StopsCopy (o : Original Tree) (c : Change) (t : Tree) (k : ErrorKind) : Type 0 where
+pub record StopsCopy (o : Original Tree) (c : CopyCall) (t : Tree) (k : ErrorKind) : Type 0 where
   pub why : RefusesToCopy o c k
   pub left : IsReplaced c.old.words c.new.words c.segment c.at Null t
   pub memory : SpendsMemory c.old c.new k
 
 -- A call copies what i pointers from a place on mean; or it is refused with k, and leaves copies
 -- `left` of at most i.
-pub record CopiesChildren (r : Reading) (i : ℕ) (c : Change) : Type 0 where
+pub record CopiesChildren (r : Reading) (i : ℕ) (c : CopyCall) : Type 0 where
   pub children : Trees
   pub counts : count children ≡ i
   pub are_read : ReadsAll c.form r c.before c.after children
@@ -183,7 +183,7 @@ pub record CopiesChildren (r : Reading) (i : ℕ) (c : Change) : Type 0 where
       c.new.words ≡ with_segment c.old.words c.segment
       (with_children (segment c.old.words c.segment) c.at (kept_each c.form children))
 
-pub record StopsAtChildren (r : Reading) (i : ℕ) (c : Change) (k : ErrorKind) : Type 0 where
+pub record StopsAtChildren (r : Reading) (i : ℕ) (c : CopyCall) (k : ErrorKind) : Type 0 where
   pub why : RefusesToCopy (children_original r i) c k
   pub left : Trees
   pub few : count left ≤ i
@@ -192,7 +192,7 @@ pub record StopsAtChildren (r : Reading) (i : ℕ) (c : Change) (k : ErrorKind) 
 
 -- Of i pointers from a place on the first ones are read and copied without trimming; the next one
 -- is refused with k, and stays null.
-pub record CopiesFirst (r : Reading) (i : ℕ) (c : Change) (k : ErrorKind) : Type 0 where
+pub record CopiesFirst (r : Reading) (i : ℕ) (c : CopyCall) (k : ErrorKind) : Type 0 where
   pub first : Trees
   pub fewer : count first < i
   pub between : Meter
@@ -201,15 +201,16 @@ pub record CopiesFirst (r : Reading) (i : ℕ) (c : Change) (k : ErrorKind) : Ty
   pub made : AreFilled c.old.words filled c.segment c.at first
   pub cleared : IsReplaced filled c.new.words c.segment (c.at + count first) Null Null
   pub why :
-      (ComesToObject (value_original (behind r (count first))) c.form between c.after
+      (ComesToObject (value_original (place_past r (count first))) c.form between c.after
       (λ n all. FindsNoRoom c k n (are_read.cost + all)) × IsTooLarge (children_original r i) c)
-      ⊎ Refused c.form (behind r (count first)) between c.after k
+      ⊎ Refused c.form (place_past r (count first)) between c.after k
   pub memory : SpendsMemory c.old c.new k
 
 -- A call copies i elements of a list of structs, cut to the sections that are kept, while the rows
 -- of `left` other elements are still to come: those are between the copied rows and what their
 -- pointers lead to. Or it is refused with k, and leaves some elements filled.
-pub record CopiesRows (r : Reading) (sizes : ElementSizes) (i left : ℕ) (c : Change) : Type 0 where
+pub record CopiesRows (r : Reading) (sizes : ElementSizes) (i left : ℕ)
+    (c : CopyCall) : Type 0 where
   pub elements : Elements
   pub counts : element_count elements ≡ i
   pub are_read : ReadsElements c.form r sizes.source c.before c.after elements
@@ -232,7 +233,8 @@ pub record CopiesRows (r : Reading) (sizes : ElementSizes) (i left : ℕ) (c : C
       ++ element_bodies
       (cut_to sizes.kept.data_words sizes.kept.pointers (kept_elements c.form elements)))
 
-pub record StopsAtElements (r : Reading) (sizes : ElementSizes) (i : ℕ) (c : Change) (k : ErrorKind)
+pub record StopsAtElements (r : Reading) (sizes : ElementSizes) (i : ℕ) (c : CopyCall)
+    (k : ErrorKind)
     : Type 0 where
   pub why :
       (ComesToObject (elements_original r sizes i) c.form c.before c.after (FindsNoRoom c k) ×

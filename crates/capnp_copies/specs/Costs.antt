@@ -5,7 +5,7 @@ use Rattle.std.specs.Prelude.{ℕ, ◌+◌}
 use Rattle.capnp_words.specs.declared.wire_pointer.StructSize.{StructSize}
 use Rattle.capnp_words.specs.Meter.{Meter}
 use Rattle.capnp_format.specs.Segments.{Target}
-use Rattle.capnp_objects.specs.Demands.{own}
+use Rattle.capnp_objects.specs.Demands.{own_charge}
 use Rattle.capnp_objects.specs.Reading.{Reading}
 use Rattle.capnp_objects.specs.Outcomes.{ReadsAll, ReadsElements}
 use Rattle.capnp_objects.specs.Refusals.{GoesBefore, in_struct, in_pointers, in_element}
@@ -38,7 +38,7 @@ abbrev pub spent_until : {form : Form} {P : Reading → Meter → Meter → Type
     {m m' : Meter} → StopsWithin form P r m m' → Spent
 spent_until (here stops) = record { words = 0; pointers = 0 }
 spent_until {r = r} (below a q entered before rest) = record {
-  words = own Value r.segments a + ((spent_before before).words + (spent_until rest).words);
+  words = own_charge Value r.segments a + ((spent_before before).words + (spent_until rest).words);
   pointers = 1 + ((spent_before before).pointers + (spent_until rest).pointers);
 }
 
@@ -61,5 +61,5 @@ spent_among_elements x =
     }
 
 -- What is spent after an object of n words, and on the object itself, for one pointer.
-abbrev pub spent_behind : ℕ → Spent → Spent
-spent_behind n rest = record { words = n + rest.words; pointers = 1 + rest.pointers }
+abbrev pub spent_past : ℕ → Spent → Spent
+spent_past n rest = record { words = n + rest.words; pointers = 1 + rest.pointers }

@@ -10,7 +10,7 @@ use Rattle.capnp_arena_traits.specs.View.{View}
 use Rattle.capnp_making.specs.Memory.{Lengthens, IsNextRoom}
 use Rattle.capnp_making.specs.Near.{HasOwnRoom}
 use Rattle.capnp_objects.specs.Reading.{Reading}
-use Rattle.capnp_copies.specs.Changes.{Change, MakesCopy, StopsCopy, CopiesChildren, StopsAtChildren}
+use Rattle.capnp_copies.specs.Changes.{CopyCall, MakesCopy, StopsCopy, CopiesChildren, StopsAtChildren}
 use Rattle.capnp_copies.specs.Originals.{Original, children_original}
 
 -- No words are allocated: each segment has as many words and as much room as before.
@@ -57,13 +57,14 @@ pub record MakesAtMost (id : ℕ) (old new : View) (n p : ℕ) : Type 0 where
 
 -- What a copy takes: if all is read, by what that costs; if it is refused, by what was read before
 -- the object where it breaks off.
-abbrev pub TakesAtMost : {A E V : Type 0} → Result A E → Original V → Change → Type 0
+abbrev pub TakesAtMost : {A E V : Type 0} → Result A E → Original V → CopyCall → Type 0
 TakesAtMost result o c =
     MatchResult result (λ _. o.takes c.form c.before c.after (MakesAtMost c.segment c.old c.new))
     (λ _. o.takes_until c.form c.before c.after (MakesAtMost c.segment c.old c.new))
 
 -- A call copies, or is refused and leaves some value; and what it takes of the message.
-pub record CopiesOrLeaves {A : Type 0} (result : Result A ErrorKind) (o : Original Tree) (c : Change)
+pub record CopiesOrLeaves {A : Type 0} (result : Result A ErrorKind) (o : Original Tree)
+    (c : CopyCall)
     : Type 0 where
   pub copied : IfOk result (λ _. MakesCopy o c)
   pub refused : IfErr result (λ k. (t : Tree) × StopsCopy o c t k)
@@ -71,7 +72,8 @@ pub record CopiesOrLeaves {A : Type 0} (result : Result A ErrorKind) (o : Origin
 
 -- A call copies what n pointers from a place on mean, or is refused; and what it takes of the
 -- message.
-pub record CopiesOrStops {A : Type 0} (result : Result A ErrorKind) (r : Reading) (n : ℕ) (c : Change)
+pub record CopiesOrStops {A : Type 0} (result : Result A ErrorKind) (r : Reading) (n : ℕ)
+    (c : CopyCall)
     : Type 0 where
   pub copied : IfOk result (λ _. CopiesChildren r n c)
   pub refused : IfErr result (StopsAtChildren r n c)

@@ -18,7 +18,7 @@ use Rattle.capnp_objects.specs.Reading.{Reading, words_from}
 use Rattle.capnp_objects.specs.Refusals.{StopsWithin, StopsAmong, StopsAmongElements, IsTried}
 use Rattle.capnp_objects.specs.Spending.{pointers_in, pointers_in_all, pointers_in_elements}
 use Rattle.capnp_objects.specs.Wanted.{Form, canonical}
-use Rattle.capnp_copies.specs.Costs.{Spent, spent_until, spent_among, spent_among_elements, spent_behind}
+use Rattle.capnp_copies.specs.Costs.{Spent, spent_until, spent_among, spent_among_elements, spent_past}
 use Rattle.capnp_copies.specs.Forms.{kept, kept_each, kept_elements}
 use Rattle.capnp_copies.specs.Widths.{widths_kept}
 use Rattle.capnp_copies.specs.declared.widths.ElementSizes.{ElementSizes}
@@ -108,7 +108,7 @@ abbrev pub sections_original : List ℕ → Reading → ℕ → Original Tree
 sections_original ws r q = record {
   reads = λ form m m' t. (ts : Trees) × (t ≡ Struct ws ts) × (count ts ≡ q) × ReadsAll form r m m' ts;
   stops = λ form P m m'. StopsAmong form P r q m m';
-  spent = λ x. spent_behind (length ws + q) (spent_among x);
+  spent = λ x. spent_past (length ws + q) (spent_among x);
   makes = λ form n. n ≡ kept_count form ws + kept_count form (words_from r q);
   exceeds = λ form k. (2 ^ 16 - 1 < kept_count form ws) × (k ≡ MessageTooLarge (kept_count form ws));
   words = λ form t. word_count (kept form t);
@@ -149,7 +149,7 @@ abbrev pub pointers_original : ℕ → Reading → Original Tree
 pointers_original n r = record {
   reads = λ form m m' t. (ts : Trees) × (t ≡ Pointers ts) × (count ts ≡ n) × ReadsAll form r m m' ts;
   stops = λ form P m m'. StopsAmong form P r n m m';
-  spent = λ x. spent_behind n (spent_among x);
+  spent = λ x. spent_past n (spent_among x);
   makes = λ form i. i ≡ n;
   exceeds = λ form k. IsTooLong Pointer n 0 k;
   words = λ form t. word_count (kept form t);
@@ -165,7 +165,7 @@ structs_original size n r = record {
   reads = λ form m m' t. (es : Elements) × (t ≡ Structs size.data_words size.pointers es) ×
       (element_count es ≡ n) × ReadsElements form r size m m' es;
   stops = λ form P m m'. StopsAmongElements form P r size n m m';
-  spent = λ x. spent_behind (structs_words n size) (spent_among_elements x);
+  spent = λ x. spent_past (structs_words n size) (spent_among_elements x);
   makes = λ form i. i ≡ structs_words n (widths_kept form r size n);
   exceeds = λ form k. IsTooLong InlineComposite n (size.data_words + size.pointers) k;
   words = λ form t. word_count (kept form t);

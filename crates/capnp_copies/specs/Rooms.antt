@@ -9,7 +9,7 @@ use Rattle.capnp_making.specs.Stored.{Puts}
 use Rattle.capnp_making.specs.Zeroed.{IsPruned}
 use Rattle.capnp_format.specs.Tree.{Tree, Null}
 use Rattle.capnp_objects.specs.Wanted.{Form}
-use Rattle.capnp_copies.specs.Changes.{Change, MakesCopy, StopsCopy}
+use Rattle.capnp_copies.specs.Changes.{CopyCall, MakesCopy, StopsCopy}
 use Rattle.capnp_copies.specs.Growth.{TakesAtMost}
 use Rattle.capnp_copies.specs.Originals.{Original}
 
@@ -26,7 +26,8 @@ pub record CanBeCopied {V : Type 0} (o : Original V) (form : Form) (m : Meter) (
 -- A call copies what is read, and never fails if that can be copied; or it is refused and leaves
 -- null. Also states what it takes of the message. If what is copied is larger than an object can
 -- be, nothing of it is read.
-pub record CopiesOrClears (result : Result ⊤ ErrorKind) (o : Original Tree) (c : Change) : Type 0 where
+pub record CopiesOrClears (result : Result ⊤ ErrorKind) (o : Original Tree)
+    (c : CopyCall) : Type 0 where
   pub copied : IfOk result (λ _. MakesCopy o c)
   pub fits : CanBeCopied o c.form c.before c.old c.segment → IsOk result
   pub refused : IfErr result (StopsCopy o c Null)

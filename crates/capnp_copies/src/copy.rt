@@ -12,7 +12,7 @@ ghost use Rattle.capnp_arena_traits.specs.Written.{with_word};
 ghost use Rattle.capnp_objects.specs.Wanted.{plain, canonical, of_default};
 ghost use Rattle.capnp_pointers.specs.Pointers.{reading};
 ghost use Rattle.capnp_copies.specs.Growth.{CopiesOrLeaves};
-ghost use Rattle.capnp_copies.specs.Changes.{change, change_to, IsNullPlace};
+ghost use Rattle.capnp_copies.specs.Changes.{copy_call, copy_call_to, IsNullPlace};
 ghost use Rattle.capnp_copies.specs.Forms.{form_of, form_in};
 ghost use Rattle.capnp_copies.specs.Rooms.{CopiesOrClears};
 ghost use Rattle.capnp_copies.specs.Originals.{value_original};
@@ -40,7 +40,7 @@ pub use elements::put_words;
 pub use flat::copy_flat;
 pub use lists::{copy_pointers, copy_structs};
 use places::pointer_inside;
-pub use places::{place_behind, pointer_behind};
+pub use places::{place_past, pointer_past};
 pub use refusals::clear_refused;
 pub use structs::copy_struct;
 
@@ -55,7 +55,7 @@ pub fn copy_value<A: BuilderArena, B: ReaderArena>(
 ) -> Result<(), ErrorKind>
     requires { IsNullPlace (A.view arena.old).words to.segment to.at }
     ensures { CopiesOrClears result (value_original (reading B.ReaderArena from.entry))
-        (change (form_of canonicalize)
+        (copy_call (form_of canonicalize)
         (call_at to.segment to.at (A.view arena.old) (A.view arena.new)) lim.old lim.new) }
 {
     let form = CopyForm::of(canonicalize);
@@ -88,7 +88,7 @@ pub fn copy_in_form<A: BuilderArena, B: ReaderArena>(
 ) -> Result<(), ErrorKind>
     requires { IsNullPlace (A.view arena.old).words to.place.segment to.place.at }
     ensures { CopiesOrClears result (value_original (reading B.ReaderArena from.entry))
-        (change_to to (A.view arena.old) (A.view arena.new) lim.old lim.new) }
+        (copy_call_to to (A.view arena.old) (A.view arena.new) lim.old lim.new) }
 {
     let copied = copy_object(arena, to.place, from, lim, to.form);
     clear_refused(arena, to.place, copied)
@@ -107,7 +107,7 @@ fn copy_object<A: BuilderArena, B: ReaderArena>(
 ) -> Result<(), ErrorKind>
     requires { IsNullPlace (A.view arena.old).words to.segment to.at }
     ensures { CopiesOrLeaves result (value_original (reading B.ReaderArena from.entry))
-        (change (form_in form)
+        (copy_call (form_in form)
         (call_at to.segment to.at (A.view arena.old) (A.view arena.new)) lim.old lim.new) }
 {
     let source = from.source;

@@ -20,7 +20,7 @@ use Rattle.capnp_contents.specs.Existing.{struct_in}
 use Rattle.capnp_format.specs.Fields.{put_field}
 use Rattle.capnp_making.specs.Made.{words_of_zero, nulls, zero_elements, zero_struct, zero_structs, zero_list, list_words}
 use Rattle.capnp_making.specs.Makes.{CallAt, MakesObject, call_at}
-use Rattle.capnp_making.specs.Memory.{IsRefusedFor, StandsBehind, start_of}
+use Rattle.capnp_making.specs.Memory.{IsRefusedFor, ComesAfter, start_of}
 use Rattle.capnp_making.specs.Near.{LeadsToEnd}
 use Rattle.capnp_format.specs.Path.{Element, struct_at, put_struct, update, node, PathLeads, word_interval}
 use Rattle.capnp_making.specs.Stored.{IsStored, IsReplaced, Puts}
@@ -45,7 +45,7 @@ use Rattle.capnp_edits.specs.declared.edit.tasks.StructChange.{StructChange}
 use Rattle.capnp_edits.specs.declared.edit.tasks.StructChange.TheVariants.{Bits, Content}
 use Rattle.capnp_edits.specs.declared.edit.path.PathEnd.TheVariants.{Pointer as AtPointer, Element as AtElement}
 use Rattle.capnp_edits.specs.Tasks.{task_of}
-use Rattle.capnp_edits.specs.Edits.{refusal_of, bits_of, value_of, Making, becomes, denied, struct_with, made_at, is_of_path, DoesAt, Leaves, are_written, are_outside, PutsBits, Takes, IsApplied, refusals_after}
+use Rattle.capnp_edits.specs.Edits.{refusal_of, bits_of, value_of, Effect, becomes, denied, struct_with, effect_of_task, is_of_path, DoesAt, LeavesEffect, are_written, are_outside, PutsBits, EditTakes, IsApplied, refusals_after}
 use Rattle.capnp_edits.specs.Steps.{DoesThere, IsDoneAt, LeadsThere}
 use Rattle.capnp_edits.proofs.Steps.{first, same_some, struct_of}
 use Rattle.capnp_edits.proofs.Taken.{KeepsLengths, writes}
@@ -55,10 +55,10 @@ use Rattle.capnp_edits.proofs.Walks.{found-append, update-append}
 -- From S to R the task is done at a pointer, with outcome r, for each value t that the pointer
 -- means; then what an edit's task makes, if its numbers are in range.
 abbrev pub Does : Segments → Segments → PointerPlace → Task → Option ErrorKind → Type 0
-Does S R place task r = (t : Tree) → IsStored S place.segment place.word t → DoesAt S R place (made_at task (PointerTo t)) t r
+Does S R place task r = (t : Tree) → IsStored S place.segment place.word t → DoesAt S R place (effect_of_task task (PointerTo t)) t r
 
-abbrev pub made : Option Task → EndValue → Making
-made task end_value = option_map_or (λ (x : Task). made_at x end_value) task (denied NoSuchPlace)
+abbrev pub made : Option Task → EndValue → Effect
+made task end_value = option_map_or (λ (x : Task). effect_of_task x end_value) task (denied NoSuchPlace)
 
 -- the error of a refused allocation is that of memory or of room
 pub of_allocation : (old new : View) (segments amount : ℕ) (k : ErrorKind) → IsAllocationRefusal old new segments amount k → is_allocation_name k ≡ true
@@ -146,7 +146,7 @@ struct_leads (Ok x) c size h = h
 struct_leads (Err k) c size h = tt
 
 -- where a new object with words leads
-pub leads_behind : {A : Type 0} (result : Result A ErrorKind) (c : CallAt) (n : ℕ) → 0 < n → OnOk result (StandsBehind c.old c.segment n (start_of (target c.new.words c.segment c.at))) → OnOk result (LeadsToEnd c n)
+pub leads_behind : {A : Type 0} (result : Result A ErrorKind) (c : CallAt) (n : ℕ) → 0 < n → OnOk result (ComesAfter c.old c.segment n (start_of (target c.new.words c.segment c.at))) → OnOk result (LeadsToEnd c n)
 leads_behind (Ok x) c n some h = λ room. h.near some room
 leads_behind (Err k) c n some h = tt
 
@@ -179,7 +179,7 @@ object_made result old new place object n is made leads =
         }
 
 -- a call that makes no object
-pub pointed : (old new : View) (place : PointerPlace) (i : Option ℕ) (u : Tree) → ((t : Tree) → made_at (Point i) (PointerTo t) ≡ becomes u) → Puts old.words new.words place.segment place.word u → KeepsLimits old new → KeepsLengths old.words new.words →
+pub pointed : (old new : View) (place : PointerPlace) (i : Option ℕ) (u : Tree) → ((t : Tree) → effect_of_task (Point i) (PointerTo t) ≡ becomes u) → Puts old.words new.words place.segment place.word u → KeepsLimits old new → KeepsLengths old.words new.words →
     IsDoneAt old new (AtPointer place) (Point i) None
 pointed old new place i u makes puts limits lengths = record {
   done = λ t stored. record { left = Some u; leaves = as_it_stands (is_done u (makes t) refl refl); stands = puts t stored };
@@ -203,10 +203,10 @@ part_done result old new place part does lengths limits named kept = record {
 }
 
 -- what is made replaces the value at its place
-pub done_at : {S R : Segments} {place : PointerPlace} {making : Making} {t : Tree} {r : Option ErrorKind} (u : Tree) → making ≡ becomes u → r ≡ None → IsReplaced S R place.segment place.word t u → DoesAt S R place making t r
+pub done_at : {S R : Segments} {place : PointerPlace} {making : Effect} {t : Tree} {r : Option ErrorKind} (u : Tree) → making ≡ becomes u → r ≡ None → IsReplaced S R place.segment place.word t u → DoesAt S R place making t r
 done_at u makes done stands = record { left = Some u; leaves = as_it_stands (is_done u makes done refl); stands = stands }
 
-pub denied_at : {S R : Segments} {place : PointerPlace} {making : Making} {t : Tree} {r : Option ErrorKind} (k : ErrorKind) → making ≡ denied k → r ≡ Some k → R ≡ S → DoesAt S R place making t r
+pub denied_at : {S R : Segments} {place : PointerPlace} {making : Effect} {t : Tree} {r : Option ErrorKind} (k : ErrorKind) → making ≡ denied k → r ≡ Some k → R ≡ S → DoesAt S R place making t r
 denied_at k denies named same = record { left = None; leaves = as_it_stands (is_denied k denies named refl); stands = same }
 
 -- a field that the struct has, or doesn't have
@@ -256,20 +256,20 @@ no_struct a (Content source) (Pointers ts) none = refl
 no_struct a (Content source) (Structs d q es) none = refl
 
 -- an edit at a pointer
-at_pointer : (S R : Segments) (e : Edit) (place : PointerPlace) (making : Making) (r : Option ErrorKind) (t x : Tree) → made (task_of e.op) (PointerTo x) ≡ making → PathLeads S (node 0 0 t) (map step_of e.path.now) (node place.segment place.word x) →
-    found t (map step_of e.path.now) ≡ Some (PointerTo x) → IsForest S t → DoesAt S R place making x r → (u : Tree) × IsForest R u × Takes e r t u
-at_pointer S R e place making r t x makes leads end_value forest does = stands does.left (subst (λ m. Leaves m r does.left) (sym makes) does.leaves) does.stands
+at_pointer : (S R : Segments) (e : Edit) (place : PointerPlace) (making : Effect) (r : Option ErrorKind) (t x : Tree) → made (task_of e.op) (PointerTo x) ≡ making → PathLeads S (node 0 0 t) (map step_of e.path.now) (node place.segment place.word x) →
+    found t (map step_of e.path.now) ≡ Some (PointerTo x) → IsForest S t → DoesAt S R place making x r → (u : Tree) × IsForest R u × EditTakes e r t u
+at_pointer S R e place making r t x makes leads end_value forest does = stands does.left (subst (λ m. LeavesEffect m r does.left) (sym makes) does.leaves) does.stands
   where
-    stands : (o : Option Tree) → Leaves (made (task_of e.op) (PointerTo x)) r o → MatchOption o (R ≡ S) (IsReplaced S R place.segment place.word x) → (u : Tree) × IsForest R u × Takes e r t u
+    stands : (o : Option Tree) → LeavesEffect (made (task_of e.op) (PointerTo x)) r o → MatchOption o (R ≡ S) (IsReplaced S R place.segment place.word x) → (u : Tree) × IsForest R u × EditTakes e r t u
     stands (Some y) left replaced = (update t (map step_of e.path.now) y, forest_updated S R t (map step_of e.path.now) place.segment place.word x y forest leads replaced, takes e r t (leads_to (PointerTo x) (Some y) end_value left refl))
     stands None left same = (t, subst (λ Q. IsForest Q t) (sym same) forest, takes e r t (leads_to (PointerTo x) None end_value left refl))
 
 pub applied_pointer : (S R : Segments) (e : Edit) (place : PointerPlace) (task : Task) (r : Option ErrorKind) → task_of e.op ≡ Some task →
-    ((t : Tree) → IsStored S 0 0 t → IsPathFound S (record { segment = 0; word = 0 }) t (map step_of e.path.now) (Some (AtPointer place))) → Does S R place task r → IsApplied (Takes e r) S R
+    ((t : Tree) → IsStored S 0 0 t → IsPathFound S (record { segment = 0; word = 0 }) t (map step_of e.path.now) (Some (AtPointer place))) → Does S R place task r → IsApplied (EditTakes e r) S R
 applied_pointer S R e place task r is leads does t forest =
     let stored = forest_stored S t forest in
     let f = leads t stored in
-    at_pointer S R e place (made_at task (PointerTo f.0)) r t f.0 (ap (λ o. made o (PointerTo f.0)) is) f.1 f.2 forest
+    at_pointer S R e place (effect_of_task task (PointerTo f.0)) r t f.0 (ap (λ o. made o (PointerTo f.0)) is) f.1 f.2 forest
     (does f.0 (stored_within S 0 0 t (map step_of e.path.now) place.segment place.word f.0 f.1 stored))
 
 -- an element of a list of structs is a struct
@@ -287,7 +287,7 @@ element_width_stored S s p d q es i ws ts stored l is = let m = stored.means in 
 
 at_element : (S R : Segments) (e : Edit) (s : ExistingStruct) (n : Number) (r : Option ErrorKind) (t : Tree) (f : IsElementFound S 0 0 t (map step_of e.path.now) s) (ws : List ℕ) (ts : Trees) → struct_at f.elements f.index ≡ Struct ws ts →
     length ws ≡ s.size.data_words → IsStored S f.list_segment f.list_at (Structs s.size.data_words s.size.pointers f.elements) → found t (map step_of e.path.now) ≡ Some (ElementOf (Struct ws ts)) → IsForest S t →
-    made (task_of e.op) (ElementOf (Struct ws ts)) ≡ struct_changed (Bits n) (Struct ws ts) → PutsBits S R s (bits_of n) r → (u : Tree) × IsForest R u × Takes e r t u
+    made (task_of e.op) (ElementOf (Struct ws ts)) ≡ struct_changed (Bits n) (Struct ws ts) → PutsBits S R s (bits_of n) r → (u : Tree) × IsForest R u × EditTakes e r t u
 at_element S R e s n r t f ws ts is wide stored end_value forest makes (are_written starts ends done written) =
     let g = bits_of n in
     let d = s.size.data_words in
@@ -316,7 +316,7 @@ element_end S e s t f ws ts is =
 
 -- bits of an element are written
 pub applied_bits : (S R : Segments) (e : Edit) (s : ExistingStruct) (n : Number) (r : Option ErrorKind) → task_of e.op ≡ Some (InStruct (Bits n)) → ((t : Tree) → IsStored S 0 0 t → IsElementFound S 0 0 t (map step_of e.path.now) s) → PutsBits S R s (bits_of n) r →
-    IsApplied (Takes e r) S R
+    IsApplied (EditTakes e r) S R
 applied_bits S R e s n r is_task leads w t forest =
     let stored = forest_stored S t forest in
     let f = leads t stored in
@@ -328,7 +328,7 @@ applied_bits S R e s n r is_task leads w t forest =
     at_element S R e s n r t f ws ts is wide there (element_end S e s t f ws ts is) forest (ap (λ o. made o (ElementOf (Struct ws ts))) is_task) w
 
 -- any other task makes nothing of an element
-none_made : (task : Task) (t : Tree) → ((change : StructChange) → task ≡ InStruct change → ⊥) → made_at task (ElementOf t) ≡ denied NoSuchPlace
+none_made : (task : Task) (t : Tree) → ((change : StructChange) → task ≡ InStruct change → ⊥) → effect_of_task task (ElementOf t) ≡ denied NoSuchPlace
 none_made (InStruct change) t other = absurd (other change refl)
 none_made (Make object) t other = refl
 none_made (Point (Some i)) t other = refl
@@ -349,7 +349,7 @@ element_kept S s (Search sought default) r other = refl
 element_kept S s (CopyRoot c) r other = refl
 
 pub none_applied : (S : Segments) (e : Edit) (s : ExistingStruct) (task : Task) → task_of e.op ≡ Some task → ((change : StructChange) → task ≡ InStruct change → ⊥) → ((t : Tree) → IsStored S 0 0 t → IsElementFound S 0 0 t (map step_of e.path.now) s) →
-    IsApplied (Takes e (Some NoSuchPlace)) S S
+    IsApplied (EditTakes e (Some NoSuchPlace)) S S
 none_applied S e s task is_task other leads t forest =
     let f = leads t (forest_stored S t forest) in
     let (ws, ts, is) = element_struct f.elements f.index f.counts in
@@ -357,18 +357,18 @@ none_applied S e s task is_task other leads t forest =
     (t, forest, takes e (Some NoSuchPlace) t (leads_to (ElementOf x) None (element_end S e s t f ws ts is) (as_it_stands (is_denied NoSuchPlace (ap (λ o. made o (ElementOf x)) is_task ∙ none_made task x other) refl refl)) refl))
 
 -- an edit whose numbers are out of range
-pub out_applied : (S : Segments) (e : Edit) → task_of e.op ≡ None → IsApplied (Takes e (Some NoSuchPlace)) S S
+pub out_applied : (S : Segments) (e : Edit) → task_of e.op ≡ None → IsApplied (EditTakes e (Some NoSuchPlace)) S S
 out_applied S e out t forest = (t, forest, end (found t (map step_of e.path.now)) refl)
   where
-    end : (o : Option EndValue) → found t (map step_of e.path.now) ≡ o → Takes e (Some NoSuchPlace) t t
+    end : (o : Option EndValue) → found t (map step_of e.path.now) ≡ o → EditTakes e (Some NoSuchPlace) t t
     end (Some end_value) is = takes e (Some NoSuchPlace) t (leads_to end_value None is (as_it_stands (is_denied NoSuchPlace (ap (λ x. made x end_value) out) refl refl)) refl)
     end None is = takes e (Some NoSuchPlace) t (leads_nowhere is refl refl)
 
 -- an edit whose path leads nowhere
-pub applied_nowhere : (S : Segments) (e : Edit) → ((t : Tree) → IsStored S 0 0 t → IsPathFound S (record { segment = 0; word = 0 }) t (map step_of e.path.now) None) → IsApplied (Takes e (Some NoSuchPlace)) S S
+pub applied_nowhere : (S : Segments) (e : Edit) → ((t : Tree) → IsStored S 0 0 t → IsPathFound S (record { segment = 0; word = 0 }) t (map step_of e.path.now) None) → IsApplied (EditTakes e (Some NoSuchPlace)) S S
 applied_nowhere S e none t forest =
     (t, forest, takes e (Some NoSuchPlace) t (leads_nowhere (ap (found t) (sym (append-nil (map step_of e.path.now))) ∙ none t (forest_stored S t forest) []) refl refl))
 
 -- a forest has a root
-pub no_forest : (S : Segments) (e : Edit) (r : Option ErrorKind) → (1 ≤ length (segment S 0) → ⊥) → IsApplied (Takes e r) S S
+pub no_forest : (S : Segments) (e : Edit) (r : Option ErrorKind) → (1 ≤ length (segment S 0) → ⊥) → IsApplied (EditTakes e r) S S
 no_forest S e r empty t forest = absurd (empty (omega (arith, (forest_stored S t forest).inside 0 0 (omega (arith, times-first (word_interval 0 0) (cover S 0 0 t) 0 0, once_held 0 0)))))

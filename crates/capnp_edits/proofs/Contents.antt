@@ -13,7 +13,7 @@ use Rattle.capnp_format.specs.Tree.{Tree, Null, Capability, Struct, Flat, Pointe
 use Rattle.capnp_format.specs.Forest.{target}
 use Rattle.capnp_contents.specs.declared.existing.ExistingBytes.{ExistingBytes}
 use Rattle.capnp_contents.specs.declared.existing.ExistingList.{ExistingList}
-use Rattle.capnp_contents.specs.Existing.{size_of, plain_misfit, structs_misfit, plain_list, struct_list, unless, list_in, bytes_at, ends_in_zero, text_in, data_in, BytesLieIn}
+use Rattle.capnp_contents.specs.Existing.{size_of, plain_misfit, structs_misfit, plain_list, struct_list, unless, list_in, bytes_at, ends_in_zero, text_in, data_in, AreBytesInside}
 use Rattle.capnp_making.specs.Fields.{with_field}
 use Rattle.capnp_format.specs.Path.{put_struct}
 use Rattle.capnp_making.specs.Stored.{IsStored, IsReplaced}
@@ -283,7 +283,7 @@ element_does S R place n r looked inside range is_found puts t stored = does (is
 -- what a search for bytes shows, and how byte i of them is written
 record Looks (look : Target → Tree → Result (Option ExistingBytes) ErrorKind) (i v : ℕ) : Type 0 where
   long : (a b : Target) (t : Tree) → length_in (look a t) ≡ length_in (look b t)
-  inside : (S : Segments) (s p : ℕ) (t : Tree) (b : ExistingBytes) → s < length S → IsStored S s p t → look (target S s p) t ≡ Ok (Some b) → BytesLieIn S b
+  inside : (S : Segments) (s p : ℕ) (t : Tree) (b : ExistingBytes) → s < length S → IsStored S s p t → look (target S s p) t ≡ Ok (Some b) → AreBytesInside S b
   written : (S R : Segments) (s p : ℕ) (t : Tree) (b : ExistingBytes) → Ok (Some b) ≡ look (target S s p) t → IsStored S s p t → i < b.length → R ≡ with_field S b.segment (8 * (8 * b.start + i)) 8 v → IsReplaced S R s p t (with_lowest i 8 v t)
 
 byte_does : (S R : Segments) (place : PointerPlace) (i v : ℕ) (look : Target → Tree → Result (Option ExistingBytes) ErrorKind) (r : Option ErrorKind) (looked : Result (Option ExistingBytes) ErrorKind) (t : Tree) →

@@ -17,7 +17,7 @@ use Rattle.capnp_format.specs.Tree.{Tree, Null}
 use Rattle.capnp_making.specs.Memory.{KeepsMemory, SpendsMemory}
 use Rattle.capnp_making.proofs.Memory.{not_the_allocator}
 use Rattle.capnp_making.specs.Stored.{Puts}
-use Rattle.capnp_objects.specs.Expected.{Expectation, struct_expected, list_expected, CanBeGiven, narrow_elements, Withheld, no_level, unfollowed, of_another_kind, stopped, misfits}
+use Rattle.capnp_objects.specs.Expected.{Expectation, struct_expected, list_expected, HasExpected, narrow_elements, RefusesExpected, no_level, unfollowed, of_another_kind, stopped, misfits}
 use Rattle.capnp_objects.specs.Outcomes.{Reads}
 use Rattle.capnp_objects.specs.Reading.{Reading}
 use Rattle.capnp_objects.specs.Refusals.{Refused, here as stops_here, Unfollowed, no_target}
@@ -34,7 +34,7 @@ use Rattle.capnp_readers.specs.declared.readers.PointerReader.{PointerReader}
 use Rattle.capnp_readers.specs.declared.readers.struct_reader.StructReader.{StructReader}
 use Rattle.capnp_readers.specs.declared.readers.list_reader.ListReader.{ListReader}
 use Rattle.capnp_pointers.specs.declared.pointers.PointerPlace.{PointerPlace}
-use Rattle.capnp_copies.specs.Changes.{Change, RefusesToCopy, change}
+use Rattle.capnp_copies.specs.Changes.{CopyCall, RefusesToCopy, copy_call}
 use Rattle.capnp_copies.specs.Forms.{form_of, kept}
 use Rattle.capnp_copies.specs.Growth.{TakesAtMost}
 use Rattle.capnp_copies.specs.Originals.{Original, value_original, sections_original, list_original}
@@ -49,7 +49,7 @@ use Rattle.capnp_edits.specs.declared.edit.copying.Copying.{Copying}
 use Rattle.capnp_edits.specs.declared.edit.copying.Wanted.{Wanted}
 use Rattle.capnp_edits.specs.declared.edit.copying.Wanted.TheVariants.{Value, Struct as AStruct, List as AList}
 use Rattle.capnp_edits.specs.declared.edit.tasks.Task.TheVariants.{CopyRoot}
-use Rattle.capnp_edits.specs.Sources.{root_of, once_at_root, as_wanted, HasRoot, Copies, IsRootless, IsUnreadable, IsWithheld, HasNothingToCopy, Sections, ListElements, LeadsToStruct, LeadsToList, OfWanted}
+use Rattle.capnp_edits.specs.Sources.{root_of, once_at_root, as_wanted, HasRoot, Copies, IsRootless, IsUnreadable, RefusesWanted, HasNothingToCopy, Sections, ListElements, LeadsToStruct, LeadsToList, OfWanted}
 use Rattle.capnp_edits.specs.Edits.{refusal_of, is_of_path, refusals_after}
 use Rattle.capnp_edits.specs.Steps.{result_of, CopiesWhole, IsDoneAt}
 use Rattle.capnp_edits.proofs.Applied.{Does, of_allocation, of_no_place, named_refusal, never_refused}
@@ -103,27 +103,27 @@ IsDone c after S R place =
 -- A copy is refused for lack of memory, or because its value can't be read; and never with
 -- NoSuchPlace.
 
-value_refused : (b : Bool) (id at : ℕ) (old new : View) (r : Reading) (m m' : Meter) (k : ErrorKind) → RefusesToCopy (value_original r) (change (form_of b) (call_at id at old new) m m') k → (is_allocation_name k ≡ true) ⊎ Refused (form_of b) r m m' k
+value_refused : (b : Bool) (id at : ℕ) (old new : View) (r : Reading) (m m' : Meter) (k : ErrorKind) → RefusesToCopy (value_original r) (copy_call (form_of b) (call_at id at old new) m m') k → (is_allocation_name k ≡ true) ⊎ Refused (form_of b) r m m' k
 value_refused b id at old new r m m' k (inl (lacks, large)) =
-    let x = refused_words (value_original r) (change (form_of b) (call_at id at old new) m m') k lacks in
+    let x = refused_words (value_original r) (copy_call (form_of b) (call_at id at old new) m m') k lacks in
     inl (of_allocation old new (length new.words) (x.0 + 1) k x.1.0)
 value_refused b id at old new r m m' k (inr (inl refused)) = inr refused
 value_refused b id at old new r m m' k (inr (inr none)) = absurd none
 
-copy_refused_as : (w : Wanted) (b : Bool) (id at : ℕ) (old new : View) (r : Reading) (m m' : Meter) (k : ErrorKind) → OfWanted w r (change (form_of b) (call_at id at old new) m m') (λ o d. RefusesToCopy o d k) →
+copy_refused_as : (w : Wanted) (b : Bool) (id at : ℕ) (old new : View) (r : Reading) (m m' : Meter) (k : ErrorKind) → OfWanted w r (copy_call (form_of b) (call_at id at old new) m m') (λ o d. RefusesToCopy o d k) →
     (is_allocation_name k ≡ true) ⊎ Refused (form_of b) r m m' k
 copy_refused_as Value b id at old new r m m' k refuses = value_refused b id at old new r m m' k refuses
 copy_refused_as AStruct b id at old new r m m' k (s, leads, refuses) = struct_refused b id at old new r m m' s k leads refuses
 copy_refused_as AList b id at old new r m m' k (l, n, leads, refuses) = list_refused b id at old new r m n m' l k leads refuses
 
-copy_nowhere_as : (w : Wanted) (b : Bool) (id at : ℕ) (old new : View) (r : Reading) (m m' : Meter) (k : ErrorKind) → OfWanted w r (change (form_of b) (call_at id at old new) m m') (λ o d. RefusesToCopy o d k) → k ≡ NoSuchPlace → ⊥
+copy_nowhere_as : (w : Wanted) (b : Bool) (id at : ℕ) (old new : View) (r : Reading) (m m' : Meter) (k : ErrorKind) → OfWanted w r (copy_call (form_of b) (call_at id at old new) m m') (λ o d. RefusesToCopy o d k) → k ≡ NoSuchPlace → ⊥
 copy_nowhere_as w b id at old new r m m' k refuses e = elim (copy_refused_as w b id at old new r m m' k refuses) [
   | inl memory ↦ of_no_place k memory e
   | inr refused ↦ not_for_place (subst (λ y. Refused (form_of b) r m m' y) e refused)
 ]
 
 copy_fits_as : (w : Wanted) (c : Copying) (id at : ℕ) (old new : View) (r : Reading) (m m' : Meter) (k : ErrorKind) → c.wanted ≡ w → (c.wanted ≡ AList → AreWords r.segments) →
-    CanBeCopiedAs c r m (length (segment old.words id)) (old.room id) → OfWanted w r (change (form_of c.canonicalize) (call_at id at old new) m m') (λ o d. RefusesToCopy o d k) → ⊥
+    CanBeCopiedAs c r m (length (segment old.words id)) (old.room id) → OfWanted w r (copy_call (form_of c.canonicalize) (call_at id at old new) m m') (λ o d. RefusesToCopy o d k) → ⊥
 copy_fits_as Value c id at old new r m m' k is small can (inl (lacks, large)) =
     let same : can.value ≡ can.copied = same_some can.value can.copied (subst (λ w. as_wanted w can.value ≡ Some can.copied) is can.is_wanted) in
     omega (arith, can.fits, value_beyond (form_of c.canonicalize) r (length (segment old.words id)) (old.room id) large can.value can.cost can.means, ap (λ t. word_count (kept (form_of c.canonicalize) t)) same)
@@ -133,10 +133,10 @@ copy_fits_as AStruct c id at old new r m m' k is small can (s, leads, refuses) =
 copy_fits_as AList c id at old new r m m' k is small can (l, n, leads, refuses) = list_fits c r m n m' l id at old new k is leads (list_small r m n l (small is) leads) can refuses
 
 -- What a copy takes, and why it is refused, by its outcome r.
-abbrev pub Says : Option ErrorKind → Original Tree → Change → Type 0
+abbrev pub Says : Option ErrorKind → Original Tree → CopyCall → Type 0
 Says r o d = TakesAtMost (result_of r) o d × MatchOption r (PutsCopy o d) (RefusesToCopy o d)
 
-says : {A : Type 0} (result : Result A ErrorKind) (o : Original Tree) (d : Change) → IfOk result (λ x. PutsCopy o d) → TakesAtMost result o d → IfErr result (LeavesCleared o d) → Says (refusal_of result) o d
+says : {A : Type 0} (result : Result A ErrorKind) (o : Original Tree) (d : CopyCall) → IfOk result (λ x. PutsCopy o d) → TakesAtMost result o d → IfErr result (LeavesCleared o d) → Says (refusal_of result) o d
 says (Ok x) o d done taken refused = (taken, done)
 says (Err k) o d done taken refused = (taken, refused.why)
 
@@ -145,28 +145,28 @@ pub record Tried {A : Type 0} (result : Result A ErrorKind) (c : Copying) (old n
   pub root : HasRoot c.source
   pub after : Meter
   pub done : IfOk result (λ x. IsDone c after old.words new.words place)
-  pub copies : OfWanted c.wanted (root_of c.source) (change (form_of c.canonicalize) (call_at place.segment place.word old new) (once_at_root c.source) after) (Says (refusal_of result))
+  pub copies : OfWanted c.wanted (root_of c.source) (copy_call (form_of c.canonicalize) (call_at place.segment place.word old new) (once_at_root c.source) after) (Says (refusal_of result))
 
 -- if Q follows from P for each original and call, it does so for what is wanted at a place
-wanted_so : (w : Wanted) (r : Reading) (c : Change) (P Q : Original Tree → Change → Type 0) → ((o : Original Tree) (d : Change) → P o d → Q o d) → OfWanted w r c P → OfWanted w r c Q
+wanted_so : (w : Wanted) (r : Reading) (c : CopyCall) (P Q : Original Tree → CopyCall → Type 0) → ((o : Original Tree) (d : CopyCall) → P o d → Q o d) → OfWanted w r c P → OfWanted w r c Q
 wanted_so Value r c P Q so h = so _ _ h
 wanted_so AStruct r c P Q so (s, leads, h) = (s, leads, so _ _ h)
 wanted_so AList r c P Q so (l, m, leads, h) = (l, m, leads, so _ _ h)
 
 tried_refused : {A : Type 0} (k : ErrorKind) (c : Copying) (old new : View) (place : PointerPlace) (tried : Tried {A = A} (Err k) c old new place) →
-    OfWanted c.wanted (root_of c.source) (change (form_of c.canonicalize) (call_at place.segment place.word old new) (once_at_root c.source) tried.after) (λ o d. RefusesToCopy o d k)
+    OfWanted c.wanted (root_of c.source) (copy_call (form_of c.canonicalize) (call_at place.segment place.word old new) (once_at_root c.source) tried.after) (λ o d. RefusesToCopy o d k)
 tried_refused k c old new place tried = wanted_so c.wanted (root_of c.source) _ (Says (Some k)) (λ o d. RefusesToCopy o d k) (λ o d h. h.1) tried.copies
 
 -- if what is wanted was found, there is something to copy
-found_wanted : (w : Wanted) (r : Reading) (d : Change) (So : Original Tree → Change → Type 0) → OfWanted w r d So → (m : Meter) (k : ErrorKind) → IsWithheld w r d.before m k → ⊥
+found_wanted : (w : Wanted) (r : Reading) (d : CopyCall) (So : Original Tree → CopyCall → Type 0) → OfWanted w r d So → (m : Meter) (k : ErrorKind) → RefusesWanted w r d.before m k → ⊥
 found_wanted Value r d So h m k withheld = withheld
 found_wanted AStruct r d So (s, leads, h) m k withheld = not_withheld struct_expected r d.before m k (struct_there_given leads) withheld
 found_wanted AList r d So (l, n, leads, h) m k withheld = not_withheld (list_expected Void) r d.before m k (list_there_given leads) withheld
 
-something_to_copy : (c : Copying) (call : CallAt) (after : Meter) (So : Original Tree → Change → Type 0) → HasRoot c.source →
-    OfWanted c.wanted (root_of c.source) (change (form_of c.canonicalize) call (once_at_root c.source) after) So → (k : ErrorKind) → HasNothingToCopy c.source c.wanted k → ⊥
+something_to_copy : (c : Copying) (call : CallAt) (after : Meter) (So : Original Tree → CopyCall → Type 0) → HasRoot c.source →
+    OfWanted c.wanted (root_of c.source) (copy_call (form_of c.canonicalize) call (once_at_root c.source) after) So → (k : ErrorKind) → HasNothingToCopy c.source c.wanted k → ⊥
 something_to_copy c call after So has found k (inl rootless) = rootless.0 has
-something_to_copy c call after So has found k (inr (root, (m, withheld))) = found_wanted c.wanted (root_of c.source) (change (form_of c.canonicalize) call (once_at_root c.source) after) So found m k withheld
+something_to_copy c call after So has found k (inr (root, (m, withheld))) = found_wanted c.wanted (root_of c.source) (copy_call (form_of c.canonicalize) call (once_at_root c.source) after) So found m k withheld
 
 pub tried_done : {A : Type 0} (result : Result A ErrorKind) (c : Copying) (old new : View) (place : PointerPlace) → Tried result c old new place → OnErr result (Puts old.words new.words place.segment place.word Null) →
     Does old.words new.words place (CopyRoot c) (refusal_of result)
@@ -192,53 +192,53 @@ tried_fits (Err k) c old new place tried fits = absurd (copy_fits_as c.wanted c 
 
 -- the copy of what the root means
 pub value_tried : {A : Type 0} (result : Result A ErrorKind) (c : Copying) (r : Reading) (m m' : Meter) (old new : View) (place : PointerPlace) → c.wanted ≡ Value → r ≡ root_of c.source → m ≡ once_at_root c.source → HasRoot c.source →
-    IfOk result (λ x. PutsCopy (value_original r) (change (form_of c.canonicalize) (call_at place.segment place.word old new) m m')) → IfErr result (LeavesCleared (value_original r) (change (form_of c.canonicalize) (call_at place.segment place.word old new) m m')) →
-    TakesAtMost result (value_original r) (change (form_of c.canonicalize) (call_at place.segment place.word old new) m m') → Tried result c old new place
+    IfOk result (λ x. PutsCopy (value_original r) (copy_call (form_of c.canonicalize) (call_at place.segment place.word old new) m m')) → IfErr result (LeavesCleared (value_original r) (copy_call (form_of c.canonicalize) (call_at place.segment place.word old new) m m')) →
+    TakesAtMost result (value_original r) (copy_call (form_of c.canonicalize) (call_at place.segment place.word old new) m m') → Tried result c old new place
 value_tried result c r m m' old new place is is_r is_m has done refused taken = record { root = has; after = m'; done = good result done; copies = copies }
   where
-    good : {A : Type 0} (q : Result A ErrorKind) → IfOk q (λ x. PutsCopy (value_original r) (change (form_of c.canonicalize) (call_at place.segment place.word old new) m m')) → IfOk q (λ x. IsDone c m' old.words new.words place)
+    good : {A : Type 0} (q : Result A ErrorKind) → IfOk q (λ x. PutsCopy (value_original r) (copy_call (form_of c.canonicalize) (call_at place.segment place.word old new) m m')) → IfOk q (λ x. IsDone c m' old.words new.words place)
     good (Ok x) h =
         (h.value, h.value, subst (λ y. Reads (form_of c.canonicalize) (root_of c.source) y m' h.value) is_m (subst (λ y. Reads (form_of c.canonicalize) y m m' h.value) is_r h.is_read), ap (λ w. as_wanted w h.value) is, h.put)
     good (Err k) h = tt
 
-    copies : OfWanted c.wanted (root_of c.source) (change (form_of c.canonicalize) (call_at place.segment place.word old new) (once_at_root c.source) m') (Says (refusal_of result))
+    copies : OfWanted c.wanted (root_of c.source) (copy_call (form_of c.canonicalize) (call_at place.segment place.word old new) (once_at_root c.source) m') (Says (refusal_of result))
     copies =
-        let ch : Meter → Change = λ y. change (form_of c.canonicalize) (call_at place.segment place.word old new) y m' in
+        let ch : Meter → CopyCall = λ y. copy_call (form_of c.canonicalize) (call_at place.segment place.word old new) y m' in
         subst (λ w. OfWanted w (root_of c.source) (ch (once_at_root c.source)) (Says (refusal_of result))) (sym is)
         (subst (λ y. Says (refusal_of result) (value_original (root_of c.source)) (ch y)) is_m (subst (λ y. Says (refusal_of result) (value_original y) (ch m)) is_r (says result (value_original r) (ch m) done taken refused)))
 
 -- the copy of the struct that the root leads to
 struct_tried : {A : Type 0} (result : Result A ErrorKind) (c : Copying) (s : Sections) (m' : Meter) (old new : View) (place : PointerPlace) → c.wanted ≡ AStruct → HasRoot c.source → LeadsToStruct (root_of c.source) (once_at_root c.source) s →
-    IfOk result (λ x. PutsCopy (sections_original s.words s.first s.pointers) (change (form_of c.canonicalize) (call_at place.segment place.word old new) s.limiter m')) →
-    IfErr result (LeavesCleared (sections_original s.words s.first s.pointers) (change (form_of c.canonicalize) (call_at place.segment place.word old new) s.limiter m')) →
-    TakesAtMost result (sections_original s.words s.first s.pointers) (change (form_of c.canonicalize) (call_at place.segment place.word old new) s.limiter m') → Tried result c old new place
+    IfOk result (λ x. PutsCopy (sections_original s.words s.first s.pointers) (copy_call (form_of c.canonicalize) (call_at place.segment place.word old new) s.limiter m')) →
+    IfErr result (LeavesCleared (sections_original s.words s.first s.pointers) (copy_call (form_of c.canonicalize) (call_at place.segment place.word old new) s.limiter m')) →
+    TakesAtMost result (sections_original s.words s.first s.pointers) (copy_call (form_of c.canonicalize) (call_at place.segment place.word old new) s.limiter m') → Tried result c old new place
 struct_tried result c s m' old new place is has leads done refused taken = record { root = has; after = m'; done = good result done; copies = copies }
   where
-    good : {A : Type 0} (q : Result A ErrorKind) → IfOk q (λ x. PutsCopy (sections_original s.words s.first s.pointers) (change (form_of c.canonicalize) (call_at place.segment place.word old new) s.limiter m')) → IfOk q (λ x. IsDone c m' old.words new.words place)
+    good : {A : Type 0} (q : Result A ErrorKind) → IfOk q (λ x. PutsCopy (sections_original s.words s.first s.pointers) (copy_call (form_of c.canonicalize) (call_at place.segment place.word old new) s.limiter m')) → IfOk q (λ x. IsDone c m' old.words new.words place)
     good (Ok x) h =
         let (ts, same, counts, all) = h.is_read in
         let (t, reads, wanted) = struct_reads (form_of c.canonicalize) (root_of c.source) (once_at_root c.source) m' s ts leads counts all in
         (t, h.value, reads, ap (λ w. as_wanted w t) is ∙ wanted ∙ ap Some (sym same), h.put)
     good (Err k) h = tt
 
-    copies : OfWanted c.wanted (root_of c.source) (change (form_of c.canonicalize) (call_at place.segment place.word old new) (once_at_root c.source) m') (Says (refusal_of result))
-    copies = subst (λ w. OfWanted w (root_of c.source) (change (form_of c.canonicalize) (call_at place.segment place.word old new) (once_at_root c.source) m') (Says (refusal_of result))) (sym is) (s, leads, says result (sections_original s.words s.first s.pointers) (change (form_of c.canonicalize) (call_at place.segment place.word old new) s.limiter m') done taken refused)
+    copies : OfWanted c.wanted (root_of c.source) (copy_call (form_of c.canonicalize) (call_at place.segment place.word old new) (once_at_root c.source) m') (Says (refusal_of result))
+    copies = subst (λ w. OfWanted w (root_of c.source) (copy_call (form_of c.canonicalize) (call_at place.segment place.word old new) (once_at_root c.source) m') (Says (refusal_of result))) (sym is) (s, leads, says result (sections_original s.words s.first s.pointers) (copy_call (form_of c.canonicalize) (call_at place.segment place.word old new) s.limiter m') done taken refused)
 
 -- the copy of the list that the root leads to
 list_tried : {A : Type 0} (result : Result A ErrorKind) (c : Copying) (l : ListElements) (m m' : Meter) (old new : View) (place : PointerPlace) → c.wanted ≡ AList → HasRoot c.source →
-    LeadsToList (root_of c.source) (once_at_root c.source) m l → IfOk result (λ x. PutsCopy (list_original l.size l.sections l.count l.first) (change (form_of c.canonicalize) (call_at place.segment place.word old new) m m')) →
-    IfErr result (LeavesCleared (list_original l.size l.sections l.count l.first) (change (form_of c.canonicalize) (call_at place.segment place.word old new) m m')) → TakesAtMost result (list_original l.size l.sections l.count l.first) (change (form_of c.canonicalize) (call_at place.segment place.word old new) m m') → Tried result c old new place
+    LeadsToList (root_of c.source) (once_at_root c.source) m l → IfOk result (λ x. PutsCopy (list_original l.size l.sections l.count l.first) (copy_call (form_of c.canonicalize) (call_at place.segment place.word old new) m m')) →
+    IfErr result (LeavesCleared (list_original l.size l.sections l.count l.first) (copy_call (form_of c.canonicalize) (call_at place.segment place.word old new) m m')) → TakesAtMost result (list_original l.size l.sections l.count l.first) (copy_call (form_of c.canonicalize) (call_at place.segment place.word old new) m m') → Tried result c old new place
 list_tried result c l m m' old new place is has leads done refused taken = record { root = has; after = m'; done = good result done; copies = copies }
   where
-    good : {A : Type 0} (q : Result A ErrorKind) → IfOk q (λ x. PutsCopy (list_original l.size l.sections l.count l.first) (change (form_of c.canonicalize) (call_at place.segment place.word old new) m m')) → IfOk q (λ x. IsDone c m' old.words new.words place)
+    good : {A : Type 0} (q : Result A ErrorKind) → IfOk q (λ x. PutsCopy (list_original l.size l.sections l.count l.first) (copy_call (form_of c.canonicalize) (call_at place.segment place.word old new) m m')) → IfOk q (λ x. IsDone c m' old.words new.words place)
     good (Ok x) h =
         let all = list_read_as (form_of c.canonicalize) l l.size m m' h.value refl h.is_read in
         let (u, reads, wanted) = list_reads (form_of c.canonicalize) (root_of c.source) (once_at_root c.source) m m' l h.value leads all in
         (u, h.value, reads, ap (λ w. as_wanted w u) is ∙ wanted, h.put)
     good (Err k) h = tt
 
-    copies : OfWanted c.wanted (root_of c.source) (change (form_of c.canonicalize) (call_at place.segment place.word old new) (once_at_root c.source) m') (Says (refusal_of result))
-    copies = subst (λ w. OfWanted w (root_of c.source) (change (form_of c.canonicalize) (call_at place.segment place.word old new) (once_at_root c.source) m') (Says (refusal_of result))) (sym is) (l, m, leads, says result (list_original l.size l.sections l.count l.first) (change (form_of c.canonicalize) (call_at place.segment place.word old new) m m') done taken refused)
+    copies : OfWanted c.wanted (root_of c.source) (copy_call (form_of c.canonicalize) (call_at place.segment place.word old new) (once_at_root c.source) m') (Says (refusal_of result))
+    copies = subst (λ w. OfWanted w (root_of c.source) (copy_call (form_of c.canonicalize) (call_at place.segment place.word old new) (once_at_root c.source) m') (Says (refusal_of result))) (sym is) (l, m, leads, says result (list_original l.size l.sections l.count l.first) (copy_call (form_of c.canonicalize) (call_at place.segment place.word old new) m m') done taken refused)
 
 -- A call without a default reads the pointer itself.
 own_pointer : {A : Type 0} (g : Ghosts A) (expected : Expectation) (from p : PointerReader A g) → IsRead g (record { from = from; expected = expected; default = None }) (Ok p) → p ≡ from
@@ -256,18 +256,18 @@ never_unread g expected from k (of_null_default null has whole none named e) = a
 pub where_read : {A : Type 0} (g : Ghosts A) (expected : Expectation) (from : PointerReader A g) (P : PointerReader A g → Type 0) → WhereRead g (record { from = from; expected = expected; default = None }) P → P from
 where_read g expected from P (p, is, h) = subst P (own_pointer g expected from p is) h
 
-answered : {A : Type 0} (g : Ghosts A) (expected : Expectation) (from : PointerReader A g) (m : Meter) → CanBeGiven expected (read_by g from) m →
-    WhereRead g (record { from = from; expected = expected; default = None }) (λ p. CanBeGiven expected (read_by g p) m)
+answered : {A : Type 0} (g : Ghosts A) (expected : Expectation) (from : PointerReader A g) (m : Meter) → HasExpected expected (read_by g from) m →
+    WhereRead g (record { from = from; expected = expected; default = None }) (λ p. HasExpected expected (read_by g p) m)
 answered g expected from m given = (from, of_pointer (inl refl) refl, given)
 
-withheld_at : {A : Type 0} (g : Ghosts A) (expected : Expectation) (from : PointerReader A g) (m m' : Meter) (k : ErrorKind) → IsRefused g (record { from = from; expected = expected; default = None }) m m' k → Withheld expected (read_by g from) m m' k
+withheld_at : {A : Type 0} (g : Ghosts A) (expected : Expectation) (from : PointerReader A g) (m m' : Meter) (k : ErrorKind) → IsRefused g (record { from = from; expected = expected; default = None }) m m' k → RefusesExpected expected (read_by g from) m m' k
 withheld_at g expected from m m' k (inl (unread, same)) = absurd (never_unread g expected from k unread)
-withheld_at g expected from m m' k (inr h) = where_read g expected from (λ p. Withheld expected (read_by g p) m m' k) h
+withheld_at g expected from m m' k (inr h) = where_read g expected from (λ p. RefusesExpected expected (read_by g p) m m' k) h
 
 -- The calls on a root's reader.
 pub struct_copied : {A B : Type 0} (result : Result B ErrorKind) (c : Copying) (g : Ghosts A) (from : PointerReader A g) (v : StructReader A g) (m n m' : Meter) (old new : View) (place : PointerPlace) → c.wanted ≡ AStruct → IsRootReader g c.source from m →
-    length v.content.now ≡ bytes_for v.bits → WhereRead g (record { from = from; expected = struct_expected; default = None }) (λ p. IsStructRead g p m n v) → IfOk result (λ x. PutsCopy (struct_read g v) (change (form_of c.canonicalize) (call_at place.segment place.word old new) n m')) →
-    IfErr result (LeavesCleared (struct_read g v) (change (form_of c.canonicalize) (call_at place.segment place.word old new) n m')) → TakesAtMost result (struct_read g v) (change (form_of c.canonicalize) (call_at place.segment place.word old new) n m') → Tried result c old new place
+    length v.content.now ≡ bytes_for v.bits → WhereRead g (record { from = from; expected = struct_expected; default = None }) (λ p. IsStructRead g p m n v) → IfOk result (λ x. PutsCopy (struct_read g v) (copy_call (form_of c.canonicalize) (call_at place.segment place.word old new) n m')) →
+    IfErr result (LeavesCleared (struct_read g v) (copy_call (form_of c.canonicalize) (call_at place.segment place.word old new) n m')) → TakesAtMost result (struct_read g v) (copy_call (form_of c.canonicalize) (call_at place.segment place.word old new) n m') → Tried result c old new place
 struct_copied result c g from v m n m' old new place is here long read done refused taken =
     let s : Sections = record { words = data_of g v; first = pointers_read g v; pointers = v.pointer_count; limiter = n } in
     let there : IsStructRead g from m n v = where_read g struct_expected from (λ p. IsStructRead g p m n v) read in
@@ -275,34 +275,34 @@ struct_copied result c g from v m n m' old new place is here long read done refu
     struct_tried result c s m' old new place is here.0 (subst (λ y. LeadsToStruct (root_of c.source) y s) here.2 (subst (λ r. LeadsToStruct r m s) here.1 leads)) done refused taken
 
 pub list_copied : {A B : Type 0} (result : Result B ErrorKind) (c : Copying) (g : Ghosts A) (from : PointerReader A g) (v : ListReader A g) (m n m' : Meter) (old new : View) (place : PointerPlace) → c.wanted ≡ AList → IsRootReader g c.source from m →
-    WhereRead g (record { from = from; expected = list_expected Void; default = None }) (λ p. IsListRead g Void p m n v) → IfOk result (λ x. PutsCopy (list_read g v) (change (form_of c.canonicalize) (call_at place.segment place.word old new) n m')) →
-    IfErr result (LeavesCleared (list_read g v) (change (form_of c.canonicalize) (call_at place.segment place.word old new) n m')) → TakesAtMost result (list_read g v) (change (form_of c.canonicalize) (call_at place.segment place.word old new) n m') → Tried result c old new place
+    WhereRead g (record { from = from; expected = list_expected Void; default = None }) (λ p. IsListRead g Void p m n v) → IfOk result (λ x. PutsCopy (list_read g v) (copy_call (form_of c.canonicalize) (call_at place.segment place.word old new) n m')) →
+    IfErr result (LeavesCleared (list_read g v) (copy_call (form_of c.canonicalize) (call_at place.segment place.word old new) n m')) → TakesAtMost result (list_read g v) (copy_call (form_of c.canonicalize) (call_at place.segment place.word old new) n m') → Tried result c old new place
 list_copied result c g from v m n m' old new place is here read done refused taken =
     let l : ListElements = elements_read g v in
     let leads : LeadsToList (read_by g from) m n l = list_at g from m n v (where_read g (list_expected Void) from (λ p. IsListRead g Void p m n v) read) in
     list_tried result c l n m' old new place is here.0 (subst (λ y. LeadsToList (root_of c.source) y n l) here.2 (subst (λ r. LeadsToList r m n l) here.1 leads)) done refused taken
 
-unread_as : {A : Type 0} (g : Ghosts A) (c : Copying) (expected : Expectation) (from : PointerReader A g) (m m' : Meter) (k : ErrorKind) → ((r : Reading) (i j : Meter) → Withheld expected r i j k → IsWithheld c.wanted r i j k) → IsRootReader g c.source from m →
+unread_as : {A : Type 0} (g : Ghosts A) (c : Copying) (expected : Expectation) (from : PointerReader A g) (m m' : Meter) (k : ErrorKind) → ((r : Reading) (i j : Meter) → RefusesExpected expected r i j k → RefusesWanted c.wanted r i j k) → IsRootReader g c.source from m →
     IsRefused g (record { from = from; expected = expected; default = None }) m m' k → HasNothingToCopy c.source c.wanted k
 unread_as g c expected from m m' k wanted here refused =
     let h = wanted (read_by g from) m m' (withheld_at g expected from m m' k refused) in
-    inr (here.0, (m', subst (λ y. IsWithheld c.wanted (root_of c.source) y m' k) here.2 (subst (λ r. IsWithheld c.wanted r m m' k) here.1 h)))
+    inr (here.0, (m', subst (λ y. RefusesWanted c.wanted (root_of c.source) y m' k) here.2 (subst (λ r. RefusesWanted c.wanted r m m' k) here.1 h)))
 
 pub struct_unread : {A : Type 0} (g : Ghosts A) (c : Copying) (from : PointerReader A g) (m m' : Meter) (k : ErrorKind) → c.wanted ≡ AStruct → IsRootReader g c.source from m → IsRefused g (record { from = from; expected = struct_expected; default = None }) m m' k → HasNothingToCopy c.source c.wanted k
-struct_unread g c from m m' k is here refused = unread_as g c struct_expected from m m' k (λ r i j h. subst (λ w. IsWithheld w r i j k) (sym is) h) here refused
+struct_unread g c from m m' k is here refused = unread_as g c struct_expected from m m' k (λ r i j h. subst (λ w. RefusesWanted w r i j k) (sym is) h) here refused
 
 pub list_unread : {A : Type 0} (g : Ghosts A) (c : Copying) (from : PointerReader A g) (m m' : Meter) (k : ErrorKind) → c.wanted ≡ AList → IsRootReader g c.source from m → IsRefused g (record { from = from; expected = list_expected Void; default = None }) m m' k → HasNothingToCopy c.source c.wanted k
-list_unread g c from m m' k is here refused = unread_as g c (list_expected Void) from m m' k (λ r i j h. subst (λ w. IsWithheld w r i j k) (sym is) h) here refused
+list_unread g c from m m' k is here refused = unread_as g c (list_expected Void) from m m' k (λ r i j h. subst (λ w. RefusesWanted w r i j k) (sym is) h) here refused
 
-pub struct_found : {A : Type 0} (g : Ghosts A) (c : Copying) (from : PointerReader A g) (m : Meter) (v : View) (id : ℕ) → c.wanted ≡ AStruct → IsRootReader g c.source from m → FitsBehind v id c → WhereRead g (record { from = from; expected = struct_expected; default = None }) (λ p. CanBeGiven struct_expected (read_by g p) m)
+pub struct_found : {A : Type 0} (g : Ghosts A) (c : Copying) (from : PointerReader A g) (m : Meter) (v : View) (id : ℕ) → c.wanted ≡ AStruct → IsRootReader g c.source from m → FitsBehind v id c → WhereRead g (record { from = from; expected = struct_expected; default = None }) (λ p. HasExpected struct_expected (read_by g p) m)
 struct_found g c from m v id is here fits =
     let given = struct_given c (root_of c.source) (once_at_root c.source) (length (segment v.words id)) (v.room id) is (can_be_copied v id c fits) in
-    answered g struct_expected from m (subst (λ y. CanBeGiven struct_expected (read_by g from) y) (sym here.2) (subst (λ r. CanBeGiven struct_expected r (once_at_root c.source)) (sym here.1) given))
+    answered g struct_expected from m (subst (λ y. HasExpected struct_expected (read_by g from) y) (sym here.2) (subst (λ r. HasExpected struct_expected r (once_at_root c.source)) (sym here.1) given))
 
-pub list_found : {A : Type 0} (g : Ghosts A) (c : Copying) (from : PointerReader A g) (m : Meter) (v : View) (id : ℕ) → c.wanted ≡ AList → IsRootReader g c.source from m → FitsBehind v id c → WhereRead g (record { from = from; expected = list_expected Void; default = None }) (λ p. CanBeGiven (list_expected Void) (read_by g p) m)
+pub list_found : {A : Type 0} (g : Ghosts A) (c : Copying) (from : PointerReader A g) (m : Meter) (v : View) (id : ℕ) → c.wanted ≡ AList → IsRootReader g c.source from m → FitsBehind v id c → WhereRead g (record { from = from; expected = list_expected Void; default = None }) (λ p. HasExpected (list_expected Void) (read_by g p) m)
 list_found g c from m v id is here fits =
     let given = list_given c (root_of c.source) (once_at_root c.source) (length (segment v.words id)) (v.room id) is (can_be_copied v id c fits) in
-    answered g (list_expected Void) from m (subst (λ y. CanBeGiven (list_expected Void) (read_by g from) y) (sym here.2) (subst (λ r. CanBeGiven (list_expected Void) r (once_at_root c.source)) (sym here.1) given))
+    answered g (list_expected Void) from m (subst (λ y. HasExpected (list_expected Void) (read_by g from) y) (sym here.2) (subst (λ r. HasExpected (list_expected Void) r (once_at_root c.source)) (sym here.1) given))
 
 -- The errors of a call itself, with which a source is never refused.
 abbrev is_of_call : ErrorKind → Bool
@@ -329,7 +329,7 @@ other_refused r m m' k refused = other_name k (λ e. not_for_memory (subst (λ y
 other_unfollowed : (r : Reading) (m m' : Meter) (k : ErrorKind) → Unfollowed r m m' k → is_of_call k ≡ false
 other_unfollowed r m m' k h = other_refused r m m' k (stops_here (no_target h))
 
-other_withheld : (expected : Expectation) (r : Reading) (m m' : Meter) (k : ErrorKind) → ((n : ℕ) → IsOther (expected.too_deep n)) → ((w : ℕ) → IsOther (expected.another_kind w)) → ((S : Segments) (a : Target) → IsOther (expected.misfit S a)) → Withheld expected r m m' k → is_of_call k ≡ false
+other_withheld : (expected : Expectation) (r : Reading) (m m' : Meter) (k : ErrorKind) → ((n : ℕ) → IsOther (expected.too_deep n)) → ((w : ℕ) → IsOther (expected.another_kind w)) → ((S : Segments) (a : Target) → IsOther (expected.misfit S a)) → RefusesExpected expected r m m' k → is_of_call k ≡ false
 other_withheld expected r m m' k levels kinds fits (no_level some deep same) = subst IsOther deep (levels r.levels)
 other_withheld expected r m m' k levels kinds fits (unfollowed level h) = other_unfollowed r m m' k h
 other_withheld expected r m m' k levels kinds fits (of_another_kind a level follows other paid) = subst IsOther other (kinds a.word)
@@ -346,14 +346,14 @@ other_narrow : (n : ℕ) → IsOther (narrow_elements Void n)
 other_narrow n =
     other_of (nat_eq n 1 && true) (Some FoundBitListWhereStructListWasExpected) _ refl (other_of (nat_lt (element_bits n) 0 || false && not (nat_eq n 6)) (Some MessageContainsListWithIncompatibleElementType) None refl tt)
 
-other_unwanted : (w : Wanted) (r : Reading) (m m' : Meter) (k : ErrorKind) → IsWithheld w r m m' k → is_of_call k ≡ false
+other_unwanted : (w : Wanted) (r : Reading) (m m' : Meter) (k : ErrorKind) → RefusesWanted w r m m' k → is_of_call k ≡ false
 other_unwanted Value r m m' k h = absurd h
 other_unwanted AStruct r m m' k h = other_withheld struct_expected r m m' k (λ n. other_of (nat_eq n 0) (Some MessageIsTooDeeplyNestedOrContainsCycles) None refl tt) other_kind (λ S a. tt) h
 other_unwanted AList r m m' k h =
     other_withheld (list_expected Void) r m m' k (λ n. other_of (nat_eq n 0) (Some NestingLimitExceeded) None refl tt) other_list (λ S a. other_of (nat_eq (element_size a.word) 7) None (narrow_elements Void (element_size a.word)) tt (other_narrow (element_size a.word))) h
 
 -- what can be copied is neither missing nor unreadable
-wanted_there : (w : Wanted) (c : Copying) (r : Reading) (m m' : Meter) (used room : ℕ) (k : ErrorKind) → c.wanted ≡ w → CanBeCopiedAs c r m used room → IsWithheld w r m m' k → ⊥
+wanted_there : (w : Wanted) (c : Copying) (r : Reading) (m m' : Meter) (used room : ℕ) (k : ErrorKind) → c.wanted ≡ w → CanBeCopiedAs c r m used room → RefusesWanted w r m m' k → ⊥
 wanted_there Value c r m m' used room k is can h = h
 wanted_there AStruct c r m m' used room k is can h = not_withheld struct_expected r m m' k (struct_given c r m used room is can) h
 wanted_there AList c r m m' used room k is can h = not_withheld (list_expected Void) r m m' k (list_given c r m used room is can) h

@@ -18,14 +18,14 @@ use Rattle.capnp_format.specs.Tree.{Tree, Null, Capability, Struct, Flat, Pointe
 use Rattle.capnp_format.specs.Word.{kind, offset_bits, data_words, pointer_count, element_size, list_count}
 use Rattle.capnp_format.proofs.Bounds.{leads_word}
 use Rattle.capnp_format.proofs.Sound.{at_some}
-use Rattle.capnp_objects.specs.Demands.{tag, own, Meets}
-use Rattle.capnp_objects.specs.Expected.{list_expected, CanBeGiven, null_pointer, fitting, narrow_elements}
+use Rattle.capnp_objects.specs.Demands.{tag, own_charge, Meets}
+use Rattle.capnp_objects.specs.Expected.{list_expected, HasExpected, null_pointer, fitting, narrow_elements}
 use Rattle.capnp_objects.specs.Faults.{LeadsTo, child_at}
 use Rattle.capnp_objects.specs.Outcomes.{Reads, ReadsAll, ReadsElements, Entered, MeansThere}
 use Rattle.capnp_objects.specs.Reading.{Reading, word_of, words_from, tag_size}
 use Rattle.capnp_objects.specs.Refusals.{Refused}
 use Rattle.capnp_objects.specs.Source.{levels}
-use Rattle.capnp_objects.specs.Spending.{after, pointers_in_all, pointers_in_elements}
+use Rattle.capnp_objects.specs.Spending.{after_charge, pointers_in_all, pointers_in_elements}
 use Rattle.capnp_objects.specs.Wanted.{Form, AllowsCapabilities}
 use Rattle.capnp_objects.specs.declared.object.Purpose.TheVariants.{Value}
 use Rattle.capnp_objects.proofs.Budgets.{affords_rest, paid_own}
@@ -38,7 +38,7 @@ use Rattle.capnp_objects.specs.Rows.{rows_sized}
 use Rattle.capnp_readers.specs.Readers.{read_by, IsTargetList, ShowsList}
 use Rattle.capnp_readers.specs.declared.readers.PointerReader.{PointerReader}
 use Rattle.capnp_readers.specs.declared.readers.list_reader.ListReader.{ListReader}
-use Rattle.capnp_copies.specs.Changes.{RefusesToCopy, change}
+use Rattle.capnp_copies.specs.Changes.{RefusesToCopy, copy_call}
 use Rattle.capnp_copies.specs.Forms.{form_of}
 use Rattle.capnp_value_copies.proofs.ListValues.{first_read}
 use Rattle.capnp_copies.specs.Originals.{FitsListPointer, list_original}
@@ -145,9 +145,9 @@ list_stops form r m n m' l k (a_struct_list a o z s sections first counts) (inr 
 
 -- the copy of a list is refused for room, or because its value can't be read
 pub list_refused : (b : Bool) (id at : ℕ) (old new : View) (r : Reading) (m n m' : Meter) (l : ListElements) (k : ErrorKind) → LeadsToList r m n l →
-    RefusesToCopy (list_original l.size l.sections l.count l.first) (change (form_of b) (call_at id at old new) n m') k → (is_allocation_name k ≡ true) ⊎ Refused (form_of b) r m m' k
+    RefusesToCopy (list_original l.size l.sections l.count l.first) (copy_call (form_of b) (call_at id at old new) n m') k → (is_allocation_name k ≡ true) ⊎ Refused (form_of b) r m m' k
 list_refused b id at old new r m n m' l k leads (inl (lacks, exceeds)) =
-    let x = refused_words (list_original l.size l.sections l.count l.first) (change (form_of b) (call_at id at old new) n m') k lacks in
+    let x = refused_words (list_original l.size l.sections l.count l.first) (copy_call (form_of b) (call_at id at old new) n m') k lacks in
     inl (of_allocation old new (length new.words) (x.0 + 1) k x.1.0)
 list_refused b id at old new r m n m' l k leads (inr (inl refused)) = inr (list_stops (form_of b) r m n m' l k leads (list_refused_as (form_of b) l l.size n m' k refl refused))
 list_refused b id at old new r m n m' l k leads (inr (inr large)) = inl (ap is_allocation_name (exceeding l.size l.sections l.count l.first (form_of b) k large).1)
@@ -160,7 +160,7 @@ record ListMeets (r : Reading) (c : ℕ) : Type 0 where
   wide : (list_expected Void).misfit r.segments target ≡ None
   some : 0 < r.levels
   meets : Meets Value r.segments 1 target
-  cost : own Value r.segments target ≤ c
+  cost : own_charge Value r.segments target ≤ c
 
 wide_enough : (size : ℕ) → size ≤ 7 → nat_eq size 1 ≡ false → cond (nat_eq size 7) None (narrow_elements Void size) ≡ None
 wide_enough zero le other = refl
@@ -195,7 +195,7 @@ flat_meets r size ns c (a, some, small, o, claims, values, g) no_bits =
         tagged = λ l. absurd (omega (arith, l.1, is, small));
       };
       cost =
-          let same : own Value S a ≡ a.pads + words_for size (length ns) + count_cost size (length ns) =
+          let same : own_charge Value S a ≡ a.pads + words_for size (length ns) + count_cost size (length ns) =
           own_flat S a o.is_list (omega (arith, is, small)) ∙ ap₂ (λ i n. a.pads + words_for i n + count_cost i n) is o.counts in
           omega (arith, same, g);
     }
@@ -219,7 +219,7 @@ pointers_meet r ts c (a, k, some, o, claims, all, g) =
     }
 
 own_structs_there : (S : Segments) (a : Target) (m n d q : ℕ) → kind a.word ≡ 1 → element_size a.word ≡ 7 → list_count a.word ≡ m → IsTag (tag S a) n d q →
-    own Value S a ≡ a.pads + (m + 1) + count_cost (d + q) n
+    own_charge Value S a ≡ a.pads + (m + 1) + count_cost (d + q) n
 own_structs_there S a m n d q z seven counts t =
     own_structs S a z seven ∙ ap₂ (λ i j. a.pads + (i + 1) + j) counts (ap₂ count_cost (ap₂ (λ i j. i + j) t.data_of t.pointers) t.counts)
 
@@ -244,19 +244,19 @@ structs_meet r d q es c (a, m, k, some, o, claims, t, fits, all, g) =
 level_there : (n : ℕ) → 0 < n → (list_expected Void).too_deep n ≡ None
 level_there n l = ap (λ b. cond b (Some NestingLimitExceeded) None) (ne_eqb n 0 (λ e. omega (arith, e, l)))
 
-given_there : (r : Reading) (m : Meter) (c : ℕ) → ListMeets r c → Affords r.charging m c → CanBeGiven (list_expected Void) r m
+given_there : (r : Reading) (m : Meter) (c : ℕ) → ListMeets r c → Affords r.charging m c → HasExpected (list_expected Void) r m
 given_there r m c x covers =
-    fitting {m' = after r.charging m (own Value r.segments x.target) 1} x.target (level_there r.levels x.some)
+    fitting {m' = after_charge r.charging m (own_charge Value r.segments x.target) 1} x.target (level_there r.levels x.some)
     (ap (λ i. cond (nat_eq i 1) None (Some MessageContainsNonListPointerWhereListPointerWasExpected)) x.is_list)
     (record {
       follows = leads_to r x.target x.leads_to;
       meets = x.meets;
-      covers = affords_less r.charging m (own Value r.segments x.target) c x.cost covers;
+      covers = affords_less r.charging m (own_charge Value r.segments x.target) c x.cost covers;
       spent = refl;
     })
     x.wide
 
-list_suited : (r : Reading) (m : Meter) (t : Tree) (c : ℕ) (copied : Tree) → MeansThere r t c → Affords r.charging m c → as_wanted AList t ≡ Some copied → CanBeGiven (list_expected Void) r m
+list_suited : (r : Reading) (m : Meter) (t : Tree) (c : ℕ) (copied : Tree) → MeansThere r t c → Affords r.charging m c → as_wanted AList t ≡ Some copied → HasExpected (list_expected Void) r m
 list_suited r m Null c copied means covers e = null_pointer means.0
 list_suited r m (Capability i) c copied means covers e = absurd (cc)
 list_suited r m (Struct ws ts) c copied means covers e = absurd (cc)
@@ -264,11 +264,11 @@ list_suited r m (Flat size ns) c copied means covers e = given_there r m c (flat
 list_suited r m (Pointers ts) c copied means covers e = given_there r m c (pointers_meet r ts c means) covers
 list_suited r m (Structs d q es) c copied means covers e = given_there r m c (structs_meet r d q es c means) covers
 
-pub list_given : (c : Copying) (r : Reading) (m : Meter) (used room : ℕ) → c.wanted ≡ AList → CanBeCopiedAs c r m used room → CanBeGiven (list_expected Void) r m
+pub list_given : (c : Copying) (r : Reading) (m : Meter) (used room : ℕ) → c.wanted ≡ AList → CanBeCopiedAs c r m used room → HasExpected (list_expected Void) r m
 list_given c r m used room is can = list_suited r m can.value can.cost can.copied can.means can.covers (subst (λ w. as_wanted w can.value ≡ Some can.copied) is can.is_wanted)
 
 -- what leads to a list has an answer
-level_read : (r : Reading) (m m' : Meter) (a : Target) → Entered Value r m m' a → kind a.word ≡ 1 → element_size a.word ≤ 7 → nat_eq (element_size a.word) 1 ≡ false → CanBeGiven (list_expected Void) r m
+level_read : (r : Reading) (m m' : Meter) (a : Target) → Entered Value r m m' a → kind a.word ≡ 1 → element_size a.word ≤ 7 → nat_eq (element_size a.word) 1 ≡ false → HasExpected (list_expected Void) r m
 level_read r m m' a o z size other =
     fitting {m' = m'} a (level_there r.levels o.meets.levels)
     (ap (λ i. cond (nat_eq i 1) None (Some MessageContainsNonListPointerWhereListPointerWasExpected)) z)
@@ -280,7 +280,7 @@ level_read r m m' a o z size other =
     })
     (wide_enough (element_size a.word) size other)
 
-pub list_there_given : {r : Reading} {m m' : Meter} {l : ListElements} → LeadsToList r m m' l → CanBeGiven (list_expected Void) r m
+pub list_there_given : {r : Reading} {m m' : Meter} {l : ListElements} → LeadsToList r m m' l → HasExpected (list_expected Void) r m
 list_there_given (no_list null void none same) = null_pointer null
 list_there_given {r} {m} {m'} (a_plain_list a o z size few other first counts) = level_read r m m' a o z (omega (arith, size, few)) (ap (λ i. nat_eq i 1) size ∙ other)
 list_there_given {r} {m} {m'} (a_struct_list a o is_list size sections first counts) = level_read r m m' a o is_list.0 (omega (arith, is_list.1)) (ap (λ i. nat_eq i 1) is_list.1)
@@ -328,8 +328,8 @@ pointers_match form r m n l ts c (a_plain_list b at z s few no_bits first counts
     let six : element_size b.word ≡ 6 = ap (λ (x : Target). element_size x.word) same ∙ o.is_size in
     let many : list_count b.word ≡ count ts = ap (λ (x : Target). list_count x.word) same ∙ o.counts in
     let place : l.first ≡ child_at r a (pred r.levels) a.start = first ∙ ap (λ (x : Target). child_at r x (pred r.levels) x.start) same in
-    let enters : own Value S b + k ≤ c = omega (arith, own_pointers S b z six, many, ap (λ (x : Target). x.pads) same, g) in
-    let end : Meter = after r.charging n k (pointers_in_all ts) in
+    let enters : own_charge Value S b + k ≤ c = omega (arith, own_pointers S b z six, many, ap (λ (x : Target). x.pads) same, g) in
+    let end : Meter = after_charge r.charging n k (pointers_in_all ts) in
     let there : ReadsAll form (child_at r a (pred r.levels) a.start) n end ts = record { cost = k; means = all; takes = takes; covers = affords_rest k c (paid_own at) enters covers; spent = refl } in
     (end, (pointer_size l.size (sym s ∙ six), sym (counts ∙ many), subst (λ x. ReadsAll form x n end ts) (sym place) there))
 pointers_match form r m n l ts c (a_struct_list b at z s sections first counts) (a, k, some, o, claims, all, g) takes covers =
@@ -348,8 +348,8 @@ structs_match form r m n l d q es c (a_struct_list b at z s sections first count
     let there : l.first ≡ child_at r a (pred r.levels) (a.start + 1) = first ∙ ap (λ (x : Target). child_at r x (pred r.levels) (x.start + 1)) same in
     let rows : l.sections ≡ sized d q = sections ∙ ap (tag_size S) same ∙ ap₂ sized t.data_of t.pointers in
     let many : l.count ≡ element_count es = counts ∙ ap (λ x. offset_bits (tag S x)) same ∙ t.counts in
-    let enters : own Value S b + k ≤ c = omega (arith, ap (own Value S) same, own_structs_there S a i (element_count es) d q o.is_list o.is_size o.counts t, g) in
-    let end : Meter = after r.charging n k (pointers_in_elements es) in
+    let enters : own_charge Value S b + k ≤ c = omega (arith, ap (own_charge Value S) same, own_structs_there S a i (element_count es) d q o.is_list o.is_size o.counts t, g) in
+    let end : Meter = after_charge r.charging n k (pointers_in_elements es) in
     let row : ReadsElements form (child_at r a (pred r.levels) (a.start + 1)) (sized d q) n end es =
     record { cost = k; means = all; takes = takes; covers = affords_rest k c (paid_own at) enters covers; spent = refl } in
     let sized_so : ReadsElements form (child_at r a (pred r.levels) (a.start + 1)) l.sections n end es =
@@ -400,7 +400,7 @@ list_small r m n l words (a_struct_list a o z s sections first counts) =
 -- the copy of a list isn't refused if it can be made
 pub list_fits : (c : Copying) (r : Reading) (m n m' : Meter) (l : ListElements) (id at : ℕ) (old new : View) (k : ErrorKind) → c.wanted ≡ AList → LeadsToList r m n l →
     FitsListPointer l.size l.count (l.sections.data_words + l.sections.pointers) → CanBeCopiedAs c r m (length (segment old.words id)) (old.room id) →
-    RefusesToCopy (list_original l.size l.sections l.count l.first) (change (form_of c.canonicalize) (call_at id at old new) n m') k → ⊥
+    RefusesToCopy (list_original l.size l.sections l.count l.first) (copy_call (form_of c.canonicalize) (call_at id at old new) n m') k → ⊥
 list_fits c r m n m' l id at old new k is leads small can refuses =
     let x = list_matches (form_of c.canonicalize) r m n l can.value can.cost can.copied leads can.means can.takes can.covers (subst (λ w. as_wanted w can.value ≡ Some can.copied) is can.is_wanted) in
     elim refuses [

@@ -11,14 +11,14 @@ use Rattle.capnp_format.specs.Means.{Leads, Means, Claims}
 use Rattle.capnp_format.specs.Segments.{Segments, Target, segment, words_at}
 use Rattle.capnp_format.specs.Tree.{Tree, Null, Capability, Struct, Flat, Pointers, Structs, Trees, no_trees, tree, count, capabilities}
 use Rattle.capnp_format.specs.Word.{kind, data_words, pointer_count}
-use Rattle.capnp_objects.specs.Demands.{claim, own}
-use Rattle.capnp_objects.specs.Expected.{struct_expected, CanBeGiven, null_pointer, fitting}
+use Rattle.capnp_objects.specs.Demands.{claimed_words, own_charge}
+use Rattle.capnp_objects.specs.Expected.{struct_expected, HasExpected, null_pointer, fitting}
 use Rattle.capnp_objects.specs.Faults.{child_at, LeadsTo}
 use Rattle.capnp_objects.specs.Outcomes.{Reads, ReadsAll, MeansThere}
 use Rattle.capnp_objects.specs.Reading.{Reading}
 use Rattle.capnp_objects.specs.Refusals.{Refused}
 use Rattle.capnp_objects.specs.Source.{levels}
-use Rattle.capnp_objects.specs.Spending.{after, pointers_in_all}
+use Rattle.capnp_objects.specs.Spending.{after_charge, pointers_in_all}
 use Rattle.capnp_objects.specs.Wanted.{Form, AllowsCapabilities}
 use Rattle.capnp_objects.proofs.Budgets.{after_none, affords_rest, paid_own}
 use Rattle.capnp_objects.proofs.Copies.{read_none}
@@ -33,7 +33,7 @@ use Rattle.capnp_readers.specs.Sizes.{pointers_read}
 use Rattle.capnp_readers.specs.declared.readers.PointerReader.{PointerReader}
 use Rattle.capnp_readers.specs.declared.readers.struct_reader.StructReader.{StructReader}
 use Rattle.capnp_copies.specs.Forms.{form_of, kept}
-use Rattle.capnp_copies.specs.Changes.{RefusesToCopy, change}
+use Rattle.capnp_copies.specs.Changes.{RefusesToCopy, copy_call}
 use Rattle.capnp_copies.specs.Originals.{sections_original}
 use Rattle.capnp_value_copies.specs.StructValues.{section_words, data_of}
 use Rattle.capnp_format.specs.Bytes.{words_of}
@@ -91,7 +91,7 @@ whole_bits g p m n v (inl (null, same, nothing, no_bits, none, nesting)) = omega
 whole_bits g p m n v (inr (a, o, z, shows, source, nesting)) = omega (arith, shows.bits_are)
 
 none_read : (form : Form) (r : Reading) (m m' : Meter) (ts : Trees) → ReadsAll form r m m' ts → ts ≡ no_trees → m' ≡ m
-none_read form r m m' no_trees all e = all.spent ∙ ap (λ c. after r.charging m c 0) all.means ∙ after_none r.charging m
+none_read form r m m' no_trees all e = all.spent ∙ ap (λ c. after_charge r.charging m c 0) all.means ∙ after_none r.charging m
 none_read form r m m' (tree t ts) all e = absurd (cc)
 
 pub struct_reads : (form : Form) (r : Reading) (m m' : Meter) (s : Sections) (ts : Trees) → LeadsToStruct r m s → count ts ≡ s.pointers → ReadsAll form s.first s.limiter m' ts →
@@ -110,25 +110,25 @@ struct_stops form r m m' s k (a_struct a o z ws first q) refused =
     stops_struct o z (subst (λ i. RefusedAll form (child_at r a (pred r.levels) (a.start + data_words a.word)) i s.limiter m' k) q (subst (λ x. RefusedAll form x s.pointers s.limiter m' k) first refused))
 
 -- the copy of a struct is refused for room, or because its value can't be read
-pub struct_refused : (b : Bool) (id at : ℕ) (old new : View) (r : Reading) (m m' : Meter) (s : Sections) (k : ErrorKind) → LeadsToStruct r m s → RefusesToCopy (sections_original s.words s.first s.pointers) (change (form_of b) (call_at id at old new) s.limiter m') k →
+pub struct_refused : (b : Bool) (id at : ℕ) (old new : View) (r : Reading) (m m' : Meter) (s : Sections) (k : ErrorKind) → LeadsToStruct r m s → RefusesToCopy (sections_original s.words s.first s.pointers) (copy_call (form_of b) (call_at id at old new) s.limiter m') k →
     (is_allocation_name k ≡ true) ⊎ Refused (form_of b) r m m' k
 struct_refused b id at old new r m m' s k leads (inl (lacks, exceeds)) =
-    let x = refused_words (sections_original s.words s.first s.pointers) (change (form_of b) (call_at id at old new) s.limiter m') k lacks in
+    let x = refused_words (sections_original s.words s.first s.pointers) (copy_call (form_of b) (call_at id at old new) s.limiter m') k lacks in
     inl (of_allocation old new (length new.words) (x.0 + 1) k x.1.0)
 struct_refused b id at old new r m m' s k leads (inr (inl refused)) = inr (struct_stops (form_of b) r m m' s k leads refused)
 struct_refused b id at old new r m m' s k leads (inr (inr (wide, named))) = inl (ap is_allocation_name named)
 
 -- a struct that can be copied is found
-struct_meets : (S : Segments) (n s p : ℕ) (ws : List ℕ) (ts : Trees) (c : ℕ) → Means S n s p (Struct ws ts) c → (a : Target) × Leads S s p a × (kind a.word ≡ 0) × (0 < n) × Claims S a (claim a.word) × (own Value S a ≤ c)
+struct_meets : (S : Segments) (n s p : ℕ) (ws : List ℕ) (ts : Trees) (c : ℕ) → Means S n s p (Struct ws ts) c → (a : Target) × Leads S s p a × (kind a.word ≡ 0) × (0 < n) × Claims S a (claimed_words a.word) × (own_charge Value S a ≤ c)
 struct_meets S n s p ws ts c (a, k, some, o, claims, words, all, g) =
     (a, o.leads_to, o.is_struct, some, omega (arith, claims, claim_struct a.word o.is_struct, o.data_of, o.pointers), omega (arith, own_struct S a o.is_struct, o.data_of, o.pointers, g))
 
 level_there : (n : ℕ) → 0 < n → struct_expected.too_deep n ≡ None
 level_there n l = ap (λ b. cond b (Some MessageIsTooDeeplyNestedOrContainsCycles) None) (ne_eqb n 0 (λ e. omega (arith, e, l)))
 
-pub struct_suits : (r : Reading) (m : Meter) (a : Target) → LeadsTo r a → kind a.word ≡ 0 → 0 < r.levels → Claims r.segments a (claim a.word) → Affords r.charging m (own Value r.segments a) → CanBeGiven struct_expected r m
+pub struct_suits : (r : Reading) (m : Meter) (a : Target) → LeadsTo r a → kind a.word ≡ 0 → 0 < r.levels → Claims r.segments a (claimed_words a.word) → Affords r.charging m (own_charge Value r.segments a) → HasExpected struct_expected r m
 struct_suits r m a leads z some claims covers =
-    fitting {m' = after r.charging m (own Value r.segments a) 1} a (level_there r.levels some)
+    fitting {m' = after_charge r.charging m (own_charge Value r.segments a) 1} a (level_there r.levels some)
     (ap (λ i. cond (nat_eq i 0) None (Some MessageContainsNonStructPointerWhereStructPointerWasExpected)) z)
     (record {
       follows = leads_to r a leads;
@@ -138,21 +138,21 @@ struct_suits r m a leads z some claims covers =
     })
     refl
 
-struct_suited : (r : Reading) (m : Meter) (t : Tree) (c : ℕ) (copied : Tree) → MeansThere r t c → Affords r.charging m c → as_wanted AStruct t ≡ Some copied → CanBeGiven struct_expected r m
+struct_suited : (r : Reading) (m : Meter) (t : Tree) (c : ℕ) (copied : Tree) → MeansThere r t c → Affords r.charging m c → as_wanted AStruct t ≡ Some copied → HasExpected struct_expected r m
 struct_suited r m Null c copied means covers e = null_pointer means.0
 struct_suited r m (Struct ws ts) c copied means covers e =
     let (a, leads, z, some, claims, paid) = struct_meets r.segments r.levels r.segment r.at ws ts c means in
-    struct_suits r m a leads z some claims (affords_less r.charging m (own Value r.segments a) c paid covers)
+    struct_suits r m a leads z some claims (affords_less r.charging m (own_charge Value r.segments a) c paid covers)
 struct_suited r m (Capability i) c copied means covers e = absurd (cc)
 struct_suited r m (Flat size ns) c copied means covers e = absurd (cc)
 struct_suited r m (Pointers ts) c copied means covers e = absurd (cc)
 struct_suited r m (Structs d q es) c copied means covers e = absurd (cc)
 
-pub struct_given : (c : Copying) (r : Reading) (m : Meter) (used room : ℕ) → c.wanted ≡ AStruct → CanBeCopiedAs c r m used room → CanBeGiven struct_expected r m
+pub struct_given : (c : Copying) (r : Reading) (m : Meter) (used room : ℕ) → c.wanted ≡ AStruct → CanBeCopiedAs c r m used room → HasExpected struct_expected r m
 struct_given c r m used room is can = struct_suited r m can.value can.cost can.copied can.means can.covers (subst (λ w. as_wanted w can.value ≡ Some can.copied) is can.is_wanted)
 
 -- what leads to a struct has an answer
-pub struct_there_given : {r : Reading} {m : Meter} {s : Sections} → LeadsToStruct r m s → CanBeGiven struct_expected r m
+pub struct_there_given : {r : Reading} {m : Meter} {s : Sections} → LeadsToStruct r m s → HasExpected struct_expected r m
 struct_there_given (no_struct null ws none same) = null_pointer null
 struct_there_given {r} {m} (a_struct a o z ws start n) = struct_suits r m a (entered_leads o) z o.meets.levels o.meets.claims o.covers
 
@@ -183,12 +183,12 @@ struct_matches form r m s (Struct vs ts) c copied (a_struct b o z ws first q) (a
     let long : data_words b.word ≡ length vs = ap (λ (x : Target). data_words x.word) same ∙ at.data_of in
     let are : s.words ≡ vs = ws ∙ ap₂ (λ (x : Target) n. words_at S x.segment x.start n) same long ∙ words in
     let place : s.first ≡ child_at r a (pred r.levels) (a.start + length vs) = first ∙ ap₂ (λ (x : Target) n. child_at r x (pred r.levels) (x.start + n)) same long in
-    let enters : own Value S b + k ≤ c = omega (arith, own_struct S b z, long, ap (λ (x : Target). pointer_count x.word) same, at.pointers, ap (λ (x : Target). x.pads) same, g) in
+    let enters : own_charge Value S b + k ≤ c = omega (arith, own_struct S b z, long, ap (λ (x : Target). pointer_count x.word) same, at.pointers, ap (λ (x : Target). x.pads) same, g) in
     record {
       children = ts;
       counts = sym (q ∙ ap (λ (x : Target). pointer_count x.word) same ∙ at.pointers);
-      end = after r.charging s.limiter k (pointers_in_all ts);
-      are_read = subst (λ x. ReadsAll form x s.limiter (after r.charging s.limiter k (pointers_in_all ts)) ts) (sym place) (record { cost = k; means = all; takes = takes; covers = affords_rest k c (paid_own o) enters covers; spent = refl });
+      end = after_charge r.charging s.limiter k (pointers_in_all ts);
+      are_read = subst (λ x. ReadsAll form x s.limiter (after_charge r.charging s.limiter k (pointers_in_all ts)) ts) (sym place) (record { cost = k; means = all; takes = takes; covers = affords_rest k c (paid_own o) enters covers; spent = refl });
       is_struct = sym (same_some (Struct vs ts) copied e) ∙ ap (λ w. Struct w ts) (sym are);
       narrow = omega (arith, ap length are, long);
     }
@@ -199,7 +199,7 @@ struct_matches form r m s (Structs d q es) c copied leads means takes covers e =
 
 -- the copy of a struct isn't refused if it can be made
 pub struct_fits : (c : Copying) (r : Reading) (m m' : Meter) (s : Sections) (id at : ℕ) (old new : View) (k : ErrorKind) → c.wanted ≡ AStruct → LeadsToStruct r m s → CanBeCopiedAs c r m (length (segment old.words id)) (old.room id) →
-    RefusesToCopy (sections_original s.words s.first s.pointers) (change (form_of c.canonicalize) (call_at id at old new) s.limiter m') k → ⊥
+    RefusesToCopy (sections_original s.words s.first s.pointers) (copy_call (form_of c.canonicalize) (call_at id at old new) s.limiter m') k → ⊥
 struct_fits c r m m' s id at old new k is leads can refuses =
     let x = struct_matches (form_of c.canonicalize) r m s can.value can.cost can.copied leads can.means can.takes can.covers (subst (λ w. as_wanted w can.value ≡ Some can.copied) is can.is_wanted) in
     elim refuses [

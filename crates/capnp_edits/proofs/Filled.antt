@@ -19,13 +19,13 @@ use Rattle.capnp_format.specs.Path.{Element, update, put_struct, struct_at}
 use Rattle.capnp_making.specs.Stored.{IsStored, IsReplaced}
 use Rattle.capnp_making.proofs.Replaced.{forest_stored, forest_updated, stored_within}
 use Rattle.capnp_objects.specs.Outcomes.{ReadsAll}
-use Rattle.capnp_objects.specs.Reading.{Reading, behind}
+use Rattle.capnp_objects.specs.Reading.{Reading, place_past}
 use Rattle.capnp_objects.specs.Refusals.{Refused}
 use Rattle.capnp_objects.proofs.Limits.{not_for_place}
-use Rattle.capnp_objects.specs.Demands.{own}
+use Rattle.capnp_objects.specs.Demands.{own_charge}
 use Rattle.capnp_objects.specs.Expected.{struct_expected}
 use Rattle.capnp_objects.specs.Faults.{child_at}
-use Rattle.capnp_objects.specs.Spending.{after}
+use Rattle.capnp_objects.specs.Spending.{after_charge}
 use Rattle.capnp_objects.specs.Wanted.{plain}
 use Rattle.capnp_objects.specs.declared.object.Purpose.TheVariants.{Value}
 use Rattle.capnp_objects.proofs.Copies.{read_none, read_stop}
@@ -61,8 +61,8 @@ use Rattle.capnp_edits.specs.declared.edit.tasks.StructChange.TheVariants.{Bits,
 use Rattle.capnp_edits.specs.Tasks.{task_of}
 use Rattle.capnp_edits.specs.Paths.{found, IsElementFound, ElementOf, step_of}
 use Rattle.capnp_edits.specs.Sources.{root_of, once_at_root, HasRoot, Sections, LeadsToStruct, no_struct, a_struct, ContentRead, HasNothingToCopy, IsNextUnreadable}
-use Rattle.capnp_edits.specs.Edits.{refusal_of, bits_of, fills, is_of_path, PutsBits, FillsAt, all_filled, first_filled, none_filled, refusals_after, IsApplied, Takes, DoesAt}
-use Rattle.capnp_edits.specs.Steps.{DoesThere, FillsThere, IsStructAt, StopsFilling, FitsAt, IsRefusedAt, TakesAt, IsDoneAt, result_of}
+use Rattle.capnp_edits.specs.Edits.{refusal_of, bits_of, fills, is_of_path, PutsBits, FillsAt, all_filled, first_filled, none_filled, refusals_after, IsApplied, EditTakes, DoesAt}
+use Rattle.capnp_edits.specs.Steps.{DoesThere, FillsThere, IsStructAt, StopsFilling, FitsAt, IsRefusedAt, AllocatesAt, IsDoneAt, result_of}
 use Rattle.capnp_edits.specs.declared.edit.path.PathEnd.TheVariants.{Pointer as AtPointer, Element as AtElement}
 use Rattle.capnp_edits.proofs.Taken.{bits_lengths, copy_taken, writes}
 use Rattle.capnp_edits.proofs.Applied.{made, of_allocation, of_no_place, of_place, named_refusal, none_counted, kept_nowhere, refused_there, never_refused, denied_at, no_struct as is_none, written_at, element_struct, element_end, applied_bits}
@@ -200,7 +200,7 @@ fill_nowhere (Err k) old new e source (x, is, inr stops) n =
     let nowhere : k ≡ NoSuchPlace = same_some k NoSuchPlace n in
     absurd (elim stops.why [
       | inl h ↦ of_no_place k (of_allocation stops.taken new (length new.words) (h.0.0 + 1) k h.0.2.0.0) nowhere
-      | inr refused ↦ not_for_place (subst (λ y. Refused plain (behind stops.content.from.first (count stops.content.children)) stops.content.after stops.after y) nowhere refused)
+      | inr refused ↦ not_for_place (subst (λ y. Refused plain (place_past stops.content.from.first (count stops.content.children)) stops.content.after stops.after y) nowhere refused)
     ])
 
 -- copying content over a struct without words changes nothing
@@ -244,7 +244,7 @@ bits_changed result old new e n puts limits named kept = record {
 }
 
 pub content_changed : {A : Type 0} (result : Result A ErrorKind) (old new : View) (e : ExistingStruct) (source : Source) → FillsAt old.words new.words (struct_place e) source (refusal_of result) → new.refusals ≡ refusals_after (refusal_of result) old.refusals →
-    IfErr result (λ k. IsRefusedAt old new (InStruct (Content source)) k (AtElement e)) → TakesAt old new (InStruct (Content source)) (refusal_of result) (AtElement e) → (FitsAt old (InStruct (Content source)) (AtElement e) → IsOk result) →
+    IfErr result (λ k. IsRefusedAt old new (InStruct (Content source)) k (AtElement e)) → AllocatesAt old new (InStruct (Content source)) (refusal_of result) (AtElement e) → (FitsAt old (InStruct (Content source)) (AtElement e) → IsOk result) →
     IsDoneAt old new (AtElement e) (InStruct (Content source)) (refusal_of result)
 content_changed result old new e source filled counted why taken fits = record {
   done = filled;
@@ -309,7 +309,7 @@ fits_at : (old : View) (place : PointerPlace) (change : StructChange) (e : Exist
 fits_at old place (Bits n) e there room = tt
 fits_at old place (Content source) e there room = λ x is. subst (λ (y : ExistingStruct). ContentFitsBehind old y.segment source y.size.pointers) (sym is) (room e there)
 
-takes_at : (old new : View) (place : PointerPlace) (change : StructChange) (r : Option ErrorKind) (e : ExistingStruct) → IsStructAt old.words (AtPointer place) e → TakesAt old new (InStruct change) r (AtElement e) → TakesAt old new (InStruct change) r (AtPointer place)
+takes_at : (old new : View) (place : PointerPlace) (change : StructChange) (r : Option ErrorKind) (e : ExistingStruct) → IsStructAt old.words (AtPointer place) e → AllocatesAt old new (InStruct change) r (AtElement e) → AllocatesAt old new (InStruct change) r (AtPointer place)
 takes_at old new place (Bits n) r e there (x, is, h) = (e, there, h)
 takes_at old new place (Content source) r e there (x, is, h) = (e, there, subst (λ (y : ExistingStruct). TakesForContentFrom old new (struct_place y) source r) is h)
 
@@ -336,7 +336,7 @@ nothing_changed v place change none = record {
 
 -- at an element of a list
 filled_element : (S R : Segments) (e : Edit) (s : ExistingStruct) (source : Source) (r : Option ErrorKind) → task_of e.op ≡ Some (InStruct (Content source)) → ((t : Tree) → IsStored S 0 0 t → IsElementFound S 0 0 t (map step_of e.path.now) s) →
-    FillsAt S R (struct_place s) source r → IsApplied (Takes e r) S R
+    FillsAt S R (struct_place s) source r → IsApplied (EditTakes e r) S R
 filled_element S R e s source r is leads h t forest =
     let stored = forest_stored S t forest in
     let f = leads t stored in
@@ -352,7 +352,7 @@ filled_element S R e s source r is leads h t forest =
   where
     done_there : (stored : IsStored S 0 0 t) (f : IsElementFound S 0 0 t (map step_of e.path.now) s) (ws : List ℕ) (ts : Trees) → struct_at f.elements f.index ≡ Struct ws ts →
         IsStored S f.list_segment f.list_at (Structs s.size.data_words s.size.pointers f.elements) → found t (map step_of e.path.now) ≡ Some (ElementOf (Struct ws ts)) →
-        made (task_of e.op) (ElementOf (Struct ws ts)) ≡ fills source s.size.data_words s.size.pointers → FillsAt S R (struct_place s) source r → (u : Tree) × IsForest R u × Takes e r t u
+        made (task_of e.op) (ElementOf (Struct ws ts)) ≡ fills source s.size.data_words s.size.pointers → FillsAt S R (struct_place s) source r → (u : Tree) × IsForest R u × EditTakes e r t u
     done_there stored f ws ts at there end_value makes (all_filled h counts same done) =
         let d : ℕ = s.size.data_words in
         let q : ℕ = s.size.pointers in
@@ -391,7 +391,7 @@ filled_element S R e s source r is leads h t forest =
 
 -- a change of an element
 pub element_applied : (S R : Segments) (e : Edit) (s : ExistingStruct) (change : StructChange) (r : Option ErrorKind) → task_of e.op ≡ Some (InStruct change) → ((t : Tree) → IsStored S 0 0 t → IsElementFound S 0 0 t (map step_of e.path.now) s) → DoesThere S R (AtElement s) (InStruct change) r →
-    IsApplied (Takes e r) S R
+    IsApplied (EditTakes e r) S R
 element_applied S R e s (Bits n) r is leads h = applied_bits S R e s n r is leads h
 element_applied S R e s (Content source) r is leads h = filled_element S R e s source r is leads h
 
@@ -402,7 +402,7 @@ same_struct (a_struct a o k ws start n) (no_struct null us none same) some = abs
 same_struct {r} {m} (a_struct a o k ws start n) (a_struct b i l us at c) some =
     let e : a ≡ b = same_target r.segments r.segment r.at (entered_leads o).1 (entered_leads i).1 in (
       start ∙ ap (λ (x : Target). child_at r x (pred r.levels) (x.start + data_words x.word)) e ∙ sym at,
-      o.spent ∙ ap (λ x. after r.charging m (own Value r.segments x) 1) e ∙ sym i.spent,
+      o.spent ∙ ap (λ x. after_charge r.charging m (own_charge Value r.segments x) 1) e ∙ sym i.spent,
       n ∙ ap (λ (x : Target). pointer_count x.word) e ∙ sym c,
     )
 

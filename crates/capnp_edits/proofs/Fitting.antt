@@ -29,7 +29,7 @@ use Rattle.capnp_edits.specs.declared.edit.tasks.StructChange.TheVariants.{Bits,
 use Rattle.capnp_edits.specs.Edits.{is_of_path, value_of}
 use Rattle.capnp_edits.specs.Fitting.{words_asked, AsksNoMore, AreInFirst, IsNoneOfMemory}
 use Rattle.capnp_edits.specs.Paths.{IsPathFound, step_of}
-use Rattle.capnp_edits.specs.Steps.{AreSteps, FitsAt, IsRefusedAt, IsStep, TakesAt, TakesForObject}
+use Rattle.capnp_edits.specs.Steps.{AreSteps, FitsAt, IsRefusedAt, IsStep, AllocatesAt, TakesForObject}
 use Rattle.capnp_edits.specs.Tasks.{task_of}
 use Rattle.capnp_edits.proofs.Applied.{of_memory}
 
@@ -83,7 +83,7 @@ made_first old new place n there first here fits takes keeps =
 record Fact (old new : View) (there : PathEnd) (task : Task) (r : Option ErrorKind) : Type 0 where
   fits : FitsAt old task there → (k : ErrorKind) → r ≡ Some k → is_of_path k ≡ true
   named : (k : ErrorKind) → r ≡ Some k → ((is_of_path k ≡ true) × (new ≡ old)) ⊎ IsRefusedAt old new task k there
-  taken : (r ≡ Some NoSuchPlace → ⊥) → TakesAt old new task r there
+  taken : (r ≡ Some NoSuchPlace → ⊥) → AllocatesAt old new task r there
 
 -- an edit is refused for its path, and changes nothing; or it is done
 by_outcome : (old new : View) (n : ℕ) (r : Option ErrorKind) → AreInFirst old.words → IsNoneOfMemory r → ((k : ErrorKind) → r ≡ Some k → new ≡ old) → (r ≡ None → StaysInFirst old new n) → IsNoneOfMemory r × StaysInFirst old new n
@@ -107,7 +107,7 @@ with_object old new place object r there first here fits f =
     let none = f.fits (inl (subst (λ s. length (segment old.words s) + word_count (value_of object) ≤ old.room s) (sym here) fits)) in
     by_outcome old new (word_count (value_of object)) r first none
     (λ k e. elim (f.named k e) [ inl h ↦ h.1 | inr why ↦ absurd (not_of_path k (of_memory old new (word_count (value_of object)) k why) (none k e)) ])
-    (λ e. (let x : TakesForObject old new place object = subst (λ o. TakesAt old new (Make object) o (AtPointer place)) e (f.taken (not_missing r e)) in
+    (λ e. (let x : TakesForObject old new place object = subst (λ o. AllocatesAt old new (Make object) o (AtPointer place)) e (f.taken (not_missing r e)) in
     made_first old new place (word_count (value_of object)) there first here fits x.taken x.memory))
 
 at_place : (old new : View) (there : PathEnd) (task : Task) (r : Option ErrorKind) → 0 < length old.words → AreInFirst old.words → ((place : PointerPlace) → there ≡ AtPointer place → place.segment ≡ 0) → AsksNoMore (Some task) →
@@ -115,7 +115,7 @@ at_place : (old new : View) (there : PathEnd) (task : Task) (r : Option ErrorKin
 at_place old new (AtPointer place) (Make object) r there first here asks fits f = with_object old new place object r there first (here place refl) fits f
 at_place old new (AtElement e) (Make object) r there first here asks fits f = without_words old new _ r first (f.fits tt) (λ k is. unrefused old new k (f.named k is)) (λ some. element_none r (f.taken some))
   where
-    element_none : (o : Option ErrorKind) → TakesAt old new (Make object) o (AtElement e) → OnlyWrites old new
+    element_none : (o : Option ErrorKind) → AllocatesAt old new (Make object) o (AtElement e) → OnlyWrites old new
     element_none None x = x
     element_none (Some k) x = x
 at_place old new (AtPointer place) (Point i) r there first here asks fits f = without_words old new _ r first (f.fits tt) (λ k is. unrefused old new k (f.named k is)) f.taken
@@ -154,7 +154,7 @@ one_fits old new edit r t forest first asks fits s = by_task s.path_end (task_of
             | inl h ↦ inl h
             | inr h ↦ inr (subst (λ x. IsSomeAnd x (λ z. IsRefusedAt old new z k there)) is (subst (λ x. IsSomeAnd x (λ y. IsSomeAnd (task_of edit.op) (λ z. IsRefusedAt old new z k y))) found h))
           ];
-          taken = λ some. subst (λ x. IfSome x (λ z. TakesAt old new z r there)) is (subst (λ x. IfSome x (λ y. IfSome (task_of edit.op) (λ z. TakesAt old new z r y))) found (s.taken some));
+          taken = λ some. subst (λ x. IfSome x (λ z. AllocatesAt old new z r there)) is (subst (λ x. IfSome x (λ y. IfSome (task_of edit.op) (λ z. AllocatesAt old new z r y))) found (s.taken some));
         })
       where
         some_segment : (S : Segments) → 0 < length (segment S 0) → 0 < length S

@@ -55,7 +55,7 @@ use Rattle.capnp_edits.specs.declared.edit.tasks.Task.TheVariants.{Search}
 use Rattle.capnp_edits.specs.declared.edit.tasks.Sought.{Sought}
 use Rattle.capnp_edits.specs.declared.edit.tasks.Sought.TheVariants.{Struct as ForStruct, List as ForList, StructList as ForStructs, Text as ForText, Data as ForData}
 use Rattle.capnp_edits.specs.Tasks.{is_small_default, is_in_range}
-use Rattle.capnp_edits.specs.Edits.{refusal_of, Making, allocates, becomes, nowhere, made_of_found, looked_for, with_default, default_for, is_of_path, Yields, DoesAt}
+use Rattle.capnp_edits.specs.Edits.{refusal_of, Effect, allocates, becomes, nowhere, effect_of_search, looked_for, with_default, default_for, is_of_path, HasEffect, DoesAt}
 use Rattle.capnp_builders.proofs.FoundLists.{GivesFoundList}
 use Rattle.capnp_builders.proofs.FoundBytes.{GivesFoundBytes}
 use Rattle.capnp_edits.specs.Steps.{FitsAt, IsOpeningRefused, IsRefusedAt, FindsSought, OpeningHasRoom, OpensThere, IsDoneAt, result_of}
@@ -84,18 +84,18 @@ same_words e = ap (λ (v : View). v.words) e
 
 -- From S to R a call with outcome r does what this makes of the value t: what it leaves replaces t,
 -- if anything is changed.
-record DoesAs (S R : Segments) (place : PointerPlace) (making : Making) (t : Tree) (r : Option ErrorKind) : Type 0 where
+record DoesAs (S R : Segments) (place : PointerPlace) (making : Effect) (t : Tree) (r : Option ErrorKind) : Type 0 where
   left : Option Tree
   yields : Way making r left
   stands : MatchOption left (R ≡ S) (IsReplaced S R place.segment place.word t)
 
 -- the same for each call and value that satisfy P
-abbrev DoesSo : {B : Type 0} → (CallAt → Tree → Type 0) → (Tree → Making) → Result B ErrorKind → Type 0
+abbrev DoesSo : {B : Type 0} → (CallAt → Tree → Type 0) → (Tree → Effect) → Result B ErrorKind → Type 0
 DoesSo P made_of result = (c : CallAt) (t : Tree) → IsStored c.old.words c.segment c.at t → P c t → DoesAs c.old.words c.new.words (place_in c) (made_of t) t (refusal_of result)
 
 -- what is opened replaces the value that was there, or that stays
 opened_so : {B : Type 0} (result : Result B ErrorKind) (size : StructSize) (Given : Segments → ℕ → ℕ → Tree → B → Type 0) (c : CallAt) (t : Tree) (q : Result Tree ErrorKind) → Opens size Given c t q result →
-    DoesAs c.old.words c.new.words (place_in c) (made_of_found (allocates t) q) t (refusal_of result)
+    DoesAs c.old.words c.new.words (place_in c) (effect_of_search (allocates t) q) t (refusal_of result)
 opened_so (Ok b) size Given c t (Ok u) h = record { left = Some u; yields = is_allocated t u refl refl refl; stands = h.replaced }
 opened_so (Err k) size Given c t (Ok u) h =
     record { left = Some t; yields = is_not_allocated t u k refl (growth_named c.old c.new (widened_words u) (direct_pointers t) k h.full) refl refl; stands = h.stands }
@@ -106,7 +106,7 @@ struct_so result size c t stored h = opened_so result size IsStructGiven c t (st
 
 -- a value that is only looked for stays
 kept_so : {A B : Type 0} (q : Result (Option A) ErrorKind) (result : Result B ErrorKind) (c : CallAt) (t : Tree) → IsStored c.old.words c.segment c.at t → refusal_of result ≡ refusal_of q → c.new ≡ c.old →
-    DoesAs c.old.words c.new.words (place_in c) (made_of_found (λ x. becomes t) q) t (refusal_of result)
+    DoesAs c.old.words c.new.words (place_in c) (effect_of_search (λ x. becomes t) q) t (refusal_of result)
 kept_so (Ok x) result c t stored e same =
     record { left = Some t; yields = is_done t refl e refl; stands = subst (λ Q. IsReplaced c.old.words Q c.segment c.at t t) (sym (same_words same)) (stays c.old.words c.segment c.at t stored) }
 kept_so (Err k) result c t stored e same = record { left = None; yields = is_denied k refl e refl; stands = same_words same }
@@ -154,7 +154,7 @@ text_so : (result : Result ExistingBytes ErrorKind) → DoesSo (GivesFoundBytes 
 text_so result c t stored h = kept_so (text_in nowhere t) result c t stored (text_named result c t h) h.1
 
 -- what is done with the value that is there
-as_stands : (S R : Segments) (place : PointerPlace) (m : Making) (t : Tree) (r : Option ErrorKind) → DoesAs S R place m t r → DoesAt S R place m t r
+as_stands : (S R : Segments) (place : PointerPlace) (m : Effect) (t : Tree) (r : Option ErrorKind) → DoesAs S R place m t r → DoesAt S R place m t r
 as_stands S R place m t r d = record { left = d.left; leaves = as_it_stands d.yields; stands = d.stands }
 
 -- what is done with a default's value, which first replaces null
@@ -168,7 +168,7 @@ dropped_name bytes id at old new k (inr (lacks, large)) =
     let x = refused_words (value_original (default_root bytes)) (default_copy id at old new) k lacks in
     inl (of_allocation old new (length new.words) (x.0 + 1) k x.1.0)
 
-null_does : {B : Type 0} (result : Result B ErrorKind) (used : DefaultUse) (made_of : Tree → Making) (P : CallAt → Tree → Type 0) (c : CallAt) → IsStored c.old.words c.segment c.at Null → DoesSo P made_of result → WithDefault used c Null P result →
+null_does : {B : Type 0} (result : Result B ErrorKind) (used : DefaultUse) (made_of : Tree → Effect) (P : CallAt → Tree → Type 0) (c : CallAt) → IsStored c.old.words c.segment c.at Null → DoesSo P made_of result → WithDefault used c Null P result →
     DoesAt c.old.words c.new.words (place_in c) (with_default used made_of Null) Null (refusal_of result)
 null_does result ignored made_of P c stored does h = as_stands c.old.words c.new.words (place_in c) (made_of Null) Null (refusal_of result) (does c Null stored h)
 null_does result (is_denied_by k) made_of P c stored does h = denied_at k refl (ap refusal_of h.0) (same_words h.1)
@@ -189,7 +189,7 @@ null_or_ignored of_null None t = inr refl
 null_or_ignored of_null (Some d) Null = inl refl
 null_or_ignored of_null (Some d) t = inr refl
 
-with_does : {B : Type 0} (result : Result B ErrorKind) (of_null : DefaultUse) (default : Option (Bor (List ℕ))) (made_of : Tree → Making) (P : CallAt → Tree → Type 0) (c : CallAt) (t : Tree) → IsStored c.old.words c.segment c.at t → DoesSo P made_of result →
+with_does : {B : Type 0} (result : Result B ErrorKind) (of_null : DefaultUse) (default : Option (Bor (List ℕ))) (made_of : Tree → Effect) (P : CallAt → Tree → Type 0) (c : CallAt) (t : Tree) → IsStored c.old.words c.segment c.at t → DoesSo P made_of result →
     WithDefault (default_use of_null default t) c t P result → DoesAt c.old.words c.new.words (place_in c) (with_default (default_use of_null default t) made_of t) t (refusal_of result)
 with_does result of_null default made_of P c t stored does h = elim (null_or_ignored of_null default t) [
   | inl null ↦
@@ -365,7 +365,7 @@ structs_found : (result : Result ListPlace ErrorKind) (size : StructSize) (c : C
 structs_found result size c Null h = (ap refusal_of h.0, h.1)
 structs_found result size c t h = opens_so result size IsListGiven c t (list_widened size.data_words size.pointers t) h
 
-yields_so : {A : Type 0} (q : Result A ErrorKind) (r : Option ErrorKind) (t : Tree) → r ≡ refusal_of q → (o : Option Tree) × Yields (made_of_found (λ x. becomes t) q) r o
+yields_so : {A : Type 0} (q : Result A ErrorKind) (r : Option ErrorKind) (t : Tree) → r ≡ refusal_of q → (o : Option Tree) × HasEffect (effect_of_search (λ x. becomes t) q) r o
 yields_so (Ok x) r t e = (Some t, yielded (is_done t refl e refl))
 yields_so (Err k) r t e = (None, yielded (is_denied k refl e refl))
 

@@ -16,18 +16,18 @@ use Rattle.capnp_edits.specs.declared.edit.Edit.{Edit}
 use Rattle.capnp_edits.specs.declared.edit.tasks.Task.{Task}
 use Rattle.capnp_edits.specs.declared.edit.path.PathEnd.{PathEnd}
 use Rattle.capnp_edits.specs.declared.edit.path.PathEnd.TheVariants.{Pointer as AtPointer, Element as AtElement}
-use Rattle.capnp_edits.specs.Edits.{is_of_path, IsApplied, refusals_after, Takes}
+use Rattle.capnp_edits.specs.Edits.{is_of_path, IsApplied, refusals_after, EditTakes}
 use Rattle.capnp_edits.specs.Paths.{PointerTo, ElementOf, found, IsPathFound, step_of}
-use Rattle.capnp_edits.specs.Steps.{DoesThere, FitsAt, IsRefusedAt, TakesAt, IsStep, AreSteps}
+use Rattle.capnp_edits.specs.Steps.{DoesThere, FitsAt, IsRefusedAt, AllocatesAt, IsStep, AreSteps}
 use Rattle.capnp_edits.specs.Tasks.{task_of}
 use Rattle.capnp_edits.proofs.Applied.{no_forest}
 use Rattle.capnp_edits.proofs.Steps.{first, same_some}
 use Rattle.capnp_edits.proofs.Walks.{found-append}
 
 -- an edit at its place
-pub step_at : (old new : View) (edit : Edit) (there : PathEnd) (task : Task) (r : Option ErrorKind) → task_of edit.op ≡ Some task → 1 ≤ length (segment old.words 0) → IsApplied (Takes edit r) old.words new.words → new.refusals ≡ refusals_after r old.refusals →
+pub step_at : (old new : View) (edit : Edit) (there : PathEnd) (task : Task) (r : Option ErrorKind) → task_of edit.op ≡ Some task → 1 ≤ length (segment old.words 0) → IsApplied (EditTakes edit r) old.words new.words → new.refusals ≡ refusals_after r old.refusals →
     ((t : Tree) → IsStored old.words 0 0 t → IsPathFound old.words (record { segment = 0; word = 0 }) t (map step_of edit.path.now) (Some there)) → ((k : ErrorKind) → r ≡ Some k → ((is_of_path k ≡ true) × (new ≡ old)) ⊎ IsRefusedAt old new task k there) →
-    (FitsAt old task there → (k : ErrorKind) → r ≡ Some k → is_of_path k ≡ true) → (r ≡ Some NoSuchPlace → new ≡ old) → ((r ≡ Some NoSuchPlace → ⊥) → TakesAt old new task r there) → DoesThere old.words new.words there task r → IsStep old new edit r
+    (FitsAt old task there → (k : ErrorKind) → r ≡ Some k → is_of_path k ≡ true) → (r ≡ Some NoSuchPlace → new ≡ old) → ((r ≡ Some NoSuchPlace → ⊥) → AllocatesAt old new task r there) → DoesThere old.words new.words there task r → IsStep old new edit r
 step_at old new edit there task r is root applied counted leads named fits nowhere taken done = record {
   applied = applied;
   counted = counted;
@@ -40,7 +40,7 @@ step_at old new edit there task r is root applied counted leads named fits nowhe
   nowhere = nowhere;
   named = λ k e. elim (named k e) [ inl h ↦ inl h | inr h ↦ inr (subst (λ o. IsSomeAnd o (λ x. IsRefusedAt old new x k there)) (sym is) h) ];
   fits = λ room. fits (subst (λ o. IfSome o (λ x. FitsAt old x there)) is room);
-  taken = λ some. subst (λ o. IfSome o (λ x. TakesAt old new x r there)) (sym is) (taken some);
+  taken = λ some. subst (λ o. IfSome o (λ x. AllocatesAt old new x r there)) (sym is) (taken some);
 }
   where
     no_task : (task : Task) → Some task ≡ None → ⊥
@@ -50,7 +50,7 @@ step_at old new edit there task r is root applied counted leads named fits nowhe
 of_missing : (k : ErrorKind) → Some NoSuchPlace ≡ Some k → is_of_path k ≡ true
 of_missing k e = sym (ap is_of_path (same_some NoSuchPlace k e))
 
-pub nothing_done : (v : View) (edit : Edit) (place : Option PathEnd) → IsApplied (Takes edit (Some NoSuchPlace)) v.words v.words → ((t : Tree) → IsStored v.words 0 0 t → IsPathFound v.words (record { segment = 0; word = 0 }) t (map step_of edit.path.now) place) →
+pub nothing_done : (v : View) (edit : Edit) (place : Option PathEnd) → IsApplied (EditTakes edit (Some NoSuchPlace)) v.words v.words → ((t : Tree) → IsStored v.words 0 0 t → IsPathFound v.words (record { segment = 0; word = 0 }) t (map step_of edit.path.now) place) →
     IfSome place (λ there. IfSome (task_of edit.op) (λ task. DoesThere v.words v.words there task (Some NoSuchPlace))) → IsStep v v edit (Some NoSuchPlace)
 nothing_done v edit place applied leads done = record {
   applied = applied;

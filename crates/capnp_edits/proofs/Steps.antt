@@ -20,7 +20,7 @@ use Rattle.capnp_making.proofs.Replaced.{stored_within}
 use Rattle.capnp_edits.specs.declared.edit.Step.{Step as EditStep}
 use Rattle.capnp_edits.specs.declared.edit.path.PathEnd.{PathEnd}
 use Rattle.capnp_edits.specs.declared.edit.path.PathEnd.TheVariants.{Pointer as AtPointer, Element as AtElement}
-use Rattle.capnp_edits.specs.Paths.{step_of, found, IsElementFound, IsPathFound, EndLiesIn, child_in, element_in, Steps}
+use Rattle.capnp_edits.specs.Paths.{step_of, found, IsElementFound, IsPathFound, IsEndInside, child_in, element_in, Steps}
 use Rattle.capnp_edits.proofs.Walks.{leads_further, found-append}
 use Rattle.capnp_widening.proofs.Listed.{same_list}
 
@@ -46,22 +46,22 @@ same_some x y h = cc
 abbrev pub struct_of : ℕ → ℕ → ℕ → ℕ → ExistingStruct
 struct_of u b d q = record { segment = u; start = b; size = record { data_words = d; pointers = q } }
 
-pub struct_child : (S : Segments) (s p i : ℕ) (t : Tree) (e : ExistingStruct) (r : Option PathEnd) → Some e ≡ struct_in (target S s p) t → IsStored S s p t → (IfSome (child_in e i) (EndLiesIn S) → r ≡ child_in e i) → IsPathFound S (record { segment = s; word = p }) t (Child i ∷ []) r
+pub struct_child : (S : Segments) (s p i : ℕ) (t : Tree) (e : ExistingStruct) (r : Option PathEnd) → Some e ≡ struct_in (target S s p) t → IsStored S s p t → (IfSome (child_in e i) (IsEndInside S) → r ≡ child_in e i) → IsPathFound S (record { segment = s; word = p }) t (Child i ∷ []) r
 struct_child S s p i (Struct ws ts) e r is_e stored exactly =
     let a = target S s p in
     let f = struct_of a.segment a.start (length ws) (count ts) in
     let same : e ≡ f = same_some e f is_e in
-    let known : IfSome (child_in f i) (EndLiesIn S) → r ≡ child_in f i = subst (λ x. IfSome (child_in x i) (EndLiesIn S) → r ≡ child_in x i) same exactly in
+    let known : IfSome (child_in f i) (IsEndInside S) → r ≡ child_in f i = subst (λ x. IfSome (child_in x i) (IsEndInside S) → r ≡ child_in x i) same exactly in
     elim (cases_lt i (count ts)) [
       | inl l ↦
           let is_there : child_in f i ≡ Some (AtPointer (record { segment = a.segment; word = a.start + length ws + i })) = first i (count ts) _ _ l in
           let leads : PathLeads S (node s p (Struct ws ts)) (Child i ∷ []) (node a.segment (a.start + length ws + i) (tree_at ts i)) = (l, refl) in
           let inside = place_inside S s p (Struct ws ts) (Child i ∷ []) a.segment (a.start + length ws + i) (tree_at ts i) leads stored in
-          subst (IsPathFound S (record { segment = s; word = p }) (Struct ws ts) (Child i ∷ [])) (sym (known (subst (λ (o : Option PathEnd). IfSome o (EndLiesIn S)) (sym is_there) inside) ∙ is_there))
+          subst (IsPathFound S (record { segment = s; word = p }) (Struct ws ts) (Child i ∷ [])) (sym (known (subst (λ (o : Option PathEnd). IfSome o (IsEndInside S)) (sym is_there) inside) ∙ is_there))
           (tree_at ts i, leads, first i (count ts) _ _ l)
       | inr l ↦
           let none : child_in f i ≡ None = second i (count ts) _ _ l in
-          subst (IsPathFound S (record { segment = s; word = p }) (Struct ws ts) (Child i ∷ [])) (sym (known (subst (λ (o : Option PathEnd). IfSome o (EndLiesIn S)) (sym none) tt) ∙ none)) (λ more. second i (count ts) _ _ l)
+          subst (IsPathFound S (record { segment = s; word = p }) (Struct ws ts) (Child i ∷ [])) (sym (known (subst (λ (o : Option PathEnd). IfSome o (IsEndInside S)) (sym none) tt) ∙ none)) (λ more. second i (count ts) _ _ l)
     ]
 struct_child S s p i Null e r is_e stored exactly = absurd (cc)
 struct_child S s p i (Capability j) e r is_e stored exactly = absurd (cc)
@@ -101,7 +101,7 @@ row_inside d m n i l h = omega (arith, nonlinear i n d l)
     nonlinear (suc i) (suc n) d l = omega (arith, nonlinear i n d (omega arith))
 
 pub list_element : (S : Segments) (s p i : ℕ) (t : Tree) (l : ExistingList) (r : Option PathEnd) → Ok (Some l) ≡ list_in (target S s p) Void t → IsStored S s p t → i < l.count →
-    (IfSome (element_in l i) (EndLiesIn S) → r ≡ element_in l i) → IsPathFound S (record { segment = s; word = p }) t (Element i ∷ []) r
+    (IfSome (element_in l i) (IsEndInside S) → r ≡ element_in l i) → IsPathFound S (record { segment = s; word = p }) t (Element i ∷ []) r
 list_element S s p i Null l r is_l stored few exactly = absurd (cc)
 list_element S s p i (Capability j) l r is_l stored few exactly = absurd (cc)
 list_element S s p i (Struct ws ts) l r is_l stored few exactly = absurd (cc)
@@ -111,11 +111,11 @@ list_element S s p i (Flat size ns) l r is_l stored few exactly =
     let (b, some, small, o, claim, given, costs) = m.2 in
     let same = (chosen (plain_misfit Void (size_of size)) (plain_list a (size_of size) (length ns)) l is_l).1 in
     let none : element_in l i ≡ None = ap (λ k. element_in k i) same ∙ flat_element a.segment a.start size (length ns) i small in
-    subst (IsPathFound S (record { segment = s; word = p }) (Flat size ns) (Element i ∷ [])) (sym (exactly (subst (λ (o : Option PathEnd). IfSome o (EndLiesIn S)) (sym none) tt) ∙ none)) (λ more. refl)
+    subst (IsPathFound S (record { segment = s; word = p }) (Flat size ns) (Element i ∷ [])) (sym (exactly (subst (λ (o : Option PathEnd). IfSome o (IsEndInside S)) (sym none) tt) ∙ none)) (λ more. refl)
 list_element S s p i (Pointers ts) l r is_l stored few exactly =
     let a = target S s p in
     let same = same_list l (plain_list a Pointer (count ts)) is_l in
-    let known : IfSome (element_in (plain_list a Pointer (count ts)) i) (EndLiesIn S) → r ≡ element_in (plain_list a Pointer (count ts)) i = subst (λ x. IfSome (element_in x i) (EndLiesIn S) → r ≡ element_in x i) same exactly in
+    let known : IfSome (element_in (plain_list a Pointer (count ts)) i) (IsEndInside S) → r ≡ element_in (plain_list a Pointer (count ts)) i = subst (λ x. IfSome (element_in x i) (IsEndInside S) → r ≡ element_in x i) same exactly in
     let less : i < count ts = subst (λ x. i < x.count) same few in
     let leads : PathLeads S (node s p (Pointers ts)) (Element i ∷ []) (node a.segment (a.start + i) (tree_at ts i)) = (less, refl) in
     let inside = place_inside S s p (Pointers ts) (Element i ∷ []) a.segment (a.start + i) (tree_at ts i) leads stored in
@@ -123,7 +123,7 @@ list_element S s p i (Pointers ts) l r is_l stored few exactly =
 list_element S s p i (Structs d q es) l r is_l stored few exactly =
     let a = target S s p in
     let same = same_list l (struct_list a d q (element_count es)) is_l in
-    let known : IfSome (element_in (struct_list a d q (element_count es)) i) (EndLiesIn S) → r ≡ element_in (struct_list a d q (element_count es)) i = subst (λ x. IfSome (element_in x i) (EndLiesIn S) → r ≡ element_in x i) same exactly in
+    let known : IfSome (element_in (struct_list a d q (element_count es)) i) (IsEndInside S) → r ≡ element_in (struct_list a d q (element_count es)) i = subst (λ x. IfSome (element_in x i) (IsEndInside S) → r ≡ element_in x i) same exactly in
     let less : i < element_count es = subst (λ x. i < x.count) same few in
     let means = stored.means in
     let (b, m, k, some, o, claim, tag, fits, all, costs) = means.2 in
@@ -192,7 +192,7 @@ behind_element d q es i j more l = ap (λ b. cond (b && nat_lt j q) (found (next
 
 -- one step more, from an element
 pub element_child : (S : Segments) (s p : ℕ) (t : Tree) (path : List Step) (e : ExistingStruct) (j : ℕ) (r : Option PathEnd) → IsElementFound S s p t path e → IsStored S s p t →
-    (IfSome (child_in e j) (EndLiesIn S) → r ≡ child_in e j) → IsPathFound S (record { segment = s; word = p }) t (path ++ Child j ∷ []) r
+    (IfSome (child_in e j) (IsEndInside S) → r ≡ child_in e j) → IsPathFound S (record { segment = s; word = p }) t (path ++ Child j ∷ []) r
 element_child S s p t path e j r f stored exactly =
     let d = e.size.data_words in
     let q = e.size.pointers in
@@ -210,11 +210,11 @@ element_child S s p t path e j r f stored exactly =
           (f.counts, l, node_of_parts (sym f.segment_is) (ap (λ b. b + d + j) (sym f.start_is)) refl) in
           let leads = leads_further S s p t f.front (Element f.index ∷ Child j ∷ []) f.list_segment f.list_at list e.segment (e.start + d + j) child f.leads near in
           let inside = place_inside S s p t (f.front ++ Element f.index ∷ Child j ∷ []) e.segment (e.start + d + j) child leads stored in
-          subst (IsPathFound S (record { segment = s; word = p }) t (path ++ Child j ∷ [])) (sym (exactly (subst (λ (o : Option PathEnd). IfSome o (EndLiesIn S)) (sym is_there) inside) ∙ is_there))
+          subst (IsPathFound S (record { segment = s; word = p }) t (path ++ Child j ∷ [])) (sym (exactly (subst (λ (o : Option PathEnd). IfSome o (IsEndInside S)) (sym is_there) inside) ∙ is_there))
           (child, subst (λ x. PathLeads S (node s p t) x (node e.segment (e.start + d + j) child)) (sym (joined [])) leads, all [] ∙ first j q _ _ l)
       | inr l ↦
           let none : child_in e j ≡ None = second j q _ _ l in
-          subst (IsPathFound S (record { segment = s; word = p }) t (path ++ Child j ∷ [])) (sym (exactly (subst (λ (o : Option PathEnd). IfSome o (EndLiesIn S)) (sym none) tt) ∙ none))
+          subst (IsPathFound S (record { segment = s; word = p }) t (path ++ Child j ∷ [])) (sym (exactly (subst (λ (o : Option PathEnd). IfSome o (IsEndInside S)) (sym none) tt) ∙ none))
           (λ more. ap (found t) (append_assoc path (Child j ∷ []) more) ∙ all more ∙ second j q _ _ l)
     ]
 

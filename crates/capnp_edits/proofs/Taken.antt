@@ -9,7 +9,7 @@ use Rattle.capnp_format.specs.Fields.{put_field}
 use Rattle.capnp_contents.specs.declared.existing.ExistingBytes.{ExistingBytes}
 use Rattle.capnp_contents.specs.declared.existing.ExistingList.{ExistingList}
 use Rattle.capnp_contents.specs.declared.existing.ExistingStruct.{ExistingStruct}
-use Rattle.capnp_copies.specs.Changes.{Change}
+use Rattle.capnp_copies.specs.Changes.{CopyCall}
 use Rattle.capnp_copies.specs.Growth.{TakesAtMost}
 use Rattle.capnp_copies.specs.Originals.{Original}
 use Rattle.capnp_builders.specs.Places.{Field}
@@ -52,6 +52,6 @@ byte_lengths S R looked i v r (no_bytes_there none named same) = same_lengths S 
 byte_lengths S R looked i v r (bytes_denied k is named same) = same_lengths S R same
 
 -- what a call takes, by its outcome
-pub copy_taken : {A V : Type 0} (result : Result A ErrorKind) (o : Original V) (c : Change) → TakesAtMost result o c → TakesAtMost (result_of (refusal_of result)) o c
+pub copy_taken : {A V : Type 0} (result : Result A ErrorKind) (o : Original V) (c : CopyCall) → TakesAtMost result o c → TakesAtMost (result_of (refusal_of result)) o c
 copy_taken (Ok x) o c taken = taken
 copy_taken (Err k) o c taken = taken

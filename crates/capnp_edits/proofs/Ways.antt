@@ -7,7 +7,7 @@ use Rattle.capnp_words.specs.declared.error.ErrorKind.{ErrorKind}
 use Rattle.capnp_words.specs.declared.error.ErrorKind.TheVariants.{NoSuchPlace}
 use Rattle.capnp_words.specs.declared.wire_pointer.ElementSize.TheVariants.{Void, Bit, Byte}
 use Rattle.capnp_words.specs.Sizes.{size_number}
-use Rattle.capnp_format.specs.Canonical.{IsFree}
+use Rattle.capnp_format.specs.Canonical.{HasNoCapabilities}
 use Rattle.capnp_format.specs.Tree.{Tree, Null, Struct, count}
 use Rattle.capnp_format.specs.Path.{update}
 use Rattle.capnp_objects.specs.Faults.{HasFault}
@@ -34,7 +34,7 @@ use Rattle.capnp_edits.specs.declared.edit.tasks.Sought.TheVariants.{Struct as F
 use Rattle.capnp_edits.specs.Paths.{EndValue, PointerTo, ElementOf, found, step_of}
 use Rattle.capnp_edits.specs.Sources.{Copies, ContentRead, HasNothingToCopy, IsNextUnreadable, IsUnreadable}
 use Rattle.capnp_edits.specs.Tasks.{is_in_range, is_number, is_small_default, task_of}
-use Rattle.capnp_edits.specs.Edits.{Leaves, Making, Takes, Yields, allocates, becomes, copies, default_for, defaults, denied, fills, looked_for, made_at, making_of, searched, where_in_range, with_default}
+use Rattle.capnp_edits.specs.Edits.{LeavesEffect, Effect, EditTakes, HasEffect, allocates, becomes, copies, default_for, defaults, denied, fills, looked_for, effect_of_task, effect_of_op, searched, where_in_range, with_default}
 
 -- u is a struct of d data words and q pointers after the content c was copied over it.
 abbrev pub Fills : (source : Source) → ContentRead source → ℕ → ℕ → Tree → Type 0
@@ -42,7 +42,7 @@ Fills source c d q u = (section : List ℕ) × HoldContent section d (64 * lengt
 
 -- What an operation that makes this leaves, with outcome r, way by way. o replaces the value, if
 -- anything is changed.
-pub data Way (making : Making) (r : Option ErrorKind) (o : Option Tree) : Type 0 where
+pub data Way (making : Effect) (r : Option ErrorKind) (o : Option Tree) : Type 0 where
   is_done : (u : Tree) → making ≡ becomes u → r ≡ None → o ≡ Some u → Way making r o
   is_denied : (k : ErrorKind) → making ≡ denied k → r ≡ Some k → o ≡ None → Way making r o
   is_allocated : (t u : Tree) → making ≡ allocates t u → r ≡ None → o ≡ Some u → Way making r o
@@ -57,22 +57,22 @@ pub data Way (making : Making) (r : Option ErrorKind) (o : Option Tree) : Type 0
       r ≡ Some k → o ≡ Some u → Way making r o
   is_not_filled : (source : Source) (d q : ℕ) (k : ErrorKind) → making ≡ fills source d q → HasNothingToCopy source AStruct k → r ≡ Some k → o ≡ None → Way making r o
 
-pub yielded : {making : Making} {r : Option ErrorKind} {o : Option Tree} → Way making r o → Yields making r o
-unfolding Yields
-yielded {making} {r} {o} (is_done u is done left) = subst (λ m. Yields m r o) (sym is) (done, left)
-yielded {making} {r} {o} (is_denied k is named left) = subst (λ m. Yields m r o) (sym is) (k, refl, named, left)
-yielded {making} {r} {o} (is_allocated t u is done left) = subst (λ m. Yields m r o) (sym is) (inl (done, left))
-yielded {making} {r} {o} (is_not_allocated t u k is lacks named left) = subst (λ m. Yields m r o) (sym is) (inr (k, lacks, named, left))
-yielded {making} {r} {o} (is_copied c u is copied done left) = subst (λ m. Yields m r o) (sym is) (inl (u, copied, done, left))
-yielded {making} {r} {o} (is_not_copied c k is some why named left) = subst (λ m. Yields m r o) (sym is) (inr (inl (some, (k, why, named, left))))
-yielded {making} {r} {o} (is_unread c k is unread named left) = subst (λ m. Yields m r o) (sym is) (inr (inr (k, unread, named, left)))
-yielded {making} {r} {o} (is_filled source d q u is h done left) = subst (λ m. Yields m r o) (sym is) (inl (h.0, u, h.1.0, h.1.1, h.1.2, inl (h.2, done, left)))
-yielded {making} {r} {o} (is_half_filled source d q k u is h named left) = subst (λ m. Yields m r o) (sym is) (inl (h.0, u, h.1.0, h.1.1, h.1.2, inr (h.2, (k, h.3, named, left))))
-yielded {making} {r} {o} (is_not_filled source d q k is unread named left) = subst (λ m. Yields m r o) (sym is) (inr (k, unread, named, left))
+pub yielded : {making : Effect} {r : Option ErrorKind} {o : Option Tree} → Way making r o → HasEffect making r o
+unfolding HasEffect
+yielded {making} {r} {o} (is_done u is done left) = subst (λ m. HasEffect m r o) (sym is) (done, left)
+yielded {making} {r} {o} (is_denied k is named left) = subst (λ m. HasEffect m r o) (sym is) (k, refl, named, left)
+yielded {making} {r} {o} (is_allocated t u is done left) = subst (λ m. HasEffect m r o) (sym is) (inl (done, left))
+yielded {making} {r} {o} (is_not_allocated t u k is lacks named left) = subst (λ m. HasEffect m r o) (sym is) (inr (k, lacks, named, left))
+yielded {making} {r} {o} (is_copied c u is copied done left) = subst (λ m. HasEffect m r o) (sym is) (inl (u, copied, done, left))
+yielded {making} {r} {o} (is_not_copied c k is some why named left) = subst (λ m. HasEffect m r o) (sym is) (inr (inl (some, (k, why, named, left))))
+yielded {making} {r} {o} (is_unread c k is unread named left) = subst (λ m. HasEffect m r o) (sym is) (inr (inr (k, unread, named, left)))
+yielded {making} {r} {o} (is_filled source d q u is h done left) = subst (λ m. HasEffect m r o) (sym is) (inl (h.0, u, h.1.0, h.1.1, h.1.2, inl (h.2, done, left)))
+yielded {making} {r} {o} (is_half_filled source d q k u is h named left) = subst (λ m. HasEffect m r o) (sym is) (inl (h.0, u, h.1.0, h.1.1, h.1.2, inr (h.2, (k, h.3, named, left))))
+yielded {making} {r} {o} (is_not_filled source d q k is unread named left) = subst (λ m. HasEffect m r o) (sym is) (inr (k, unread, named, left))
 
 -- what is left of the value that is there
-left_of : (making : Making) (r : Option ErrorKind) (o : Option Tree) → Yields making r o → Leaves making r o
-unfolding Yields Leaves
+left_of : (making : Effect) (r : Option ErrorKind) (o : Option Tree) → HasEffect making r o → LeavesEffect making r o
+unfolding HasEffect LeavesEffect
 left_of (becomes u) r o y = y
 left_of (denied k) r o y = y
 left_of (allocates t u) r o y = y
@@ -80,21 +80,21 @@ left_of (defaults bytes made_of) r o y = absurd y
 left_of (copies c) r o y = y
 left_of (fills source d q) r o y = y
 
-pub as_it_stands : {making : Making} {r : Option ErrorKind} {o : Option Tree} → Way making r o → Leaves making r o
+pub as_it_stands : {making : Effect} {r : Option ErrorKind} {o : Option Tree} → Way making r o → LeavesEffect making r o
 as_it_stands {making} {r} {o} way = left_of making r o (yielded way)
 
 -- what is left of a default's value
-pub default_put : (bytes : List ℕ) (made_of : Tree → Making) (d : Tree) (r : Option ErrorKind) (left : Option Tree) → (n : ℕ) × MeansThere (default_root bytes) d n × IsFree d → Way (made_of d) r left →
-    Leaves (defaults bytes made_of) r (Some (unwrap_or left d))
-unfolding Leaves
+pub default_put : (bytes : List ℕ) (made_of : Tree → Effect) (d : Tree) (r : Option ErrorKind) (left : Option Tree) → (n : ℕ) × MeansThere (default_root bytes) d n × HasNoCapabilities d → Way (made_of d) r left →
+    LeavesEffect (defaults bytes made_of) r (Some (unwrap_or left d))
+unfolding LeavesEffect
 default_put bytes made_of d r left (n, means, free) way = inl (d, n, left, means, free, yielded way, refl)
 
-pub default_dropped : (bytes : List ℕ) (made_of : Tree → Making) (k : ErrorKind) → (is_allocation_name k ≡ true) ⊎ HasFault of_default (default_root bytes) k → Leaves (defaults bytes made_of) (Some k) (Some Null)
-unfolding Leaves
+pub default_dropped : (bytes : List ℕ) (made_of : Tree → Effect) (k : ErrorKind) → (is_allocation_name k ≡ true) ⊎ HasFault of_default (default_root bytes) k → LeavesEffect (defaults bytes made_of) (Some k) (Some Null)
+unfolding LeavesEffect
 default_dropped bytes made_of k why = inr (k, why, refl, refl)
 
 -- What is made if a task is in range.
-in_range : (b : Bool) (task : Task) (there : EndValue) → option_map_or (λ (x : Task). made_at x there) (if b then Some task else None) (denied NoSuchPlace) ≡ where_in_range b (made_at task there)
+in_range : (b : Bool) (task : Task) (there : EndValue) → option_map_or (λ (x : Task). effect_of_task x there) (if b then Some task else None) (denied NoSuchPlace) ≡ where_in_range b (effect_of_task task there)
 in_range true task there = refl
 in_range false task there = refl
 
@@ -102,30 +102,30 @@ never : (b : Bool) → where_in_range b (denied NoSuchPlace) ≡ denied NoSuchPl
 never true = refl
 never false = refl
 
-both : (a b : Bool) (m : Making) → where_in_range (a && b) m ≡ where_in_range a (where_in_range b m)
+both : (a b : Bool) (m : Effect) → where_in_range (a && b) m ≡ where_in_range a (where_in_range b m)
 both true b m = refl
 both false b m = refl
 
 -- a task for a pointer makes nothing of an element
-no_element : (task : Task) (t : Tree) → made_at task (ElementOf t) ≡ denied NoSuchPlace →
-    option_map_or (λ (x : Task). made_at x (ElementOf t)) (if is_in_range task then Some task else None) (denied NoSuchPlace) ≡ denied NoSuchPlace
+no_element : (task : Task) (t : Tree) → effect_of_task task (ElementOf t) ≡ denied NoSuchPlace →
+    option_map_or (λ (x : Task). effect_of_task x (ElementOf t)) (if is_in_range task then Some task else None) (denied NoSuchPlace) ≡ denied NoSuchPlace
 no_element task t none = in_range (is_in_range task) task (ElementOf t) ∙ ap (where_in_range (is_in_range task)) none ∙ never (is_in_range task)
 
 -- What is made of a struct that is changed; and if a part of a list, a text or data is written.
-abbrev pub struct_changed : StructChange → Tree → Making
-struct_changed change t = made_at (InStruct change) (PointerTo t)
+abbrev pub struct_changed : StructChange → Tree → Effect
+struct_changed change t = effect_of_task (InStruct change) (PointerTo t)
 
-abbrev pub part_written : Part → Tree → Making
-part_written part t = made_at (Write part) (PointerTo t)
+abbrev pub part_written : Part → Tree → Effect
+part_written part t = effect_of_task (Write part) (PointerTo t)
 
 -- a search
 search_is : (sought : Sought) (default : Option (Bor (List ℕ))) (t : Tree) (b : Bool) →
-    option_map_or (λ (x : Task). made_at x (PointerTo t)) (if b && is_small_default default then Some (Search sought default) else None) (denied NoSuchPlace) ≡ where_in_range b (searched sought default t)
+    option_map_or (λ (x : Task). effect_of_task x (PointerTo t)) (if b && is_small_default default then Some (Search sought default) else None) (denied NoSuchPlace) ≡ where_in_range b (searched sought default t)
 search_is sought default t b =
     in_range (b && is_small_default default) (Search sought default) (PointerTo t)
     ∙ both b (is_small_default default) (with_default (default_for sought default t) (looked_for sought) t)
 
-pub making_is : (op : Op) (there : EndValue) → option_map_or (λ (x : Task). made_at x there) (task_of op) (denied NoSuchPlace) ≡ making_of op there
+pub making_is : (op : Op) (there : EndValue) → option_map_or (λ (x : Task). effect_of_task x there) (task_of op) (denied NoSuchPlace) ≡ effect_of_op op there
 making_is (SetField Void i v) there = refl
 making_is (SetField Bit i v) there = refl
 making_is (SetField size i v) there =
@@ -179,15 +179,15 @@ making_is (SetList source b) (ElementOf t) = refl
 -- Where an edit's path leads, and what is left there; or that it leads nowhere.
 pub data Reaches (e : Edit) (r : Option ErrorKind) (t u : Tree) : Type 0 where
   leads_to : (there : EndValue) (o : Option Tree) → found t (map step_of e.path.now) ≡ Some there →
-      Leaves (option_map_or (λ (x : Task). made_at x there) (task_of e.op) (denied NoSuchPlace)) r o →
+      LeavesEffect (option_map_or (λ (x : Task). effect_of_task x there) (task_of e.op) (denied NoSuchPlace)) r o →
       u ≡ option_map_or (update t (map step_of e.path.now)) o t → Reaches e r t u
   leads_nowhere : found t (map step_of e.path.now) ≡ None → r ≡ Some NoSuchPlace → u ≡ t → Reaches e r t u
 
-pub takes : (e : Edit) (r : Option ErrorKind) (t : Tree) {u : Tree} → Reaches e r t u → Takes e r t u
-unfolding Takes
+pub takes : (e : Edit) (r : Option ErrorKind) (t : Tree) {u : Tree} → Reaches e r t u → EditTakes e r t u
+unfolding EditTakes
 takes e r t {u} (leads_to there o is left stands) =
-    subst (λ (f : Option EndValue). MatchOption f ((r ≡ Some NoSuchPlace) × (u ≡ t)) (λ x. (o : Option Tree) × Leaves (making_of e.op x) r o × (u ≡ option_map_or (update t (map step_of e.path.now)) o t)))
-    (sym is) (o, subst (λ m. Leaves m r o) (making_is e.op there) left, stands)
+    subst (λ (f : Option EndValue). MatchOption f ((r ≡ Some NoSuchPlace) × (u ≡ t)) (λ x. (o : Option Tree) × LeavesEffect (effect_of_op e.op x) r o × (u ≡ option_map_or (update t (map step_of e.path.now)) o t)))
+    (sym is) (o, subst (λ m. LeavesEffect m r o) (making_is e.op there) left, stands)
 takes e r t {u} (leads_nowhere is named same) =
-    subst (λ (f : Option EndValue). MatchOption f ((r ≡ Some NoSuchPlace) × (u ≡ t)) (λ x. (o : Option Tree) × Leaves (making_of e.op x) r o × (u ≡ option_map_or (update t (map step_of e.path.now)) o t)))
+    subst (λ (f : Option EndValue). MatchOption f ((r ≡ Some NoSuchPlace) × (u ≡ t)) (λ x. (o : Option Tree) × LeavesEffect (effect_of_op e.op x) r o × (u ≡ option_map_or (update t (map step_of e.path.now)) o t)))
     (sym is) (named, same)

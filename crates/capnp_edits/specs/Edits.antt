@@ -16,9 +16,9 @@ use Rattle.capnp_words.specs.Sizes.{size_number}
 use Rattle.capnp_format.specs.Numbers.{element_bits}
 use Rattle.capnp_format.specs.Segments.{Segments, Target}
 use Rattle.capnp_format.specs.Tree.{Tree, Null, Capability, Struct, Flat, Structs, count}
-use Rattle.capnp_format.specs.Canonical.{IsFree}
+use Rattle.capnp_format.specs.Canonical.{HasNoCapabilities}
 use Rattle.capnp_format.specs.Forest.{IsForest}
-use Rattle.capnp_contents.specs.Existing.{is_unfound, list_in, data_in, text_in, BytesLieIn}
+use Rattle.capnp_contents.specs.Existing.{is_unfound, list_in, data_in, text_in, AreBytesInside}
 use Rattle.capnp_making.specs.Fields.{with_field}
 use Rattle.capnp_format.specs.Fields.{with_bits, put_field}
 use Rattle.capnp_making.specs.Filled.{AreFilled}
@@ -102,13 +102,13 @@ bits_of n = record {
 -- - `copies`: what is copied from another message.
 -- - `fills`: a struct of this many data words and pointers gets the content of a struct of another
 --   message.
-pub data Making : Type 0 where
-  becomes : Tree → Making
-  denied : ErrorKind → Making
-  allocates : Tree → Tree → Making
-  defaults : List ℕ → (Tree → Making) → Making
-  copies : Copying → Making
-  fills : Source → ℕ → ℕ → Making
+pub data Effect : Type 0 where
+  becomes : Tree → Effect
+  denied : ErrorKind → Effect
+  allocates : Tree → Tree → Effect
+  defaults : List ℕ → (Tree → Effect) → Effect
+  copies : Copying → Effect
+  fills : Source → ℕ → ℕ → Effect
 
 -- The struct t with bits of its data section written.
 abbrev pub struct_with : Field → Tree → Tree
@@ -128,31 +128,31 @@ abbrev pub nowhere : Target
 nowhere = record { word = 0; segment = 0; start = 0; pads = 0 }
 
 -- What an operation makes of what it found, or its refusal.
-abbrev pub made_of_found : {A : Type 0} → (A → Making) → Result A ErrorKind → Making
-made_of_found made_of (Ok x) = made_of x
-made_of_found made_of (Err k) = denied k
+abbrev pub effect_of_search : {A : Type 0} → (A → Effect) → Result A ErrorKind → Effect
+effect_of_search made_of (Ok x) = made_of x
+effect_of_search made_of (Err k) = denied k
 
 -- The result of writing element or byte i of what a search found. It is u if there is such an
 -- element or byte. If not, or if the search found null, it is refused with NoSuchPlace. If the
 -- search was refused, it is refused with the same error.
-abbrev pub if_reached : {A : Type 0} → (A → ℕ) → ℕ → Tree → Result (Option A) ErrorKind → Making
+abbrev pub if_reached : {A : Type 0} → (A → ℕ) → ℕ → Tree → Result (Option A) ErrorKind → Effect
 if_reached number i u (Ok (Some x)) = if nat_lt i (number x) then becomes u else denied NoSuchPlace
 if_reached number i u (Ok None) = denied NoSuchPlace
 if_reached number i u (Err k) = denied k
 
 -- The result of a search where t is. A struct or a list of structs becomes at least as large as
 -- requested, but null isn't a list of structs; a list, a text or data is only found, and t stays.
-abbrev pub looked_for : Sought → Tree → Making
-looked_for (ForStruct size) t = made_of_found (allocates t) (struct_opened size t)
+abbrev pub looked_for : Sought → Tree → Effect
+looked_for (ForStruct size) t = effect_of_search (allocates t) (struct_opened size t)
 looked_for (ForStructs size) Null = becomes Null
 looked_for (ForStructs size) t =
-    made_of_found (allocates t) (list_widened size.data_words size.pointers t)
-looked_for (ForList size) t = made_of_found (λ l. becomes t) (list_in nowhere size t)
-looked_for ForText t = made_of_found (λ b. becomes t) (text_in nowhere t)
-looked_for ForData t = made_of_found (λ b. becomes t) (data_in nowhere t)
+    effect_of_search (allocates t) (list_widened size.data_words size.pointers t)
+looked_for (ForList size) t = effect_of_search (λ l. becomes t) (list_in nowhere size t)
+looked_for ForText t = effect_of_search (λ b. becomes t) (text_in nowhere t)
+looked_for ForData t = effect_of_search (λ b. becomes t) (data_in nowhere t)
 
 -- What an operation makes of t if it uses its default in this way.
-abbrev pub with_default : DefaultUse → (Tree → Making) → Tree → Making
+abbrev pub with_default : DefaultUse → (Tree → Effect) → Tree → Effect
 with_default ignored made_of t = made_of t
 with_default (is_denied_by k) made_of t = denied k
 with_default (is_copied_from bytes) made_of t = defaults bytes made_of
@@ -192,7 +192,7 @@ place_of b = record { segment = b.segment; word = b.at }
 
 -- What an operation makes if its numbers are in range; otherwise it is refused with NoSuchPlace,
 -- and changes nothing.
-abbrev pub where_in_range : Bool → Making → Making
+abbrev pub where_in_range : Bool → Effect → Effect
 where_in_range b making = if b then making else denied NoSuchPlace
 
 -- The value at the end of a path.
@@ -202,19 +202,19 @@ end_tree (ElementOf t) = t
 
 -- The result of writing a number to the data section of a struct, by its index among numbers of the
 -- same width, if the section has it.
-abbrev pub field_written : ElementSize → ℕ → ℕ → Tree → Making
+abbrev pub field_written : ElementSize → ℕ → ℕ → Tree → Effect
 field_written size i v (Struct ws ts) =
     let w = element_bits (size_number size) in
     where_in_range (nat_le (i * w + w) (64 * length ws)) (becomes (Struct (put_field ws (i * w) w v) ts))
 field_written size i v t = denied NoSuchPlace
 
 -- The result of copying content over a struct.
-abbrev pub content_filled : Source → Tree → Making
+abbrev pub content_filled : Source → Tree → Effect
 content_filled source (Struct ws ts) = fills source (length ws) (count ts)
 content_filled source t = denied NoSuchPlace
 
 -- The result of a search with a default of fewer than 2^32 words.
-abbrev pub searched : Sought → Option (Bor (List ℕ)) → Tree → Making
+abbrev pub searched : Sought → Option (Bor (List ℕ)) → Tree → Effect
 searched sought default t =
     where_in_range (is_small_default default)
     (with_default (default_for sought default t) (looked_for sought) t)
@@ -223,70 +223,70 @@ searched sought default t =
 -- nothing. `SetField`, `SetBool` and `CopyContent` apply to a struct, which may be an element of a
 -- list; all other operations require a pointer. A bit of a data section has an operation of its
 -- own.
-abbrev pub making_of : Op → EndValue → Making
-making_of (SetField size i v) there =
+abbrev pub effect_of_op : Op → EndValue → Effect
+effect_of_op (SetField size i v) there =
     where_in_range (nat_le 2 (size_number size) && is_number size v)
     (field_written size i v (end_tree there))
-making_of (SetBool i b) there = field_written Bit i (if b then 1 else 0) (end_tree there)
-making_of (CopyContent source) there = content_filled source (end_tree there)
-making_of op (ElementOf t) = denied NoSuchPlace
-making_of (InitStruct size) (PointerTo t) = allocates Null (zero_struct size)
-making_of (InitList size n) (PointerTo t) =
+effect_of_op (SetBool i b) there = field_written Bit i (if b then 1 else 0) (end_tree there)
+effect_of_op (CopyContent source) there = content_filled source (end_tree there)
+effect_of_op op (ElementOf t) = denied NoSuchPlace
+effect_of_op (InitStruct size) (PointerTo t) = allocates Null (zero_struct size)
+effect_of_op (InitList size n) (PointerTo t) =
     where_in_range (nat_le (size_number size) 6 && nat_lt n (2 ^ 29))
     (allocates Null (zero_list (size_number size) n))
-making_of (InitStructList n size) (PointerTo t) =
+effect_of_op (InitStructList n size) (PointerTo t) =
     where_in_range (nat_lt n (2 ^ 30) && nat_lt (n * (size.data_words + size.pointers)) (2 ^ 29))
     (allocates Null (zero_structs n size))
-making_of (InitText n) (PointerTo t) =
+effect_of_op (InitText n) (PointerTo t) =
     where_in_range (nat_lt (n + 1) (2 ^ 29)) (allocates Null (zero_list 2 (n + 1)))
-making_of (InitData n) (PointerTo t) =
+effect_of_op (InitData n) (PointerTo t) =
     where_in_range (nat_lt n (2 ^ 29)) (allocates Null (zero_list 2 n))
-making_of (SetText bytes) (PointerTo t) =
+effect_of_op (SetText bytes) (PointerTo t) =
     where_in_range (nat_lt (length bytes.now + 1) (2 ^ 29))
     (allocates Null (Flat 2 (bytes.now ++ 0 ∷ [])))
-making_of (SetData bytes) (PointerTo t) =
+effect_of_op (SetData bytes) (PointerTo t) =
     where_in_range (nat_lt (length bytes.now) (2 ^ 29)) (allocates Null (Flat 2 bytes.now))
-making_of (SetCapability i) (PointerTo t) = becomes (Capability i)
-making_of Clear (PointerTo t) = becomes Null
-making_of (SetElement size i v) (PointerTo t) =
+effect_of_op (SetCapability i) (PointerTo t) = becomes (Capability i)
+effect_of_op Clear (PointerTo t) = becomes Null
+effect_of_op (SetElement size i v) (PointerTo t) =
     where_in_range (is_number size v)
     (if_reached (λ l. l.count) i (with_lowest i (element_bits (size_number size)) v t)
     (list_in nowhere size t))
-making_of (WriteText i b) (PointerTo t) =
+effect_of_op (WriteText i b) (PointerTo t) =
     if_reached (λ x. x.length) i (with_lowest i 8 b t) (text_in nowhere t)
-making_of (WriteData i b) (PointerTo t) =
+effect_of_op (WriteData i b) (PointerTo t) =
     if_reached (λ x. x.length) i (with_lowest i 8 b t) (data_in nowhere t)
-making_of (GetStruct size default) (PointerTo t) = searched (ForStruct size) default t
-making_of (GetList size default) (PointerTo t) =
+effect_of_op (GetStruct size default) (PointerTo t) = searched (ForStruct size) default t
+effect_of_op (GetList size default) (PointerTo t) =
     where_in_range (nat_le (size_number size) 6) (searched (ForList size) default t)
-making_of (GetStructList size default) (PointerTo t) = searched (ForStructs size) default t
-making_of (GetText default) (PointerTo t) = searched ForText default t
-making_of (GetData default) (PointerTo t) = searched ForData default t
-making_of (CopyFrom source canonicalize) (PointerTo t) =
+effect_of_op (GetStructList size default) (PointerTo t) = searched (ForStructs size) default t
+effect_of_op (GetText default) (PointerTo t) = searched ForText default t
+effect_of_op (GetData default) (PointerTo t) = searched ForData default t
+effect_of_op (CopyFrom source canonicalize) (PointerTo t) =
     copies (record { source = source; wanted = Value; canonicalize = canonicalize })
-making_of (SetStruct source canonicalize) (PointerTo t) =
+effect_of_op (SetStruct source canonicalize) (PointerTo t) =
     copies (record { source = source; wanted = AStruct; canonicalize = canonicalize })
-making_of (SetList source canonicalize) (PointerTo t) =
+effect_of_op (SetList source canonicalize) (PointerTo t) =
     copies (record { source = source; wanted = AList; canonicalize = canonicalize })
 
 -- What a task makes at the end of a path. A task is an operation whose numbers are in range.
-abbrev pub made_at : Task → EndValue → Making
-made_at (InStruct (Bits n)) there = field_written n.size n.index n.value (end_tree there)
-made_at (InStruct (Content source)) there = content_filled source (end_tree there)
-made_at task (ElementOf t) = denied NoSuchPlace
-made_at (Make object) (PointerTo t) = allocates Null (value_of object)
-made_at (Point (Some i)) (PointerTo t) = becomes (Capability i)
-made_at (Point None) (PointerTo t) = becomes Null
-made_at (Write (ListElement n)) (PointerTo t) =
+abbrev pub effect_of_task : Task → EndValue → Effect
+effect_of_task (InStruct (Bits n)) there = field_written n.size n.index n.value (end_tree there)
+effect_of_task (InStruct (Content source)) there = content_filled source (end_tree there)
+effect_of_task task (ElementOf t) = denied NoSuchPlace
+effect_of_task (Make object) (PointerTo t) = allocates Null (value_of object)
+effect_of_task (Point (Some i)) (PointerTo t) = becomes (Capability i)
+effect_of_task (Point None) (PointerTo t) = becomes Null
+effect_of_task (Write (ListElement n)) (PointerTo t) =
     if_reached (λ l. l.count) n.index
     (with_lowest n.index (element_bits (size_number n.size)) n.value t) (list_in nowhere n.size t)
-made_at (Write (TextByte i b)) (PointerTo t) =
+effect_of_task (Write (TextByte i b)) (PointerTo t) =
     if_reached (λ x. x.length) i (with_lowest i 8 b t) (text_in nowhere t)
-made_at (Write (DataByte i b)) (PointerTo t) =
+effect_of_task (Write (DataByte i b)) (PointerTo t) =
     if_reached (λ x. x.length) i (with_lowest i 8 b t) (data_in nowhere t)
-made_at (Search sought default) (PointerTo t) =
+effect_of_task (Search sought default) (PointerTo t) =
     with_default (default_for sought default t) (looked_for sought) t
-made_at (CopyRoot c) (PointerTo t) = copies c
+effect_of_task (CopyRoot c) (PointerTo t) = copies c
 
 -- A call is refused with an error that satisfies P, and leaves `left`; None means that nothing is
 -- changed.
@@ -300,17 +300,17 @@ Fails P left r o = (k : ErrorKind) × P k × (r ≡ Some k) × (o ≡ left)
 -- - `fills`: a struct u. It has the data that both structs have, followed by zeros, and the
 --   pointers that were read, followed by nulls. These are as many as both have, or the ones before
 --   a pointer that is refused. Nothing is changed if there is no struct to copy.
-unfoldable pub Yields : Making → Option ErrorKind → Option Tree → Type 0
-Yields (becomes u) r o = (r ≡ None) × (o ≡ Some u)
-Yields (denied k) r o = Fails (λ j. j ≡ k) None r o
-Yields (allocates t u) r o =
+unfoldable pub HasEffect : Effect → Option ErrorKind → Option Tree → Type 0
+HasEffect (becomes u) r o = (r ≡ None) × (o ≡ Some u)
+HasEffect (denied k) r o = Fails (λ j. j ≡ k) None r o
+HasEffect (allocates t u) r o =
     ((r ≡ None) × (o ≡ Some u)) ⊎ Fails (λ k. is_allocation_name k ≡ true) (Some t) r o
-Yields (copies c) r o =
+HasEffect (copies c) r o =
     ((u : Tree) × Copies c u × (r ≡ None) × (o ≡ Some u))
     ⊎ ((((k : ErrorKind) → HasNothingToCopy c.source c.wanted k → ⊥)
     × Fails (λ k. (is_allocation_name k ≡ true) ⊎ IsUnreadable c k) (Some Null) r o)
     ⊎ Fails (HasNothingToCopy c.source c.wanted) None r o)
-Yields (fills source d q) r o =
+HasEffect (fills source d q) r o =
     ((c : ContentRead source) × (u : Tree) × (section : List ℕ)
     × HoldContent section d (64 * length c.from.words) c.bytes
     × (u ≡ Struct section (up_to q c.children))
@@ -318,25 +318,26 @@ Yields (fills source d q) r o =
     ⊎ ((count c.children < min q c.from.pointers)
     × Fails (λ k. (is_allocation_name k ≡ true) ⊎ IsNextUnreadable source c k) (Some u) r o)))
     ⊎ Fails (HasNothingToCopy source AStruct) None r o
-Yields (defaults bytes made_of) r o = ⊥
+HasEffect (defaults bytes made_of) r o = ⊥
 
 -- The outcome r of an operation, and what it leaves, if a default may be copied first. It leaves
 -- the default after the operation; or null, if the copy of the default is refused for memory or for
--- what it reads. Without a default, the same as `Yields`.
-unfoldable pub Leaves : Making → Option ErrorKind → Option Tree → Type 0
-Leaves (defaults bytes made_of) r o =
-    ((d : Tree) × (n : ℕ) × (left : Option Tree) × MeansThere (default_root bytes) d n × IsFree d
-    × Yields (made_of d) r left × (o ≡ Some (unwrap_or left d)))
+-- what it reads. Without a default, the same as `HasEffect`.
+unfoldable pub LeavesEffect : Effect → Option ErrorKind → Option Tree → Type 0
+LeavesEffect (defaults bytes made_of) r o =
+    ((d : Tree) × (n : ℕ) × (left : Option Tree) × MeansThere (default_root bytes) d n
+    × HasNoCapabilities d
+    × HasEffect (made_of d) r left × (o ≡ Some (unwrap_or left d)))
     ⊎ Fails (λ k. (is_allocation_name k ≡ true) ⊎ HasFault of_default (default_root bytes) k)
     (Some Null) r o
-Leaves making r o = Yields making r o
+LeavesEffect making r o = HasEffect making r o
 
 -- From S to R an operation that makes this is done at a pointer that means t, with outcome r: what
 -- it leaves replaces t, if anything is changed.
-pub record DoesAt (S R : Segments) (place : PointerPlace) (making : Making) (t : Tree)
+pub record DoesAt (S R : Segments) (place : PointerPlace) (making : Effect) (t : Tree)
     (r : Option ErrorKind) : Type 0 where
   pub left : Option Tree
-  pub leaves : Leaves making r left
+  pub leaves : LeavesEffect making r left
   pub stands : MatchOption left (R ≡ S) (IsReplaced S R place.segment place.word t)
 
 -- A call changes only words, and nothing if it is refused.
@@ -403,7 +404,8 @@ pub data PutsByte (S R : Segments) (looked : Result (Option ExistingBytes) Error
     (r : Option ErrorKind) : Type 0 where
   byte_put : (b : ExistingBytes) → looked ≡ Ok (Some b) → n.index < b.length → r ≡ None →
       R ≡ with_field S b.segment (8 * (8 * b.start + n.index)) 8 n.value → PutsByte S R looked n r
-  byte_past : (b : ExistingBytes) → looked ≡ Ok (Some b) → (BytesLieIn S b → b.length ≤ n.index) →
+  byte_past : (b : ExistingBytes) → looked ≡ Ok (Some b)
+      → (AreBytesInside S b → b.length ≤ n.index) →
       r ≡ Some NoSuchPlace → R ≡ S → PutsByte S R looked n r
   no_bytes_there : looked ≡ Ok None → r ≡ Some NoSuchPlace → R ≡ S → PutsByte S R looked n r
   bytes_denied : (k : ErrorKind) → looked ≡ Err k → r ≡ Some k → R ≡ S → PutsByte S R looked n r
@@ -411,10 +413,10 @@ pub data PutsByte (S R : Segments) (looked : Result (Option ExistingBytes) Error
 -- The edit e, with outcome r, takes the value t of a message to u. Either its path leads nowhere,
 -- and it is refused with NoSuchPlace; or its path leads to a value, and what the operation leaves
 -- replaces that, if anything is changed.
-unfoldable pub Takes : Edit → Option ErrorKind → Tree → Tree → Type 0
-Takes e r t u =
+unfoldable pub EditTakes : Edit → Option ErrorKind → Tree → Tree → Type 0
+EditTakes e r t u =
     MatchOption (found t (map step_of e.path.now)) ((r ≡ Some NoSuchPlace) × (u ≡ t))
-    (λ there. (o : Option Tree) × Leaves (making_of e.op there) r o
+    (λ there. (o : Option Tree) × LeavesEffect (effect_of_op e.op there) r o
     × (u ≡ option_map_or (update t (map step_of e.path.now)) o t))
 
 -- If S is a forest of a value t, R is a forest of a value u with P t u: P says what an edit makes
@@ -423,7 +425,7 @@ abbrev pub IsApplied : (Tree → Tree → Type 0) → Segments → Segments → 
 IsApplied P S R = (t : Tree) → IsForest S t → (u : Tree) × IsForest R u × P t u
 
 -- The edits, in order and each with its outcome, take the value t of a message to u.
-abbrev pub TakesAll : List Edit → List (Option ErrorKind) → Tree → Tree → Type 0
-TakesAll [] [] t u = u ≡ t
-TakesAll (e ∷ es) (r ∷ rs) t u = (v : Tree) × Takes e r t v × TakesAll es rs v u
-TakesAll es rs t u = ⊥
+abbrev pub EditsTake : List Edit → List (Option ErrorKind) → Tree → Tree → Type 0
+EditsTake [] [] t u = u ≡ t
+EditsTake (e ∷ es) (r ∷ rs) t u = (v : Tree) × EditTakes e r t v × EditsTake es rs v u
+EditsTake es rs t u = ⊥

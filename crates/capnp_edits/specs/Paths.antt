@@ -5,7 +5,7 @@ use Rattle.capnp_format.specs.Segments.{Segments, IsPlace}
 use Rattle.capnp_words.specs.Sizes.{size_number}
 use Rattle.capnp_format.specs.Tree.{Tree, Struct, Pointers, Structs, Elements, count, element_count}
 use Rattle.capnp_format.specs.Forest.{target}
-use Rattle.capnp_contents.specs.Existing.{StructLiesIn}
+use Rattle.capnp_contents.specs.Existing.{IsStructInside}
 use Rattle.capnp_making.specs.Stored.{IsStored}
 use Rattle.capnp_format.specs.Path.{Step, Child, Element, tree_at, struct_at, next, node, PathLeads}
 use Rattle.capnp_contents.specs.declared.existing.ExistingList.{ExistingList}
@@ -68,14 +68,14 @@ IsPathFound S from t path (Some (AtElement e)) = IsElementFound S from.segment f
 IsPathFound S from t path None = (more : List Step) → found t (path ++ more) ≡ None
 
 -- The end of a path is inside the message.
-abbrev pub EndLiesIn : Segments → PathEnd → Type 0
-EndLiesIn S (AtPointer place) = IsPlace S place.segment place.word
-EndLiesIn S (AtElement e) = StructLiesIn S e
+abbrev pub IsEndInside : Segments → PathEnd → Type 0
+IsEndInside S (AtPointer place) = IsPlace S place.segment place.word
+IsEndInside S (AtElement e) = IsStructInside S e
 
 -- The end r that was found is inside the message. It is `there`, if that is inside the message.
 pub record IsEndFound (S : Segments) (there r : Option PathEnd) : Type 0 where
-  pub exactly : IfSome there (EndLiesIn S) → r ≡ there
-  pub inside : IfSome r (EndLiesIn S)
+  pub exactly : IfSome there (IsEndInside S) → r ≡ there
+  pub inside : IfSome r (IsEndInside S)
 
 -- Pointer i of the struct e, if there is one.
 abbrev pub child_in : ExistingStruct → ℕ → Option PathEnd
@@ -101,5 +101,5 @@ abbrev pub Steps : Segments → PathEnd → Step → Option PathEnd → Type 0
 Steps S (AtPointer place) step r =
     (t : Tree) → IsStored S place.segment place.word t →
     IsPathFound S place t (step ∷ []) r
-Steps S (AtElement e) (Child i) r = IfSome (child_in e i) (EndLiesIn S) → r ≡ child_in e i
+Steps S (AtElement e) (Child i) r = IfSome (child_in e i) (IsEndInside S) → r ≡ child_in e i
 Steps S (AtElement e) (Element i) r = r ≡ None

@@ -16,14 +16,14 @@ use Rattle.capnp_format.specs.Word.{kind, offset_bits, data_words, pointer_count
 use Rattle.capnp_arena_traits.specs.Checks.{Holds, misplaced}
 use Rattle.capnp_arena_traits.specs.Limits.{whole}
 use Rattle.capnp_objects.specs.Demands.{IsStructList, tag}
-use Rattle.capnp_objects.specs.Expected.{struct_expected, list_expected, Withheld}
+use Rattle.capnp_objects.specs.Expected.{struct_expected, list_expected, RefusesExpected}
 use Rattle.capnp_objects.specs.Faults.{child_at}
 use Rattle.capnp_objects.specs.Outcomes.{Reads, ReadsAll, Entered}
-use Rattle.capnp_objects.specs.Reading.{Reading, word_of, behind, tag_size}
+use Rattle.capnp_objects.specs.Reading.{Reading, word_of, place_past, tag_size}
 use Rattle.capnp_objects.specs.Refusals.{Refused}
 use Rattle.capnp_objects.specs.Source.{levels}
 use Rattle.capnp_objects.specs.Wanted.{plain}
-use Rattle.capnp_copies.specs.Changes.{Change}
+use Rattle.capnp_copies.specs.Changes.{CopyCall}
 use Rattle.capnp_copies.specs.Forms.{form_of, kept}
 use Rattle.capnp_copies.specs.Originals.{Original, value_original, sections_original, list_original}
 use Rattle.capnp_edits.specs.declared.edit.Source.{Source}
@@ -75,16 +75,17 @@ IsRootless source k =
     × (Holds (root_of source).segments 0 0 1 → k ≡ ReadLimitExceeded)
 
 -- What is wanted isn't found at r, which `get_struct`, or `get_list` of Void, refuses with k.
-abbrev pub IsWithheld : Wanted → Reading → Meter → Meter → ErrorKind → Type 0
-IsWithheld Value r m m' k = ⊥
-IsWithheld AStruct r m m' k = Withheld struct_expected r m m' k
-IsWithheld AList r m m' k = Withheld (list_expected Void) r m m' k
+abbrev pub RefusesWanted : Wanted → Reading → Meter → Meter → ErrorKind → Type 0
+RefusesWanted Value r m m' k = ⊥
+RefusesWanted AStruct r m m' k = RefusesExpected struct_expected r m m' k
+RefusesWanted AList r m m' k = RefusesExpected (list_expected Void) r m m' k
 
 -- There is nothing to copy, which is refused with k: the root isn't reached, or what is wanted
 -- isn't found there.
 abbrev pub HasNothingToCopy : Source → Wanted → ErrorKind → Type 0
 HasNothingToCopy source wanted k = IsRootless source k ⊎
-    (HasRoot source × ((m : Meter) × IsWithheld wanted (root_of source) (once_at_root source) m k))
+    (HasRoot source
+    × ((m : Meter) × RefusesWanted wanted (root_of source) (once_at_root source) m k))
 
 -- The root means a value within the limits, which is as wanted, and u is what a copy keeps of it.
 pub record Copies (c : Copying) (u : Tree) : Type 0 where
@@ -168,11 +169,11 @@ pub record ContentRead (source : Source) : Type 0 where
 -- The pointer after those that were read can't be read, which is refused with k.
 abbrev pub IsNextUnreadable : (source : Source) → ContentRead source → ErrorKind → Type 0
 IsNextUnreadable source c k =
-    (m : Meter) × Refused plain (behind c.from.first (count c.children)) c.after m k
+    (m : Meter) × Refused plain (place_past c.from.first (count c.children)) c.after m k
 
 -- `Says` holds for the original that is wanted at r and the call that copies it: for the original
 -- of a whole value; or for that of a struct or a list, once what leads to it is charged.
-abbrev pub OfWanted : Wanted → Reading → Change → (Original Tree → Change → Type 0) → Type 0
+abbrev pub OfWanted : Wanted → Reading → CopyCall → (Original Tree → CopyCall → Type 0) → Type 0
 OfWanted Value r c Says = Says (value_original r) c
 OfWanted AStruct r c Says = (s : Sections) × LeadsToStruct r c.before s ×
     Says (sections_original s.words s.first s.pointers) (record c { before = s.limiter })

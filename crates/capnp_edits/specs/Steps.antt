@@ -15,18 +15,18 @@ use Rattle.capnp_format.specs.Tree.{Tree, Null, count}
 use Rattle.capnp_contents.specs.Existing.{struct_in}
 use Rattle.capnp_making.specs.Makes.{CallAt, call_at}
 use Rattle.capnp_making.specs.Memory.{HasRoom, IsRefusedFor, KeepsMemory, SpendsMemory}
-use Rattle.capnp_making.specs.Memory.{StandsBehind, TakesWords, start_of}
+use Rattle.capnp_making.specs.Memory.{ComesAfter, TakesWords, start_of}
 use Rattle.capnp_making.specs.Near.{HasOwnRoom, LeadsToEnd}
 use Rattle.capnp_making.specs.Stored.{IsStored}
 use Rattle.capnp_making.specs.Zeroed.{IsPruned}
 use Rattle.capnp_contents.specs.declared.existing.ExistingStruct.{ExistingStruct}
-use Rattle.capnp_objects.specs.Reading.{behind}
+use Rattle.capnp_objects.specs.Reading.{place_past}
 use Rattle.capnp_objects.specs.Refusals.{Refused}
 use Rattle.capnp_objects.specs.Wanted.{plain}
 use Rattle.capnp_pointers.specs.declared.pointers.PointerPlace.{PointerPlace}
 use Rattle.capnp_readers.specs.declared.readers.struct_reader.StructPlace.{StructPlace}
 use Rattle.capnp_copies.specs.Changes.{ComesToObject, CopiesChildren, FindsNoRoom, IsTooLarge}
-use Rattle.capnp_copies.specs.Changes.{RefusesToCopy, change}
+use Rattle.capnp_copies.specs.Changes.{RefusesToCopy, copy_call}
 use Rattle.capnp_copies.specs.Forms.{form_of}
 use Rattle.capnp_copies.specs.Growth.{TakesAtMost}
 use Rattle.capnp_copies.specs.Originals.{children_original, value_original}
@@ -61,8 +61,8 @@ use Rattle.capnp_edits.specs.Paths.{PointerTo, step_of, IsPathFound}
 use Rattle.capnp_edits.specs.Sources.{root_of, once_at_root, Sections, LeadsToStruct}
 use Rattle.capnp_edits.specs.Sources.{ContentRead, Copies, HasNothingToCopy}
 use Rattle.capnp_edits.specs.Sources.{OfWanted}
-use Rattle.capnp_edits.specs.Edits.{is_of_path, refusals_after, value_of, looked_for, Yields, place_of}
-use Rattle.capnp_edits.specs.Edits.{DoesAt, FillsAt, PutsBits, bits_of, default_for, made_at, IsApplied, Takes}
+use Rattle.capnp_edits.specs.Edits.{is_of_path, refusals_after, value_of, looked_for, HasEffect, place_of}
+use Rattle.capnp_edits.specs.Edits.{DoesAt, FillsAt, PutsBits, bits_of, default_for, effect_of_task, IsApplied, EditTakes}
 use Rattle.capnp_builders.specs.declared.builders.PointerBuilder.{PointerBuilder}
 
 -- If the new object has no words: a pointer to a struct has offset -1, and one to a list leads to
@@ -84,7 +84,7 @@ OpensThere c sought default r = ⊤
 -- its own words, and every segment has as much room as before.
 pub record TakesForObject (old new : View) (place : PointerPlace) (object : NewObject) : Type 0 where
   pub taken : TakesWords old new place.segment (word_count (value_of object))
-  pub behind : StandsBehind old place.segment (word_count (value_of object))
+  pub behind : ComesAfter old place.segment (word_count (value_of object))
       (start_of (target new.words place.segment place.word))
   pub leads : LeadsThere (call_at place.segment place.word old new) object
   pub memory : KeepsMemory old new
@@ -110,7 +110,7 @@ abbrev pub CopiesWhole : CallAt → Copying → Option ErrorKind → Type 0
 CopiesWhole call c r =
     (IsSomeAnd r (HasNothingToCopy c.source c.wanted) × (call.new ≡ call.old)) ⊎
     ((m : Meter) × OfWanted c.wanted (root_of c.source)
-    (change (form_of c.canonicalize) call (once_at_root c.source) m)
+    (copy_call (form_of c.canonicalize) call (once_at_root c.source) m)
     (λ o d. TakesAtMost (result_of r) o d × MatchOption r (PutsCopy o d) (RefusesToCopy o d)))
 
 -- Room.
@@ -162,13 +162,13 @@ pub record StopsFilling (old new : View) (place : StructPlace) (source : Source)
   pub takes : TakesBytes old.words taken.words place (64 * length content.from.words) content.bytes
   pub after : Meter
   pub why :
-      (ComesToObject (value_original (behind content.from.first (count content.children))) plain
+      (ComesToObject (value_original (place_past content.from.first (count content.children))) plain
       content.after after
       (λ n all. FindsNoRoom (pointers_copied place taken new content.from.limiter after) k n
       (content.are_read.cost + all))
       × IsTooLarge (children_original content.from.first (min place.pointers content.from.pointers))
       (pointers_copied place taken new content.from.limiter after))
-      ⊎ Refused plain (behind content.from.first (count content.children)) content.after after k
+      ⊎ Refused plain (place_past content.from.first (count content.children)) content.after after k
 
 -- What is looked for isn't opened, which is refused with k: nothing is changed; or memory is
 -- refused for what becomes of a struct or a list of structs.
@@ -222,17 +222,17 @@ FindsSought (ForStruct size) r c t = Opens size (λ S s p u b. ⊤) c t (struct_
 FindsSought (ForStructs size) r c Null = (r ≡ None) × (c.new ≡ c.old)
 FindsSought (ForStructs size) r c t =
     Opens size (λ S s p u b. ⊤) c t (list_widened size.data_words size.pointers t) (result_of r)
-FindsSought sought r c t = (o : Option Tree) × Yields (looked_for sought t) r o × (c.new ≡ c.old)
+FindsSought sought r c t = (o : Option Tree) × HasEffect (looked_for sought t) r o × (c.new ≡ c.old)
 
 -- From old to new a task with outcome r takes the words that the contract of the builder's call
 -- states for its place. A refused object takes none, nor does a change of bits. Content takes only
 -- those of the copies of the pointers that both structs have.
-abbrev pub TakesAt : View → View → Task → Option ErrorKind → PathEnd → Type 0
-TakesAt old new (Make object) None (AtPointer place) = TakesForObject old new place object
-TakesAt old new (Make object) (Some k) (AtPointer place) = IsPruned old.words new.words
-TakesAt old new (InStruct (Bits n)) r there =
+abbrev pub AllocatesAt : View → View → Task → Option ErrorKind → PathEnd → Type 0
+AllocatesAt old new (Make object) None (AtPointer place) = TakesForObject old new place object
+AllocatesAt old new (Make object) (Some k) (AtPointer place) = IsPruned old.words new.words
+AllocatesAt old new (InStruct (Bits n)) r there =
     (e : ExistingStruct) × IsStructAt old.words there e × OnlyWrites old new
-TakesAt old new (InStruct (Content source)) r there =
+AllocatesAt old new (InStruct (Content source)) r there =
     (e : ExistingStruct) × IsStructAt old.words there e ×
     ((IsSomeAnd r (HasNothingToCopy source AStruct) × (new ≡ old)) ⊎
     ((s : Sections) × (m : Meter) × LeadsToStruct (root_of source) (once_at_root source) s ×
@@ -240,14 +240,14 @@ TakesAt old new (InStruct (Content source)) r there =
     (pointers_copied (struct_place e) old new s.limiter m) ×
     MatchOption r (0 < 64 * e.size.data_words + e.size.pointers →
     FillsThere old new (struct_place e) s m) (λ k. ⊤)))
-TakesAt old new (Search sought default) r (AtPointer place) =
+AllocatesAt old new (Search sought default) r (AtPointer place) =
     OpensThere (call_at place.segment place.word old new) sought default r ×
     ((t : Tree) → IsStored old.words place.segment place.word t →
     WithDefault (default_for sought default t) (call_at place.segment place.word old new) t
     (FindsSought sought r) (result_of r))
-TakesAt old new (CopyRoot c) r (AtPointer place) =
+AllocatesAt old new (CopyRoot c) r (AtPointer place) =
     CopiesWhole (call_at place.segment place.word old new) c r
-TakesAt old new task r there = OnlyWrites old new
+AllocatesAt old new task r there = OnlyWrites old new
 
 -- Calls at a place.
 
@@ -255,7 +255,7 @@ TakesAt old new task r there = OnlyWrites old new
 -- doesn't hold stay unchanged.
 abbrev pub DoesThere : Segments → Segments → PathEnd → Task → Option ErrorKind → Type 0
 DoesThere S R (AtPointer place) task r = (t : Tree) → IsStored S place.segment place.word t →
-    DoesAt S R place (made_at task (PointerTo t)) t r
+    DoesAt S R place (effect_of_task task (PointerTo t)) t r
 DoesThere S R (AtElement e) (InStruct (Bits n)) r = PutsBits S R e (bits_of n) r
 DoesThere S R (AtElement e) (InStruct (Content source)) r = FillsAt S R (struct_place e) source r
 DoesThere S R (AtElement e) task r = R ≡ S
@@ -271,7 +271,7 @@ pub record IsDoneAt (old new : View) (there : PathEnd) (task : Task) (r : Option
       IsRefusedAt old new task k there
   pub fits : FitsAt old task there → (k : ErrorKind) → r ≡ Some k → is_of_path k ≡ true
   pub nowhere : r ≡ Some NoSuchPlace → new ≡ old
-  pub taken : (r ≡ Some NoSuchPlace → ⊥) → TakesAt old new task r there
+  pub taken : (r ≡ Some NoSuchPlace → ⊥) → AllocatesAt old new task r there
 
 -- A call on a builder does a task at its pointer, and leaves the builder over the same arena.
 pub record IsDoneBy {A : Type 0} (view : A → View) (old new : PointerBuilder A) (task : Task)
@@ -287,7 +287,7 @@ pub record IsDoneBy {A : Type 0} (view : A → View) (old new : PointerBuilder A
 -- message has no root word. Otherwise it is refused only as the builder's call at the end of its
 -- path is, never for memory if that has room, and takes words as that call does.
 pub record IsStep (old new : View) (edit : Edit) (r : Option ErrorKind) : Type 0 where
-  pub applied : IsApplied (Takes edit r) old.words new.words
+  pub applied : IsApplied (EditTakes edit r) old.words new.words
   pub counted : new.refusals ≡ refusals_after r old.refusals
   pub path_end : Option PathEnd
   pub done : IfSome path_end (λ there. IfSome (task_of edit.op)
@@ -304,7 +304,7 @@ pub record IsStep (old new : View) (edit : Edit) (r : Option ErrorKind) : Type 0
   pub fits : IfSome path_end (λ there. IfSome (task_of edit.op) (λ task. FitsAt old task there)) →
       (k : ErrorKind) → r ≡ Some k → is_of_path k ≡ true
   pub taken : (r ≡ Some NoSuchPlace → ⊥) →
-      IfSome path_end (λ there. IfSome (task_of edit.op) (λ task. TakesAt old new task r there))
+      IfSome path_end (λ there. IfSome (task_of edit.op) (λ task. AllocatesAt old new task r there))
 
 -- From old to new the edits are such steps in order, each with its outcome.
 abbrev pub AreSteps : View → View → List Edit → List (Option ErrorKind) → Type 0

@@ -1,7 +1,7 @@
 //! Edits: changes of a message being built, described as data. Each has a path from the root
 //! pointer, and an operation to do at the end of the path.
 ghost use Rattle.std.specs.Prelude.{◌≡◌, length};
-ghost use Rattle.capnp_edits.specs.Edits.{refusal_of, IsApplied, TakesAll};
+ghost use Rattle.capnp_edits.specs.Edits.{refusal_of, IsApplied, EditsTake};
 ghost use Rattle.capnp_edits.specs.Steps.{IsStep, AreSteps};
 
 mod copying;
@@ -167,7 +167,7 @@ pub fn apply_all<A: BuilderArena>(
 )
     requires { length outcomes.old ≡ length edits.now }
     ensures steps { AreSteps (A.view arena.old) (A.view arena.new) edits.now outcomes.new }
-    ensures applied { IsApplied (TakesAll edits.now outcomes.new) (A.view arena.old).words
+    ensures applied { IsApplied (EditsTake edits.now outcomes.new) (A.view arena.old).words
         (A.view arena.new).words }
 {
     for (i, edit) in edits.iter().enumerate() {

@@ -3,7 +3,7 @@ use Rattle.std.proofs.Common.{◌≡◌, ℕ, ◌<◌, ◌≤◌, List, [], ◌�
 use Rattle.capnp_format.specs.Segments.{Segments, segment, AreWords}
 use Rattle.capnp_format.specs.Tree.{Tree, depth, capabilities}
 use Rattle.capnp_format.specs.Means.{Means}
-use Rattle.capnp_format.specs.Canonical.{trim, body, pointer, encoding, charge, IsEncodable, Reaches, Stands}
+use Rattle.capnp_format.specs.Canonical.{trim, body, pointer, encoding, charge, IsEncodable, Reaches, HasCanonicalAt}
 use Rattle.capnp_format.proofs.Bounds.{means_value}
 use Rattle.capnp_format.proofs.Levels.{one_value, other_levels, depth_within}
 use Rattle.capnp_format.proofs.LawLemmas.{canonical_cost, canonical_again, trim_keeps}
@@ -15,7 +15,7 @@ begins : (xs : List ℕ) (x : ℕ) (b : List ℕ) → 0 < length xs → get_or x
 begins [] x b l e f = absurd (omega arith)
 begins (y ∷ ys) x b l e f = ap₂ (λ i is. i ∷ is) e (sym (take-append-drop (length b) ys) ∙ ap (λ zs. zs ++ drop (length b) ys) f)
 
-pub tested_is_copied : (S : Segments) (n c : ℕ) (t u : Tree) → Stands S 0 0 1 t → Means S n 0 0 u c → (capabilities u ≡ 0) × (more : List ℕ) × (segment S 0 ≡ encoding (trim u) ++ more)
+pub tested_is_copied : (S : Segments) (n c : ℕ) (t u : Tree) → HasCanonicalAt S 0 0 1 t → Means S n 0 0 u c → (capabilities u ≡ 0) × (more : List ℕ) × (segment S 0 ≡ encoding (trim u) ++ more)
 tested_is_copied S n c t u a m =
     let there : 1 ≤ length (segment S 0) = omega (arith, a.0) in
     let same = (one_value S n (depth t) 0 0 u t c (charge t) m (stands_means S (depth t) 0 0 1 t (omega arith) there a)).0 in
@@ -24,7 +24,7 @@ tested_is_copied S n c t u a m =
     (ap capabilities same ∙ a.3, more, begins (segment S 0) (pointer t 0) (body t) there a.5.1 a.5.2 ∙ ap (λ x. encoding x ++ more) (sym kept))
 
 pub copied_is_found : (S : Segments) (n s p c : ℕ) (t : Tree) (more : List ℕ) → AreWords S → Means S n s p t c → capabilities t ≡ 0 → IsEncodable (trim t) →
-    Stands ((encoding (trim t) ++ more) ∷ []) 0 0 1 (trim t) × Means ((encoding (trim t) ++ more) ∷ []) n 0 0 (trim t) (charge (trim t)) × (charge (trim t) ≤ c) × (depth (trim t) ≤ n)
+    HasCanonicalAt ((encoding (trim t) ++ more) ∷ []) 0 0 1 (trim t) × Means ((encoding (trim t) ++ more) ∷ []) n 0 0 (trim t) (charge (trim t)) × (charge (trim t) ≤ c) × (depth (trim t) ≤ n)
 copied_is_found S n s p c t more w m free f =
     let k = trim_keeps t (means_value S n s p t c w m) in
     let b : List ℕ = body (trim t) in

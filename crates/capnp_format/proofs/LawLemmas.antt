@@ -10,7 +10,7 @@ use Rattle.capnp_format.specs.Tree.{Tree, Null, Capability, Struct, Flat, Pointe
 use Rattle.capnp_format.specs.Value.{IsValue}
 use Rattle.capnp_format.specs.Means.{Means}
 use Rattle.capnp_format.specs.Decode.{decode}
-use Rattle.capnp_format.specs.Canonical.{used_from, used_words, is_null, used_trees, data_width, pointer_width, trim, word_count, body, encoding, charge, IsEncodable, IsTrimmed, Stands}
+use Rattle.capnp_format.specs.Canonical.{used_from, used_words, is_null, used_trees, data_width, pointer_width, trim, word_count, body, encoding, charge, IsEncodable, IsTrimmed, HasCanonicalAt}
 use Rattle.capnp_format.specs.Forest.{IsForest, ArenaHolds}
 use Rattle.capnp_format.proofs.Levels.{other_levels, depth_within, one_value}
 use Rattle.capnp_format.proofs.Reading.{decode_finds}
@@ -97,7 +97,7 @@ empty_past S s h ws past e = sym e ∙ ap (take (length ws)) (drop_of_length-le 
 
 -- canonical words of t with the body at or after the end of their segment are also canonical words
 -- of t in a longer segment
-longer : {S : Segments} {s p h : ℕ} {t : Tree} → length (segment S s) ≤ h → Standing S s p h t → Stands ((segment S s ++ replicate h 0) ∷ []) 0 p h t
+longer : {S : Segments} {s p h : ℕ} {t : Tree} → length (segment S s) ≤ h → Standing S s p h t → HasCanonicalAt ((segment S s ++ replicate h 0) ∷ []) 0 p h t
 longer {S = S} {s = s} {p = p} {h = h} {t = t} past standing =
     let a = standing.stands in
     let R : Segments = (segment S s ++ replicate h 0) ∷ [] in
@@ -111,7 +111,7 @@ longer {S = S} {s = s} {p = p} {h = h} {t = t} past standing =
       (a.5.0, here ∙ a.5.1, subst (λ ws. HasWords R 0 h ws) (sym nothing) refl),
     )
 
-pub one_stands : (S : Segments) (s p h : ℕ) (t u : Tree) → Stands S s p h t → Stands S s p h u → t ≡ u
+pub one_stands : (S : Segments) (s p h : ℕ) (t u : Tree) → HasCanonicalAt S s p h t → HasCanonicalAt S s p h u → t ≡ u
 one_stands S s p h t u a b =
     let left : Standing S s p h t = record { stands = a } in
     let right : Standing S s p h u = record { stands = b } in

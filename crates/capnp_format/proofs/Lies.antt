@@ -7,7 +7,7 @@ use Rattle.capnp_format.specs.Numbers.{words_for, unpacked, packed, element_bits
 use Rattle.capnp_format.specs.Segments.{Segments, segment, word_at, words_at, HasWords, near, far, ◌>>=◌}
 use Rattle.capnp_format.specs.Tree.{Tree, Null, Capability, Struct, Flat, Pointers, Structs, Trees, no_trees, tree, Elements, no_elements, element, count, element_count, depth, depth_all, depth_elements}
 use Rattle.capnp_format.specs.Means.{Leads, StructAt, ListAt, IsTag, Means, MeansAll, MeansElements}
-use Rattle.capnp_format.specs.Canonical.{word_count, word_count_all, pointer, pointers, rows, body, bodies, element_bodies, ForOffset, OffsetsFit, RowsFit, IsEncodable, AreEncodable, AreEncodableElements, offset_to, Reaches, Lies, charge, charge_all, charge_elements}
+use Rattle.capnp_format.specs.Canonical.{word_count, word_count_all, pointer, pointers, rows, body, bodies, element_bodies, ForOffset, OffsetsFit, RowsFit, IsEncodable, AreEncodable, AreEncodableElements, offset_to, Reaches, HasBodyAt, charge, charge_all, charge_elements}
 use Rattle.capnp_format.specs.Value.{AreBelow, IsValue, AreValues, AreElements}
 use Rattle.capnp_format.proofs.Digits.{length-digits, digits-from_digits, from_digits-below, from_digits-digits}
 use Rattle.capnp_format.proofs.Lengths.{length-body, length-bodies, length-pointers, length-rows}
@@ -117,7 +117,7 @@ tag_is n d q a b c = record { is_struct = omega arith; counts = omega arith; dat
 pub record LiesAt (S : Segments) (s p h : ℕ) (t : Tree) : Type 0 where
   pub place : p < length (segment S s)
   pub inside : h ≤ length (segment S s)
-  pub lies : Lies S s p h t
+  pub lies : HasBodyAt S s p h t
 
 -- the children mean ts with one level less than n
 record InnerMeant (S : Segments) (n s p : ℕ) (ts : Trees) (c : ℕ) : Type 0 where

@@ -2,7 +2,7 @@
 use Rattle.std.proofs.Common.{◌≡◌, ℕ, ◌≤◌, List, [], ◌∷◌, ◌++◌, length, refl, subst, arith, take_at}
 use Rattle.capnp_format.specs.Segments.{Segments, segment}
 use Rattle.capnp_format.specs.Tree.{Tree, Null, Capability, Struct, Flat, Pointers, Structs, no_trees, tree, depth}
-use Rattle.capnp_format.specs.Canonical.{body, encoding, ForOffset, IsEncodable, Reaches, Stands, charge}
+use Rattle.capnp_format.specs.Canonical.{body, encoding, ForOffset, IsEncodable, Reaches, HasCanonicalAt, charge}
 use Rattle.capnp_format.specs.Value.{IsValue}
 use Rattle.capnp_format.specs.Means.{Means}
 use Rattle.capnp_format.proofs.Lies.{LiesAt, lies_means}
@@ -43,14 +43,14 @@ one_encoding {ws = ws} {t = t} {u = u} a b =
     (subst (λ vs. Means (vs ∷ []) (depth u) 0 0 u (charge u)) b.begins (encoding_means u b.more b.is_value b.encodable))).0
 
 -- a place with canonical words of t means t, at t's cost
-pub stands_means : (S : Segments) (n s p h : ℕ) (t : Tree) → depth t ≤ n → h ≤ length (segment S s) → Stands S s p h t → Means S n s p t (charge t)
+pub stands_means : (S : Segments) (n s p h : ℕ) (t : Tree) → depth t ≤ n → h ≤ length (segment S s) → HasCanonicalAt S s p h t → Means S n s p t (charge t)
 stands_means S n s p h t levels l a =
     let at : LiesAt S s p h t = record { place = a.0; inside = l; lies = a.5 } in
     lies_means n t a.1 a.4 levels at
 
 -- S has canonical words of t at (s, p), with the body at h
 pub record Standing (S : Segments) (s p h : ℕ) (t : Tree) : Type 0 where
-  pub stands : Stands S s p h t
+  pub stands : HasCanonicalAt S s p h t
 
 -- a place has canonical words of at most one value
 pub one_stands : {S : Segments} {s p h : ℕ} {t u : Tree} → h ≤ length (segment S s) → Standing S s p h t → Standing S s p h u → t ≡ u

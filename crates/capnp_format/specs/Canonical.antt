@@ -205,8 +205,8 @@ abbrev pub IsTrimmed : Tree → Type 0
 IsTrimmed t = trim t ≡ t
 
 -- The value has no capability inside ("Canonicalization").
-abbrev pub IsFree : Tree → Type 0
-IsFree t = capabilities t ≡ 0
+abbrev pub HasNoCapabilities : Tree → Type 0
+HasNoCapabilities t = capabilities t ≡ 0
 
 -- The 30 bits of the offset from the word after position p to position h.
 abbrev pub offset_to : ℕ → ℕ → ℕ
@@ -218,15 +218,16 @@ Reaches p h = (h < p + 1 + 2 ^ 29) × (p + 1 ≤ h + 2 ^ 29)
 
 -- S has the pointer of t at (s, p), with an offset that fits, and the body of t where that leads,
 -- at position h of segment s.
-abbrev pub Lies : Segments → ℕ → ℕ → ℕ → Tree → Type 0
-Lies S s p h t = ForOffset t (Reaches p h) × (word_at S s p ≡ pointer t (offset_to p h)) ×
+abbrev pub HasBodyAt : Segments → ℕ → ℕ → ℕ → Tree → Type 0
+HasBodyAt S s p h t = ForOffset t (Reaches p h) × (word_at S s p ≡ pointer t (offset_to p h)) ×
     HasWords S s h (body t)
 
 -- S has canonical words of t at (s, p), with the body at position h of segment s; t is a value that
 -- is trimmed and encodable and has no capabilities. In a canonical message such a t is at the root,
 -- with its body directly after the root.
-abbrev pub Stands : Segments → ℕ → ℕ → ℕ → Tree → Type 0
-Stands S s p h t = IsPlace S s p × IsValue t × IsTrimmed t × IsFree t × IsEncodable t × Lies S s p h t
+abbrev pub HasCanonicalAt : Segments → ℕ → ℕ → ℕ → Tree → Type 0
+HasCanonicalAt S s p h t = IsPlace S s p × IsValue t × IsTrimmed t × HasNoCapabilities t
+    × IsEncodable t × HasBodyAt S s p h t
 
 -- The cost of reading a value in this form, with near pointers and exact claims.
 abbrev mutual

@@ -15,7 +15,7 @@ ghost use Rattle.capnp_format.specs.Tree.{Tree, Trees, Elements, HasElement, Are
 ghost use Rattle.capnp_format.specs.Value.{IsValue};
 ghost use Rattle.capnp_format.specs.Means.{Means};
 ghost use Rattle.capnp_format.specs.Decode.{decode};
-ghost use Rattle.capnp_format.specs.Canonical.{used_words, used_trees, data_width, pointer_width, trim, word_count, body, encoding, charge, IsEncodable, IsTrimmed, Stands};
+ghost use Rattle.capnp_format.specs.Canonical.{used_words, used_trees, data_width, pointer_width, trim, word_count, body, encoding, charge, IsEncodable, IsTrimmed, HasCanonicalAt};
 ghost use Rattle.capnp_format.specs.Forest.{times, cover, ArenaHolds};
 
 pub use examples::worked_examples;
@@ -70,14 +70,15 @@ pub fn canonical_words_mean()
     ensures alone { (t : Tree) (more : List ℕ) (n : ℕ) → IsValue t → IsEncodable t → depth t ≤ n
         → Means ((encoding t ++ more) ∷ []) n 0 0 t (charge t) }
     ensures anywhere { (S : Segments) (n s p h : ℕ) (t : Tree) → depth t ≤ n
-        → h ≤ length (segment S s) → Stands S s p h t → Means S n s p t (charge t) }
+        → h ≤ length (segment S s) → HasCanonicalAt S s p h t → Means S n s p t (charge t) }
 {}
 
 /// At most one value has its canonical pointer at place (s, p) and its body at position h of
 /// segment s.
 #[tactic(auto, using(crate::proofs::LawLemmas::one_stands))]
 pub fn one_stands()
-    ensures { (S : Segments) (s p h : ℕ) (t u : Tree) → Stands S s p h t → Stands S s p h u
+    ensures { (S : Segments) (s p h : ℕ) (t u : Tree) → HasCanonicalAt S s p h t
+        → HasCanonicalAt S s p h u
         → t ≡ u }
 {}
 
@@ -190,7 +191,7 @@ pub fn one_arena_value()
 /// capability, and its canonical words are a prefix of the first segment.
 #[tactic(auto, using(crate::proofs::Agreements::tested_is_copied))]
 pub fn tested_is_copied()
-    ensures { (S : Segments) (n c : ℕ) (t u : Tree) → Stands S 0 0 1 t → Means S n 0 0 u c
+    ensures { (S : Segments) (n c : ℕ) (t u : Tree) → HasCanonicalAt S 0 0 1 t → Means S n 0 0 u c
         → (capabilities u ≡ 0) × (more : List ℕ) × (segment S 0 ≡ encoding (trim u) ++ more) }
 {}
 
@@ -202,7 +203,7 @@ pub fn tested_is_copied()
 pub fn copied_is_tested()
     ensures found { (S : Segments) (n s p c : ℕ) (t : Tree) (more : List ℕ) → AreWords S
         → Means S n s p t c → capabilities t ≡ 0 → IsEncodable (trim t)
-        → Stands ((encoding (trim t) ++ more) ∷ []) 0 0 1 (trim t)
+        → HasCanonicalAt ((encoding (trim t) ++ more) ∷ []) 0 0 1 (trim t)
         × Means ((encoding (trim t) ++ more) ∷ []) n 0 0 (trim t) (charge (trim t))
         × (charge (trim t) ≤ c)
         × (depth (trim t) ≤ n) }

@@ -8,7 +8,7 @@ use Rattle.capnp_words.specs.declared.error.ErrorKind.TheVariants.{MessageTooLar
 use Rattle.capnp_format.specs.Segments.{Segments}
 use Rattle.capnp_format.specs.Bytes.{message}
 use Rattle.capnp_format.specs.Tree.{Tree, depth}
-use Rattle.capnp_format.specs.Canonical.{charge, Stands}
+use Rattle.capnp_format.specs.Canonical.{charge, HasCanonicalAt}
 use Rattle.capnp_words.specs.Meter.{Meter, FitsIn, unused}
 use Rattle.capnp_arena_traits.specs.Limits.{IsSmall}
 use Rattle.capnp_arena.specs.declared.arena.reader_arena_impl.ReaderOptions.{ReaderOptions}
@@ -34,10 +34,10 @@ digits_of (w ∷ ws) = word_digits w ++ digits_of ws
 -- root pointer.
 abbrev pub CheckOf : Segments → ReaderOptions → Bool → Type 0
 CheckOf S options true =
-    (t : Tree) × Stands S 0 0 1 t × (depth t ≤ levels options.nesting_limit)
+    (t : Tree) × HasCanonicalAt S 0 0 1 t × (depth t ≤ levels options.nesting_limit)
     × FitsIn options.traversal_limit_in_words (1 + charge t)
 CheckOf S options false =
-    CoversRoot S options.traversal_limit_in_words × ((t : Tree) → Stands S 0 0 1 t → ⊥)
+    CoversRoot S options.traversal_limit_in_words × ((t : Tree) → HasCanonicalAt S 0 0 1 t → ⊥)
 
 -- A command refuses the message S with k: its canonical copy, the test for canonical form at its
 -- root, or its size is refused.

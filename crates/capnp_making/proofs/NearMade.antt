@@ -8,7 +8,7 @@ use Rattle.capnp_words.specs.declared.wire_pointer.StructSize.{StructSize}
 use Rattle.capnp_arena_traits.specs.View.{View}
 use Rattle.capnp_arena_traits.specs.Written.{with_word, extended}
 use Rattle.capnp_making.specs.Made.{words_of_zero, list_words}
-use Rattle.capnp_making.specs.Near.{HasOwnRoom, offset_behind, with_object}
+use Rattle.capnp_making.specs.Near.{HasOwnRoom, offset_to_end, with_object}
 
 -- Segment id has room for a struct with at least one word; or for a list of n structs.
 abbrev pub HasStructRoom : View → ℕ → StructSize → Type 0
@@ -22,16 +22,16 @@ HasStructsRoom v id n size = HasOwnRoom v id (1 + n * (size.data_words + size.po
 -- its pointer.
 abbrev pub with_struct : Segments → ℕ → ℕ → StructSize → Segments
 with_struct S id p size =
-    with_object S id p (struct_word (offset_behind S id p) size.data_words size.pointers)
+    with_object S id p (struct_word (offset_to_end S id p) size.data_words size.pointers)
     (words_of_zero (size.data_words + size.pointers))
 
 abbrev pub with_list : Segments → ℕ → ℕ → ℕ → ℕ → Segments
 with_list S id p size n =
-    with_object S id p (list_word (offset_behind S id p) size n) (words_of_zero (list_words size n))
+    with_object S id p (list_word (offset_to_end S id p) size n) (words_of_zero (list_words size n))
 
 abbrev pub with_struct_list : Segments → ℕ → ℕ → ℕ → StructSize → Segments
 with_struct_list S id p n size =
-    with_object S id p (list_word (offset_behind S id p) 7 (n * (size.data_words + size.pointers)))
+    with_object S id p (list_word (offset_to_end S id p) 7 (n * (size.data_words + size.pointers)))
     (struct_word n size.data_words size.pointers
     ∷ words_of_zero (n * (size.data_words + size.pointers)))
 

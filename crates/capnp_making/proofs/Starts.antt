@@ -4,12 +4,12 @@ use Rattle.capnp_words.specs.declared.error.ErrorKind.{ErrorKind}
 use Rattle.capnp_format.specs.Forest.{target_in}
 use Rattle.capnp_arena_traits.specs.View.{View}
 use Rattle.capnp_making.specs.Makes.{IsMadeAt, ObjectStartsAt, call_at}
-use Rattle.capnp_making.specs.Memory.{StandsBehind}
+use Rattle.capnp_making.specs.Memory.{ComesAfter}
 use Rattle.capnp_making.specs.declared.making.Shape.{Shape}
 use Rattle.capnp_arena_traits.specs.declared.arena.WordPlace.{WordPlace}
 
 -- What is made at a place starts where its pointer leads.
-pub made_starts : (result : Result WordPlace ErrorKind) (old new : View) (id at n : ℕ) (shape : Shape) → IfOk result (IsMadeAt (call_at id at old new) shape n) → IfOk result (StandsBehind old id n) → IfOk result (ObjectStartsAt (call_at id at old new) n)
+pub made_starts : (result : Result WordPlace ErrorKind) (old new : View) (id at n : ℕ) (shape : Shape) → IfOk result (IsMadeAt (call_at id at old new) shape n) → IfOk result (ComesAfter old id n) → IfOk result (ObjectStartsAt (call_at id at old new) n)
 made_starts (Ok h) old new id at n shape (a, m, is, is_segment, is_start) behind =
     let same = ap target_in m.leads_there.1 in
     record {

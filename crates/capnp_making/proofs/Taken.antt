@@ -9,8 +9,8 @@ use Rattle.capnp_arena_traits.specs.Written.{extended}
 use Rattle.capnp_format.specs.Forest.{target}
 use Rattle.capnp_making.specs.Made.{LeadsToStart}
 use Rattle.capnp_making.specs.Makes.{call_at}
-use Rattle.capnp_making.specs.Memory.{Lengthens, IsNextRoom, TakesWords, StandsBehind, start_of}
-use Rattle.capnp_making.specs.Near.{HasOwnRoom, StartsBehind, LeadsToEnd}
+use Rattle.capnp_making.specs.Memory.{Lengthens, IsNextRoom, TakesWords, ComesAfter, start_of}
+use Rattle.capnp_making.specs.Near.{HasOwnRoom, StartsAtEnd, LeadsToEnd}
 use Rattle.capnp_making.specs.Zeroed.{IsPruned}
 use Rattle.capnp_arena_traits.specs.declared.arena.WordPlace.{WordPlace}
 use Rattle.capnp_making.proofs.Zeros.{segment_here, segment_other}
@@ -121,7 +121,7 @@ takes_after old mid new id n limits pruned x =
       far = λ full. (let (k, next, long) = x.far (omega (arith, same, pruned.words id)) in (k, next_room_before old mid (n + 1) k limits pruned next, lengthens_after old.words mid.words new.words k (n + 1) pruned long));
     }
 
-pub stands_after : (old mid : View) (id n : ℕ) (h : WordPlace) → KeepsLimits old mid → IsPruned old.words mid.words → StandsBehind mid id n h → StandsBehind old id n h
+pub stands_after : (old mid : View) (id n : ℕ) (h : WordPlace) → KeepsLimits old mid → IsPruned old.words mid.words → ComesAfter mid id n h → ComesAfter old id n h
 stands_after old mid id n h limits pruned x =
     let same : mid.room id ≡ old.room id = ap (λ (v : View). v.room id) limits in
     record {
@@ -134,15 +134,15 @@ ends_after old mid id n limits pruned fits =
     let same : mid.room id ≡ old.room id = ap (λ (v : View). v.room id) limits in
     omega (arith, fits, same, pruned.words id)
 
-pub starts_after : (S M : Segments) (id : ℕ) (h : WordPlace) → IsPruned S M → StartsBehind M id h → StartsBehind S id h
+pub starts_after : (S M : Segments) (id : ℕ) (h : WordPlace) → IsPruned S M → StartsAtEnd M id h → StartsAtEnd S id h
 starts_after S M id h pruned x = (x.0, x.1 ∙ pruned.words id)
 
 -- An object starts where the pointer to it leads.
 start_led : (S : Segments) (s p : ℕ) (h : WordPlace) → LeadsToStart S s p h → h ≡ start_of (target S s p)
 start_led S s p h lead = ap₂ (λ (u b : ℕ). let x : WordPlace = record { segment = u; at = b } in x) lead.0 lead.1
 
-pub leads_behind : (old new : View) (id at n : ℕ) (h : WordPlace) → LeadsToStart new.words id at h → StandsBehind old id n h → StandsBehind old id n (start_of (target new.words id at))
-leads_behind old new id at n h lead x = subst (StandsBehind old id n) (start_led new.words id at h lead) x
+pub leads_behind : (old new : View) (id at n : ℕ) (h : WordPlace) → LeadsToStart new.words id at h → ComesAfter old id n h → ComesAfter old id n (start_of (target new.words id at))
+leads_behind old new id at n h lead x = subst (ComesAfter old id n) (start_led new.words id at h lead) x
 
-pub leads_to_end : (old new : View) (id at n : ℕ) (h : WordPlace) → LeadsToStart new.words id at h → (HasOwnRoom old id n → StartsBehind old.words id h) → LeadsToEnd (call_at id at old new) n
-leads_to_end old new id at n h lead x = λ fits. subst (StartsBehind old.words id) (start_led new.words id at h lead) (x fits)
+pub leads_to_end : (old new : View) (id at n : ℕ) (h : WordPlace) → LeadsToStart new.words id at h → (HasOwnRoom old id n → StartsAtEnd old.words id h) → LeadsToEnd (call_at id at old new) n
+leads_to_end old new id at n h lead x = λ fits. subst (StartsAtEnd old.words id) (start_led new.words id at h lead) (x fits)

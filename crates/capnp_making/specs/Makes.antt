@@ -8,7 +8,7 @@ use Rattle.capnp_format.specs.Tree.{Tree, Null}
 use Rattle.capnp_arena_traits.specs.View.{View}
 use Rattle.capnp_making.specs.Made.{LeadsToStart, IsMade, IsShape}
 use Rattle.capnp_arena_traits.specs.Taking.{IsFirstFit}
-use Rattle.capnp_making.specs.Memory.{HasRoom, KeepsMemory, TakesWords, StandsBehind, start_of, IsRefusedFor}
+use Rattle.capnp_making.specs.Memory.{HasRoom, KeepsMemory, TakesWords, ComesAfter, start_of, IsRefusedFor}
 use Rattle.capnp_making.specs.Memory.{IsNextRoom, Lengthens}
 use Rattle.capnp_making.specs.Stored.{IsStored, Puts}
 use Rattle.capnp_making.specs.Zeroed.{IsPruned}
@@ -40,7 +40,7 @@ pub record MakesObject {A : Type 0} (result : Result A ErrorKind) (c : CallAt) (
     : Type 0 where
   pub made : OnOk result (Puts c.old.words c.new.words c.segment c.at t)
   pub behind :
-      OnOk result (StandsBehind c.old c.segment n (start_of (target c.new.words c.segment c.at)))
+      OnOk result (ComesAfter c.old c.segment n (start_of (target c.new.words c.segment c.at)))
   pub zeroed :
       OnOk result
       ((old : Tree) → IsStored c.old.words c.segment c.at old → (v r : ℕ) →
@@ -73,7 +73,7 @@ pub record ObjectStartsAt (c : CallAt) (n : ℕ) (h : WordPlace) : Type 0 where
   pub leads : LeadsToStart c.new.words c.segment c.at h
   pub inside : (h.segment < length c.new.words) ×
       (h.at + n ≤ length (segment c.new.words h.segment))
-  pub behind : StandsBehind c.old c.segment n h
+  pub behind : ComesAfter c.old c.segment n h
 
 -- A call that doesn't keep its arena is described by an arena that it reached (`now`): there it
 -- found what `Does` states, and its result matches that by `Gives`; or it is refused with the same

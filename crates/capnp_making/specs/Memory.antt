@@ -34,7 +34,7 @@ pub record TakesWords (old new : View) (id n : ℕ) : Type 0 where
 
 -- n words from h on come after all that were there: in segment id if it had room for them;
 -- otherwise behind a landing pad in the next segment that had room.
-pub record StandsBehind (old : View) (id n : ℕ) (h : WordPlace) : Type 0 where
+pub record ComesAfter (old : View) (id n : ℕ) (h : WordPlace) : Type 0 where
   pub near : 0 < n → length (segment old.words id) + n ≤ old.room id → (h.segment ≡ id) ×
       (h.at ≡ length (segment old.words id))
   pub far : old.room id < length (segment old.words id) + n → IsNextRoom old (n + 1) h.segment ×

@@ -18,18 +18,18 @@ abbrev pub HasOwnRoom : View → ℕ → ℕ → Type 0
 HasOwnRoom v id n = length (segment v.words id) + n ≤ v.room id
 
 -- An object starts at the end of segment id in S.
-abbrev pub StartsBehind : Segments → ℕ → WordPlace → Type 0
-StartsBehind S id h = (h.segment ≡ id) × (h.at ≡ length (segment S id))
+abbrev pub StartsAtEnd : Segments → ℕ → WordPlace → Type 0
+StartsAtEnd S id h = (h.segment ≡ id) × (h.at ≡ length (segment S id))
 
 -- The call makes an object of n words, perhaps 0, for the pointer. If the pointer's segment has
 -- room for them, the object starts at the end of that segment's old words.
 abbrev pub LeadsToEnd : CallAt → ℕ → Type 0
 LeadsToEnd c n = HasOwnRoom c.old c.segment n →
-    StartsBehind c.old.words c.segment (start_of (target c.new.words c.segment c.at))
+    StartsAtEnd c.old.words c.segment (start_of (target c.new.words c.segment c.at))
 
 -- The offset from a pointer at position p to the end of segment id.
-abbrev pub offset_behind : Segments → ℕ → ℕ → ℕ
-offset_behind S id p = offset_to p (length (segment S id))
+abbrev pub offset_to_end : Segments → ℕ → ℕ → ℕ
+offset_to_end S id p = offset_to p (length (segment S id))
 
 -- S with the word x at position p of segment id, and ws appended to that segment.
 abbrev pub with_object : Segments → ℕ → ℕ → ℕ → List ℕ → Segments

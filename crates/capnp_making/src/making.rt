@@ -18,8 +18,8 @@ ghost use Rattle.capnp_arena_traits.specs.Taking.{IsFirstFit};
 ghost use Rattle.capnp_arena_traits.specs.View.{KeepsLimits};
 ghost use Rattle.capnp_making.specs.Made.{IsShape, CountFits, AsksWords, zero_struct, zero_structs, zero_list, list_words, words_of_zero};
 ghost use Rattle.capnp_making.specs.Makes.{Allocates, IsMadeAt, MakesFar, ObjectStartsAt, call_at};
-ghost use Rattle.capnp_making.specs.Memory.{KeepsMemory, IsNextRoom, Lengthens, StandsBehind, IsRefusedFor};
-ghost use Rattle.capnp_making.specs.Near.{HasOwnRoom, StartsBehind, offset_behind, shape_word, with_object};
+ghost use Rattle.capnp_making.specs.Memory.{KeepsMemory, IsNextRoom, Lengthens, ComesAfter, IsRefusedFor};
+ghost use Rattle.capnp_making.specs.Near.{HasOwnRoom, StartsAtEnd, offset_to_end, shape_word, with_object};
 ghost use Rattle.capnp_making.specs.declared.making.Shape.TheVariants.{Struct as StructShape, List as ListShape};
 ghost use Rattle.capnp_making.specs.Stored.{IsReplaced, Puts};
 ghost use Rattle.capnp_making.specs.Zeroed.{IsPruned};
@@ -81,14 +81,14 @@ fn put_object<A: BuilderArena>(
         (IsMadeAt (call_at id at (A.view arena.old) (A.view arena.new)) shape amount) }
     ensures memory { Allocates result (call_at id at (A.view arena.old) (A.view arena.new))
         amount }
-    ensures behind { IfOk result (StandsBehind (A.view arena.old) id amount) }
+    ensures behind { IfOk result (ComesAfter (A.view arena.old) id amount) }
     ensures near { HasOwnRoom (A.view arena.old) id amount
         → OnOk result
         ((A.view arena.new).words ≡ with_object (A.view arena.old).words id at
-        (shape_word shape (offset_behind (A.view arena.old).words id at))
+        (shape_word shape (offset_to_end (A.view arena.old).words id at))
         (words_of_zero amount)) }
     ensures at_end { HasOwnRoom (A.view arena.old) id amount
-        → IfOk result (StartsBehind (A.view arena.old).words id) }
+        → IfOk result (StartsAtEnd (A.view arena.old).words id) }
     ensures refused { OnErr result ((A.view arena.new).words ≡ (A.view arena.old).words) }
 {
     match arena.allocate(id, amount) {
@@ -174,7 +174,7 @@ pub fn make_struct<A: BuilderArena>(
         × HasOwnRoom (A.view arena.old) id (size.data_words + size.pointers)
         → OnOk result
         ((A.view arena.new).words ≡ with_object (A.view arena.old).words id at
-        (shape_word (StructShape size) (offset_behind (A.view arena.old).words id at))
+        (shape_word (StructShape size) (offset_to_end (A.view arena.old).words id at))
         (words_of_zero (size.data_words + size.pointers))) }
     ensures empty { size.data_words + size.pointers ≡ 0
         → OnOk result
@@ -216,10 +216,10 @@ pub fn make_list<A: BuilderArena>(
     ensures near { HasOwnRoom (A.view arena.old) id (list_words (size_number size) count)
         → OnOk result
         ((A.view arena.new).words ≡ with_object (A.view arena.old).words id at
-        (shape_word (ListShape size count) (offset_behind (A.view arena.old).words id at))
+        (shape_word (ListShape size count) (offset_to_end (A.view arena.old).words id at))
         (words_of_zero (list_words (size_number size) count))) }
     ensures at_end { HasOwnRoom (A.view arena.old) id (list_words (size_number size) count)
-        → IfOk result (StartsBehind (A.view arena.old).words id) }
+        → IfOk result (StartsAtEnd (A.view arena.old).words id) }
     ensures refused { OnErr result ((A.view arena.new).words ≡ (A.view arena.old).words) }
 {
     let words = words_of_list(size, count);
@@ -266,7 +266,7 @@ pub fn make_struct_list<A: BuilderArena>(
         (1 + count * (size.data_words + size.pointers))
         → OnOk result
         ((A.view arena.new).words ≡ with_object (A.view arena.old).words id at
-        (list_word (offset_behind (A.view arena.old).words id at) 7
+        (list_word (offset_to_end (A.view arena.old).words id at) 7
         (count * (size.data_words + size.pointers)))
         (struct_word count size.data_words size.pointers
         ∷ words_of_zero (count * (size.data_words + size.pointers)))) }

@@ -6,7 +6,7 @@ use Rattle.capnp_words.specs.declared.error.ErrorKind.TheVariants.{AllocationFai
 use Rattle.capnp_format.specs.Segments.{Segments, IsPlace, segment, word_at}
 use Rattle.capnp_words.specs.Meter.{Meter, unused, less, FitsIn}
 use Rattle.capnp_objects.specs.Refusals.{Refused}
-use Rattle.capnp_objects.specs.Reading.{Reading, behind, segment_read, words_from}
+use Rattle.capnp_objects.specs.Reading.{Reading, place_past, segment_read, words_from}
 use Rattle.capnp_objects.specs.Wanted.{canonical}
 use Rattle.capnp_objects.proofs.Limits.{not_for_memory, not_for_size}
 use Rattle.capnp_format.specs.Canonical.{encoding, trim, word_count}
@@ -15,7 +15,7 @@ use Rattle.capnp_format.proofs.Trimming.{used_words-le}
 use Rattle.capnp_format.proofs.Levels.{one_value}
 use Rattle.std.proofs.lemmas.Bool.{cases_lt}
 use Rattle.capnp_making.specs.Memory.{KeepsMemory}
-use Rattle.capnp_copies.specs.Changes.{ComesToObject, MakesCopy, StopsCopy, change}
+use Rattle.capnp_copies.specs.Changes.{ComesToObject, MakesCopy, StopsCopy, copy_call}
 use Rattle.capnp_copies.specs.Originals.{value_original}
 use Rattle.capnp_copies.proofs.Copying.{fresh_made}
 use Rattle.capnp_copies.proofs.ElementsLaid.{one_row}
@@ -49,7 +49,7 @@ end_reads (to_element r d q) m m' t there reads = (there, reads)
 
 -- a copy to the root is the whole message, if the message has one segment afterwards
 pub end_copied : (e : PathEnd) (left : Option ℕ) (old made : View) (l m : Meter) → IsEndThere e → old.words ≡ (0 ∷ []) ∷ [] → l ≡ unused left →
-    MakesCopy (end_original e) (change canonical (call_at 0 0 old made) l m) → (t : Tree) × EndReads e (unused left) m t × (length made.words ≡ 1 → HoldsCanonicalWords made t)
+    MakesCopy (end_original e) (copy_call canonical (call_at 0 0 old made) l m) → (t : Tree) × EndReads e (unused left) m t × (length made.words ≡ 1 → HoldsCanonicalWords made t)
 end_copied e left old made l m there fresh begun copied =
     let t = copied.value in
     let place = root_there old.words fresh in
@@ -64,11 +64,11 @@ one_end_value : (e : PathEnd) (l m : Meter) (t u : Tree) (c : ℕ) → EndReads 
 one_end_value (to_pointer r) l m t u c reads means = (one_value r.segments r.levels r.levels r.segment r.at t u reads.cost c reads.means means).0
 one_end_value (to_element r d q) l m t u c (there, (ts, is, counts, reads)) (ws, us, is_too, long, many, here, means) =
     let words : words_from r d ≡ ws = ap (λ n. words_from r n) (sym long) ∙ here in
-    is ∙ ap₂ (λ vs rest. Struct vs rest) words (one_row (behind r d) ts us (reads.cost, reads.means) (c, means) (counts ∙ sym many)) ∙ sym is_too
+    is ∙ ap₂ (λ vs rest. Struct vs rest) words (one_row (place_past r d) ts us (reads.cost, reads.means) (c, means) (counts ∙ sym many)) ∙ sym is_too
 
 -- if it has more, not all words fit in the first
 pub end_spread : (e : PathEnd) (old new : View) (l m : Meter) → IsEndThere e → old.words ≡ (0 ∷ []) ∷ [] →
-    MakesCopy (end_original e) (change canonical (call_at 0 0 old new) l m) → (length new.words ≡ 1) ⊎ EndNeedsMoreRoom e (old.room 0)
+    MakesCopy (end_original e) (copy_call canonical (call_at 0 0 old new) l m) → (length new.words ≡ 1) ⊎ EndNeedsMoreRoom e (old.room 0)
 end_spread e old new l m there fresh copied =
     let t = copied.value in
     let reads : EndReads e l m t = end_reads e l m t there copied.is_read in
@@ -88,7 +88,7 @@ kept_room old new fresh kept =
 
 -- why a copy to the root of a fresh message is refused
 refused_pointer : (r : Reading) (left : Option ℕ) (old new : View) (l m : Meter) (t : Tree) (k : ErrorKind) → old.words ≡ (0 ∷ []) ∷ [] → l ≡ unused left →
-    StopsCopy (value_original r) (change canonical (call_at 0 0 old new) l m) t k → RefusesCopyAnywhere r left (old.room 0) k
+    StopsCopy (value_original r) (copy_call canonical (call_at 0 0 old new) l m) t k → RefusesCopyAnywhere r left (old.room 0) k
 refused_pointer r left old new l m t k fresh begun stop =
     let used : length (segment old.words 0) ≡ 1 = ap length (root_alone old.words fresh) in
     elim stop.why [
@@ -105,27 +105,27 @@ refused_pointer r left old new l m t k fresh begun stop =
 
 -- the same of a copy of what a pointer means
 pub made_copy : (r : Reading) (left : Option ℕ) (old made : View) (l m : Meter) → old.words ≡ (0 ∷ []) ∷ [] → l ≡ unused left →
-    MakesCopy (value_original r) (change canonical (call_at 0 0 old made) l m) → (t : Tree) × Reads canonical r (unused left) m t × (length made.words ≡ 1 → HoldsCanonicalWords made t)
+    MakesCopy (value_original r) (copy_call canonical (call_at 0 0 old made) l m) → (t : Tree) × Reads canonical r (unused left) m t × (length made.words ≡ 1 → HoldsCanonicalWords made t)
 made_copy r left old made l m fresh begun copied = end_copied (to_pointer r) left old made l m tt fresh begun copied
 
 pub spread_copy : (r : Reading) (old new : View) (l m : Meter) → old.words ≡ (0 ∷ []) ∷ [] →
-    MakesCopy (value_original r) (change canonical (call_at 0 0 old new) l m) → (length new.words ≡ 1) ⊎ NeedsMoreRoom r (old.room 0)
+    MakesCopy (value_original r) (copy_call canonical (call_at 0 0 old new) l m) → (length new.words ≡ 1) ⊎ NeedsMoreRoom r (old.room 0)
 spread_copy r old new l m fresh copied = end_spread (to_pointer r) old new l m tt fresh copied
 
 pub refused_copy : (r : Reading) (left : Option ℕ) (old new : View) (l m : Meter) (k : ErrorKind) → old.words ≡ (0 ∷ []) ∷ [] → l ≡ unused left →
-    StopsCopy (value_original r) (change canonical (call_at 0 0 old new) l m) Null k → RefusesCopyAnywhere r left (old.room 0) k
+    StopsCopy (value_original r) (copy_call canonical (call_at 0 0 old new) l m) Null k → RefusesCopyAnywhere r left (old.room 0) k
 refused_copy r left old new l m k fresh begun stop = refused_pointer r left old new l m Null k fresh begun stop
 
 -- an element's words are too many for a room, if what is copied of it is too large
 element_needs : (r : Reading) (d q : ℕ) (used room : ℕ) → used ≡ 1 → ExceedsRoom canonical (end_original (to_element r d q)) used room → EndNeedsMoreRoom (to_element r d q) room
 element_needs r d q used room one large t c (ws, ts, is, long, many, here, means) =
-    let beyond = sections_beyond canonical (words_from r d) (behind r d) q used room large ts c many means in
+    let beyond = sections_beyond canonical (words_from r d) (place_past r d) q used room large ts c many means in
     let words : ws ≡ words_from r d = sym here ∙ ap (λ n. words_from r n) long in
     let same : word_count (trim t) ≡ word_count (trim (Struct (words_from r d) ts)) = ap (λ u. word_count (trim u)) (is ∙ ap (λ vs. Struct vs ts) words) in
     omega (arith, beyond, same, one)
 
 refused_element : (r : Reading) (d q : ℕ) (left : Option ℕ) (old new : View) (l m : Meter) (t : Tree) (k : ErrorKind) → IsElementPlace r d q → old.words ≡ (0 ∷ []) ∷ [] → l ≡ unused left →
-    StopsCopy (end_original (to_element r d q)) (change canonical (call_at 0 0 old new) l m) t k → RefusesEndCopyAnywhere (to_element r d q) left (old.room 0) k
+    StopsCopy (end_original (to_element r d q)) (copy_call canonical (call_at 0 0 old new) l m) t k → RefusesEndCopyAnywhere (to_element r d q) left (old.room 0) k
 refused_element r d q left old new l m t k there fresh begun stop =
     let used : length (segment old.words 0) ≡ 1 = ap length (root_alone old.words fresh) in
     elim stop.why [
@@ -145,7 +145,7 @@ refused_element r d q left old new l m t k there fresh begun stop =
     ]
 
 pub end_refused : (e : PathEnd) (left : Option ℕ) (old new : View) (l m : Meter) (t : Tree) (k : ErrorKind) → IsEndThere e → old.words ≡ (0 ∷ []) ∷ [] → l ≡ unused left →
-    StopsCopy (end_original e) (change canonical (call_at 0 0 old new) l m) t k → RefusesEndCopyAnywhere e left (old.room 0) k
+    StopsCopy (end_original e) (copy_call canonical (call_at 0 0 old new) l m) t k → RefusesEndCopyAnywhere e left (old.room 0) k
 end_refused (to_pointer r) left old new l m t k there fresh begun stop = refused_pointer r left old new l m t k fresh begun stop
 end_refused (to_element r d q) left old new l m t k there fresh begun stop = refused_element r d q left old new l m t k there fresh begun stop
 

@@ -10,8 +10,8 @@ use Rattle.capnp_framing.specs.Frames.{frame}
 use Rattle.capnp_framing.specs.declared.framing.frame_error.FrameError.{FrameError}
 use Rattle.capnp_framing.specs.declared.framing.frame_error.FrameError.TheVariants.{WriteFailed}
 use Rattle.capnp_objects.specs.Outcomes.{Reads, ReadsAll}
-use Rattle.capnp_objects.specs.Reading.{Reading, behind}
-use Rattle.capnp_objects.specs.Spending.{after, pointers_in, pointers_in_all}
+use Rattle.capnp_objects.specs.Reading.{Reading, place_past}
+use Rattle.capnp_objects.specs.Spending.{after_charge, pointers_in, pointers_in_all}
 use Rattle.capnp_objects.specs.Wanted.{canonical}
 use Rattle.capnp_messages.specs.CanonicalErrors.{IsLeftOf}
 use Rattle.capnp_messages.specs.EndValues.{EndReads}
@@ -51,7 +51,7 @@ same_left None = tt
 same_left (Some left) = omega arith
 
 -- a copy leaves at most as much of a limit as before
-left_within : (charging : Bool) (l : Option ℕ) (n p : ℕ) → Affords charging (unused l) n → IsLeftOf (after charging (unused l) n p).left l
+left_within : (charging : Bool) (l : Option ℕ) (n p : ℕ) → Affords charging (unused l) n → IsLeftOf (after_charge charging (unused l) n p).left l
 left_within true l n p covers = less_left l n covers
 left_within false l n p covers = same_left l
 
@@ -67,7 +67,7 @@ covered false old n covers = tt
 
 -- if `own` starts with what `old` has left, and `new` gets what `own` has left and counts its
 -- pointers, `new` has spent from `old` what `own` has spent
-settled_after : (charging : Bool) (old own new : Meter) (n p : ℕ) → own ≡ after charging (unused old.left) n p → new.left ≡ own.left → new.followed ≡ raised old.followed own.followed → new ≡ after charging old n p
+settled_after : (charging : Bool) (old own new : Meter) (n p : ℕ) → own ≡ after_charge charging (unused old.left) n p → new.left ≡ own.left → new.followed ≡ raised old.followed own.followed → new ≡ after_charge charging old n p
 settled_after true old own new n p spent left counted =
     let words = left ∙ ap (λ (m : Meter). m.left) spent in
     let pointers = counted ∙ ap (λ (m : Meter). raised old.followed m.followed) spent ∙ raised_together old.followed p in
@@ -87,7 +87,7 @@ settled (to_pointer r) old own new t rest counted reads = record {
   spent = settled_after r.charging old own new reads.cost (pointers_in t) reads.spent rest counted;
 }
 settled (to_element r d q) old own new t rest counted (there, (ts, is, counts, reads)) =
-    let all : ReadsAll canonical (behind r d) old new ts = record {
+    let all : ReadsAll canonical (place_past r d) old new ts = record {
       cost = reads.cost;
       means = reads.means;
       takes = reads.takes;

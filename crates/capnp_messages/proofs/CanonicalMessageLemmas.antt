@@ -6,7 +6,7 @@ use Rattle.capnp_format.specs.Bytes.{message}
 use Rattle.capnp_format.specs.Segments.{Segments, segment}
 use Rattle.capnp_format.specs.Tree.{Tree, depth}
 use Rattle.capnp_format.specs.Means.{Means}
-use Rattle.capnp_format.specs.Canonical.{Lies, Reaches, Stands, body, charge, encoding, pointer, word_count}
+use Rattle.capnp_format.specs.Canonical.{HasBodyAt, Reaches, HasCanonicalAt, body, charge, encoding, pointer, word_count}
 use Rattle.capnp_format.proofs.Lengths.{length-body}
 use Rattle.capnp_format.proofs.Unique.{for_offset, one_stands, stands_means}
 use Rattle.capnp_arena_traits.specs.Checks.{total_words}
@@ -36,7 +36,7 @@ all_words (x ∷ ws) vs w many first behind =
     ap (λ y. y ∷ ws) first ∙ ap (λ (ys : List ℕ). w ∷ ys) others
 
 -- canonical words from the root of the only segment to its end are a canonical message
-pub stands_alone : {S : Segments} {t : Tree} → length S ≡ 1 → Stands S 0 0 1 t → 1 + word_count t ≡ length (segment S 0) → IsCanonicalOf S t
+pub stands_alone : {S : Segments} {t : Tree} → length S ≡ 1 → HasCanonicalAt S 0 0 1 t → 1 + word_count t ≡ length (segment S 0) → IsCanonicalOf S t
 stands_alone {S} {t} one stands full = record {
   value = stands.1;
   trimmed = stands.2;
@@ -46,16 +46,16 @@ stands_alone {S} {t} one stands full = record {
 }
 
 -- a canonical message has canonical words at its root
-pub canonical_stands : {S : Segments} {t : Tree} → IsCanonicalOf S t → Stands S 0 0 1 t
+pub canonical_stands : {S : Segments} {t : Tree} → IsCanonicalOf S t → HasCanonicalAt S 0 0 1 t
 canonical_stands {t = t} canonical =
-    let lies : Lies (encoding t ∷ []) 0 0 1 t = (for_offset t (Reaches 0 1) (omega arith, omega arith), refl, take_all (length (body t)) (body t) (omega arith)) in
-    subst (λ (S : Segments). Stands S 0 0 1 t) (sym canonical.is) (omega arith, canonical.value, canonical.trimmed, canonical.free, canonical.encodable, lies)
+    let lies : HasBodyAt (encoding t ∷ []) 0 0 1 t = (for_offset t (Reaches 0 1) (omega arith, omega arith), refl, take_all (length (body t)) (body t) (omega arith)) in
+    subst (λ (S : Segments). HasCanonicalAt S 0 0 1 t) (sym canonical.is) (omega arith, canonical.value, canonical.trimmed, canonical.free, canonical.encodable, lies)
 
 pub canonical_length : {S : Segments} {t : Tree} → IsCanonicalOf S t → length (segment S 0) ≡ 1 + word_count t
 canonical_length {t = t} canonical = ap (λ (S : Segments). length (segment S 0)) canonical.is ∙ (let whole : length (encoding t) ≡ 1 + word_count t = omega (arith, length-body t canonical.value) in whole)
 
 -- canonical words are inside their segment
-within : (S : Segments) (t : Tree) → Stands S 0 0 1 t → 1 + word_count t ≤ length (segment S 0)
+within : (S : Segments) (t : Tree) → HasCanonicalAt S 0 0 1 t → 1 + word_count t ≤ length (segment S 0)
 within S t stands =
     let place : 0 < length (segment S 0) = stands.0 in
     let some : length (take (length (body t)) (drop 1 (segment S 0))) ≡ length (body t) = ap length stands.5.2 in

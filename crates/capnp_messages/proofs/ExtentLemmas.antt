@@ -12,7 +12,7 @@ use Rattle.capnp_objects.specs.Metered.{answer, onward}
 use Rattle.capnp_objects.specs.Outcomes.{Reads}
 use Rattle.capnp_objects.specs.Reading.{Reading}
 use Rattle.capnp_objects.specs.Source.{levels}
-use Rattle.capnp_objects.specs.Spending.{after, pointers_in}
+use Rattle.capnp_objects.specs.Spending.{after_charge, pointers_in}
 use Rattle.capnp_objects.specs.Values.{value}
 use Rattle.capnp_objects.specs.Wanted.{plain}
 use Rattle.capnp_objects.proofs.OneName.{reads_is}
@@ -66,7 +66,7 @@ is_sound : (S : Segments) (limits : ReaderOptions) → IsReadable S limits → I
 is_sound S limits h =
     let r : Reading = root_within S limits in
     let m : Meter = unused (left_of limits) in
-    let reads : Reads plain r m (after true m h.cost (pointers_in h.value)) h.value = record { cost = h.cost; means = h.means; takes = λ other. absurd (other refl); covers = covers_rest limits.traversal_limit_in_words h.cost h.covered; spent = refl } in
+    let reads : Reads plain r m (after_charge true m h.cost (pointers_in h.value)) h.value = record { cost = h.cost; means = h.means; takes = λ other. absurd (other refl); covers = covers_rest limits.traversal_limit_in_words h.cost h.covered; spent = refl } in
     subst (λ (x : Result MessageExtent ErrorKind). IsOk x) (sym (at_value S limits _ h.root (reads_is plain r m _ h.value reads))) refl
 
 -- What it means that a result has this form.

@@ -2,7 +2,7 @@
 use Rattle.std.proofs.Common.{◌≡◌, ◌⊎◌, inl, inr, ℕ, ◌+◌, ◌≤◌, List, [], ◌∷◌, length, drop, Bool, true, false, Option, Result, Ok, sym, ap, ◌∙◌, subst, arith, length-drop, length-take}
 use Rattle.capnp_words.specs.declared.error.ErrorKind.{ErrorKind}
 use Rattle.capnp_words.specs.Meter.{Affords, Meter, unused}
-use Rattle.capnp_format.specs.Canonical.{IsFree, encoding, trim, word_count}
+use Rattle.capnp_format.specs.Canonical.{HasNoCapabilities, encoding, trim, word_count}
 use Rattle.capnp_format.specs.Segments.{Segments}
 use Rattle.capnp_format.specs.Tree.{Tree}
 use Rattle.capnp_arena_traits.specs.Allocations.{max_segment_words}
@@ -27,7 +27,7 @@ record IsRead (e : PathEnd) (m : Meter) (t : Tree) : Type 0 where
   there : IsEndThere e
   cost : ℕ
   means : EndMeans e t cost
-  free : IsFree t
+  free : HasNoCapabilities t
   covered : Affords (end_place e).charging m cost
 
 end_read : (e : PathEnd) (m after : Meter) (t : Tree) → EndReads e m after t → IsRead e m t
@@ -38,7 +38,7 @@ end_read (to_element r d q) m after t (there, (ts, is, counts, read)) =
       there = there;
       cost = read.cost;
       means = (words_from r d, ts, is, long, counts, ap (λ n. words_from r n) long, read.means);
-      free = subst IsFree (sym is) (read.takes (λ e. absurd (cc e)));
+      free = subst HasNoCapabilities (sym is) (read.takes (λ e. absurd (cc e)));
       covered = read.covers;
     }
 
@@ -87,10 +87,10 @@ affords_left true m n h = h
 affords_left false m n h = h
 
 -- What means a value that can be read isn't refused.
-never_stopped : (e : PathEnd) (m after : Meter) (t : Tree) (k : ErrorKind) (c : ℕ) → EndMeans e t c → IsFree t → Affords (end_place e).charging m c → EndStops e m after k → ⊥
+never_stopped : (e : PathEnd) (m after : Meter) (t : Tree) (k : ErrorKind) (c : ℕ) → EndMeans e t c → HasNoCapabilities t → Affords (end_place e).charging m c → EndStops e m after k → ⊥
 never_stopped (to_pointer r) m after t k c means free covered stopped = (unreadable stopped).only t c means (λ _. free) covered
 never_stopped (to_element r d q) m after t k c (ws, ts, is, long, counts, here, means) free covered stopped =
-    (read_stop _ stopped.are_read stopped.fewer (unreadable stopped.stops)).only ts c counts means (λ _. subst IsFree is free) covered
+    (read_stop _ stopped.are_read stopped.fewer (unreadable stopped.stops)).only ts c counts means (λ _. subst HasNoCapabilities is free) covered
 
 -- The copy of a part isn't refused if its canonical words fit a segment.
 pub part_granted : (S : Segments) (limits : ReaderOptions) (path : List ℕ) (t : Tree) {k : ErrorKind} →

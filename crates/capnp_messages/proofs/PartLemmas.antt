@@ -10,14 +10,14 @@ use Rattle.capnp_format.specs.Tree.{Tree, Null, Capability, Struct, Flat, Pointe
 use Rattle.capnp_format.specs.Means.{IsTag, Means, MeansAll, MeansElements, count_cost}
 use Rattle.capnp_format.specs.Numbers.{words_for}
 use Rattle.capnp_format.specs.Path.{struct_at, tree_at}
-use Rattle.capnp_objects.specs.Demands.{Meets, claim, own, tag}
+use Rattle.capnp_objects.specs.Demands.{Meets, claimed_words, own_charge, tag}
 use Rattle.capnp_objects.specs.Enter.{Shape, capability, flat, nothing, pointers, read, shape, struct, structs}
 use Rattle.capnp_objects.specs.Faults.{LeadsTo}
 use Rattle.capnp_objects.specs.Metered.{fits, onward, outcome}
 use Rattle.capnp_objects.specs.Outcomes.{MeansThere}
-use Rattle.capnp_objects.specs.Reading.{Reading, behind}
+use Rattle.capnp_objects.specs.Reading.{Reading, place_past}
 use Rattle.capnp_objects.specs.Refusals.{Stopped, claim_exceeds, count_exceeds, exceeding, no_target}
-use Rattle.capnp_objects.specs.Spending.{Paid, after}
+use Rattle.capnp_objects.specs.Spending.{Paid, after_charge}
 use Rattle.capnp_objects.specs.Wanted.{FollowsTo, plain}
 use Rattle.capnp_objects.specs.declared.object.Purpose.TheVariants.{Value}
 use Rattle.capnp_objects.proofs.Budgets.{affords_none, affords_rest}
@@ -46,12 +46,12 @@ pads_exceed {r} {m} {a} {n = n} f least short =
     stops (λ h. short (affords_less r.charging m a.pads n least h))
     (no_target (exceeding f.0 (λ h. short (subst (Affords r.charging m) (pads_are r a f.1) h)) (record { covers = affords_none r.charging m; spent = refl }) refl))
 
-pub object_opens : (r : Reading) (m : Meter) (a : Target) → LeadsTo r a → Meets Value r.segments r.levels a → Opened r m (shape r.segments a) (own Value r.segments a)
+pub object_opens : (r : Reading) (m : Meter) (a : Target) → LeadsTo r a → Meets Value r.segments r.levels a → Opened r m (shape r.segments a) (own_charge Value r.segments a)
 object_opens r m a leads meets =
     let f = leads_to r a leads in
-    elim (affords_or_not r.charging m (own Value r.segments a)) [
-      | inl all ↦ opened (after r.charging m (own Value r.segments a) 1) (record { covers = all; spent = refl }) (entering_is Value r m _ a (record { follows = f; meets = meets; covers = all; spent = refl }))
-      | inr short ↦ elim (affords_or_not r.charging m (a.pads + claim a.word)) [
+    elim (affords_or_not r.charging m (own_charge Value r.segments a)) [
+      | inl all ↦ opened (after_charge r.charging m (own_charge Value r.segments a) 1) (record { covers = all; spent = refl }) (entering_is Value r m _ a (record { follows = f; meets = meets; covers = all; spent = refl }))
+      | inr short ↦ elim (affords_or_not r.charging m (a.pads + claimed_words a.word)) [
         | inl claimed ↦ stops short (count_exceeds a f meets short (record { covers = claimed; spent = refl }) refl)
         | inr over ↦ elim (affords_or_not r.charging m a.pads) [
           | inl pads ↦ stops short (claim_exceeds a f meets.levels meets.is_object meets.claims over (record { covers = pads; spent = refl }) refl)
@@ -64,7 +64,7 @@ capability_opens : (r : Reading) (m : Meter) (a : Target) → LeadsTo r a → a.
 capability_opens r m a leads low =
     let f = leads_to r a leads in
     elim (affords_or_not r.charging m a.pads) [
-      | inl pads ↦ opened (after r.charging m a.pads 1) (record { covers = pads; spent = refl }) (capability_is Value r a m (λ e. absurd (cc e)) f low pads)
+      | inl pads ↦ opened (after_charge r.charging m a.pads 1) (record { covers = pads; spent = refl }) (capability_is Value r a m (λ e. absurd (cc e)) f low pads)
       | inr none ↦ pads_exceed f (omega arith) none
     ]
 
@@ -154,7 +154,7 @@ flat_shape S a size small one is =
     rw (one, is, other, another) refl
 
 flat_cost : (r : Reading) (a : Target) (size : ℕ) {n c : ℕ} → size ≤ 5 → kind a.word ≡ 1 → element_size a.word ≡ size → list_count a.word ≡ n →
-    c ≡ a.pads + words_for size n + count_cost size n → own Value r.segments a ≤ c
+    c ≡ a.pads + words_for size n + count_cost size n → own_charge Value r.segments a ≤ c
 flat_cost r a size small one is counts g =
     rw (claim_list a.word size one is, claim_flat size (list_count a.word) small, extra_list Value r.segments a size one is, extra_flat Value r.segments a size small, counts) (omega (arith, g))
 
@@ -167,7 +167,7 @@ same_structs : {g n d q : ℕ} (a : Target) → IsTag g n d q →
 same_structs a t = rw (t.data_of, t.pointers, t.counts) refl
 
 structs_cost : (r : Reading) (a : Target) {n m : ℕ} (d q k : ℕ) {c : ℕ} → kind a.word ≡ 1 → element_size a.word ≡ 7 → IsTag (tag r.segments a) n d q → list_count a.word ≡ m →
-    c ≡ a.pads + (m + 1) + count_cost (d + q) n + k → own Value r.segments a + k ≡ c
+    c ≡ a.pads + (m + 1) + count_cost (d + q) n + k → own_charge Value r.segments a + k ≡ c
 structs_cost r a d q k one seven t counts g =
     rw (claim_list a.word 7 one seven, extra_list Value r.segments a 7 one seven, t.counts, t.data_of, t.pointers, counts) (omega (arith, g))
 
@@ -189,7 +189,7 @@ after_opening {v} {r} {m} {n = n} c i path least (exceeded m' short e) rest = su
 
 -- The pointer at an index of a run, if its first ends are known.
 in_run : {v : Option Tree} {S : Segments} {charging : Bool} {m : Meter} {c : ℕ} (m' : Meter) (r : Reading) (n i : ℕ) (path : List ℕ) →
-    (i < n → Ends v S charging m c (follow_path (to_pointer (behind r i)) path m')) → (n ≤ i → v ≡ None) →
+    (i < n → Ends v S charging m c (follow_path (to_pointer (place_past r i)) path m')) → (n ≤ i → v ≡ None) →
     Ends v S charging m c (onward (λ e. follow_path e path) (end_at (pointer_in r n i), m'))
 in_run {v} {S} {charging} {m} {c} m' r n i path inside outside = elim (cases_lt i n) [
   | inl less ↦ let e : nat_lt i n ≡ true = lt-ltb _ _ less in rw e (inside less)
@@ -213,37 +213,37 @@ mutual
   pointer_ends (i ∷ path) r (Flat size ns) c m (a, some, small, o, claims, e, g) =
       let meets = meets_there r (Flat size ns) c a (a, some, small, o, claims, e, g) o.leads_to (omega (arith, o.is_list)) in
       after_opening c i path (flat_cost r a size small o.is_list o.is_size o.counts g)
-      (subst (λ s. Opened r m s (own Value r.segments a)) (flat_shape r.segments a size small o.is_list o.is_size) (object_opens r m a o.leads_to meets))
+      (subst (λ s. Opened r m s (own_charge Value r.segments a)) (flat_shape r.segments a size small o.is_list o.is_size) (object_opens r m a o.leads_to meets))
       (λ m' paid. nowhere m' refl)
   pointer_ends (i ∷ path) r (Struct ws ts) c m (a, k, some, o, claims, e, all, g) =
       let meets = meets_there r (Struct ws ts) c a (a, k, some, o, claims, e, all, g) o.leads_to (omega (arith, o.is_struct)) in
-      let cost : own Value r.segments a + k ≡ c = omega (arith, claim_struct a.word o.is_struct, extra_struct Value r.segments a o.is_struct, o.data_of, o.pointers, g) in
+      let cost : own_charge Value r.segments a + k ≡ c = omega (arith, claim_struct a.word o.is_struct, extra_struct Value r.segments a o.is_struct, o.data_of, o.pointers, g) in
       let inner : Reading = inside r a.segment (a.start + length ws) in
       after_opening c i path (omega (arith, cost))
-      (subst (λ s. Opened r m s (own Value r.segments a)) (struct_shape r.segments a o.is_struct ∙ ap₂ (λ d q. struct a.segment a.start d q) o.data_of o.pointers) (object_opens r m a o.leads_to meets))
+      (subst (λ s. Opened r m s (own_charge Value r.segments a)) (struct_shape r.segments a o.is_struct ∙ ap₂ (λ d q. struct a.segment a.start d q) o.data_of o.pointers) (object_opens r m a o.leads_to meets))
       (λ m' paid. in_run m' inner (count ts) i path
       (λ less.
       let (l, means, least) = child_costs r.segments (pred r.levels) a.segment (a.start + length ws) ts k i less all in
       let e : nat_lt i (count ts) ≡ true = lt-ltb _ _ less in
-      rw e (further c paid (omega (arith, cost, least)) (pointer_ends path (behind inner i) (tree_at ts i) l m' means)))
+      rw e (further c paid (omega (arith, cost, least)) (pointer_ends path (place_past inner i) (tree_at ts i) l m' means)))
       (λ most. let e : nat_lt i (count ts) ≡ false = not_less i _ most in rw e refl))
   pointer_ends (i ∷ path) r (Pointers ts) c m (a, k, some, o, claims, all, g) =
       let meets = meets_there r (Pointers ts) c a (a, k, some, o, claims, all, g) o.leads_to (omega (arith, o.is_list)) in
-      let cost : own Value r.segments a + k ≡ c = omega (arith, claim_list a.word 6 o.is_list o.is_size, extra_list Value r.segments a 6 o.is_list o.is_size, o.counts, g) in
+      let cost : own_charge Value r.segments a + k ≡ c = omega (arith, claim_list a.word 6 o.is_list o.is_size, extra_list Value r.segments a 6 o.is_list o.is_size, o.counts, g) in
       let inner : Reading = inside r a.segment a.start in
       after_opening c i path (omega (arith, cost))
-      (subst (λ s. Opened r m s (own Value r.segments a)) (pointers_shape r.segments a o.is_list o.is_size ∙ ap (λ n. pointers a.segment a.start n) o.counts) (object_opens r m a o.leads_to meets))
+      (subst (λ s. Opened r m s (own_charge Value r.segments a)) (pointers_shape r.segments a o.is_list o.is_size ∙ ap (λ n. pointers a.segment a.start n) o.counts) (object_opens r m a o.leads_to meets))
       (λ m' paid. in_run m' inner (count ts) i path
       (λ less.
       let (l, means, least) = child_costs r.segments (pred r.levels) a.segment a.start ts k i less all in
       let e : nat_lt i (count ts) ≡ true = lt-ltb _ _ less in
-      rw e (further c paid (omega (arith, cost, least)) (pointer_ends path (behind inner i) (tree_at ts i) l m' means)))
+      rw e (further c paid (omega (arith, cost, least)) (pointer_ends path (place_past inner i) (tree_at ts i) l m' means)))
       (λ most. let e : nat_lt i (count ts) ≡ false = not_less i _ most in rw e refl))
   pointer_ends (i ∷ path) r (Structs d q es) c m (a, n, k, some, o, claims, t, fits, all, g) =
       let meets = meets_there r (Structs d q es) c a (a, n, k, some, o, claims, t, fits, all, g) o.leads_to (omega (arith, o.is_list)) in
-      let cost : own Value r.segments a + k ≡ c = structs_cost r a d q k o.is_list o.is_size t o.counts (omega (arith, g)) in
+      let cost : own_charge Value r.segments a + k ≡ c = structs_cost r a d q k o.is_list o.is_size t o.counts (omega (arith, g)) in
       after_opening c i path (omega (arith, cost))
-      (subst (λ s. Opened r m s (own Value r.segments a)) (structs_shape r.segments a o.is_list o.is_size ∙ same_structs a t) (object_opens r m a o.leads_to meets))
+      (subst (λ s. Opened r m s (own_charge Value r.segments a)) (structs_shape r.segments a o.is_list o.is_size ∙ same_structs a t) (object_opens r m a o.leads_to meets))
       (λ m' paid. elim (cases_lt i (element_count es)) [
         | inl less ↦
             let e : nat_lt i (element_count es) ≡ true = lt-ltb _ _ less in
@@ -257,11 +257,11 @@ mutual
       MeansAll r.segments r.levels r.segment (r.at + d) ts c → Ends (part_of (Struct ws ts) path) r.segments r.charging m c (follow_path (to_element r d q) path m)
   element_ends [] r d q ws ts c m long many here means = found (to_element r d q) (Struct ws ts) c m refl (ws, ts, refl, long, many, here, means) refl refl (λ h. h)
   element_ends (j ∷ path) r d q ws ts c m long many here means =
-      in_run m (behind r d) q j path
+      in_run m (place_past r d) q j path
       (λ less.
       let (l, child, least) = child_costs r.segments r.levels r.segment (r.at + d) ts c j (omega (arith, less, many)) means in
       let e : nat_lt j (count ts) ≡ true = lt-ltb _ _ (omega (arith, less, many)) in
-      rw e (wider c least (pointer_ends path (behind (behind r d) j) (tree_at ts j) l m child)))
+      rw e (wider c least (pointer_ends path (place_past (place_past r d) j) (tree_at ts j) l m child)))
       (λ most. let e : nat_lt j (count ts) ≡ false = not_less j _ (omega (arith, most, many)) in rw e refl)
 
 -- The root pointer is read.

@@ -4,7 +4,7 @@ use Rattle.capnp_words.specs.Meter.{Meter, FitsIn}
 use Rattle.capnp_format.specs.Segments.{Segments}
 use Rattle.capnp_format.specs.Tree.{Tree, depth}
 use Rattle.capnp_format.specs.Value.{IsValue}
-use Rattle.capnp_format.specs.Canonical.{IsEncodable, IsFree, IsTrimmed, charge, encoding}
+use Rattle.capnp_format.specs.Canonical.{IsEncodable, HasNoCapabilities, IsTrimmed, charge, encoding}
 use Rattle.capnp_objects.specs.Spending.{Paid, pointers_in}
 
 -- S is the canonical message of t: one segment, which holds t's canonical words and nothing else
@@ -12,7 +12,7 @@ use Rattle.capnp_objects.specs.Spending.{Paid, pointers_in}
 pub record IsCanonicalOf (S : Segments) (t : Tree) : Type 0 where
   pub value : IsValue t
   pub trimmed : IsTrimmed t
-  pub free : IsFree t
+  pub free : HasNoCapabilities t
   pub encodable : IsEncodable t
   pub is : S ≡ encoding t ∷ []
 

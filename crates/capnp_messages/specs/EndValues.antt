@@ -14,7 +14,7 @@ use Rattle.capnp_format.specs.Tree.{Tree, Trees, Struct, count}
 use Rattle.capnp_arena_traits.specs.View.{View}
 use Rattle.capnp_objects.specs.Metered.{Metered}
 use Rattle.capnp_objects.specs.Outcomes.{MeansThere, Reads, ReadsAll}
-use Rattle.capnp_objects.specs.Reading.{Reading, behind, segment_read, words_from}
+use Rattle.capnp_objects.specs.Reading.{Reading, place_past, segment_read, words_from}
 use Rattle.capnp_objects.specs.Refusals.{Stopped}
 use Rattle.capnp_objects.specs.Wanted.{canonical}
 use Rattle.capnp_objects.specs.declared.object.Purpose.TheVariants.{Value}
@@ -54,7 +54,7 @@ EndMeans (to_element r d q) t c =
 -- What is copied of the end of a path.
 abbrev pub end_original : PathEnd → Original Tree
 end_original (to_pointer r) = value_original r
-end_original (to_element r d q) = sections_original (words_from r d) (behind r d) q
+end_original (to_element r d q) = sections_original (words_from r d) (place_past r d) q
 
 -- Reading the value t, which has no capabilities, takes the limiter from m to m'; or it stops with
 -- k.
@@ -62,7 +62,7 @@ abbrev pub EndReads : PathEnd → Meter → Meter → Tree → Type 0
 EndReads (to_pointer r) m m' t = Reads canonical r m m' t
 EndReads (to_element r d q) m m' t =
     IsElementPlace r d q × ((ts : Trees) × (t ≡ Struct (words_from r d) ts) × (count ts ≡ q)
-    × ReadsAll canonical (behind r d) m m' ts)
+    × ReadsAll canonical (place_past r d) m m' ts)
 
 abbrev pub EndStops : PathEnd → Meter → Meter → ErrorKind → Type 0
 EndStops e m m' k = (end_original e).stops canonical (λ r i j. Stopped Value canonical r i j k) m m'
@@ -70,7 +70,7 @@ EndStops e m m' k = (end_original e).stops canonical (λ r i j. Stopped Value ca
 -- The size of what is at the end of a path.
 abbrev pub measure_end : PathEnd → Metered MessageSize
 measure_end (to_pointer r) = measure r (only_words 0)
-measure_end (to_element r d q) = measure_pointers q (behind r d) (only_words (d + q))
+measure_end (to_element r d q) = measure_pointers q (place_past r d) (only_words (d + q))
 
 -- The canonical words of every value that the end means, with the root's word, are more than
 -- `room`.

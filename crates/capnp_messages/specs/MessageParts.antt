@@ -3,7 +3,7 @@ use Rattle.std.specs.Prelude.{◌≡◌, ℕ, ◌≤◌, List, Result, Ok, Err, 
 use Rattle.sha2.specs.Sha256.{sha256}
 use Rattle.capnp_words.specs.declared.error.ErrorKind.{ErrorKind}
 use Rattle.capnp_words.specs.Meter.{Affords, Meter, unused}
-use Rattle.capnp_format.specs.Canonical.{IsFree, encoding, trim}
+use Rattle.capnp_format.specs.Canonical.{HasNoCapabilities, encoding, trim}
 use Rattle.capnp_format.specs.Segments.{Segments}
 use Rattle.capnp_format.specs.Tree.{Tree}
 use Rattle.capnp_arena_traits.specs.Allocations.{max_segment_words}
@@ -30,7 +30,7 @@ pub record IsPartOf (S : Segments) (limits : ReaderOptions) (path : List ℕ) (t
   pub there : IsEndThere path_end
   pub cost : ℕ
   pub means : EndMeans path_end t cost
-  pub free : IsFree t
+  pub free : HasNoCapabilities t
   pub covered : Affords (end_place path_end).charging left cost
 
 -- The path is refused with k, or P holds for its end with what is left there.

@@ -2,7 +2,7 @@
 use Rattle.std.specs.Prelude.{◌≡◌, ◌⊎◌, ℕ, ℤ, ◌+◌, ◌≤◌, Option, Some, Result, Ok, Err, IsOk}
 use Rattle.capnp_words.specs.declared.error.ErrorKind.{ErrorKind}
 use Rattle.capnp_words.specs.Meter.{FitsIn, less, unused}
-use Rattle.capnp_format.specs.Canonical.{IsFree, trim, word_count}
+use Rattle.capnp_format.specs.Canonical.{HasNoCapabilities, trim, word_count}
 use Rattle.capnp_format.specs.Segments.{Segments}
 use Rattle.capnp_format.specs.Tree.{Tree, capabilities}
 use Rattle.capnp_format.specs.Means.{Means}
@@ -40,7 +40,7 @@ pub record IsValueOf (S : Segments) (limits : ReaderOptions) (t : Tree) : Type 0
   pub root : CoversRoot S limits.traversal_limit_in_words
   pub cost : ℕ
   pub means : Means S (levels limits.nesting_limit) 0 0 t cost
-  pub free : IsFree t
+  pub free : HasNoCapabilities t
   pub covered : FitsIn limits.traversal_limit_in_words (1 + cost)
 
 -- S has a canonical copy: it means a value without capabilities within the limits, and its

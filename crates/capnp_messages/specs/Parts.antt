@@ -11,7 +11,7 @@ use Rattle.capnp_format.specs.Tree.{Tree, Struct, Pointers, Structs, count, elem
 use Rattle.capnp_objects.specs.declared.object.Purpose.TheVariants.{Value}
 use Rattle.capnp_objects.specs.Enter.{Shape, struct, pointers, structs, read}
 use Rattle.capnp_objects.specs.Metered.{Metered, answer, outcome, ◌>>>◌}
-use Rattle.capnp_objects.specs.Reading.{Reading, behind}
+use Rattle.capnp_objects.specs.Reading.{Reading, place_past}
 use Rattle.capnp_messages.specs.Roots.{read_message_root}
 
 -- The value that a path leads to in the value t, if it leads anywhere.
@@ -31,7 +31,7 @@ pub data PathEnd : Type 0 where
 
 -- Pointer i of n consecutive pointers, which begin at the place r.
 abbrev pub pointer_in : Reading → ℕ → ℕ → Result Reading ErrorKind
-pointer_in r n i = if nat_lt i n then Ok (behind r i) else Err NoSuchPlace
+pointer_in r n i = if nat_lt i n then Ok (place_past r i) else Err NoSuchPlace
 
 -- The end of a path at a pointer that was found, or the refusal.
 abbrev pub end_at : Result Reading ErrorKind → Result PathEnd ErrorKind
@@ -55,7 +55,7 @@ end_in r o i = Err NoSuchPlace
 -- words of an element were charged with its list.
 abbrev pub step : PathEnd → ℕ → Metered PathEnd
 step (to_pointer r) i = read Value r >>> λ o. outcome (end_in r o i)
-step (to_element r d q) i = outcome (end_at (pointer_in (behind r d) q i))
+step (to_element r d q) i = outcome (end_at (pointer_in (place_past r d) q i))
 
 -- Where a path leads from the end of another.
 abbrev pub follow_path : PathEnd → List ℕ → Metered PathEnd

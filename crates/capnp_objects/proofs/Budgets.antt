@@ -5,9 +5,9 @@ use Rattle.capnp_format.specs.Segments.{Segments, Target}
 use Rattle.capnp_format.specs.Tree.{Tree, Null, Capability, Struct, Flat, Pointers, Structs, Trees, no_trees, tree, Elements, no_elements, element, count, element_count}
 use Rattle.capnp_format.specs.Means.{Means, MeansAll, MeansElements}
 use Rattle.capnp_words.specs.Meter.{Meter, FitsIn, less, raised, Affords}
-use Rattle.capnp_objects.specs.Spending.{after, Paid, pointers_in, pointers_in_all, pointers_in_elements}
+use Rattle.capnp_objects.specs.Spending.{after_charge, Paid, pointers_in, pointers_in_all, pointers_in_elements}
 use Rattle.capnp_words.specs.declared.wire_pointer.StructSize.{StructSize}
-use Rattle.capnp_objects.specs.Demands.{own}
+use Rattle.capnp_objects.specs.Demands.{own_charge}
 use Rattle.capnp_objects.specs.Outcomes.{Reads, ReadsAll, ReadsElements, Entered}
 use Rattle.capnp_objects.specs.Reading.{Reading}
 use Rattle.capnp_words.specs.Sizes.{sized}
@@ -25,11 +25,11 @@ less_none (Some x) = ap Some (omega arith)
 raised_raised : (f r k : ℕ) → raised (raised f r) k ≡ raised f (r + k)
 raised_raised f r k = omega arith
 
-pub after_after : (charging : Bool) (m : Meter) (g r h k : ℕ) → after charging (after charging m g r) h k ≡ after charging m (g + h) (r + k)
+pub after_after : (charging : Bool) (m : Meter) (g r h k : ℕ) → after_charge charging (after_charge charging m g r) h k ≡ after_charge charging m (g + h) (r + k)
 after_after true m g r h k = ap₂ (λ o f. record { left = o; followed = f }) (less_less m.left g h) (raised_raised m.followed r k)
 after_after false m g r h k = refl
 
-pub after_none : (charging : Bool) (m : Meter) → after charging m 0 0 ≡ m
+pub after_none : (charging : Bool) (m : Meter) → after_charge charging m 0 0 ≡ m
 after_none true m = ap₂ (λ o f. record { left = o; followed = f }) (less_none m.left) (omega arith)
 after_none false m = refl
 
@@ -49,7 +49,7 @@ affords_both {charging = false} h a b = tt
 pub paid_both : {charging : Bool} {m m' m'' : Meter} {g r h k : ℕ} → Paid charging m m' g r → Paid charging m' m'' h k → Paid charging m m'' (g + h) (r + k)
 paid_both {charging} {m} {m'} {m''} {g} {r} {h} {k} a b = record {
   covers = affords_both h a b.covers;
-  spent = b.spent ∙ ap (λ x. after charging x h k) a.spent ∙ after_after charging m g r h k;
+  spent = b.spent ∙ ap (λ x. after_charge charging x h k) a.spent ∙ after_after charging m g r h k;
 }
 
 -- a limiter that affords c words affords h of them after g were granted, if g + h is at most c
@@ -66,7 +66,7 @@ affords_none true m = go m.left
 affords_none false m = tt
 
 -- what a reading of the object a paid: a's own words, and one pointer
-pub paid_own : {r : Reading} {m m' : Meter} {a : Target} → Entered Value r m m' a → Paid r.charging m m' (own Value r.segments a) 1
+pub paid_own : {r : Reading} {m m' : Meter} {a : Target} → Entered Value r m m' a → Paid r.charging m m' (own_charge Value r.segments a) 1
 paid_own o = record { covers = o.covers; spent = o.spent }
 
 pub paid_one : {form : Form} {r : Reading} {m m' : Meter} {t : Tree} (x : Reads form r m m' t) → Paid r.charging m m' x.cost (pointers_in t)

@@ -5,7 +5,7 @@ use Rattle.capnp_words.specs.declared.error.ErrorKind.{ErrorKind}
 use Rattle.capnp_words.specs.declared.error.ErrorKind.TheVariants.{ReadLimitExceeded}
 use Rattle.capnp_words.specs.Meter.{Meter, FitsIn, raised, Affords, charged, counted_once}
 use Rattle.capnp_objects.specs.Metered.{fits, covers, charge_words}
-use Rattle.capnp_objects.specs.Spending.{after}
+use Rattle.capnp_objects.specs.Spending.{after_charge}
 use Rattle.capnp_objects.proofs.Budgets.{less_none}
 
 pub covers_true : (charging : Bool) (m : Meter) (n : ℕ) → Affords charging m n → covers charging m n ≡ true
@@ -37,7 +37,7 @@ free true m = rw (go m.left) (ap (λ y. (Ok tt, y)) (charged_none true m))
     go None = refl
     go (Some x) = le-leb 0 x (let z : 0 ≤ x = omega arith in z)
 
-pub counted_after : (charging : Bool) (m : Meter) → counted_once charging m ≡ after charging m 0 1
+pub counted_after : (charging : Bool) (m : Meter) → counted_once charging m ≡ after_charge charging m 0 1
 counted_after true m = ap (λ o. record { left = o; followed = raised m.followed 1 }) (sym (less_none m.left))
 counted_after false m = refl
 

@@ -7,13 +7,13 @@ use Rattle.capnp_words.specs.declared.error.ErrorKind.TheVariants.{ReadLimitExce
 use Rattle.capnp_words.specs.Meter.{Meter, FitsIn, less, raised, Affords, charged, counted_once}
 use Rattle.capnp_format.specs.Word.{kind, element_size, list_count}
 use Rattle.capnp_format.specs.Segments.{Segments, segment, Target}
-use Rattle.capnp_objects.specs.Demands.{claim, tag, element_words, amplified, own, Meets, LiesThere}
+use Rattle.capnp_objects.specs.Demands.{claimed_words, tag, element_words, amplified_charge, own_charge, Meets, IsInSegment}
 use Rattle.capnp_objects.specs.declared.object.Purpose.{Purpose}
 use Rattle.capnp_objects.specs.declared.object.Purpose.TheVariants.{Value, Size}
 use Rattle.capnp_objects.specs.Metered.{Metered, refuse, onward, covers}
 use Rattle.capnp_objects.specs.Enter.{Shape, is_struct_list, is_void_list, shape, is_in_segment, no_tag_name, enter_object}
 use Rattle.capnp_objects.specs.Reading.{Reading}
-use Rattle.capnp_objects.specs.Spending.{after}
+use Rattle.capnp_objects.specs.Spending.{after_charge}
 use Rattle.capnp_format.specs.Word.{is_double, upper_half}
 use Rattle.capnp_format.specs.Segments.{pad, near, offset_leads, ◌>>=◌}
 use Rattle.capnp_format.specs.Word.{offset_bits, far_position}
@@ -38,7 +38,7 @@ use Rattle.capnp_objects.proofs.Landings.{no_pads_near, pads_there, lies as lies
 use Rattle.capnp_objects.proofs.Refusals.{affords_less}
 
 -- the meter
-pub spent_in_steps : (charging : Bool) (m : Meter) (g h k : ℕ) → charged charging (charged charging (charged charging (counted_once charging m) g) h) k ≡ after charging m (g + h + k) 1
+pub spent_in_steps : (charging : Bool) (m : Meter) (g h k : ℕ) → charged charging (charged charging (charged charging (counted_once charging m) g) h) k ≡ after_charge charging m (g + h + k) 1
 spent_in_steps true m g h k = ap (λ o. record { left = o; followed = raised m.followed 1 }) (ap (λ o. less o k) (less_less m.left g h) ∙ less_less m.left (g + h) k)
 spent_in_steps false m g h k = refl
 
@@ -46,19 +46,19 @@ spent_in_steps false m g h k = refl
 beyond : (x y : ℕ) → (x ≤ y → ⊥) → nat_le x y ≡ false
 beyond x y h = let lt : y < x = omega (arith, h) in let e : nat_le x y ≡ false = grind (arith, lt) in e
 
-lies_true : (purpose : Purpose) (S : Segments) (a : Target) → LiesThere purpose S a → is_in_segment purpose S a ≡ true
+lies_true : (purpose : Purpose) (S : Segments) (a : Target) → IsInSegment purpose S a → is_in_segment purpose S a ≡ true
 lies_true Value S a h = le-leb _ _ h
 lies_true Size S a h = go (is_void_list a.word) refl
   where
-    go : (b : Bool) → is_void_list a.word ≡ b → (b || nat_le (a.start + claim a.word) (length (segment S a.segment))) ≡ true
+    go : (b : Bool) → is_void_list a.word ≡ b → (b || nat_le (a.start + claimed_words a.word) (length (segment S a.segment))) ≡ true
     go true e = refl
     go false e = le-leb _ _ (h (λ v. let two : is_void_list a.word ≡ true = ap₂ (λ b c. b && c) (eq-eqb _ _ v.0) (eq-eqb _ _ v.1) in absurd (cc (e, two))))
 
-lies_false : (purpose : Purpose) (S : Segments) (a : Target) → (LiesThere purpose S a → ⊥) → is_in_segment purpose S a ≡ false
+lies_false : (purpose : Purpose) (S : Segments) (a : Target) → (IsInSegment purpose S a → ⊥) → is_in_segment purpose S a ≡ false
 lies_false Value S a h = beyond _ _ h
 lies_false Size S a h = go (nat_eq (kind a.word) 1) (nat_eq (element_size a.word) 0) refl refl
   where
-    go : (c d : Bool) → nat_eq (kind a.word) 1 ≡ c → nat_eq (element_size a.word) 0 ≡ d → ((c && d) || nat_le (a.start + claim a.word) (length (segment S a.segment))) ≡ false
+    go : (c d : Bool) → nat_eq (kind a.word) 1 ≡ c → nat_eq (element_size a.word) 0 ≡ d → ((c && d) || nat_le (a.start + claimed_words a.word) (length (segment S a.segment))) ≡ false
     go true true e f = absurd (h (λ other. absurd (other (eqb-true _ _ e, eqb-true _ _ f))))
     go true false e f = beyond _ _ (λ le. h (λ _. le))
     go false d e f = beyond _ _ (λ le. h (λ _. le))
@@ -77,15 +77,15 @@ tagged_true w b h = go (nat_eq (kind w) 1) (nat_eq (element_size w) 7) refl refl
     go false d e f = refl
 
 -- an object that meets its demands, with enough words left for its charges
-pub entered_is : (purpose : Purpose) (r : Reading) (a : Target) (m : Meter) → Meets purpose r.segments r.levels a → Affords r.charging m (claim a.word) → Affords r.charging (charged r.charging m (claim a.word)) (amplified purpose r.segments a) →
-    enter_object purpose r a m ≡ (Ok (shape r.segments a), charged r.charging (charged r.charging m (claim a.word)) (amplified purpose r.segments a))
+pub entered_is : (purpose : Purpose) (r : Reading) (a : Target) (m : Meter) → Meets purpose r.segments r.levels a → Affords r.charging m (claimed_words a.word) → Affords r.charging (charged r.charging m (claimed_words a.word)) (amplified_charge purpose r.segments a) →
+    enter_object purpose r a m ≡ (Ok (shape r.segments a), charged r.charging (charged r.charging m (claimed_words a.word)) (amplified_charge purpose r.segments a))
 entered_is purpose r a m meets first second =
     let level : nat_lt 0 r.levels ≡ true = lt-ltb _ _ meets.levels in
     let there : is_in_segment purpose r.segments a ≡ true = lies_true purpose r.segments a meets.claims in
-    let one : covers r.charging m (claim a.word) ≡ true = covers_true r.charging m (claim a.word) first in
+    let one : covers r.charging m (claimed_words a.word) ≡ true = covers_true r.charging m (claimed_words a.word) first in
     let is_tag : (not (is_struct_list a.word) || nat_eq (kind (tag r.segments a)) 0) ≡ true = tagged_true a.word _ (λ t. eq-eqb _ _ (meets.tagged t).0) in
     let room : (not (is_struct_list a.word) || nat_le (element_words (tag r.segments a)) (list_count a.word)) ≡ true = tagged_true a.word _ (λ t. le-leb _ _ (meets.tagged t).1) in
-    let two : covers r.charging (charged r.charging m (claim a.word)) (amplified purpose r.segments a) ≡ true = covers_true r.charging _ _ second in
+    let two : covers r.charging (charged r.charging m (claimed_words a.word)) (amplified_charge purpose r.segments a) ≡ true = covers_true r.charging _ _ second in
     rw (level, there, one, is_tag, room, two) refl
 
 -- the words of the landing pads of a pointer that is followed
@@ -121,11 +121,11 @@ affords_sum true m g h a b = go m.left a b
     go None a b = tt
     go (Some x) a b = omega (arith, a, b)
 
-pub spent_once : (charging : Bool) (m : Meter) (g : ℕ) → charged charging (counted_once charging m) g ≡ after charging m g 1
+pub spent_once : (charging : Bool) (m : Meter) (g : ℕ) → charged charging (counted_once charging m) g ≡ after_charge charging m g 1
 spent_once true m g = refl
 spent_once false m g = refl
 
-spent_twice : (charging : Bool) (m : Meter) (g h : ℕ) → charged charging (charged charging (counted_once charging m) g) h ≡ after charging m (g + h) 1
+spent_twice : (charging : Bool) (m : Meter) (g h : ℕ) → charged charging (charged charging (counted_once charging m) g) h ≡ after_charge charging m (g + h) 1
 spent_twice true m g h = ap (λ o. record { left = o; followed = raised m.followed 1 }) (less_less m.left g h)
 spent_twice false m g h = refl
 
@@ -187,23 +187,23 @@ pads_are r a f = go (nat_eq (kind (word_of r)) 2) refl
 near_tests : (w : ℕ) → kind w < 2 → (nat_eq (kind w) 2 ≡ false) × (nat_eq (kind w) 3 ≡ false)
 near_tests w h = (ne_eqb _ _ (λ e. omega (arith, e, h)), ne_eqb _ _ (λ e. omega (arith, e, h)))
 
-untagged_is : (purpose : Purpose) (r : Reading) (a : Target) (m : Meter) → 0 < r.levels → IsStructList a.word → Claims r.segments a (claim a.word) → kind (tag r.segments a) ≢ 0 → Affords r.charging m (claim a.word) →
-    enter purpose r a m ≡ (Err (no_tag_name purpose), charged r.charging m (claim a.word))
+untagged_is : (purpose : Purpose) (r : Reading) (a : Target) (m : Meter) → 0 < r.levels → IsStructList a.word → Claims r.segments a (claimed_words a.word) → kind (tag r.segments a) ≢ 0 → Affords r.charging m (claimed_words a.word) →
+    enter purpose r a m ≡ (Err (no_tag_name purpose), charged r.charging m (claimed_words a.word))
 untagged_is purpose r a m some t claims other covered =
     let near = near_tests a.word (omega (arith, t.0)) in
     let level : nat_lt 0 r.levels ≡ true = lt-ltb _ _ some in
     let inside : is_in_segment purpose r.segments a ≡ true = lies_true purpose r.segments a (lies_for purpose r.segments a claims) in
-    let one : covers r.charging m (claim a.word) ≡ true = covers_true r.charging m (claim a.word) covered in
+    let one : covers r.charging m (claimed_words a.word) ≡ true = covers_true r.charging m (claimed_words a.word) covered in
     let none : (not (is_struct_list a.word) || nat_eq (kind (tag r.segments a)) 0) ≡ false = tagged_false a.word _ t (ne_eqb _ _ other) in
     rw (near.0, near.1, level, inside, one, none) refl
 
-overrun_is : (purpose : Purpose) (r : Reading) (a : Target) (m : Meter) → 0 < r.levels → IsStructList a.word → Claims r.segments a (claim a.word) → kind (tag r.segments a) ≡ 0 → list_count a.word < element_words (tag r.segments a) → Affords r.charging m (claim a.word) →
-    enter purpose r a m ≡ (Err InlineCompositeListsElementsOverrunItsWordCount, charged r.charging m (claim a.word))
+overrun_is : (purpose : Purpose) (r : Reading) (a : Target) (m : Meter) → 0 < r.levels → IsStructList a.word → Claims r.segments a (claimed_words a.word) → kind (tag r.segments a) ≡ 0 → list_count a.word < element_words (tag r.segments a) → Affords r.charging m (claimed_words a.word) →
+    enter purpose r a m ≡ (Err InlineCompositeListsElementsOverrunItsWordCount, charged r.charging m (claimed_words a.word))
 overrun_is purpose r a m some t claims z over covered =
     let near = near_tests a.word (omega (arith, t.0)) in
     let level : nat_lt 0 r.levels ≡ true = lt-ltb _ _ some in
     let inside : is_in_segment purpose r.segments a ≡ true = lies_true purpose r.segments a (lies_for purpose r.segments a claims) in
-    let one : covers r.charging m (claim a.word) ≡ true = covers_true r.charging m (claim a.word) covered in
+    let one : covers r.charging m (claimed_words a.word) ≡ true = covers_true r.charging m (claimed_words a.word) covered in
     let is_tag : (not (is_struct_list a.word) || nat_eq (kind (tag r.segments a)) 0) ≡ true = tagged_true a.word _ (λ _. eq-eqb _ _ z) in
     let none : (not (is_struct_list a.word) || nat_le (element_words (tag r.segments a)) (list_count a.word)) ≡ false = tagged_false a.word _ t (beyond _ _ (λ le. omega (arith, le, over))) in
     rw (near.0, near.1, level, inside, one, is_tag, none) refl
@@ -255,7 +255,7 @@ reached_is purpose r a m level f covered =
     rw (some, has) (onward_is (enter purpose r) (followed_is r a m f.1 (pads_are r a f.1) covered))
 
 pub capability_is : (purpose : Purpose) (r : Reading) (a : Target) (m : Meter) → (purpose ≡ Size → 0 < r.levels) → FollowsTo r a → a.word % 2 ^ 32 ≡ 3 → Affords r.charging m a.pads →
-    read purpose r m ≡ (Ok (capability (upper_half a.word)), after r.charging m a.pads 1)
+    read purpose r m ≡ (Ok (capability (upper_half a.word)), after_charge r.charging m a.pads 1)
 capability_is purpose r a m level f low covered =
     let not_far : nat_eq (kind a.word) 2 ≡ false = ne_eqb _ _ (λ e. omega (arith, e, low)) in
     let is_other : nat_eq (kind a.word) 3 ≡ true = eq-eqb _ _ (omega (arith, low)) in
@@ -267,13 +267,13 @@ entering_is purpose r m m' a o =
     let c : Bool = r.charging in
     let m1 : Meter = charged c (counted_once c m) a.pads in
     let near = near_tests a.word o.meets.is_object in
-    let pads : Affords c m a.pads = affords_less c m a.pads (own purpose r.segments a) (omega arith) o.covers in
-    let counted : Affords c (counted_once c m) (a.pads + (claim a.word + amplified purpose r.segments a)) = affords_counted c m _ (subst (Affords c m) (let e : own purpose r.segments a ≡ a.pads + (claim a.word + amplified purpose r.segments a) = omega arith in e) o.covers) in
-    let rest : Affords c m1 (claim a.word + amplified purpose r.segments a) = affords_next c (counted_once c m) a.pads _ counted in
-    let first : Affords c m1 (claim a.word) = affords_less c m1 (claim a.word) (claim a.word + amplified purpose r.segments a) (omega arith) rest in
+    let pads : Affords c m a.pads = affords_less c m a.pads (own_charge purpose r.segments a) (omega arith) o.covers in
+    let counted : Affords c (counted_once c m) (a.pads + (claimed_words a.word + amplified_charge purpose r.segments a)) = affords_counted c m _ (subst (Affords c m) (let e : own_charge purpose r.segments a ≡ a.pads + (claimed_words a.word + amplified_charge purpose r.segments a) = omega arith in e) o.covers) in
+    let rest : Affords c m1 (claimed_words a.word + amplified_charge purpose r.segments a) = affords_next c (counted_once c m) a.pads _ counted in
+    let first : Affords c m1 (claimed_words a.word) = affords_less c m1 (claimed_words a.word) (claimed_words a.word + amplified_charge purpose r.segments a) (omega arith) rest in
     reached_is purpose r a m (λ _. o.meets.levels) o.follows pads
-    ∙ rw (near.0, near.1) (entered_is purpose r a m1 o.meets first (affords_next c m1 (claim a.word) _ rest))
-    ∙ ap (λ y. (Ok (shape r.segments a), y)) (spent_in_steps c m a.pads (claim a.word) (amplified purpose r.segments a) ∙ sym o.spent)
+    ∙ rw (near.0, near.1) (entered_is purpose r a m1 o.meets first (affords_next c m1 (claimed_words a.word) _ rest))
+    ∙ ap (λ y. (Ok (shape r.segments a), y)) (spent_in_steps c m a.pads (claimed_words a.word) (amplified_charge purpose r.segments a) ∙ sym o.spent)
 
 pub not_null : {r : Reading} {m m' : Meter} {k : ErrorKind} → Unfollowed r m m' k → word_of r ≢ 0
 not_null (exceeding some short paid named) = some
@@ -297,26 +297,26 @@ stopped_is purpose r m m' k level (claim_exceeds a f some object claims short pa
     let near = near_tests a.word object in
     let has : nat_lt 0 r.levels ≡ true = lt-ltb _ _ some in
     let inside : is_in_segment purpose r.segments a ≡ true = lies_true purpose r.segments a (lies_for purpose r.segments a claims) in
-    let over : covers c m1 (claim a.word) ≡ false = covers_false c m1 _ (λ h. short (affords_uncounted c m _ (affords_sum c (counted_once c m) a.pads _ (affords_counted c m _ paid.covers) h))) in
+    let over : covers c m1 (claimed_words a.word) ≡ false = covers_false c m1 _ (λ h. short (affords_uncounted c m _ (affords_sum c (counted_once c m) a.pads _ (affords_counted c m _ paid.covers) h))) in
     reached_is purpose r a m level f paid.covers
     ∙ rw (near.0, near.1, has, inside, over, named) (ap (λ y. (Err ReadLimitExceeded, y)) (spent_once c m a.pads ∙ sym paid.spent))
 stopped_is purpose r m m' k level (count_exceeds a f meets short paid named) =
     let c : Bool = r.charging in
     let m1 : Meter = charged c (counted_once c m) a.pads in
-    let m2 : Meter = charged c m1 (claim a.word) in
+    let m2 : Meter = charged c m1 (claimed_words a.word) in
     let pads : Affords c m a.pads = affords_less c m a.pads _ (omega arith) paid.covers in
     let near = near_tests a.word meets.is_object in
     let has : nat_lt 0 r.levels ≡ true = lt-ltb _ _ meets.levels in
     let inside : is_in_segment purpose r.segments a ≡ true = lies_true purpose r.segments a meets.claims in
-    let first : Affords c m1 (claim a.word) = affords_next c (counted_once c m) a.pads _ (affords_counted c m _ paid.covers) in
-    let one : covers c m1 (claim a.word) ≡ true = covers_true c m1 _ first in
+    let first : Affords c m1 (claimed_words a.word) = affords_next c (counted_once c m) a.pads _ (affords_counted c m _ paid.covers) in
+    let one : covers c m1 (claimed_words a.word) ≡ true = covers_true c m1 _ first in
     let is_tag : (not (is_struct_list a.word) || nat_eq (kind (tag r.segments a)) 0) ≡ true = tagged_true a.word _ (λ t. eq-eqb _ _ (meets.tagged t).0) in
     let room : (not (is_struct_list a.word) || nat_le (element_words (tag r.segments a)) (list_count a.word)) ≡ true = tagged_true a.word _ (λ t. le-leb _ _ (meets.tagged t).1) in
-    let own_covered : Affords c m1 (claim a.word) → Affords c m2 (amplified purpose r.segments a) → Affords c m (own purpose r.segments a) = λ x y. subst (Affords c m) (let e : a.pads + (claim a.word + amplified purpose r.segments a) ≡ own purpose r.segments a = omega arith in e)
-    (affords_uncounted c m _ (affords_sum c (counted_once c m) a.pads _ (affords_counted c m a.pads pads) (affords_sum c m1 (claim a.word) _ x y))) in
-    let over : covers c m2 (amplified purpose r.segments a) ≡ false = covers_false c m2 _ (λ h. short (own_covered first h)) in
+    let own_covered : Affords c m1 (claimed_words a.word) → Affords c m2 (amplified_charge purpose r.segments a) → Affords c m (own_charge purpose r.segments a) = λ x y. subst (Affords c m) (let e : a.pads + (claimed_words a.word + amplified_charge purpose r.segments a) ≡ own_charge purpose r.segments a = omega arith in e)
+    (affords_uncounted c m _ (affords_sum c (counted_once c m) a.pads _ (affords_counted c m a.pads pads) (affords_sum c m1 (claimed_words a.word) _ x y))) in
+    let over : covers c m2 (amplified_charge purpose r.segments a) ≡ false = covers_false c m2 _ (λ h. short (own_covered first h)) in
     reached_is purpose r a m level f pads
-    ∙ rw (near.0, near.1, has, inside, one, is_tag, room, over, named) (ap (λ y. (Err ReadLimitExceeded, y)) (spent_twice c m a.pads (claim a.word) ∙ sym paid.spent))
+    ∙ rw (near.0, near.1, has, inside, one, is_tag, room, over, named) (ap (λ y. (Err ReadLimitExceeded, y)) (spent_twice c m a.pads (claimed_words a.word) ∙ sym paid.spent))
 
 -- for the size
 pub measured_is : (r : Reading) (m m' : Meter) (k : ErrorKind) → NotMeasured r m m' k → read Size r m ≡ (Err k, m')

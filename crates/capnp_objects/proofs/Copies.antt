@@ -7,11 +7,11 @@ use Rattle.capnp_format.specs.Segments.{segment, words_at, HasWords}
 use Rattle.capnp_format.specs.Tree.{Tree, Trees, no_trees, tree, Elements, no_elements, element, count, element_count, capabilities, capabilities_all, capabilities_elements}
 use Rattle.capnp_format.specs.Means.{Means, MeansAll}
 use Rattle.capnp_words.specs.Meter.{Meter}
-use Rattle.capnp_objects.specs.Spending.{Paid, after, pointers_in, pointers_in_all, pointers_in_elements}
+use Rattle.capnp_objects.specs.Spending.{Paid, after_charge, pointers_in, pointers_in_all, pointers_in_elements}
 use Rattle.capnp_objects.specs.Outcomes.{MeansThere, Reads, ReadsAll, ReadsElements}
 use Rattle.capnp_objects.proofs.Unreadable.{Unreadable, UnreadableAll, UnreadableElements, Spends}
 use Rattle.capnp_objects.specs.Wanted.{Form}
-use Rattle.capnp_objects.specs.Reading.{Reading, behind, pointers_of}
+use Rattle.capnp_objects.specs.Reading.{Reading, place_past, pointers_of}
 use Rattle.capnp_words.specs.declared.wire_pointer.StructSize.{StructSize}
 use Rattle.capnp_format.proofs.Levels.{one_value}
 use Rattle.capnp_format.proofs.Children.{with_last, means_more}
@@ -32,13 +32,13 @@ unfoldable pub read_none : (form : Form) (r : Reading) (m : Meter) → ReadsAll 
 read_none form r m = record { cost = 0; means = refl; takes = λ e. refl; covers = affords_none r.charging m; spent = sym (after_none r.charging m) }
 
 -- one child more is read
-unfoldable pub read_more : {form : Form} {r : Reading} {m m' m'' : Meter} {ts : Trees} {u : Tree} → ReadsAll form r m m' ts → Reads form (behind r (count ts)) m' m'' u → ReadsAll form r m m'' (with_last ts u)
+unfoldable pub read_more : {form : Form} {r : Reading} {m m' m'' : Meter} {ts : Trees} {u : Tree} → ReadsAll form r m m' ts → Reads form (place_past r (count ts)) m' m'' u → ReadsAll form r m m'' (with_last ts u)
 read_more {form} {r} {m} {m'} {m''} {ts} {u} all one = record {
   cost = all.cost + one.cost;
   means = means_more r.segments r.levels r.segment r.at ts u all.cost one.cost all.means one.means;
   takes = λ t. omega (arith, capabilities-with_last ts u, all.takes t, one.takes t);
   covers = (paid_both (paid_all all) (paid_one one)).covers;
-  spent = (paid_both (paid_all all) (paid_one one)).spent ∙ ap (after r.charging m (all.cost + one.cost)) (sym (pointers_in-with_last ts u));
+  spent = (paid_both (paid_all all) (paid_one one)).spent ∙ ap (after_charge r.charging m (all.cost + one.cost)) (sym (pointers_in-with_last ts u));
 }
 
 -- the cost of the children or elements at a place
@@ -53,13 +53,13 @@ SomeElements r size = (es : Elements) × (k : ℕ) × ElementsMean r size es k
 
 -- the child after the first ones ts, in any longer meaning us of the same place
 next_child : (r : Reading) (ts us : Trees) (x : CostAll r ts) (y : CostAll r us) → count ts < count us →
-    (u : Tree) × (e : ℕ) × MeansThere (behind r (count ts)) u e × (x.0 + e ≤ y.0) × (capabilities u ≤ capabilities_all us)
+    (u : Tree) × (e : ℕ) × MeansThere (place_past r (count ts)) u e × (x.0 + e ≤ y.0) × (capabilities u ≤ capabilities_all us)
 next_child r ts no_trees x y lt = absurd (omega arith)
 next_child r no_trees (tree u us) (k, h) (c, (a, b, one, rest, g)) lt =
     (u, a, subst (λ q. Means r.segments r.levels r.segment q u a) (let e : r.at ≡ r.at + 0 = omega arith in e) one, omega arith, omega arith)
 next_child r (tree t ts) (tree u us) (k, (x, y, first, others, f)) (c, (a, b, one, rest, g)) lt =
     let same = (one_value r.segments r.levels r.levels r.segment r.at t u x a first one).1 in
-    let z = next_child (behind r 1) ts us (y, others) (b, rest) (omega arith) in (
+    let z = next_child (place_past r 1) ts us (y, others) (b, rest) (omega arith) in (
       z.0,
       z.1,
       subst (λ q. Means r.segments r.levels r.segment q z.0 z.1) (let e : r.at + 1 + count ts ≡ r.at + suc (count ts) = omega arith in e) z.2,
@@ -74,7 +74,7 @@ spends_on {charging} {m} {m'} {m''} {c} {r0} i l first few le (g, r, covers', e'
     (c + g, r0 + r, paid.covers, paid.spent, omega arith)
 
 -- the reading of the next child is refused
-pub read_stop : {form : Form} {r : Reading} {m m' m'' : Meter} {ts : Trees} {k : ErrorKind} (i : ℕ) → ReadsAll form r m m' ts → count ts < i → Unreadable form (behind r (count ts)) m' m'' k → UnreadableAll form r i m m'' k
+pub read_stop : {form : Form} {r : Reading} {m m' m'' : Meter} {ts : Trees} {k : ErrorKind} (i : ℕ) → ReadsAll form r m m' ts → count ts < i → Unreadable form (place_past r (count ts)) m' m'' k → UnreadableAll form r i m m'' k
 read_stop {form} {r} {m} {m'} {m''} {ts} i all lt refused = record {
   named = (r.at + count ts, omega arith, omega arith, refused.named);
   only = λ us d len others takes covers.
@@ -125,14 +125,14 @@ elements_more {r} {size} {ws} {ts} (element vs us es) k last (a, b, long, len, h
     let d : ℕ = size.data_words in
     let q : ℕ = size.pointers in
     let e : r.at + suc (element_count es) * (d + q) ≡ r.at + d + q + element_count es * (d + q) = omega arith in
-    let last' : ElementAt (behind (behind r d) q) size (element_count es) ws ts = record {
+    let last' : ElementAt (place_past (place_past r d) q) size (element_count es) ws ts = record {
       long = last.long;
       len = last.len;
       words = subst (λ i. HasWords r.segments r.segment i ws) e last.words;
       cost = last.cost;
       means = subst (λ i. MeansAll r.segments r.levels r.segment (i + d) ts last.cost) e last.means;
     } in
-    (a, b + last.cost, long, len, has, first, elements_more {r = behind (behind r d) q} {size = size} {ws = ws} {ts = ts} es b last' rest, omega arith)
+    (a, b + last.cost, long, len, has, first, elements_more {r = place_past (place_past r d) q} {size = size} {ws = ws} {ts = ts} es b last' rest, omega arith)
 
 -- no element is read yet
 unfoldable pub read_no_element : (form : Form) (r : Reading) (size : StructSize) (m : Meter) → ReadsElements form r size m m no_elements
@@ -153,7 +153,7 @@ read_element {form} {r} {size} {m} {m'} {m''} {es} {ts} all fits len one =
       means = elements_more es all.cost last all.means;
       takes = λ t. omega (arith, capabilities-with_last_element es ws ts, all.takes t, one.takes t);
       covers = (paid_both (paid_elements all) (paid_all one)).covers;
-      spent = (paid_both (paid_elements all) (paid_all one)).spent ∙ ap (after r.charging m (all.cost + one.cost)) (sym (pointers_in-with_last_element es ws ts));
+      spent = (paid_both (paid_elements all) (paid_all one)).spent ∙ ap (after_charge r.charging m (all.cost + one.cost)) (sym (pointers_in-with_last_element es ws ts));
     }
 
 one_value_all : (r : Reading) (ts us : Trees) (x : CostAll r ts) (y : CostAll r us) → count ts ≡ count us → x.0 ≡ y.0
@@ -161,7 +161,7 @@ one_value_all r no_trees no_trees (k, h) (c, g) len = h ∙ sym g
 one_value_all r no_trees (tree u us) x y len = absurd (omega arith)
 one_value_all r (tree t ts) no_trees x y len = absurd (omega arith)
 one_value_all r (tree t ts) (tree u us) (k, (x, y, first, others, f)) (c, (a, b, one, rest, g)) len =
-    omega (arith, (one_value r.segments r.levels r.levels r.segment r.at t u x a first one).1, one_value_all (behind r 1) ts us (y, others) (b, rest) (omega arith))
+    omega (arith, (one_value r.segments r.levels r.levels r.segment r.at t u x a first one).1, one_value_all (place_past r 1) ts us (y, others) (b, rest) (omega arith))
 
 -- the children of the element after the first ones, in any longer meaning of the same place
 abbrev NextElement : Reading → StructSize → ℕ → ℕ → Elements → ℕ → Type 0
@@ -178,8 +178,8 @@ next_element r size no_elements (k, h) (element ws ts us, c, (a, b, long, len, h
 next_element r size (element vs ts es) (k, (x, y, long', len', has', first, others, f)) (element ws us os, c, (a, b, long, len, has, one, rest, g)) lt =
     let d : ℕ = size.data_words in
     let q : ℕ = size.pointers in
-    let same = one_value_all (behind r d) ts us (x, first) (a, one) (len' ∙ sym len) in
-    let z = next_element (behind (behind r d) q) size es (y, others) (os, b, rest) (omega arith) in (
+    let same = one_value_all (place_past r d) ts us (x, first) (a, one) (len' ∙ sym len) in
+    let z = next_element (place_past (place_past r d) q) size es (y, others) (os, b, rest) (omega arith) in (
       z.0,
       z.1,
       z.2,

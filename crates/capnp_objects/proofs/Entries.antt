@@ -12,7 +12,7 @@ use Rattle.capnp_format.specs.Word.{kind, offset_bits, data_words, pointer_count
 use Rattle.capnp_objects.specs.declared.object.Object.{Object}
 use Rattle.capnp_objects.specs.declared.object.Purpose.{Purpose}
 use Rattle.capnp_objects.specs.declared.object.Purpose.TheVariants.{Value, Size}
-use Rattle.capnp_objects.specs.Demands.{claim, tag, element_words, count_charge, amplified, IsStructList, IsVoidList}
+use Rattle.capnp_objects.specs.Demands.{claimed_words, tag, element_words, count_charge, amplified_charge, IsStructList, IsVoidList}
 use Rattle.capnp_objects.specs.Enter.{Shape, is_struct_list, shape, is_in_segment, no_tag_name, enter_object, enter}
 use Rattle.capnp_objects.specs.Entering.{claim_words, enter_plain, enter_void, enter_structs, ReadsAs}
 use Rattle.capnp_objects.specs.Metered.{Metered, onward, answer, ◌>>>◌, demand, covers, charge_words}
@@ -49,17 +49,17 @@ after_words purpose r a =
     let untagged = not (is_struct_list a.word) in
     demand (untagged || nat_eq (kind g) 0) (no_tag_name purpose) >>> λ _.
     demand (untagged || nat_le (element_words g) (list_count a.word)) InlineCompositeListsElementsOverrunItsWordCount >>> λ _.
-    charge_words r.charging (amplified purpose r.segments a) >>> λ _. answer (shape r.segments a)
+    charge_words r.charging (amplified_charge purpose r.segments a) >>> λ _. answer (shape r.segments a)
 
-claimed : (purpose : Purpose) (r : Reading) (a : Target) (m : Meter) (g : Metered Shape) → is_in_segment purpose r.segments a ≡ nat_le (a.start + claim a.word) (length (segment r.segments a.segment)) →
+claimed : (purpose : Purpose) (r : Reading) (a : Target) (m : Meter) (g : Metered Shape) → is_in_segment purpose r.segments a ≡ nat_le (a.start + claimed_words a.word) (length (segment r.segments a.segment)) →
     ((m' : Meter) → after_words purpose r a m' ≡ g m') → enter_object purpose r a m ≡ (claim_words r a >>> λ _. g) m
 claimed purpose r a m g inside e =
     ap (λ b. (
-    demand (nat_lt 0 r.levels) MessageIsTooDeeplyNestedOrContainsCycles >>> λ _. demand b MessageContainsOutOfBoundsPointer >>> λ _. charge_words r.charging (claim a.word) >>> λ _. after_words purpose r a
+    demand (nat_lt 0 r.levels) MessageIsTooDeeplyNestedOrContainsCycles >>> λ _. demand b MessageContainsOutOfBoundsPointer >>> λ _. charge_words r.charging (claimed_words a.word) >>> λ _. after_words purpose r a
     ) m) inside
-    ∙ after_claim (nat_lt 0 r.levels) (nat_le (a.start + claim a.word) (length (segment r.segments a.segment))) MessageIsTooDeeplyNestedOrContainsCycles MessageContainsOutOfBoundsPointer r.charging (claim a.word) (λ _. after_words purpose r a) (λ _. g) m e
+    ∙ after_claim (nat_lt 0 r.levels) (nat_le (a.start + claimed_words a.word) (length (segment r.segments a.segment))) MessageIsTooDeeplyNestedOrContainsCycles MessageContainsOutOfBoundsPointer r.charging (claimed_words a.word) (λ _. after_words purpose r a) (λ _. g) m e
 
-in_bounds : (purpose : Purpose) (S : Segments) (a : Target) → (IsVoidList a.word → ⊥) → is_in_segment purpose S a ≡ nat_le (a.start + claim a.word) (length (segment S a.segment))
+in_bounds : (purpose : Purpose) (S : Segments) (a : Target) → (IsVoidList a.word → ⊥) → is_in_segment purpose S a ≡ nat_le (a.start + claimed_words a.word) (length (segment S a.segment))
 in_bounds Value S a some = refl
 in_bounds Size S a some = rw (no_list a.word 0 some) refl
 
@@ -97,7 +97,7 @@ is_composite EightBytes e = absurd (omega arith)
 is_composite Pointer e = absurd (omega arith)
 
 -- a list of void, with a level left if only the size is wanted
-void_cost : (S : Segments) (a : Target) → IsVoidList a.word → amplified Value S a ≡ list_count a.word
+void_cost : (S : Segments) (a : Target) → IsVoidList a.word → amplified_charge Value S a ≡ list_count a.word
 void_cost S a (list, void) =
     let there : nat_eq (kind a.word) 0 ≡ false = ne_eqb _ _ (λ e. omega (arith, e, list)) in
     let untagged : nat_eq (element_size a.word) 7 ≡ false = ne_eqb _ _ (λ e. omega (arith, e, void)) in
@@ -107,12 +107,12 @@ pub void_is : (purpose : Purpose) (r : Reading) (a : Target) (m : Meter) → IsV
 void_is Value r a m (list, void) level = claimed Value r a m (charge_words r.charging (list_count a.word) >>> λ _. answer (shape r.segments a)) refl
     (λ m'. rw (no_list a.word 7 (λ t. omega (arith, t.1, void)), void_cost r.segments a (list, void)) refl)
 void_is Size r a m (list, void) level =
-    let free_of_charge : claim a.word ≡ 0 = omega (arith, claim_list a.word 0 list void) in
+    let free_of_charge : claimed_words a.word ≡ 0 = omega (arith, claim_list a.word 0 list void) in
     rw (lt-ltb _ _ (level refl), yes_list a.word 0 list void, no_list a.word 7 (λ t. omega (arith, t.1, void)), free_of_charge)
     (ap (onward (λ _. charge_words r.charging 0 >>> λ _. answer (shape r.segments a))) (free r.charging m) ∙ ap (onward (λ _. answer (shape r.segments a))) (free r.charging m))
 
 -- a list of structs
-structs_cost : (purpose : Purpose) (S : Segments) (a : Target) → IsStructList a.word → amplified purpose S a ≡ count_charge purpose (data_words (tag S a) + pointer_count (tag S a)) (offset_bits (tag S a))
+structs_cost : (purpose : Purpose) (S : Segments) (a : Target) → IsStructList a.word → amplified_charge purpose S a ≡ count_charge purpose (data_words (tag S a) + pointer_count (tag S a)) (offset_bits (tag S a))
 structs_cost Size S a t = refl
 structs_cost Value S a (list, tagged) =
     let there : nat_eq (kind a.word) 0 ≡ false = ne_eqb _ _ (λ e. omega (arith, e, list)) in

@@ -17,7 +17,7 @@ use Rattle.capnp_objects.specs.declared.object.Place.{Place}
 use Rattle.capnp_objects.specs.Demands.{tag}
 use Rattle.capnp_objects.specs.Enter.{Shape, nothing, follow, enter, object_shape, result_shape}
 use Rattle.capnp_objects.specs.Entering.{object_misfit, place_byte, IsObjectHeld}
-use Rattle.capnp_objects.specs.Expected.{Expectation, struct_expected, list_expected, text_expected, data_expected, expectation, narrow_elements, narrow_structs, CanBeGiven, null_pointer, fitting, IsGiven}
+use Rattle.capnp_objects.specs.Expected.{Expectation, struct_expected, list_expected, text_expected, data_expected, expectation, narrow_elements, narrow_structs, HasExpected, null_pointer, fitting, IsExpected}
 use Rattle.capnp_objects.specs.Metered.{Metered, answer, onward, ◌>>>◌, refuse_if}
 use Rattle.capnp_objects.specs.Faults.{LeadsTo}
 use Rattle.capnp_objects.specs.Objects.{IsObject}
@@ -145,7 +145,7 @@ some_level : (expected : Expected) (k : ErrorKind) (n : ℕ) → (expectation ex
 some_level expected k zero e none = absurd (cc (e, none))
 some_level expected k (suc n) e none = omega arith
 
-given_struct : {S : Segments} {a : Target} (x : Object) {n : ℕ} → 0 < n → IsSeenAs Struct S a x → IsGiven Struct n x
+given_struct : {S : Segments} {a : Target} (x : Object) {n : ℕ} → 0 < n → IsSeenAs Struct S a x → IsExpected Struct n x
 given_struct ObjectNull level h = tt
 given_struct (ObjectCapability i) level h = absurd h.seen
 given_struct (ObjectStruct start size) level h = level
@@ -153,7 +153,7 @@ given_struct {a = a} (ObjectFlat start size count) level h = absurd (let k = kin
 given_struct {a = a} (ObjectPointers start count) level h = absurd (let k = kind_of_struct a.word h.of_kind in let z = h.seen.0 in omega (arith, z, k))
 given_struct {a = a} (ObjectStructs start size count) level h = absurd (let k = kind_of_struct a.word h.of_kind in let z = h.seen.0 in omega (arith, z, k))
 
-given_list : {size : ElementSize} {S : Segments} {a : Target} (x : Object) {n : ℕ} → 0 < n → object_misfit (List size) x ≡ None → IsSeenAs (List size) S a x → IsGiven (List size) n x
+given_list : {size : ElementSize} {S : Segments} {a : Target} (x : Object) {n : ℕ} → 0 < n → object_misfit (List size) x ≡ None → IsSeenAs (List size) S a x → IsExpected (List size) n x
 given_list ObjectNull level fits h = tt
 given_list (ObjectCapability i) level fits h = absurd h.seen
 given_list {size} {a = a} (ObjectStruct start sections) level fits h = absurd (let k = kind_of_list size a.word h.of_kind in let z = h.seen.0 in omega (arith, z, k))
@@ -180,15 +180,15 @@ given_bytes S a (ObjectFlat start size count) k h =
 given_bytes S a (ObjectPointers start count) k h = absurd (let six = h.1 in omega (arith, six, k.1))
 given_bytes S a (ObjectStructs start size count) k h = absurd (let seven = h.1 in omega (arith, seven, k.1))
 
-given_text : (n : ℕ) (x : Object) → IsBytes x → object_misfit Text x ≡ None → IsGiven Text n x
+given_text : (n : ℕ) (x : Object) → IsBytes x → object_misfit Text x ≡ None → IsExpected Text n x
 given_text n x (inl e) fits = rw e tt
 given_text n x (inr (start, count, e)) fits = rw e (refl, no_bytes _ _ count (rw e at fits))
 
-given_data : (n : ℕ) (x : Object) → IsBytes x → IsGiven Data n x
+given_data : (n : ℕ) (x : Object) → IsBytes x → IsExpected Data n x
 given_data n x (inl e) = rw e tt
 given_data n x (inr (start, count, e)) = rw e refl
 
-given : {expected : Expected} {S : Segments} {a : Target} (x : Object) (n : ℕ) → (expectation expected).too_deep n ≡ None → (expectation expected).misfit S a ≡ None → IsSeenAs expected S a x → IsGiven expected n x
+given : {expected : Expected} {S : Segments} {a : Target} (x : Object) (n : ℕ) → (expectation expected).too_deep n ≡ None → (expectation expected).misfit S a ≡ None → IsSeenAs expected S a x → IsExpected expected n x
 given {expected = Struct} x n level fits h = given_struct x (some_level Struct _ n refl level) h
 given {expected = List size} x n level fits h = given_list x (some_level (List size) _ n refl level) (misfit_of x h ∙ fits) h
 given {expected = Text} {S = S} {a = a} x n level fits h = given_text n x (given_bytes S a x (kind_of_text a.word h.of_kind) h.seen) (misfit_of x h ∙ fits)
@@ -203,7 +203,7 @@ refused_then : {A : Type 0} (o : Option ErrorKind) (f : Unit {0} → Metered A) 
 refused_then None f m e = (refl, e)
 refused_then (Some k) f m e = absurd (not_both e refl)
 
-given_null : (expected : Expected) (n : ℕ) (x : Object) → nothing ≡ object_shape x → IsGiven expected n x
+given_null : (expected : Expected) (n : ℕ) (x : Object) → nothing ≡ object_shape x → IsExpected expected n x
 given_null expected n ObjectNull e = tt
 given_null expected n (ObjectCapability i) e = absurd (cc e)
 given_null expected n (ObjectStruct start size) e = absurd (cc e)
@@ -233,7 +233,7 @@ returned expected r m m' x some e =
     let fits = refused_then (k.misfit r.segments follows.0) (λ _. answer enters.0) enters.1 enters.3 in
     record { level = level.0; target = follows.0; of_kind = kind.0; fits = fits.0; middle = follows.1; follows = follows.2; enters = enters.2 ∙ fits.1 }
 
-pub expect_given : (expected : Expected) (r : Reading) (m m' : Meter) (result : Result Object ErrorKind) → expect (expectation expected) r m ≡ (result_shape result, m') → IfOk result (IsObjectHeld r.segments) → IfOk result (IsGiven expected r.levels)
+pub expect_given : (expected : Expected) (r : Reading) (m m' : Meter) (result : Result Object ErrorKind) → expect (expectation expected) r m ≡ (result_shape result, m') → IfOk result (IsObjectHeld r.segments) → IfOk result (IsExpected expected r.levels)
 expect_given expected r m m' (Err k) e held = tt
 expect_given expected r m m' (Ok x) e held = elim (same_or_not (word_of r) 0) [
   | inl z ↦ let null : expect (expectation expected) r m ≡ (Ok nothing, m) = rw z refl in given_null expected r.levels x (part (sym null ∙ e)).0
@@ -264,7 +264,7 @@ pub record IsReadAt (r : Reading) (m m' : Meter) (x : Object) : Type 0 where
   pub object : IsObject Value (one_level r) m m' x
 
 -- a struct or a list that was returned was read within the levels of its place
-pub struct_given : {r : Reading} {m m' : Meter} (x : Object) → IsGiven Struct r.levels x → IsReadAt r m m' x → IsObject Value r m m' x
+pub struct_given : {r : Reading} {m m' : Meter} (x : Object) → IsExpected Struct r.levels x → IsReadAt r m m' x → IsObject Value r m m' x
 struct_given ObjectNull level h = h.object
 struct_given (ObjectCapability i) level h = absurd level
 struct_given (ObjectStruct start size) level h = let o = h.object in (o.0, own_level level o.1, o.2, o.3, o.4, o.5)
@@ -272,7 +272,7 @@ struct_given (ObjectFlat start size count) level h = absurd level
 struct_given (ObjectPointers start count) level h = absurd level
 struct_given (ObjectStructs start size count) level h = absurd level
 
-pub list_given : (size : ElementSize) {r : Reading} {m m' : Meter} (x : Object) → IsGiven (List size) r.levels x → IsReadAt r m m' x → IsObject Value r m m' x
+pub list_given : (size : ElementSize) {r : Reading} {m m' : Meter} (x : Object) → IsExpected (List size) r.levels x → IsReadAt r m m' x → IsObject Value r m m' x
 list_given size ObjectNull level h = h.object
 list_given size (ObjectCapability i) level h = absurd level
 list_given size (ObjectStruct start sections) level h = absurd level
@@ -284,7 +284,7 @@ list_given size (ObjectStructs start sections count) level h = let o = h.object 
 abbrev LeadsToKind : Reading → Meter → Meter → ℕ → Type 0
 LeadsToKind r m m' k = ((word_of r ≡ 0) × (m' ≡ m)) ⊎ ((a : Target) × LeadsTo r a × (kind a.word ≡ k))
 
-pub struct_or_null : {r : Reading} {m m' : Meter} (x : Object) → IsGiven Struct r.levels x → IsReadAt r m m' x → LeadsToKind r m m' 0
+pub struct_or_null : {r : Reading} {m m' : Meter} (x : Object) → IsExpected Struct r.levels x → IsReadAt r m m' x → LeadsToKind r m m' 0
 struct_or_null ObjectNull level h = inl h.object
 struct_or_null (ObjectCapability i) level h = absurd level
 struct_or_null (ObjectStruct start size) level h = let o = h.object in inr (o.0, entered_leads o.1, o.2)
@@ -292,7 +292,7 @@ struct_or_null (ObjectFlat start size count) level h = absurd level
 struct_or_null (ObjectPointers start count) level h = absurd level
 struct_or_null (ObjectStructs start size count) level h = absurd level
 
-pub list_or_null : (size : ElementSize) {r : Reading} {m m' : Meter} (x : Object) → IsGiven (List size) r.levels x → IsReadAt r m m' x → LeadsToKind r m m' 1
+pub list_or_null : (size : ElementSize) {r : Reading} {m m' : Meter} (x : Object) → IsExpected (List size) r.levels x → IsReadAt r m m' x → LeadsToKind r m m' 1
 list_or_null size ObjectNull level h = inl h.object
 list_or_null size (ObjectCapability i) level h = absurd level
 list_or_null size (ObjectStruct start sections) level h = absurd level
@@ -301,7 +301,7 @@ list_or_null size (ObjectPointers start count) level h = let o = h.object in inr
 list_or_null size (ObjectStructs start sections count) level h = let o = h.object in inr (o.0, entered_leads o.1, o.2)
 
 -- if the answer for a text or data isn't a list of bytes, it is null
-pub no_text : (n : ℕ) {r : Reading} {m m' : Meter} (x : Object) → IsGiven Text n x → IsReadAt r m m' x → ((start : Place) (size : ElementSize) (count : ℕ) → x ≡ ObjectFlat start size count → ⊥) → (word_of r ≡ 0) × (m' ≡ m)
+pub no_text : (n : ℕ) {r : Reading} {m m' : Meter} (x : Object) → IsExpected Text n x → IsReadAt r m m' x → ((start : Place) (size : ElementSize) (count : ℕ) → x ≡ ObjectFlat start size count → ⊥) → (word_of r ≡ 0) × (m' ≡ m)
 no_text n ObjectNull given h other = h.object
 no_text n (ObjectCapability i) given h other = absurd given
 no_text n (ObjectStruct start size) given h other = absurd given
@@ -309,7 +309,7 @@ no_text n (ObjectFlat start size count) given h other = absurd (other start size
 no_text n (ObjectPointers start count) given h other = absurd given
 no_text n (ObjectStructs start size count) given h other = absurd given
 
-pub no_data : (n : ℕ) {r : Reading} {m m' : Meter} (x : Object) → IsGiven Data n x → IsReadAt r m m' x → ((start : Place) (size : ElementSize) (count : ℕ) → x ≡ ObjectFlat start size count → ⊥) → (word_of r ≡ 0) × (m' ≡ m)
+pub no_data : (n : ℕ) {r : Reading} {m m' : Meter} (x : Object) → IsExpected Data n x → IsReadAt r m m' x → ((start : Place) (size : ElementSize) (count : ℕ) → x ≡ ObjectFlat start size count → ⊥) → (word_of r ≡ 0) × (m' ≡ m)
 no_data n ObjectNull given h other = h.object
 no_data n (ObjectCapability i) given h other = absurd given
 no_data n (ObjectStruct start size) given h other = absurd given
@@ -318,6 +318,6 @@ no_data n (ObjectPointers start count) given h other = absurd given
 no_data n (ObjectStructs start size count) given h other = absurd given
 
 -- what was returned fits
-pub given_fits : (expected : Expectation) (r : Reading) (m : Meter) (a : Target) → CanBeGiven expected r m → LeadsTo r a → expected.misfit r.segments a ≡ None
+pub given_fits : (expected : Expectation) (r : Reading) (m : Meter) (a : Target) → HasExpected expected r m → LeadsTo r a → expected.misfit r.segments a ≡ None
 given_fits expected r m a (null_pointer null) l = absurd (l.0 null)
 given_fits expected r m a (fitting b level of_kind o fits) l = (let same : b ≡ a = same_target r.segments r.segment r.at (entered_leads o).1 l.1 in rw (← same) fits)

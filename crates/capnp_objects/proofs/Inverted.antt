@@ -8,7 +8,7 @@ use Rattle.capnp_words.specs.Meter.{Meter, FitsIn, Affords}
 use Rattle.capnp_format.specs.Word.{kind, element_size, list_count, upper_half}
 use Rattle.capnp_format.specs.Segments.{Segments, segment, Target}
 use Rattle.capnp_format.specs.Means.{Claims}
-use Rattle.capnp_objects.specs.Demands.{claim, tag, element_words, own, IsStructList, IsVoidList, LiesThere, Meets}
+use Rattle.capnp_objects.specs.Demands.{claimed_words, tag, element_words, own_charge, IsStructList, IsVoidList, IsInSegment, Meets}
 use Rattle.capnp_objects.specs.declared.object.Purpose.{Purpose}
 use Rattle.capnp_objects.specs.declared.object.Purpose.TheVariants.{Value, Size}
 use Rattle.capnp_objects.specs.Enter.{Shape, nothing, capability, shape, read}
@@ -16,7 +16,7 @@ use Rattle.capnp_objects.specs.Measures.{NotMeasured, no_level, stopped}
 use Rattle.capnp_objects.specs.Outcomes.{Entered}
 use Rattle.capnp_objects.specs.Reading.{Reading, word_of}
 use Rattle.capnp_objects.specs.Refusals.{landing_words, granted_before, exceeding, leading_nowhere, Stopped, no_target, broken, claim_exceeds, count_exceeds, NotRead, CanBeRead}
-use Rattle.capnp_objects.specs.Spending.{after}
+use Rattle.capnp_objects.specs.Spending.{after_charge}
 use Rattle.capnp_objects.specs.Wanted.{plain, BreaksObject, follow_at, FollowsTo}
 use Rattle.capnp_objects.proofs.Budgets.{affords_none}
 use Rattle.capnp_objects.proofs.Computed.{null_is, capability_is, entering_is, stopped_is, measured_is, pads_are}
@@ -43,14 +43,14 @@ structs_or_not w = elim (same_or_not (kind w) 1) [
   | inr other ↦ inr (λ v. other v.0)
 ]
 
-lies_or_not : (purpose : Purpose) (S : Segments) (a : Target) → LiesThere purpose S a ⊎ (LiesThere purpose S a → ⊥)
-lies_or_not Value S a = elim (within_or_not (a.start + claim a.word) (length (segment S a.segment))) [ inl le ↦ inl le | inr lt ↦ inr (λ le. omega (arith, le, lt)) ]
+lies_or_not : (purpose : Purpose) (S : Segments) (a : Target) → IsInSegment purpose S a ⊎ (IsInSegment purpose S a → ⊥)
+lies_or_not Value S a = elim (within_or_not (a.start + claimed_words a.word) (length (segment S a.segment))) [ inl le ↦ inl le | inr lt ↦ inr (λ le. omega (arith, le, lt)) ]
 lies_or_not Size S a = elim (void_or_not a.word) [
   | inl void ↦ inl (λ other. absurd (other void))
-  | inr other ↦ elim (within_or_not (a.start + claim a.word) (length (segment S a.segment))) [ inl le ↦ inl (λ _. le) | inr lt ↦ inr (λ h. let le = h other in omega (arith, le, lt)) ]
+  | inr other ↦ elim (within_or_not (a.start + claimed_words a.word) (length (segment S a.segment))) [ inl le ↦ inl (λ _. le) | inr lt ↦ inr (λ h. let le = h other in omega (arith, le, lt)) ]
 ]
 
-claims_there : (purpose : Purpose) (S : Segments) (a : Target) → LiesThere purpose S a → (IsVoidList a.word → ⊥) → Claims S a (claim a.word)
+claims_there : (purpose : Purpose) (S : Segments) (a : Target) → IsInSegment purpose S a → (IsVoidList a.word → ⊥) → Claims S a (claimed_words a.word)
 claims_there Value S a h other = h
 claims_there Size S a h other = h other
 
@@ -60,20 +60,20 @@ pub data Ends (purpose : Purpose) (r : Reading) (m : Meter) : Type 0 where
   at_object : (a : Target) (m' : Meter) → Entered purpose r m m' a → Ends purpose r m
   refused : (k : ErrorKind) (m' : Meter) → Stopped purpose plain r m m' k → Ends purpose r m
 
-no_struct_tag : (purpose : Purpose) {r : Reading} {m : Meter} {a : Target} → FollowsTo r a → 0 < r.levels → IsStructList a.word → Claims r.segments a (claim a.word) → kind (tag r.segments a) ≢ 0 → Affords r.charging m (a.pads + claim a.word) → Ends purpose r m
+no_struct_tag : (purpose : Purpose) {r : Reading} {m : Meter} {a : Target} → FollowsTo r a → 0 < r.levels → IsStructList a.word → Claims r.segments a (claimed_words a.word) → kind (tag r.segments a) ≢ 0 → Affords r.charging m (a.pads + claimed_words a.word) → Ends purpose r m
 no_struct_tag Value {a = a} f some t claims other covered = refused InlineCompositeListsOfNonStructTypeAreNotSupported _ (broken a f (some, t, claims, other) (record { covers = covered; spent = refl }))
 no_struct_tag Size {a = a} f some t claims other covered = refused CantHandleNonStructInlineComposite _ (broken a f (some, t, claims, other) (record { covers = covered; spent = refl }))
 
 at_demand : {purpose : Purpose} {r : Reading} {m : Meter} {a : Target} (k : ErrorKind) → FollowsTo r a → BreaksObject purpose plain r.segments r.levels a k → granted_before a k ≡ 0 → Affords r.charging m a.pads → Ends purpose r m
 at_demand {r = r} {m = m} {a = a} k f h none covered = refused k _ (broken a f h (record { covers = subst (λ g. Affords r.charging m (a.pads + g)) (sym none) (subst (Affords r.charging m) (let e : a.pads ≡ a.pads + 0 = omega arith in e) covered); spent = refl }))
 
-ends_whole : (purpose : Purpose) (r : Reading) (m : Meter) (a : Target) → FollowsTo r a → Meets purpose r.segments r.levels a → Affords r.charging m (a.pads + claim a.word) → Ends purpose r m
-ends_whole purpose r m a f meets covered = elim (affords_or_not r.charging m (own purpose r.segments a)) [
+ends_whole : (purpose : Purpose) (r : Reading) (m : Meter) (a : Target) → FollowsTo r a → Meets purpose r.segments r.levels a → Affords r.charging m (a.pads + claimed_words a.word) → Ends purpose r m
+ends_whole purpose r m a f meets covered = elim (affords_or_not r.charging m (own_charge purpose r.segments a)) [
   | inl all ↦ at_object a _ (record { follows = f; meets = meets; covers = all; spent = refl })
   | inr short ↦ refused ReadLimitExceeded _ (count_exceeds a f meets short (record { covers = covered; spent = refl }) refl)
 ]
 
-ends_claimed : (purpose : Purpose) (r : Reading) (m : Meter) (a : Target) → FollowsTo r a → kind a.word < 2 → 0 < r.levels → LiesThere purpose r.segments a → Affords r.charging m (a.pads + claim a.word) → Ends purpose r m
+ends_claimed : (purpose : Purpose) (r : Reading) (m : Meter) (a : Target) → FollowsTo r a → kind a.word < 2 → 0 < r.levels → IsInSegment purpose r.segments a → Affords r.charging m (a.pads + claimed_words a.word) → Ends purpose r m
 ends_claimed purpose r m a f object some lies covered = elim (structs_or_not a.word) [
   | inr other ↦ ends_whole purpose r m a f (record { levels = some; is_object = object; claims = lies; tagged = λ t. absurd (other t) }) covered
   | inl t ↦
@@ -92,9 +92,9 @@ ends_object purpose r m a f object covered = elim (same_or_not r.levels 0) [
   | inl none ↦ at_demand MessageIsTooDeeplyNestedOrContainsCycles f (object, none) refl covered
   | inr some ↦ elim (lies_or_not purpose r.segments a) [
     | inr out ↦ at_demand MessageContainsOutOfBoundsPointer f (object, omega (arith, some), out) refl covered
-    | inl lies ↦ elim (affords_or_not r.charging m (a.pads + claim a.word)) [
+    | inl lies ↦ elim (affords_or_not r.charging m (a.pads + claimed_words a.word)) [
       | inl both ↦ ends_claimed purpose r m a f object (omega (arith, some)) lies both
-      | inr short ↦ refused ReadLimitExceeded _ (claim_exceeds a f (omega (arith, some)) object (claims_there purpose r.segments a lies (λ void. short (subst (Affords r.charging m) (let e : a.pads ≡ a.pads + claim a.word = omega (arith, claim_list a.word 0 void.0 void.1) in e) covered))) short (record { covers = covered; spent = refl }) refl)
+      | inr short ↦ refused ReadLimitExceeded _ (claim_exceeds a f (omega (arith, some)) object (claims_there purpose r.segments a lies (λ void. short (subst (Affords r.charging m) (let e : a.pads ≡ a.pads + claimed_words a.word = omega (arith, claim_list a.word 0 void.0 void.1) in e) covered))) short (record { covers = covered; spent = refl }) refl)
     ]
   ]
 ]
@@ -149,7 +149,7 @@ of_same_answer {u = u} {m = m} P e f h =
 -- what `read` returns if only the size is wanted
 pub data Told (r : Reading) (m : Meter) : Result Shape ErrorKind × Meter → Type 0 where
   null_told : word_of r ≡ 0 → Told r m (Ok nothing, m)
-  capability_told : (a : Target) → 0 < r.levels → FollowsTo r a → a.word % 2 ^ 32 ≡ 3 → Affords r.charging m a.pads → Told r m (Ok (capability (upper_half a.word)), after r.charging m a.pads 1)
+  capability_told : (a : Target) → 0 < r.levels → FollowsTo r a → a.word % 2 ^ 32 ≡ 3 → Affords r.charging m a.pads → Told r m (Ok (capability (upper_half a.word)), after_charge r.charging m a.pads 1)
   object_told : (a : Target) (m' : Meter) → Entered Size r m m' a → Told r m (Ok (shape r.segments a), m')
   refusal_told : (k : ErrorKind) (m' : Meter) → NotMeasured r m m' k → Told r m (Err k, m')
 
@@ -195,7 +195,7 @@ can_be_read_is purpose r m (inl z) = is_answer (null_is purpose r m z)
 can_be_read_is Value r m (inr (inl (a, f, low, covered))) = is_answer (capability_is Value r a m (λ e. absurd (cc e)) f low covered)
 can_be_read_is Size r m (inr (inl (a, (f, level), low, covered))) = is_answer (capability_is Size r a m (λ _. level) f low covered)
 can_be_read_is purpose r m (inr (inr (a, f, meets, covered))) =
-    is_answer (entering_is purpose r m (after r.charging m (own purpose r.segments a) 1) a (record { follows = f; meets = meets; covers = covered; spent = refl }))
+    is_answer (entering_is purpose r m (after_charge r.charging m (own_charge purpose r.segments a) 1) a (record { follows = f; meets = meets; covers = covered; spent = refl }))
 
 pub value_can_be_read : (r : Reading) (m : Meter) → IsOk (read Value r m).0 → CanBeRead Value r m
 unfolding CanBeRead

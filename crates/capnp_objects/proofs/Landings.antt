@@ -21,7 +21,7 @@ use Rattle.capnp_objects.specs.declared.object.Purpose.TheVariants.{Value, Size}
 use Rattle.capnp_objects.specs.declared.source.Source.{Source}
 use Rattle.capnp_objects.specs.declared.source.Source.TheVariants.{Arena, Default, Nothing}
 use Rattle.capnp_format.specs.Means.{Claims}
-use Rattle.capnp_objects.specs.Demands.{claim, LiesThere}
+use Rattle.capnp_objects.specs.Demands.{claimed_words, IsInSegment}
 use Rattle.capnp_objects.specs.Enter.{follow}
 use Rattle.capnp_objects.specs.Entering.{follow_pads, IsPad}
 use Rattle.capnp_objects.specs.Follow.{follow_far}
@@ -163,6 +163,6 @@ default_refused g {source = Default d} here m nesting e some is_far small = defa
 default_refused g {source = Nothing} here m nesting e some is_far small = absurd (omega arith)
 
 -- if the words of an object are inside their segment, they are so for each purpose
-pub lies : (purpose : Purpose) (S : Segments) (a : Target) → Claims S a (claim a.word) → LiesThere purpose S a
+pub lies : (purpose : Purpose) (S : Segments) (a : Target) → Claims S a (claimed_words a.word) → IsInSegment purpose S a
 lies Value S a h = h
 lies Size S a h = λ _. h

@@ -6,7 +6,7 @@ use Rattle.capnp_format.specs.Segments.{Segments, words_at, Target}
 use Rattle.capnp_format.specs.Tree.{Null, Struct, Flat, Pointers, Structs, Trees, Elements, count, element_count}
 use Rattle.capnp_format.specs.Means.{Claims, count_cost}
 use Rattle.capnp_words.specs.Meter.{Meter}
-use Rattle.capnp_objects.specs.Demands.{tag, own}
+use Rattle.capnp_objects.specs.Demands.{tag, own_charge}
 use Rattle.capnp_objects.specs.Outcomes.{Reads, ReadsAll, ReadsElements, Entered}
 use Rattle.capnp_objects.specs.Faults.{child_at}
 use Rattle.capnp_objects.specs.Reading.{Reading, word_of, tag_size}
@@ -22,17 +22,17 @@ use Rattle.capnp_objects.proofs.Followed.{entered_leads}
 unfoldable pub read_null : {form : Form} {r : Reading} (m : Meter) → word_of r ≡ 0 → Reads form r m m Null
 read_null {form} {r} m z = record { cost = 0; means = (z, refl); takes = λ e. refl; covers = affords_none r.charging m; spent = sym (after_none r.charging m) }
 
-pub own_struct : (S : Segments) (a : Target) → kind a.word ≡ 0 → own Value S a ≡ a.pads + (data_words a.word + pointer_count a.word)
+pub own_struct : (S : Segments) (a : Target) → kind a.word ≡ 0 → own_charge Value S a ≡ a.pads + (data_words a.word + pointer_count a.word)
 own_struct S a z = omega (arith, claim_struct a.word z, extra_struct Value S a z)
 
-pub own_flat : (S : Segments) (a : Target) → kind a.word ≡ 1 → element_size a.word ≤ 5 → own Value S a ≡ a.pads + words_for (element_size a.word) (list_count a.word) + count_cost (element_size a.word) (list_count a.word)
+pub own_flat : (S : Segments) (a : Target) → kind a.word ≡ 1 → element_size a.word ≤ 5 → own_charge Value S a ≡ a.pads + words_for (element_size a.word) (list_count a.word) + count_cost (element_size a.word) (list_count a.word)
 own_flat S a z small =
     ap₂ (λ i j. a.pads + i + j) (claim_list a.word (element_size a.word) z refl ∙ claim_flat (element_size a.word) (list_count a.word) small) (extra_list Value S a (element_size a.word) z refl ∙ extra_flat Value S a (element_size a.word) small)
 
-pub own_pointers : (S : Segments) (a : Target) → kind a.word ≡ 1 → element_size a.word ≡ 6 → own Value S a ≡ a.pads + list_count a.word
+pub own_pointers : (S : Segments) (a : Target) → kind a.word ≡ 1 → element_size a.word ≡ 6 → own_charge Value S a ≡ a.pads + list_count a.word
 own_pointers S a z six = omega (arith, claim_list a.word 6 z six, extra_list Value S a 6 z six)
 
-pub own_structs : (S : Segments) (a : Target) → kind a.word ≡ 1 → element_size a.word ≡ 7 → own Value S a ≡ a.pads + (list_count a.word + 1) + count_cost (data_words (tag S a) + pointer_count (tag S a)) (offset_bits (tag S a))
+pub own_structs : (S : Segments) (a : Target) → kind a.word ≡ 1 → element_size a.word ≡ 7 → own_charge Value S a ≡ a.pads + (list_count a.word + 1) + count_cost (data_words (tag S a) + pointer_count (tag S a)) (offset_bits (tag S a))
 own_structs S a z seven = ap₂ (λ i j. a.pads + i + j) (claim_list a.word 7 z seven) (extra_list Value S a 7 z seven)
 
 unfoldable pub read_struct : {form : Form} {r : Reading} {m m' m'' : Meter} {a : Target} {ts : Trees} → Entered Value r m m' a → kind a.word ≡ 0 → count ts ≡ pointer_count a.word →
@@ -44,7 +44,7 @@ read_struct {form} {r} {m} {m'} {m''} {a} {ts} o z len all =
     let inside : Claims S a (d + q) = omega (arith, o.meets.claims, claim_struct a.word z) in
     let paid = paid_both (paid_own o) (paid_all all) in
     record {
-      cost = own Value S a + all.cost;
+      cost = own_charge Value S a + all.cost;
       means =
           struct_meaning S r.levels r.segment r.at a d q (words_at S a.segment a.start d) ts all.cost _ o.meets.levels (record { leads_to = entered_leads o; is_struct = z; data_of = refl; pointers = refl })
           (length_words S a.segment a.start d (omega (arith, inside))) len inside refl all.means (ap (λ i. i + all.cost) (own_struct S a z));
@@ -59,7 +59,7 @@ read_flat {form} {r} {m} {m'} {a} o z small =
     let S : Segments = r.segments in
     let size : ℕ = element_size a.word in
     record {
-      cost = own Value S a;
+      cost = own_charge Value S a;
       means =
           flat_meaning S r.levels r.segment r.at a size (list_count a.word) _ _ o.meets.levels small (record { leads_to = entered_leads o; is_list = z; is_size = refl; counts = refl }) (length-digits _ (list_count a.word) _)
           (subst (Claims S a) (claim_list a.word size z refl ∙ claim_flat size (list_count a.word) small) o.meets.claims) refl (own_flat S a z small);
@@ -74,7 +74,7 @@ read_pointers {form} {r} {m} {m'} {m''} {a} {ts} o z six len all =
     let S : Segments = r.segments in
     let paid = paid_both (paid_own o) (paid_all all) in
     record {
-      cost = own Value S a + all.cost;
+      cost = own_charge Value S a + all.cost;
       means =
           pointers_meaning S r.levels r.segment r.at a (list_count a.word) ts all.cost _ o.meets.levels (record { leads_to = entered_leads o; is_list = z; is_size = six; counts = refl }) len
           (omega (arith, o.meets.claims, claim_list a.word 6 z six)) all.means (ap (λ i. i + all.cost) (own_pointers S a z six));
@@ -93,7 +93,7 @@ read_structs {form} {r} {m} {m'} {m''} {a} {es} o z seven len all =
     let paid = paid_both (paid_own o) (paid_elements all) in
     let t = o.meets.tagged (z, seven) in
     record {
-      cost = own Value S a + all.cost;
+      cost = own_charge Value S a + all.cost;
       means = (
         a,
         N,

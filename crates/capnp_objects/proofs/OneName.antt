@@ -17,9 +17,9 @@ use Rattle.capnp_objects.specs.Enter.{capability, shape}
 use Rattle.capnp_objects.specs.Faults.{child_at}
 use Rattle.capnp_objects.specs.Metered.{Metered, onward}
 use Rattle.capnp_objects.specs.Outcomes.{Entered, Reads, ReadsAll, ReadsElements}
-use Rattle.capnp_objects.specs.Reading.{Reading, behind, tag_size}
+use Rattle.capnp_objects.specs.Reading.{Reading, place_past, tag_size}
 use Rattle.capnp_objects.specs.Refusals.{granted_before, Stopped, no_target, broken, claim_exceeds, count_exceeds, Refused, here, below, GoesBefore, in_struct, in_pointers, in_element}
-use Rattle.capnp_objects.specs.Spending.{after, Paid, pointers_in, pointers_in_all, pointers_in_elements}
+use Rattle.capnp_objects.specs.Spending.{after_charge, Paid, pointers_in, pointers_in_all, pointers_in_elements}
 use Rattle.capnp_objects.specs.Values.{permit, read_values, read_element_values, object_value, value_within, value}
 use Rattle.capnp_objects.specs.Wanted.{Form, plain, canonical, of_default, BreaksObject, FollowsTo}
 use Rattle.capnp_objects.proofs.Budgets.{after_after, after_none, affords_rest, paid_one, paid_all}
@@ -35,7 +35,7 @@ reads_is form r m m' t x = go (value form r m) (value_agrees form r m)
     go : (o : Result Tree ErrorKind × Meter) → Agree form r m o → o ≡ (Ok t, m')
     go (Ok u, m2) y =
         let same = one_value r.segments r.levels r.levels r.segment r.at u t y.cost x.cost y.means x.means in
-        ap₂ (λ v m3. (Ok v, m3)) same.0 (y.spent ∙ ap₂ (λ c n. after r.charging m c n) same.1 (ap pointers_in same.0) ∙ sym x.spent)
+        ap₂ (λ v m3. (Ok v, m3)) same.0 (y.spent ∙ ap₂ (λ c n. after_charge r.charging m c n) same.1 (ap pointers_in same.0) ∙ sym x.spent)
     go (Err k, m2) y = absurd ((unreadable y).only t x.cost x.means x.takes x.covers)
 
 -- f reads what the relations read
@@ -43,24 +43,24 @@ abbrev ReadsBy : Form → (Reading → Metered Tree) → Reading → Type 0
 ReadsBy form f r = (q : ℕ) (m1 m2 : Meter) (t : Tree) → Reads form (record r { at = q }) m1 m2 t → f (record r { at = q }) m1 ≡ (Ok t, m2)
 
 nothing_read : {form : Form} {r : Reading} {m m' : Meter} → ReadsAll form r m m' no_trees → m' ≡ m
-nothing_read {form} {r} {m} x = x.spent ∙ ap (λ c. after r.charging m c 0) x.means ∙ after_none r.charging m
+nothing_read {form} {r} {m} x = x.spent ∙ ap (λ c. after_charge r.charging m c 0) x.means ∙ after_none r.charging m
 
 record Split (form : Form) (r : Reading) (m m' : Meter) (t : Tree) (ts : Trees) : Type 0 where
   mid : Meter
   first : Reads form r m mid t
-  rest : ReadsAll form (behind r 1) mid m' ts
+  rest : ReadsAll form (place_past r 1) mid m' ts
 
 split : (form : Form) (r : Reading) (m m' : Meter) (t : Tree) (ts : Trees) → ReadsAll form r m m' (tree t ts) → Split form r m m' t ts
 split form r m m' t ts x =
     let k : ℕ = x.means.0 in
     let l : ℕ = x.means.1 in
     let whole : x.cost ≡ k + l = x.means.4 in
-    let mid : Meter = after r.charging m k (pointers_in t) in
+    let mid : Meter = after_charge r.charging m k (pointers_in t) in
     let first : Reads form r m mid t = record { cost = k; means = x.means.2; takes = λ e. let none = x.takes e in omega (arith, none); covers = affords_less r.charging m k x.cost (omega (arith, whole)) x.covers; spent = refl } in
     record {
       mid = mid;
       first = first;
-      rest = record { cost = l; means = x.means.3; takes = λ e. let none = x.takes e in omega (arith, none); covers = affords_rest l x.cost (paid_one first) (omega (arith, whole)) x.covers; spent = x.spent ∙ ap (λ c. after r.charging m c (pointers_in t + pointers_in_all ts)) whole ∙ sym (after_after r.charging m k (pointers_in t) l (pointers_in_all ts)) };
+      rest = record { cost = l; means = x.means.3; takes = λ e. let none = x.takes e in omega (arith, none); covers = affords_rest l x.cost (paid_one first) (omega (arith, whole)) x.covers; spent = x.spent ∙ ap (λ c. after_charge r.charging m c (pointers_in t + pointers_in_all ts)) whole ∙ sym (after_after r.charging m k (pointers_in t) l (pointers_in_all ts)) };
     }
 
 trees_are : (form : Form) (f : Reading → Metered Tree) (r : Reading) → ReadsBy form f r → (ts : Trees) (p : ℕ) (m m' : Meter) → ReadsAll form (record r { at = p }) m m' ts → read_values f (count ts) (record r { at = p }) m ≡ (Ok ts, m')
@@ -85,29 +85,29 @@ trees_stop form f r h (tree t ts) (suc i) p m mid m' k x lt e =
 record SplitRow (form : Form) (r : Reading) (size : StructSize) (m m' : Meter) (ts : Trees) (es : Elements) : Type 0 where
   mid : Meter
   many : count ts ≡ size.pointers
-  first : ReadsAll form (behind r size.data_words) m mid ts
-  rest : ReadsElements form (behind r (size.data_words + size.pointers)) size mid m' es
+  first : ReadsAll form (place_past r size.data_words) m mid ts
+  rest : ReadsElements form (place_past r (size.data_words + size.pointers)) size mid m' es
 
 split_row : (form : Form) (r : Reading) (size : StructSize) (m m' : Meter) (ws : List ℕ) (ts : Trees) (es : Elements) → ReadsElements form r size m m' (element ws ts es) → SplitRow form r size m m' ts es
 split_row form r size m m' ws ts es x =
     let k : ℕ = x.means.0 in
     let l : ℕ = x.means.1 in
     let whole : x.cost ≡ k + l = x.means.7 in
-    let mid : Meter = after r.charging m k (pointers_in_all ts) in
-    let first : ReadsAll form (behind r size.data_words) m mid ts = record { cost = k; means = x.means.5; takes = λ e. let none = x.takes e in omega (arith, none); covers = affords_less r.charging m k x.cost (omega (arith, whole)) x.covers; spent = refl } in
+    let mid : Meter = after_charge r.charging m k (pointers_in_all ts) in
+    let first : ReadsAll form (place_past r size.data_words) m mid ts = record { cost = k; means = x.means.5; takes = λ e. let none = x.takes e in omega (arith, none); covers = affords_less r.charging m k x.cost (omega (arith, whole)) x.covers; spent = refl } in
     let others : MeansElements r.segments r.levels r.segment (r.at + (size.data_words + size.pointers)) size.data_words size.pointers es l = subst (λ p. MeansElements r.segments r.levels r.segment p size.data_words size.pointers es l) (let e : r.at + size.data_words + size.pointers ≡ r.at + (size.data_words + size.pointers) = omega arith in e) x.means.6 in
     record {
       mid = mid;
       many = x.means.3;
       first = first;
-      rest = record { cost = l; means = others; takes = λ e. let none = x.takes e in omega (arith, none); covers = affords_rest l x.cost (paid_all first) (omega (arith, whole)) x.covers; spent = x.spent ∙ ap (λ c. after r.charging m c (pointers_in_all ts + pointers_in_elements es)) whole ∙ sym (after_after r.charging m k (pointers_in_all ts) l (pointers_in_elements es)) };
+      rest = record { cost = l; means = others; takes = λ e. let none = x.takes e in omega (arith, none); covers = affords_rest l x.cost (paid_all first) (omega (arith, whole)) x.covers; spent = x.spent ∙ ap (λ c. after_charge r.charging m c (pointers_in_all ts + pointers_in_elements es)) whole ∙ sym (after_after r.charging m k (pointers_in_all ts) l (pointers_in_elements es)) };
     }
 
 elements_stop : (form : Form) (f : Reading → Metered Tree) (r : Reading) → ReadsBy form f r → (size : StructSize) (es : Elements) (n p : ℕ) (m mid m' : Meter) (k : ErrorKind) → ReadsElements form (record r { at = p }) size m mid es → element_count es < n →
     read_values f size.pointers (record r { at = p + element_count es * (size.data_words + size.pointers) + size.data_words }) mid ≡ (Err k, m') → read_element_values f size.data_words size.pointers n (record r { at = p }) m ≡ (Err k, m')
 elements_stop form f r h size es zero p m mid m' k x lt e = absurd (omega arith)
 elements_stop form f r h size no_elements (suc n) p m mid m' k x lt e =
-    let same : mid ≡ m = x.spent ∙ ap (λ c. after r.charging m c 0) x.means ∙ after_none r.charging m in
+    let same : mid ≡ m = x.spent ∙ ap (λ c. after_charge r.charging m c 0) x.means ∙ after_none r.charging m in
     let there : read_values f size.pointers (record r { at = p + size.data_words }) m ≡ (Err k, m') = ap₂ (λ q y. read_values f size.pointers (record r { at = q }) y) (let e : p + size.data_words ≡ p + 0 * (size.data_words + size.pointers) + size.data_words = omega arith in e) (sym same) ∙ e in
     ap (onward _) there
 elements_stop form f r h size (element ws ts es) (suc n) p m mid m' k x lt e =
@@ -123,8 +123,8 @@ capability_stops : (form : Form) (r : Reading) (m m' : Meter) (a : Target) (k : 
     ((f : Reading → Metered Tree) (at : ℕ → ℕ → Reading) (y : Meter) → onward (object_value f at) (permit form (capability (upper_half a.word)) y) ≡ (Err k, y)) → value form r m ≡ (Err k, m')
 capability_stops form r m m' a k f low paid h =
     let none : a.pads + 0 ≡ a.pads = omega arith in
-    leaf_is form r.levels r m (after r.charging m a.pads 1) (capability (upper_half a.word)) (Err k, after r.charging m a.pads 1) (capability_is Value r a m (λ e. absurd (cc e)) f low (subst (Affords r.charging m) none paid.covers)) (λ g at. h g at (after r.charging m a.pads 1))
-    ∙ ap (λ y. (Err k, y)) (ap (λ i. after r.charging m i 1) (sym none) ∙ sym paid.spent)
+    leaf_is form r.levels r m (after_charge r.charging m a.pads 1) (capability (upper_half a.word)) (Err k, after_charge r.charging m a.pads 1) (capability_is Value r a m (λ e. absurd (cc e)) f low (subst (Affords r.charging m) none paid.covers)) (λ g at. h g at (after_charge r.charging m a.pads 1))
+    ∙ ap (λ y. (Err k, y)) (ap (λ i. after_charge r.charging m i 1) (sym none) ∙ sym paid.spent)
 
 plain_stops : (form : Form) (r : Reading) (m m' : Meter) (k : ErrorKind) → Stopped Value plain r m m' k → value form r m ≡ (Err k, m')
 plain_stops form r m m' k h = refusal_is form r.levels r m m' k (stopped_is Value r m m' k (λ e. absurd (cc e)) h)

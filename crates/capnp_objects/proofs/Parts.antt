@@ -9,10 +9,10 @@ use Rattle.capnp_format.specs.Segments.{Segments, Target}
 use Rattle.capnp_format.specs.Tree.{Tree, Null, Capability, Struct, Flat, Pointers, Structs, Trees, no_trees, tree, Elements, no_elements, element, count, element_count, capabilities, capabilities_all, capabilities_elements}
 use Rattle.capnp_format.specs.Means.{Claims}
 use Rattle.capnp_words.specs.declared.wire_pointer.StructSize.{StructSize}
-use Rattle.capnp_objects.specs.Demands.{claim, tag, count_charge, amplified, own, Meets, IsStructList, IsVoidList}
+use Rattle.capnp_objects.specs.Demands.{claimed_words, tag, count_charge, amplified_charge, own_charge, Meets, IsStructList, IsVoidList}
 use Rattle.capnp_objects.specs.Faults.{LeadsTo, child_at, IsPointer, of_struct, of_list, of_element}
 use Rattle.capnp_objects.specs.Outcomes.{MeansThere}
-use Rattle.capnp_objects.specs.Reading.{Reading, word_of, behind, pointers_of}
+use Rattle.capnp_objects.specs.Reading.{Reading, word_of, place_past, pointers_of}
 use Rattle.capnp_objects.specs.declared.object.Purpose.{Purpose}
 use Rattle.capnp_objects.specs.declared.object.Purpose.TheVariants.{Value, Size}
 use Rattle.capnp_objects.proofs.Shorthands.{MeanThere, ElementsMean}
@@ -21,10 +21,10 @@ use Rattle.capnp_objects.proofs.Shorthands.{MeanThere, ElementsMean}
 abbrev pub list_claim : ℕ → ℕ → ℕ
 list_claim size n = cond (nat_eq size 7) (n + 1) (cond (nat_eq size 6) n (words_for size n))
 
-pub claim_struct : (w : ℕ) → kind w ≡ 0 → claim w ≡ data_words w + pointer_count w
+pub claim_struct : (w : ℕ) → kind w ≡ 0 → claimed_words w ≡ data_words w + pointer_count w
 claim_struct w e = ap (λ k. cond (nat_eq k 0) (data_words w + pointer_count w) (list_claim (element_size w) (list_count w))) e
 
-pub claim_list : (w size : ℕ) → kind w ≡ 1 → element_size w ≡ size → claim w ≡ list_claim size (list_count w)
+pub claim_list : (w size : ℕ) → kind w ≡ 1 → element_size w ≡ size → claimed_words w ≡ list_claim size (list_count w)
 claim_list w size e f = ap (λ k. cond (nat_eq k 0) (data_words w + pointer_count w) (list_claim (element_size w) (list_count w))) e ∙ ap (λ i. list_claim i (list_count w)) f
 
 pub claim_flat : (size n : ℕ) → size ≤ 5 → list_claim size n ≡ words_for size n
@@ -40,15 +40,15 @@ claim_flat (suc (suc (suc (suc (suc (suc k)))))) n h = absurd (omega arith)
 abbrev extra : Purpose → Segments → Target → ℕ → ℕ → ℕ
 extra purpose S a k size = cond (nat_eq k 0) 0 (cond (nat_eq size 7) (count_charge purpose (data_words (tag S a) + pointer_count (tag S a)) (offset_bits (tag S a))) (count_charge purpose size (list_count a.word)))
 
-pub extra_struct : (purpose : Purpose) (S : Segments) (a : Target) → kind a.word ≡ 0 → amplified purpose S a ≡ 0
+pub extra_struct : (purpose : Purpose) (S : Segments) (a : Target) → kind a.word ≡ 0 → amplified_charge purpose S a ≡ 0
 extra_struct Value S a e = ap (λ k. extra Value S a k (element_size a.word)) e
 extra_struct Size S a e = refl
 
-pub extra_list : (purpose : Purpose) (S : Segments) (a : Target) (size : ℕ) → kind a.word ≡ 1 → element_size a.word ≡ size → amplified purpose S a ≡ extra purpose S a 1 size
+pub extra_list : (purpose : Purpose) (S : Segments) (a : Target) (size : ℕ) → kind a.word ≡ 1 → element_size a.word ≡ size → amplified_charge purpose S a ≡ extra purpose S a 1 size
 extra_list Value S a size e f = ap (λ k. extra Value S a k (element_size a.word)) e ∙ ap (extra Value S a 1) f
 extra_list Size S a size e f = go (nat_eq size 7)
   where
-    go : (b : Bool) → amplified Size S a ≡ cond b 0 0
+    go : (b : Bool) → amplified_charge Size S a ≡ cond b 0 0
     go true = refl
     go false = refl
 
@@ -67,7 +67,7 @@ charge_some Value width n some = ap (λ b. cond b n 0) (ne_eqb width 0 (λ e. om
 charge_some Size width n some = refl
 
 -- the elements of an object are free if it is neither a list of structs nor one of void
-pub charge_near : (purpose : Purpose) (S : Segments) (a : Target) → kind a.word < 2 → (IsVoidList a.word → ⊥) → (IsStructList a.word → ⊥) → amplified purpose S a ≡ 0
+pub charge_near : (purpose : Purpose) (S : Segments) (a : Target) → kind a.word < 2 → (IsVoidList a.word → ⊥) → (IsStructList a.word → ⊥) → amplified_charge purpose S a ≡ 0
 charge_near Size S a near some untagged = refl
 charge_near Value S a near some untagged = go (kind a.word) (element_size a.word) near some untagged
   where
@@ -80,7 +80,7 @@ charge_near Value S a near some untagged = go (kind a.word) (element_size a.word
     go (suc (suc k)) size near some untagged = absurd (omega arith)
 
 -- when only the size is wanted, all elements are free
-pub charge_of_size : (S : Segments) (a : Target) → amplified Size S a ≡ 0
+pub charge_of_size : (S : Segments) (a : Target) → amplified_charge Size S a ≡ 0
 charge_of_size S a = refl
 
 -- the place means some value with at most m capabilities
@@ -104,21 +104,21 @@ pub child_means : (r : Reading) (ts : Trees) (c q : ℕ) → MeanThere r ts c �
 child_means r no_trees c q h (low, high) = absurd (omega arith)
 child_means r (tree t ts) c q (k, l, one, rest, g) (low, high) = elim (first_or_later r.at q low) [
   | inl e ↦ (t, k, rw e one, omega arith)
-  | inr f ↦ let x = child_means (behind r 1) ts l q rest (f, omega arith) in (x.0, x.1, x.2, omega (arith, x.3))
+  | inr f ↦ let x = child_means (place_past r 1) ts l q rest (f, omega arith) in (x.0, x.1, x.2, omega (arith, x.3))
 ]
 
 pub element_means : (r : Reading) (size : StructSize) (es : Elements) (q : ℕ) → (c : ℕ) × ElementsMean r size es c → IsAmongElements r size (element_count es) q → Meant (record r { at = q }) (capabilities_elements es)
 element_means r size no_elements q x i = absurd (omega (arith, i.1))
 element_means r size (element ws ts es) q (c, (k, l, long, len, e, all, rest, g)) (zero, inside, (low, high)) =
-    let x = child_means (behind r size.data_words) ts k q all (omega arith, omega (arith, len)) in (x.0, x.1, x.2, omega (arith, x.3))
+    let x = child_means (place_past r size.data_words) ts k q all (omega arith, omega (arith, len)) in (x.0, x.1, x.2, omega (arith, x.3))
 element_means r size (element ws ts es) q (c, (k, l, long, len, e, all, rest, g)) (suc j, inside, (low, high)) =
-    let x = element_means (behind (behind r size.data_words) size.pointers) size es q (l, rest) (j, omega arith, (omega arith, omega arith)) in (x.0, x.1, x.2, omega (arith, x.3))
+    let x = element_means (place_past (place_past r size.data_words) size.pointers) size es q (l, rest) (j, omega arith, (omega arith, omega arith)) in (x.0, x.1, x.2, omega (arith, x.3))
 
 -- the object a meets its demands; its own cost is at most c; each of its children means a value
 -- with at most m capabilities
 pub record Inner (r : Reading) (a : Target) (m c : ℕ) : Type 0 where
   pub meets : Meets Value r.segments r.levels a
-  pub cost : own Value r.segments a ≤ c
+  pub cost : own_charge Value r.segments a ≤ c
   pub children : (q : ℕ) → IsPointer r.segments a q → Meant (child_at r a (pred r.levels) q) m
 
 -- a place with at most m capabilities, whose value costs c: it is null, or leads to a capability or

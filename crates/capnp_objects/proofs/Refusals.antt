@@ -5,7 +5,7 @@ use Rattle.capnp_words.specs.Meter.{Meter, FitsIn, Affords}
 use Rattle.capnp_format.specs.Word.{kind, offset_bits, data_words, pointer_count, element_size, list_count, is_double}
 use Rattle.capnp_format.specs.Segments.{Segments, Target, pad}
 use Rattle.capnp_format.specs.Tree.{count, element_count}
-use Rattle.capnp_objects.specs.Demands.{claim, tag, amplified, own}
+use Rattle.capnp_objects.specs.Demands.{claimed_words, tag, amplified_charge, own_charge}
 use Rattle.capnp_objects.specs.Faults.{LeadsTo, child_at}
 use Rattle.capnp_objects.specs.Outcomes.{Entered}
 use Rattle.capnp_objects.specs.Reading.{Reading, word_of, pointers_of, tag_size}
@@ -54,11 +54,11 @@ stopped_here {form} {r} {m} {m'} {k} (no_target (leading_nowhere some h paid)) =
 stopped_here {form} {r} {m} {m'} {k} (broken a f h paid) = refused_here m m' (f.0, inr (a, f.1, h)) (spends_once paid)
 stopped_here {form} {r} {m} {m'} {k} (claim_exceeds a f level object claims short paid named) =
     let reached : Reached r m m' a = record { follows = f; paid = paid } in
-    subst (Unreadable form r m m') (sym named) (refused_claim reached level object claims (λ h. short (affords_both (claim a.word) paid h)))
+    subst (Unreadable form r m m') (sym named) (refused_claim reached level object claims (λ h. short (affords_both (claimed_words a.word) paid h)))
 stopped_here {form} {r} {m} {m'} {k} (count_exceeds a f meets short paid named) =
     let l : LeadsTo r a = leads_there r a f (λ e. let i = meets.is_object in omega (arith, e, i)) in
-    let all : a.pads + claim a.word + amplified Value r.segments a ≡ own Value r.segments a = refl in
-    subst (Unreadable form r m m') (sym named) (refused_elements l meets paid (λ h. short (subst (Affords r.charging m) all (affords_both (amplified Value r.segments a) paid h))))
+    let all : a.pads + claimed_words a.word + amplified_charge Value r.segments a ≡ own_charge Value r.segments a = refl in
+    subst (Unreadable form r m m') (sym named) (refused_elements l meets paid (λ h. short (subst (Affords r.charging m) all (affords_both (amplified_charge Value r.segments a) paid h))))
 
 -- at one of its pointers
 stopped_below : {form : Form} {r : Reading} {m first mid m' : Meter} {q : ℕ} {a : Target} {k : ErrorKind} → Entered Value r m first a → ReadsBefore form r a q first mid → Unreadable form (child_at r a (pred r.levels) q) mid m' k → Unreadable form r m m' k

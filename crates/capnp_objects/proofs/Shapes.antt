@@ -12,7 +12,7 @@ use Rattle.capnp_objects.specs.declared.object.Object.{Object}
 use Rattle.capnp_objects.specs.declared.object.Object.TheVariants.{Null as ObjectNull, Capability as ObjectCapability, Struct as ObjectStruct, Flat as ObjectFlat, Pointers as ObjectPointers, Structs as ObjectStructs}
 use Rattle.capnp_objects.specs.declared.object.Purpose.{Purpose}
 use Rattle.capnp_objects.specs.declared.object.Purpose.TheVariants.{Value, Size}
-use Rattle.capnp_objects.specs.Demands.{claim, tag, element_words, amplified, IsVoidList, IsStructList}
+use Rattle.capnp_objects.specs.Demands.{claimed_words, tag, element_words, amplified_charge, IsVoidList, IsStructList}
 use Rattle.capnp_objects.specs.Enter.{is_struct_list, is_in_segment, no_tag_name, Shape, nothing, capability, struct, flat, pointers, structs, shape, has_level, follow, enter_object, enter, read, object_shape, result_shape, near_shape}
 use Rattle.capnp_objects.specs.Entering.{IsObjectHeld, enter_plain}
 use Rattle.capnp_objects.specs.Metered.{Metered, outcome, answer, onward, ◌>>>◌, demand, covers, charge_words}
@@ -20,7 +20,7 @@ use Rattle.capnp_objects.specs.Objects.{IsObject, EntersNear, near_at}
 use Rattle.capnp_objects.specs.Outcomes.{Entered}
 use Rattle.capnp_objects.specs.Reading.{Reading, word_of}
 use Rattle.capnp_objects.specs.Refusals.{CanBeRead, NotRead}
-use Rattle.capnp_objects.specs.Spending.{after}
+use Rattle.capnp_objects.specs.Spending.{after_charge}
 use Rattle.capnp_objects.specs.Wanted.{FollowsTo, FollowsFor}
 use Rattle.capnp_objects.proofs.Computed.{leveled, null_is, capability_is, entering_is, stopped_is}
 use Rattle.capnp_objects.proofs.Decided.{same_or_not}
@@ -51,19 +51,19 @@ after_shape purpose r a m m' o e =
     let g = tag r.segments a in
     let untagged = not (is_struct_list a.word) in
     let room : Bool = untagged || nat_le (element_words g) (list_count a.word) in
-    let last = λ (_ : Unit {0}). charge_words r.charging (amplified purpose r.segments a) >>> λ _. answer (shape r.segments a) in
+    let last = λ (_ : Unit {0}). charge_words r.charging (amplified_charge purpose r.segments a) >>> λ _. answer (shape r.segments a) in
     let one = demanded (untagged || nat_eq (kind g) 0) (no_tag_name purpose) (λ _. demand room InlineCompositeListsElementsOverrunItsWordCount >>> last) m m' o e in
-    charged_shape r.charging (amplified purpose r.segments a) (shape r.segments a) m m' o (demanded room InlineCompositeListsElementsOverrunItsWordCount last m m' o one)
+    charged_shape r.charging (amplified_charge purpose r.segments a) (shape r.segments a) m m' o (demanded room InlineCompositeListsElementsOverrunItsWordCount last m m' o one)
 
 pub entered_shape : (purpose : Purpose) (r : Reading) (a : Target) (m m' : Meter) (o : Shape) → enter_object purpose r a m ≡ (Ok o, m') → o ≡ shape r.segments a
 entered_shape purpose r a m m' o e =
-    let claimed = λ (_ : Unit {0}). charge_words r.charging (claim a.word) >>> λ _. after_words purpose r a in
+    let claimed = λ (_ : Unit {0}). charge_words r.charging (claimed_words a.word) >>> λ _. after_words purpose r a in
     let inside : Bool = is_in_segment purpose r.segments a in
     let one = demanded (nat_lt 0 r.levels) MessageIsTooDeeplyNestedOrContainsCycles (λ _. demand inside MessageContainsOutOfBoundsPointer >>> claimed) m m' o e in
-    go (covers r.charging m (claim a.word)) (demanded inside MessageContainsOutOfBoundsPointer claimed m m' o one)
+    go (covers r.charging m (claimed_words a.word)) (demanded inside MessageContainsOutOfBoundsPointer claimed m m' o one)
   where
-    go : (b : Bool) → onward (λ (_ : Unit {0}). after_words purpose r a) (cond b (Ok tt, charged r.charging m (claim a.word)) (Err ReadLimitExceeded, m)) ≡ (Ok o, m') → o ≡ shape r.segments a
-    go true e = after_shape purpose r a (charged r.charging m (claim a.word)) m' o e
+    go : (b : Bool) → onward (λ (_ : Unit {0}). after_words purpose r a) (cond b (Ok tt, charged r.charging m (claimed_words a.word)) (Err ReadLimitExceeded, m)) ≡ (Ok o, m') → o ≡ shape r.segments a
+    go true e = after_shape purpose r a (charged r.charging m (claimed_words a.word)) m' o e
     go false e = absurd (not_both e refl)
 
 -- what the shape of a struct or a list says about its word
@@ -137,7 +137,7 @@ null_object purpose r (ObjectFlat start size i) z e same = absurd (cc e)
 null_object purpose r (ObjectPointers start i) z e same = absurd (cc e)
 null_object purpose r (ObjectStructs start size i) z e same = absurd (cc e)
 
-capability_object : (purpose : Purpose) (r : Reading) (m m' : Meter) (a : Target) (x : Object) → FollowsFor purpose r a → a.word % 2 ^ 32 ≡ 3 → Affords r.charging m a.pads → capability (upper_half a.word) ≡ object_shape x → after r.charging m a.pads 1 ≡ m' → IsObject purpose r m m' x
+capability_object : (purpose : Purpose) (r : Reading) (m m' : Meter) (a : Target) (x : Object) → FollowsFor purpose r a → a.word % 2 ^ 32 ≡ 3 → Affords r.charging m a.pads → capability (upper_half a.word) ≡ object_shape x → after_charge r.charging m a.pads 1 ≡ m' → IsObject purpose r m m' x
 capability_object purpose r m m' a (ObjectCapability i) f low covered e same = (a, f, low, cc e, covered, sym same)
 capability_object purpose r m m' a ObjectNull f low covered e same = absurd (cc e)
 capability_object purpose r m m' a (ObjectStruct start size) f low covered e same = absurd (cc e)

@@ -9,7 +9,7 @@ use Rattle.capnp_format.specs.Segments.{Segments, segment, word_at, Target, give
 use Rattle.capnp_format.specs.Tree.{Tree, Null, Capability, Struct, Flat, Pointers, Structs, Trees, Elements, count, element_count, capabilities, capabilities_all, capabilities_elements}
 use Rattle.capnp_format.specs.Means.{Claims, ListAt, MeansAll}
 use Rattle.capnp_words.specs.Meter.{Meter, Affords}
-use Rattle.capnp_objects.specs.Demands.{claim, tag, amplified, own, Meets}
+use Rattle.capnp_objects.specs.Demands.{claimed_words, tag, amplified_charge, own_charge, Meets}
 use Rattle.capnp_objects.specs.Faults.{of_struct, of_list, of_element, here, below, Charges, LeadsTo, child_at, of_pads, of_object, of_elements}
 use Rattle.capnp_objects.specs.Wanted.{BreaksAt, FollowsTo}
 use Rattle.capnp_objects.specs.Outcomes.{MeansThere, Entered}
@@ -35,15 +35,15 @@ pub record Reached (r : Reading) (m m' : Meter) (a : Target) : Type 0 where
 abbrev InStruct : Reading → Target → ℕ → ℕ → Type 0
 InStruct r a m c =
     (ts : Trees) × (k : ℕ) × (count ts ≡ pointer_count a.word) × MeanThere (child_at r a (pred r.levels) (a.start + data_words a.word)) ts k × (m ≡ capabilities_all ts)
-    × (own Value r.segments a + k ≤ c)
+    × (own_charge Value r.segments a + k ≤ c)
 
 abbrev InPointers : Reading → Target → ℕ → ℕ → Type 0
-InPointers r a m c = (ts : Trees) × (k : ℕ) × (count ts ≡ list_count a.word) × MeanThere (child_at r a (pred r.levels) a.start) ts k × (m ≡ capabilities_all ts) × (own Value r.segments a + k ≤ c)
+InPointers r a m c = (ts : Trees) × (k : ℕ) × (count ts ≡ list_count a.word) × MeanThere (child_at r a (pred r.levels) a.start) ts k × (m ≡ capabilities_all ts) × (own_charge Value r.segments a + k ≤ c)
 
 abbrev InStructs : Reading → Target → ℕ → ℕ → Type 0
 InStructs r a m c =
     (es : Elements) × (k : ℕ) × (element_count es ≡ offset_bits (tag r.segments a)) × ElementsMean (child_at r a (pred r.levels) (a.start + 1)) (tag_size r.segments a) es k
-    × (m ≡ capabilities_elements es) × (own Value r.segments a + k ≤ c)
+    × (m ≡ capabilities_elements es) × (own_charge Value r.segments a + k ≤ c)
 
 pub same_word : (r : Reading) (b a : Target) → LeadsTo r b → LeadsTo r a → b.word ≡ a.word
 same_word r b a l m = ap (λ x. x.word) (one_target r b a l m)
@@ -144,22 +144,22 @@ refused_charge {form} {r} {m} {m'} {x} {g} h paid short least = record {
 }
 
 -- the value that a place means costs at least its pads and the object's own words
-own_within : (r : Reading) {a : Target} (t : Tree) (c : ℕ) → LeadsTo r a → kind a.word < 2 → MeansThere r t c → own Value r.segments a ≤ c
+own_within : (r : Reading) {a : Target} (t : Tree) (c : ℕ) → LeadsTo r a → kind a.word < 2 → MeansThere r t c → own_charge Value r.segments a ≤ c
 own_within r {a} t c l object h = elim (means_parts r t c h) [
   | is_null z ↦ absurd (l.0 z)
   | is_capability b m low one g ↦ absurd (let e : b.word ≡ a.word = same_word r b a m l in omega (arith, low, e, object))
-  | is_inner b m i ↦ let e : own Value r.segments b ≡ own Value r.segments a = ap (own Value r.segments) (one_target r b a m l) in omega (arith, i.cost, e)
+  | is_inner b m i ↦ let e : own_charge Value r.segments b ≡ own_charge Value r.segments a = ap (own_charge Value r.segments) (one_target r b a m l) in omega (arith, i.cost, e)
 ]
 
 -- the object's claim exceeds the read limit
-pub refused_claim : {form : Form} {r : Reading} {m m' : Meter} {a : Target} → Reached r m m' a → 0 < r.levels → kind a.word < 2 → Claims r.segments a (claim a.word) → (Affords r.charging m' (claim a.word) → ⊥) →
+pub refused_claim : {form : Form} {r : Reading} {m m' : Meter} {a : Target} → Reached r m m' a → 0 < r.levels → kind a.word < 2 → Claims r.segments a (claimed_words a.word) → (Affords r.charging m' (claimed_words a.word) → ⊥) →
     Unreadable form r m m' ReadLimitExceeded
 refused_claim {form} {r} {m} {m'} {a} o some object claims short =
     let l = leads_there r a o.follows (λ e. omega (arith, object)) in
     refused_charge (of_object a l some object claims refl) o.paid short (λ t c h. omega (arith, own_within r {a = a} t c l object h))
 
 -- the charge for elements without bits exceeds the read limit
-pub refused_elements : {form : Form} {r : Reading} {m m' : Meter} {a : Target} → LeadsTo r a → Meets Value r.segments r.levels a → Paid r.charging m m' (a.pads + claim a.word) 1 → (Affords r.charging m' (amplified Value r.segments a) → ⊥) →
+pub refused_elements : {form : Form} {r : Reading} {m m' : Meter} {a : Target} → LeadsTo r a → Meets Value r.segments r.levels a → Paid r.charging m m' (a.pads + claimed_words a.word) 1 → (Affords r.charging m' (amplified_charge Value r.segments a) → ⊥) →
     Unreadable form r m m' ReadLimitExceeded
 refused_elements {form} {r} {m} {m'} {a} l o paid short = refused_charge (of_elements a l o refl) paid short (λ t c h. own_within r {a = a} t c l o.is_object h)
 

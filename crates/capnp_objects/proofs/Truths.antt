@@ -4,7 +4,7 @@ use Rattle.capnp_words.specs.declared.error.ErrorKind.{ErrorKind}
 use Rattle.capnp_words.specs.declared.error.ErrorKind.TheVariants.{ReadLimitExceeded}
 use Rattle.capnp_format.specs.Tree.{Tree}
 use Rattle.capnp_words.specs.Meter.{Meter, FitsIn, less, Affords}
-use Rattle.capnp_objects.specs.Spending.{after, pointers_in}
+use Rattle.capnp_objects.specs.Spending.{after_charge, pointers_in}
 use Rattle.capnp_objects.specs.Faults.{Somewhere, here, below, HasFault, Exceeds}
 use Rattle.capnp_objects.specs.Outcomes.{Reads}
 use Rattle.capnp_objects.proofs.Unreadable.{Unreadable, Spends, Fails}
@@ -32,7 +32,7 @@ never_exceeds : (m : Meter) {r : Reading} → Somewhere (Exceeds m) r → IsUnli
 never_exceeds m (here b) free = b.2 (free b.0)
 never_exceeds m (below a q l o i rest) free = never_exceeds m rest free
 
-unlimited_after : (charging : Bool) (m : Meter) (g r : ℕ) → IsUnlimited charging m → IsUnlimited charging (after charging m g r)
+unlimited_after : (charging : Bool) (m : Meter) (g r : ℕ) → IsUnlimited charging m → IsUnlimited charging (after_charge charging m g r)
 unlimited_after true m g r free x = go m.left (λ y. free y)
   where
     go : (o : Option ℕ) → ((y : ℕ) → FitsIn o y) → FitsIn (less o g) x
@@ -53,7 +53,7 @@ unlimited_refusal {form} {r} {m} {m'} free refused =
 pub few_followed : (m m' : Meter) (x : ℕ) → m.left ≡ Some x → Spends true m m' 1 → m'.followed ≤ m.followed + (x + 1)
 few_followed m m' x e (g, r, covers, f, few) =
     let paid : g ≤ x = rw e at covers in
-    let now : m'.followed ≡ (after true m g r).followed = ap (λ y. y.followed) f in
+    let now : m'.followed ≡ (after_charge true m g r).followed = ap (λ y. y.followed) f in
     omega (arith, paid, now, few)
 
 pub reading_spends : {form : Form} {r : Reading} {m m' : Meter} {t : Tree} → Reads form r m m' t → Spends r.charging m m' 1

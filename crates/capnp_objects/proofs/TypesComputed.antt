@@ -11,7 +11,7 @@ use Rattle.capnp_format.specs.Segments.{Target}
 use Rattle.capnp_objects.specs.Metered.{onward, outcome}
 use Rattle.capnp_objects.specs.Reading.{Reading, word_of}
 use Rattle.capnp_objects.specs.Refusals.{landing_words, exceeding, leading_nowhere}
-use Rattle.capnp_objects.specs.Spending.{after, Paid}
+use Rattle.capnp_objects.specs.Spending.{after_charge, Paid}
 use Rattle.capnp_objects.specs.Types.{type_of, IsOfType, HasNoType, not_followed, of_no_type}
 use Rattle.capnp_objects.specs.Values.{pointer_type}
 use Rattle.capnp_objects.specs.Wanted.{follow_at, FollowsTo}
@@ -47,17 +47,17 @@ typed_or_not r m = elim (same_or_not (word_of r) 0) [
   | inl z ↦ inl (NullType, m, inl (z, refl, refl))
   | inr some ↦ elim (affords_or_not r.charging m (landing_words r.segments (word_of r))) [
     | inl covered ↦ go some covered (follow_at r) refl
-    | inr short ↦ inr (ReadLimitExceeded, after r.charging m 0 1, not_followed (exceeding some short (record { covers = affords_none r.charging m; spent = refl }) refl))
+    | inr short ↦ inr (ReadLimitExceeded, after_charge r.charging m 0 1, not_followed (exceeding some short (record { covers = affords_none r.charging m; spent = refl }) refl))
   ]
 ]
   where
     at_target : (a : Target) → FollowsTo r a → Affords r.charging m a.pads → (x : Result PointerType ErrorKind) → type_of a.word ≡ x → Typed r m
-    at_target a f covered (Ok t) e = inl (t, after r.charging m a.pads 1, inr (a, f, e, record { covers = covered; spent = refl }))
-    at_target a f covered (Err k) e = inr (k, after r.charging m a.pads 1, of_no_type a f e (record { covers = covered; spent = refl }))
+    at_target a f covered (Ok t) e = inl (t, after_charge r.charging m a.pads 1, inr (a, f, e, record { covers = covered; spent = refl }))
+    at_target a f covered (Err k) e = inr (k, after_charge r.charging m a.pads 1, of_no_type a f e (record { covers = covered; spent = refl }))
 
     go : word_of r ≢ 0 → Affords r.charging m (landing_words r.segments (word_of r)) → (x : Result Target ErrorKind) → follow_at r ≡ x → Typed r m
     go some covered (Ok a) e = at_target a (some, e) (subst (Affords r.charging m) (pads_are r a e) covered) (type_of a.word) refl
-    go some covered (Err k) e = inr (k, after r.charging m (landing_words r.segments (word_of r)) 1, not_followed (leading_nowhere some e (record { covers = covered; spent = refl })))
+    go some covered (Err k) e = inr (k, after_charge r.charging m (landing_words r.segments (word_of r)) 1, not_followed (leading_nowhere some e (record { covers = covered; spent = refl })))
 
 pub typed_if : (r : Reading) (m m' : Meter) (t : PointerType) → pointer_type r m ≡ (Ok t, m') → IsOfType r m m' t
 typed_if r m m' t e = elim (typed_or_not r m) [

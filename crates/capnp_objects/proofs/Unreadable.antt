@@ -8,13 +8,13 @@ use Rattle.capnp_format.specs.Tree.{Tree, Trees, Elements, count, element_count,
 use Rattle.capnp_objects.specs.Faults.{Somewhere, Exceeds}
 use Rattle.capnp_objects.specs.Outcomes.{MeansThere}
 use Rattle.capnp_objects.specs.Reading.{Reading, pointers_of}
-use Rattle.capnp_objects.specs.Spending.{after}
+use Rattle.capnp_objects.specs.Spending.{after_charge}
 use Rattle.capnp_objects.specs.Wanted.{Form, BreaksAt, AllowsCapabilities}
 use Rattle.capnp_objects.proofs.Shorthands.{MeanThere, ElementsMean}
 
 -- From m to m', g words were granted and r pointers followed, and r is at most g + limit.
 abbrev pub Spends : Bool → Meter → Meter → ℕ → Type 0
-Spends charging m m' limit = (g : ℕ) × (r : ℕ) × Affords charging m g × (m' ≡ after charging m g r) × (r ≤ g + limit)
+Spends charging m m' limit = (g : ℕ) × (r : ℕ) × Affords charging m g × (m' ≡ after_charge charging m g r) × (r ≤ g + limit)
 
 -- P holds for one of the m places from the place r on, or for some place that is reached from
 -- there.

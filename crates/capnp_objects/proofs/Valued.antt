@@ -17,9 +17,9 @@ use Rattle.capnp_objects.specs.Enter.{Shape, nothing, capability, shape, read}
 use Rattle.capnp_objects.specs.Faults.{child_at}
 use Rattle.capnp_objects.specs.Metered.{Metered, answer, onward}
 use Rattle.capnp_objects.specs.Outcomes.{Entered, Reads, ReadsAll, ReadsElements}
-use Rattle.capnp_objects.specs.Reading.{Reading, word_of, behind, segment_read, words_from, tag_size}
+use Rattle.capnp_objects.specs.Reading.{Reading, word_of, place_past, segment_read, words_from, tag_size}
 use Rattle.capnp_objects.specs.Refusals.{Stopped, no_target, broken, claim_exceeds, count_exceeds, Refused, here}
-use Rattle.capnp_objects.specs.Spending.{after}
+use Rattle.capnp_objects.specs.Spending.{after_charge}
 use Rattle.capnp_objects.specs.Values.{permit, read_values, read_element_values, object_value, value_within, value}
 use Rattle.capnp_objects.specs.Wanted.{Form, plain, canonical, of_default, BreaksObject, FollowsTo}
 use Rattle.capnp_objects.proofs.Budgets.{paid_both, paid_one, paid_all, paid_elements, affords_none, after_none}
@@ -68,7 +68,7 @@ ElementsAgree form r size n m (Ok es, m') = (element_count es ≡ n) × ReadsEle
 ElementsAgree form r size n m (Err k, m') = RefusedElements form r size n m m' k
 
 -- the first child, and those after it
-read_first : {form : Form} {r : Reading} {m m' m'' : Meter} {t : Tree} {ts : Trees} → Reads form r m m' t → ReadsAll form (behind r 1) m' m'' ts → ReadsAll form r m m'' (tree t ts)
+read_first : {form : Form} {r : Reading} {m m' m'' : Meter} {t : Tree} {ts : Trees} → Reads form r m m' t → ReadsAll form (place_past r 1) m' m'' ts → ReadsAll form r m m'' (tree t ts)
 read_first one all =
     let paid = paid_both (paid_one one) (paid_all all) in
     record { cost = one.cost + all.cost; means = (one.cost, all.cost, one.means, all.means, refl); takes = λ e. omega (arith, one.takes e, all.takes e); covers = paid.covers; spent = paid.spent }
@@ -93,8 +93,8 @@ trees_agree form f r h (suc i) p m = go (f (record r { at = p }) m) (h p m) (λ 
     go (Err k, m1) one rest = record { first = no_trees; fewer = omega arith; mid = m; are_read = read_none form (record r { at = p }) m; stops = subst (λ q. Refused form (record r { at = q }) m m1 k) (sym (add-zero p)) one }
 
 -- the first element, and those after it
-first_element : {form : Form} {r : Reading} {m m' m'' : Meter} {ts : Trees} {es : Elements} (size : StructSize) → r.at + size.data_words ≤ length (segment_read r) → count ts ≡ size.pointers → ReadsAll form (behind r size.data_words) m m' ts →
-    ReadsElements form (behind r (size.data_words + size.pointers)) size m' m'' es → ReadsElements form r size m m'' (element (words_from r size.data_words) ts es)
+first_element : {form : Form} {r : Reading} {m m' m'' : Meter} {ts : Trees} {es : Elements} (size : StructSize) → r.at + size.data_words ≤ length (segment_read r) → count ts ≡ size.pointers → ReadsAll form (place_past r size.data_words) m m' ts →
+    ReadsElements form (place_past r (size.data_words + size.pointers)) size m' m'' es → ReadsElements form r size m m'' (element (words_from r size.data_words) ts es)
 first_element {r = r} {es = es} size fits len all rest =
     let paid = paid_both (paid_all all) (paid_elements rest) in
     let long : length (words_from r size.data_words) ≡ size.data_words = length_words r.segments r.segment r.at size.data_words fits in
@@ -118,7 +118,7 @@ elements_agree form f r h size (suc n) p m fits = go (read_values f q (record r 
     s : Reading
     s = record r { at = p }
 
-    behind_first : (ts : Trees) (m1 : Meter) → count ts ≡ q → ReadsAll form (behind s d) m m1 ts → (o : Outcome Elements) → ElementsAgree form (behind s (d + q)) size n m1 o → ElementsAgree form s size (suc n) m (onward (λ es. answer (element (words_from s d) ts es)) o)
+    behind_first : (ts : Trees) (m1 : Meter) → count ts ≡ q → ReadsAll form (place_past s d) m m1 ts → (o : Outcome Elements) → ElementsAgree form (place_past s (d + q)) size n m1 o → ElementsAgree form s size (suc n) m (onward (λ es. answer (element (words_from s d) ts es)) o)
     behind_first ts m1 len all (Ok es, m2) rest = (ap suc rest.0, first_element size (omega (arith, fits)) len all rest.1)
     behind_first ts m1 len all (Err k, m2) rest = record {
       first = element (words_from s d) ts rest.first;
@@ -128,9 +128,9 @@ elements_agree form f r h size (suc n) p m fits = go (read_values f q (record r 
       stops = subst (λ x. RefusedAll form (record r { at = x }) q rest.mid m2 k) (let e : p + (d + q) + element_count rest.first * (d + q) + d ≡ p + suc (element_count rest.first) * (d + q) + d = omega arith in e) rest.stops;
     }
 
-    go : (o : Outcome Trees) → AllAgree form (behind s d) q m o → ((m1 : Meter) → ElementsAgree form (behind s (d + q)) size n m1 (read_element_values f d q n (behind s (d + q)) m1)) →
-        ElementsAgree form s size (suc n) m (onward (λ ts m1. onward (λ es. answer (element (words_from s d) ts es)) (read_element_values f d q n (behind s (d + q)) m1)) o)
-    go (Ok ts, m1) one rest = behind_first ts m1 one.0 one.1 (read_element_values f d q n (behind s (d + q)) m1) (rest m1)
+    go : (o : Outcome Trees) → AllAgree form (place_past s d) q m o → ((m1 : Meter) → ElementsAgree form (place_past s (d + q)) size n m1 (read_element_values f d q n (place_past s (d + q)) m1)) →
+        ElementsAgree form s size (suc n) m (onward (λ ts m1. onward (λ es. answer (element (words_from s d) ts es)) (read_element_values f d q n (place_past s (d + q)) m1)) o)
+    go (Ok ts, m1) one rest = behind_first ts m1 one.0 one.1 (read_element_values f d q n (place_past s (d + q)) m1) (rest m1)
     go (Err k, m1) one rest = record {
       first = no_elements;
       fewer = omega arith;
@@ -237,11 +237,11 @@ permits form S a m = go form (nat_eq (kind a.word) 0) (nat_eq (element_size a.wo
     go of_default false false false e f g = rw (e, f, g) refl
 
 capability_agrees : (form : Form) (r : Reading) (m : Meter) (a : Target) → FollowsTo r a → a.word % 2 ^ 32 ≡ 3 → Affords r.charging m a.pads → (f : Reading → Metered Tree) (at : ℕ → ℕ → Reading) →
-    Agree form r m (onward (object_value f at) (permit form (capability (upper_half a.word)) (after r.charging m a.pads 1)))
+    Agree form r m (onward (object_value f at) (permit form (capability (upper_half a.word)) (after_charge r.charging m a.pads 1)))
 capability_agrees plain r m a f low covered g at =
     record { cost = a.pads; means = (a, leads_there r a f (λ e. omega (arith, e, low)), (let e : a.word ≡ capability_word (upper_half a.word) = omega (arith, low) in e), refl); takes = λ e. absurd (e refl); covers = covered; spent = refl }
-capability_agrees canonical r m a f low covered g at = here (broken a f (refl, low) (record { covers = subst (Affords r.charging m) (let e : a.pads ≡ a.pads + 0 = omega arith in e) covered; spent = ap (λ i. after r.charging m i 1) (let e : a.pads ≡ a.pads + 0 = omega arith in e) }))
-capability_agrees of_default r m a f low covered g at = here (broken a f ((let three : kind a.word ≡ 3 = omega (arith, low) in three), inr refl) (record { covers = subst (Affords r.charging m) (let e : a.pads ≡ a.pads + 0 = omega arith in e) covered; spent = ap (λ i. after r.charging m i 1) (let e : a.pads ≡ a.pads + 0 = omega arith in e) }))
+capability_agrees canonical r m a f low covered g at = here (broken a f (refl, low) (record { covers = subst (Affords r.charging m) (let e : a.pads ≡ a.pads + 0 = omega arith in e) covered; spent = ap (λ i. after_charge r.charging m i 1) (let e : a.pads ≡ a.pads + 0 = omega arith in e) }))
+capability_agrees of_default r m a f low covered g at = here (broken a f ((let three : kind a.word ≡ 3 = omega (arith, low) in three), inr refl) (record { covers = subst (Affords r.charging m) (let e : a.pads ≡ a.pads + 0 = omega arith in e) covered; spent = ap (λ i. after_charge r.charging m i 1) (let e : a.pads ≡ a.pads + 0 = omega arith in e) }))
 
 null_permitted : (form : Form) (m : Meter) (f : Reading → Metered Tree) (at : ℕ → ℕ → Reading) → onward (object_value f at) (permit form nothing m) ≡ (Ok Null, m)
 null_permitted plain m f at = refl
@@ -249,11 +249,11 @@ null_permitted canonical m f at = refl
 null_permitted of_default m f at = refl
 
 capability_outcome : Form → Reading → Meter → Target → Outcome Tree
-capability_outcome plain r m a = (Ok (Capability (upper_half a.word)), after r.charging m a.pads 1)
-capability_outcome canonical r m a = (Err CannotCreateACanonicalMessageWithACapability, after r.charging m a.pads 1)
-capability_outcome of_default r m a = (Err UnknownPointerType, after r.charging m a.pads 1)
+capability_outcome plain r m a = (Ok (Capability (upper_half a.word)), after_charge r.charging m a.pads 1)
+capability_outcome canonical r m a = (Err CannotCreateACanonicalMessageWithACapability, after_charge r.charging m a.pads 1)
+capability_outcome of_default r m a = (Err UnknownPointerType, after_charge r.charging m a.pads 1)
 
-capability_permitted : (form : Form) (r : Reading) (m : Meter) (a : Target) (f : Reading → Metered Tree) (at : ℕ → ℕ → Reading) → onward (object_value f at) (permit form (capability (upper_half a.word)) (after r.charging m a.pads 1)) ≡ capability_outcome form r m a
+capability_permitted : (form : Form) (r : Reading) (m : Meter) (a : Target) (f : Reading → Metered Tree) (at : ℕ → ℕ → Reading) → onward (object_value f at) (permit form (capability (upper_half a.word)) (after_charge r.charging m a.pads 1)) ≡ capability_outcome form r m a
 unfolding capability_outcome
 capability_permitted plain r m a f at = refl
 capability_permitted canonical r m a f at = refl
@@ -267,7 +267,7 @@ place_agrees form r m h = elim (same_or_not (word_of r) 0) [
   where
     go : Ends Value r m → Agree form r m (value form r m)
     go (at_capability a f low covered) =
-        rw (leaf_is form r.levels r m (after r.charging m a.pads 1) (capability (upper_half a.word)) (capability_outcome form r m a) (capability_is Value r a m (λ e. absurd (cc e)) f low covered) (capability_permitted form r m a))
+        rw (leaf_is form r.levels r m (after_charge r.charging m a.pads 1) (capability (upper_half a.word)) (capability_outcome form r m a) (capability_is Value r a m (λ e. absurd (cc e)) f low covered) (capability_permitted form r m a))
         (rw (capability_permitted form r m a (λ s. answer Null) (λ s p. r)) at (capability_agrees form r m a f low covered (λ s. answer Null) (λ s p. r)))
     go (at_object a m' o) =
         rw (value_is form r.levels r m m' (shape r.segments a) (entering_is Value r m m' a o) o.meets.levels, permits form r.segments a m') (object_agrees form r m m' a o (h o.meets.levels))

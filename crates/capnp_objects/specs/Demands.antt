@@ -10,8 +10,8 @@ use Rattle.capnp_objects.specs.declared.object.Purpose.TheVariants.{Value, Size}
 
 -- The number of words that an object claims, by the word that describes it: a struct's two
 -- sections; a list of structs, with its tag; a list of pointers; a list of numbers.
-abbrev pub claim : ℕ → ℕ
-claim w =
+abbrev pub claimed_words : ℕ → ℕ
+claimed_words w =
     if nat_eq (kind w) 0 then data_words w + pointer_count w
     else if nat_eq (element_size w) 7 then list_count w + 1 else if nat_eq (element_size w) 6 then
     list_count w else words_for (element_size w) (list_count w)
@@ -34,9 +34,9 @@ count_charge Value width n = count_cost width n
 count_charge Size width n = 0
 
 -- What is charged for elements without bits; nothing when only the size is wanted.
-abbrev pub amplified : Purpose → Segments → Target → ℕ
-amplified Size S a = 0
-amplified Value S a =
+abbrev pub amplified_charge : Purpose → Segments → Target → ℕ
+amplified_charge Size S a = 0
+amplified_charge Value S a =
     if nat_eq (kind a.word) 0 then 0
     else if nat_eq (element_size a.word) 7 then
     count_cost (data_words (tag S a) + pointer_count (tag S a)) (offset_bits (tag S a))
@@ -44,8 +44,8 @@ amplified Value S a =
 
 -- What reading an object charges, without its children: its landing pads, what it claims, and its
 -- elements without bits.
-abbrev pub own : Purpose → Segments → Target → ℕ
-own purpose S a = a.pads + claim a.word + amplified purpose S a
+abbrev pub own_charge : Purpose → Segments → Target → ℕ
+own_charge purpose S a = a.pads + claimed_words a.word + amplified_charge purpose S a
 
 -- The word describes a list of void.
 abbrev pub IsVoidList : ℕ → Type 0
@@ -53,13 +53,13 @@ IsVoidList w = (kind w ≡ 1) × (element_size w ≡ 0)
 
 -- The words that an object claims are inside its segment. When only the size is wanted, a list of
 -- void may be anywhere.
-abbrev pub LiesThere : Purpose → Segments → Target → Type 0
-LiesThere Value S a = Claims S a (claim a.word)
-LiesThere Size S a = (IsVoidList a.word → ⊥) → Claims S a (claim a.word)
+abbrev pub IsInSegment : Purpose → Segments → Target → Type 0
+IsInSegment Value S a = Claims S a (claimed_words a.word)
+IsInSegment Size S a = (IsVoidList a.word → ⊥) → Claims S a (claimed_words a.word)
 
 -- The object at the target a meets all demands except those on children, with n levels left.
 pub record Meets (purpose : Purpose) (S : Segments) (n : ℕ) (a : Target) : Type 0 where
   pub levels : 0 < n
   pub is_object : kind a.word < 2
-  pub claims : LiesThere purpose S a
+  pub claims : IsInSegment purpose S a
   pub tagged : IsStructList a.word → (kind (tag S a) ≡ 0) × (element_words (tag S a) ≤ list_count a.word)

@@ -24,7 +24,7 @@ use Rattle.capnp_objects.specs.declared.object.Object.TheVariants.{Pointers as O
 use Rattle.capnp_objects.specs.declared.object.Object.TheVariants.{Structs as ObjectStructs}
 use Rattle.capnp_objects.specs.declared.object.Purpose.{Purpose}
 use Rattle.capnp_objects.specs.declared.object.Purpose.TheVariants.{Value, Size}
-use Rattle.capnp_objects.specs.Demands.{claim, tag, element_words, amplified}
+use Rattle.capnp_objects.specs.Demands.{claimed_words, tag, element_words, amplified_charge}
 use Rattle.capnp_objects.specs.Metered.{Metered, answer, refuse, ◌>>>◌, outcome, demand}
 use Rattle.capnp_objects.specs.Metered.{charge_words, count_pointer}
 use Rattle.capnp_objects.specs.Objects.{near_at}
@@ -70,9 +70,9 @@ has_level Size n = nat_lt 0 n
 -- Whether the words that an object claims are inside its segment. When only the size is wanted, a
 -- list of void may be anywhere.
 abbrev pub is_in_segment : Purpose → Segments → Target → Bool
-is_in_segment Value S a = nat_le (a.start + claim a.word) (length (segment S a.segment))
+is_in_segment Value S a = nat_le (a.start + claimed_words a.word) (length (segment S a.segment))
 is_in_segment Size S a =
-    is_void_list a.word || nat_le (a.start + claim a.word) (length (segment S a.segment))
+    is_void_list a.word || nat_le (a.start + claimed_words a.word) (length (segment S a.segment))
 
 -- The error for a list of structs that doesn't begin with a tag.
 abbrev pub no_tag_name : Purpose → ErrorKind
@@ -94,11 +94,11 @@ enter_object purpose r a =
     let untagged = not (is_struct_list a.word) in
     demand (nat_lt 0 r.levels) MessageIsTooDeeplyNestedOrContainsCycles >>> λ _.
     demand (is_in_segment purpose r.segments a) MessageContainsOutOfBoundsPointer >>> λ _.
-    charge_words r.charging (claim a.word) >>> λ _.
+    charge_words r.charging (claimed_words a.word) >>> λ _.
     demand (untagged || nat_eq (kind g) 0) (no_tag_name purpose) >>> λ _.
     demand (untagged || nat_le (element_words g) (list_count a.word))
     InlineCompositeListsElementsOverrunItsWordCount >>> λ _.
-    charge_words r.charging (amplified purpose r.segments a) >>> λ _.
+    charge_words r.charging (amplified_charge purpose r.segments a) >>> λ _.
     answer (shape r.segments a)
 
 -- Enters what a pointer leads to. A capability takes no level, and has no words.

@@ -29,7 +29,7 @@ use Rattle.capnp_objects.specs.declared.object.Purpose.{Purpose}
 use Rattle.capnp_objects.specs.declared.object.Purpose.TheVariants.{Value, Size}
 use Rattle.capnp_objects.specs.declared.source.Found.{Found}
 use Rattle.capnp_objects.specs.declared.source.landing.Entrance.{Entrance}
-use Rattle.capnp_objects.specs.Demands.{claim, tag, element_words, count_charge}
+use Rattle.capnp_objects.specs.Demands.{claimed_words, tag, element_words, count_charge}
 use Rattle.capnp_objects.specs.Enter.{Shape, shape, no_tag_name, result_shape}
 use Rattle.capnp_objects.specs.Expected.{narrow_elements, narrow_structs}
 use Rattle.capnp_objects.specs.Follow.{follow_far}
@@ -67,9 +67,9 @@ entered_from g l = record (source_start g l.source) { levels = l.depth }
 abbrev pub claim_words : Reading → Target → Metered (Unit {0})
 claim_words r a =
     demand (nat_lt 0 r.levels) MessageIsTooDeeplyNestedOrContainsCycles >>> λ _.
-    demand (nat_le (a.start + claim a.word) (length (segment r.segments a.segment)))
+    demand (nat_le (a.start + claimed_words a.word) (length (segment r.segments a.segment)))
     MessageContainsOutOfBoundsPointer >>> λ _.
-    charge_words r.charging (claim a.word)
+    charge_words r.charging (claimed_words a.word)
 
 -- Enters an object that charges only what it claims.
 abbrev pub enter_plain : Reading → Target → Metered Shape

@@ -137,15 +137,15 @@ expectation Data = data_expected
 -- The call has an answer: the pointer is null; or it leads to an object of the expected kind, which
 -- can be entered and is as expected. The entering has one level, because the level is checked
 -- separately. m covers what the object charges.
-pub data CanBeGiven (expected : Expectation) (r : Reading) (m : Meter) : Type 0 where
-  null_pointer : word_of r ≡ 0 → CanBeGiven expected r m
+pub data HasExpected (expected : Expectation) (r : Reading) (m : Meter) : Type 0 where
+  null_pointer : word_of r ≡ 0 → HasExpected expected r m
   fitting :
       {m' : Meter} (a : Target) →
       expected.too_deep r.levels ≡ None →
       expected.another_kind a.word ≡ None →
       Entered Value (record r { levels = 1 }) m m' a →
       expected.misfit r.segments a ≡ None →
-      CanBeGiven expected r m
+      HasExpected expected r m
 
 -- The call is refused with k, and takes the limiter from m to m'.
 -- - `no_level`: no level is left, and nothing is counted or charged.
@@ -154,30 +154,33 @@ pub data CanBeGiven (expected : Expectation) (r : Reading) (m : Meter) : Type 0 
 -- - `stopped`: if the pointer can be followed, the object is of the expected kind; its reading
 --   stops. It has one level, because the level is checked separately.
 -- - `misfits`: the object is read, and isn't what was expected.
-pub data Withheld (expected : Expectation) (r : Reading) (m m' : Meter) (k : ErrorKind) : Type 0 where
-  no_level : word_of r ≢ 0 → expected.too_deep r.levels ≡ Some k → m' ≡ m → Withheld expected r m m' k
-  unfollowed : expected.too_deep r.levels ≡ None → Unfollowed r m m' k → Withheld expected r m m' k
+pub data RefusesExpected (expected : Expectation) (r : Reading) (m m' : Meter)
+    (k : ErrorKind) : Type 0 where
+  no_level : word_of r ≢ 0 → expected.too_deep r.levels ≡ Some k → m' ≡ m
+      → RefusesExpected expected r m m' k
+  unfollowed : expected.too_deep r.levels ≡ None → Unfollowed r m m' k
+      → RefusesExpected expected r m m' k
   of_another_kind : (a : Target) → expected.too_deep r.levels ≡ None → FollowsTo r a →
       expected.another_kind a.word ≡ Some k → Paid r.charging m m' a.pads 1 →
-      Withheld expected r m m' k
+      RefusesExpected expected r m m' k
   stopped :
       expected.too_deep r.levels ≡ None →
       ((a : Target) → follow_at r ≡ Ok a → expected.another_kind a.word ≡ None) →
       Stopped Value plain (record r { levels = 1 }) m m' k →
-      Withheld expected r m m' k
+      RefusesExpected expected r m m' k
   misfits : (a : Target) → expected.too_deep r.levels ≡ None → expected.another_kind a.word ≡ None →
       Entered Value (record r { levels = 1 }) m m' a → expected.misfit r.segments a ≡ Some k →
-      Withheld expected r m m' k
+      RefusesExpected expected r m m' k
 
 -- An object is as expected, with n levels left; or the pointer is null.
-abbrev pub IsGiven : Expected → ℕ → Object → Type 0
-IsGiven expected n ObjectNull = ⊤
-IsGiven Struct n (ObjectStruct start size) = 0 < n
-IsGiven (List size) n (ObjectFlat start found count) =
+abbrev pub IsExpected : Expected → ℕ → Object → Type 0
+IsExpected expected n ObjectNull = ⊤
+IsExpected Struct n (ObjectStruct start size) = 0 < n
+IsExpected (List size) n (ObjectFlat start found count) =
     (0 < n) × (narrow_elements size (size_number found) ≡ None)
-IsGiven (List size) n (ObjectPointers start count) = (0 < n) × (narrow_elements size 6 ≡ None)
-IsGiven (List size) n (ObjectStructs start sections count) =
+IsExpected (List size) n (ObjectPointers start count) = (0 < n) × (narrow_elements size 6 ≡ None)
+IsExpected (List size) n (ObjectStructs start sections count) =
     (0 < n) × (narrow_structs size sections ≡ None)
-IsGiven Text n (ObjectFlat start size count) = (size ≡ Byte) × (0 < count)
-IsGiven Data n (ObjectFlat start size count) = size ≡ Byte
-IsGiven expected n object = ⊥
+IsExpected Text n (ObjectFlat start size count) = (size ≡ Byte) × (0 < count)
+IsExpected Data n (ObjectFlat start size count) = size ≡ Byte
+IsExpected expected n object = ⊥

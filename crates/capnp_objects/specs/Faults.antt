@@ -7,7 +7,7 @@ use Rattle.capnp_format.specs.Word.{list_count, is_double}
 use Rattle.capnp_format.specs.Segments.{Segments, Target, pad}
 use Rattle.capnp_format.specs.Means.{Leads, Claims}
 use Rattle.capnp_objects.specs.declared.object.Purpose.TheVariants.{Value}
-use Rattle.capnp_objects.specs.Demands.{claim, tag, amplified, IsStructList, Meets}
+use Rattle.capnp_objects.specs.Demands.{claimed_words, tag, amplified_charge, IsStructList, Meets}
 use Rattle.capnp_objects.specs.Reading.{Reading, word_of}
 use Rattle.capnp_objects.specs.Wanted.{Form, BreaksAt}
 
@@ -48,9 +48,9 @@ pub data Charges (r : Reading) (x : ℕ) : Type 0 where
       pad r.segments (word_of r) (is_double (word_of r)) ≡ Some f → x ≡ 1 + is_double (word_of r) →
       Charges r x
   of_object : (a : Target) → LeadsTo r a → 0 < r.levels → kind a.word < 2 →
-      Claims r.segments a (claim a.word) → x ≡ claim a.word → Charges r x
+      Claims r.segments a (claimed_words a.word) → x ≡ claimed_words a.word → Charges r x
   of_elements : (a : Target) → LeadsTo r a → Meets Value r.segments r.levels a →
-      x ≡ amplified Value r.segments a → Charges r x
+      x ≡ amplified_charge Value r.segments a → Charges r x
 
 -- The place r charges more than the limiter m has left.
 abbrev pub Exceeds : Meter → Reading → Type 0

@@ -16,7 +16,7 @@ use Rattle.capnp_objects.specs.declared.object.Object.TheVariants.{Flat as Objec
 use Rattle.capnp_objects.specs.declared.object.Object.TheVariants.{Pointers as ObjectPointers}
 use Rattle.capnp_objects.specs.declared.object.Object.TheVariants.{Structs as ObjectStructs}
 use Rattle.capnp_objects.specs.declared.object.Purpose.{Purpose}
-use Rattle.capnp_objects.specs.Spending.{after}
+use Rattle.capnp_objects.specs.Spending.{after_charge}
 use Rattle.capnp_objects.specs.Demands.{tag}
 use Rattle.capnp_objects.specs.Reading.{Reading, word_of}
 use Rattle.capnp_objects.specs.Outcomes.{Entered}
@@ -45,7 +45,7 @@ abbrev pub IsObject : Purpose → Reading → Meter → Meter → Object → Typ
 IsObject purpose r m m' ObjectNull = (word_of r ≡ 0) × (m' ≡ m)
 IsObject purpose r m m' (ObjectCapability i) =
     (a : Target) × FollowsFor purpose r a × (a.word % 2 ^ 32 ≡ 3) × (i ≡ upper_half a.word) ×
-    Affords r.charging m a.pads × (m' ≡ after r.charging m a.pads 1)
+    Affords r.charging m a.pads × (m' ≡ after_charge r.charging m a.pads 1)
 IsObject purpose r m m' (ObjectStruct start size) =
     (a : Target) × Entered purpose r m m' a × (kind a.word ≡ 0) × StartsAt r.segments a 0 start ×
     (size.data_words ≡ data_words a.word) × (size.pointers ≡ pointer_count a.word)

@@ -7,9 +7,9 @@ use Rattle.capnp_format.specs.Tree.{Tree, Trees, Elements, capabilities, capabil
 use Rattle.capnp_format.specs.Tree.{capabilities_elements}
 use Rattle.capnp_format.specs.Means.{Means, MeansAll, MeansElements}
 use Rattle.capnp_objects.specs.declared.object.Purpose.{Purpose}
-use Rattle.capnp_objects.specs.Demands.{own, Meets}
+use Rattle.capnp_objects.specs.Demands.{own_charge, Meets}
 use Rattle.capnp_objects.specs.Reading.{Reading}
-use Rattle.capnp_objects.specs.Spending.{after, pointers_in, pointers_in_all, pointers_in_elements}
+use Rattle.capnp_objects.specs.Spending.{after_charge, pointers_in, pointers_in_all, pointers_in_elements}
 use Rattle.capnp_objects.specs.Wanted.{Form, FollowsTo, AllowsCapabilities}
 
 -- The place r means t within its levels, at cost c.
@@ -23,7 +23,7 @@ pub record Reads (form : Form) (r : Reading) (m m' : Meter) (t : Tree) : Type 0 
   pub means : Means r.segments r.levels r.segment r.at t cost
   pub takes : AllowsCapabilities form (capabilities t)
   pub covers : Affords r.charging m cost
-  pub spent : m' ≡ after r.charging m cost (pointers_in t)
+  pub spent : m' ≡ after_charge r.charging m cost (pointers_in t)
 
 -- Consecutive pointers, from the place r on, mean ts: as for one pointer.
 pub record ReadsAll (form : Form) (r : Reading) (m m' : Meter) (ts : Trees) : Type 0 where
@@ -31,7 +31,7 @@ pub record ReadsAll (form : Form) (r : Reading) (m m' : Meter) (ts : Trees) : Ty
   pub means : MeansAll r.segments r.levels r.segment r.at ts cost
   pub takes : AllowsCapabilities form (capabilities_all ts)
   pub covers : Affords r.charging m cost
-  pub spent : m' ≡ after r.charging m cost (pointers_in_all ts)
+  pub spent : m' ≡ after_charge r.charging m cost (pointers_in_all ts)
 
 -- Elements of this size, from the place r on, mean es: as for one pointer.
 pub record ReadsElements (form : Form) (r : Reading) (size : StructSize) (m m' : Meter)
@@ -40,12 +40,12 @@ pub record ReadsElements (form : Form) (r : Reading) (size : StructSize) (m m' :
   pub means : MeansElements r.segments r.levels r.segment r.at size.data_words size.pointers es cost
   pub takes : AllowsCapabilities form (capabilities_elements es)
   pub covers : Affords r.charging m cost
-  pub spent : m' ≡ after r.charging m cost (pointers_in_elements es)
+  pub spent : m' ≡ after_charge r.charging m cost (pointers_in_elements es)
 
 -- The object at the place r is entered: it meets its demands, and its own words are paid, from m to
 -- m'.
 pub record Entered (purpose : Purpose) (r : Reading) (m m' : Meter) (a : Target) : Type 0 where
   pub follows : FollowsTo r a
   pub meets : Meets purpose r.segments r.levels a
-  pub covers : Affords r.charging m (own purpose r.segments a)
-  pub spent : m' ≡ after r.charging m (own purpose r.segments a) 1
+  pub covers : Affords r.charging m (own_charge purpose r.segments a)
+  pub spent : m' ≡ after_charge r.charging m (own_charge purpose r.segments a) 1

@@ -63,8 +63,8 @@ abbrev pub word_of : Reading → ℕ
 word_of r = word_at r.segments r.segment r.at
 
 -- The place n words after r.
-abbrev pub behind : Reading → ℕ → Reading
-behind r n = record r { at = r.at + n }
+abbrev pub place_past : Reading → ℕ → Reading
+place_past r n = record r { at = r.at + n }
 
 -- The words of the segment of r, and the n words from r on.
 abbrev pub segment_read : Reading → List ℕ

@@ -17,10 +17,10 @@ use Rattle.capnp_format.specs.Tree.{Trees, Elements, count, element_count}
 use Rattle.capnp_format.specs.Means.{Claims}
 use Rattle.capnp_objects.specs.declared.object.Purpose.{Purpose}
 use Rattle.capnp_objects.specs.declared.object.Purpose.TheVariants.{Value}
-use Rattle.capnp_objects.specs.Demands.{claim, tag, own, IsStructList, Meets}
+use Rattle.capnp_objects.specs.Demands.{claimed_words, tag, own_charge, IsStructList, Meets}
 use Rattle.capnp_objects.specs.Faults.{child_at}
 use Rattle.capnp_objects.specs.Outcomes.{Entered, ReadsAll, ReadsElements}
-use Rattle.capnp_objects.specs.Reading.{Reading, word_of, behind, pointers_of, tag_size}
+use Rattle.capnp_objects.specs.Reading.{Reading, word_of, place_past, pointers_of, tag_size}
 use Rattle.capnp_objects.specs.Spending.{Paid}
 use Rattle.capnp_objects.specs.Wanted.{Form, plain, BreaksObject, follow_at, FollowsTo, FollowsFor}
 
@@ -32,9 +32,9 @@ landing_words S x = if nat_eq (kind x) 2 && is_some (pad S x (is_double x)) then
 -- The number of words that an object was granted before the demand with this error is checked: what
 -- it claims, for a demand on the tag of a list of structs; otherwise 0.
 abbrev pub granted_before : Target → ErrorKind → ℕ
-granted_before a InlineCompositeListsOfNonStructTypeAreNotSupported = claim a.word
-granted_before a CantHandleNonStructInlineComposite = claim a.word
-granted_before a InlineCompositeListsElementsOverrunItsWordCount = claim a.word
+granted_before a InlineCompositeListsOfNonStructTypeAreNotSupported = claimed_words a.word
+granted_before a CantHandleNonStructInlineComposite = claimed_words a.word
+granted_before a InlineCompositeListsElementsOverrunItsWordCount = claimed_words a.word
 granted_before a k = 0
 
 -- The pointer at a place isn't followed, which is refused with k and takes the limiter from m to
@@ -60,8 +60,8 @@ pub data Stopped (purpose : Purpose) (form : Form) (r : Reading) (m m' : Meter) 
       FollowsTo r a →
       0 < r.levels →
       kind a.word < 2 →
-      Claims r.segments a (claim a.word) →
-      (Affords r.charging m (a.pads + claim a.word) → ⊥) →
+      Claims r.segments a (claimed_words a.word) →
+      (Affords r.charging m (a.pads + claimed_words a.word) → ⊥) →
       Paid r.charging m m' a.pads 1 →
       k ≡ ReadLimitExceeded →
       Stopped purpose form r m m' k
@@ -69,8 +69,8 @@ pub data Stopped (purpose : Purpose) (form : Form) (r : Reading) (m m' : Meter) 
       (a : Target) →
       FollowsTo r a →
       Meets purpose r.segments r.levels a →
-      (Affords r.charging m (own purpose r.segments a) → ⊥) →
-      Paid r.charging m m' (a.pads + claim a.word) 1 →
+      (Affords r.charging m (own_charge purpose r.segments a) → ⊥) →
+      Paid r.charging m m' (a.pads + claimed_words a.word) 1 →
       k ≡ ReadLimitExceeded →
       Stopped purpose form r m m' k
 
@@ -85,7 +85,7 @@ CanBeRead purpose r m =
     (word_of r ≡ 0)
     ⊎ ((a : Target) × FollowsFor purpose r a × (a.word % 2 ^ 32 ≡ 3) × Affords r.charging m a.pads)
     ⊎ ((a : Target) × FollowsTo r a × Meets purpose r.segments r.levels a ×
-    Affords r.charging m (own purpose r.segments a))
+    Affords r.charging m (own_charge purpose r.segments a))
 
 -- The pointers of the object a before its pointer at position q are visited, from one state to
 -- another. `Run` states that for consecutive pointers, from a place on, and `Rows` for the pointers
@@ -141,7 +141,7 @@ pub record StopsAmong (form : Form) (P : Reading → Meter → Meter → Type 0)
   pub fewer : count first < i
   pub mid : Meter
   pub are_read : ReadsAll form r m mid first
-  pub stops : StopsWithin form P (behind r (count first)) mid m'
+  pub stops : StopsWithin form P (place_past r (count first)) mid m'
 
 -- The reading of i elements stops at a pointer of one of them, after the elements before it were
 -- read.

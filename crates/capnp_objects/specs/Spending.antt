@@ -6,14 +6,14 @@ use Rattle.capnp_format.specs.Tree.{no_trees, tree, Elements, no_elements, eleme
 
 -- The limiter m after g words were granted and r pointers followed; if nothing is charged, nothing
 -- is counted either.
-abbrev pub after : Bool → Meter → ℕ → ℕ → Meter
-after true m g r = record { left = less m.left g; followed = raised m.followed r }
-after false m g r = m
+abbrev pub after_charge : Bool → Meter → ℕ → ℕ → Meter
+after_charge true m g r = record { left = less m.left g; followed = raised m.followed r }
+after_charge false m g r = m
 
 -- From m to m' g words were granted and r pointers followed.
 pub record Paid (charging : Bool) (m m' : Meter) (g r : ℕ) : Type 0 where
   pub covers : Affords charging m g
-  pub spent : m' ≡ after charging m g r
+  pub spent : m' ≡ after_charge charging m g r
 
 -- The number of subtrees that aren't Null, the value itself included, each as often as it occurs.
 abbrev mutual

@@ -13,7 +13,7 @@ use Rattle.capnp_objects.specs.Enter.{Shape, nothing, capability, struct, flat, 
 use Rattle.capnp_objects.specs.Enter.{follow, enter, read}
 use Rattle.capnp_objects.specs.Expected.{Expectation}
 use Rattle.capnp_objects.specs.Metered.{Metered, outcome, answer, refuse, ◌>>>◌, refuse_if}
-use Rattle.capnp_objects.specs.Reading.{Reading, word_of, behind, words_from}
+use Rattle.capnp_objects.specs.Reading.{Reading, word_of, place_past, words_from}
 use Rattle.capnp_objects.specs.Types.{type_of}
 use Rattle.capnp_objects.specs.Wanted.{Form, canonical, of_default}
 
@@ -27,7 +27,7 @@ permit form o = answer o
 abbrev pub read_values : (Reading → Metered Tree) → ℕ → Reading → Metered Trees
 read_values f zero r = answer no_trees
 read_values f (suc i) r =
-    f r >>> λ t. read_values f i (behind r 1) >>> λ ts.
+    f r >>> λ t. read_values f i (place_past r 1) >>> λ ts.
     answer (tree t ts)
 
 -- Reads n elements of d data words and q pointers, from the place r on. f reads the value of one
@@ -35,8 +35,8 @@ read_values f (suc i) r =
 abbrev pub read_element_values : (Reading → Metered Tree) → ℕ → ℕ → ℕ → Reading → Metered Elements
 read_element_values f d q zero r = answer no_elements
 read_element_values f d q (suc n) r =
-    read_values f q (behind r d) >>> λ ts.
-    read_element_values f d q n (behind r (d + q)) >>> λ es.
+    read_values f q (place_past r d) >>> λ ts.
+    read_element_values f d q n (place_past r (d + q)) >>> λ es.
     answer (element (words_from r d) ts es)
 
 -- Reads the value of an object. f reads the value of one pointer, and `at` makes a place of a

@@ -20,7 +20,7 @@ use Rattle.capnp_format.specs.Means.{Claims}
 use Rattle.capnp_objects.specs.Follow.{follow_far}
 use Rattle.capnp_objects.specs.declared.object.Purpose.{Purpose}
 use Rattle.capnp_objects.specs.declared.object.Purpose.TheVariants.{Value, Size}
-use Rattle.capnp_objects.specs.Demands.{claim, tag, element_words, IsStructList, LiesThere}
+use Rattle.capnp_objects.specs.Demands.{claimed_words, tag, element_words, IsStructList, IsInSegment}
 use Rattle.capnp_objects.specs.Reading.{Reading, word_of}
 
 -- A plain value; one for canonical form; or one of a default, which is also plain. The last two
@@ -41,13 +41,13 @@ BreaksObject purpose form S n a CannotCreateACanonicalMessageWithACapability =
     (form ≡ canonical) × (a.word % 2 ^ 32 ≡ 3)
 BreaksObject purpose form S n a MessageIsTooDeeplyNestedOrContainsCycles = (kind a.word < 2) × (n ≡ 0)
 BreaksObject purpose form S n a MessageContainsOutOfBoundsPointer =
-    (kind a.word < 2) × (0 < n) × (LiesThere purpose S a → ⊥)
+    (kind a.word < 2) × (0 < n) × (IsInSegment purpose S a → ⊥)
 BreaksObject Value form S n a InlineCompositeListsOfNonStructTypeAreNotSupported =
-    (0 < n) × IsStructList a.word × Claims S a (claim a.word) × (kind (tag S a) ≢ 0)
+    (0 < n) × IsStructList a.word × Claims S a (claimed_words a.word) × (kind (tag S a) ≢ 0)
 BreaksObject Size form S n a CantHandleNonStructInlineComposite =
-    (0 < n) × IsStructList a.word × Claims S a (claim a.word) × (kind (tag S a) ≢ 0)
+    (0 < n) × IsStructList a.word × Claims S a (claimed_words a.word) × (kind (tag S a) ≢ 0)
 BreaksObject purpose form S n a InlineCompositeListsElementsOverrunItsWordCount =
-    (0 < n) × IsStructList a.word × Claims S a (claim a.word) × (kind (tag S a) ≡ 0) ×
+    (0 < n) × IsStructList a.word × Claims S a (claimed_words a.word) × (kind (tag S a) ≡ 0) ×
     (list_count a.word < element_words (tag S a))
 BreaksObject purpose form S n a _ = ⊥
 

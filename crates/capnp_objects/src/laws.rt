@@ -18,7 +18,7 @@ ghost use Rattle.capnp_objects.specs.declared.object.Object.{Object};
 ghost use Rattle.capnp_objects.specs.declared.object.Purpose.{Purpose};
 ghost use Rattle.capnp_objects.specs.declared.object.Purpose.TheVariants.{Value, Size};
 ghost use Rattle.capnp_objects.specs.Enter.{shape, read, object_shape};
-ghost use Rattle.capnp_objects.specs.Expected.{Expectation, expectation, CanBeGiven, Withheld};
+ghost use Rattle.capnp_objects.specs.Expected.{Expectation, expectation, HasExpected, RefusesExpected};
 ghost use Rattle.capnp_objects.specs.Faults.{LeadsTo, Somewhere, Exceeds, HasFault};
 ghost use Rattle.capnp_objects.specs.Measures.{NotMeasured};
 ghost use Rattle.capnp_objects.specs.Objects.{IsObject};
@@ -64,7 +64,7 @@ pub fn one_name()
     ensures measured { (r : Reading) (m m' m'' : Meter) (k l : ErrorKind)
         → NotMeasured r m m' k → NotMeasured r m m'' l → (k ≡ l) × (m' ≡ m'') }
     ensures expected { (e : Expectation) (r : Reading) (m m' m'' : Meter) (k l : ErrorKind)
-        → Withheld e r m m' k → Withheld e r m m'' l → (k ≡ l) × (m' ≡ m'') }
+        → RefusesExpected e r m m' k → RefusesExpected e r m m'' l → (k ≡ l) × (m' ≡ m'') }
     ensures of_type { (r : Reading) (m m' m'' : Meter) (k l : ErrorKind)
         → HasNoType r m m' k → HasNoType r m m'' l → (k ≡ l) × (m' ≡ m'') }
 {}
@@ -100,12 +100,12 @@ pub fn objects_computed()
 /// afterwards (`refused`). It returns an object exactly if the call has an answer (`exactly`).
 pub fn expected_computed()
     ensures object { (e : Expected) (r : Reading) (m m' : Meter) (x : Object)
-        → CanBeGiven (expectation e) r m → IsObject Value (record r { levels = 1 }) m m' x
+        → HasExpected (expectation e) r m → IsObject Value (record r { levels = 1 }) m m' x
         → expect (expectation e) r m ≡ (Ok (object_shape x), m') }
     ensures exactly { (e : Expected) (r : Reading) (m : Meter)
-        → CanBeGiven (expectation e) r m ↔ IsOk (expect (expectation e) r m).0 }
+        → HasExpected (expectation e) r m ↔ IsOk (expect (expectation e) r m).0 }
     ensures refused { (e : Expected) (r : Reading) (m m' : Meter) (k : ErrorKind)
-        → Withheld (expectation e) r m m' k ↔ (expect (expectation e) r m ≡ (Err k, m')) }
+        → RefusesExpected (expectation e) r m m' k ↔ (expect (expectation e) r m ≡ (Err k, m')) }
 {}
 
 /// Reading the type of a pointer is a function: `pointer_type` returns the type with the limiter

@@ -8,7 +8,7 @@ ghost use Rattle.capnp_objects.specs.Source.{levels};
 ghost use Rattle.capnp_format.specs.Bytes.{message};
 ghost use Rattle.capnp_objects.specs.declared.object.Purpose.{Purpose};
 ghost use Rattle.capnp_objects.specs.declared.object.Purpose.TheVariants.{Value, Size};
-ghost use Rattle.capnp_objects.specs.Demands.{claim, count_charge};
+ghost use Rattle.capnp_objects.specs.Demands.{claimed_words, count_charge};
 ghost use Rattle.capnp_objects.specs.Reading.{source_start, reading_at, pointer_at};
 ghost use Rattle.capnp_objects.specs.Objects.{EntersNear, IsObject, IsHeld, IsWordRead, IsFew};
 ghost use Rattle.capnp_objects.specs.Refusals.{NotRead, CanBeRead};
@@ -160,7 +160,7 @@ impl<'a, A: ReaderArena> Source<'a, A> {
         requires is_list { kind pointer.word.0 ≡ 1 }
         requires of_bits { (0 < element_size pointer.word.0)
             × (element_size pointer.word.0 ≤ 5) }
-        requires claimed { words ≡ claim pointer.word.0 }
+        requires claimed { words ≡ claimed_words pointer.word.0 }
         ensures object { IfOk result (EntersNear Value
             (pointer_at A.ReaderArena self.entry pointer.entry) lim.old lim.new) }
         ensures refused { IfErr result (NotRead Value
@@ -181,7 +181,7 @@ impl<'a, A: ReaderArena> Source<'a, A> {
     ) -> Result<u32, ErrorKind>
         requires word { IsWordRead (pointer_at A.ReaderArena self pointer) pointer }
         requires near { kind pointer.word.0 < 2 }
-        requires claimed { words ≡ claim pointer.word.0 }
+        requires claimed { words ≡ claimed_words pointer.word.0 }
         ensures { let r = pointer_at A.ReaderArena self.entry pointer.entry in
             (follow r >>> λ a. enter_plain r a) lim.old ≡ (near_shape r result, lim.new) }
     {

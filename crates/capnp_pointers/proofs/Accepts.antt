@@ -6,9 +6,9 @@ use Rattle.capnp_format.specs.Numbers.{words_for, unpacked, packed, element_bits
 use Rattle.capnp_format.specs.Segments.{Segments, segment, word_at, words_at, HasWords, IsPlace, Target, leads, near, far, offset_leads}
 use Rattle.capnp_format.specs.Tree.{Null, Struct, Flat, Pointers, Structs, Trees, no_trees, tree, Elements, no_elements, element, count, element_count}
 use Rattle.capnp_format.specs.Means.{Claims, StructAt, ListAt, IsTag}
-use Rattle.capnp_format.specs.Canonical.{used_from, used_words, used_trees, take_trees, data_width, pointer_width, cut_to, trim, word_count, pointer, pointers, rows, bodies, element_bodies, offset_to, Reaches, Stands}
+use Rattle.capnp_format.specs.Canonical.{used_from, used_words, used_trees, take_trees, data_width, pointer_width, cut_to, trim, word_count, pointer, pointers, rows, bodies, element_bodies, offset_to, Reaches, HasCanonicalAt}
 use Rattle.capnp_format.specs.Value.{AreElements}
-use Rattle.capnp_pointers.specs.Standing.{AllStand, EndsUsed, IsPadded}
+use Rattle.capnp_pointers.specs.Standing.{HasBodiesAt, EndsUsed, IsPadded}
 use Rattle.capnp_pointers.proofs.ElementsStanding.{ElementsStand}
 use Rattle.capnp_format.specs.Forest.{target_in}
 use Rattle.capnp_format.proofs.Bounds.{HasSmallWords, digits_below, words_small}
@@ -112,18 +112,18 @@ struct_pointer (x ∷ xs) ts k l = refl
 
 -- If S has the canonical words of children, the number of their pointers that are used is that of
 -- the children used.
-pub used_where_standing : (S : Segments) (s p h : ℕ) (ts : Trees) → p + count ts ≤ length (segment S s) → AllStand S s p h ts → used_words (words_at S s p (count ts)) ≡ used_trees ts
+pub used_where_standing : (S : Segments) (s p h : ℕ) (ts : Trees) → p + count ts ≤ length (segment S s) → HasBodiesAt S s p h ts → used_words (words_at S s p (count ts)) ≡ used_trees ts
 used_where_standing S s p h no_trees l a = refl
 used_where_standing S s p h (tree t ts) l a =
     ap used_words (words_at-more S s p (count ts) (omega arith))
     ∙ ap₂ used_from (ap (λ x. nat_eq x 0) ((a.0).5).1 ∙ pointer_is_null t (offset_to p h)) (used_where_standing S s (p + 1) (h + word_count t) ts (omega arith) a.1)
 
 -- A zero word has canonical words of Null, with any head.
-pub null_stands : (S : Segments) (s p h : ℕ) → IsPlace S s p → word_at S s p ≡ 0 → Stands S s p h Null
+pub null_stands : (S : Segments) (s p h : ℕ) → IsPlace S s p → word_at S s p ≡ 0 → HasCanonicalAt S s p h Null
 null_stands S s p h place e = (place, tt, refl, refl, tt, (tt, e, refl))
 
 -- The empty struct is canonical if its pointer leads to its own place, with any head.
-pub empty_stands : (S : Segments) (s p h : ℕ) (a : Target) → IsPlace S s p → kind (word_at S s p) ≢ 2 → StructAt S s p a 0 0 → a.start ≡ p → Stands S s p h (Struct [] no_trees)
+pub empty_stands : (S : Segments) (s p h : ℕ) (a : Target) → IsPlace S s p → kind (word_at S s p) ≢ 2 → StructAt S s p a 0 0 → a.start ≡ p → HasCanonicalAt S s p h (Struct [] no_trees)
 empty_stands S s p h a place other o e =
     let x = near_struct_word S s p a 0 0 other o in
     let last : offset_to p a.start ≡ 2 ^ 30 - 1 = omega arith in
@@ -133,9 +133,9 @@ empty_stands S s p h a place other o e =
 -- are from there on.
 struct_there : (S : Segments) (s p h : ℕ) (ws : List ℕ) (ts : Trees) → HasSmallWords S s → IsPlace S s p → Reaches p h → word_at S s p ≡ struct_word (offset_to p h) (length ws) (count ts) →
     length ws < 2 ^ 16 → count ts < 2 ^ 16 → 0 < length ws + count ts → HasWords S s h ws → used_words ws ≡ length ws → used_trees ts ≡ count ts →
-    AllStand S s (h + length ws) (h + length ws + count ts) ts → Stands S s p h (Struct ws ts)
+    HasBodiesAt S s (h + length ws) (h + length ws + count ts) ts → HasCanonicalAt S s p h (Struct ws ts)
 struct_there S s p h ws ts w place r x ld lq some words uw ut all =
-    let a = laid_where_standing S s (h + length ws) 0 ts (subst (λ i. AllStand S s (h + length ws) i ts) (let e : h + length ws + count ts ≡ h + length ws + count ts + 0 = omega arith in e) all) in
+    let a = laid_where_standing S s (h + length ws) 0 ts (subst (λ i. HasBodiesAt S s (h + length ws) i ts) (let e : h + length ws + count ts ≡ h + length ws + count ts + 0 = omega arith in e) all) in
     let long : length (ws ++ pointers 0 ts) ≡ length ws + count ts = omega (arith, length-append ws (pointers 0 ts), length-pointers 0 ts) in (
       place,
       (ld, lq, words_small S s h ws w words, a.values),
@@ -153,7 +153,7 @@ struct_there S s p h ws ts w place r x ld lq some words uw ut all =
 -- A struct is canonical if it begins at the head, neither section ends with a zero, and its
 -- children are after it.
 pub struct_stands : (S : Segments) (s p h : ℕ) (a : Target) (d q : ℕ) (ts : Trees) → HasSmallWords S s → IsPlace S s p → kind (word_at S s p) ≢ 2 → StructAt S s p a d q → a.start ≡ h → Claims S a (d + q) → 0 < d + q →
-    EndsUsed S s h d → EndsUsed S s (h + d) q → count ts ≡ q → AllStand S s (h + d) (h + d + q) ts → Stands S s p h (Struct (words_at S s h d) ts)
+    EndsUsed S s h d → EndsUsed S s (h + d) q → count ts ≡ q → HasBodiesAt S s (h + d) (h + d + q) ts → HasCanonicalAt S s p h (Struct (words_at S s h d) ts)
 struct_stands S s p h a d q ts w place other o start claim some ed eq len all =
     let n = near_to S s p a other o.leads_to.1 in
     let small = struct_small (word_at S s p) d q (w p) (ap data_words (sym n.same_word) ∙ o.data_of) (ap pointer_count (sym n.same_word) ∙ o.pointers) in
@@ -167,15 +167,15 @@ struct_stands S s p h a d q ts w place other o start claim some ed eq len all =
     sym (used_where_standing S s (h + d) (h + d + q) ts (omega arith) all) ∙ ap (λ m. used_words (words_at S s (h + d) m)) len ∙ ends_used S s (h + d) q (omega arith) eq ∙ sym len in
     struct_there S s p h ws ts w place (subst (Reaches p) start n.reaches) x (omega (arith, long, small.0)) (omega (arith, small.1)) (omega (arith, long)) (has_words_at S s h d (omega arith))
     (ends_used S s h d (omega arith) ed ∙ sym long) used
-    (subst (λ i. AllStand S s (h + i) (h + i + count ts) ts) (sym long) (subst (λ i. AllStand S s (h + d) (h + d + i) ts) (sym len) all))
+    (subst (λ i. HasBodiesAt S s (h + i) (h + i + count ts) ts) (sym long) (subst (λ i. HasBodiesAt S s (h + d) (h + d + i) ts) (sym len) all))
 
 -- A list of pointers is canonical if it begins at the head, and its children are after it.
 pub pointers_stand : (S : Segments) (s p h : ℕ) (a : Target) (n : ℕ) (ts : Trees) → HasSmallWords S s → IsPlace S s p → kind (word_at S s p) ≢ 2 → ListAt S s p a 6 n → a.start ≡ h → Claims S a n →
-    count ts ≡ n → AllStand S s h (h + n) ts → Stands S s p h (Pointers ts)
+    count ts ≡ n → HasBodiesAt S s h (h + n) ts → HasCanonicalAt S s p h (Pointers ts)
 pointers_stand S s p h a n ts w place other o start claim len all =
     let near = near_to S s p a other o.leads_to.1 in
     let small = list_small (word_at S s p) n (w p) (ap list_count (sym near.same_word) ∙ o.counts) in
-    let l = laid_where_standing S s h 0 ts (subst (λ i. AllStand S s h i ts) (let e : h + n ≡ h + count ts + 0 = omega arith in e) all) in (
+    let l = laid_where_standing S s h 0 ts (subst (λ i. HasBodiesAt S s h i ts) (let e : h + n ≡ h + count ts + 0 = omega arith in e) all) in (
       place,
       (omega arith, l.values),
       ap Pointers l.trimmed,
@@ -190,7 +190,7 @@ pointers_stand S s p h a n ts w place other o start claim len all =
 
 -- A list of numbers is canonical if it begins at the head, with zeros after its elements.
 pub flat_stands : (S : Segments) (s p h : ℕ) (a : Target) (size n : ℕ) → HasSmallWords S s → IsPlace S s p → kind (word_at S s p) ≢ 2 → ListAt S s p a size n → size ≤ 5 → a.start ≡ h → Claims S a (words_for size n) →
-    IsPadded S s h size n → Stands S s p h (Flat size (unpacked size n (words_at S s h (words_for size n))))
+    IsPadded S s h size n → HasCanonicalAt S s p h (Flat size (unpacked size n (words_at S s h (words_for size n))))
 flat_stands S s p h a size n w place other o size_small start claim padded =
     let near = near_to S s p a other o.leads_to.1 in
     let small = list_small (word_at S s p) n (w p) (ap list_count (sym near.same_word) ∙ o.counts) in
@@ -224,7 +224,7 @@ tag_small g n d q l t = (omega (arith, t.data_of), omega (arith, t.pointers), om
 -- A list of structs is canonical if its tag is at the head, it claims exactly its elements, their
 -- widths are the least, and their children are after the elements.
 pub structs_stand : (S : Segments) (s p h : ℕ) (a : Target) (m n d q : ℕ) (es : Elements) → HasSmallWords S s → IsPlace S s p → kind (word_at S s p) ≢ 2 → ListAt S s p a 7 m → a.start ≡ h → Claims S a (m + 1) →
-    IsTag (word_at S s h) n d q → n * (d + q) ≡ m → element_count es ≡ n → data_width es ≡ d → pointer_width es ≡ q → ElementsStand S s (h + 1) d q (h + 1 + m) es → Stands S s p h (Structs d q es)
+    IsTag (word_at S s h) n d q → n * (d + q) ≡ m → element_count es ≡ n → data_width es ≡ d → pointer_width es ≡ q → ElementsStand S s (h + 1) d q (h + 1 + m) es → HasCanonicalAt S s p h (Structs d q es)
 structs_stand S s p h a m n d q es w place other o start claim tag exact len dw pw all =
     let near = near_to S s p a other o.leads_to.1 in
     let small = list_small (word_at S s p) m (w p) (ap list_count (sym near.same_word) ∙ o.counts) in

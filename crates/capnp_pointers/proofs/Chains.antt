@@ -1,12 +1,12 @@
 -- Consecutive children and elements, and the words that they are.
--- The lemmas take the place, the head and what is there one by one, in the way of `Stands`.
+-- The lemmas take the place, the head and what is there one by one, in the way of `HasCanonicalAt`.
 use Rattle.std.proofs.Common.{◌≡◌, ℕ, suc, ◌+◌, ◌*◌, ◌^◌, ◌<◌, ◌≤◌, List, [], ◌∷◌, ◌++◌, length, take, drop, refl, sym, ap, ap₂, ◌∙◌, subst, arith, length-append, take-add, drop-drop}
 use Rattle.std.proofs.lemmas.List.{drop_more}
 use Rattle.capnp_format.specs.Segments.{Segments, segment, word_at, HasWords}
 use Rattle.capnp_format.specs.Tree.{Tree, Null, Capability, Struct, Flat, Pointers, Structs, Trees, no_trees, tree, Elements, no_elements, element, count, element_count, capabilities_all, capabilities_elements}
-use Rattle.capnp_format.specs.Canonical.{word_count, word_count_all, word_count_elements, trim_each, trim_elements, pointer, pointers, rows, body, bodies, element_bodies, ForOffset, OffsetsFit, RowsFit, AreEncodable, AreEncodableElements, offset_to, Reaches, Stands}
+use Rattle.capnp_format.specs.Canonical.{word_count, word_count_all, word_count_elements, trim_each, trim_elements, pointer, pointers, rows, body, bodies, element_bodies, ForOffset, OffsetsFit, RowsFit, AreEncodable, AreEncodableElements, offset_to, Reaches, HasCanonicalAt}
 use Rattle.capnp_format.specs.Value.{AreValues, AreElements}
-use Rattle.capnp_pointers.specs.Standing.{AllStand}
+use Rattle.capnp_pointers.specs.Standing.{HasBodiesAt}
 use Rattle.capnp_pointers.proofs.ElementsStanding.{ElementsStand}
 use Rattle.capnp_format.proofs.Slices.{has_words_first, has_words_rest, has_words_head, has_words_tail, has_words_within, moved}
 use Rattle.capnp_format.proofs.Lengths.{length-body, length-bodies, length-pointers}
@@ -60,7 +60,7 @@ pub record AreLaid (S : Segments) (s p k : ℕ) (ts : Trees) : Type 0 where
   pub behind : HasWords S s (p + count ts + k) (bodies ts)
 
 -- Children that are canonical one by one are laid together so.
-pub laid_where_standing : (S : Segments) (s p k : ℕ) (ts : Trees) → AllStand S s p (p + count ts + k) ts → AreLaid S s p k ts
+pub laid_where_standing : (S : Segments) (s p k : ℕ) (ts : Trees) → HasBodiesAt S s p (p + count ts + k) ts → AreLaid S s p k ts
 laid_where_standing S s p k no_trees a = record { values = tt; offsets = tt; encodable = tt; trimmed = refl; free = refl; heads = refl; behind = refl }
 laid_where_standing S s p k (tree t ts) (stands, all) =
     let j = count ts + k in
@@ -69,7 +69,7 @@ laid_where_standing S s p k (tree t ts) (stands, all) =
     let lies = stands.5 in
     let near = offset_near t p j (subst (λ i. ForOffset t (Reaches p i)) there lies.0) in
     let long = length-body t stands.1 in
-    let rest = laid_where_standing S s (p + 1) (k + word_count t) ts (subst (λ i. AllStand S s (p + 1) i ts) (let e : h + word_count t ≡ p + 1 + count ts + (k + word_count t) = omega arith in e) all) in
+    let rest = laid_where_standing S s (p + 1) (k + word_count t) ts (subst (λ i. HasBodiesAt S s (p + 1) i ts) (let e : h + word_count t ≡ p + 1 + count ts + (k + word_count t) = omega arith in e) all) in
     record {
       values = (stands.1, rest.values);
       offsets = (near, rest.offsets);
@@ -82,7 +82,7 @@ laid_where_standing S s p k (tree t ts) (stands, all) =
     }
 
 -- Children that are laid so are canonical one by one.
-pub standing_where_laid : (S : Segments) (s p k : ℕ) (ts : Trees) → AreLaid S s p k ts → p + count ts ≤ length (segment S s) → AllStand S s p (p + count ts + k) ts
+pub standing_where_laid : (S : Segments) (s p k : ℕ) (ts : Trees) → AreLaid S s p k ts → p + count ts ≤ length (segment S s) → HasBodiesAt S s p (p + count ts + k) ts
 standing_where_laid S s p k no_trees a l = tt
 standing_where_laid S s p k (tree t ts) a l =
     let j = count ts + k in
@@ -102,7 +102,7 @@ standing_where_laid S s p k (tree t ts) a l =
           has_words_first S s h (body t) (bodies ts) a.behind,
         ),
       ),
-      subst (λ i. AllStand S s (p + 1) i ts) (let e : p + 1 + count ts + (k + word_count t) ≡ h + word_count t = omega arith in e)
+      subst (λ i. HasBodiesAt S s (p + 1) i ts) (let e : p + 1 + count ts + (k + word_count t) ≡ h + word_count t = omega arith in e)
           (standing_where_laid S s (p + 1) (k + word_count t) ts
           (record {
             values = a.values.1;
@@ -135,7 +135,7 @@ rows_where_standing S s p d q k (element ws ts es) w (long, len, words, all, oth
     let more = element_count es * (d + q) in
     let h = p + suc (element_count es) * (d + q) + k in
     let there : h ≡ p + d + count ts + (more + k) = omega arith in
-    let row = laid_where_standing S s (p + d) (more + k) ts (subst (λ i. AllStand S s (p + d) i ts) there all) in
+    let row = laid_where_standing S s (p + d) (more + k) ts (subst (λ i. HasBodiesAt S s (p + d) i ts) there all) in
     let long_bodies = length-bodies ts row.values in
     let rest = rows_where_standing S s (p + d + q) d q (k + word_count_all ts) es w
     (subst (λ i. ElementsStand S s (p + d + q) d q i es) (let e : h + word_count_all ts ≡ p + d + q + more + (k + word_count_all ts) = omega arith in e) others) in
@@ -168,7 +168,7 @@ standing_where_rows S s p d q k (element ws ts es) a l =
       v.0,
       v.1,
       has_words_first S s p ws (pointers (more + k) ts) here,
-      subst (λ i. AllStand S s (p + d) i ts) there
+      subst (λ i. HasBodiesAt S s (p + d) i ts) there
           (standing_where_laid S s (p + d) (more + k) ts
           (record {
             values = v.3;
@@ -197,11 +197,11 @@ standing_where_rows S s p d q k (element ws ts es) a l =
     )
 
 -- The canonical words of t end inside their segment if the head is inside it.
-pub stands_within : (S : Segments) (s p h : ℕ) (t : Tree) → h ≤ length (segment S s) → Stands S s p h t → h + word_count t ≤ length (segment S s)
+pub stands_within : (S : Segments) (s p h : ℕ) (t : Tree) → h ≤ length (segment S s) → HasCanonicalAt S s p h t → h + word_count t ≤ length (segment S s)
 stands_within S s p h t l a = omega (arith, length-body t a.1, has_words_within S s h (body t) (a.5).2 l)
 
 -- The canonical words of children end inside their segment if the head is inside it.
-pub all_within : (S : Segments) (s p h : ℕ) (ts : Trees) → h ≤ length (segment S s) → AllStand S s p h ts → h + word_count_all ts ≤ length (segment S s)
+pub all_within : (S : Segments) (s p h : ℕ) (ts : Trees) → h ≤ length (segment S s) → HasBodiesAt S s p h ts → h + word_count_all ts ≤ length (segment S s)
 all_within S s p h no_trees l a = omega arith
 all_within S s p h (tree t ts) l a = omega (arith, all_within S s (p + 1) (h + word_count t) ts (stands_within S s p h t l a.0) a.1)
 

@@ -11,7 +11,7 @@ use Rattle.capnp_format.specs.Canonical.{word_count_elements, charge, charge_all
 use Rattle.capnp_words.specs.declared.wire_pointer.StructSize.{StructSize}
 use Rattle.capnp_words.specs.Meter.{Meter}
 use Rattle.std.proofs.Common.{IsTrue, Bool}
-use Rattle.capnp_objects.specs.Demands.{claim, tag, own, element_words}
+use Rattle.capnp_objects.specs.Demands.{claimed_words, tag, own_charge, element_words}
 use Rattle.capnp_objects.specs.Faults.{LeadsTo, child_at}
 use Rattle.capnp_objects.specs.Outcomes.{Entered}
 use Rattle.capnp_objects.specs.Reading.{Reading, word_of, segment_read, tag_size}
@@ -28,7 +28,7 @@ use Rattle.capnp_objects.specs.declared.object.Object.TheVariants.{Null as Objec
 use Rattle.capnp_objects.specs.declared.object.Place.{Place}
 use Rattle.capnp_objects.specs.Objects.{IsObject}
 use Rattle.capnp_objects.specs.declared.object.Purpose.TheVariants.{Value}
-use Rattle.capnp_pointers.specs.Standing.{AllStand, EndsUsed, IsPadded}
+use Rattle.capnp_pointers.specs.Standing.{HasBodiesAt, EndsUsed, IsPadded}
 use Rattle.capnp_pointers.proofs.ElementsStanding.{ElementsStand}
 use Rattle.capnp_pointers.specs.Checking.{Progress, progress, FindsAll, IsFound, AreFound, IsCanonicalAt, AreCanonicalAt, IsTested}
 use Rattle.capnp_pointers.proofs.Accepts.{IsNear, near_to, null_stands, empty_stands, struct_stands, pointers_stand, flat_stands, structs_stand}
@@ -55,8 +55,8 @@ tested r bytes e small at near = record {
 }
 
 -- Canonical words in a segment and from positions on, if these have other names.
-pub all_at : {s u p q h i : ℕ} (S : Segments) (ts : Trees) → s ≡ u → p ≡ q → h ≡ i → AllStand S s p h ts → AllStand S u q i ts
-all_at {s} {u} {p} {q} {h} {i} S ts e f g a = subst (λ x. AllStand S x q i ts) e (subst (λ x. AllStand S s x i ts) f (subst (λ x. AllStand S s p x ts) g a))
+pub all_at : {s u p q h i : ℕ} (S : Segments) (ts : Trees) → s ≡ u → p ≡ q → h ≡ i → HasBodiesAt S s p h ts → HasBodiesAt S u q i ts
+all_at {s} {u} {p} {q} {h} {i} S ts e f g a = subst (λ x. HasBodiesAt S x q i ts) e (subst (λ x. HasBodiesAt S s x i ts) f (subst (λ x. HasBodiesAt S s p x ts) g a))
 
 pub used_at : {s u p q n m : ℕ} (S : Segments) → s ≡ u → p ≡ q → n ≡ m → EndsUsed S s p n → EndsUsed S u q m
 used_at {s} {u} {p} {q} {n} {m} S e f g a = subst (λ x. EndsUsed S x q m) e (subst (λ x. EndsUsed S s x m) f (subst (λ x. EndsUsed S s p x) g a))
@@ -104,7 +104,7 @@ pub empty_found_at : {r : Reading} {from : Progress} {m' : Meter} {a : Target} �
 empty_found_at {r} {from} {m'} {a} ready o z none start =
     let near = near_object r ready.near (entered_leads o) in
     let its : StructAt r.segments r.segment r.at a 0 0 = record { leads_to = entered_leads o; is_struct = z; data_of = omega (arith, none); pointers = omega (arith, none) } in
-    let free : own Value r.segments a ≡ 0 = omega (arith, own_struct r.segments a z, near.no_pads, none) in (
+    let free : own_charge Value r.segments a ≡ 0 = omega (arith, own_struct r.segments a z, near.no_pads, none) in (
       Struct _ no_trees,
       record {
         stands = empty_stands r.segments r.segment r.at from.head a ready.there (not_far r ready.near) its start;
@@ -138,13 +138,13 @@ struct_finds {r} {from} {to} {m'} {a} ready o z start some used (ts, len, all) =
     let q : ℕ = pointer_count a.word in
     let near = near_object r ready.near (entered_leads o) in
     let seg = near.same_segment in
-    let claimed : claim a.word ≡ d + q = claim_struct a.word z in
+    let claimed : claimed_words a.word ≡ d + q = claim_struct a.word z in
     let claims : Claims S a (d + q) = omega (arith, o.meets.claims, claimed) in
     let room : h + d ≤ length (segment S r.segment) = omega (arith, claims, start, ap (λ x. length (segment S x)) seg) in
     let ws : List ℕ = words_at S r.segment h d in
     let long : length ws ≡ d = length_words S r.segment h d room in
-    let there : AllStand S r.segment (h + d) (h + d + q) ts = all_at S ts seg (omega (arith, start)) (omega (arith, start)) all.stand in
-    let cost : own Value S a + charge_all ts ≡ charge (Struct ws ts) = omega (arith, own_struct S a z, near.no_pads, long, len) in (
+    let there : HasBodiesAt S r.segment (h + d) (h + d + q) ts = all_at S ts seg (omega (arith, start)) (omega (arith, start)) all.stand in
+    let cost : own_charge Value S a + charge_all ts ≡ charge (Struct ws ts) = omega (arith, own_struct S a z, near.no_pads, long, len) in (
       Struct ws ts,
       record {
         stands = struct_stands S r.segment r.at h a d q ts ready.small ready.there (not_far r ready.near) (struct_at o z) start claims some (used_at S seg start refl used.0) (used_at S seg (omega (arith, start)) refl used.1) len there;
@@ -164,8 +164,8 @@ pointers_find {r} {from} {to} {m'} {a} ready o z six start (ts, len, all) =
     let near = near_object r ready.near (entered_leads o) in
     let seg = near.same_segment in
     let claims : Claims S a n = omega (arith, o.meets.claims, claim_list a.word 6 z six) in
-    let there : AllStand S r.segment h (h + n) ts = all_at S ts seg start (omega (arith, start)) all.stand in
-    let cost : own Value S a + charge_all ts ≡ charge (Pointers ts) = omega (arith, own_pointers S a z six, near.no_pads, len) in (
+    let there : HasBodiesAt S r.segment h (h + n) ts = all_at S ts seg start (omega (arith, start)) all.stand in
+    let cost : own_charge Value S a + charge_all ts ≡ charge (Pointers ts) = omega (arith, own_pointers S a z six, near.no_pads, len) in (
       Pointers ts,
       record {
         stands = pointers_stand S r.segment r.at h a n ts ready.small ready.there (not_far r ready.near) (list_at 6 o z six) start claims len there;
@@ -185,12 +185,12 @@ flat_finds {r} {from} {m'} {a} ready o z small start padded =
     let n : ℕ = list_count a.word in
     let near = near_object r ready.near (entered_leads o) in
     let seg = near.same_segment in
-    let claimed : claim a.word ≡ words_for size n = claim_list a.word size z refl ∙ claim_flat size n small in
+    let claimed : claimed_words a.word ≡ words_for size n = claim_list a.word size z refl ∙ claim_flat size n small in
     let claims : Claims S a (words_for size n) = omega (arith, o.meets.claims, claimed) in
     let there : IsPadded S r.segment h size n = subst (λ x. IsPadded S x h size n) seg (subst (λ x. IsPadded S a.segment x size n) start padded) in
     let ns : List ℕ = unpacked size n (words_at S r.segment h (words_for size n)) in
     let long : length ns ≡ n = length-digits _ n _ in
-    let cost : own Value S a ≡ charge (Flat size ns) = own_flat S a z small ∙ (let e : a.pads + words_for size n + count_cost size n ≡ words_for size n + count_cost size n = omega (arith, near.no_pads) in e) ∙ ap (λ i. words_for size i + count_cost size i) (sym long) in (
+    let cost : own_charge Value S a ≡ charge (Flat size ns) = own_flat S a z small ∙ (let e : a.pads + words_for size n + count_cost size n ≡ words_for size n + count_cost size n = omega (arith, near.no_pads) in e) ∙ ap (λ i. words_for size i + count_cost size i) (sym long) in (
       Flat size ns,
       record {
         stands = flat_stands S r.segment r.at h a size n ready.small ready.there (not_far r ready.near) (list_at size o z refl) small start claims there;
@@ -221,7 +221,7 @@ structs_find {r} {from} {to} {m'} {a} ready o z seven start exact (es, len, dw, 
     subst (λ x. ElementsStand S x (h + 1) d q (h + 1 + m) es) seg (subst (λ x. ElementsStand S a.segment (x + 1) d q (x + 1 + m) es) start all.stand) in
     let tagged : IsTag (word_at S r.segment h) (element_count es) d q = subst (λ w. IsTag w (element_count es) d q) its (record { is_struct = (o.meets.tagged (z, seven)).0; counts = sym len; data_of = refl; pointers = refl }) in
     let words : element_count es * (d + q) ≡ m = ap (λ i. i * (d + q)) len ∙ exact in
-    let cost : own Value S a + charge_elements es ≡ charge (Structs d q es) =
+    let cost : own_charge Value S a + charge_elements es ≡ charge (Structs d q es) =
     ap (λ x. x + charge_elements es) (own_structs S a z seven ∙ ap₂ (λ i j. a.pads + (i + 1) + count_cost (d + q) j) (sym words) (sym len)) ∙ omega (arith, near.no_pads) in (
       Structs d q es,
       record {

@@ -14,15 +14,15 @@ use Rattle.capnp_format.specs.Tree.{Tree, Null, Capability, Struct, Flat, Pointe
 use Rattle.capnp_format.specs.Means.{MeansElements}
 use Rattle.capnp_format.specs.Canonical.{word_count, word_count_all, word_count_elements}
 use Rattle.capnp_objects.specs.declared.object.Purpose.TheVariants.{Size}
-use Rattle.capnp_objects.specs.Demands.{claim, own, tag, element_words, Meets}
+use Rattle.capnp_objects.specs.Demands.{claimed_words, own_charge, tag, element_words, Meets}
 use Rattle.capnp_objects.specs.Enter.{Shape, read, shape}
 use Rattle.capnp_objects.specs.Faults.{LeadsTo, child_at}
 use Rattle.capnp_objects.specs.Metered.{Metered, onward}
 use Rattle.capnp_objects.specs.Outcomes.{Entered, MeansThere}
-use Rattle.capnp_objects.specs.Reading.{Reading, behind}
+use Rattle.capnp_objects.specs.Reading.{Reading, place_past}
 use Rattle.capnp_words.specs.Sizes.{sized}
 use Rattle.capnp_objects.specs.Refusals.{CanBeRead}
-use Rattle.capnp_objects.specs.Spending.{Paid, after, pointers_in, pointers_in_all, pointers_in_elements}
+use Rattle.capnp_objects.specs.Spending.{Paid, after_charge, pointers_in, pointers_in_all, pointers_in_elements}
 use Rattle.capnp_objects.proofs.Budgets.{affords_rest, paid_both}
 use Rattle.capnp_objects.proofs.Computed.{entering_is}
 use Rattle.capnp_objects.proofs.Decided.{within_or_not}
@@ -125,7 +125,7 @@ record IsThere (r : Reading) (m : Meter) (a : Target) (e b : Extent) (w : ℕ) :
   own : shape_size (shape r.segments a) ≡ only_words w
   words : e.words ≡ w + b.words
   caps : e.caps ≡ b.caps
-  cost : a.pads + claim a.word + b.cost ≤ e.cost
+  cost : a.pads + claimed_words a.word + b.cost ≤ e.cost
   pointers : e.pointers ≡ 1 + b.pointers
   depth : e.depth ≡ 1 + b.depth
 
@@ -141,9 +141,9 @@ object_counts r z m a e b w h fits next = go (read Size r m) refl (told r m)
       fits = rest.fits;
       words = omega (arith, rest.words, h.words);
       caps = omega (arith, rest.caps, h.caps);
-      cost = a.pads + claim a.word + rest.cost;
+      cost = a.pads + claimed_words a.word + rest.cost;
       within = omega (arith, rest.within, h.cost);
-      paid = subst (Paid r.charging m m2 (a.pads + claim a.word + rest.cost)) (sym h.pointers) (paid_both (paid_words o) rest.paid);
+      paid = subst (Paid r.charging m m2 (a.pads + claimed_words a.word + rest.cost)) (sym h.pointers) (paid_both (paid_words o) rest.paid);
     }
     below m1 o (Err k, m2) rest = λ deep covers all. rest (fewer deep) (affords_rest b.cost e.cost (paid_words o) h.cost covers) (omega (arith, all.0, h.words), omega (arith, all.1, h.caps))
 
@@ -178,14 +178,14 @@ capability_counts r z m i a fits leads is = go (read Size r m) refl (told r m)
     go x q (capability_told t level f low covered) =
         let pads : t.pads ≡ a.pads = ap (λ y. y.pads) (one_target r t a (leads_there r t f (λ far. omega (arith, far, low))) leads) in
         rw (object_is r.levels r z m _ _ fits q)
-        (by_sum (Counts r z m (of_tree (Capability i) a.pads)) (λ y m1. (Ok y, m1)) (record { word_count = 0; cap_count = 1 }) z (after r.charging m t.pads 1)
+        (by_sum (Counts r z m (of_tree (Capability i) a.pads)) (λ y m1. (Ok y, m1)) (record { word_count = 0; cap_count = 1 }) z (after_charge r.charging m t.pads 1)
         (λ more. record { fits = more; words = refl; caps = refl; cost = t.pads; within = omega (arith, pads); paid = record { covers = covered; spent = refl } })
         (λ over deep covers all. over all))
 
 -- An object that meets its demands, and whose words the limiter covers, can be read.
-can_enter : (r : Reading) (m : Meter) (a : Target) (c : ℕ) → LeadsTo r a → Meets Size r.segments r.levels a → a.pads + claim a.word ≤ c → Affords r.charging m c → CanBeRead Size r m
+can_enter : (r : Reading) (m : Meter) (a : Target) (c : ℕ) → LeadsTo r a → Meets Size r.segments r.levels a → a.pads + claimed_words a.word ≤ c → Affords r.charging m c → CanBeRead Size r m
 unfolding CanBeRead
-can_enter r m a c leads meets le covers = inr (inr (a, leads_to r a leads, meets, affords_less r.charging m (own Size r.segments a) c (omega (arith, charge_of_size r.segments a, le)) covers))
+can_enter r m a c leads meets le covers = inr (inr (a, leads_to r a leads, meets, affords_less r.charging m (own_charge Size r.segments a) c (omega (arith, charge_of_size r.segments a, le)) covers))
 
 -- What a place means, the walk counts: one value, consecutive ones, and those of elements. The value
 -- is one within n levels.
@@ -197,7 +197,7 @@ mutual
       let claimed = claim_struct a.word o.is_struct in
       let is : nat_eq (kind a.word) 0 ≡ true = eq-eqb _ _ o.is_struct in
       let meets : 0 < r.levels → Meets Size r.segments r.levels a = λ level. record { levels = level; is_object = omega (arith, o.is_struct); claims = λ v. omega (arith, claims, claimed, o.data_of, o.pointers); tagged = λ v. absurd (omega (arith, o.is_struct, v.0)) } in
-      let cost : a.pads + claim a.word + k ≤ c = omega (arith, claimed, o.data_of, o.pointers, g) in
+      let cost : a.pads + claimed_words a.word + k ≤ c = omega (arith, claimed, o.data_of, o.pointers, g) in
       object_counts r z m a (of_tree (Struct ws ts) c) (of_trees ts k) (length ws + count ts)
       (record {
         leads = o.leads_to;
@@ -212,12 +212,12 @@ mutual
       })
       fits (λ y m1 more. rw (is, o.data_of, o.pointers) (all_count (child_at r a (pred r.levels) (a.start + length ws)) (pred n) ts (k, all) y m1 more))
   value_counts r n (Flat size ns) (c, (a, some, small, o, claims, e, g)) z m fits =
-      let claimed : claim a.word ≡ words_for size (length ns) = claim_list a.word size o.is_list o.is_size ∙ claim_flat size (list_count a.word) small ∙ ap (words_for size) o.counts in
+      let claimed : claimed_words a.word ≡ words_for size (length ns) = claim_list a.word size o.is_list o.is_size ∙ claim_flat size (list_count a.word) small ∙ ap (words_for size) o.counts in
       let list : nat_eq (kind a.word) 0 ≡ false = ne_eqb _ _ (λ q. omega (arith, q, o.is_list)) in
       let not_seven : nat_eq (element_size a.word) 7 ≡ false = ne_eqb _ _ (λ q. omega (arith, q, o.is_size, small)) in
       let not_six : nat_eq (element_size a.word) 6 ≡ false = ne_eqb _ _ (λ q. omega (arith, q, o.is_size, small)) in
       let meets : 0 < r.levels → Meets Size r.segments r.levels a = λ level. record { levels = level; is_object = omega (arith, o.is_list); claims = λ v. omega (arith, claims, claimed); tagged = λ v. absurd (omega (arith, v.1, o.is_size, small)) } in
-      let cost : a.pads + claim a.word + 0 ≤ c = omega (arith, claimed, g) in
+      let cost : a.pads + claimed_words a.word + 0 ≤ c = omega (arith, claimed, g) in
       object_counts r z m a (of_tree (Flat size ns) c) (of_trees no_trees 0) (words_for size (length ns))
       (record {
         leads = o.leads_to;
@@ -237,7 +237,7 @@ mutual
       let not_seven : nat_eq (element_size a.word) 7 ≡ false = ne_eqb _ _ (λ q. omega (arith, q, o.is_size)) in
       let is_six : nat_eq (element_size a.word) 6 ≡ true = eq-eqb _ _ o.is_size in
       let meets : 0 < r.levels → Meets Size r.segments r.levels a = λ level. record { levels = level; is_object = omega (arith, o.is_list); claims = λ v. omega (arith, claims, claimed, o.counts); tagged = λ v. absurd (omega (arith, v.1, o.is_size)) } in
-      let cost : a.pads + claim a.word + k ≤ c = omega (arith, claimed, o.counts, g) in
+      let cost : a.pads + claimed_words a.word + k ≤ c = omega (arith, claimed, o.counts, g) in
       object_counts r z m a (of_tree (Pointers ts) c) (of_trees ts k) (count ts)
       (record {
         leads = o.leads_to;
@@ -257,7 +257,7 @@ mutual
       let is_seven : nat_eq (element_size a.word) 7 ≡ true = eq-eqb _ _ o.is_size in
       let words : element_words (tag r.segments a) ≤ list_count a.word = rw (t.counts, t.data_of, t.pointers, o.counts) room in
       let meets : 0 < r.levels → Meets Size r.segments r.levels a = λ level. record { levels = level; is_object = omega (arith, o.is_list); claims = λ v. omega (arith, claims, claimed, o.counts); tagged = λ v. (t.is_struct, words) } in
-      let cost : a.pads + claim a.word + k ≤ c = omega (arith, claimed, o.counts, g) in
+      let cost : a.pads + claimed_words a.word + k ≤ c = omega (arith, claimed, o.counts, g) in
       object_counts r z m a (of_tree (Structs d q es) c) (of_elements es k) (1 + element_count es * (d + q))
       (record {
         leads = o.leads_to;
@@ -276,7 +276,7 @@ mutual
   all_count r n no_trees (c, h) z m fits = counts_none r z m c fits
   all_count r n (tree t ts) (c, (a, b, one, rest, g)) z m fits =
       subst (λ x. Counts r z m (of_trees (tree t ts) x) (measure_pointers (suc (count ts)) r z m)) (sym g)
-      (counts_both r z m (of_tree t a) (of_trees ts b) (measure_pointers (count ts) (behind r 1)) (measure r z m) (value_counts r n t (a, one) z m fits) (λ y m1 more. all_count (behind r 1) n ts (b, rest) y m1 more))
+      (counts_both r z m (of_tree t a) (of_trees ts b) (measure_pointers (count ts) (place_past r 1)) (measure r z m) (value_counts r n t (a, one) z m fits) (λ y m1 more. all_count (place_past r 1) n ts (b, rest) y m1 more))
 
   elements_count : (r : Reading) (size : StructSize) (n : ℕ) (es : Elements) (x : (c : ℕ) × ElementsMean (at_levels r n) size es c) (z : MessageSize) (m : Meter) → Fits z →
       Counts r z m (of_elements es x.0) (measure_elements size.data_words size.pointers (element_count es) r z m)
@@ -285,9 +285,9 @@ mutual
       let d : ℕ = size.data_words in
       let q : ℕ = size.pointers in
       let there : MeansElements r.segments n r.segment (r.at + (d + q)) d q es b = subst (λ p. MeansElements r.segments n r.segment p d q es b) (let e : r.at + d + q ≡ r.at + (d + q) = omega arith in e) rest in
-      let one : Counts r z m (of_trees ts a) (measure_pointers q (behind r d) z m) = subst (λ i. Counts r z m (of_trees ts a) (measure_pointers i (behind r d) z m)) many (all_count (behind r d) n ts (a, first) z m fits) in
+      let one : Counts r z m (of_trees ts a) (measure_pointers q (place_past r d) z m) = subst (λ i. Counts r z m (of_trees ts a) (measure_pointers i (place_past r d) z m)) many (all_count (place_past r d) n ts (a, first) z m fits) in
       subst (λ x. Counts r z m (of_elements (element ws ts es) x) (measure_elements d q (suc (element_count es)) r z m)) (sym g)
-      (counts_both r z m (of_trees ts a) (of_elements es b) (measure_elements d q (element_count es) (behind r (d + q))) (measure_pointers q (behind r d) z m) one (λ y m1 more. elements_count (behind r (d + q)) size n es (b, there) y m1 more))
+      (counts_both r z m (of_trees ts a) (of_elements es b) (measure_elements d q (element_count es) (place_past r (d + q))) (measure_pointers q (place_past r d) z m) one (λ y m1 more. elements_count (place_past r (d + q)) size n es (b, there) y m1 more))
 
 -- What follows for the size of a value at a place.
 is_value_size : (z : MessageSize) (t : Tree) → z.word_count ≡ word_count t → z.cap_count ≡ capabilities t → z ≡ value_size t
@@ -299,9 +299,9 @@ size_is r n m m' z t c e means =
     is_value_size z t (omega (arith, there.words)) (omega (arith, there.caps))
 
 pub has_size : (r : Reading) (n : ℕ) (m : Meter) (t : Tree) (c : ℕ) → MeansThere (at_levels r n) t c → depth t < r.levels → Affords r.charging m c → FitSize (word_count t) (capabilities t) →
-    (k : ℕ) × (k ≤ c) × (measure r (only_words 0) m ≡ (Ok (value_size t), after r.charging m k (pointers_in t)))
+    (k : ℕ) × (k ≤ c) × (measure r (only_words 0) m ≡ (Ok (value_size t), after_charge r.charging m k (pointers_in t)))
 has_size r n m t c means deep covers fits = go (measure r (only_words 0) m) refl (value_counts r n t (c, means) (only_words 0) m (omega arith, omega arith))
   where
-    go : (o : Result MessageSize ErrorKind × Meter) → measure r (only_words 0) m ≡ o → Counts r (only_words 0) m (of_tree t c) o → (k : ℕ) × (k ≤ c) × (measure r (only_words 0) m ≡ (Ok (value_size t), after r.charging m k (pointers_in t)))
+    go : (o : Result MessageSize ErrorKind × Meter) → measure r (only_words 0) m ≡ o → Counts r (only_words 0) m (of_tree t c) o → (k : ℕ) × (k ≤ c) × (measure r (only_words 0) m ≡ (Ok (value_size t), after_charge r.charging m k (pointers_in t)))
     go (Ok y, m') e there = (there.cost, there.within, e ∙ ap₂ (λ z x. (Ok z, x)) (is_value_size y t (omega (arith, there.words)) (omega (arith, there.caps))) there.paid.spent)
     go (Err k, m') e never = absurd (never deep covers (omega (arith, fits.0), omega (arith, fits.1)))

@@ -17,7 +17,7 @@ use Rattle.capnp_objects.specs.Enter.{Shape, nothing, capability, struct, flat, 
 use Rattle.capnp_objects.specs.Metered.{Metered, answer, onward}
 use Rattle.capnp_objects.specs.Outcomes.{Entered}
 use Rattle.capnp_objects.specs.Reading.{Reading, word_of, words_from}
-use Rattle.capnp_objects.specs.Spending.{after}
+use Rattle.capnp_objects.specs.Spending.{after_charge}
 use Rattle.capnp_objects.specs.Values.{read_values, read_element_values, object_value, value_within, value}
 use Rattle.capnp_objects.specs.Wanted.{plain}
 use Rattle.capnp_objects.proofs.Computed.{null_is, capability_is, entering_is, stopped_is}
@@ -189,8 +189,8 @@ place_follows r z m fits h = elim (same_or_not (word_of r) 0) [
     go (at_capability a f low covered) =
         let o : Shape = capability (upper_half a.word) in
         let e = capability_is Value r a m (λ e. absurd (cc e)) f low covered in
-        rw (leaf_is plain r.levels r m (after r.charging m a.pads 1) o (Ok (Capability (upper_half a.word)), after r.charging m a.pads 1) e (λ f at. refl), leaf r z m (after r.charging m a.pads 1) o (λ f s y. refl) e)
-        (omega arith, ap (λ y. (Ok y, after r.charging m a.pads 1)) (same_tally (omega (arith, fits.lowest)) (omega (arith, fits.words)) refl))
+        rw (leaf_is plain r.levels r m (after_charge r.charging m a.pads 1) o (Ok (Capability (upper_half a.word)), after_charge r.charging m a.pads 1) e (λ f at. refl), leaf r z m (after_charge r.charging m a.pads 1) o (λ f s y. refl) e)
+        (omega arith, ap (λ y. (Ok y, after_charge r.charging m a.pads 1)) (same_tally (omega (arith, fits.lowest)) (omega (arith, fits.words)) refl))
     go (at_object a m' o) =
         let e = entering_is Value r m m' a o in
         rw (value_is plain r.levels r m m' (shape r.segments a) e o.meets.levels, opened r z m m' (shape r.segments a) o.meets.levels e) (object_follows r z m m' a fits o (h o.meets.levels))

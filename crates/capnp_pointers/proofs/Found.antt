@@ -7,9 +7,9 @@ use Rattle.capnp_format.specs.Numbers.{words_for, unpacked, packed, element_bits
 use Rattle.capnp_format.specs.Segments.{Segments, segment, word_at, words_at, Target}
 use Rattle.capnp_format.specs.Tree.{Tree, Null, Capability, Struct, Flat, Pointers, Structs, Trees, no_trees, tree, Elements, no_elements, element, count, element_count, capabilities}
 use Rattle.capnp_format.specs.Means.{Claims, StructAt, ListAt, IsTag}
-use Rattle.capnp_format.specs.Canonical.{used_words, used_trees, take_trees, data_width, pointer_width, cut_to, trim, trim_each, trim_elements, pointer, pointers, rows, bodies, element_bodies, ForOffset, offset_to, Reaches, Stands}
+use Rattle.capnp_format.specs.Canonical.{used_words, used_trees, take_trees, data_width, pointer_width, cut_to, trim, trim_each, trim_elements, pointer, pointers, rows, bodies, element_bodies, ForOffset, offset_to, Reaches, HasCanonicalAt}
 use Rattle.capnp_format.specs.Value.{AreElements}
-use Rattle.capnp_pointers.specs.Standing.{AllStand, EndsUsed, IsPadded}
+use Rattle.capnp_pointers.specs.Standing.{HasBodiesAt, EndsUsed, IsPadded}
 use Rattle.capnp_pointers.proofs.ElementsStanding.{ElementsStand}
 use Rattle.capnp_format.proofs.Digits.{length-digits}
 use Rattle.capnp_format.proofs.Slices.{has_words_first, has_words_rest, has_words_head, has_words_tail, has_words_within, moved}
@@ -33,11 +33,11 @@ kind_of_pointer (Pointers ts) k e = omega arith
 kind_of_pointer (Structs d q es) k e = omega arith
 
 -- The word at the place of canonical words is a pointer to a struct or a list.
-pub kind_where_standing : (S : Segments) (s p h : ℕ) (t : Tree) → Stands S s p h t → kind (word_at S s p) < 2
+pub kind_where_standing : (S : Segments) (s p h : ℕ) (t : Tree) → HasCanonicalAt S s p h t → kind (word_at S s p) < 2
 kind_where_standing S s p h t a = rw (a.5).1 (kind_of_pointer t (offset_to p h) a.3)
 
 -- The word at the place of canonical words isn't a far pointer.
-not_far : (S : Segments) (s p h : ℕ) (t : Tree) → Stands S s p h t → kind (word_at S s p) ≢ 2
+not_far : (S : Segments) (s p h : ℕ) (t : Tree) → HasCanonicalAt S s p h t → kind (word_at S s p) ≢ 2
 not_far S s p h t a e = let l = kind_where_standing S s p h t a in omega arith
 
 -- If a pointer reaches two heads with the same offset, they are the same.
@@ -86,7 +86,7 @@ its_own_place p i r e = omega arith
 
 -- If the pointer leads to a struct without words, the value is the empty struct, and the pointer
 -- leads to its own place.
-pub empty_found : (S : Segments) (s p h : ℕ) (a : Target) (t : Tree) → Stands S s p h t → StructAt S s p a 0 0 → (t ≡ Struct [] no_trees) × (a.start ≡ p)
+pub empty_found : (S : Segments) (s p h : ℕ) (a : Target) (t : Tree) → HasCanonicalAt S s p h t → StructAt S s p a 0 0 → (t ≡ Struct [] no_trees) × (a.start ≡ p)
 empty_found S s p h a Null st o = absurd (o.leads_to.0 (st.5).1)
 empty_found S s p h a (Capability i) st o = let e = st.3 in absurd (omega arith)
 empty_found S s p h a (Struct [] no_trees) st o =
@@ -113,7 +113,7 @@ pub record FoundStruct (S : Segments) (s p h : ℕ) (a : Target) (d q : ℕ) (t 
   pub claim : Claims S a (d + q)
   pub data_used : EndsUsed S s h d
   pub pointers_used : EndsUsed S s (h + d) q
-  pub children : (ts : Trees) × (count ts ≡ q) × AllStand S s (h + d) (h + d + q) ts × (t ≡ Struct (words_at S s h d) ts)
+  pub children : (ts : Trees) × (count ts ≡ q) × HasBodiesAt S s (h + d) (h + d + q) ts × (t ≡ Struct (words_at S s h d) ts)
 
 -- The pointer of a struct that isn't empty has an offset.
 struct_reaches : (ws : List ℕ) (ts : Trees) (P : Type 0) → 0 < length ws + count ts → ForOffset (Struct ws ts) P → P
@@ -128,7 +128,7 @@ empty_pointer [] (tree t ts) k e = absurd (omega arith)
 empty_pointer (x ∷ xs) ts k e = absurd (omega arith)
 
 -- A canonical struct is found so if its pointer leads to the head.
-struct_parts : (S : Segments) (s p h : ℕ) (a : Target) (ws : List ℕ) (ts : Trees) → h ≤ length (segment S s) → Stands S s p h (Struct ws ts) → a.start ≡ h → a.segment ≡ s →
+struct_parts : (S : Segments) (s p h : ℕ) (a : Target) (ws : List ℕ) (ts : Trees) → h ≤ length (segment S s) → HasCanonicalAt S s p h (Struct ws ts) → a.start ≡ h → a.segment ≡ s →
     FoundStruct S s p h a (length ws) (count ts) (Struct ws ts)
 struct_parts S s p h a ws ts l (place, v, trimmed, free, f, lies) start same =
     let object = has_words_first S s h (ws ++ pointers 0 ts) (bodies ts) lies.2 in
@@ -150,7 +150,7 @@ struct_parts S s p h a ws ts l (place, v, trimmed, free, f, lies) start same =
       children = (
         ts,
         refl,
-        subst (λ i. AllStand S s (h + length ws) i ts) (let q : h + length ws + count ts + 0 ≡ h + length ws + count ts = omega arith in q)
+        subst (λ i. HasBodiesAt S s (h + length ws) i ts) (let q : h + length ws + count ts + 0 ≡ h + length ws + count ts = omega arith in q)
             (standing_where_laid S s (h + length ws) 0 ts
             (record {
               values = v.3;
@@ -167,7 +167,7 @@ struct_parts S s p h a ws ts l (place, v, trimmed, free, f, lies) start same =
     }
 
 -- If a pointer leads to a struct of at least one word, the value is such a struct.
-pub struct_found : (S : Segments) (s p h : ℕ) (a : Target) (d q : ℕ) (t : Tree) → Stands S s p h t → StructAt S s p a d q → 0 < d + q → FoundStruct S s p h a d q t
+pub struct_found : (S : Segments) (s p h : ℕ) (a : Target) (d q : ℕ) (t : Tree) → HasCanonicalAt S s p h t → StructAt S s p a d q → 0 < d + q → FoundStruct S s p h a d q t
 struct_found S s p h a d q Null st o some = absurd (o.leads_to.0 (st.5).1)
 struct_found S s p h a d q (Capability i) st o some = let e = st.3 in absurd (omega arith)
 struct_found S s p h a d q (Struct ws ts) st o some =
@@ -190,7 +190,7 @@ struct_found S s p h a d q (Pointers ts) st o some = absurd (list_not_struct S s
 struct_found S s p h a d q (Structs e r es) st o some = absurd (list_not_struct S s p a (offset_to p h) 7 (element_count es * (e + r)) d q (st.5).1 o)
 
 -- If the value is a struct, the pointer doesn't lead to a list.
-struct_no_list : (S : Segments) (s p h : ℕ) (a : Target) (size n : ℕ) (ws : List ℕ) (ts : Trees) → Stands S s p h (Struct ws ts) → ListAt S s p a size n → ⊥
+struct_no_list : (S : Segments) (s p h : ℕ) (a : Target) (size n : ℕ) (ws : List ℕ) (ts : Trees) → HasCanonicalAt S s p h (Struct ws ts) → ListAt S s p a size n → ⊥
 struct_no_list S s p h a size n ws ts st o =
     elim (cases_lt 0 (length ws + count ts)) [
       | inl more ↦ struct_not_list S s p a (offset_to p h) (length ws) (count ts) size n ((st.5).1 ∙ struct_pointer ws ts (offset_to p h) more) o
@@ -198,7 +198,7 @@ struct_no_list S s p h a size n ws ts st o =
     ]
 
 -- A list is where its pointer leads, with the element size and the count that the pointer says.
-list_facts : (S : Segments) (s p h : ℕ) (a : Target) (size n more m : ℕ) (t : Tree) → Stands S s p h t → ListAt S s p a size n → size < 8 → more < 8 → Reaches p h → word_at S s p ≡ list_word (offset_to p h) more m →
+list_facts : (S : Segments) (s p h : ℕ) (a : Target) (size n more m : ℕ) (t : Tree) → HasCanonicalAt S s p h t → ListAt S s p a size n → size < 8 → more < 8 → Reaches p h → word_at S s p ≡ list_word (offset_to p h) more m →
     (a.start ≡ h) × (a.segment ≡ s) × (more ≡ size) × (m ≡ n) × (h ≤ length (segment S s))
 list_facts S s p h a size n more m t st o ls lm r x =
     let other = not_far S s p h t st in
@@ -212,10 +212,10 @@ pub record FoundPointers (S : Segments) (s p h : ℕ) (a : Target) (n : ℕ) (t 
   pub start : a.start ≡ h
   pub same_segment : a.segment ≡ s
   pub claim : Claims S a n
-  pub children : (ts : Trees) × (count ts ≡ n) × AllStand S s h (h + n) ts × (t ≡ Pointers ts)
+  pub children : (ts : Trees) × (count ts ≡ n) × HasBodiesAt S s h (h + n) ts × (t ≡ Pointers ts)
 
 -- If a pointer leads to a list of pointers, the value is such a list.
-pub pointers_found : (S : Segments) (s p h : ℕ) (a : Target) (n : ℕ) (t : Tree) → Stands S s p h t → ListAt S s p a 6 n → FoundPointers S s p h a n t
+pub pointers_found : (S : Segments) (s p h : ℕ) (a : Target) (n : ℕ) (t : Tree) → HasCanonicalAt S s p h t → ListAt S s p a 6 n → FoundPointers S s p h a n t
 pointers_found S s p h a n Null st o = absurd (o.leads_to.0 (st.5).1)
 pointers_found S s p h a n (Capability i) st o = let e = st.3 in absurd (omega arith)
 pointers_found S s p h a n (Struct ws ts) st o = absurd (struct_no_list S s p h a 6 n ws ts st o)
@@ -237,7 +237,7 @@ pointers_found S s p h a n (Pointers ts) st o =
       children = (
         ts,
         f.3,
-        subst (λ i. AllStand S s h i ts) (let q : h + count ts + 0 ≡ h + n = omega (arith, f.3) in q)
+        subst (λ i. HasBodiesAt S s h i ts) (let q : h + count ts + 0 ≡ h + n = omega (arith, f.3) in q)
             (standing_where_laid S s h 0 ts
             (record {
               values = (st.1).1;
@@ -265,7 +265,7 @@ pub record FoundFlat (S : Segments) (s p h : ℕ) (a : Target) (size n : ℕ) (t
   pub value : t ≡ Flat size (unpacked size n (words_at S s h (words_for size n)))
 
 -- A canonical list of numbers is found so if its pointer leads to the head.
-flat_parts : (S : Segments) (s p h : ℕ) (a : Target) (size : ℕ) (ns : List ℕ) → h ≤ length (segment S s) → Stands S s p h (Flat size ns) → a.start ≡ h → a.segment ≡ s → FoundFlat S s p h a size (length ns) (Flat size ns)
+flat_parts : (S : Segments) (s p h : ℕ) (a : Target) (size : ℕ) (ns : List ℕ) → h ≤ length (segment S s) → HasCanonicalAt S s p h (Flat size ns) → a.start ≡ h → a.segment ≡ s → FoundFlat S s p h a size (length ns) (Flat size ns)
 flat_parts S s p h a size ns l st start same =
     let long : length (packed size ns) ≡ words_for size (length ns) = length-digits _ (words_for size (length ns)) _ in
     let here : words_at S s h (words_for size (length ns)) ≡ packed size ns = rw long at (st.5).2 in
@@ -280,7 +280,7 @@ flat_parts S s p h a size ns l st start same =
     }
 
 -- If a pointer leads to a list of numbers, the value is such a list.
-pub flat_found : (S : Segments) (s p h : ℕ) (a : Target) (size n : ℕ) (t : Tree) → Stands S s p h t → ListAt S s p a size n → size ≤ 5 → FoundFlat S s p h a size n t
+pub flat_found : (S : Segments) (s p h : ℕ) (a : Target) (size n : ℕ) (t : Tree) → HasCanonicalAt S s p h t → ListAt S s p a size n → size ≤ 5 → FoundFlat S s p h a size n t
 flat_found S s p h a size n Null st o small = absurd (o.leads_to.0 (st.5).1)
 flat_found S s p h a size n (Capability i) st o small = let e = st.3 in absurd (omega arith)
 flat_found S s p h a size n (Struct ws ts) st o small = absurd (struct_no_list S s p h a size n ws ts st o)
@@ -325,7 +325,7 @@ trimmed_structs d q es v e =
     (ap data_width (sym same) ∙ dw, ap pointer_width (sym same) ∙ pw, same)
 
 -- If a pointer leads to a list of structs, the value is such a list.
-pub structs_found : (S : Segments) (s p h : ℕ) (a : Target) (m : ℕ) (t : Tree) → Stands S s p h t → ListAt S s p a 7 m → (d : ℕ) × (q : ℕ) × (es : Elements) × (t ≡ Structs d q es) × FoundStructs S s p h a m d q es
+pub structs_found : (S : Segments) (s p h : ℕ) (a : Target) (m : ℕ) (t : Tree) → HasCanonicalAt S s p h t → ListAt S s p a 7 m → (d : ℕ) × (q : ℕ) × (es : Elements) × (t ≡ Structs d q es) × FoundStructs S s p h a m d q es
 structs_found S s p h a m Null st o = absurd (o.leads_to.0 (st.5).1)
 structs_found S s p h a m (Capability i) st o = let e = st.3 in absurd (omega arith)
 structs_found S s p h a m (Struct ws ts) st o = absurd (struct_no_list S s p h a 7 m ws ts st o)

@@ -13,7 +13,7 @@ use Rattle.capnp_objects.specs.declared.object.Purpose.TheVariants.{Size}
 use Rattle.capnp_objects.specs.Enter.{Shape, nothing, capability, struct, flat, object_shape, read, shape}
 use Rattle.capnp_objects.specs.Metered.{Metered, answer, onward}
 use Rattle.capnp_objects.specs.Objects.{near_at}
-use Rattle.capnp_objects.specs.Reading.{Reading, behind, word_of}
+use Rattle.capnp_objects.specs.Reading.{Reading, place_past, word_of}
 use Rattle.capnp_pointers.specs.declared.pointers.sizes.MeasuredRows.{MeasuredRows}
 use Rattle.capnp_pointers.specs.declared.pointers.sizes.MessageSize.{MessageSize}
 use Rattle.capnp_pointers.specs.declared.pointers.walk.Walk.{Walk}
@@ -99,8 +99,8 @@ null_added r z m fits none =
     object_added r z z m m nothing fits e (omega arith) (omega arith) fits
 
 -- One of several consecutive pointers is measured, or stops the walk.
-pub one_more : {X : Type 0} (f : Reading → X → Metered X) (r : Reading) (i j k : ℕ) (x y : X) (m m' : Meter) → j ≡ i + 1 → f (behind r i) x m ≡ (Ok y, m') →
-    fold_pointers f (suc k) (behind r i) x m ≡ fold_pointers f k (behind r j) y m'
+pub one_more : {X : Type 0} (f : Reading → X → Metered X) (r : Reading) (i j k : ℕ) (x y : X) (m m' : Meter) → j ≡ i + 1 → f (place_past r i) x m ≡ (Ok y, m') →
+    fold_pointers f (suc k) (place_past r i) x m ≡ fold_pointers f k (place_past r j) y m'
 one_more f r i j k x y m m' next e =
     ap (onward _) e ∙ ap (λ p. fold_pointers f k (record r { at = p }) y m') (omega (arith, next))
 
@@ -108,26 +108,26 @@ pub one_stops : {X : Type 0} (f : Reading → X → Metered X) (r : Reading) (k 
 one_stops f r k x m m' e h = ap (onward _) h
 
 -- The pointers of one of several consecutive elements are measured, or stop the walk.
-pub row_more : {X : Type 0} (f : Reading → X → Metered X) (r : Reading) (d q i j k : ℕ) (x y : X) (m m' : Meter) → j ≡ i + 1 → fold_pointers f q (behind r (i * (d + q) + d)) x m ≡ (Ok y, m') →
-    fold_elements f d q (suc k) (behind r (i * (d + q))) x m ≡ fold_elements f d q k (behind r (j * (d + q))) y m'
+pub row_more : {X : Type 0} (f : Reading → X → Metered X) (r : Reading) (d q i j k : ℕ) (x y : X) (m m' : Meter) → j ≡ i + 1 → fold_pointers f q (place_past r (i * (d + q) + d)) x m ≡ (Ok y, m') →
+    fold_elements f d q (suc k) (place_past r (i * (d + q))) x m ≡ fold_elements f d q k (place_past r (j * (d + q))) y m'
 row_more f r d q i j k x y m m' next e =
-    let there : fold_pointers f q (behind (behind r (i * (d + q))) d) x m ≡ (Ok y, m') = ap (λ p. fold_pointers f q (record r { at = p }) x m) (omega arith) ∙ e in
+    let there : fold_pointers f q (place_past (place_past r (i * (d + q))) d) x m ≡ (Ok y, m') = ap (λ p. fold_pointers f q (record r { at = p }) x m) (omega arith) ∙ e in
     ap (onward _) there ∙ ap (λ p. fold_elements f d q k (record r { at = p }) y m') (rw next (omega arith))
 
-pub row_stops : {X : Type 0} (f : Reading → X → Metered X) (r : Reading) (d q k : ℕ) (x : X) (m m' : Meter) (e : ErrorKind) → fold_pointers f q (behind r d) x m ≡ (Err e, m') → fold_elements f d q (suc k) r x m ≡ (Err e, m')
+pub row_stops : {X : Type 0} (f : Reading → X → Metered X) (r : Reading) (d q k : ℕ) (x : X) (m m' : Meter) (e : ErrorKind) → fold_pointers f q (place_past r d) x m ≡ (Err e, m') → fold_elements f d q (suc k) r x m ≡ (Err e, m')
 row_stops f r d q k x m m' e h = ap (onward _) h
 
 pub no_pointers : {X : Type 0} (f : Reading → X → Metered X) (r : Reading) (d n : ℕ) (x : X) (m : Meter) → fold_elements f d 0 n r x m ≡ (Ok x, m)
 no_pointers f r d zero x m = refl
-no_pointers f r d (suc n) x m = no_pointers f (behind r (d + 0)) d n x m
+no_pointers f r d (suc n) x m = no_pointers f (place_past r (d + 0)) d n x m
 
 -- The pointers of one element.
 answered : {X : Type 0} (o : Result X ErrorKind × Meter) → onward answer o ≡ o
 answered (Ok y, m') = refl
 answered (Err k, m') = refl
 
-pub one_row : {X : Type 0} (f : Reading → X → Metered X) (r : Reading) (d q : ℕ) (x : X) (m : Meter) → fold_elements f d q 1 r x m ≡ fold_pointers f q (behind r d) x m
-one_row f r d q x m = answered (fold_pointers f q (behind r d) x m)
+pub one_row : {X : Type 0} (f : Reading → X → Metered X) (r : Reading) (d q : ℕ) (x : X) (m : Meter) → fold_elements f d q 1 r x m ≡ fold_pointers f q (place_past r d) x m
+one_row f r d q x m = answered (fold_pointers f q (place_past r d) x m)
 
 -- What the walk makes of an object that the program has read.
 pub no_capability : (x : Object) → ((i : ℕ) → x ≡ ObjectCapability i → ⊥) → (shape_size (object_shape x)).cap_count ≡ 0

@@ -11,7 +11,7 @@ use Rattle.capnp_format.specs.Word.{kind, list_count}
 use Rattle.capnp_objects.specs.declared.object.Purpose.TheVariants.{Value}
 use Rattle.capnp_objects.specs.Enter.{Shape, nothing, capability, struct, flat, pointers, structs, read}
 use Rattle.capnp_objects.specs.Metered.{Metered, answer, onward}
-use Rattle.capnp_objects.specs.Reading.{Reading, behind, segment_read, word_of, words_from}
+use Rattle.capnp_objects.specs.Reading.{Reading, place_past, segment_read, word_of, words_from}
 use Rattle.capnp_objects.specs.Values.{object_value, permit, read_element_values, read_values, value, value_within}
 use Rattle.capnp_objects.specs.Wanted.{plain}
 use Rattle.capnp_pointers.specs.Faults.{other_reason}
@@ -66,13 +66,13 @@ pointers_along g f r h (suc i) p head m = go (f (record r { at = p }) head m) (h
     s : Reading
     s = record r { at = p }
 
-    go : (x : Outcome) → Along (g s m) x → ((e : ℕ) (m1 : Meter) → Along (read_values g i (behind s 1) m1) (pointers_tested f i (behind s 1) e m1)) →
-        Along (onward (λ t m1. onward (λ ts. answer (tree t ts)) (read_values g i (behind s 1) m1)) (g s m)) (onward (fold_pointers (λ v. unless_fault (f v)) i (behind s 1)) x)
+    go : (x : Outcome) → Along (g s m) x → ((e : ℕ) (m1 : Meter) → Along (read_values g i (place_past s 1) m1) (pointers_tested f i (place_past s 1) e m1)) →
+        Along (onward (λ t m1. onward (λ ts. answer (tree t ts)) (read_values g i (place_past s 1) m1)) (g s m)) (onward (fold_pointers (λ v. unless_fault (f v)) i (place_past s 1)) x)
     go (Ok (Ok e), m1) (passes t is) rest =
-        subst (λ (y : Result Tree ErrorKind × Meter). Along (onward (λ u m2. onward (λ ts. answer (tree u ts)) (read_values g i (behind s 1) m2)) y) (pointers_tested f i (behind s 1) e m1)) (sym is)
+        subst (λ (y : Result Tree ErrorKind × Meter). Along (onward (λ u m2. onward (λ ts. answer (tree u ts)) (read_values g i (place_past s 1) m2)) y) (pointers_tested f i (place_past s 1) e m1)) (sym is)
         (made (tree t) (rest e m1))
-    go (Ok (Err fault), m1) along rest = subst (Along (onward (λ t m2. onward (λ ts. answer (tree t ts)) (read_values g i (behind s 1) m2)) (g s m))) (sym (faults_stay f i (behind s 1) fault m1)) fails
-    go (Err k, m1) (refuses l named is) rest = refuses l named (ap (onward (λ t m2. onward (λ ts. answer (tree t ts)) (read_values g i (behind s 1) m2))) is)
+    go (Ok (Err fault), m1) along rest = subst (Along (onward (λ t m2. onward (λ ts. answer (tree t ts)) (read_values g i (place_past s 1) m2)) (g s m))) (sym (faults_stay f i (place_past s 1) fault m1)) fails
+    go (Err k, m1) (refuses l named is) rest = refuses l named (ap (onward (λ t m2. onward (λ ts. answer (tree t ts)) (read_values g i (place_past s 1) m2))) is)
 
 elements_along : (g : Reading → Metered Tree) (f : Reading → TestStep) (r : Reading) → AllAlong g f r → (d q n p head : ℕ) (m : Meter) → Along (read_element_values g d q n (record r { at = p }) m) (elements_tested f d q n (record r { at = p }) head m)
 elements_along g f r h d q zero p head m = passes no_elements refl
@@ -81,13 +81,13 @@ elements_along g f r h d q (suc n) p head m = go (pointers_tested f q (record r 
     s : Reading
     s = record r { at = p }
 
-    go : (x : Outcome) → Along (read_values g q (behind s d) m) x → ((e : ℕ) (m1 : Meter) → Along (read_element_values g d q n (behind s (d + q)) m1) (elements_tested f d q n (behind s (d + q)) e m1)) →
-        Along (onward (λ ts m1. onward (λ es. answer (element (words_from s d) ts es)) (read_element_values g d q n (behind s (d + q)) m1)) (read_values g q (behind s d) m)) (onward (fold_elements (λ v. unless_fault (f v)) d q n (behind s (d + q))) x)
+    go : (x : Outcome) → Along (read_values g q (place_past s d) m) x → ((e : ℕ) (m1 : Meter) → Along (read_element_values g d q n (place_past s (d + q)) m1) (elements_tested f d q n (place_past s (d + q)) e m1)) →
+        Along (onward (λ ts m1. onward (λ es. answer (element (words_from s d) ts es)) (read_element_values g d q n (place_past s (d + q)) m1)) (read_values g q (place_past s d) m)) (onward (fold_elements (λ v. unless_fault (f v)) d q n (place_past s (d + q))) x)
     go (Ok (Ok e), m1) (passes ts is) rest =
-        subst (λ (y : Result Trees ErrorKind × Meter). Along (onward (λ us m2. onward (λ es. answer (element (words_from s d) us es)) (read_element_values g d q n (behind s (d + q)) m2)) y) (elements_tested f d q n (behind s (d + q)) e m1)) (sym is)
+        subst (λ (y : Result Trees ErrorKind × Meter). Along (onward (λ us m2. onward (λ es. answer (element (words_from s d) us es)) (read_element_values g d q n (place_past s (d + q)) m2)) y) (elements_tested f d q n (place_past s (d + q)) e m1)) (sym is)
         (made (element (words_from s d) ts) (rest e m1))
-    go (Ok (Err fault), m1) along rest = subst (Along (onward (λ ts m2. onward (λ es. answer (element (words_from s d) ts es)) (read_element_values g d q n (behind s (d + q)) m2)) (read_values g q (behind s d) m))) (sym (fault_rows_stay f d q n (behind s (d + q)) fault m1)) fails
-    go (Err k, m1) (refuses l named is) rest = refuses l named (ap (onward (λ ts m2. onward (λ es. answer (element (words_from s d) ts es)) (read_element_values g d q n (behind s (d + q)) m2))) is)
+    go (Ok (Err fault), m1) along rest = subst (Along (onward (λ ts m2. onward (λ es. answer (element (words_from s d) ts es)) (read_element_values g d q n (place_past s (d + q)) m2)) (read_values g q (place_past s d) m))) (sym (fault_rows_stay f d q n (place_past s (d + q)) fault m1)) fails
+    go (Err k, m1) (refuses l named is) rest = refuses l named (ap (onward (λ ts m2. onward (λ es. answer (element (words_from s d) ts es)) (read_element_values g d q n (place_past s (d + q)) m2))) is)
 
 -- Objects.
 abbrev inner : ℕ → Reading → ℕ → ℕ → Reading
@@ -104,7 +104,7 @@ object_along n g f r h (pointers s p i) head m =
 object_along n g f r h (structs s p d q i) head m =
     once_checked (nat_eq p (head + 1)) ObjectPlace r r.at head m (λ e. structs_tested f (list_count (word_of r)) (sized d q) i (inner n r s p))
     (once_checked (nat_eq (i * (d + q)) (list_count (word_of r))) ElementWords (inner n r s p) (p - 1) p m (λ e. rows_tested f d q i (inner n r s p))
-    (checked (nat_eq q 0 || some_used (behind (inner n r s p) d) q (d + q) i) ElementPointers (inner n r s p) (p - 1)
+    (checked (nat_eq q 0 || some_used (place_past (inner n r s p) d) q (d + q) i) ElementPointers (inner n r s p) (p - 1)
     (checked (nat_eq d 0 || some_used (inner n r s p) d (d + q) i) ElementData (inner n r s p) (p - 1) (made (Structs d q) (elements_along g f (inner n r s 0) (h s) d q i p (p + i * (d + q)) m)))))
 object_along n g f r h (struct s p d q) head m = go (nat_eq (d + q) 0) refl
   where
@@ -130,14 +130,14 @@ object_along n g f r h (struct s p d q) head m = go (nat_eq (d + q) 0) refl
 -- Without a level, every pointer below is taken to be null.
 nulls : (i : ℕ) (r : Reading) (m : Meter) → (ts : Trees) × (read_values (λ s. answer Null) i r m ≡ (Ok ts, m))
 nulls zero r m = (no_trees, refl)
-nulls (suc i) r m = let (ts, is) = nulls i (behind r 1) m in (tree Null ts, ap (onward (λ us. answer (tree Null us))) is)
+nulls (suc i) r m = let (ts, is) = nulls i (place_past r 1) m in (tree Null ts, ap (onward (λ us. answer (tree Null us))) is)
 
 element_nulls : (d q n : ℕ) (r : Reading) (m : Meter) → (es : Elements) × (read_element_values (λ s. answer Null) d q n r m ≡ (Ok es, m))
 element_nulls d q zero r m = (no_elements, refl)
 element_nulls d q (suc n) r m =
-    let (ts, is) = nulls q (behind r d) m in
-    let (es, are) = element_nulls d q n (behind r (d + q)) m in
-    (element (words_from r d) ts es, ap (onward (λ us m1. onward (λ fs. answer (element (words_from r d) us fs)) (read_element_values (λ s. answer Null) d q n (behind r (d + q)) m1))) is ∙ ap (onward (λ fs. answer (element (words_from r d) ts fs))) are)
+    let (ts, is) = nulls q (place_past r d) m in
+    let (es, are) = element_nulls d q n (place_past r (d + q)) m in
+    (element (words_from r d) ts es, ap (onward (λ us m1. onward (λ fs. answer (element (words_from r d) us fs)) (read_element_values (λ s. answer Null) d q n (place_past r (d + q)) m1))) is ∙ ap (onward (λ fs. answer (element (words_from r d) ts fs))) are)
 
 leaf : (r : Reading) (o : Shape) (m : Meter) → (t : Tree) × (object_value (λ s. answer Null) (λ s p. r) o m ≡ (Ok t, m))
 leaf r nothing m = (Null, refl)

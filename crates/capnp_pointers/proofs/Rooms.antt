@@ -9,7 +9,7 @@ use Rattle.capnp_format.specs.Word.{element_size, list_count}
 use Rattle.capnp_words.specs.Meter.{Meter}
 use Rattle.capnp_words.specs.Sizes.{size_number}
 use Rattle.capnp_words.specs.declared.wire_pointer.ElementSize.{ElementSize}
-use Rattle.capnp_objects.specs.Demands.{claim}
+use Rattle.capnp_objects.specs.Demands.{claimed_words}
 use Rattle.capnp_objects.specs.Objects.{IsObject}
 use Rattle.capnp_objects.specs.Reading.{Reading}
 use Rattle.capnp_objects.specs.declared.object.Object.TheVariants.{Flat as ObjectFlat, Pointers as ObjectPointers}
@@ -44,7 +44,7 @@ last_of s some = omega (arith, some)
 -- A list of numbers is inside its segment, which has fewer than 2^32 words.
 pub flat_room : {r : Reading} {m m' : Meter} (start : Place) (size : ElementSize) (n : ℕ) → IsObject Value r m m' (ObjectFlat start size n) → start.at + words_for (size_number size) n ≤ length (words_of start.bytes.now)
 flat_room {r} start size n (a, o, z, small, (held, seg, at), width, len) =
-    let claimed : claim a.word ≡ words_for (size_number size) n = claim_list a.word (element_size a.word) z refl ∙ claim_flat (element_size a.word) (list_count a.word) small ∙ sym (ap₂ words_for width len) in
+    let claimed : claimed_words a.word ≡ words_for (size_number size) n = claim_list a.word (element_size a.word) z refl ∙ claim_flat (element_size a.word) (list_count a.word) small ∙ sym (ap₂ words_for width len) in
     omega (arith, o.meets.claims, claimed, at, ap length held.0, ap (λ s. length (segment r.segments s)) seg)
 
 pub flat_short : {r : Reading} {m m' : Meter} (start : Place) (size : ElementSize) (n : ℕ) → IsObject Value r m m' (ObjectFlat start size n) → length (words_of start.bytes.now) < 2 ^ 32

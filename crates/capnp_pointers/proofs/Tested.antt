@@ -20,7 +20,7 @@ use Rattle.capnp_pointers.specs.Standing.{IsPadded}
 use Rattle.capnp_objects.specs.declared.object.Purpose.TheVariants.{Value}
 use Rattle.capnp_objects.specs.Enter.{Shape, struct, flat, pointers, structs, object_shape, read}
 use Rattle.capnp_objects.specs.Metered.{answer, onward}
-use Rattle.capnp_objects.specs.Reading.{Reading, behind, segment_read, word_of}
+use Rattle.capnp_objects.specs.Reading.{Reading, place_past, segment_read, word_of}
 use Rattle.capnp_pointers.specs.Checking.{IsTestedWord, StartsRight, TellsFlat, level_refusal_name}
 use Rattle.capnp_pointers.specs.Faults.{other_reason}
 use Rattle.capnp_pointers.specs.Measure.{fold_elements, fold_pointers}
@@ -81,22 +81,22 @@ object_read r h m m' o there near some e = near_is r.levels r h m there near ∙
 -- A fault stays: no more is tested.
 pub faults_stay : (f : Reading → TestStep) (i : ℕ) (r : Reading) (e : CanonicalFault) (m : Meter) → fold_pointers (λ s. unless_fault (f s)) i r (Err e) m ≡ (Ok (Err e), m)
 faults_stay f zero r e m = refl
-faults_stay f (suc i) r e m = faults_stay f i (behind r 1) e m
+faults_stay f (suc i) r e m = faults_stay f i (place_past r 1) e m
 
 pub fault_rows_stay : (f : Reading → TestStep) (d q n : ℕ) (r : Reading) (e : CanonicalFault) (m : Meter) → fold_elements (λ s. unless_fault (f s)) d q n r (Err e) m ≡ (Ok (Err e), m)
 fault_rows_stay f d q zero r e m = refl
-fault_rows_stay f d q (suc n) r e m = ap (onward _) (faults_stay f q (behind r d) e m) ∙ fault_rows_stay f d q n (behind r (d + q)) e m
+fault_rows_stay f d q (suc n) r e m = ap (onward _) (faults_stay f q (place_past r d) e m) ∙ fault_rows_stay f d q n (place_past r (d + q)) e m
 
 -- What a test that has stopped leaves.
 abbrev pub stopped : Result CanonicalFault ErrorKind → Meter → Result Verdict ErrorKind × Meter
 stopped a m = (result_verdict a, m)
 
 pub pointers_stop : (f : Reading → TestStep) (k : ℕ) (r : Reading) (h : ℕ) (a : Result CanonicalFault ErrorKind) (m m' : Meter) → f r h m ≡ stopped a m' → pointers_tested f (suc k) r h m ≡ stopped a m'
-pointers_stop f k r h (Ok e) m m' is = ap (onward _) is ∙ faults_stay f k (behind r 1) e m'
+pointers_stop f k r h (Ok e) m m' is = ap (onward _) is ∙ faults_stay f k (place_past r 1) e m'
 pointers_stop f k r h (Err e) m m' is = ap (onward _) is
 
-pub rows_stop : (f : Reading → TestStep) (d q k : ℕ) (r : Reading) (h : ℕ) (a : Result CanonicalFault ErrorKind) (m m' : Meter) → pointers_tested f q (behind r d) h m ≡ stopped a m' → elements_tested f d q (suc k) r h m ≡ stopped a m'
-rows_stop f d q k r h (Ok e) m m' is = ap (onward _) is ∙ fault_rows_stay f d q k (behind r (d + q)) e m'
+pub rows_stop : (f : Reading → TestStep) (d q k : ℕ) (r : Reading) (h : ℕ) (a : Result CanonicalFault ErrorKind) (m m' : Meter) → pointers_tested f q (place_past r d) h m ≡ stopped a m' → elements_tested f d q (suc k) r h m ≡ stopped a m'
+rows_stop f d q k r h (Ok e) m m' is = ap (onward _) is ∙ fault_rows_stay f d q k (place_past r (d + q)) e m'
 rows_stop f d q k r h (Err e) m m' is = ap (onward _) is
 
 pub step_stopped : {E : Type 0} (result : Result ℕ E) (a : Result CanonicalFault ErrorKind) → IsErr result → result_verdict a ≡ step_result result a
@@ -212,7 +212,7 @@ used_more {z = z} false u e f g = e ∙ ap (λ c. u || c) g ∙ ap (λ c. c || z
 -- The elements of a list of structs, once their pointers are tested.
 abbrev rows_ended : ℕ → ℕ → ℕ → Reading → Result Verdict ErrorKind × Meter → Result Verdict ErrorKind × Meter
 rows_ended d q n r x =
-    onward (unless_fault (fault_unless (nat_eq q 0 || some_used (behind r d) q (d + q) n) ElementPointers r (r.at - 1))) (onward (unless_fault (fault_unless (nat_eq d 0 || some_used r d (d + q) n) ElementData r (r.at - 1))) x)
+    onward (unless_fault (fault_unless (nat_eq q 0 || some_used (place_past r d) q (d + q) n) ElementPointers r (r.at - 1))) (onward (unless_fault (fault_unless (nat_eq d 0 || some_used r d (d + q) n) ElementData r (r.at - 1))) x)
 
 pub rows_halt : (f : Reading → TestStep) (d q n : ℕ) (r : Reading) (m m' : Meter) (a : Result CanonicalFault ErrorKind) → elements_tested f d q n r (r.at + n * (d + q)) m ≡ stopped a m' → rows_tested f d q n r m ≡ stopped a m'
 rows_halt f d q n r m m' (Ok e) is = ap (rows_ended d q n r) is
@@ -223,11 +223,11 @@ pub rows_wide : (f : Reading → TestStep) (d q n h : ℕ) (r : Reading) (m m' :
 rows_wide f d q n h r m m' is unused = ap (rows_ended d q n r) is ∙ rw unused refl
 
 pub rows_wide_in_pointers : (f : Reading → TestStep) (d q n h : ℕ) (r : Reading) (m m' : Meter) → elements_tested f d q n r (r.at + n * (d + q)) m ≡ (Ok (Ok h), m') → (nat_eq d 0 || some_used r d (d + q) n) ≡ true →
-    (nat_eq q 0 || some_used (behind r d) q (d + q) n) ≡ false → rows_tested f d q n r m ≡ (Ok (Err (record { segment = r.segment; word = r.at - 1; reason = ElementPointers })), m')
+    (nat_eq q 0 || some_used (place_past r d) q (d + q) n) ≡ false → rows_tested f d q n r m ≡ (Ok (Err (record { segment = r.segment; word = r.at - 1; reason = ElementPointers })), m')
 rows_wide_in_pointers f d q n h r m m' is used unused = ap (rows_ended d q n r) is ∙ rw (used, unused) refl
 
 pub rows_pass : (f : Reading → TestStep) (d q n h : ℕ) (r : Reading) (m m' : Meter) → elements_tested f d q n r (r.at + n * (d + q)) m ≡ (Ok (Ok h), m') → (nat_eq d 0 || some_used r d (d + q) n) ≡ true →
-    (nat_eq q 0 || some_used (behind r d) q (d + q) n) ≡ true → rows_tested f d q n r m ≡ (Ok (Ok h), m')
+    (nat_eq q 0 || some_used (place_past r d) q (d + q) n) ≡ true → rows_tested f d q n r m ≡ (Ok (Ok h), m')
 rows_pass f d q n h r m m' is data_used pointers_used = ap (rows_ended d q n r) is ∙ rw (data_used, pointers_used) refl
 
 pub none_wide : (f : Reading → TestStep) (size : StructSize) (claimed n : ℕ) (r : Reading) (m : Meter) → n * (size.data_words + size.pointers) ≡ claimed → size.data_words + size.pointers ≡ 0 → structs_tested f claimed size n r m ≡ (Ok (Ok r.at), m)

@@ -13,12 +13,12 @@ use Rattle.capnp_format.specs.Word.{kind}
 use Rattle.capnp_objects.specs.declared.object.Expected.{Expected}
 use Rattle.capnp_objects.specs.declared.object.Expected.TheVariants.{Struct, List as ListExpected, Text, Data}
 use Rattle.capnp_objects.specs.declared.object.Purpose.TheVariants.{Value}
-use Rattle.capnp_objects.specs.Demands.{own}
+use Rattle.capnp_objects.specs.Demands.{own_charge}
 use Rattle.capnp_objects.specs.Enter.{Shape, nothing, shape}
-use Rattle.capnp_objects.specs.Expected.{expectation, CanBeGiven, null_pointer, fitting, Withheld, no_level, unfollowed, of_another_kind, stopped, misfits}
+use Rattle.capnp_objects.specs.Expected.{expectation, HasExpected, null_pointer, fitting, RefusesExpected, no_level, unfollowed, of_another_kind, stopped, misfits}
 use Rattle.capnp_objects.specs.Faults.{LeadsTo}
 use Rattle.capnp_objects.specs.Outcomes.{MeansThere}
-use Rattle.capnp_objects.specs.Reading.{Reading, behind, word_of}
+use Rattle.capnp_objects.specs.Reading.{Reading, place_past, word_of}
 use Rattle.capnp_objects.specs.Refusals.{Stopped, exceeding, leading_nowhere, here, no_target, broken, claim_exceeds, count_exceeds}
 use Rattle.capnp_objects.specs.Spending.{Paid}
 use Rattle.capnp_objects.specs.Values.{expect, value}
@@ -56,17 +56,17 @@ parted b (r ∷ xs) ys c (t, k, l, same, means, rest, sum) =
 
 children_mean : (r : Reading) (ts : Trees) (c : ℕ) → MeanThere r ts c → AllMean r.charging (places (count ts) r) c
 children_mean r no_trees c h = h
-children_mean r (tree t ts) c (k, l, one, rest, sum) = (t, k, l, refl, one, children_mean (behind r 1) ts l rest, sum)
+children_mean r (tree t ts) c (k, l, one, rest, sum) = (t, k, l, refl, one, children_mean (place_past r 1) ts l rest, sum)
 
 elements_mean : (d q : ℕ) (r : Reading) (es : Elements) (c : ℕ) → MeansElements r.segments r.levels r.segment r.at d q es c → AllMean r.charging (element_places d q (element_count es) r) c
 elements_mean d q r no_elements c h = h
 elements_mean d q r (element ws ts es) c (k, l, long, len, e, all, rest, sum) =
-    let first : AllMean r.charging (places q (behind r d)) k = subst (λ n. AllMean r.charging (places n (behind r d)) k) len (children_mean (behind r d) ts k all) in
-    rw sum (joined r.charging (places q (behind r d)) _ k l first (elements_mean d q (behind (behind r d) q) es l rest))
+    let first : AllMean r.charging (places q (place_past r d)) k = subst (λ n. AllMean r.charging (places n (place_past r d)) k) len (children_mean (place_past r d) ts k all) in
+    rw sum (joined r.charging (places q (place_past r d)) _ k l first (elements_mean d q (place_past (place_past r d) q) es l rest))
 
 -- What the pointers of an object cost, with the object itself, is at most what its value costs.
 Below : Reading → ℕ → Target → Type 0
-Below r c a = (k : ℕ) × AllMean r.charging (places_below r (shape r.segments a)) k × (own Value r.segments a + k ≤ c)
+Below r c a = (k : ℕ) × AllMean r.charging (places_below r (shape r.segments a)) k × (own_charge Value r.segments a + k ≤ c)
 
 below : (r : Reading) (a : Target) (t : Tree) (c : ℕ) → LeadsTo r a → kind a.word < 2 → MeansThere r t c → Below r c a
 unfolding Below
@@ -98,11 +98,11 @@ object_read : (e : Expected) (r : Reading) (t : Tree) (c : ℕ) (now next : Mete
 unfolding Reads Below
 object_read e r t c now next o means is = go (given_if (expectation e) r now (kind_below_two e) (is_answer is))
   where
-    go : CanBeGiven (expectation e) r now → Reads r c now next o
+    go : HasExpected (expectation e) r now → Reads r c now next o
     go (null_pointer z) = let nothing_is : expect (expectation e) r now ≡ (Ok nothing, now) = rw z refl in of_same_answer (λ m x. Reads r c now m x) nothing_is is (0, 0, 0, paid_none r now, refl, omega arith)
     go (fitting {m' = n} a level of_kind entered fits) =
         let x = below r a t c (entered_leads entered) entered.meets.is_object means in
-        of_same_answer (λ m y. Reads r c now m y) (fitting_is (expectation e) r now n a level of_kind entered fits) is (own Value r.segments a, 1, x.0, paid_own entered, x.1, x.2)
+        of_same_answer (λ m y. Reads r c now m y) (fitting_is (expectation e) r now n a level of_kind entered fits) is (own_charge Value r.segments a, 1, x.0, paid_own entered, x.1, x.2)
 
 -- What is broken with one level is broken with more.
 breaks : (S : Segments) (n : ℕ) (a : Target) (k : ErrorKind) → 0 < n → BreaksObject Value plain S 1 a k → BreaksObject Value plain S n a k
@@ -170,7 +170,7 @@ object_refused e r t c now next k means covers is = go (withheld_if (expectation
       | inr some ↦ never (at_any_level some h)
     ]
 
-    go : Withheld (expectation e) r now next k → Passes e r c now next k
+    go : RefusesExpected (expectation e) r now next k → Passes e r c now next k
     go (no_level there deep same) = elim (within_or_not r.levels 0) [
       | inl none ↦ (0, 0, subst (λ m. Paid r.charging now m 0 0) (sym same) (paid_none r now), omega arith, deepest e r t c k none there means deep)
       | inr some ↦ absurd (level_left e r.levels k some deep)
@@ -180,7 +180,7 @@ object_refused e r t c now next k means covers is = go (withheld_if (expectation
     go (stopped fine kinds h) = absurd (leveled h)
     go (misfits a fine kinds entered other) =
         let x = below r a t c (entered_leads entered) entered.meets.is_object means in
-        (own Value r.segments a, 1, paid_own entered, omega (arith, x.2), inl (a, entered.follows, inr other))
+        (own_charge Value r.segments a, 1, paid_own entered, omega (arith, x.2), inl (a, entered.follows, inr other))
 
 -- What the places that may be followed next cost is left.
 Within : Bool → List Reading → Meter → Type 0

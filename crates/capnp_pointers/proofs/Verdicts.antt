@@ -10,12 +10,12 @@ use Rattle.capnp_format.proofs.LawLemmas.{one_stands}
 use Rattle.capnp_format.proofs.Slices.{length_words}
 use Rattle.capnp_format.proofs.Trimming.{used_words-le, used_trees-le}
 use Rattle.capnp_objects.specs.Metered.{onward}
-use Rattle.capnp_objects.specs.Reading.{Reading, behind, segment_read, words_from}
+use Rattle.capnp_objects.specs.Reading.{Reading, place_past, segment_read, words_from}
 use Rattle.capnp_objects.proofs.Budgets.{paid_both}
 use Rattle.capnp_objects.proofs.Decided.{same_or_not}
 use Rattle.capnp_pointers.specs.Checking.{AreFound, progress, Progress, Finds, FindsAll, IsFound, IsCanonicalAt, AreCanonicalAt}
 use Rattle.capnp_pointers.specs.Measure.{fold_elements, fold_pointers}
-use Rattle.capnp_pointers.specs.Standing.{AllStand}
+use Rattle.capnp_pointers.specs.Standing.{HasBodiesAt}
 use Rattle.capnp_pointers.proofs.ElementsStanding.{ElementsStand}
 use Rattle.capnp_pointers.specs.Testing.{TestStep, elements_tested, is_used, pointers_tested, rows_tested, some_used, unless_fault}
 use Rattle.capnp_pointers.proofs.Checks.{FindsElements, AreFoundRows, finds_none, finds_no_element}
@@ -43,9 +43,9 @@ RowsSay r size n h m (Ok (Err f), m') = (es : Elements) → element_count es ≡
 RowsSay r size n h m (Err k, m') = Unit {0}
 
 -- The first pointer, and those after it.
-pub finds_first : {r : Reading} {from mid to : Progress} {t : Tree} {ts : Trees} → Finds r from mid t → FindsAll (behind r 1) mid to ts → FindsAll r from to (tree t ts)
+pub finds_first : {r : Reading} {from mid to : Progress} {t : Tree} {ts : Trees} → Finds r from mid t → FindsAll (place_past r 1) mid to ts → FindsAll r from to (tree t ts)
 finds_first {r} {ts = ts} one all = record {
-  stand = (one.stands, subst (λ h. AllStand r.segments r.segment (r.at + 1) h ts) one.head_is all.stand);
+  stand = (one.stands, subst (λ h. HasBodiesAt r.segments r.segment (r.at + 1) h ts) one.head_is all.stand);
   levels = omega (arith, one.levels, all.levels);
   paid = paid_both one.paid all.paid;
   head_is = omega (arith, one.head_is, all.head_is);
@@ -58,29 +58,29 @@ pointers_say f r say (suc i) p h m = go (f (record r { at = p }) h m) (say p h m
     s : Reading
     s = record r { at = p }
 
-    behind_first : (e : ℕ) (m1 : Meter) (t : Tree) → Finds s (progress h m) (progress e m1) t → (x : Outcome) → AllSay (behind s 1) i e m1 x → AllSay s (suc i) h m x
+    behind_first : (e : ℕ) (m1 : Meter) (t : Tree) → Finds s (progress h m) (progress e m1) t → (x : Outcome) → AllSay (place_past s 1) i e m1 x → AllSay s (suc i) h m x
     behind_first e m1 t one (Ok (Ok e2), m2) (ts, len, all) = (tree t ts, ap suc len, finds_first one all)
     behind_first e m1 t one (Ok (Err fault), m2) never = λ (us, len, stand). after us len stand
       where
-        after : (us : Trees) → count us ≡ suc i → AllStand s.segments s.segment s.at h us → ⊥
+        after : (us : Trees) → count us ≡ suc i → HasBodiesAt s.segments s.segment s.at h us → ⊥
         after no_trees len stand = absurd (omega (arith, len))
         after (tree u us) len (stands, stand) =
             let same : t ≡ u = one_stands s.segments s.segment s.at h t u one.stands stands in
-            never (us, omega (arith, len), subst (λ x. AllStand s.segments s.segment (p + 1) x us) (ap (λ v. h + word_count v) (sym same) ∙ sym one.head_is) stand)
+            never (us, omega (arith, len), subst (λ x. HasBodiesAt s.segments s.segment (p + 1) x us) (ap (λ v. h + word_count v) (sym same) ∙ sym one.head_is) stand)
     behind_first e m1 t one (Err k, m2) says = tt
 
-    go : (x : Outcome) → Says s h m x → ((e : ℕ) (m1 : Meter) → AllSay (behind s 1) i e m1 (pointers_tested f i (behind s 1) e m1)) → AllSay s (suc i) h m (onward (fold_pointers (λ v. unless_fault (f v)) i (behind s 1)) x)
-    go (Ok (Ok e), m1) (t, one) rest = behind_first e m1 t one (pointers_tested f i (behind s 1) e m1) (rest e m1)
-    go (Ok (Err fault), m1) never rest = subst (AllSay s (suc i) h m) (sym (faults_stay f i (behind s 1) fault m1)) (λ (us, len, stand). none us len stand)
+    go : (x : Outcome) → Says s h m x → ((e : ℕ) (m1 : Meter) → AllSay (place_past s 1) i e m1 (pointers_tested f i (place_past s 1) e m1)) → AllSay s (suc i) h m (onward (fold_pointers (λ v. unless_fault (f v)) i (place_past s 1)) x)
+    go (Ok (Ok e), m1) (t, one) rest = behind_first e m1 t one (pointers_tested f i (place_past s 1) e m1) (rest e m1)
+    go (Ok (Err fault), m1) never rest = subst (AllSay s (suc i) h m) (sym (faults_stay f i (place_past s 1) fault m1)) (λ (us, len, stand). none us len stand)
       where
-        none : (us : Trees) → count us ≡ suc i → AllStand s.segments s.segment s.at h us → ⊥
+        none : (us : Trees) → count us ≡ suc i → HasBodiesAt s.segments s.segment s.at h us → ⊥
         none no_trees len stand = absurd (omega (arith, len))
         none (tree u us) len (stands, stand) = never (u, stands)
     go (Err k, m1) says rest = tt
 
 -- The first element, and those after it.
-pub finds_first_element : {r : Reading} {from mid to : Progress} {ts : Trees} {es : Elements} (size : StructSize) → r.at + size.data_words ≤ length (segment_read r) → count ts ≡ size.pointers → FindsAll (behind r size.data_words) from mid ts →
-    FindsElements (behind r (size.data_words + size.pointers)) size mid to es → FindsElements r size from to (element (words_from r size.data_words) ts es)
+pub finds_first_element : {r : Reading} {from mid to : Progress} {ts : Trees} {es : Elements} (size : StructSize) → r.at + size.data_words ≤ length (segment_read r) → count ts ≡ size.pointers → FindsAll (place_past r size.data_words) from mid ts →
+    FindsElements (place_past r (size.data_words + size.pointers)) size mid to es → FindsElements r size from to (element (words_from r size.data_words) ts es)
 finds_first_element {r} {from} {mid} {to} {ts} {es} size fits len all rest =
     let d : ℕ = size.data_words in
     let q : ℕ = size.pointers in
@@ -113,7 +113,7 @@ rows_say f r say size (suc n) p h m fits = go (pointers_tested f q (record r { a
     s : Reading
     s = record r { at = p }
 
-    behind_first : (e : ℕ) (m1 : Meter) (ts : Trees) → count ts ≡ q → FindsAll (behind s d) (progress h m) (progress e m1) ts → (x : Outcome) → RowsSay (behind s (d + q)) size n e m1 x → RowsSay s size (suc n) h m x
+    behind_first : (e : ℕ) (m1 : Meter) (ts : Trees) → count ts ≡ q → FindsAll (place_past s d) (progress h m) (progress e m1) ts → (x : Outcome) → RowsSay (place_past s (d + q)) size n e m1 x → RowsSay s size (suc n) h m x
     behind_first e m1 ts len all (Ok (Ok e2), m2) (es, many, rest) = (element (words_from s d) ts es, ap suc many, finds_first_element size (omega (arith, fits)) len all rest)
     behind_first e m1 ts len all (Ok (Err fault), m2) never = after
       where
@@ -126,10 +126,10 @@ rows_say f r say size (suc n) p h m fits = go (pointers_tested f q (record r { a
             (subst (λ x. ElementsStand s.segments s.segment (p + d + q) d q x fs) (ap (λ vs. h + word_count_all vs) (sym same) ∙ sym all.head_is) stand.4))
     behind_first e m1 ts len all (Err k, m2) says = tt
 
-    go : (x : Outcome) → AllSay (behind s d) q h m x → ((e : ℕ) (m1 : Meter) → RowsSay (behind s (d + q)) size n e m1 (elements_tested f d q n (behind s (d + q)) e m1)) →
-        RowsSay s size (suc n) h m (onward (fold_elements (λ v. unless_fault (f v)) d q n (behind s (d + q))) x)
-    go (Ok (Ok e), m1) (ts, len, all) rest = behind_first e m1 ts len all (elements_tested f d q n (behind s (d + q)) e m1) (rest e m1)
-    go (Ok (Err fault), m1) never rest = subst (RowsSay s size (suc n) h m) (sym (fault_rows_stay f d q n (behind s (d + q)) fault m1)) none
+    go : (x : Outcome) → AllSay (place_past s d) q h m x → ((e : ℕ) (m1 : Meter) → RowsSay (place_past s (d + q)) size n e m1 (elements_tested f d q n (place_past s (d + q)) e m1)) →
+        RowsSay s size (suc n) h m (onward (fold_elements (λ v. unless_fault (f v)) d q n (place_past s (d + q))) x)
+    go (Ok (Ok e), m1) (ts, len, all) rest = behind_first e m1 ts len all (elements_tested f d q n (place_past s (d + q)) e m1) (rest e m1)
+    go (Ok (Err fault), m1) never rest = subst (RowsSay s size (suc n) h m) (sym (fault_rows_stay f d q n (place_past s (d + q)) fault m1)) none
       where
         none : (fs : Elements) → element_count fs ≡ suc n → ElementsStand s.segments s.segment s.at d q h fs → ⊥
         none no_elements many stand = absurd (omega (arith, many))
@@ -187,7 +187,7 @@ data_used r size (element ws ts es) p h fits (long, len, words, all, rest) =
     let room : p + d ≤ length (segment_read r) = omega (arith, fits) in
     let same : words_at r.segments r.segment p d ≡ ws = ap (words_at r.segments r.segment p) (sym long) ∙ words in
     let next : ElementsStand r.segments r.segment (p + (d + q)) d q (h + word_count_all ts) es = subst (λ x. ElementsStand r.segments r.segment x d q (h + word_count_all ts) es) (let e : p + d + q ≡ p + (d + q) = omega arith in e) rest in
-    through (or_first (nat_eq d 0) (is_used s d) (some_used (behind s (d + q)) d (d + q) (element_count es)) (used_if_none d _))
+    through (or_first (nat_eq d 0) (is_used s d) (some_used (place_past s (d + q)) d (d + q) (element_count es)) (used_if_none d _))
     (wider (used_words ws) (data_width es) d (data_width (element ws ts es)) (omega (arith, used_words-le ws, long)) (widths_within r.segments r.segment (p + (d + q)) d q (h + word_count_all ts) es next).0 refl
     (through (used_test d _) ((λ e. ap used_words (sym same) ∙ ends_used r.segments r.segment p d room e), (λ e. used_ends r.segments r.segment p d room (ap used_words same ∙ e))))
     (data_used r size es (p + (d + q)) (h + word_count_all ts) (omega (arith, fits)) next))
@@ -202,10 +202,10 @@ pointers_used r size (element ws ts es) p h fits (long, len, words, all, rest) =
     let room : p + d + q ≤ length (segment_read r) = omega (arith, fits) in
     let used : used_words (words_at r.segments r.segment (p + d) q) ≡ used_trees ts = ap (λ n. used_words (words_at r.segments r.segment (p + d) n)) (sym len) ∙ used_where_standing r.segments r.segment (p + d) h ts (omega (arith, room, len)) all in
     let next : ElementsStand r.segments r.segment (p + (d + q)) d q (h + word_count_all ts) es = subst (λ x. ElementsStand r.segments r.segment x d q (h + word_count_all ts) es) (let e : p + d + q ≡ p + (d + q) = omega arith in e) rest in
-    let after : IsTrue (nat_eq q 0 || some_used (behind s (d + q)) q (d + q) (element_count es)) ↔ (pointer_width es ≡ q) =
+    let after : IsTrue (nat_eq q 0 || some_used (place_past s (d + q)) q (d + q) (element_count es)) ↔ (pointer_width es ≡ q) =
     subst (λ x. IsTrue (nat_eq q 0 || some_used (record r { at = x }) q (d + q) (element_count es)) ↔ (pointer_width es ≡ q)) (let e : p + (d + q) + d ≡ p + d + (d + q) = omega arith in e)
     (pointers_used r size es (p + (d + q)) (h + word_count_all ts) (omega (arith, fits)) next) in
-    through (or_first (nat_eq q 0) (is_used s q) (some_used (behind s (d + q)) q (d + q) (element_count es)) (used_if_none q _))
+    through (or_first (nat_eq q 0) (is_used s q) (some_used (place_past s (d + q)) q (d + q) (element_count es)) (used_if_none q _))
     (wider (used_trees ts) (pointer_width es) q (pointer_width (element ws ts es)) (omega (arith, used_trees-le ts, len)) (widths_within r.segments r.segment (p + (d + q)) d q (h + word_count_all ts) es next).1 refl
     (through (used_test q _) ((λ e. sym used ∙ ends_used r.segments r.segment (p + d) q room e), (λ e. used_ends r.segments r.segment (p + d) q room (used ∙ e))))
     after)
@@ -221,7 +221,7 @@ pub each_says : (f : Reading → TestStep) (r : Reading) (size : StructSize) (n 
 each_says f r size n m fits (Err k, m') is says = subst (EachSays r size n _ m) (sym (rows_halt f size.data_words size.pointers n r m m' (Err k) is)) says
 each_says f r size n m fits (Ok (Err fault), m') is never =
     subst (EachSays r size n _ m) (sym (rows_halt f size.data_words size.pointers n r m m' (Ok fault) is)) (λ (es, many, dw, pw, stand). never es many stand)
-each_says f r size n m fits (Ok (Ok e), m') is (es, many, finds) = go (nat_eq d 0 || some_used r d (d + q) n) (nat_eq q 0 || some_used (behind r d) q (d + q) n) refl refl
+each_says f r size n m fits (Ok (Ok e), m') is (es, many, finds) = go (nat_eq d 0 || some_used r d (d + q) n) (nat_eq q 0 || some_used (place_past r d) q (d + q) n) refl refl
   where
     d : ℕ
     d = size.data_words
@@ -235,13 +235,13 @@ each_says f r size n m fits (Ok (Ok e), m') is (es, many, finds) = go (nat_eq d 
     data_is : IsTrue (nat_eq d 0 || some_used r d (d + q) n) ↔ (data_width es ≡ d)
     data_is = subst (λ i. IsTrue (nat_eq d 0 || some_used r d (d + q) i) ↔ (data_width es ≡ d)) many (data_used r size es r.at (r.at + n * (d + q)) room finds.stand)
 
-    pointers_are : IsTrue (nat_eq q 0 || some_used (behind r d) q (d + q) n) ↔ (pointer_width es ≡ q)
-    pointers_are = subst (λ i. IsTrue (nat_eq q 0 || some_used (behind r d) q (d + q) i) ↔ (pointer_width es ≡ q)) many (pointers_used r size es r.at (r.at + n * (d + q)) room finds.stand)
+    pointers_are : IsTrue (nat_eq q 0 || some_used (place_past r d) q (d + q) n) ↔ (pointer_width es ≡ q)
+    pointers_are = subst (λ i. IsTrue (nat_eq q 0 || some_used (place_past r d) q (d + q) i) ↔ (pointer_width es ≡ q)) many (pointers_used r size es r.at (r.at + n * (d + q)) room finds.stand)
 
     unfit : ((data_width es ≡ d) × (pointer_width es ≡ q) → ⊥) → ElementsAccept r.segments r.segment r.at d q (r.at + n * (d + q)) n → ⊥
     unfit fails = widths_fail r.segments r.segment r.at d q (r.at + n * (d + q)) n es finds.stand many fails
 
-    go : (b c : Bool) → (nat_eq d 0 || some_used r d (d + q) n) ≡ b → (nat_eq q 0 || some_used (behind r d) q (d + q) n) ≡ c → EachSays r size n (r.at + n * (d + q)) m (rows_tested f d q n r m)
+    go : (b c : Bool) → (nat_eq d 0 || some_used r d (d + q) n) ≡ b → (nat_eq q 0 || some_used (place_past r d) q (d + q) n) ≡ c → EachSays r size n (r.at + n * (d + q)) m (rows_tested f d q n r m)
     go false c b_is c_is = subst (EachSays r size n _ m) (sym (rows_wide f d q n e r m m' is b_is)) (unfit (λ (wide, many_pointers). false≢true (sym b_is ∙ data_is.1 wide)))
     go true false b_is c_is = subst (EachSays r size n _ m) (sym (rows_wide_in_pointers f d q n e r m m' is b_is c_is)) (unfit (λ (wide, many_pointers). false≢true (sym c_is ∙ pointers_are.1 many_pointers)))
     go true true b_is c_is = subst (EachSays r size n _ m) (sym (rows_pass f d q n e r m m' is b_is c_is)) (es, many, data_is.0 b_is, pointers_are.0 c_is, finds)

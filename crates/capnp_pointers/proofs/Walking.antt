@@ -12,7 +12,7 @@ use Rattle.capnp_objects.specs.declared.object.Object.{Object}
 use Rattle.capnp_objects.specs.declared.object.Object.TheVariants.{Null as ObjectNull, Capability as ObjectCapability, Struct as ObjectStruct, Flat as ObjectFlat, Pointers as ObjectPointers, Structs as ObjectStructs}
 use Rattle.capnp_objects.specs.declared.object.Purpose.{Purpose}
 use Rattle.capnp_objects.specs.declared.object.Purpose.TheVariants.{Size, Value}
-use Rattle.capnp_objects.specs.Demands.{claim, IsVoidList, LiesThere}
+use Rattle.capnp_objects.specs.Demands.{claimed_words, IsVoidList, IsInSegment}
 use Rattle.capnp_objects.specs.Objects.{IsObject}
 use Rattle.capnp_objects.proofs.Parts.{claim_struct, claim_list}
 use Rattle.capnp_objects.specs.Reading.{Reading, segment_read}
@@ -54,7 +54,7 @@ on_ok_so (Ok x) h f = f h
 on_ok_so (Err k) h f = tt
 
 -- The words that an object claims are inside its segment, unless it is a list of void.
-claims_there : (purpose : Purpose) (S : Segments) (a : Target) → LiesThere purpose S a → (IsVoidList a.word → ⊥) → Claims S a (claim a.word)
+claims_there : (purpose : Purpose) (S : Segments) (a : Target) → IsInSegment purpose S a → (IsVoidList a.word → ⊥) → Claims S a (claimed_words a.word)
 claims_there Value S a lies some = lies
 claims_there Size S a lies some = lies some
 

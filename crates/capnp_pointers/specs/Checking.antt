@@ -13,7 +13,7 @@ use Rattle.capnp_format.specs.Numbers.{words_for}
 use Rattle.capnp_format.specs.Word.{kind}
 use Rattle.capnp_format.specs.Segments.{HasSmallWords, word_at, IsPlace}
 use Rattle.capnp_format.specs.Tree.{Tree, Trees, count, depth, depth_all}
-use Rattle.capnp_format.specs.Canonical.{Stands, ForOffset, word_count, word_count_all}
+use Rattle.capnp_format.specs.Canonical.{HasCanonicalAt, ForOffset, word_count, word_count_all}
 use Rattle.capnp_format.specs.Canonical.{charge, charge_all}
 use Rattle.capnp_objects.specs.declared.object.Object.{Object}
 use Rattle.capnp_objects.specs.declared.object.Object.TheVariants.{Null as ObjectNull}
@@ -24,7 +24,7 @@ use Rattle.capnp_objects.specs.declared.object.Object.TheVariants.{Pointers as O
 use Rattle.capnp_objects.specs.declared.object.Object.TheVariants.{Structs as ObjectStructs}
 use Rattle.capnp_objects.specs.Reading.{Reading, word_of, segment_read}
 use Rattle.capnp_objects.specs.Spending.{Paid, pointers_in, pointers_in_all}
-use Rattle.capnp_pointers.specs.Standing.{AllStand, ForOffsets, IsPadded}
+use Rattle.capnp_pointers.specs.Standing.{HasBodiesAt, ForOffsets, IsPadded}
 
 -- How far a test has come: the word at which the next object must start, and its limiter.
 pub record Progress : Type 0 where
@@ -37,7 +37,7 @@ progress h m = record { head = h; meter = m }
 -- The canonical words of t are at the place of r and the head of `from`. The levels are enough, the
 -- cost of t is paid, and the head moves past them.
 pub record Finds (r : Reading) (from to : Progress) (t : Tree) : Type 0 where
-  pub stands : Stands r.segments r.segment r.at from.head t
+  pub stands : HasCanonicalAt r.segments r.segment r.at from.head t
   pub inside : ForOffset t (from.head ≤ length (segment_read r))
   pub levels : depth t ≤ r.levels
   pub paid : Paid r.charging from.meter to.meter (charge t) (pointers_in t)
@@ -46,7 +46,7 @@ pub record Finds (r : Reading) (from to : Progress) (t : Tree) : Type 0 where
 -- The canonical words of ts are at consecutive pointers, from the place of r on, and at the head:
 -- as for one pointer.
 pub record FindsAll (r : Reading) (from to : Progress) (ts : Trees) : Type 0 where
-  pub stand : AllStand r.segments r.segment r.at from.head ts
+  pub stand : HasBodiesAt r.segments r.segment r.at from.head ts
   pub levels : depth_all ts ≤ r.levels
   pub paid : Paid r.charging from.meter to.meter (charge_all ts) (pointers_in_all ts)
   pub head_is : to.head ≡ from.head + word_count_all ts
@@ -64,10 +64,10 @@ HasSmallSegment r = HasSmallWords r.segments r.segment
 
 -- Canonical words are at the place and the head, with any limits; the same for i pointers.
 abbrev pub IsCanonicalAt : Reading → ℕ → Type 0
-IsCanonicalAt r h = (t : Tree) × Stands r.segments r.segment r.at h t
+IsCanonicalAt r h = (t : Tree) × HasCanonicalAt r.segments r.segment r.at h t
 
 abbrev pub AreCanonicalAt : Reading → ℕ → ℕ → Type 0
-AreCanonicalAt r i h = (ts : Trees) × (count ts ≡ i) × AllStand r.segments r.segment r.at h ts
+AreCanonicalAt r i h = (ts : Trees) × (count ts ≡ i) × HasBodiesAt r.segments r.segment r.at h ts
 
 -- Where the object of a pointer at position p starts in canonical form: a struct without words at
 -- the pointer itself, and any other at the head h, a list of structs with its tag. No capability is
@@ -104,13 +104,13 @@ TellsFlat words p size n None = IsPadded (words ∷ []) 0 p (size_number size) n
 -- limiter covers their cost. The same for i pointers.
 abbrev pub CanBeFound : Reading → Progress → Type 0
 CanBeFound r from =
-    (t : Tree) × Stands r.segments r.segment r.at from.head t ×
+    (t : Tree) × HasCanonicalAt r.segments r.segment r.at from.head t ×
     ForOffset t (from.head ≤ length (segment_read r)) × (depth t ≤ r.levels) ×
     Affords r.charging from.meter (charge t)
 
 abbrev pub CanAllBeFound : Reading → ℕ → Progress → Type 0
 CanAllBeFound r i from =
-    (ts : Trees) × (count ts ≡ i) × AllStand r.segments r.segment r.at from.head ts ×
+    (ts : Trees) × (count ts ≡ i) × HasBodiesAt r.segments r.segment r.at from.head ts ×
     ForOffsets ts (from.head ≤ length (segment_read r)) × (depth_all ts ≤ r.levels) ×
     Affords r.charging from.meter (charge_all ts)
 

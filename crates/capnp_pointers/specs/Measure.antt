@@ -6,7 +6,7 @@ use Rattle.capnp_format.specs.Numbers.{words_for}
 use Rattle.capnp_objects.specs.declared.object.Purpose.TheVariants.{Size}
 use Rattle.capnp_objects.specs.Enter.{Shape, nothing, capability, struct, flat, pointers, structs, read}
 use Rattle.capnp_objects.specs.Metered.{Metered, answer, ◌>>>◌, demand}
-use Rattle.capnp_objects.specs.Reading.{Reading, behind}
+use Rattle.capnp_objects.specs.Reading.{Reading, place_past}
 use Rattle.capnp_pointers.specs.declared.pointers.sizes.MessageSize.{MessageSize}
 
 -- These numbers of words and capabilities fit the fields of a size.
@@ -39,14 +39,14 @@ shape_size (structs s p d q n) = only_words (1 + n * (d + q))
 -- the call before.
 abbrev pub fold_pointers : {X : Type 0} → (Reading → X → Metered X) → ℕ → Reading → X → Metered X
 fold_pointers f zero r x = answer x
-fold_pointers f (suc i) r x = f r x >>> fold_pointers f i (behind r 1)
+fold_pointers f (suc i) r x = f r x >>> fold_pointers f i (place_past r 1)
 
 -- The same for the pointers of n consecutive elements of d data words and q pointers, from r on.
 abbrev pub fold_elements :
     {X : Type 0} → (Reading → X → Metered X) → ℕ → ℕ → ℕ → Reading → X → Metered X
 fold_elements f d q zero r x = answer x
 fold_elements f d q (suc n) r x =
-    fold_pointers f q (behind r d) x >>> fold_elements f d q n (behind r (d + q))
+    fold_pointers f q (place_past r d) x >>> fold_elements f d q n (place_past r (d + q))
 
 -- The same for the pointers of an object. They are read with the levels of r.
 abbrev pub fold_children :

@@ -12,7 +12,7 @@ use Rattle.capnp_format.specs.Word.{kind, list_count}
 use Rattle.capnp_objects.specs.declared.object.Purpose.TheVariants.{Value}
 use Rattle.capnp_objects.specs.Enter.{Shape, struct, flat, pointers, structs, read}
 use Rattle.capnp_objects.specs.Metered.{Metered, answer, ◌>>>◌, onward}
-use Rattle.capnp_objects.specs.Reading.{Reading, behind, segment_read, word_of, words_from}
+use Rattle.capnp_objects.specs.Reading.{Reading, place_past, segment_read, word_of, words_from}
 use Rattle.capnp_pointers.specs.Checking.{level_refusal_name}
 use Rattle.capnp_pointers.specs.Faults.{other_reason}
 use Rattle.capnp_pointers.specs.declared.pointers.canonical_answer.Test.{Test}
@@ -60,7 +60,7 @@ is_used r n = nat_eq n 0 || not (nat_eq (word_of (record r { at = r.at + n - 1 }
 -- Whether that is so at one of i places: r first, and then each `step` words after the one before.
 abbrev pub some_used : Reading → ℕ → ℕ → ℕ → Bool
 some_used r n step zero = false
-some_used r n step (suc i) = is_used r n || some_used (behind r step) n step i
+some_used r n step (suc i) = is_used r n || some_used (place_past r step) n step i
 
 -- Whether only zero bits follow the n elements of this size, in the words from the place r on.
 abbrev pub is_padded : Reading → ℕ → ℕ → Bool
@@ -78,9 +78,9 @@ elements_tested f d q n r head = fold_elements (λ s. unless_fault (f s)) d q n 
 -- Tests the struct of d data words and q pointers at the place r.
 abbrev pub struct_tested : (Reading → TestStep) → ℕ → ℕ → Reading → Metered Verdict
 struct_tested f d q r =
-    (pointers_tested f q (behind r d) >->
+    (pointers_tested f q (place_past r d) >->
     fault_unless (is_used r d) DataSection r (r.at + d - 1) >->
-    fault_unless (is_used (behind r d) q) PointerSection r (r.at + d + q - 1))
+    fault_unless (is_used (place_past r d) q) PointerSection r (r.at + d + q - 1))
     (r.at + d + q)
 
 -- Tests the list of n bits or numbers of this size at the place r.
@@ -94,7 +94,8 @@ abbrev pub rows_tested : (Reading → TestStep) → ℕ → ℕ → ℕ → Read
 rows_tested f d q n r =
     (elements_tested f d q n r >->
     fault_unless (nat_eq d 0 || some_used r d (d + q) n) ElementData r (r.at - 1) >->
-    fault_unless (nat_eq q 0 || some_used (behind r d) q (d + q) n) ElementPointers r (r.at - 1))
+    fault_unless (nat_eq q 0 || some_used (place_past r d) q (d + q) n) ElementPointers r
+        (r.at - 1))
     (r.at + n * (d + q))
 
 -- The same for elements of this size, but first tests that the list claims no other words than

@@ -8,7 +8,7 @@ use Rattle.capnp_objects.specs.declared.object.Expected.{Expected}
 use Rattle.capnp_objects.specs.Enter.{Shape, struct, pointers, structs}
 use Rattle.capnp_objects.specs.Expected.{expectation}
 use Rattle.capnp_objects.specs.Faults.{LeadsTo}
-use Rattle.capnp_objects.specs.Reading.{Reading, behind}
+use Rattle.capnp_objects.specs.Reading.{Reading, place_past}
 use Rattle.capnp_objects.specs.Values.{expect}
 use Rattle.capnp_pointers.specs.Unexpected.{LeadsToOther}
 
@@ -16,12 +16,12 @@ use Rattle.capnp_pointers.specs.Unexpected.{LeadsToOther}
 -- words and q pointers.
 abbrev pub places : ℕ → Reading → List Reading
 places zero r = []
-places (suc n) r = r ∷ places n (behind r 1)
+places (suc n) r = r ∷ places n (place_past r 1)
 
 abbrev pub element_places : ℕ → ℕ → ℕ → Reading → List Reading
 element_places d q zero r = []
 element_places d q (suc n) r =
-    places q (behind r d) ++ element_places d q n (behind (behind r d) q)
+    places q (place_past r d) ++ element_places d q n (place_past (place_past r d) q)
 
 -- The pointers of an object to which the pointer at the place r leads. They have a level less.
 abbrev pub places_below : Reading → Shape → List Reading

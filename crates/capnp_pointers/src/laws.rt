@@ -11,7 +11,7 @@ ghost use Rattle.capnp_objects.specs.declared.object.Expected.{Expected};
 ghost use Rattle.capnp_objects.specs.Expected.{expectation};
 ghost use Rattle.capnp_objects.specs.Outcomes.{MeansThere};
 ghost use Rattle.capnp_objects.specs.Reading.{Reading};
-ghost use Rattle.capnp_objects.specs.Spending.{after, pointers_in};
+ghost use Rattle.capnp_objects.specs.Spending.{after_charge, pointers_in};
 ghost use Rattle.capnp_objects.specs.Values.{expect, value, read_values, value_within};
 ghost use Rattle.capnp_objects.specs.Wanted.{plain};
 ghost use Rattle.capnp_pointers.specs.Checking.{AreCanonicalAt, AreFound, HasSmallSegment, IsCanonicalAt, IsFound, progress};
@@ -45,7 +45,7 @@ pub fn values_have_sizes()
         → MeansThere (record r { levels = n }) t c → depth t < r.levels → Affords r.charging m c
         → FitSize (word_count t) (capabilities t)
         → (k : ℕ) × (k ≤ c) × (measure r (only_words 0) m
-        ≡ (Ok (value_size t), after r.charging m k (pointers_in t))) }
+        ≡ (Ok (value_size t), after_charge r.charging m k (pointers_in t))) }
 {}
 
 /// Only one name is possible if a size is refused, and the limiter has only one state after it.

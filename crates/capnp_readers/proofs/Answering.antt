@@ -13,7 +13,7 @@ use Rattle.capnp_words.specs.Sizes.{size_number}
 use Rattle.capnp_objects.proofs.Decided.{within_or_not}
 use Rattle.capnp_words.specs.declared.wire_pointer.ElementSize.{ElementSize}
 use Rattle.capnp_words.specs.declared.wire_pointer.ElementSize.TheVariants.{Void, Bit, Byte, TwoBytes, FourBytes, EightBytes, Pointer, InlineComposite}
-use Rattle.capnp_objects.specs.Expected.{Expectation, list_expected, CanBeGiven, IsGiven, narrow_elements, narrow_structs}
+use Rattle.capnp_objects.specs.Expected.{Expectation, list_expected, HasExpected, IsExpected, narrow_elements, narrow_structs}
 use Rattle.capnp_format.specs.Numbers.{element_bits}
 use Rattle.capnp_objects.specs.Reading.{source_start, word_of, tag_size}
 use Rattle.capnp_objects.specs.Source.{default_segment, levels}
@@ -138,7 +138,7 @@ module _ {A : Type 0} (g : Ghosts A) where
   HasDefault c = (bytes : Bor (List ℕ)) → c.default ≡ Some bytes → (8 ≤ length bytes.now) × ((c.expected.null_default ≡ None) ⊎ (word_of (place_read g c.from c.default) ≢ 0))
 
   -- a call isn't refused if there is what it expects
-  pub never_refused : (c : Call g) {m m' : Meter} {k : ErrorKind} → IsRefused g c m m' k → HasDefault c → CanBeGiven c.expected (place_read g c.from c.default) m → ⊥
+  pub never_refused : (c : Call g) {m m' : Meter} {k : ErrorKind} → IsRefused g c m m' k → HasDefault c → HasExpected c.expected (place_read g c.from c.default) m → ⊥
   never_refused c (inl (of_pointer w e, same)) whole can = absurd (cc (e))
   never_refused c (inl (of_default null has long source segment first nesting might e, same)) whole can = absurd (cc (e))
   never_refused c (inl (short_default {bytes = bytes} null has less e, same)) whole can = (let there = (whole bytes has).0 in omega (arith, less, there))
@@ -147,16 +147,16 @@ module _ {A : Type 0} (g : Ghosts A) where
     | inr some ↦ some (ap (λ d. word_of (place_read g c.from d)) has ∙ ap word_of (default_place c.from bytes null) ∙ empty)
   ]
   never_refused c {m} {m'} {k} (inr (p, there, withheld)) whole can =
-      not_withheld c.expected (read_by g p) m m' k (subst (λ r. CanBeGiven c.expected r m) (sym (read_at there)) can) withheld
+      not_withheld c.expected (read_by g p) m m' k (subst (λ r. HasExpected c.expected r m) (sym (read_at there)) can) withheld
 
   -- a call is answered exactly if it can be answered at the place that it reads
-  pub answered : {c : Call g} {p : PointerReader A g} (m : Meter) {B : Type 0} → IsRead g c (Ok p) → (B ↔ CanBeGiven c.expected (read_by g p) m) → B ↔ WhereRead g c (λ q. CanBeGiven c.expected (read_by g q) m)
+  pub answered : {c : Call g} {p : PointerReader A g} (m : Meter) {B : Type 0} → IsRead g c (Ok p) → (B ↔ HasExpected c.expected (read_by g p) m) → B ↔ WhereRead g c (λ q. HasExpected c.expected (read_by g q) m)
   answered {c} {p = p} m there same =
-      ((λ b. (p, there, same.0 b)), (λ (q, here, can). same.1 (subst (λ r. CanBeGiven c.expected r m) (one_read here there) can)))
+      ((λ b. (p, there, same.0 b)), (λ (q, here, can). same.1 (subst (λ r. HasExpected c.expected r m) (one_read here there) can)))
 
   -- what can be returned at the pointer that is read
-  pub given_there : {c : Call g} {p : PointerReader A g} (m : Meter) → IsRead g c (Ok p) → WhereRead g c (λ q. CanBeGiven c.expected (read_by g q) m) → CanBeGiven c.expected (read_by g p) m
-  given_there {c} m there (q, here, can) = subst (λ r. CanBeGiven c.expected r m) (one_read here there) can
+  pub given_there : {c : Call g} {p : PointerReader A g} (m : Meter) → IsRead g c (Ok p) → WhereRead g c (λ q. HasExpected c.expected (read_by g q) m) → HasExpected c.expected (read_by g p) m
+  given_there {c} m there (q, here, can) = subst (λ r. HasExpected c.expected r m) (one_read here there) can
 
   -- The object x was read through the pointer p, from m to m', and is shown as the target t.
   pub record IsShown (p : PointerReader A g) (m m' : Meter) (x : Object) (t : ReadTarget A g) : Type 0 where
@@ -164,7 +164,7 @@ module _ {A : Type 0} (g : Ghosts A) where
     pub target : IsTarget g p m m' t
 
   -- if the target isn't of the kind that was expected, the pointer is null
-  pub no_struct : {p : PointerReader A g} {m m' : Meter} {x : Object} (t : ReadTarget A g) → IsGiven ExpectsStruct (read_by g p).levels x → IsShown p m m' x t → ((r : StructReader A g) → t ≡ StructTarget r → ⊥) → (word_of (read_by g p) ≡ 0) × (m' ≡ m)
+  pub no_struct : {p : PointerReader A g} {m m' : Meter} {x : Object} (t : ReadTarget A g) → IsExpected ExpectsStruct (read_by g p).levels x → IsShown p m m' x t → ((r : StructReader A g) → t ≡ StructTarget r → ⊥) → (word_of (read_by g p) ≡ 0) × (m' ≡ m)
   no_struct NullTarget given h other = h.target
   no_struct {p} {x = x} (CapTarget i) given h other = elim (struct_or_null x given h.read) [
     | inl null ↦ null
@@ -176,7 +176,7 @@ module _ {A : Type 0} (g : Ghosts A) where
     | inr (b, there, z) ↦ absurd (let same : h.target.0 ≡ b = same_target (read_by g p).segments (read_by g p).segment (read_by g p).at (entered_leads h.target.1).1 there.1 in let k = rw (← same) at z in let one = h.target.2 in omega (arith, k, one))
   ]
 
-  pub no_list : (size : ElementSize) {p : PointerReader A g} {m m' : Meter} {x : Object} (t : ReadTarget A g) → IsGiven (ExpectsList size) (read_by g p).levels x → IsShown p m m' x t → ((r : ListReader A g) → t ≡ ListTarget r → ⊥) → (word_of (read_by g p) ≡ 0) × (m' ≡ m)
+  pub no_list : (size : ElementSize) {p : PointerReader A g} {m m' : Meter} {x : Object} (t : ReadTarget A g) → IsExpected (ExpectsList size) (read_by g p).levels x → IsShown p m m' x t → ((r : ListReader A g) → t ≡ ListTarget r → ⊥) → (word_of (read_by g p) ≡ 0) × (m' ≡ m)
   no_list size NullTarget given h other = h.target
   no_list size {p} {x = x} (CapTarget i) given h other = elim (list_or_null size x given h.read) [
     | inl null ↦ null
@@ -201,5 +201,5 @@ module _ {A : Type 0} (g : Ghosts A) where
   wide_list size h EightBytes fits list = let wide = wide_elements size 5 (rw list.0 at fits) in (wide.0, λ six. absurd (omega (arith, wide.1 six)), wide.2)
   wide_list size h Pointer fits list = let wide = wide_elements size 6 (rw list.0 at fits) in (wide.0, λ six. tt, wide.2)
 
-  pub wide_target : (size : ElementSize) {p : PointerReader A g} {m m' : Meter} {x : Object} {r : ListReader A g} → CanBeGiven (list_expected size) (read_by g p) m → IsShown p m m' x (ListTarget r) → IsWide size r.element_size r.struct_size
+  pub wide_target : (size : ElementSize) {p : PointerReader A g} {m m' : Meter} {x : Object} {r : ListReader A g} → HasExpected (list_expected size) (read_by g p) m → IsShown p m m' x (ListTarget r) → IsWide size r.element_size r.struct_size
   wide_target size {p} {m} {r = r} can h = wide_list size h r.element_size (given_fits (list_expected size) (read_by g p) m h.target.0 can (entered_leads h.target.1)) h.target.3

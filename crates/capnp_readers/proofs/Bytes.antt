@@ -14,7 +14,7 @@ use Rattle.capnp_format.proofs.BytesLemmas.{words_are_bytes}
 use Rattle.capnp_format.proofs.WordsOf.{words_of-part}
 use Rattle.capnp_format.proofs.Digits.{low, high}
 use Rattle.capnp_words.specs.declared.wire_pointer.ElementSize.TheVariants.{Byte}
-use Rattle.capnp_objects.specs.Demands.{claim}
+use Rattle.capnp_objects.specs.Demands.{claimed_words}
 use Rattle.capnp_objects.specs.Faults.{LeadsTo}
 use Rattle.capnp_objects.specs.declared.object.Object.TheVariants.{Flat as ObjectFlat}
 use Rattle.capnp_objects.specs.declared.object.Place.{Place}
@@ -68,7 +68,7 @@ shown n {r} {m} {m'} {start} {count} {bytes} few small is h =
     let wide = h.object.5 in
     let counted : count ≡ list_count a.word = h.object.6 in
     let words : ℕ = words_for 2 count in
-    let own : claim a.word ≡ words_for 2 (list_count a.word) = claim_list a.word 2 z (sym wide) ∙ claim_flat 2 (list_count a.word) (omega arith) in
+    let own : claimed_words a.word ≡ words_for 2 (list_count a.word) = claim_list a.word 2 z (sym wide) ∙ claim_flat 2 (list_count a.word) (omega arith) in
     let claims : a.start + words ≤ length (segment r.segments a.segment) = (let there = o.meets.claims in rw counted (omega (arith, own, there))) in
     let room : 8 * (start.at + words) ≤ length start.bytes.now = (let there = rw (← segment_is) at claims in omega (arith, there, held.1, at)) in
     let all : List ℕ = take (8 * words) (drop (8 * start.at) start.bytes.now) in
@@ -124,7 +124,7 @@ module _ {A : Type 0} (g : Ghosts A) where
       let is : ns ≡ unpacked 2 (length ns) (words_at S a.segment a.start (words_for 2 (length ns))) = rw two at numbers in
       from.bytes_are ∙ ap (λ n. take (n - but) (unpacked 2 n (words_at S a.segment a.start (words_for 2 n)))) at.counts ∙ ap (take (length ns - but)) (sym is)
   bytes_shown but p m m' bytes (Capability i) c read (a, leads, is, cost) = (let one = (bytes_from but p a read leads).is_list in absurd (omega (arith, one, is)))
-  bytes_shown but p m m' bytes (Struct ws ts) c read (a, k, some, at, claim, has, all, cost) = (let one = (bytes_from but p a read at.leads_to).is_list in absurd (omega (arith, one, at.is_struct)))
+  bytes_shown but p m m' bytes (Struct ws ts) c read (a, k, some, at, claimed_words, has, all, cost) = (let one = (bytes_from but p a read at.leads_to).is_list in absurd (omega (arith, one, at.is_struct)))
   bytes_shown but p m m' bytes (Pointers ts) c read (a, k, some, at, claims, all, cost) = (let two = (bytes_from but p a read at.leads_to).of_bytes in absurd (omega (arith, two, at.is_size)))
   bytes_shown but p m m' bytes (Structs d q es) c read (a, n, k, some, at, claims, is_tag, fits, all, cost) = (let two = (bytes_from but p a read at.leads_to).of_bytes in absurd (omega (arith, two, at.is_size)))
 

@@ -7,7 +7,7 @@ use Rattle.capnp_format.specs.Numbers.{words_for}
 use Rattle.capnp_format.specs.Word.{kind, list_count}
 use Rattle.capnp_objects.specs.Enter.{Shape, nothing, capability, struct, flat, pointers, structs, read}
 use Rattle.capnp_objects.specs.Metered.{Metered, answer, onward}
-use Rattle.capnp_objects.specs.Reading.{Reading, behind, segment_read, word_of}
+use Rattle.capnp_objects.specs.Reading.{Reading, place_past, segment_read, word_of}
 use Rattle.capnp_objects.specs.Refusals.{exceeding, leading_nowhere, Stopped, no_target, broken, claim_exceeds, count_exceeds}
 use Rattle.capnp_objects.specs.Wanted.{plain}
 use Rattle.capnp_objects.specs.declared.object.Purpose.TheVariants.{Value}
@@ -104,7 +104,7 @@ object_charged n f r h (pointers s p i) head m =
 object_charged n f r h (structs s p d q i) head m =
     once_checked (nat_eq p (head + 1)) ObjectPlace r r.at head m (λ e. structs_tested f (list_count (word_of r)) (sized d q) i (inner n r s p))
     (once_checked (nat_eq (i * (d + q)) (list_count (word_of r))) ElementWords (inner n r s p) (p - 1) p m (λ e. rows_tested f d q i (inner n r s p))
-    (checked (nat_eq q 0 || some_used (behind (inner n r s p) d) q (d + q) i) ElementPointers (inner n r s p) (p - 1) (onward (unless_fault (fault_unless (nat_eq d 0 || some_used (inner n r s p) d (d + q) i) ElementData (inner n r s p) (p - 1))) (elements_tested f d q i (inner n r s p) (p + i * (d + q)) m))
+    (checked (nat_eq q 0 || some_used (place_past (inner n r s p) d) q (d + q) i) ElementPointers (inner n r s p) (p - 1) (onward (unless_fault (fault_unless (nat_eq d 0 || some_used (inner n r s p) d (d + q) i) ElementData (inner n r s p) (p - 1))) (elements_tested f d q i (inner n r s p) (p + i * (d + q)) m))
     (checked (nat_eq d 0 || some_used (inner n r s p) d (d + q) i) ElementData (inner n r s p) (p - 1) (elements_tested f d q i (inner n r s p) (p + i * (d + q)) m) (elements_charged f (inner n r s 0) (h s) d q i p (Ok (p + i * (d + q))) m))))
 object_charged n f r h (struct s p d q) head m = go (nat_eq (d + q) 0)
   where

@@ -7,13 +7,13 @@ use Rattle.capnp_words.specs.declared.wire_pointer.ElementSize.{ElementSize}
 use Rattle.capnp_format.specs.Segments.{Target}
 use Rattle.capnp_format.specs.Tree.{Tree, Null, Capability, Struct, Flat, Pointers, Structs}
 use Rattle.capnp_format.specs.Word.{kind, element_size}
-use Rattle.capnp_objects.specs.Demands.{own}
-use Rattle.capnp_objects.specs.Expected.{struct_expected, list_expected, narrow_structs, narrow_elements, CanBeGiven, null_pointer, fitting}
+use Rattle.capnp_objects.specs.Demands.{own_charge}
+use Rattle.capnp_objects.specs.Expected.{struct_expected, list_expected, narrow_structs, narrow_elements, HasExpected, null_pointer, fitting}
 use Rattle.capnp_objects.specs.Faults.{LeadsTo}
 use Rattle.capnp_objects.specs.Outcomes.{MeansThere, Entered}
 use Rattle.capnp_objects.specs.Reading.{Reading, word_of, tag_size}
 use Rattle.capnp_words.specs.Sizes.{sized}
-use Rattle.capnp_objects.specs.Spending.{after}
+use Rattle.capnp_objects.specs.Spending.{after_charge}
 use Rattle.capnp_objects.specs.declared.object.Purpose.TheVariants.{Value}
 use Rattle.capnp_objects.proofs.Expecting.{one_level}
 use Rattle.capnp_objects.proofs.Faultless.{same_target}
@@ -31,10 +31,10 @@ right_kind k n i e = ap (λ b. cond b None (Some k)) (eq-eqb n i e)
 
 -- the object of a value can be entered, with one level, if the limiter covers the value's cost
 pub entered_value : (r : Reading) (t : Tree) (c : ℕ) (m : Meter) (a : Target) → LeadsTo r a → kind a.word < 2 → MeansThere r t c → Affords r.charging m c →
-    Entered Value (one_level r) m (after r.charging m (own Value r.segments a) 1) a
+    Entered Value (one_level r) m (after_charge r.charging m (own_charge Value r.segments a) 1) a
 entered_value r t c m a leads object means covers = go (means_parts r t c means)
   where
-    go : {n : ℕ} → Parts r n c → Entered Value (one_level r) m (after r.charging m (own Value r.segments a) 1) a
+    go : {n : ℕ} → Parts r n c → Entered Value (one_level r) m (after_charge r.charging m (own_charge Value r.segments a) 1) a
     go (is_null null) = absurd (leads.0 null)
     go (is_capability b there low some cost) =
         absurd (let same : a ≡ b = same_target r.segments r.segment r.at leads.1 there.1 in let two = subst (λ (x : Target). kind x.word < 2) same object in omega (arith, low, two))
@@ -44,7 +44,7 @@ entered_value r t c m a leads object means covers = go (means_parts r t c means)
         record {
           follows = leads_to r a leads;
           meets = record { levels = omega arith; is_object = object; claims = here.meets.claims; tagged = here.meets.tagged };
-          covers = affords_less r.charging m (own Value r.segments a) c here.cost covers;
+          covers = affords_less r.charging m (own_charge Value r.segments a) c here.cost covers;
           spent = refl;
         }
 
@@ -57,7 +57,7 @@ not_null r (Flat size ns) c (a, some, small, at, claims, numbers, cost) other = 
 not_null r (Pointers ts) c (a, k, some, at, claims, all, cost) other = at.leads_to.0
 not_null r (Structs d q es) c (a, n, k, some, at, claims, is_tag, fits, all, cost) other = at.leads_to.0
 
-pub struct_suits : (r : Reading) (t : Tree) (c : ℕ) (m : Meter) → IsStructOrNull t → MeansThere r t c → Affords r.charging m c → CanBeGiven struct_expected r m
+pub struct_suits : (r : Reading) (t : Tree) (c : ℕ) (m : Meter) → IsStructOrNull t → MeansThere r t c → Affords r.charging m c → HasExpected struct_expected r m
 struct_suits r Null c m is means covers = null_pointer means.0
 struct_suits r (Struct ws ts) c m is means covers =
     let a : Target = means.0 in
@@ -71,7 +71,7 @@ struct_suits r (Structs d q es) c m is means covers = absurd is
 
 -- a list whose elements fit
 list_suits_at : (size : ElementSize) (r : Reading) (t : Tree) (c : ℕ) (m : Meter) (a : Target) → 0 < r.levels → LeadsTo r a → kind a.word ≡ 1 →
-    cond (nat_eq (element_size a.word) 7) (narrow_structs size (tag_size r.segments a)) (narrow_elements size (element_size a.word)) ≡ None → MeansThere r t c → Affords r.charging m c → CanBeGiven (list_expected size) r m
+    cond (nat_eq (element_size a.word) 7) (narrow_structs size (tag_size r.segments a)) (narrow_elements size (element_size a.word)) ≡ None → MeansThere r t c → Affords r.charging m c → HasExpected (list_expected size) r m
 list_suits_at size r t c m a some leads one fits means covers =
     fitting a (some_level _ r.levels some) (right_kind _ (kind a.word) 1 one) (entered_value r t c m a leads (omega (arith, one)) means covers) fits
 
@@ -80,7 +80,7 @@ plain_fits : (size : ElementSize) (r : Reading) (a : Target) (n : ℕ) → eleme
 plain_fits size r a n is small fits =
     ap (λ b. cond b (narrow_structs size (tag_size r.segments a)) (narrow_elements size (element_size a.word))) (ne_eqb (element_size a.word) 7 (λ e. omega (arith, e, is, small))) ∙ ap (narrow_elements size) is ∙ fits
 
-pub list_suits : (size : ElementSize) (r : Reading) (t : Tree) (c : ℕ) (m : Meter) → FitsSize size t → MeansThere r t c → Affords r.charging m c → CanBeGiven (list_expected size) r m
+pub list_suits : (size : ElementSize) (r : Reading) (t : Tree) (c : ℕ) (m : Meter) → FitsSize size t → MeansThere r t c → Affords r.charging m c → HasExpected (list_expected size) r m
 list_suits size r Null c m fits means covers = null_pointer means.0
 list_suits size r (Flat n ns) c m fits means covers =
     let a : Target = means.0 in

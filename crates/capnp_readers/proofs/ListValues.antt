@@ -18,7 +18,7 @@ use Rattle.capnp_format.proofs.Children.{means_child, means_element_child}
 use Rattle.capnp_objects.specs.Demands.{tag}
 use Rattle.capnp_objects.specs.Faults.{LeadsTo, child_at}
 use Rattle.capnp_objects.specs.Outcomes.{MeansThere}
-use Rattle.capnp_objects.specs.Reading.{Reading, behind, tag_size}
+use Rattle.capnp_objects.specs.Reading.{Reading, place_past, tag_size}
 use Rattle.capnp_objects.specs.Rows.{rows_sized}
 use Rattle.capnp_objects.specs.Source.{levels}
 use Rattle.capnp_objects.proofs.Faultless.{same_target}
@@ -26,7 +26,7 @@ use Rattle.capnp_objects.proofs.Followed.{entered_leads}
 use Rattle.capnp_objects.proofs.Shorthands.{MeanThere}
 use Rattle.capnp_readers.specs.Calls.{Call, WhereRead, IsListRead}
 use Rattle.capnp_readers.specs.Readers.{read_by, IsTargetList, ShowsList, ShowsElement}
-use Rattle.capnp_readers.specs.Sections.{HoldsPointer, pointers_behind, elements_words}
+use Rattle.capnp_readers.specs.Sections.{HoldsPointer, pointers_offset, elements_words}
 use Rattle.capnp_readers.specs.Sizes.{pointers_read}
 use Rattle.capnp_readers.specs.Values.{HasValue, HasStructs, list_length, struct_element, place_read, first_element, tree_cost, first_cost, pointer_cost, ShowsStructOf, ShowsListOf}
 use Rattle.capnp_readers.specs.declared.readers.PointerReader.{PointerReader}
@@ -46,7 +46,7 @@ pub record ElementThere (r : Reading) (d q : ℕ) (es : Elements) (i : ℕ) : Ty
   pub long : length words ≡ d
   pub many : count children ≡ q
   pub has : HasWords r.segments r.segment (r.at + i * (d + q)) words
-  pub means : MeanThere (behind r (i * (d + q) + d)) children cost
+  pub means : MeanThere (place_past r (i * (d + q) + d)) children cost
 
 pub element_there : (r : Reading) (d q : ℕ) (es : Elements) (c i : ℕ) → i < element_count es → MeansElements r.segments r.levels r.segment r.at d q es c → ElementThere r d q es i
 element_there r d q no_elements c i l h = absurd (omega arith)
@@ -61,7 +61,7 @@ element_there r d q (element ws ts es) c zero l (a, b, long, many, here, all, re
   means = subst (λ z. MeansAll r.segments r.levels r.segment z ts a) (let e : r.at + d ≡ r.at + (0 * (d + q) + d) = omega arith in e) all;
 }
 element_there r d q (element ws ts es) c (suc i) l (a, b, long, many, here, all, rest, cost) =
-    let x = element_there (behind r (d + q)) d q es b i (omega arith) (subst (λ z. MeansElements r.segments r.levels r.segment z d q es b) (let e : r.at + d + q ≡ r.at + (d + q) = omega arith in e) rest) in
+    let x = element_there (place_past r (d + q)) d q es b i (omega arith) (subst (λ z. MeansElements r.segments r.levels r.segment z d q es b) (let e : r.at + d + q ≡ r.at + (d + q) = omega arith in e) rest) in
     record {
       words = x.words;
       children = x.children;
@@ -74,13 +74,13 @@ element_there r d q (element ws ts es) c (suc i) l (a, b, long, many, here, all,
     }
 
 -- the first child of element i, at its cost
-first_means : (r : Reading) (d q : ℕ) (es : Elements) (c i : ℕ) → i < element_count es → 0 < q → (all : MeansElements r.segments r.levels r.segment r.at d q es c) → MeansThere (behind r (i * (d + q) + d)) (next (struct_at es i) (Child 0)) (first_cost r d q es c all i)
+first_means : (r : Reading) (d q : ℕ) (es : Elements) (c i : ℕ) → i < element_count es → 0 < q → (all : MeansElements r.segments r.levels r.segment r.at d q es c) → MeansThere (place_past r (i * (d + q) + d)) (next (struct_at es i) (Child 0)) (first_cost r d q es c all i)
 first_means r d q no_elements c i l some all = absurd (omega arith)
 first_means r d q (element ws ts es) c zero l some all =
-    subst (λ z. MeansThere (record r { at = z }) (tree_at ts 0) (tree_cost (behind r d) ts all.0 all.5 0)) (let e : r.at + d + 0 ≡ r.at + (0 * (d + q) + d) = omega arith in e) (tree_means ts (behind r d) all.0 0 (omega (arith, some, all.3)) all.5)
+    subst (λ z. MeansThere (record r { at = z }) (tree_at ts 0) (tree_cost (place_past r d) ts all.0 all.5 0)) (let e : r.at + d + 0 ≡ r.at + (0 * (d + q) + d) = omega arith in e) (tree_means ts (place_past r d) all.0 0 (omega (arith, some, all.3)) all.5)
 first_means r d q (element ws ts es) c (suc i) l some all =
-    subst (λ z. MeansThere (record r { at = z }) (next (struct_at es i) (Child 0)) (first_cost (behind (behind r d) q) d q es all.1 all.6 i)) (let e : r.at + d + q + (i * (d + q) + d) ≡ r.at + (suc i * (d + q) + d) = omega arith in e)
-    (first_means (behind (behind r d) q) d q es all.1 i (omega arith) some all.6)
+    subst (λ z. MeansThere (record r { at = z }) (next (struct_at es i) (Child 0)) (first_cost (place_past (place_past r d) q) d q es all.1 all.6 i)) (let e : r.at + d + q + (i * (d + q) + d) ≡ r.at + (suc i * (d + q) + d) = omega arith in e)
+    (first_means (place_past (place_past r d) q) d q es all.1 i (omega arith) some all.6)
 
 module _ {A : Type 0} (g : Ghosts A) where
   -- a list with a tag is one of structs
@@ -218,7 +218,7 @@ module _ {A : Type 0} (g : Ghosts A) where
       let many : list.struct_size.pointers ≡ q = ap (λ (y : StructSize). y.pointers) sections in
       let at : list.start.at + i * (list.struct_size.data_words + list.struct_size.pointers) ≡ x.at + i * (d + q) = rw (wide, many) refl in
       let starts : r.pointers.at ≡ x.at + (i * (d + q) + d) = (shows.pointers_start ∙ ap₂ (λ (y z : ℕ). y + z) at wide) ∙ omega arith in
-      let first : pointers_read g r ≡ behind x (i * (d + q) + d) = rw (source, shows.segment_is, starts, nesting) refl in
+      let first : pointers_read g r ≡ place_past x (i * (d + q) + d) = rw (source, shows.segment_is, starts, nesting) refl in
       subst (ShowsStructOf g r) (sym e.is) (record {
         is_struct = tt;
         bits_are = shows.bits_are ∙ ap (λ j. 64 * j) (wide ∙ sym e.long);
@@ -235,7 +235,7 @@ module _ {A : Type 0} (g : Ghosts A) where
       let x : Reading = first_element g list in
       let one = means_child x.segments x.levels x.segment x.at ts k i inside all in
       let starts : r.pointers.at ≡ x.at + i = shows.pointers_start ∙ omega arith in
-      let first : pointers_read g r ≡ behind x i = rw (source, shows.segment_is, starts, nesting) refl in
+      let first : pointers_read g r ≡ place_past x i = rw (source, shows.segment_is, starts, nesting) refl in
       record {
         is_struct = tt;
         bits_are = shows.bits_are;
@@ -260,18 +260,18 @@ module _ {A : Type 0} (g : Ghosts A) where
 
   -- the place of element i, or of the first pointer of a struct, means that element or child
   pub pointer_element_means : (list : ListReader A g) (i : ℕ) (y : Reading) → i < list.count → HoldsPointer list.element_size list.struct_size →
-      y ≡ behind (first_element g list) (pointers_behind list.element_size list.struct_size i) → (t : Tree) (is : ShowsListOf g list t) → HasStructs t → MeansThere y (next (struct_element t i) (Child 0)) (pointer_cost g is i)
+      y ≡ place_past (first_element g list) (pointers_offset list.element_size list.struct_size i) → (t : Tree) (is : ShowsListOf g list t) → HasStructs t → MeansThere y (next (struct_element t i) (Child 0)) (pointer_cost g is i)
   pointer_element_means list i y inside holds there Null is has = (let none = is.shown.0 in absurd (omega (arith, inside, none)))
   pointer_element_means list i y inside holds there (Pointers ts) is has =
       let (wide, counts, all) = is.shown in
       let x : Reading = first_element g list in
-      let at : y ≡ behind x i = there ∙ ap (λ (size : ElementSize). behind x (pointers_behind size list.struct_size i)) wide in
+      let at : y ≡ place_past x i = there ∙ ap (λ (size : ElementSize). place_past x (pointers_offset size list.struct_size i)) wide in
       subst (λ z. MeansThere z (tree_at ts i) (pointer_cost g is i)) (sym at) (tree_means ts x is.cost i (omega (arith, inside, counts)) is.shown.2)
   pointer_element_means list i y inside holds there (Structs d q es) is has =
       let (wide, sections, counts, all) = is.shown in
       let x : Reading = first_element g list in
       let some : 0 < q = subst (λ (size : StructSize). 0 < size.pointers) sections (subst (λ size. HoldsPointer size list.struct_size) wide holds) in
-      let at : y ≡ behind x (i * (d + q) + d) = there ∙ ap₂ (λ (size : ElementSize) (sections : StructSize). behind x (pointers_behind size sections i)) wide sections in
+      let at : y ≡ place_past x (i * (d + q) + d) = there ∙ ap₂ (λ (size : ElementSize) (sections : StructSize). place_past x (pointers_offset size sections i)) wide sections in
       subst (λ z. MeansThere z (next (struct_at es i) (Child 0)) (pointer_cost g is i)) (sym at) (first_means x d q es is.cost i (omega (arith, inside, counts)) some is.shown.3)
   pointer_element_means list i y inside holds there (Flat size ns) is has = absurd has
   pointer_element_means list i y inside holds there (Capability j) is has = absurd has

@@ -1,9 +1,9 @@
 -- What the test for canonical form shows about the values that it finds, and when two of them are
--- the same. The lemmas take a place, a head and the value there one by one, like `Stands`.
+-- the same. The lemmas take a place, a head and the value there one by one, like `HasCanonicalAt`.
 use Rattle.std.proofs.Common.{◌≡◌, ◌↔◌, ℕ, ◌-◌, ◌≤◌, List, ◌∷◌, length, sym, ap, ap₂, ◌∙◌, subst, arith}
 use Rattle.capnp_format.specs.Segments.{Segments, words_at, HasWords, AreWords}
 use Rattle.capnp_format.specs.Tree.{Tree, depth}
-use Rattle.capnp_format.specs.Canonical.{charge, trim, word_count, pointer, body, offset_to, Stands}
+use Rattle.capnp_format.specs.Canonical.{charge, trim, word_count, pointer, body, offset_to, HasCanonicalAt}
 use Rattle.capnp_format.proofs.Lengths.{length-body}
 use Rattle.capnp_format.proofs.Levels.{depth_within}
 use Rattle.capnp_format.proofs.Trimmed.{trim-depth}
@@ -19,7 +19,7 @@ use Rattle.capnp_pointers.specs.Checking.{Progress, progress, Finds, CanBeFound}
 use Rattle.capnp_pointers.proofs.Takes.{stands_means_at}
 
 pub copy_is_answered : (r q : Reading) (m m' : Meter) (h : ℕ) (t : Tree) → AreWords r.segments → Reads canonical r m m' t → q.levels ≡ r.levels → q.charging ≡ r.charging → h ≤ length (segment_read q) →
-    Stands q.segments q.segment q.at h (trim t) → CanBeFound q (progress h m)
+    HasCanonicalAt q.segments q.segment q.at h (trim t) → CanBeFound q (progress h m)
 copy_is_answered r q m m' h t words read levels charging inside stands =
     let deep : depth (trim t) ≤ q.levels = omega (arith, trim-depth t, depth_within t (record { means = read.means }), levels) in
     let cost : charge (trim t) ≤ read.cost = canonical_cost r.segments r.levels r.segment r.at t read.cost words read.means in
@@ -80,5 +80,5 @@ same_words r q from to start end t u f g at head =
     let right : words_tested q start end ≡ standing_words r.at from.head u = tested_words q start end u g ∙ ap₂ (λ p h. standing_words p h u) (sym at) (sym head) in
     let a : Standing r.segments r.segment r.at from.head t = record { stands = f.stands } in
     let b : Standing q.segments q.segment r.at from.head u =
-    record { stands = subst (λ p. Stands q.segments q.segment p from.head u) (sym at) (subst (λ h. Stands q.segments q.segment q.at h u) (sym head) g.stands) } in
+    record { stands = subst (λ p. HasCanonicalAt q.segments q.segment p from.head u) (sym at) (subst (λ h. HasCanonicalAt q.segments q.segment q.at h u) (sym head) g.stands) } in
     (λ e. same_by_words a b (sym left ∙ e ∙ right), λ e. left ∙ ap (λ v. standing_words r.at from.head v) e ∙ sym right)

@@ -14,7 +14,7 @@ use Rattle.capnp_words.specs.declared.wire_pointer.ElementSize.TheVariants.{Void
 use Rattle.capnp_words.specs.declared.wire_pointer.StructSize.{StructSize}
 use Rattle.capnp_objects.specs.Objects.{IsHeld}
 use Rattle.capnp_objects.specs.declared.object.Place.{Place}
-use Rattle.capnp_readers.specs.Sections.{IsInside, IsPart, bytes_for, HoldsPointer, elements_words, pointers_behind}
+use Rattle.capnp_readers.specs.Sections.{IsInside, IsPart, bytes_for, HoldsPointer, elements_words, pointers_offset}
 use Rattle.capnp_objects.specs.Source.{default_segments}
 use Rattle.capnp_arena_traits.specs.declared.arena.reader_arena.ReaderArena.{Ghosts}
 use Rattle.capnp_readers.specs.declared.readers.list_reader.ListReader.{ListReader}
@@ -43,7 +43,7 @@ bytes_inside bits n offset l =
     let few : offset + 1 ≤ bits / 8 / n = omega arith in omega (arith, mul-le-mul_left n few, mod-add-div (bits / 8) n)
 
 -- the pointers of an element are among the elements' words
-pub pointers_within : (size : ElementSize) (sections : StructSize) (count i : ℕ) → HoldsPointer size sections → i < count → pointers_behind size sections i < elements_words size count (sections.data_words + sections.pointers)
+pub pointers_within : (size : ElementSize) (sections : StructSize) (count i : ℕ) → HoldsPointer size sections → i < count → pointers_offset size sections i < elements_words size count (sections.data_words + sections.pointers)
 pointers_within Pointer sections count i h l = l
 pointers_within InlineComposite sections count i h l =
     omega (arith, mul-add-lt i (sections.data_words + sections.pointers) sections.data_words count l (omega arith), mul_comm count (sections.data_words + sections.pointers))

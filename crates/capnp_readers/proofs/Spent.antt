@@ -9,10 +9,10 @@ use Rattle.capnp_format.specs.Segments.{Target}
 use Rattle.capnp_format.specs.Tree.{Tree, Null, Capability, Struct, Flat, Pointers, Structs, Trees, no_trees, tree, Elements, no_elements, element}
 use Rattle.capnp_format.specs.Word.{list_count}
 use Rattle.capnp_format.proofs.Levels.{one_value}
-use Rattle.capnp_objects.specs.Demands.{own}
+use Rattle.capnp_objects.specs.Demands.{own_charge}
 use Rattle.capnp_objects.specs.Faults.{LeadsTo}
 use Rattle.capnp_objects.specs.Outcomes.{MeansThere, Entered}
-use Rattle.capnp_objects.specs.Reading.{Reading, behind}
+use Rattle.capnp_objects.specs.Reading.{Reading, place_past}
 use Rattle.capnp_objects.specs.Spending.{Paid}
 use Rattle.capnp_objects.specs.declared.object.Purpose.TheVariants.{Value}
 use Rattle.capnp_objects.proofs.Budgets.{paid_own}
@@ -38,19 +38,19 @@ same_cost : (r : Reading) (ts : Trees) (c d : ℕ) → MeanThere r ts c → Mean
 same_cost r no_trees c d h k = h ∙ sym k
 same_cost r (tree t ts) c d (a, b, one, rest, e) (x, y, first, others, f) =
     let same : a ≡ x = (one_value r.segments r.levels r.levels r.segment r.at t t a x one first).1 in
-    let rest_same : b ≡ y = same_cost (behind r 1) ts b y rest others in
+    let rest_same : b ≡ y = same_cost (place_past r 1) ts b y rest others in
     omega (arith, e, f, same, rest_same)
 
 same_elements_cost : (r : Reading) (d q : ℕ) (es : Elements) (c e : ℕ) → MeansElements r.segments r.levels r.segment r.at d q es c → MeansElements r.segments r.levels r.segment r.at d q es e → c ≡ e
 same_elements_cost r d q no_elements c e h k = h ∙ sym k
 same_elements_cost r d q (element ws ts es) c e (a, b, long, many, here, one, rest, g) (x, y, wide, len, there, first, others, f) =
-    let same : a ≡ x = same_cost (behind r d) ts a x one first in
-    let rest_same : b ≡ y = same_elements_cost (behind (behind r d) q) d q es b y rest others in
+    let same : a ≡ x = same_cost (place_past r d) ts a x one first in
+    let rest_same : b ≡ y = same_elements_cost (place_past (place_past r d) q) d q es b y rest others in
     omega (arith, g, f, same, rest_same)
 
 -- what is paid for an object is the cost of its value without that of its children
-paid_for : {r : Reading} {m m' : Meter} (a : Target) (c k : ℕ) → own Value r.segments a + k ≡ c → Entered Value r m m' a → Paid r.charging m m' (c - k) 1
-paid_for {r} {m} {m'} a c k e o = subst (λ n. Paid r.charging m m' n 1) (let q : own Value r.segments a ≡ c - k = omega (arith, e) in q) (paid_own o)
+paid_for : {r : Reading} {m m' : Meter} (a : Target) (c k : ℕ) → own_charge Value r.segments a + k ≡ c → Entered Value r m m' a → Paid r.charging m m' (c - k) 1
+paid_for {r} {m} {m'} a c k e o = subst (λ n. Paid r.charging m m' n 1) (let q : own_charge Value r.segments a ≡ c - k = omega (arith, e) in q) (paid_own o)
 
 module _ {A : Type 0} (g : Ghosts A) where
   entered_struct : (p : PointerReader A g) {m m' : Meter} {r : StructReader A g} (a : Target) → IsStructRead g p m m' r → LeadsTo (read_by g p) a → Entered Value (read_by g p) m m' a
@@ -85,7 +85,7 @@ module _ {A : Type 0} (g : Ghosts A) where
   list_paid p expected m m' r Null c other read means shows = absurd (other refl)
   list_paid p expected m m' r (Flat size ns) c other read (a, some, small, at, claims, numbers, cost) shows =
       let x : Reading = read_by g p in
-      let own_is : own Value x.segments a ≡ a.pads + words_for size (length ns) + count_cost size (length ns) =
+      let own_is : own_charge Value x.segments a ≡ a.pads + words_for size (length ns) + count_cost size (length ns) =
       own_flat x.segments a at.is_list (omega (arith, at.is_size, small)) ∙ ap₂ (λ i n. a.pads + words_for i n + count_cost i n) at.is_size at.counts in
       paid_for a c shows.cost (omega (arith, own_is, cost, shows.shown.3)) (entered_list p expected r a read at.leads_to)
   list_paid p expected m m' r (Pointers ts) c other read (a, k, some, at, claims, all, cost) shows =
@@ -116,9 +116,9 @@ module _ {A : Type 0} (g : Ghosts A) where
   bytes_paid but p m m' bytes Null c other read means = absurd (other refl)
   bytes_paid but p m m' bytes (Flat size ns) c other read (a, some, small, at, claims, numbers, cost) =
       let x : Reading = read_by g p in
-      let own_is : own Value x.segments a ≡ a.pads + words_for size (length ns) + count_cost size (length ns) =
+      let own_is : own_charge Value x.segments a ≡ a.pads + words_for size (length ns) + count_cost size (length ns) =
       own_flat x.segments a at.is_list (omega (arith, at.is_size, small)) ∙ ap₂ (λ i n. a.pads + words_for i n + count_cost i n) at.is_size at.counts in
-      subst (λ n. Paid x.charging m m' n 1) (let e : own Value x.segments a ≡ c = omega (arith, own_is, cost) in e) (paid_own (entered_bytes but p a read at.leads_to))
+      subst (λ n. Paid x.charging m m' n 1) (let e : own_charge Value x.segments a ≡ c = omega (arith, own_is, cost) in e) (paid_own (entered_bytes but p a read at.leads_to))
   bytes_paid but p m m' bytes (Capability i) c other read (a, leads, is, cost) = (let one = (bytes_from g but p a read leads).is_list in absurd (omega (arith, one, is)))
   bytes_paid but p m m' bytes (Struct ws ts) c other read (a, k, some, at, claim, has, all, cost) = (let one = (bytes_from g but p a read at.leads_to).is_list in absurd (omega (arith, one, at.is_struct)))
   bytes_paid but p m m' bytes (Pointers ts) c other read (a, k, some, at, claims, all, cost) = (let two = (bytes_from g but p a read at.leads_to).of_bytes in absurd (omega (arith, two, at.is_size)))

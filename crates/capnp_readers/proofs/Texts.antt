@@ -16,7 +16,7 @@ use Rattle.capnp_format.proofs.LawLemmas.{element_is_bits}
 use Rattle.capnp_format.proofs.Lies.{pow_pow}
 use Rattle.capnp_format.proofs.Slices.{length_words}
 use Rattle.capnp_format.proofs.FieldBytes.{cut}
-use Rattle.capnp_objects.specs.Expected.{text_expected, data_expected, CanBeGiven, null_pointer, fitting}
+use Rattle.capnp_objects.specs.Expected.{text_expected, data_expected, HasExpected, null_pointer, fitting}
 use Rattle.capnp_objects.specs.Outcomes.{MeansThere}
 use Rattle.capnp_objects.specs.Reading.{Reading}
 use Rattle.capnp_readers.specs.Values.{IsBytes, IsText}
@@ -26,7 +26,7 @@ use Rattle.capnp_readers.proofs.Given.{entered_value}
 byte_kind : (k j : ErrorKind) (n m : ℕ) → n ≡ 1 → m ≡ 2 → cond (nat_eq n 1) (cond (nat_eq m 2) None (Some k)) (Some j) ≡ None
 byte_kind k j n m one two = ap (λ b. cond b (cond (nat_eq m 2) None (Some k)) (Some j)) (eq-eqb n 1 one) ∙ ap (λ b. cond b None (Some k)) (eq-eqb m 2 two)
 
-pub data_suits : (r : Reading) (t : Tree) (c : ℕ) (m : Meter) → IsBytes t → MeansThere r t c → Affords r.charging m c → CanBeGiven data_expected r m
+pub data_suits : (r : Reading) (t : Tree) (c : ℕ) (m : Meter) → IsBytes t → MeansThere r t c → Affords r.charging m c → HasExpected data_expected r m
 data_suits r (Flat size ns) c m is means covers =
     let a : Target = means.0 in
     let at = means.3 in
@@ -72,7 +72,7 @@ byte_of_list S s p n i words claims inside =
     ∙ byte_of_words ws i (words_below S s p (words_for 2 n) (words s)) (omega (arith, long))
     ∙ ap (λ x. x / 2 ^ (8 * (i % 8)) % 2 ^ 8) word
 
-pub text_suits : (r : Reading) (t : Tree) (c : ℕ) (m : Meter) → AreWords r.segments → IsText t → MeansThere r t c → Affords r.charging m c → CanBeGiven text_expected r m
+pub text_suits : (r : Reading) (t : Tree) (c : ℕ) (m : Meter) → AreWords r.segments → IsText t → MeansThere r t c → Affords r.charging m c → HasExpected text_expected r m
 text_suits r (Flat size ns) c m words is means covers =
     let a : Target = means.0 in
     let at = means.3 in

@@ -10,7 +10,7 @@ use Rattle.capnp_format.specs.Path.{tree_at, next, Child}
 use Rattle.capnp_format.proofs.Children.{means_child}
 use Rattle.capnp_objects.specs.Faults.{LeadsTo, child_at}
 use Rattle.capnp_objects.specs.Outcomes.{MeansThere}
-use Rattle.capnp_objects.specs.Reading.{Reading, behind, word_of}
+use Rattle.capnp_objects.specs.Reading.{Reading, place_past, word_of}
 use Rattle.capnp_objects.specs.Source.{levels}
 use Rattle.capnp_objects.proofs.Decided.{within_or_not}
 use Rattle.capnp_objects.proofs.Faultless.{same_target}
@@ -37,21 +37,21 @@ no_words [] e = refl
 no_words (b ∷ bytes) e = absurd (omega arith)
 
 -- child i of a struct, at its cost
-pub tree_means : (ts : Trees) (r : Reading) (c i : ℕ) → i < count ts → (all : MeanThere r ts c) → MeansThere (behind r i) (tree_at ts i) (tree_cost r ts c all i)
+pub tree_means : (ts : Trees) (r : Reading) (c i : ℕ) → i < count ts → (all : MeanThere r ts c) → MeansThere (place_past r i) (tree_at ts i) (tree_cost r ts c all i)
 tree_means no_trees r c i l all = absurd (omega arith)
 tree_means (tree t ts) r c zero l all = subst (λ q. MeansThere (record r { at = q }) t all.0) (let e : r.at ≡ r.at + 0 = omega arith in e) all.2
 tree_means (tree t ts) r c (suc i) l all =
-    subst (λ q. MeansThere (record r { at = q }) (tree_at ts i) (tree_cost (behind r 1) ts all.1 all.3 i)) (let e : r.at + 1 + i ≡ r.at + suc i = omega arith in e) (tree_means ts (behind r 1) all.1 i (omega arith) all.3)
+    subst (λ q. MeansThere (record r { at = q }) (tree_at ts i) (tree_cost (place_past r 1) ts all.1 all.3 i)) (let e : r.at + 1 + i ≡ r.at + suc i = omega arith in e) (tree_means ts (place_past r 1) all.1 i (omega arith) all.3)
 
 tree_within : (ts : Trees) (r : Reading) (c i : ℕ) (all : MeanThere r ts c) → tree_cost r ts c all i ≤ c
 tree_within no_trees r c i all = omega arith
 tree_within (tree t ts) r c zero all = omega (arith, all.4)
-tree_within (tree t ts) r c (suc i) all = omega (arith, all.4, tree_within ts (behind r 1) all.1 i all.3)
+tree_within (tree t ts) r c (suc i) all = omega (arith, all.4, tree_within ts (place_past r 1) all.1 i all.3)
 
 no_cost : (ts : Trees) (r : Reading) (c i : ℕ) → count ts ≤ i → (all : MeanThere r ts c) → tree_cost r ts c all i ≡ 0
 no_cost no_trees r c i l all = refl
 no_cost (tree t ts) r c zero l all = absurd (omega arith)
-no_cost (tree t ts) r c (suc i) l all = no_cost ts (behind r 1) all.1 i (omega arith) all.3
+no_cost (tree t ts) r c (suc i) l all = no_cost ts (place_past r 1) all.1 i (omega arith) all.3
 
 module _ {A : Type 0} (g : Ghosts A) where
   -- a pointer that was read as a struct, or is null, leads to no other object
@@ -108,7 +108,7 @@ module _ {A : Type 0} (g : Ghosts A) where
 
   -- The place x is that of pointer i of the struct reader r; a null word if there is no such pointer.
   pub record IsField (r : StructReader A g) (i : ℕ) (x : Reading) : Type 0 where
-    pub there : i < r.pointer_count → x ≡ behind (pointers_read g r) i
+    pub there : i < r.pointer_count → x ≡ place_past (pointers_read g r) i
     pub beyond : r.pointer_count ≤ i → word_of x ≡ 0
 
   pub child_means : (r : StructReader A g) (i : ℕ) (x : Reading) (t : Tree) → IsField r i x → (shows : ShowsStructOf g r t) → MeansThere x (next t (Child i)) (child_cost g shows i)

@@ -14,7 +14,7 @@ use Rattle.capnp_words.specs.declared.wire_pointer.ElementSize.{ElementSize}
 use Rattle.capnp_words.specs.declared.wire_pointer.ElementSize.TheVariants.{Void}
 use Rattle.capnp_arena_traits.specs.declared.arena.reader_arena.ReaderArena.{Ghosts}
 use Rattle.capnp_objects.specs.declared.source.Source.TheVariants.{Default, Nothing}
-use Rattle.capnp_objects.specs.Expected.{Expectation, Withheld}
+use Rattle.capnp_objects.specs.Expected.{Expectation, RefusesExpected}
 use Rattle.capnp_objects.specs.Outcomes.{Entered}
 use Rattle.capnp_objects.specs.Reading.{word_of}
 use Rattle.capnp_objects.specs.Source.{default_segment, default_segments}
@@ -71,7 +71,8 @@ module _ {A : Type 0} (g : Ghosts A) where
   -- nothing is counted or charged; or what the call expects is withheld there.
   abbrev pub IsRefused : Call → Meter → Meter → ErrorKind → Type 0
   IsRefused c m m' k =
-      (IsRead c (Err k) × (m' ≡ m)) ⊎ WhereRead c (λ p. Withheld c.expected (read_by g p) m m' k)
+      (IsRead c (Err k) × (m' ≡ m))
+      ⊎ WhereRead c (λ p. RefusesExpected c.expected (read_by g p) m m' k)
 
   -- The pointer p leads to the struct r, whose words are checked, and charged from m to m'. If p is
   -- null, r is the struct from nothing.

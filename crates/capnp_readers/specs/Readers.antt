@@ -16,7 +16,7 @@ use Rattle.capnp_objects.specs.Rows.{Rows, rows_sized}
 use Rattle.capnp_words.specs.declared.wire_pointer.StructSize.{StructSize}
 use Rattle.capnp_objects.specs.Outcomes.{Entered}
 use Rattle.capnp_readers.specs.Sections.{bytes_for, elements_words, step_bits}
-use Rattle.capnp_objects.specs.Spending.{after}
+use Rattle.capnp_objects.specs.Spending.{after_charge}
 use Rattle.capnp_objects.specs.declared.object.Purpose.TheVariants.{Value}
 use Rattle.capnp_readers.specs.declared.readers.PointerReader.{PointerReader}
 use Rattle.capnp_readers.specs.declared.readers.struct_reader.StructPlace.{StructPlace}
@@ -120,6 +120,7 @@ module _ {A : Type 0} (g : Ghosts A) where
   IsTarget from m m' Null = (word_of (read_by from) ≡ 0) × (m' ≡ m)
   IsTarget from m m' (Cap i) =
       (a : Target) × FollowsTo (read_by from) a × (a.word % 2 ^ 32 ≡ 3) × (i ≡ upper_half a.word)
-      × Affords (read_by from).charging m a.pads × (m' ≡ after (read_by from).charging m a.pads 1)
+      × Affords (read_by from).charging m a.pads
+      × (m' ≡ after_charge (read_by from).charging m a.pads 1)
   IsTarget from m m' (Struct r) = IsStructThere from m m' r
   IsTarget from m m' (List r) = IsListThere from m m' r

@@ -44,10 +44,10 @@ HoldsPointer size sections = ⊥
 
 -- The number of words from the elements' start to the pointers of element i: in a struct they come
 -- after its data.
-abbrev pub pointers_behind : ElementSize → StructSize → ℕ → ℕ
-pointers_behind InlineComposite sections i =
+abbrev pub pointers_offset : ElementSize → StructSize → ℕ → ℕ
+pointers_offset InlineComposite sections i =
     i * (sections.data_words + sections.pointers) + sections.data_words
-pointers_behind size sections i = i
+pointers_offset size sections i = i
 
 -- The number of bits from the start of an element to the start of the next.
 abbrev pub step_bits : ElementSize → StructSize → ℕ

@@ -17,7 +17,7 @@ use Rattle.capnp_arena_traits.specs.declared.arena.reader_arena.ReaderArena.{Gho
 use Rattle.capnp_format.specs.Path.{tree_at, struct_at}
 use Rattle.capnp_objects.specs.Expected.{narrow_elements, narrow_structs}
 use Rattle.capnp_objects.specs.Outcomes.{MeansThere}
-use Rattle.capnp_objects.specs.Reading.{Reading, behind, reading_at, source_start, word_of}
+use Rattle.capnp_objects.specs.Reading.{Reading, place_past, reading_at, source_start, word_of}
 use Rattle.capnp_objects.specs.Source.{levels}
 use Rattle.capnp_objects.specs.declared.source.Source.TheVariants.{Default}
 use Rattle.capnp_readers.specs.Readers.{read_by}
@@ -116,14 +116,15 @@ pub record StaysIn (x y : Reading) : Type 0 where
 abbrev pub tree_cost : (r : Reading) (ts : Trees) (c : ℕ) → MeansAll r.segments r.levels r.segment r.at ts c → ℕ → ℕ
 tree_cost r no_trees c all i = 0
 tree_cost r (tree t ts) c all zero = all.0
-tree_cost r (tree t ts) c all (suc i) = tree_cost (behind r 1) ts all.1 all.3 i
+tree_cost r (tree t ts) c all (suc i) = tree_cost (place_past r 1) ts all.1 all.3 i
 
 -- What the first child of element i of these costs, which consecutive elements of d data words and q
 -- pointers from the place r on mean; 0 if there is none.
 abbrev pub first_cost : (r : Reading) (d q : ℕ) (es : Elements) (c : ℕ) → MeansElements r.segments r.levels r.segment r.at d q es c → ℕ → ℕ
 first_cost r d q no_elements c all i = 0
-first_cost r d q (element ws ts es) c all zero = tree_cost (behind r d) ts all.0 all.5 0
-first_cost r d q (element ws ts es) c all (suc i) = first_cost (behind (behind r d) q) d q es all.1 all.6 i
+first_cost r d q (element ws ts es) c all zero = tree_cost (place_past r d) ts all.0 all.5 0
+first_cost r d q (element ws ts es) c all (suc i) = first_cost
+    (place_past (place_past r d) q) d q es all.1 all.6 i
 
 module _ {A : Type 0} (g : Ghosts A) where
   -- The place that a call reads: the pointer's own, or the first word of the default if the pointer

@@ -5,7 +5,7 @@
 ghost use Rattle.std.specs.Prelude.{◌≡◌, ◌↔◌, ◌-◌, ◌≤◌, ◌∷◌, ℕ, IsOk, length};
 ghost use Rattle.capnp_words.specs.Meter.{Meter};
 ghost use Rattle.capnp_format.specs.Tree.{Tree};
-ghost use Rattle.capnp_format.specs.Canonical.{Stands, charge, trim};
+ghost use Rattle.capnp_format.specs.Canonical.{HasCanonicalAt, charge, trim};
 ghost use Rattle.capnp_format.specs.Segments.{words_at, AreWords};
 ghost use Rattle.capnp_objects.specs.Outcomes.{MeansThere, Reads};
 ghost use Rattle.capnp_objects.specs.Spending.{Paid};
@@ -31,7 +31,7 @@ pub fn copy_is_answered()
     ensures { (r q : Reading) (m m' : Meter) (h : ℕ) (t : Tree)
         → AreWords r.segments → Reads canonical r m m' t
         → q.levels ≡ r.levels → q.charging ≡ r.charging → h ≤ length (segment_read q)
-        → Stands q.segments q.segment q.at h (trim t)
+        → HasCanonicalAt q.segments q.segment q.at h (trim t)
         → CanBeFound q (progress h m) }
 {}
 

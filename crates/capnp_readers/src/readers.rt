@@ -14,7 +14,7 @@ ghost use Rattle.capnp_objects.specs.Refusals.{NotRead, CanBeRead};
 ghost use Rattle.capnp_objects.specs.Objects.{IsHeld};
 ghost use Rattle.capnp_objects.specs.Reading.{Reading, source_start, reading_at, word_of};
 ghost use Rattle.capnp_objects.specs.Objects.{IsFew, IsObject};
-ghost use Rattle.capnp_objects.specs.Expected.{expectation, struct_expected, list_expected, text_expected, data_expected, CanBeGiven, IsGiven};
+ghost use Rattle.capnp_objects.specs.Expected.{expectation, struct_expected, list_expected, text_expected, data_expected, HasExpected, IsExpected};
 ghost use Rattle.capnp_words.specs.declared.wire_pointer.PointerType.{PointerType};
 ghost use Rattle.capnp_objects.specs.Types.{IsOfType, HasNoType};
 ghost use Rattle.capnp_format.specs.Word.{lower_half, upper_half};
@@ -263,11 +263,12 @@ impl<'a, A: ReaderArena> PointerReader<'a, A> {
         ensures object { IfOk result (λ x.
             IsObject Value (reading_at A.ReaderArena x.0.source x.0.place (pos 1))
             lim.old lim.new x.1) }
-        ensures given { IfOk result (λ x. IsGiven expected (read_by A.ReaderArena x.0).levels x.1) }
+        ensures given { IfOk result
+            (λ x. IsExpected expected (read_by A.ReaderArena x.0).levels x.1) }
         ensures few { IfOk result (λ x. IsFew x.1) }
         ensures exactly { IsOk result ↔ WhereRead A.ReaderArena
             (record { from = self.entry; expected = expectation expected; default = default.entry })
-            (λ p. CanBeGiven (expectation expected) (read_by A.ReaderArena p) lim.old) }
+            (λ p. HasExpected (expectation expected) (read_by A.ReaderArena p) lim.old) }
         ensures refused { IfErr result (IsRefused A.ReaderArena
             (record { from = self.entry; expected = expectation expected; default = default.entry })
             lim.old lim.new) }
@@ -311,7 +312,7 @@ impl<'a, A: ReaderArena> PointerReader<'a, A> {
             (λ p. IsStructRead A.ReaderArena p lim.old lim.new r)) }
         ensures exactly { IsOk result ↔ WhereRead A.ReaderArena
             (record { from = self.entry; expected = struct_expected; default = default.entry })
-            (λ p. CanBeGiven struct_expected (read_by A.ReaderArena p) lim.old) }
+            (λ p. HasExpected struct_expected (read_by A.ReaderArena p) lim.old) }
         ensures refused { IfErr result (IsRefused A.ReaderArena
             (record { from = self.entry; expected = struct_expected; default = default.entry })
             lim.old lim.new) }
@@ -370,7 +371,7 @@ impl<'a, A: ReaderArena> PointerReader<'a, A> {
             (λ p. IsListRead A.ReaderArena size p lim.old lim.new r)) }
         ensures exactly { let size = expected_element_size in IsOk result ↔ WhereRead A.ReaderArena
             (record { from = self.entry; expected = list_expected size; default = default.entry })
-            (λ p. CanBeGiven (list_expected size) (read_by A.ReaderArena p) lim.old) }
+            (λ p. HasExpected (list_expected size) (read_by A.ReaderArena p) lim.old) }
         ensures refused { let size = expected_element_size in IfErr result (IsRefused A.ReaderArena
             (record { from = self.entry; expected = list_expected size; default = default.entry })
             lim.old lim.new) }
@@ -427,7 +428,7 @@ impl<'a, A: ReaderArena> PointerReader<'a, A> {
             (λ p. AreBytesRead A.ReaderArena 1 p lim.old lim.new bytes.now)) }
         ensures exactly { IsOk result ↔ WhereRead A.ReaderArena
             (record { from = self.entry; expected = text_expected; default = default.entry })
-            (λ p. CanBeGiven text_expected (read_by A.ReaderArena p) lim.old) }
+            (λ p. HasExpected text_expected (read_by A.ReaderArena p) lim.old) }
         ensures refused { IfErr result (IsRefused A.ReaderArena
             (record { from = self.entry; expected = text_expected; default = default.entry })
             lim.old lim.new) }
@@ -473,7 +474,7 @@ impl<'a, A: ReaderArena> PointerReader<'a, A> {
             (λ p. AreBytesRead A.ReaderArena 0 p lim.old lim.new bytes.now)) }
         ensures exactly { IsOk result ↔ WhereRead A.ReaderArena
             (record { from = self.now; expected = data_expected; default = default.entry })
-            (λ p. CanBeGiven data_expected (read_by A.ReaderArena p) lim.old) }
+            (λ p. HasExpected data_expected (read_by A.ReaderArena p) lim.old) }
         ensures refused { IfErr result (IsRefused A.ReaderArena
             (record { from = self.now; expected = data_expected; default = default.entry })
             lim.old lim.new) }

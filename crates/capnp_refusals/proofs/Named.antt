@@ -7,7 +7,7 @@ use Rattle.capnp_format.specs.Tree.{Tree, Null, Trees, Elements, tree, element}
 use Rattle.capnp_objects.specs.declared.object.Purpose.TheVariants.{Value}
 use Rattle.capnp_objects.specs.Enter.{Shape, nothing, capability, struct, flat, pointers, structs, read}
 use Rattle.capnp_objects.specs.Metered.{Metered, answer, onward, outcome, ◌>>>◌}
-use Rattle.capnp_objects.specs.Reading.{Reading, behind, words_from}
+use Rattle.capnp_objects.specs.Reading.{Reading, place_past, words_from}
 use Rattle.capnp_objects.specs.Values.{object_value, permit, read_element_values, read_values, value, value_within}
 use Rattle.capnp_objects.specs.Wanted.{Form, canonical, plain}
 use Rattle.capnp_pointers.specs.Measure.{fold_children, fold_elements, fold_pointers}
@@ -63,15 +63,15 @@ module _ (f : Reading → Metered Finding) (g : Reading → Metered Tree) (same 
   pub pointers_end : (i : ℕ) (r : Reading) (m : Meter) → search_ending (fold_pointers (unless_found f) i r None m) ≡ ending (read_values g i r m)
   pointers_end zero r m = refl
   pointers_end (suc i) r m =
-      next (fold_pointers (unless_found f) i (behind r 1)) (λ t. read_values g i (behind r 1) >>> λ ts. answer (tree t ts)) (f r m) (g r m)
-      (pointers_stay f i (behind r 1)) (λ t m'. pointers_end i (behind r 1) m' ∙ sym (made (tree t) (read_values g i (behind r 1) m'))) (same r m)
+      next (fold_pointers (unless_found f) i (place_past r 1)) (λ t. read_values g i (place_past r 1) >>> λ ts. answer (tree t ts)) (f r m) (g r m)
+      (pointers_stay f i (place_past r 1)) (λ t m'. pointers_end i (place_past r 1) m' ∙ sym (made (tree t) (read_values g i (place_past r 1) m'))) (same r m)
 
   pub elements_end : (d q n : ℕ) (r : Reading) (m : Meter) → search_ending (fold_elements (unless_found f) d q n r None m) ≡ ending (read_element_values g d q n r m)
   elements_end d q zero r m = refl
   elements_end d q (suc n) r m =
-      next (fold_elements (unless_found f) d q n (behind r (d + q))) (λ ts. read_element_values g d q n (behind r (d + q)) >>> λ es. answer (element (words_from r d) ts es)) _ _
-      (elements_stay f d q n (behind r (d + q))) (λ ts m'. elements_end d q n (behind r (d + q)) m' ∙ sym (made (element (words_from r d) ts) (read_element_values g d q n (behind r (d + q)) m')))
-      (pointers_end q (behind r d) m)
+      next (fold_elements (unless_found f) d q n (place_past r (d + q))) (λ ts. read_element_values g d q n (place_past r (d + q)) >>> λ es. answer (element (words_from r d) ts es)) _ _
+      (elements_stay f d q n (place_past r (d + q))) (λ ts m'. elements_end d q n (place_past r (d + q)) m' ∙ sym (made (element (words_from r d) ts) (read_element_values g d q n (place_past r (d + q)) m')))
+      (pointers_end q (place_past r d) m)
 
   pub children_end : (r : Reading) (o : Shape) (m : Meter) → search_ending (fold_children (unless_found f) r o None m) ≡ ending (object_value g (λ s p. record r { segment = s; at = p }) o m)
   children_end r nothing m = refl
@@ -84,7 +84,7 @@ module _ (f : Reading → Metered Finding) (g : Reading → Metered Tree) (same 
 -- Without a level there are no children.
 nulls : (i : ℕ) (r : Reading) (m : Meter) → ending (read_values (λ s. answer Null) i r m) ≡ (Some None, m)
 nulls zero r m = refl
-nulls (suc i) r m = made _ (read_values (λ s. answer Null) i (behind r 1) m) ∙ nulls i (behind r 1) m
+nulls (suc i) r m = made _ (read_values (λ s. answer Null) i (place_past r 1) m) ∙ nulls i (place_past r 1) m
 
 after_nulls : (o : Reading → Metered Elements) (f : Trees → Elements → Elements) (r : Reading) (m : Meter) (x : Result Trees ErrorKind × Meter) → ending (o r m) ≡ (Some None, m) → ending x ≡ (Some None, m) → ending (onward (λ ts. o r >>> λ es. answer (f ts es)) x) ≡ (Some None, m)
 after_nulls o f r m (Ok ts, m') rest e =
@@ -95,8 +95,8 @@ after_nulls o f r m (Err k, m') rest e = e
 null_elements : (d q n : ℕ) (r : Reading) (m : Meter) → ending (read_element_values (λ s. answer Null) d q n r m) ≡ (Some None, m)
 null_elements d q zero r m = refl
 null_elements d q (suc n) r m =
-    after_nulls (read_element_values (λ s. answer Null) d q n) (element (words_from r d)) (behind r (d + q)) m (read_values (λ s. answer Null) q (behind r d) m)
-    (null_elements d q n (behind r (d + q)) m) (nulls q (behind r d) m)
+    after_nulls (read_element_values (λ s. answer Null) d q n) (element (words_from r d)) (place_past r (d + q)) m (read_values (λ s. answer Null) q (place_past r d) m)
+    (null_elements d q n (place_past r (d + q)) m) (nulls q (place_past r d) m)
 
 none_below : (r s : Reading) (o : Shape) (m : Meter) → ending (object_value (λ s. answer Null) (λ a b. r) o m) ≡ (Some None, m)
 none_below r s nothing m = refl

@@ -13,7 +13,7 @@ use Rattle.capnp_objects.specs.declared.object.Purpose.TheVariants.{Value}
 use Rattle.capnp_objects.specs.Enter.{Shape, object_shape, read, result_shape}
 use Rattle.capnp_objects.specs.Metered.{Metered, answer, onward, outcome, ◌>>>◌}
 use Rattle.capnp_objects.specs.Objects.{IsObject}
-use Rattle.capnp_objects.specs.Reading.{Reading, behind}
+use Rattle.capnp_objects.specs.Reading.{Reading, place_past}
 use Rattle.capnp_objects.specs.Refusals.{NotRead}
 use Rattle.capnp_objects.proofs.Computed.{object_is, stopped_is}
 use Rattle.capnp_pointers.specs.Measure.{fold_children, fold_elements, fold_pointers}
@@ -112,16 +112,16 @@ structs_inside purpose r m m' x start size i w q is wide many object =
 -- Once a pointer is found, the search of the pointers after it finds the same.
 pub pointers_stay : (f : Reading → Metered Finding) (i : ℕ) (r : Reading) (p : RefusedPointer) (m : Meter) → fold_pointers (unless_found f) i r (Some p) m ≡ (Ok (Some p), m)
 pointers_stay f zero r p m = refl
-pointers_stay f (suc i) r p m = pointers_stay f i (behind r 1) p m
+pointers_stay f (suc i) r p m = pointers_stay f i (place_past r 1) p m
 
 pub elements_stay : (f : Reading → Metered Finding) (d q n : ℕ) (r : Reading) (p : RefusedPointer) (m : Meter) → fold_elements (unless_found f) d q n r (Some p) m ≡ (Ok (Some p), m)
 elements_stay f d q zero r p m = refl
 elements_stay f d q (suc n) r p m =
-    ap (onward (fold_elements (unless_found f) d q n (behind r (d + q)))) (pointers_stay f q (behind r d) p m) ∙ elements_stay f d q n (behind r (d + q)) p m
+    ap (onward (fold_elements (unless_found f) d q n (place_past r (d + q)))) (pointers_stay f q (place_past r d) p m) ∙ elements_stay f d q n (place_past r (d + q)) p m
 
 -- A pointer is found at the first of several pointers, or among those of the first element.
 pub pointer_found : (f : Reading → Metered Finding) (r : Reading) (i : ℕ) (p : RefusedPointer) (m m' : Meter) → f r m ≡ (Ok (Some p), m') → fold_pointers (unless_found f) (suc i) r None m ≡ (Ok (Some p), m')
-pointer_found f r i p m m' e = ap (onward (fold_pointers (unless_found f) i (behind r 1))) e ∙ pointers_stay f i (behind r 1) p m'
+pointer_found f r i p m m' e = ap (onward (fold_pointers (unless_found f) i (place_past r 1))) e ∙ pointers_stay f i (place_past r 1) p m'
 
-pub row_found : (f : Reading → Metered Finding) (r : Reading) (d q n : ℕ) (p : RefusedPointer) (m m' : Meter) → fold_pointers (unless_found f) q (behind r d) None m ≡ (Ok (Some p), m') → fold_elements (unless_found f) d q (suc n) r None m ≡ (Ok (Some p), m')
-row_found f r d q n p m m' e = ap (onward (fold_elements (unless_found f) d q n (behind r (d + q)))) e ∙ elements_stay f d q n (behind r (d + q)) p m'
+pub row_found : (f : Reading → Metered Finding) (r : Reading) (d q n : ℕ) (p : RefusedPointer) (m m' : Meter) → fold_pointers (unless_found f) q (place_past r d) None m ≡ (Ok (Some p), m') → fold_elements (unless_found f) d q (suc n) r None m ≡ (Ok (Some p), m')
+row_found f r d q n p m m' e = ap (onward (fold_elements (unless_found f) d q n (place_past r (d + q)))) e ∙ elements_stay f d q n (place_past r (d + q)) p m'

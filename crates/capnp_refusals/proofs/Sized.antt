@@ -6,7 +6,7 @@ use Rattle.capnp_words.specs.Meter.{Meter}
 use Rattle.capnp_objects.specs.declared.object.Purpose.TheVariants.{Size}
 use Rattle.capnp_objects.specs.Enter.{Shape, nothing, capability, struct, flat, pointers, structs, read}
 use Rattle.capnp_objects.specs.Metered.{Metered, answer, onward, outcome, ◌>>>◌}
-use Rattle.capnp_objects.specs.Reading.{Reading, behind}
+use Rattle.capnp_objects.specs.Reading.{Reading, place_past}
 use Rattle.capnp_pointers.specs.Measure.{add_size, fold_children, fold_elements, fold_pointers, measure_within, shape_size}
 use Rattle.capnp_pointers.specs.declared.pointers.sizes.MessageSize.{MessageSize}
 use Rattle.capnp_messages.specs.declared.messages.command.Command.TheVariants.{Size as SizeCommand}
@@ -29,12 +29,12 @@ module _ (f : Reading → Metered Finding) (g : Reading → MessageSize → Mete
   pointers_sized : (i : ℕ) (r : Reading) (z : MessageSize) (m : Meter) → Sized (fold_pointers (unless_found f) i r None m) (fold_pointers g i r z m)
   pointers_sized zero r z m = refl
   pointers_sized (suc i) r z m =
-      after_step (fold_pointers (unless_found f) i (behind r 1)) (fold_pointers g i (behind r 1)) (f r m) (g r z m) (pointers_stay f i (behind r 1)) (pointers_sized i (behind r 1)) (same r z m)
+      after_step (fold_pointers (unless_found f) i (place_past r 1)) (fold_pointers g i (place_past r 1)) (f r m) (g r z m) (pointers_stay f i (place_past r 1)) (pointers_sized i (place_past r 1)) (same r z m)
 
   elements_sized : (d q n : ℕ) (r : Reading) (z : MessageSize) (m : Meter) → Sized (fold_elements (unless_found f) d q n r None m) (fold_elements g d q n r z m)
   elements_sized d q zero r z m = refl
   elements_sized d q (suc n) r z m =
-      after_step (fold_elements (unless_found f) d q n (behind r (d + q))) (fold_elements g d q n (behind r (d + q))) _ _ (elements_stay f d q n (behind r (d + q))) (elements_sized d q n (behind r (d + q))) (pointers_sized q (behind r d) z m)
+      after_step (fold_elements (unless_found f) d q n (place_past r (d + q))) (fold_elements g d q n (place_past r (d + q))) _ _ (elements_stay f d q n (place_past r (d + q))) (elements_sized d q n (place_past r (d + q))) (pointers_sized q (place_past r d) z m)
 
   pub children_sized : (r : Reading) (o : Shape) (z : MessageSize) (m : Meter) → Sized (fold_children (unless_found f) r o None m) (fold_children g r o z m)
   children_sized r nothing z m = refl

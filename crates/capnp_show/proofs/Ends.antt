@@ -9,9 +9,9 @@ use Rattle.capnp_format.specs.Tree.{Tree, Struct, Trees, no_trees, tree, count, 
 use Rattle.capnp_arena.specs.declared.arena.reader_arena_impl.ReaderOptions.{ReaderOptions}
 use Rattle.capnp_objects.specs.Metered.{onward}
 use Rattle.capnp_objects.specs.Outcomes.{Reads}
-use Rattle.capnp_objects.specs.Reading.{Reading, behind, words_from}
+use Rattle.capnp_objects.specs.Reading.{Reading, place_past, words_from}
 use Rattle.capnp_objects.specs.Source.{levels}
-use Rattle.capnp_objects.specs.Spending.{after, pointers_in}
+use Rattle.capnp_objects.specs.Spending.{after_charge, pointers_in}
 use Rattle.capnp_objects.specs.Values.{read_values, value_within, value}
 use Rattle.capnp_objects.specs.Wanted.{plain}
 use Rattle.capnp_objects.proofs.Budgets.{affords_rest, paid_one}
@@ -28,7 +28,7 @@ use Rattle.capnp_show.proofs.Steps.{shows_as}
 use Rattle.capnp_show.proofs.Told.{element_told, value_told}
 
 -- A value that a place means is read there, if the limit covers it.
-abbrev read_there : (r : Reading) (t : Tree) (m : Meter) (k : ℕ) → Means r.segments r.levels r.segment r.at t k → Affords r.charging m k → Reads plain r m (after r.charging m k (pointers_in t)) t
+abbrev read_there : (r : Reading) (t : Tree) (m : Meter) (k : ℕ) → Means r.segments r.levels r.segment r.at t k → Affords r.charging m k → Reads plain r m (after_charge r.charging m k (pointers_in t)) t
 read_there r t m k means covered = record { cost = k; means = means; takes = λ e. absurd (e refl); covers = covered; spent = refl }
 
 -- Consecutive pointers that mean ts are read as ts.
@@ -37,7 +37,7 @@ children_read : (r : Reading) (ts : Trees) (p c : ℕ) (m : Meter) → MeansAll 
 children_read r no_trees p c m means covered = (m, refl)
 children_read r (tree t ts) p c m (k, l, first, rest, whole) covered =
     let here : Reading = record r { at = p } in
-    let mid : Meter = after r.charging m k (pointers_in t) in
+    let mid : Meter = after_charge r.charging m k (pointers_in t) in
     let read = read_there here t m k first (affords_less r.charging m k c (omega (arith, whole)) covered) in
     let one : value plain here m ≡ (Ok t, mid) = reads_is plain here m mid t read in
     let (m', all) = children_read r ts (p + 1) l mid rest (affords_rest l c (paid_one read) (omega (arith, whole)) covered) in
@@ -47,12 +47,12 @@ children_read r (tree t ts) p c m (k, l, first, rest, whole) covered =
 pub end_told : (d : ℕ) (e : PathEnd) (s : Shown) (t : Tree) (c : ℕ) → EndMeans e t c → Affords (end_place e).charging s.lim c → depth t ≤ d →
     (m : Meter) × (show_end d e s ≡ record { text = s.text ++ value_line t; lim = m; sound = s.sound })
 end_told d (to_pointer r) s t c means covered deep =
-    let m : Meter = after r.charging s.lim c (pointers_in t) in
+    let m : Meter = after_charge r.charging s.lim c (pointers_in t) in
     (m, value_told d r s m t (reads_is plain r s.lim m t (read_there r t s.lim c means covered)) deep)
 end_told d (to_element r n q) s t c (ws, ts, is, long, counts, here, means) covered deep =
     let (m, read) = children_read r ts (r.at + n) c s.lim means covered in
     let same : words_from r n ≡ ws = ap (λ k. words_from r k) (sym long) ∙ here in
-    let many : read_values (value_within plain r.levels) q (behind r n) s.lim ≡ (Ok ts, m) = ap (λ k. read_values (value_within plain r.levels) k (behind r n) s.lim) (sym counts) ∙ read in
+    let many : read_values (value_within plain r.levels) q (place_past r n) s.lim ≡ (Ok ts, m) = ap (λ k. read_values (value_within plain r.levels) k (place_past r n) s.lim) (sym counts) ∙ read in
     (m, element_told d r n q s m ts many (rw is at deep) ∙ ap (λ v. record { text = s.text ++ value_line v; lim = m; sound = s.sound }) (ap (λ xs. Struct xs ts) same ∙ sym is))
 
 -- ---- a whole line

@@ -9,7 +9,7 @@ use Rattle.capnp_words.specs.Names.{name_of}
 use Rattle.capnp_format.specs.Numbers.{words_for, unpacked}
 use Rattle.capnp_objects.specs.declared.object.Purpose.TheVariants.{Value}
 use Rattle.capnp_objects.specs.Enter.{Shape, nothing, capability, struct, flat, pointers, structs, read}
-use Rattle.capnp_objects.specs.Reading.{Reading, behind, word_of, words_from}
+use Rattle.capnp_objects.specs.Reading.{Reading, place_past, word_of, words_from}
 use Rattle.capnp_objects.proofs.Decided.{same_or_not}
 use Rattle.capnp_messages.specs.Parts.{inside}
 use Rattle.capnp_show.specs.Line.{data_member, flat_member, member}
@@ -33,7 +33,7 @@ pub each_longer : (f : Reading → Shown → Shown) → Lengthens f → (i k : �
 each_longer f h i zero r s = omega arith
 each_longer f h i (suc k) r s =
     let t : Shown = add (comma i) s in
-    omega (arith, added_longer (comma i) s, h r t, each_longer f h (suc i) k (behind r 1) (f r t))
+    omega (arith, added_longer (comma i) s, h r t, each_longer f h (suc i) k (place_past r 1) (f r t))
 
 pub array_longer : (f : Reading → Shown → Shown) → Lengthens f → ArrayLengthens (show_array f)
 array_longer f h b n r s =
@@ -43,14 +43,14 @@ array_longer f h b n r s =
 pub struct_longer : (below : ShowsArray) → ArrayLengthens below → (d q : ℕ) (r : Reading) (s : Shown) → Longer s (show_struct below d q r s)
 struct_longer below h d q r s =
     let t : Shown = add (data_member (words_from r d) ++ codes ",") s in
-    omega (arith, added_longer (data_member (words_from r d) ++ codes ",") s, h false q (behind r d) t)
+    omega (arith, added_longer (data_member (words_from r d) ++ codes ",") s, h false q (place_past r d) t)
 
 pub elements_longer : (below : ShowsArray) → ArrayLengthens below → (d q i k : ℕ) (r : Reading) (s : Shown) → Longer s (show_elements below d q i k r s)
 elements_longer below h d q i zero r s = omega arith
 elements_longer below h d q i (suc k) r s =
     let t : Shown = add (comma i) s in
     let u : Shown = add (codes "{") t in
-    omega (arith, added_longer (comma i) s, added_longer (codes "{") t, struct_longer below h d q r u, elements_longer below h d q (suc i) k (behind r (d + q)) (show_struct below d q r u))
+    omega (arith, added_longer (comma i) s, added_longer (codes "{") t, struct_longer below h d q r u, elements_longer below h d q (suc i) k (place_past r (d + q)) (show_struct below d q r u))
 
 pub structs_longer : (below : ShowsArray) → ArrayLengthens below → (d q n : ℕ) (r : Reading) (s : Shown) → Longer (add (sizes_members d q) s) (show_structs below d q n r s)
 structs_longer below h d q n r s = elim (same_or_not (d + q) 0) [
@@ -97,7 +97,7 @@ shown_longer d = place_longer (array_within d) (within_longer d)
 pub elements_rest : (below : ShowsArray) → ArrayLengthens below → (d q i k : ℕ) (r : Reading) (s whole : Shown) → whole ≡ show_elements below d q i (suc k) r s → Longer (show_struct below d q r (add (codes "{") (add (comma i) s))) whole
 elements_rest below h d q i k r s whole e =
     let t : Shown = show_struct below d q r (add (codes "{") (add (comma i) s)) in
-    omega (arith, ap (λ z. length z.text) e, elements_longer below h d q (suc i) k (behind r (d + q)) t)
+    omega (arith, ap (λ z. length z.text) e, elements_longer below h d q (suc i) k (place_past r (d + q)) t)
 
 pub elements_opened : (below : ShowsArray) → ArrayLengthens below → (d q i k : ℕ) (r : Reading) (s whole : Shown) → whole ≡ show_elements below d q i (suc k) r s → Longer (add (codes "{") (add (comma i) s)) whole
 elements_opened below h d q i k r s whole e =

@@ -11,7 +11,7 @@ use Rattle.capnp_objects.specs.declared.object.Place.{Place}
 use Rattle.capnp_objects.specs.declared.object.Object.{Object}
 use Rattle.capnp_objects.specs.declared.object.Object.TheVariants.{Null, Capability, Struct, Flat, Pointers, Structs}
 use Rattle.capnp_objects.specs.declared.object.Purpose.TheVariants.{Value}
-use Rattle.capnp_objects.specs.Demands.{claim}
+use Rattle.capnp_objects.specs.Demands.{claimed_words}
 use Rattle.capnp_objects.specs.Objects.{IsHeld, IsObject}
 use Rattle.capnp_objects.specs.Reading.{Reading, segment_read, words_from}
 use Rattle.capnp_objects.specs.Entering.{IsObjectHeld}
@@ -43,7 +43,7 @@ pub record FlatRoom (r : Reading) (start : Place) (size : ElementSize) (n : ℕ)
 pub flat_room : (r : Reading) (start : Place) (size : ElementSize) (n : ℕ) → IsObjectRead r (Flat start size n) → FlatRoom r start size n
 flat_room r start size n read =
     let (a, o, z, small, (held, seg, at), is, many) = read.object_of in
-    let claims : claim a.word ≡ words_for (size_number size) n = claim_list a.word (size_number size) z (sym is) ∙ claim_flat (size_number size) (list_count a.word) (rw is small) ∙ ap (words_for (size_number size)) (sym many) in
+    let claims : claimed_words a.word ≡ words_for (size_number size) n = claim_list a.word (size_number size) z (sym is) ∙ claim_flat (size_number size) (list_count a.word) (rw is small) ∙ ap (words_for (size_number size)) (sym many) in
     record { held = held; five = rw is small; inside = rw seg (omega (arith, o.meets.claims, at, claims)) }
 
 -- A place inside of a segment is below 2^32 words.

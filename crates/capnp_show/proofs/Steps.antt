@@ -7,7 +7,7 @@ use Rattle.capnp_words.specs.declared.error.ErrorKind.{ErrorKind}
 use Rattle.capnp_words.specs.Meter.{Meter}
 use Rattle.capnp_objects.specs.declared.object.Purpose.TheVariants.{Value}
 use Rattle.capnp_objects.specs.Enter.{Shape, read}
-use Rattle.capnp_objects.specs.Reading.{Reading, behind, word_of}
+use Rattle.capnp_objects.specs.Reading.{Reading, place_past, word_of}
 use Rattle.capnp_show.specs.Adding.{Adds}
 use Rattle.capnp_show.specs.Line.{member}
 use Rattle.capnp_show.specs.Shown.{IsPlain, Shown, Shows, ShowsArray, add, array_begin, array_within, comma, cut_text, show_each, show_elements, show_place, show_result, show_struct, show_structs, show_within, shown_json, sizes_members}
@@ -57,12 +57,12 @@ pub each_rest : (d i k : ℕ) (r : Reading) (s whole : Shown) → whole ≡ add 
 each_rest d i k r s whole e =
     let t : Shown = add (comma i) s in
     let u : Shown = show_within d r t in
-    omega (arith, ap (λ z. length z.text) e, shown_longer d r t, each_longer (show_within d) (shown_longer d) (suc i) k (behind r 1) u, added_longer (codes "]}") (show_each (show_within d) (suc i) k (behind r 1) u))
+    omega (arith, ap (λ z. length z.text) e, shown_longer d r t, each_longer (show_within d) (shown_longer d) (suc i) k (place_past r 1) u, added_longer (codes "]}") (show_each (show_within d) (suc i) k (place_past r 1) u))
 
 pub each_after : (d i k : ℕ) (r : Reading) (s whole : Shown) → whole ≡ add (codes "]}") (show_each (show_within d) i (suc k) r s) → Longer (show_within d r (add (comma i) s)) whole
 each_after d i k r s whole e =
     let u : Shown = show_within d r (add (comma i) s) in
-    omega (arith, ap (λ z. length z.text) e, each_longer (show_within d) (shown_longer d) (suc i) k (behind r 1) u, added_longer (codes "]}") (show_each (show_within d) (suc i) k (behind r 1) u))
+    omega (arith, ap (λ z. length z.text) e, each_longer (show_within d) (shown_longer d) (suc i) k (place_past r 1) u, added_longer (codes "]}") (show_each (show_within d) (suc i) k (place_past r 1) u))
 
 -- A place whose pointer is null, and one whose object is read.
 pub place_null : (below : ShowsArray) (r : Reading) (s : Shown) → word_of r ≡ 0 → show_place below r s ≡ add (codes "null") s
@@ -114,8 +114,8 @@ place_written d r s o m some begun e h =
 
 -- What the whole array is, from piece i on.
 pub each_whole : (d count i : ℕ) (b : Bool) (r : Reading) (s0 s : Shown) → 0 < d → i < count →
-    ((k : ℕ) → i + k ≡ count → show_each (show_within (d - 1)) 0 count r (add (array_begin b) s0) ≡ show_each (show_within (d - 1)) i k (behind r i) s) →
-    array_within d b count r s0 ≡ add (codes "]}") (show_each (show_within (d - 1)) i (suc (count - suc i)) (behind r i) s)
+    ((k : ℕ) → i + k ≡ count → show_each (show_within (d - 1)) 0 count r (add (array_begin b) s0) ≡ show_each (show_within (d - 1)) i k (place_past r i) s) →
+    array_within d b count r s0 ≡ add (codes "]}") (show_each (show_within (d - 1)) i (suc (count - suc i)) (place_past r i) s)
 each_whole d count i b r s0 s which less so_far = array_opens d count b r s0 which ∙ ap (add (codes "]}")) (so_far (suc (count - suc i)) (omega arith))
 
 -- The array when none of its pointers is written.
@@ -125,25 +125,25 @@ array_begun d n b r s some =
     let last : Shown = show_each (show_within (d - 1)) 0 n r t in
     omega (arith, ap (λ z. length z.text) (array_opens d n b r s some), each_longer (show_within (d - 1)) (shown_longer (d - 1)) 0 n r t, added_longer (codes "]}") last)
 
-pub each_first : (f : Reading → Shown → Shown) (count k : ℕ) (r : Reading) (s t : Shown) → 0 + k ≡ count → t ≡ s → show_each f 0 count r s ≡ show_each f 0 k (behind r 0) t
+pub each_first : (f : Reading → Shown → Shown) (count k : ℕ) (r : Reading) (s t : Shown) → 0 + k ≡ count → t ≡ s → show_each f 0 count r s ≡ show_each f 0 k (place_past r 0) t
 each_first f count k r s t all same =
-    ap₂ (λ n p. show_each f 0 n (record r { at = p }) s) (let e : count ≡ k = omega arith in e) (let e : r.at ≡ r.at + 0 = omega arith in e) ∙ ap (show_each f 0 k (behind r 0)) (sym same)
+    ap₂ (λ n p. show_each f 0 n (record r { at = p }) s) (let e : count ≡ k = omega arith in e) (let e : r.at ≡ r.at + 0 = omega arith in e) ∙ ap (show_each f 0 k (place_past r 0)) (sym same)
 
-pub elements_first : (below : ShowsArray) (d q count k : ℕ) (r : Reading) (s : Shown) → 0 + k ≡ count → show_elements below d q 0 count r s ≡ show_elements below d q 0 k (behind r (0 * (d + q))) s
+pub elements_first : (below : ShowsArray) (d q count k : ℕ) (r : Reading) (s : Shown) → 0 + k ≡ count → show_elements below d q 0 count r s ≡ show_elements below d q 0 k (place_past r (0 * (d + q))) s
 elements_first below d q count k r s all =
     ap₂ (λ n p. show_elements below d q 0 n (record r { at = p }) s) (let e : count ≡ k = omega arith in e) (let e : r.at ≡ r.at + 0 * (d + q) = omega arith in e)
 
 -- A comma, a step on the path, a pointer, and the step back.
-pub each_shown : {A B : Type 0} {res : Result B Ended} {x : A} {j3 : Json} (d i : ℕ) (r q : Reading) (j j2 : Json) (t : Text) → IsPlain j → Adds (Ok x) j.text.bytes.items t.bytes.items (comma i) → j2 ≡ record j { text = t } → q ≡ behind r i →
-    (IsPlain j2 → Shows res j3 (show_within d q (shown_json j2))) → Shows res j3 (show_within d (behind r i) (add (comma i) (shown_json j)))
+pub each_shown : {A B : Type 0} {res : Result B Ended} {x : A} {j3 : Json} (d i : ℕ) (r q : Reading) (j j2 : Json) (t : Text) → IsPlain j → Adds (Ok x) j.text.bytes.items t.bytes.items (comma i) → j2 ≡ record j { text = t } → q ≡ place_past r i →
+    (IsPlain j2 → Shows res j3 (show_within d q (shown_json j2))) → Shows res j3 (show_within d (place_past r i) (add (comma i) (shown_json j)))
 each_shown d i r q j j2 t plain comma_added entered at h =
     let with_comma = push_shows j t plain comma_added in
-    shows_as (ap (show_within d (behind r i)) with_comma.written) (shows_after (show_within d) (behind r i) q (record j { text = t }) j2 at entered with_comma.plain h)
+    shows_as (ap (show_within d (place_past r i)) with_comma.written) (shows_after (show_within d) (place_past r i) q (record j { text = t }) j2 at entered with_comma.plain h)
 
-pub each_next : (f : Reading → Shown → Shown) (i count k : ℕ) (r : Reading) (s next whole : Shown) → ((n : ℕ) → i + n ≡ count → whole ≡ show_each f i n (behind r i) s) → i + 1 + k ≡ count → next ≡ f (behind r i) (add (comma i) s) →
-    whole ≡ show_each f (i + 1) k (behind r (i + 1)) next
+pub each_next : (f : Reading → Shown → Shown) (i count k : ℕ) (r : Reading) (s next whole : Shown) → ((n : ℕ) → i + n ≡ count → whole ≡ show_each f i n (place_past r i) s) → i + 1 + k ≡ count → next ≡ f (place_past r i) (add (comma i) s) →
+    whole ≡ show_each f (i + 1) k (place_past r (i + 1)) next
 each_next f i count k r s next whole so_far e is =
-    so_far (suc k) (omega (arith, e)) ∙ ap (show_each f (suc i) k (behind (behind r i) 1)) (sym is)
+    so_far (suc k) (omega (arith, e)) ∙ ap (show_each f (suc i) k (place_past (place_past r i) 1)) (sym is)
     ∙ ap₂ (λ n p. show_each f n k (record r { at = p }) next) (sym (add-one i)) (let e : r.at + i + 1 ≡ r.at + (i + 1) = omega arith in e)
 
 -- ---- the elements of a list of structs
@@ -156,16 +156,16 @@ element_opened i j j2 t u plain comma_added entered brace =
     shows_as (ap (add (codes "{")) with_comma.written) (push_after (record j { text = t }) j2 u entered with_comma.plain brace)
 
 pub elements_whole : (below : ShowsArray) (d q count i : ℕ) (r : Reading) (s0 s : Shown) → i < count →
-    ((k : ℕ) → i + k ≡ count → show_elements below d q 0 count r s0 ≡ show_elements below d q i k (behind r (i * (d + q))) s) →
-    show_elements below d q 0 count r s0 ≡ show_elements below d q i (suc (count - suc i)) (behind r (i * (d + q))) s
+    ((k : ℕ) → i + k ≡ count → show_elements below d q 0 count r s0 ≡ show_elements below d q i k (place_past r (i * (d + q))) s) →
+    show_elements below d q 0 count r s0 ≡ show_elements below d q i (suc (count - suc i)) (place_past r (i * (d + q))) s
 elements_whole below d q count i r s0 s less so_far = so_far (suc (count - suc i)) (omega arith)
 
-pub elements_next : (below : ShowsArray) (d q i count k : ℕ) (r : Reading) (s next whole : Shown) → ((n : ℕ) → i + n ≡ count → whole ≡ show_elements below d q i n (behind r (i * (d + q))) s) → i + 1 + k ≡ count →
-    next ≡ show_struct below d q (behind r (i * (d + q))) (add (codes "{") (add (comma i) s)) → whole ≡ show_elements below d q (i + 1) k (behind r ((i + 1) * (d + q))) next
+pub elements_next : (below : ShowsArray) (d q i count k : ℕ) (r : Reading) (s next whole : Shown) → ((n : ℕ) → i + n ≡ count → whole ≡ show_elements below d q i n (place_past r (i * (d + q))) s) → i + 1 + k ≡ count →
+    next ≡ show_struct below d q (place_past r (i * (d + q))) (add (codes "{") (add (comma i) s)) → whole ≡ show_elements below d q (i + 1) k (place_past r ((i + 1) * (d + q))) next
 elements_next below d q i count k r s next whole so_far e is =
     let w : ℕ = d + q in
     let place : r.at + i * w + w ≡ r.at + (i + 1) * w = omega arith in
-    so_far (suc k) (omega (arith, e)) ∙ ap (show_elements below d q (suc i) k (behind (behind r (i * w)) w)) (sym is)
+    so_far (suc k) (omega (arith, e)) ∙ ap (show_elements below d q (suc i) k (place_past (place_past r (i * w)) w)) (sym is)
     ∙ ap₂ (λ n p. show_elements below d q n k (record r { at = p }) next) (sym (add-one i)) place
 
 -- ---- lists of structs

@@ -14,8 +14,8 @@ use Rattle.capnp_objects.specs.declared.object.Purpose.TheVariants.{Value}
 use Rattle.capnp_objects.specs.Demands.{tag}
 use Rattle.capnp_objects.specs.Enter.{Shape, nothing, capability, struct, pointers, structs, shape, read}
 use Rattle.capnp_objects.specs.Metered.{Metered, answer, onward}
-use Rattle.capnp_objects.specs.Reading.{Reading, behind, word_of, words_from}
-use Rattle.capnp_objects.specs.Spending.{after}
+use Rattle.capnp_objects.specs.Reading.{Reading, place_past, word_of, words_from}
+use Rattle.capnp_objects.specs.Spending.{after_charge}
 use Rattle.capnp_objects.specs.Values.{read_values, read_element_values, object_value, value_within, value}
 use Rattle.capnp_objects.specs.Wanted.{plain}
 use Rattle.capnp_objects.proofs.Computed.{null_is, capability_is, entering_is, stopped_is}
@@ -59,7 +59,7 @@ BlankRead f n k r m = (es : Elements) × (element_count es ≡ k) × (read_eleme
 blanks_read : (f : Reading → Metered Tree) (n k : ℕ) (r : Reading) (m : Meter) → BlankRead f n k r m
 blanks_read f n zero r m = (no_elements, refl, refl)
 blanks_read f n (suc k) r m =
-    let (es, many, read) = blanks_read f n k (behind r (n + 0)) m in
+    let (es, many, read) = blanks_read f n k (place_past r (n + 0)) m in
     (element (words_from r n) no_trees es, ap suc many, ap (onward (λ fs. answer (element (words_from r n) no_trees fs))) read)
 
 nothing_more : (i : ℕ) (s : Shown) → s ≡ with_text s (pieces i []) s.lim
@@ -276,7 +276,7 @@ place_tells d r s below = elim (same_or_not (word_of r) 0) [
     go : nat_eq (word_of r) 0 ≡ false → Ends Value r s.lim → Tells d s (value plain r s.lim) (show_within d r s)
     go some (at_capability a f low covered) =
         let o : Shape = capability (upper_half a.word) in
-        let m1 : Meter = after r.charging s.lim a.pads 1 in
+        let m1 : Meter = after_charge r.charging s.lim a.pads 1 in
         let e = capability_is Value r a s.lim (λ e. absurd (cc e)) f low covered in
         let whole = leaf_is plain r.levels r s.lim m1 o (Ok (Capability (upper_half a.word)), m1) e (λ f at. refl) in
         subst (λ (o : Outcome Tree). Tells d s o (show_within d r s)) (sym whole)
@@ -295,7 +295,7 @@ tells zero d r s e = place_tells d r s (λ some. absurd (omega (arith, some, e))
 tells (suc n) d r s e = place_tells d r s (λ some b is g p y. tells n b (inside r g p) y (ap pred e))
 
 -- The element of a list of structs at a place is shown as the struct that it is.
-pub element_told : (d : ℕ) (r : Reading) (n q : ℕ) (s : Shown) (m : Meter) (ts : Trees) → read_values (value_within plain r.levels) q (behind r n) s.lim ≡ (Ok ts, m) → 1 + depth_all ts ≤ d →
+pub element_told : (d : ℕ) (r : Reading) (n q : ℕ) (s : Shown) (m : Meter) (ts : Trees) → read_values (value_within plain r.levels) q (place_past r n) s.lim ≡ (Ok ts, m) → 1 + depth_all ts ≤ d →
     show_struct (array_within d) n q r (add (codes "{") s) ≡ record { text = s.text ++ value_line (Struct (words_from r n) ts); lim = m; sound = s.sound }
 unfolding array_within
 element_told zero r n q s m ts e deep = absurd (omega arith)

@@ -9,7 +9,7 @@ use Rattle.capnp_words.specs.Names.{name_of}
 use Rattle.capnp_format.specs.Numbers.{words_for, unpacked}
 use Rattle.capnp_objects.specs.declared.object.Purpose.TheVariants.{Value}
 use Rattle.capnp_objects.specs.Enter.{Shape, nothing, capability, struct, flat, pointers, structs, read}
-use Rattle.capnp_objects.specs.Reading.{Reading, behind, word_of, words_from}
+use Rattle.capnp_objects.specs.Reading.{Reading, place_past, word_of, words_from}
 use Rattle.capnp_messages.specs.Parts.{PathEnd, inside, to_element, to_pointer}
 use Rattle.capnp_show.specs.Adding.{max_text}
 use Rattle.capnp_show.specs.Line.{data_member, flat_member, in_quotes, member}
@@ -40,7 +40,7 @@ array_begin false = codes "\"pointers\":["
 -- k pointers from the place r on, the first of them number i. f writes one.
 abbrev pub show_each : (Reading → Shown → Shown) → ℕ → ℕ → Reading → Shown → Shown
 show_each f i zero r s = s
-show_each f i (suc k) r s = show_each f (suc i) k (behind r 1) (f r (add (comma i) s))
+show_each f i (suc k) r s = show_each f (suc i) k (place_past r 1) (f r (add (comma i) s))
 
 -- The array of n pointers of a list or of a struct, which ends an object.
 abbrev pub show_array : (Reading → Shown → Shown) → Bool → ℕ → Reading → Shown → Shown
@@ -59,13 +59,13 @@ ShowsArray = Bool → ℕ → Reading → Shown → Shown
 -- The rest of the object of a struct of d data words and q pointers at the place r.
 abbrev pub show_struct : ShowsArray → ℕ → ℕ → Reading → Shown → Shown
 show_struct below d q r s =
-    below false q (behind r d) (add (data_member (words_from r d) ++ codes ",") s)
+    below false q (place_past r d) (add (data_member (words_from r d) ++ codes ",") s)
 
 -- k elements of a list of structs from the place r on, the first of them number i.
 abbrev pub show_elements : ShowsArray → ℕ → ℕ → ℕ → ℕ → Reading → Shown → Shown
 show_elements below d q i zero r s = s
 show_elements below d q i (suc k) r s =
-    show_elements below d q (suc i) k (behind r (d + q))
+    show_elements below d q (suc i) k (place_past r (d + q))
     (show_struct below d q r (add (codes "{") (add (comma i) s)))
 
 -- The sizes of the elements of a list of structs.

@@ -14,12 +14,12 @@ use Rattle.capnp_framing.proofs.ReadingLemmas.{frame_is_read}
 use Rattle.capnp_words.specs.declared.error.ErrorKind.{ErrorKind}
 use Rattle.capnp_messages.proofs.FramesLemmas.{no_bytes_begin}
 use Rattle.capnp_streams.specs.Asked.{HasAskedAnswer, RefusesAsked}
-use Rattle.capnp_streams.specs.Streams.{AnswerIs, Answers, AreDone, AreFrames, CanBeAnswered, EndsBehind, IsOfDevices}
+use Rattle.capnp_streams.specs.Streams.{AnswerIs, Answers, AreDone, AreFrames, CanBeAnswered, EndsAfter, IsOfDevices}
 use Rattle.capnp_streams.specs.Streams.{Question, Stage, StopsAt, most_words}
 use Rattle.capnp_framing.specs.declared.framing.frame_error.FrameError.{FrameError}
 use Rattle.capnp_framing.specs.declared.framing.frame_error.FrameError.TheVariants.{WriteFailed}
-use Rattle.capnp_streams.specs.declared.streams.fault.Fault.{Fault}
-use Rattle.capnp_streams.specs.declared.streams.fault.Fault.TheVariants.{Frame, Layout, TooManyMessages}
+use Rattle.capnp_streams.specs.declared.streams.fault.StreamError.{StreamError}
+use Rattle.capnp_streams.specs.declared.streams.fault.StreamError.TheVariants.{Frame, Layout, TooManyMessages}
 use Rattle.capnp_streams.specs.declared.streams.runs.Stop.{Stop}
 use Rattle.capnp_streams.specs.declared.streams.runs.Summary.{Summary}
 use Rattle.capnp_streams.specs.declared.streams.task.Task.{Task}
@@ -44,7 +44,7 @@ first_has P most (T ∷ more) left S (first, rest, is, framed, short, others) al
     one_frame_begins T S first begins.front rest begins.behind framed begins.framed (sym is ∙ begins.is) in
     subst P one (All-head P T more all)
 
-stops_so : (task : Task) (more : List Segments) (left : List ℕ) (after : Option (List ℕ)) (failed : Bool) (fault : Fault) →
+stops_so : (task : Task) (more : List Segments) (left : List ℕ) (after : Option (List ℕ)) (failed : Bool) (fault : StreamError) →
     AreFrames (most_words task.limits) more left → All (HasAskedAnswer task.command task) more →
     StopsAt task (Some left) after failed fault → IsOfDevices fault
 stops_so task more left after failed (Frame e) framed all (inl memory) = inl memory
@@ -63,7 +63,7 @@ all_behind P (S ∷ done) more all = all_behind P done more (All-tail P S (done 
 
 -- a run over such messages stops only for memory or a device
 pub step_answerable : {task : Task} {summary : Summary} {P Q : Type 0} (old : Stage)
-    (left between after : Option (List ℕ)) (failed : Bool) (fault : Fault) →
+    (left between after : Option (List ℕ)) (failed : Bool) (fault : StreamError) →
     AreDone task old (record { input = left; output = between }) summary →
     ((fault ≡ Frame WriteFailed) × P) ⊎ (StopsAt task left after failed fault × Q) →
     IsSomeAnd old.input (CanBeAnswered task) → IsOfDevices fault
@@ -86,12 +86,12 @@ step_answerable {task} old left between after failed fault done (inr (stops, sam
 -- a run ends at a message that isn't answered
 pub ends_behind : {W : Type 0} (task : Task) (old new : Stage) (failed : Bool) (stop : Stop) →
     W ⊎ (StopsAt task old.input new.input failed stop.fault × Keeps old.output new.output) →
-    W ⊎ EndsBehind task old new failed stop
+    W ⊎ EndsAfter task old new failed stop
 ends_behind task old new failed stop (inl written) = inl written
 ends_behind task old new failed stop (inr (stops, kept)) = inr (kept, inl stops)
 
 -- an answer was written, or the output has failed
-pub answer_written : {W A E : Type 0} (g : Ghosts W) (from to : W) (q : Question) {result : Result Bool Fault} (written : Result A E)
+pub answer_written : {W A E : Type 0} (g : Ghosts W) (from to : W) (q : Question) {result : Result Bool StreamError} (written : Result A E)
     (holds : Bool) (bytes : List ℕ) → Writes g written from to bytes →
     OnOk written (result ≡ Ok holds) → OnErr written (result ≡ Err (Frame WriteFailed)) →
     AnswerIs q.command q.task q.asked_of holds bytes → Answers g from to q result

@@ -17,8 +17,8 @@ use Rattle.capnp_messages.specs.Roots.RefusesRoot.{no_root, no_budget}
 use Rattle.capnp_streams.specs.Asked.{RefusesCopyAt}
 use Rattle.capnp_streams.specs.Streams.{CountsRefusals, refusals_behind}
 use Rattle.capnp_streams.proofs.PartLemmas.{never_part, not_misplaced}
-use Rattle.capnp_streams.specs.declared.streams.fault.Fault.{Fault}
-use Rattle.capnp_streams.specs.declared.streams.fault.Fault.TheVariants.{Frame}
+use Rattle.capnp_streams.specs.declared.streams.fault.StreamError.{StreamError}
+use Rattle.capnp_streams.specs.declared.streams.fault.StreamError.TheVariants.{Frame}
 
 -- a message isn't refused with AllocationFailed for what it holds
 never_canon : (S : Segments) (limits : ReaderOptions) → RefusesCanon S limits AllocationFailed → ⊥
@@ -38,17 +38,17 @@ copy_counted S limits path {old} {k = k} (inr (refused, same)) =
     same ∙ sym (not_the_allocator k (λ named. never_asked S limits path (subst (λ (x : ErrorKind). RefusesCopyAt S limits path x) named refused)) old)
 
 -- an output that fails counts nothing
-pub written_uncounted : {A E : Type 0} (command : Command) (result : Result Bool Fault) (written : Result A E) (holds : Bool) →
+pub written_uncounted : {A E : Type 0} (command : Command) (result : Result Bool StreamError) (written : Result A E) (holds : Bool) →
     OnOk written (result ≡ Ok holds) → OnErr written (result ≡ Err (Frame WriteFailed)) →
     IfErr result (λ fault. (n : ℕ) → refusals_behind command fault n ≡ n)
 written_uncounted command result (Ok x) holds is failed =
-    subst (λ (r : Result Bool Fault). IfErr r (λ fault. (n : ℕ) → refusals_behind command fault n ≡ n)) (sym is) tt
+    subst (λ (r : Result Bool StreamError). IfErr r (λ fault. (n : ℕ) → refusals_behind command fault n ≡ n)) (sym is) tt
 written_uncounted command result (Err e) holds is failed =
-    subst (λ (r : Result Bool Fault). IfErr r (λ fault. (n : ℕ) → refusals_behind command fault n ≡ n)) (sym failed) (λ n. refl)
+    subst (λ (r : Result Bool StreamError). IfErr r (λ fault. (n : ℕ) → refusals_behind command fault n ≡ n)) (sym failed) (λ n. refl)
 
 -- a command after which as many refusals are counted as before, for a fault that isn't a lack of
 -- memory
-pub memory_counted : {A : Type 0} (refusals : A → ℕ) (old new : Option A) (command : Command) (result : Result Bool Fault) →
+pub memory_counted : {A : Type 0} (refusals : A → ℕ) (old new : Option A) (command : Command) (result : Result Bool StreamError) →
     IsSome new → option_map_or refusals new 0 ≡ option_map_or refusals old 0 →
     IfErr result (λ fault. (n : ℕ) → refusals_behind command fault n ≡ n) → CountsRefusals refusals old new command result
 memory_counted refusals old new command (Ok holds) there same uncounted = record { there = there; kept = same; counted = tt }

@@ -9,8 +9,8 @@ use Rattle.capnp_streams.proofs.AskedLemmas.{asked_refused}
 use Rattle.capnp_streams.specs.Asked.{RefusesAsked, pointer_asked}
 use Rattle.capnp_streams.specs.Flat.{CanFlatBeAnswered, IsFlatDone, StopsFlat}
 use Rattle.capnp_streams.specs.Streams.{AnswerIs, IsOfDevices, RefusesBy, most_words, with_pointer}
-use Rattle.capnp_streams.specs.declared.streams.fault.Fault.{Fault}
-use Rattle.capnp_streams.specs.declared.streams.fault.Fault.TheVariants.{Frame, Layout, TooManyMessages}
+use Rattle.capnp_streams.specs.declared.streams.fault.StreamError.{StreamError}
+use Rattle.capnp_streams.specs.declared.streams.fault.StreamError.TheVariants.{Frame, Layout, TooManyMessages}
 use Rattle.capnp_streams.specs.declared.streams.task.Task.{Task}
 
 -- the message is answered
@@ -28,7 +28,7 @@ flat_done task holds from to before after segments bytes bare consumed only (ans
 }
 
 -- the message is refused
-pub flat_refused : {R Q : Type 0} (task : Task) (from to : Option (List ℕ)) (segments : List (List ℕ)) (bytes : List ℕ) (failed : Bool) (fault : Fault) →
+pub flat_refused : {R Q : Type 0} (task : Task) (from to : Option (List ℕ)) (segments : List (List ℕ)) (bytes : List ℕ) (failed : Bool) (fault : StreamError) →
     AreBareWords bytes (most_words task.limits) → Consumes from to bytes → IsAtEnd to → segments ≡ bytes ∷ [] →
     ((fault ≡ Frame WriteFailed) × R) ⊎ (RefusesBy task.command task (message segments) fault × Q) →
     ((with_pointer task (message segments) fault ≡ Frame WriteFailed) × R) ⊎ (StopsFlat task from failed (with_pointer task (message segments) fault) × Q)
@@ -42,7 +42,7 @@ flat_refused task from to segments bytes failed (Layout k p) bare consumed end o
 flat_refused task from to segments bytes failed TooManyMessages bare consumed end only (inr (refused, kept)) = absurd refused
 
 -- a message that has an answer is never refused for what it holds
-answerable_so : (task : Task) (bytes : List ℕ) (failed : Bool) (fault : Fault) → CanFlatBeAnswered task bytes →
+answerable_so : (task : Task) (bytes : List ℕ) (failed : Bool) (fault : StreamError) → CanFlatBeAnswered task bytes →
     StopsFlat task (Some bytes) failed fault → IsOfDevices fault
 answerable_so task bytes failed (Frame e) can (inl memory) = inl memory
 answerable_so task bytes failed (Frame e) can (inr (inl (named, device))) = inr (inl named)
@@ -53,7 +53,7 @@ answerable_so task bytes failed (Layout k p) (bare, has) (all, same, are, refuse
     asked_refused task.command task (message (bytes ∷ [])) has why
 answerable_so task bytes failed TooManyMessages can stops = absurd stops
 
-pub flat_answerable : {P Q : Type 0} (task : Task) (input : Option (List ℕ)) (failed : Bool) (fault : Fault) →
+pub flat_answerable : {P Q : Type 0} (task : Task) (input : Option (List ℕ)) (failed : Bool) (fault : StreamError) →
     ((fault ≡ Frame WriteFailed) × P) ⊎ (StopsFlat task input failed fault × Q) →
     IsSomeAnd input (CanFlatBeAnswered task) → IsOfDevices fault
 flat_answerable task input failed fault (inl (named, device)) = λ can. subst IsOfDevices (sym named) (inr (inr refl))

@@ -10,10 +10,10 @@ use Rattle.capnp_packing.specs.declared.packing.place.Place.TheVariants.{Tag}
 use Rattle.capnp_framing.proofs.WholenessLemmas.{keeps_whole_both}
 use Rattle.capnp_framing.specs.declared.framing.frame_error.FrameError.TheVariants.{ReadFailed, Truncated, WriteFailed}
 use Rattle.capnp_streams.proofs.StreamLemmas.{keeps_same}
-use Rattle.capnp_streams.specs.Packed.{IsCutBehind}
-use Rattle.capnp_streams.specs.Streams.{AreDone, EndsBehind, Stage, StopsAt, WereAnswered}
-use Rattle.capnp_streams.specs.declared.streams.fault.Fault.{Fault}
-use Rattle.capnp_streams.specs.declared.streams.fault.Fault.TheVariants.{Frame, Layout, TooManyMessages}
+use Rattle.capnp_streams.specs.Packed.{IsCutAfter}
+use Rattle.capnp_streams.specs.Streams.{AreDone, EndsAfter, Stage, StopsAt, WereAnswered}
+use Rattle.capnp_streams.specs.declared.streams.fault.StreamError.{StreamError}
+use Rattle.capnp_streams.specs.declared.streams.fault.StreamError.TheVariants.{Frame, Layout, TooManyMessages}
 use Rattle.capnp_streams.specs.declared.streams.runs.Stop.{Stop}
 use Rattle.capnp_streams.specs.declared.streams.runs.Summary.{Summary}
 use Rattle.capnp_streams.specs.declared.streams.task.Task.{Task}
@@ -48,7 +48,7 @@ pub cut_behind : {P : Type 0} {Q : Stage → Type 0} {task : Task} (packed given
     stop.answered ≡ summary.messages → stop.byte ≡ summary.bytes → stop.fault ≡ Frame Truncated →
     (end : Stage)
     × WereAnswered task (record { input = option_map (unpacked_bytes Tag) packed; output = output }) end stop
-    × (P ⊎ IsCutBehind packed end after stop.fault ⊎ Q end)
+    × (P ⊎ IsCutAfter packed end after stop.fault ⊎ Q end)
 cut_behind packed given output after before behind summary stop same whole kept last done answered byte fault =
     let both = keeps_whole_both before behind (Some false) kept last in
     let cut = are_cut packed (subst (λ (o : Option Bool). KeepsWhole o (Some false)) whole both) in
@@ -61,14 +61,14 @@ pub fails_behind : {P : Type 0} {Q : Stage → Type 0} {task : Task} (packed giv
     stop.answered ≡ summary.messages → stop.byte ≡ summary.bytes → stop.fault ≡ Frame ReadFailed →
     (end : Stage)
     × WereAnswered task (record { input = option_map (unpacked_bytes Tag) packed; output = output }) end stop
-    × (P ⊎ Q end ⊎ ((rest : Option (List ℕ)) × EndsBehind task end (record { input = rest; output = after }) true stop))
+    × (P ⊎ Q end ⊎ ((rest : Option (List ℕ)) × EndsAfter task end (record { input = rest; output = after }) true stop))
 fails_behind {task = task} packed given output after summary stop same done answered byte fault =
     let stops : StopsAt task (Some []) None true stop.fault =
-    subst (λ (f : Fault). StopsAt task (Some []) None true f) (sym fault) (inr (inl (refl, refl))) in
+    subst (λ (f : StreamError). StopsAt task (Some []) None true f) (sym fault) (inr (inl (refl, refl))) in
     (record { input = Some []; output = after }, packed_answered packed given output after summary stop same done answered byte, inr (inr (None, (keeps_same after, inl stops))))
 
 -- a run over what a packed input unpacks to ends if a frame isn't read, or a message isn't answered
-stops_failed : (task : Task) (left after : Option (List ℕ)) (failed : Bool) (fault : Fault) →
+stops_failed : (task : Task) (left after : Option (List ℕ)) (failed : Bool) (fault : StreamError) →
     StopsAt task left after failed fault → StopsAt task left after true fault
 stops_failed task left after failed (Frame e) (inl memory) = inl memory
 stops_failed task left after failed (Frame e) (inr (inl (named, device))) = inr (inl (named, refl))
@@ -79,15 +79,15 @@ stops_failed task left after failed TooManyMessages stops = absurd stops
 pub ends_packed : {P : Type 0} {Q : Stage → Type 0} {task : Task} (packed given output left after : Option (List ℕ)) (failed : Bool) (stop : Stop) →
     given ≡ option_map (unpacked_bytes Tag) packed →
     ((end : Stage) × WereAnswered task (record { input = given; output = output }) end stop
-    × (P ⊎ EndsBehind task end (record { input = left; output = after }) failed stop)) →
+    × (P ⊎ EndsAfter task end (record { input = left; output = after }) failed stop)) →
     (end : Stage)
     × WereAnswered task (record { input = option_map (unpacked_bytes Tag) packed; output = output }) end stop
-    × (P ⊎ Q end ⊎ ((rest : Option (List ℕ)) × EndsBehind task end (record { input = rest; output = after }) true stop))
+    × (P ⊎ Q end ⊎ ((rest : Option (List ℕ)) × EndsAfter task end (record { input = rest; output = after }) true stop))
 ends_packed {P} {Q} {task} packed given output left after failed stop same (end, were, ended) =
     (end, subst (λ (i : Option (List ℕ)). WereAnswered task (record { input = i; output = output }) end stop) same were, go ended)
   where
-    go : P ⊎ EndsBehind task end (record { input = left; output = after }) failed stop →
-        P ⊎ Q end ⊎ ((rest : Option (List ℕ)) × EndsBehind task end (record { input = rest; output = after }) true stop)
+    go : P ⊎ EndsAfter task end (record { input = left; output = after }) failed stop →
+        P ⊎ Q end ⊎ ((rest : Option (List ℕ)) × EndsAfter task end (record { input = rest; output = after }) true stop)
     go (inl written) = inl written
     go (inr (kept, inl stops)) = inr (inr (left, (kept, inl (stops_failed task end.input left failed stop.fault stops))))
     go (inr (kept, inr many)) = inr (inr (left, (kept, inr many)))
@@ -129,7 +129,7 @@ pub read_failed : {P R : Type 0} {task : Task} (has_failed : R → Bool) (told :
     (packed given output left after : Option (List ℕ)) (stop : Stop) → given ≡ option_map (unpacked_bytes Tag) packed →
     ((end : Stage) × WereAnswered task (record { input = given; output = output }) end stop
     × (((stop.fault ≡ Frame WriteFailed) × P)
-    ⊎ EndsBehind task end (record { input = left; output = after }) (told && has_failed device) stop)) →
+    ⊎ EndsAfter task end (record { input = left; output = after }) (told && has_failed device) stop)) →
     stop.fault ≡ Frame ReadFailed → IfSome packed (λ bytes. (d : R) × (has_failed d ≡ true))
 read_failed has_failed told device packed given output left after stop same (end, were, inl (written, such)) is =
     let wrong : Frame WriteFailed ≡ Frame ReadFailed = sym written ∙ is in absurd (cc)
@@ -139,9 +139,9 @@ read_failed has_failed told device None given output left after stop same (end, 
 read_failed {task = task} has_failed told device (Some bytes) given output left after stop same (end, (holds, done), inr (kept, inl stops)) is =
     let known = left_known given end.input (unpacked_bytes Tag bytes) done.bytes same done.consumed in
     let failed = stop_failed task end.input left (told && has_failed device) known
-    (subst (λ (f : Fault). StopsAt task end.input left (told && has_failed device) f) is stops) in
+    (subst (λ (f : StreamError). StopsAt task end.input left (told && has_failed device) f) is stops) in
     device_failed has_failed told device (Some bytes) failed
 
 -- a cut isn't a failed read
-pub cut_not_failed : {f : Fault} → f ≡ Frame Truncated → f ≡ Frame ReadFailed → ⊥
+pub cut_not_failed : {f : StreamError} → f ≡ Frame Truncated → f ≡ Frame ReadFailed → ⊥
 cut_not_failed cut failed = let wrong : Frame Truncated ≡ Frame ReadFailed = sym cut ∙ failed in cc

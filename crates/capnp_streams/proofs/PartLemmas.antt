@@ -9,7 +9,7 @@ use Rattle.capnp_arena_traits.specs.Checks.{misplaced}
 use Rattle.capnp_objects.specs.declared.object.Purpose.TheVariants.{Value}
 use Rattle.capnp_objects.specs.Enter.{Shape, capability, flat, nothing, pointers, read, struct, structs}
 use Rattle.capnp_objects.specs.Metered.{Metered, answer, charge_words, covers, demand, onward, outcome, ◌>>>◌}
-use Rattle.capnp_objects.specs.Reading.{Reading, behind}
+use Rattle.capnp_objects.specs.Reading.{Reading, place_past}
 use Rattle.capnp_objects.specs.Refusals.{here}
 use Rattle.capnp_objects.specs.Source.{levels}
 use Rattle.capnp_objects.specs.Wanted.{plain}
@@ -82,7 +82,7 @@ nowhere_end (Ok r) named = tt
 nowhere_end (Err k) named = named
 
 nowhere_in : (r : Reading) (n i : ℕ) → OnlyNowhere (end_at (pointer_in r n i))
-nowhere_in r n i = nowhere_end (pointer_in r n i) (nowhere_if (nat_lt i n) (behind r i))
+nowhere_in r n i = nowhere_end (pointer_in r n i) (nowhere_if (nat_lt i n) (place_past r i))
 
 nowhere_in_object : (r : Reading) (o : Shape) (i : ℕ) → OnlyNowhere (end_in r o i)
 nowhere_in_object r (struct s p d q) i = nowhere_in (inside r s (p + d)) q i
@@ -94,7 +94,7 @@ nowhere_in_object r (flat s p z n) i = refl
 
 never_step : (e : PathEnd) (i : ℕ) → NeverLacks (step e i)
 never_step (to_pointer r) i = never_both (read Value r) _ (never_read r) (λ o. never_nowhere (end_in r o i) (nowhere_in_object r o i))
-never_step (to_element r d q) i = never_nowhere (end_at (pointer_in (behind r d) q i)) (nowhere_in (behind r d) q i)
+never_step (to_element r d q) i = never_nowhere (end_at (pointer_in (place_past r d) q i)) (nowhere_in (place_past r d) q i)
 
 never_follow : (e : PathEnd) (path : List ℕ) → NeverLacks (follow_path e path)
 never_follow e [] = never_answer e

@@ -9,8 +9,8 @@ use Rattle.capnp_framing.specs.declared.framing.frame_error.FrameError.TheVarian
 use Rattle.capnp_framing.specs.declared.framing.frame_error.FrameError.TheVariants.{ReadFailed}
 use Rattle.capnp_streams.specs.Asked.{HasAskedAnswer, RefusesAsked, pointer_asked}
 use Rattle.capnp_streams.specs.Streams.{AnswerIs, Stage, most_words}
-use Rattle.capnp_streams.specs.declared.streams.fault.Fault.{Fault}
-use Rattle.capnp_streams.specs.declared.streams.fault.Fault.TheVariants.{Frame, Layout, TooManyMessages}
+use Rattle.capnp_streams.specs.declared.streams.fault.StreamError.{StreamError}
+use Rattle.capnp_streams.specs.declared.streams.fault.StreamError.TheVariants.{Frame, Layout, TooManyMessages}
 use Rattle.capnp_streams.specs.declared.streams.task.Task.{Task}
 
 -- From old to new everything in the input was read: raw words, at most as many as the traversal
@@ -25,7 +25,7 @@ pub record IsFlatDone (task : Task) (old new : Stage) (holds : Bool) : Type 0 wh
 
 -- Why the message whose raw words the input has isn't answered: they are cut short or too many,
 -- the task refuses the message, at the pointer that is told, or memory or the input fails.
-abbrev pub StopsFlat : Task → Option (List ℕ) → Bool → Fault → Type 0
+abbrev pub StopsFlat : Task → Option (List ℕ) → Bool → StreamError → Type 0
 StopsFlat task input failed (Frame e) =
     (e ≡ NoMemory) ⊎ ((e ≡ ReadFailed) × (failed ≡ true))
     ⊎ IfSome input (λ bytes. NoBareWords bytes (most_words task.limits) e)
@@ -37,7 +37,7 @@ StopsFlat task input failed TooManyMessages = ⊥
 
 module _ {R : Type 0} (g : Ghosts R) where
   -- What a stop has taken of an input: all of it, if the message is refused.
-  abbrev pub HasTakenFlat : R → R → Fault → Type 0
+  abbrev pub HasTakenFlat : R → R → StreamError → Type 0
   HasTakenFlat from to (Frame e) = HasTakenBare g from to e
   HasTakenFlat from to (Layout k p) = IsAtEnd (g.remaining to)
   HasTakenFlat from to TooManyMessages = ⊥

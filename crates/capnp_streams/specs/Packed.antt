@@ -6,8 +6,8 @@ use Rattle.capnp_framing.specs.declared.framing.frame_error.FrameError.TheVarian
 use Rattle.capnp_packing.specs.Packing.{IsWhole, unpacked_bytes}
 use Rattle.capnp_packing.specs.declared.packing.place.Place.TheVariants.{Tag}
 use Rattle.capnp_streams.specs.Streams.{Stage}
-use Rattle.capnp_streams.specs.declared.streams.fault.Fault.{Fault}
-use Rattle.capnp_streams.specs.declared.streams.fault.Fault.TheVariants.{Frame}
+use Rattle.capnp_streams.specs.declared.streams.fault.StreamError.{StreamError}
+use Rattle.capnp_streams.specs.declared.streams.fault.StreamError.TheVariants.{Frame}
 
 -- The stage of a packed input, with the bytes that it unpacks to, even if it is cut short.
 abbrev pub unpacked_stage : Stage → Stage
@@ -15,7 +15,7 @@ unpacked_stage stage = record stage { input = option_map (unpacked_bytes Tag) st
 
 -- After all messages of a packed input it is cut short, within a word or before a number, where no
 -- frame has begun; nothing more is written.
-abbrev pub IsCutBehind : Option (List ℕ) → Stage → Option (List ℕ) → Fault → Type 0
-IsCutBehind packed old output fault =
+abbrev pub IsCutAfter : Option (List ℕ) → Stage → Option (List ℕ) → StreamError → Type 0
+IsCutAfter packed old output fault =
     (fault ≡ Frame Truncated) × IfSome packed (λ bytes. IsWhole Tag bytes → ⊥)
     × IsAtEnd old.input × Keeps old.output output

@@ -30,8 +30,8 @@ use Rattle.capnp_messages.specs.Text.{check_line, extent_line, size_line}
 use Rattle.capnp_messages.specs.CanonicalMessages.{IsCanonicalMessage}
 use Rattle.capnp_messages.specs.Extents.{HasExtent}
 use Rattle.capnp_messages.specs.Messages.{IsCanonicalWithin, IsFaultOf}
-use Rattle.capnp_streams.specs.declared.streams.fault.Fault.{Fault}
-use Rattle.capnp_streams.specs.declared.streams.fault.Fault.TheVariants.{Frame, Layout, TooManyMessages}
+use Rattle.capnp_streams.specs.declared.streams.fault.StreamError.{StreamError}
+use Rattle.capnp_streams.specs.declared.streams.fault.StreamError.TheVariants.{Frame, Layout, TooManyMessages}
 use Rattle.capnp_streams.specs.declared.streams.runs.Stop.{Stop}
 use Rattle.capnp_streams.specs.declared.streams.runs.Summary.{Summary}
 use Rattle.capnp_messages.specs.declared.messages.command.Command.{Command}
@@ -45,13 +45,13 @@ use Rattle.capnp_streams.specs.Paths.{path_indexes}
 use Rattle.capnp_refusals.specs.declared.refusals.search.RefusedPointer.{RefusedPointer}
 
 -- The name of a refusal.
-abbrev pub fault_name : Fault → List ℕ
+abbrev pub fault_name : StreamError → List ℕ
 fault_name (Frame e) = frame_error_name e
 fault_name (Layout k p) = name_of k
 fault_name TooManyMessages = codes "TooManyMessages"
 
 -- The pointer of a refusal, if it is that of a pointer.
-abbrev pub fault_pointer : Fault → Option RefusedPointer
+abbrev pub fault_pointer : StreamError → Option RefusedPointer
 fault_pointer (Layout k p) = p
 fault_pointer f = None
 
@@ -108,18 +108,18 @@ AnswerIs Validate task S holds bytes =
     × ((x : MessageExtent) × HasExtent S task.limits x × (bytes ≡ extent_line x.value))
 
 -- The fault says why a command has no answer to S.
-abbrev pub RefusesBy : Command → Task → Segments → Fault → Type 0
+abbrev pub RefusesBy : Command → Task → Segments → StreamError → Type 0
 RefusesBy command task S (Layout k p) = RefusesAsked command task S k
 RefusesBy command task S _ = ⊥
 
 -- The fault with the pointer at which S is refused, if the fault is a refusal of S.
-abbrev pub with_pointer : Task → Segments → Fault → Fault
+abbrev pub with_pointer : Task → Segments → StreamError → StreamError
 with_pointer task S (Layout k p) = Layout k (pointer_asked k task S)
 with_pointer task S f = f
 
 -- How often memory was refused after a fault, if it was n times before: one more if there was none
 -- for the frame that is read, or for a canonical copy or its digest; otherwise n.
-abbrev pub refusals_behind : Command → Fault → ℕ → ℕ
+abbrev pub refusals_behind : Command → StreamError → ℕ → ℕ
 refusals_behind command (Frame e) n = frame_refusals e n
 refusals_behind command TooManyMessages n = n
 refusals_behind (Canon form) (Layout k p) n = refusals_for k n
@@ -131,7 +131,7 @@ refusals_behind Validate (Layout k p) n = n
 -- The allocator is there after a command, and has counted one more refusal if there was no memory,
 -- and otherwise none.
 pub record CountsRefusals {A B : Type 0} (refusals : A → ℕ) (old new : Option A)
-    (command : Command) (result : Result B Fault) : Type 0 where
+    (command : Command) (result : Result B StreamError) : Type 0 where
   pub there : IsSome new
   pub kept : OnOk result (option_map_or refusals new 0 ≡ option_map_or refusals old 0)
   pub counted :
@@ -152,13 +152,13 @@ question_on command task segments =
 
 module _ {W : Type 0} (g : OutputGhosts W) where
   -- The fault is that of an output, which has failed.
-  abbrev pub IsWriteFault : W → Fault → Type 0
+  abbrev pub IsWriteFault : W → StreamError → Type 0
   IsWriteFault output fault = (fault ≡ Frame WriteFailed) × (g.has_failed output ≡ true)
 
   -- The question q is answered: the answer was written, from one state of an output to another,
   -- which works; the result is yes or no. Or it isn't answered: the output has failed; or the
   -- command refuses the message, and nothing was written.
-  pub record Answers (from to : W) (q : Question) (result : Result Bool Fault) : Type 0 where
+  pub record Answers (from to : W) (q : Question) (result : Result Bool StreamError) : Type 0 where
     pub answered :
         IfOk result
         (λ holds. (answer : List ℕ) × AnswerIs q.command q.task q.asked_of holds answer
@@ -227,7 +227,7 @@ WereAnswered task old new stop =
 -- Why the message at the front of the remaining input isn't answered. Either there is no frame, or
 -- memory runs out, or the input fails; or its frame is read, and nothing after it, and the task
 -- refuses the message, at the pointer that is told.
-abbrev pub StopsAt : Task → Option (List ℕ) → Option (List ℕ) → Bool → Fault → Type 0
+abbrev pub StopsAt : Task → Option (List ℕ) → Option (List ℕ) → Bool → StreamError → Type 0
 StopsAt task old new failed (Frame e) =
     (e ≡ NoMemory) ⊎ ((e ≡ ReadFailed) × (failed ≡ true))
     ⊎ IfSome old (λ bytes. NoFrame bytes (most_words task.limits) e)
@@ -239,8 +239,8 @@ StopsAt task old new failed TooManyMessages = ⊥
 
 -- Why no message is answered after a stage, and nothing more is written: the one at the front
 -- isn't, or as many were as 64 bits count.
-abbrev pub EndsBehind : Task → Stage → Stage → Bool → Stop → Type 0
-EndsBehind task old new failed stop =
+abbrev pub EndsAfter : Task → Stage → Stage → Bool → Stop → Type 0
+EndsAfter task old new failed stop =
     Keeps old.output new.output
     × (StopsAt task old.input new.input failed stop.fault
     ⊎ ((stop.fault ≡ TooManyMessages) × (stop.answered ≡ 2 ^ 64 - 1)))
@@ -252,7 +252,7 @@ CanBeAnswered task bytes =
     × All (HasAskedAnswer task.command task) messages
 
 -- A fault of no message: memory or a device fails, or there are too many messages to count.
-abbrev pub IsOfDevices : Fault → Type 0
+abbrev pub IsOfDevices : StreamError → Type 0
 IsOfDevices (Frame e) = (e ≡ NoMemory) ⊎ (e ≡ ReadFailed) ⊎ (e ≡ WriteFailed)
 IsOfDevices (Layout k p) = k ≡ AllocationFailed
 IsOfDevices TooManyMessages = ⊤

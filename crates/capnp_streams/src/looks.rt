@@ -2,7 +2,7 @@
 //! answered, the user is told the guess.
 ghost use Rattle.std.specs.Prelude.{◌<◌, ◌≤◌, ◌^◌, IfSome};
 
-use crate::streams::{DiffTask, Fault, ShowTask, Task};
+use crate::streams::{DiffTask, StreamError, ShowTask, Task};
 use capnp_framing::devices::{Input, MemoryInput};
 use capnp_framing::framing::FrameError;
 use capnp_packing::packing::UnpackingInput;
@@ -98,7 +98,7 @@ impl ShowTask {
 /// with `fault`. Returns `None` if `fault` says nothing about the input, or if the input looks like
 /// what it is read as, or like nothing known. `first` has the first bytes of the input; the input
 /// has at least `given` bytes.
-pub fn guess_of(form: InputForm, fault: Fault, first: &[u8], given: u64) -> Option<Guess> {
+pub fn guess_of(form: InputForm, fault: StreamError, first: &[u8], given: u64) -> Option<Guess> {
     if is_of_devices(fault) {
         return None;
     }
@@ -110,7 +110,7 @@ pub fn guess_of(form: InputForm, fault: Fault, first: &[u8], given: u64) -> Opti
         InputForm::PackedFrames => guess_instead_of_packed_frames(first),
         InputForm::RawWords => guess_instead_of_raw_words(first),
         InputForm::Frames => match fault {
-            Fault::Frame(_) => guess_instead_of_frames(first, given),
+            StreamError::Frame(_) => guess_instead_of_frames(first, given),
             _ => None,
         },
     }
@@ -118,14 +118,14 @@ pub fn guess_of(form: InputForm, fault: Fault, first: &[u8], given: u64) -> Opti
 
 /// Whether `fault` says nothing about the input: memory ran out, a device failed, or there are too
 /// many messages.
-fn is_of_devices(fault: Fault) -> bool {
+fn is_of_devices(fault: StreamError) -> bool {
     match fault {
-        Fault::Frame(error) => matches!(
+        StreamError::Frame(error) => matches!(
             error,
             FrameError::ReadFailed | FrameError::WriteFailed | FrameError::AllocationFailed
         ),
-        Fault::Layout(kind, _) => matches!(kind, ErrorKind::AllocationFailed),
-        Fault::TooManyMessages => true,
+        StreamError::Layout(kind, _) => matches!(kind, ErrorKind::AllocationFailed),
+        StreamError::TooManyMessages => true,
     }
 }
 
@@ -287,14 +287,14 @@ fn word(bytes: &[u8], at: u64) -> Option<u64> {
 /// these words.
 fn leads_within(word: u64, words: u64) -> bool {
     let pointer = WirePointer(word);
-    match (object_words(pointer), pointer.target(0, short(words))) {
+    match (object_words(pointer), pointer.target(0, clamp_to_u32(words))) {
         (Some(claimed), Some(start)) => u64::from(start) + claimed <= words,
         _ => false,
     }
 }
 
 /// Returns `words`, or `u32::MAX` if `words` is larger.
-fn short(words: u64) -> u32 {
+fn clamp_to_u32(words: u64) -> u32 {
     words.min(u64::from(u32::MAX)) as u32
 }
 

@@ -17,7 +17,7 @@ mod writing;
 pub use arguments::ArgumentFault;
 pub use capnp_messages::messages::{Command, Form};
 pub use diffs::{Compared, DiffFault, Side, run_diff, run_diff_flat, run_diff_packed};
-pub use fault::Fault;
+pub use fault::StreamError;
 pub use flat::{run_flat, run_flat_with};
 pub use options::{OptionName, Subcommand, ValueOption};
 pub use packed::{run_packed, run_packed_with};

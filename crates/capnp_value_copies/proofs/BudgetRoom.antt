@@ -4,13 +4,13 @@ use Rattle.capnp_words.specs.declared.error.ErrorKind.{ErrorKind}
 use Rattle.capnp_making.specs.Near.{HasOwnRoom}
 use Rattle.capnp_objects.specs.Reading.{Reading}
 use Rattle.capnp_objects.specs.Refusals.{Refused}
-use Rattle.capnp_copies.specs.Changes.{Change, RefusesToCopy}
+use Rattle.capnp_copies.specs.Changes.{CopyCall, RefusesToCopy}
 use Rattle.capnp_copies.specs.Originals.{value_original}
 use Rattle.capnp_copies.specs.Costs.{spent_until}
 use Rattle.capnp_copies.proofs.Growth.{covered_by}
 use Rattle.capnp_copies.proofs.WithinBudget.{covered_wanted}
 
-pub budget_has_room : (r : Reading) (c : Change) (x : ℕ) (k : ErrorKind) → r.charging ≡ true → c.before.left ≡ Some x → HasOwnRoom c.old c.segment x → RefusesToCopy (value_original r) c k → Refused c.form r c.before c.after k
+pub budget_has_room : (r : Reading) (c : CopyCall) (x : ℕ) (k : ErrorKind) → r.charging ≡ true → c.before.left ≡ Some x → HasOwnRoom c.old c.segment x → RefusesToCopy (value_original r) c k → Refused c.form r c.before c.after k
 budget_has_room r c x k charged budget room why = elim why [
   | inl (lacks, large) ↦ absurd (elim lacks [
     | inl none ↦ none.2

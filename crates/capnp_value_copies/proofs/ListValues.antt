@@ -23,7 +23,7 @@ use Rattle.capnp_objects.specs.declared.object.Place.{Place}
 use Rattle.capnp_objects.specs.Wanted.{Form}
 use Rattle.capnp_readers.specs.Sections.{IsPart, HasWordsFrom, elements_words}
 use Rattle.capnp_readers.proofs.Sections.{flat_words}
-use Rattle.capnp_copies.specs.Changes.{Change, change, StayInSegment, MakesCopy, StopsCopy}
+use Rattle.capnp_copies.specs.Changes.{CopyCall, copy_call, StayInSegment, MakesCopy, StopsCopy}
 use Rattle.capnp_copies.proofs.InPlace.{IsCopied}
 use Rattle.capnp_copies.specs.Forms.{kept}
 use Rattle.capnp_copies.specs.Originals.{numbers_original, list_original, FitsListPointer}
@@ -41,7 +41,7 @@ first_read g value = reading_at g value.source value.start value.nesting_limit
 
 -- a list that is too long leaves everything unchanged
 pub too_long : (size : ElementSize) (sections : StructSize) (n : ℕ) (r : Reading) {b : Form} {s p : ℕ} {v : View} {m : Meter} → IsPlace v.words s p → word_at v.words s p ≡ 0 → (FitsListPointer size n (sections.data_words + sections.pointers) → ⊥) →
-    StopsCopy (list_original size sections n r) (change b (call_at s p v v) m m) Null (MessageTooLarge (2 ^ 64 - 1))
+    StopsCopy (list_original size sections n r) (copy_call b (call_at s p v v) m m) Null (MessageTooLarge (2 ^ 64 - 1))
 too_long size sections n r {b} {s} {p} {v} place null long = record {
   why = inr (inr (list_exceeds size sections n r b long));
   left = nothing_left v.words v.words s p place null refl;
@@ -97,7 +97,7 @@ numbers_held S start size n width bytes flat held part room = subst (λ i. AreHe
 
 -- what is made of them
 
-pub numbers_copied : (size : ElementSize) (n : ℕ) (r : Reading) (c : Change) (bytes : List ℕ) (result : Result (Unit {0}) ErrorKind) → words_of bytes ≡ words_from r (words_for (size_number size) n) → c.after ≡ c.before →
+pub numbers_copied : (size : ElementSize) (n : ℕ) (r : Reading) (c : CopyCall) (bytes : List ℕ) (result : Result (Unit {0}) ErrorKind) → words_of bytes ≡ words_from r (words_for (size_number size) n) → c.after ≡ c.before →
     FlatOutcome result c.segment c.at (words_for (size_number size) n) c.old c.new (Flat (size_number size) (unpacked (size_number size) n (words_of bytes))) → IfOk result (λ _. MakesCopy (numbers_original size n r) c)
 numbers_copied size n r c bytes (Ok x) stand free f =
     let ns : List ℕ = unpacked (size_number size) n (words_of bytes) in
@@ -111,14 +111,14 @@ numbers_copied size n r c bytes (Ok x) stand free f =
 numbers_copied size n r c bytes (Err k) stand free f = tt
 
 -- if they find no room, they exceed it
-numbers_exceed : (size : ElementSize) (n : ℕ) (r : Reading) (c : Change) (bytes : List ℕ) → words_of bytes ≡ words_from r (words_for (size_number size) n) →
+numbers_exceed : (size : ElementSize) (n : ℕ) (r : Reading) (c : CopyCall) (bytes : List ℕ) → words_of bytes ≡ words_from r (words_for (size_number size) n) →
     (HasOwnRoom c.old c.segment (word_count (Flat (size_number size) (unpacked (size_number size) n (words_of bytes)))) → ⊥) → ExceedsRoom c.form (numbers_original size n r) (length (segment c.old.words c.segment)) (c.old.room c.segment)
 numbers_exceed size n r c bytes stand full any m m' t is_read =
     let numbers : Tree = Flat (size_number size) (unpacked (size_number size) n (words_of bytes)) in
     let same : numbers ≡ t = ap (λ ws. Flat (size_number size) (unpacked (size_number size) n ws)) stand ∙ sym is_read.0 in
     omega (arith, full, ap (λ u. word_count (kept c.form u)) same, ap word_count (kept_flat c.form (size_number size) (unpacked (size_number size) n (words_of bytes))))
 
-pub numbers_stop : (size : ElementSize) (n : ℕ) (r : Reading) (c : Change) (bytes : List ℕ) (result : Result (Unit {0}) ErrorKind) → words_of bytes ≡ words_from r (words_for (size_number size) n) → IsPlace c.old.words c.segment c.at × (word_at c.old.words c.segment c.at ≡ 0) → c.after ≡ c.before →
+pub numbers_stop : (size : ElementSize) (n : ℕ) (r : Reading) (c : CopyCall) (bytes : List ℕ) (result : Result (Unit {0}) ErrorKind) → words_of bytes ≡ words_from r (words_for (size_number size) n) → IsPlace c.old.words c.segment c.at × (word_at c.old.words c.segment c.at ≡ 0) → c.after ≡ c.before →
     FlatOutcome result c.segment c.at (words_for (size_number size) n) c.old c.new (Flat (size_number size) (unpacked (size_number size) n (words_of bytes))) → IfErr result (StopsCopy (numbers_original size n r) c Null)
 numbers_stop size n r c bytes (Ok x) stand (place, null) free f = tt
 numbers_stop size n r c bytes (Err k) stand (place, null) free f =

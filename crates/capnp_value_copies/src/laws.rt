@@ -7,7 +7,7 @@ ghost use Rattle.capnp_arena_traits.specs.View.{View};
 ghost use Rattle.capnp_making.specs.Near.{HasOwnRoom};
 ghost use Rattle.capnp_objects.specs.Reading.{Reading};
 ghost use Rattle.capnp_objects.specs.Refusals.{Refused};
-ghost use Rattle.capnp_copies.specs.Changes.{Change, StayInSegment, RefusesToCopy};
+ghost use Rattle.capnp_copies.specs.Changes.{CopyCall, StayInSegment, RefusesToCopy};
 ghost use Rattle.capnp_copies.specs.Growth.{Makes, MakesAtMost, TakesAtMost};
 ghost use Rattle.capnp_copies.specs.Originals.{value_original};
 ghost use Rattle.capnp_value_copies.specs.StructValues.{section_words};
@@ -35,7 +35,7 @@ pub fn pads_apart()
 /// copy follows at most x + 1 pointers: the one whose value is copied, and at most one in each of
 /// the x words.
 pub fn few_taken()
-    ensures { (r : Reading) (c : Change) (x : ℕ) (result : Result ⊤ ErrorKind)
+    ensures { (r : Reading) (c : CopyCall) (x : ℕ) (result : Result ⊤ ErrorKind)
         → r.charging ≡ true → c.before.left ≡ Some x → TakesAtMost result (value_original r) c
         → (made : MakesAtMost c.segment c.old c.new x (x + 1))
         × (sum_by length c.new.words ≤ sum_by length c.old.words + x + made.pads)
@@ -48,7 +48,7 @@ pub fn few_taken()
 /// the pointer copied to, then a copy is refused only with a refusal of reading its source, never
 /// for lack of memory.
 pub fn budget_has_room()
-    ensures { (r : Reading) (c : Change) (x : ℕ) (k : ErrorKind)
+    ensures { (r : Reading) (c : CopyCall) (x : ℕ) (k : ErrorKind)
         → r.charging ≡ true → c.before.left ≡ Some x → HasOwnRoom c.old c.segment x
         → RefusesToCopy (value_original r) c k → Refused c.form r c.before c.after k }
 {}

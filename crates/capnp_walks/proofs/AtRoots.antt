@@ -6,7 +6,7 @@ use Rattle.capnp_format.specs.Segments.{Segments}
 use Rattle.capnp_arena.specs.declared.arena.reader_arena_impl.ReaderOptions.{ReaderOptions}
 use Rattle.capnp_objects.specs.Reading.{Reading}
 use Rattle.capnp_objects.specs.Source.{levels}
-use Rattle.capnp_objects.specs.Spending.{after, pointers_in}
+use Rattle.capnp_objects.specs.Spending.{after_charge, pointers_in}
 use Rattle.capnp_objects.specs.Wanted.{plain}
 use Rattle.capnp_objects.proofs.OneName.{reads_is}
 use Rattle.capnp_pointers.specs.Extents.{capped}
@@ -102,8 +102,8 @@ stops_as_validation S limits = elim (root_or_not S limits.traversal_limit_in_wor
 -- If the message is readable, the walk lists all objects of its value.
 pub lists_value : (S : Segments) (limits : ReaderOptions) (readable : IsReadable S limits) → (map figures (walk_message S limits).0 ≡ objects_of readable.value) × ((walk_message S limits).1 ≡ None)
 lists_value S limits readable =
-    let e = reads_is plain (root_within S limits) (unused (left_of limits)) (after true (unused (left_of limits)) readable.cost (pointers_in readable.value)) readable.value (record { cost = readable.cost; means = readable.means; takes = λ e. absurd (e refl); covers = covers_rest limits.traversal_limit_in_words readable.cost readable.covered; spent = refl }) in
-    let listed = objects_listed no_parent (root_within S limits) (unused (left_of limits)) (after true (unused (left_of limits)) readable.cost (pointers_in readable.value)) readable.value e in
+    let e = reads_is plain (root_within S limits) (unused (left_of limits)) (after_charge true (unused (left_of limits)) readable.cost (pointers_in readable.value)) readable.value (record { cost = readable.cost; means = readable.means; takes = λ e. absurd (e refl); covers = covers_rest limits.traversal_limit_in_words readable.cost readable.covered; spent = refl }) in
+    let listed = objects_listed no_parent (root_within S limits) (unused (left_of limits)) (after_charge true (unused (left_of limits)) readable.cost (pointers_in readable.value)) readable.value e in
     let is = at_root S limits _ readable.root listed.is in
     (ap (λ w. map figures w.0) is ∙ listed.told, ap (λ w. w.1) is)
 

@@ -7,13 +7,13 @@ use Rattle.capnp_words.specs.Meter.{Affords, FitsIn, Meter, less}
 use Rattle.capnp_format.specs.Word.{kind, data_words, pointer_count, element_size, list_count, offset_bits, upper_half}
 use Rattle.capnp_format.specs.Segments.{Target}
 use Rattle.capnp_objects.specs.declared.object.Purpose.TheVariants.{Value}
-use Rattle.capnp_objects.specs.Demands.{own, tag}
+use Rattle.capnp_objects.specs.Demands.{own_charge, tag}
 use Rattle.capnp_objects.specs.Enter.{Shape, nothing, capability, struct, flat, pointers, structs, shape}
 use Rattle.capnp_objects.specs.Metered.{Metered, onward}
 use Rattle.capnp_objects.specs.Outcomes.{Entered}
 use Rattle.capnp_objects.specs.Reading.{Reading, word_of}
 use Rattle.capnp_objects.specs.Refusals.{Stopped, Unfollowed, no_target, broken, claim_exceeds, count_exceeds, exceeding, leading_nowhere}
-use Rattle.capnp_objects.specs.Spending.{Paid, after}
+use Rattle.capnp_objects.specs.Spending.{Paid, after_charge}
 use Rattle.capnp_objects.specs.Wanted.{plain}
 use Rattle.capnp_objects.proofs.Budgets.{fewer_than_words}
 use Rattle.capnp_objects.proofs.Computed.{null_is, capability_is, entering_is}
@@ -64,7 +64,7 @@ paid : {m m' : Meter} {charging : Bool} {g k : ℕ} (x : ℕ) → charging ≡ t
 paid {m} {m'} {charging} {g} {k} x charges e p =
     let covered : Affords true m g = subst (λ (b : Bool). Affords b m g) charges p.covers in
     let fits : FitsIn (Some x) g = subst (λ (o : Option ℕ). FitsIn o g) e covered in
-    let spent : m' ≡ after true m g k = subst (λ (b : Bool). m' ≡ after b m g k) charges p.spent in
+    let spent : m' ≡ after_charge true m g k = subst (λ (b : Bool). m' ≡ after_charge b m g k) charges p.spent in
     (fits, ap (λ (y : Meter). y.left) spent ∙ ap (λ (o : Option ℕ). less o g) e)
 
 -- An object that is entered, by its kind.
@@ -83,7 +83,7 @@ object_within parent index r xs m m' x a charges e o h = elim (same_or_not (kind
       let is_struct : nat_eq (kind a.word) 0 ≡ true = eq-eqb _ _ k in
       let ys : List WalkedObject = added into_list parent r (struct a.segment a.start (data_words a.word) (pointer_count a.word)) xs in
       let long : length ys ≡ length xs + 1 = one_longer xs _ in
-      rw is_struct (weaken (length ys + (x - own Value r.segments a) + pointer_count a.word) (length xs + x + 1) (walked parent index r xs (struct a.segment a.start (data_words a.word) (pointer_count a.word)) m') (omega (arith, long, cost.0, own_struct r.segments a k)) (pointers_within (walk_within into_list (pred r.levels) index) (record r { levels = pred r.levels; segment = a.segment }) (λ p zs m1 y f. h index a.segment p zs m1 y f) (pointer_count a.word) (a.start + data_words a.word) ys m' (x - own Value r.segments a) cost.1))
+      rw is_struct (weaken (length ys + (x - own_charge Value r.segments a) + pointer_count a.word) (length xs + x + 1) (walked parent index r xs (struct a.segment a.start (data_words a.word) (pointer_count a.word)) m') (omega (arith, long, cost.0, own_struct r.segments a k)) (pointers_within (walk_within into_list (pred r.levels) index) (record r { levels = pred r.levels; segment = a.segment }) (λ p zs m1 y f. h index a.segment p zs m1 y f) (pointer_count a.word) (a.start + data_words a.word) ys m' (x - own_charge Value r.segments a) cost.1))
   | inr other ↦
       let list : nat_eq (kind a.word) 0 ≡ false = ne_eqb _ _ other in
       let is_list : kind a.word ≡ 1 = omega (arith, other, o.meets.is_object) in
@@ -97,7 +97,7 @@ object_within parent index r xs m m' x a charges e o h = elim (same_or_not (kind
             let long : length ys ≡ length xs + 1 = one_longer xs _ in
             let inside : n * (d + q) ≤ list_count a.word = (o.meets.tagged (is_list, seven)).1 in
             let some : n * q ≤ n * (d + q) = fewer_than_words n d q in
-            rw (list, is_seven) (weaken (length ys + (x - own Value r.segments a) + n * q) (length xs + x + 1) (walked parent index r xs (structs a.segment (a.start + 1) d q n) m') (omega (arith, long, cost.0, inside, some, own_structs r.segments a is_list seven)) (elements_within (walk_within into_list (pred r.levels) index) (record r { levels = pred r.levels; segment = a.segment }) (λ p zs m1 y f. h index a.segment p zs m1 y f) d q n (a.start + 1) ys m' (x - own Value r.segments a) cost.1))
+            rw (list, is_seven) (weaken (length ys + (x - own_charge Value r.segments a) + n * q) (length xs + x + 1) (walked parent index r xs (structs a.segment (a.start + 1) d q n) m') (omega (arith, long, cost.0, inside, some, own_structs r.segments a is_list seven)) (elements_within (walk_within into_list (pred r.levels) index) (record r { levels = pred r.levels; segment = a.segment }) (λ p zs m1 y f. h index a.segment p zs m1 y f) d q n (a.start + 1) ys m' (x - own_charge Value r.segments a) cost.1))
         | inr no_structs ↦
             let not_seven : nat_eq (element_size a.word) 7 ≡ false = ne_eqb _ _ no_structs in
             elim (same_or_not (element_size a.word) 6) [
@@ -105,17 +105,17 @@ object_within parent index r xs m m' x a charges e o h = elim (same_or_not (kind
                   let is_six : nat_eq (element_size a.word) 6 ≡ true = eq-eqb _ _ six in
                   let ys : List WalkedObject = added into_list parent r (pointers a.segment a.start (list_count a.word)) xs in
                   let long : length ys ≡ length xs + 1 = one_longer xs _ in
-                  rw (list, not_seven, is_six) (weaken (length ys + (x - own Value r.segments a) + list_count a.word) (length xs + x + 1) (walked parent index r xs (pointers a.segment a.start (list_count a.word)) m') (omega (arith, long, cost.0, own_pointers r.segments a is_list six)) (pointers_within (walk_within into_list (pred r.levels) index) (record r { levels = pred r.levels; segment = a.segment }) (λ p zs m1 y f. h index a.segment p zs m1 y f) (list_count a.word) a.start ys m' (x - own Value r.segments a) cost.1))
+                  rw (list, not_seven, is_six) (weaken (length ys + (x - own_charge Value r.segments a) + list_count a.word) (length xs + x + 1) (walked parent index r xs (pointers a.segment a.start (list_count a.word)) m') (omega (arith, long, cost.0, own_pointers r.segments a is_list six)) (pointers_within (walk_within into_list (pred r.levels) index) (record r { levels = pred r.levels; segment = a.segment }) (λ p zs m1 y f. h index a.segment p zs m1 y f) (list_count a.word) a.start ys m' (x - own_charge Value r.segments a) cost.1))
               | inr no_pointers ↦
                   let not_six : nat_eq (element_size a.word) 6 ≡ false = ne_eqb _ _ no_pointers in
                   let long : length (added into_list parent r (flat a.segment a.start (element_size a.word) (list_count a.word)) xs) ≡ length xs + 1 = one_longer xs _ in
-                  rw (list, not_seven, not_six) (x - own Value r.segments a, cost.1, omega (arith, long))
+                  rw (list, not_seven, not_six) (x - own_charge Value r.segments a, cost.1, omega (arith, long))
             ]
       ]
 ]
   where
-    cost : (own Value r.segments a ≤ x) × (m'.left ≡ Some (x - own Value r.segments a))
-    cost = paid {m = m} {m' = m'} {charging = r.charging} {g = own Value r.segments a} {k = 1} x charges e (record { covers = o.covers; spent = o.spent })
+    cost : (own_charge Value r.segments a ≤ x) × (m'.left ≡ Some (x - own_charge Value r.segments a))
+    cost = paid {m = m} {m' = m'} {charging = r.charging} {g = own_charge Value r.segments a} {k = 1} x charges e (record { covers = o.covers; spent = o.spent })
 
 -- What was granted before a reading stops.
 unfollowed_paid : {r : Reading} {m m' : Meter} {k : ErrorKind} → Unfollowed r m m' k → (g : ℕ) × Paid r.charging m m' g 1
@@ -137,9 +137,9 @@ place_within parent r xs m x charges e h = elim (same_or_not (word_of r) 0) [
     go : Ends Value r m → Within (length xs + x + 1) (walk_place into_list parent r xs m)
     go (at_capability a f low covered) =
         let read = capability_is Value r a m (λ e. absurd (cc e)) f low covered in
-        let cost = paid {m = m} {m' = after r.charging m a.pads 1} {charging = r.charging} {g = a.pads} {k = 1} x charges e (record { covers = covered; spent = refl }) in
+        let cost = paid {m = m} {m' = after_charge r.charging m a.pads 1} {charging = r.charging} {g = a.pads} {k = 1} x charges e (record { covers = covered; spent = refl }) in
         let long : length (added into_list parent r (capability (upper_half a.word)) xs) ≡ length xs + 1 = one_longer xs _ in
-        rw (leaf into_list parent r xs m (after r.charging m a.pads 1) (capability (upper_half a.word)) (λ f s y. refl) read) (x - a.pads, cost.1, omega (arith, long))
+        rw (leaf into_list parent r xs m (after_charge r.charging m a.pads 1) (capability (upper_half a.word)) (λ f s y. refl) read) (x - a.pads, cost.1, omega (arith, long))
     go (at_object a m' o) =
         rw (opened into_list parent r xs m m' (shape r.segments a) o.meets.levels (entering_is Value r m m' a o)) (object_within parent _ r xs m m' x a charges e o (h o.meets.levels))
     go (refused k m' stopped) =

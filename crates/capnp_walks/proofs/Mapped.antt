@@ -5,7 +5,7 @@ use Rattle.capnp_words.specs.Meter.{Meter}
 use Rattle.capnp_objects.specs.declared.object.Purpose.TheVariants.{Value}
 use Rattle.capnp_objects.specs.Enter.{Shape, nothing, capability, struct, flat, pointers, structs, read}
 use Rattle.capnp_objects.specs.Metered.{Metered, answer, onward}
-use Rattle.capnp_objects.specs.Reading.{Reading, behind}
+use Rattle.capnp_objects.specs.Reading.{Reading, place_past}
 use Rattle.capnp_pointers.specs.Measure.{fold_children, fold_elements, fold_pointers}
 use Rattle.capnp_walks.specs.Listing.{Collector, collected, walked_object}
 use Rattle.capnp_walks.specs.Walks.{Walking, added, unless_stopped, walk_on, walk_within}
@@ -30,13 +30,13 @@ module _ {S T : Type 0} (k : S → T) (f : Reading → S → Metered S) (g : Rea
   pub pointers_kept : (i : ℕ) (r : Reading) (s : S) (m : Meter) → fold_pointers g i r (k s) m ≡ kept k (fold_pointers f i r s m)
   pointers_kept zero r s m = refl
   pointers_kept (suc i) r s m =
-      ap (onward (fold_pointers g i (behind r 1))) (same r s m) ∙ next k (fold_pointers f i (behind r 1)) (fold_pointers g i (behind r 1)) (f r s m) (pointers_kept i (behind r 1))
+      ap (onward (fold_pointers g i (place_past r 1))) (same r s m) ∙ next k (fold_pointers f i (place_past r 1)) (fold_pointers g i (place_past r 1)) (f r s m) (pointers_kept i (place_past r 1))
 
   pub elements_kept : (d q n : ℕ) (r : Reading) (s : S) (m : Meter) → fold_elements g d q n r (k s) m ≡ kept k (fold_elements f d q n r s m)
   elements_kept d q zero r s m = refl
   elements_kept d q (suc n) r s m =
-      ap (onward (fold_elements g d q n (behind r (d + q)))) (pointers_kept q (behind r d) s m)
-      ∙ next k (fold_elements f d q n (behind r (d + q))) (fold_elements g d q n (behind r (d + q))) (fold_pointers f q (behind r d) s m) (elements_kept d q n (behind r (d + q)))
+      ap (onward (fold_elements g d q n (place_past r (d + q)))) (pointers_kept q (place_past r d) s m)
+      ∙ next k (fold_elements f d q n (place_past r (d + q))) (fold_elements g d q n (place_past r (d + q))) (fold_pointers f q (place_past r d) s m) (elements_kept d q n (place_past r (d + q)))
 
   pub children_kept : (r : Reading) (o : Shape) (s : S) (m : Meter) → fold_children g r o (k s) m ≡ kept k (fold_children f r o s m)
   children_kept r nothing s m = refl

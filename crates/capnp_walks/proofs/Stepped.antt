@@ -11,7 +11,7 @@ use Rattle.capnp_objects.specs.declared.object.Purpose.TheVariants.{Value}
 use Rattle.capnp_objects.specs.Enter.{Shape, object_shape, read}
 use Rattle.capnp_objects.specs.Metered.{Metered, answer, onward}
 use Rattle.capnp_objects.specs.Objects.{IsObject}
-use Rattle.capnp_objects.specs.Reading.{Reading, behind}
+use Rattle.capnp_objects.specs.Reading.{Reading, place_past}
 use Rattle.capnp_objects.specs.Refusals.{NotRead}
 use Rattle.capnp_objects.proofs.Computed.{object_is, stopped_is}
 use Rattle.capnp_pointers.specs.Measure.{fold_children, fold_elements, fold_pointers}
@@ -84,16 +84,16 @@ structs_open c parent r x y m m' o start size i w q is wide many object sums =
 -- Once the walk is stopped, the pointers after it add nothing.
 pub pointers_stay : {X : Type 0} (f : Reading → X → Metered (Walking X)) (i : ℕ) (r : Reading) (x : X) (p : RefusedPointer) (m : Meter) → fold_pointers (unless_stopped f) i r (x, Some p) m ≡ (Ok (x, Some p), m)
 pointers_stay f zero r x p m = refl
-pointers_stay f (suc i) r x p m = pointers_stay f i (behind r 1) x p m
+pointers_stay f (suc i) r x p m = pointers_stay f i (place_past r 1) x p m
 
 pub elements_stay : {X : Type 0} (f : Reading → X → Metered (Walking X)) (d q n : ℕ) (r : Reading) (x : X) (p : RefusedPointer) (m : Meter) → fold_elements (unless_stopped f) d q n r (x, Some p) m ≡ (Ok (x, Some p), m)
 elements_stay f d q zero r x p m = refl
 elements_stay f d q (suc n) r x p m =
-    ap (onward (fold_elements (unless_stopped f) d q n (behind r (d + q)))) (pointers_stay f q (behind r d) x p m) ∙ elements_stay f d q n (behind r (d + q)) x p m
+    ap (onward (fold_elements (unless_stopped f) d q n (place_past r (d + q)))) (pointers_stay f q (place_past r d) x p m) ∙ elements_stay f d q n (place_past r (d + q)) x p m
 
 -- The walk stops at the first of several pointers, or among those of the first element.
 pub pointer_stops : {X : Type 0} (f : Reading → X → Metered (Walking X)) (r : Reading) (i : ℕ) (x y : X) (p : RefusedPointer) (m m' : Meter) → f r x m ≡ (Ok (y, Some p), m') → fold_pointers (unless_stopped f) (suc i) r (x, None) m ≡ (Ok (y, Some p), m')
-pointer_stops f r i x y p m m' e = ap (onward (fold_pointers (unless_stopped f) i (behind r 1))) e ∙ pointers_stay f i (behind r 1) y p m'
+pointer_stops f r i x y p m m' e = ap (onward (fold_pointers (unless_stopped f) i (place_past r 1))) e ∙ pointers_stay f i (place_past r 1) y p m'
 
-pub row_stops : {X : Type 0} (f : Reading → X → Metered (Walking X)) (r : Reading) (d q n : ℕ) (x y : X) (p : RefusedPointer) (m m' : Meter) → fold_pointers (unless_stopped f) q (behind r d) (x, None) m ≡ (Ok (y, Some p), m') → fold_elements (unless_stopped f) d q (suc n) r (x, None) m ≡ (Ok (y, Some p), m')
-row_stops f r d q n x y p m m' e = ap (onward (fold_elements (unless_stopped f) d q n (behind r (d + q)))) e ∙ elements_stay f d q n (behind r (d + q)) y p m'
+pub row_stops : {X : Type 0} (f : Reading → X → Metered (Walking X)) (r : Reading) (d q n : ℕ) (x y : X) (p : RefusedPointer) (m m' : Meter) → fold_pointers (unless_stopped f) q (place_past r d) (x, None) m ≡ (Ok (y, Some p), m') → fold_elements (unless_stopped f) d q (suc n) r (x, None) m ≡ (Ok (y, Some p), m')
+row_stops f r d q n x y p m m' e = ap (onward (fold_elements (unless_stopped f) d q n (place_past r (d + q)))) e ∙ elements_stay f d q n (place_past r (d + q)) y p m'

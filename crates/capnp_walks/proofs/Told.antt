@@ -15,7 +15,7 @@ use Rattle.capnp_objects.specs.Enter.{Shape, nothing, capability, struct, flat, 
 use Rattle.capnp_objects.specs.Metered.{Metered, answer, onward}
 use Rattle.capnp_objects.specs.Outcomes.{Entered}
 use Rattle.capnp_objects.specs.Reading.{Reading, word_of, words_from}
-use Rattle.capnp_objects.specs.Spending.{after}
+use Rattle.capnp_objects.specs.Spending.{after_charge}
 use Rattle.capnp_objects.specs.Values.{read_values, read_element_values, object_value, value_within, value}
 use Rattle.capnp_objects.specs.Wanted.{plain}
 use Rattle.capnp_objects.proofs.Computed.{null_is, capability_is, entering_is, stopped_is}
@@ -165,7 +165,7 @@ place_listed parent r xs m h = elim (same_or_not (word_of r) 0) [
     go (at_capability a f low covered) =
         let o : Shape = capability (upper_half a.word) in
         let e = capability_is Value r a m (λ e. absurd (cc e)) f low covered in
-        rw (leaf_is plain r.levels r m (after r.charging m a.pads 1) o (Ok (Capability (upper_half a.word)), after r.charging m a.pads 1) e (λ f at. refl), leaf into_figures parent r xs m (after r.charging m a.pads 1) o (λ f s y. refl) e)
+        rw (leaf_is plain r.levels r m (after_charge r.charging m a.pads 1) o (Ok (Capability (upper_half a.word)), after_charge r.charging m a.pads 1) e (λ f at. refl), leaf into_figures parent r xs m (after_charge r.charging m a.pads 1) o (λ f s y. refl) e)
         refl
     go (at_object a m' o) =
         let e = entering_is Value r m m' a o in

@@ -9,7 +9,7 @@ use Rattle.capnp_making.specs.Makes.{call_at}
 use Rattle.capnp_making.specs.Stored.{IsStored}
 use Rattle.capnp_widening.specs.Anew.{BecomesAnew}
 use Rattle.capnp_widening.specs.declared.remaking.ElementRows.{ElementRows}
-use Rattle.capnp_widening.specs.declared.widening.Room.{Room}
+use Rattle.capnp_widening.specs.declared.widening.Allocation.{Allocation}
 use Rattle.capnp_widening.specs.RowsRemade.{RowsInside, rows_in, as_structs, StoresRows, BecomesList}
 use Rattle.capnp_widening.specs.Widened.{GrowsByZeros}
 use Rattle.capnp_widening.proofs.ListSteps.{ListSteps, ListTaken, ListUndone, list_at, same_size, struct_rows, structs_anew, structs_stored, structs_become, structs_left}
@@ -22,7 +22,7 @@ same_rows x y e = cc
 pub no_rows : (x : ElementRows) → None ≡ Some x → ⊥
 no_rows x e = cc
 
-pub rows_remade : (S T B D P R Z Q : Segments) (id at : ℕ) (old : ElementRows) (size : StructSize) (h : Room) → ListSteps S T B D P R Z Q id at old size h → RemakesList (StoresRows S id at old) size (rewriting id at S Q) (list_at h size old.count)
+pub rows_remade : (S T B D P R Z Q : Segments) (id at : ℕ) (old : ElementRows) (size : StructSize) (h : Allocation) → ListSteps S T B D P R Z Q id at old size h → RemakesList (StoresRows S id at old) size (rewriting id at S Q) (list_at h size old.count)
 rows_remade S T B D P R Z Q id at old size h s = λ t i. go t i.0 i.1
   where
     go : (t : Tree) → IsStored S id at t → rows_in (target S id at) t ≡ Some old → BecomesList (rewriting id at S Q) (list_at h size old.count) t (as_structs size t)
@@ -43,7 +43,7 @@ rows_remade S T B D P R Z Q id at old size h s = λ t i. go t i.0 i.1
         subst (λ o. BecomesList (rewriting id at S Q) (list_at h size o.count) (Pointers ts) (as_structs size (Pointers ts))) same
         (pointers_become S T B D P R Z Q id at ts size h x (subst (λ o. ListSteps S T B D P R Z Q id at o size h) (sym same) s))
 
-pub rows_anew : (s b d p r z q : View) (T : Segments) (id at : ℕ) (old : ElementRows) (size : StructSize) (h : Room) → ListSteps s.words T b.words d.words p.words r.words z.words q.words id at old size h → ListTaken s b d p q id old size h →
+pub rows_anew : (s b d p r z q : View) (T : Segments) (id at : ℕ) (old : ElementRows) (size : StructSize) (h : Allocation) → ListSteps s.words T b.words d.words p.words r.words z.words q.words id at old size h → ListTaken s b d p q id old size h →
     RemakesListAnew (StoresRows s.words id at old) size (call_at id at s q)
 rows_anew s b d p r z q T id at old size h steps t = λ v i. go v i.0 i.1
   where
@@ -62,7 +62,7 @@ rows_anew s b d p r z q T id at old size h steps t = λ v i. go v i.0 i.1
         let same = sym (same_rows (pointer_rows s.words id at ts) old f) in
         pointers_anew s b d p r z q T id at ts size h x (subst (λ o. ListSteps s.words T b.words d.words p.words r.words z.words q.words id at o size h) same steps) (subst (λ o. ListTaken s b d p q id o size h) same t)
 
-pub rows_left : (S T B D P U Z : Segments) (id at : ℕ) (old : ElementRows) (size : StructSize) (h : Room) → ListUndone S T B D P U Z id old size h → LeavesAll (StoresRows S id at old) S Z
+pub rows_left : (S T B D P U Z : Segments) (id at : ℕ) (old : ElementRows) (size : StructSize) (h : Allocation) → ListUndone S T B D P U Z id old size h → LeavesAll (StoresRows S id at old) S Z
 rows_left S T B D P U Z id at old size h s = λ t i. go t i.0 i.1
   where
     go : (t : Tree) → IsStored S id at t → rows_in (target S id at) t ≡ Some old → GrowsByZeros S Z

@@ -12,7 +12,7 @@ use Rattle.capnp_words.specs.declared.wire_pointer.ElementSize.TheVariants.{Inli
 use Rattle.capnp_arena_traits.specs.View.{View}
 use Rattle.capnp_making.specs.Made.{structs_words}
 use Rattle.capnp_making.specs.Makes.{call_at}
-use Rattle.capnp_making.specs.Memory.{KeepsMemory, StandsBehind, TakesWords, start_of}
+use Rattle.capnp_making.specs.Memory.{KeepsMemory, ComesAfter, TakesWords, start_of}
 use Rattle.capnp_format.specs.Path.{word_interval}
 use Rattle.capnp_making.specs.Stored.{IsStored}
 use Rattle.capnp_making.specs.Zeroed.{row, IsZeroed, PadsInside}
@@ -23,9 +23,9 @@ use Rattle.capnp_making.proofs.Below.{pads_inside}
 use Rattle.capnp_making.proofs.Extents.{times-first, once_held}
 use Rattle.capnp_making.proofs.Zeros.{zeroed_again}
 use Rattle.capnp_widening.specs.declared.remaking.ElementRows.{ElementRows}
-use Rattle.capnp_widening.specs.declared.widening.Room.{Room}
+use Rattle.capnp_widening.specs.declared.widening.Allocation.{Allocation}
 use Rattle.capnp_widening.specs.Anew.{BecomesAnew, OnlyWrites, StandsAnew, WritesAnew}
-use Rattle.capnp_widening.specs.Housed.{IsRoom, object_start}
+use Rattle.capnp_widening.specs.Housed.{IsAllocation, object_start}
 use Rattle.capnp_widening.specs.Moved.{Move, Moves, MovesSome, Unmoves}
 use Rattle.capnp_widening.specs.RowsRemade.{IsTagWritten, CopiesData, element_moves, as_structs, BecomesList}
 use Rattle.capnp_widening.specs.Widened.{fill_elements, GrowsByZeros}
@@ -36,15 +36,15 @@ use Rattle.capnp_widening.proofs.Widenings.{count-fill_elements}
 use Rattle.capnp_widening.proofs.Statements.{IsSettled, SettlesRoom, rewriting, rows_moves}
 
 -- Where the first of some structs starts, after its tag, and the list of them.
-abbrev pub first_of : Room → WordPlace
+abbrev pub first_of : Allocation → WordPlace
 first_of h = record { segment = h.segment; at = h.at + h.pads + 1 }
 
-abbrev pub list_at : Room → StructSize → ℕ → ExistingList
+abbrev pub list_at : Allocation → StructSize → ℕ → ExistingList
 list_at h size n = record { segment = h.segment; start = h.at + h.pads + 1; size = InlineComposite; struct_size = size; count = n }
 
-pub record ListSteps (S T B D P R Z Q : Segments) (id at : ℕ) (old : ElementRows) (size : StructSize) (h : Room) : Type 0 where
+pub record ListSteps (S T B D P R Z Q : Segments) (id at : ℕ) (old : ElementRows) (size : StructSize) (h : Allocation) : Type 0 where
   pub place : IsPlace S id at
-  pub room : IsRoom S T id (1 + old.count * (size.data_words + size.pointers)) h
+  pub room : IsAllocation S T id (1 + old.count * (size.data_words + size.pointers)) h
   pub tagged : IsTagWritten T B (record { segment = h.segment; at = h.at + h.pads }) old.count size
   pub copied : CopiesData B D old (first_of h) size
   pub moves : Moves D P (element_moves old (first_of h) size)
@@ -113,7 +113,7 @@ structs_stored S id at d k es x =
     at_level n c (a, m, l, some, o, claim, tag, fits, all, g) =
         subst (λ b. Leads S id at b × (b.start + (1 + element_count es * (d + k)) ≤ length (segment S b.segment))) (sym (ap target_in o.leads_to.1)) (o.leads_to, omega (arith, claim, fits))
 
-structs_made : (S T B D P R Z Q : Segments) (id at d k : ℕ) (es : Elements) (e f : ℕ) (h : Room) → IsStored S id at (Structs d k es) →
+structs_made : (S T B D P R Z Q : Segments) (id at d k : ℕ) (es : Elements) (e f : ℕ) (h : Allocation) → IsStored S id at (Structs d k es) →
     (s : ListSteps S T B D P R Z Q id at (struct_rows S id at d k es) (record { data_words = max d e; pointers = max k f }) h) →
     IsRemade S T D P R Q id at (target S id at) (1 + element_count es * (d + k)) s.settled.0 h.segment h.at h.pads (1 + element_count es * (max d e + max k f))
     (element_moves (struct_rows S id at d k es) (first_of h) (record { data_words = max d e; pointers = max k f }))
@@ -132,7 +132,7 @@ structs_made S T B D P R Z Q id at d k es e f h x s =
     object_remade S T D P R Z Q id at (Structs d k es) (1 + n * (d + k)) (cover_elements S a.segment (a.start + 1) d k es) b h.segment h.at h.pads (1 + n * (wd + wk)) (element_moves (struct_rows S id at d k es) (first_of h) size) stored begun s.moves settled segment_of
     start_of s.place s.object_zeroed s.pads_zeroed
 
-wider_structs : (S T B D P R Z Q : Segments) (id at d k : ℕ) (es : Elements) (e f : ℕ) (h : Room) → IsStored S id at (Structs d k es) →
+wider_structs : (S T B D P R Z Q : Segments) (id at d k : ℕ) (es : Elements) (e f : ℕ) (h : Allocation) → IsStored S id at (Structs d k es) →
     ListSteps S T B D P R Z Q id at (struct_rows S id at d k es) (record { data_words = max d e; pointers = max k f }) h →
     BecomesList (rewriting id at S Q) (list_at h (record { data_words = max d e; pointers = max k f }) (element_count es)) (Structs d k es) (Structs (max d e) (max k f) (fill_elements e f es))
 wider_structs S T B D P R Z Q id at d k es e f h x s =
@@ -161,7 +161,7 @@ same_size d k size l m =
     ap₂ one (let e : max d size.data_words ≡ size.data_words = omega arith in e) (let e : max k size.pointers ≡ size.pointers = omega arith in e)
 
 -- What structs become if the size is known to be at least theirs.
-pub structs_become : (S T B D P R Z Q : Segments) (id at d k : ℕ) (es : Elements) (size : StructSize) (h : Room) → IsStored S id at (Structs d k es) →
+pub structs_become : (S T B D P R Z Q : Segments) (id at d k : ℕ) (es : Elements) (size : StructSize) (h : Allocation) → IsStored S id at (Structs d k es) →
     ListSteps S T B D P R Z Q id at (struct_rows S id at d k es) size h → BecomesList (rewriting id at S Q) (list_at h size (element_count es)) (Structs d k es) (as_structs size (Structs d k es))
 structs_become S T B D P R Z Q id at d k es size h x s =
     let wd = size.data_words in
@@ -171,15 +171,15 @@ structs_become S T B D P R Z Q id at d k es size h x s =
     (wider_structs S T B D P R Z Q id at d k es wd wk h x (subst (λ z. ListSteps S T B D P R Z Q id at (struct_rows S id at d k es) z h) (sym same) s))
 
 -- The place of the list, and the words allocated for it.
-pub record ListTaken (s b d p q : View) (id : ℕ) (old : ElementRows) (size : StructSize) (h : Room) : Type 0 where
+pub record ListTaken (s b d p q : View) (id : ℕ) (old : ElementRows) (size : StructSize) (h : Allocation) : Type 0 where
   pub kept : KeepsMemory s b
   pub taken : TakesWords s b id (structs_words old.count size)
-  pub behind : StandsBehind s id (structs_words old.count size) (object_start h)
+  pub behind : ComesAfter s id (structs_words old.count size) (object_start h)
   pub first : OnlyWrites b d
   pub written : WritesAnew d p (element_moves old (first_of h) size)
   pub last : OnlyWrites p q
 
-structs_anew_at : (s b d p r z q : View) (T : Segments) (id at e k : ℕ) (es : Elements) (f g : ℕ) (h : Room) → IsStored s.words id at (Structs e k es) →
+structs_anew_at : (s b d p r z q : View) (T : Segments) (id at e k : ℕ) (es : Elements) (f g : ℕ) (h : Allocation) → IsStored s.words id at (Structs e k es) →
     ListSteps s.words T b.words d.words p.words r.words z.words q.words id at (struct_rows s.words id at e k es) (record { data_words = max e f; pointers = max k g }) h →
     ListTaken s b d p q id (struct_rows s.words id at e k es) (record { data_words = max e f; pointers = max k g }) h →
     BecomesAnew (call_at id at s q) (Structs e k es) (Structs (max e f) (max k g) (fill_elements f g es))
@@ -192,7 +192,7 @@ structs_anew_at s b d p r z q T id at e k es f g h x steps t =
     subst (λ m. StandsAnew (call_at id at s q) (1 + m * wide) (moves (start_of (target q.words id at)))) (sym (count-fill_elements f g es))
     (object_anew s b d p r q T id at a (1 + n * (e + k)) steps.settled.0 h.segment h.at h.pads (1 + n * wide) moves made t.kept t.taken t.behind t.first t.written t.last)
 
-pub structs_anew : (s b d p r z q : View) (T : Segments) (id at e k : ℕ) (es : Elements) (size : StructSize) (h : Room) → IsStored s.words id at (Structs e k es) →
+pub structs_anew : (s b d p r z q : View) (T : Segments) (id at e k : ℕ) (es : Elements) (size : StructSize) (h : Allocation) → IsStored s.words id at (Structs e k es) →
     ListSteps s.words T b.words d.words p.words r.words z.words q.words id at (struct_rows s.words id at e k es) size h → ListTaken s b d p q id (struct_rows s.words id at e k es) size h →
     BecomesAnew (call_at id at s q) (Structs e k es) (as_structs size (Structs e k es))
 structs_anew s b d p r z q T id at e k es size h x steps t =
@@ -204,8 +204,8 @@ structs_anew s b d p r z q T id at e k es size h x steps t =
     (subst (λ y. ListTaken s b d p q id (struct_rows s.words id at e k es) y h) (sym same) t))
 
 -- A growth is refused on the way.
-pub record ListUndone (S T B D P U Z : Segments) (id : ℕ) (old : ElementRows) (size : StructSize) (h : Room) : Type 0 where
-  pub room : IsRoom S T id (1 + old.count * (size.data_words + size.pointers)) h
+pub record ListUndone (S T B D P U Z : Segments) (id : ℕ) (old : ElementRows) (size : StructSize) (h : Allocation) : Type 0 where
+  pub room : IsAllocation S T id (1 + old.count * (size.data_words + size.pointers)) h
   pub tagged : IsTagWritten T B (record { segment = h.segment; at = h.at + h.pads }) old.count size
   pub copied : CopiesData B D old (first_of h) size
   pub some : MovesSome D P (element_moves old (first_of h) size)
@@ -214,7 +214,7 @@ pub record ListUndone (S T B D P U Z : Segments) (id : ℕ) (old : ElementRows) 
       IsZeroed U Z (row h.segment (h.at + h.pads) (1 + old.count * (size.data_words + size.pointers)) ∷ [])
   pub wider : (old.size.data_words ≤ size.data_words) × (old.size.pointers ≤ size.pointers)
 
-pub structs_left : (S T B D P U Z : Segments) (id at d k : ℕ) (es : Elements) (e f : ℕ) (h : Room) → IsStored S id at (Structs d k es) →
+pub structs_left : (S T B D P U Z : Segments) (id at d k : ℕ) (es : Elements) (e f : ℕ) (h : Allocation) → IsStored S id at (Structs d k es) →
     ListUndone S T B D P U Z id (struct_rows S id at d k es) (record { data_words = max d e; pointers = max k f }) h → GrowsByZeros S Z
 structs_left S T B D P U Z id at d k es e f h x s =
     let a = target S id at in

@@ -15,8 +15,8 @@ use Rattle.capnp_contents.specs.Existing.{plain_list}
 use Rattle.capnp_widening.specs.Anew.{BecomesAnew}
 use Rattle.capnp_making.specs.Stored.{IsStored}
 use Rattle.capnp_making.specs.Zeroed.{row, IsZeroed, PadsInside}
-use Rattle.capnp_widening.specs.declared.widening.Room.{Room}
-use Rattle.capnp_widening.specs.Housed.{IsRoom}
+use Rattle.capnp_widening.specs.declared.widening.Allocation.{Allocation}
+use Rattle.capnp_widening.specs.Housed.{IsAllocation}
 use Rattle.capnp_widening.specs.RowsRemade.{IsTagWritten, BecomesList, as_structs, IsList, NumbersInside}
 use Rattle.capnp_widening.specs.Widened.{struct_for_each}
 use Rattle.capnp_widening.proofs.ListSteps.{list_at}
@@ -25,16 +25,16 @@ use Rattle.capnp_widening.proofs.PointerSteps.{flat_stored}
 use Rattle.capnp_widening.proofs.PlainLists.{are_numbers, numbers_as_structs}
 use Rattle.capnp_widening.proofs.Statements.{SettlesRoom, RemakesList, RemakesListAnew, rewriting, CopiedNumbers}
 
-pub record NumbersMade (S T B D R Z Q : Segments) (id at : ℕ) (old : ExistingList) (size : StructSize) (h : Room) : Type 0 where
+pub record NumbersMade (S T B D R Z Q : Segments) (id at : ℕ) (old : ExistingList) (size : StructSize) (h : Allocation) : Type 0 where
   pub place : IsPlace S id at
-  pub room : IsRoom S T id (1 + old.count * (size.data_words + size.pointers)) h
+  pub room : IsAllocation S T id (1 + old.count * (size.data_words + size.pointers)) h
   pub tagged : IsTagWritten T B (record { segment = h.segment; at = h.at + h.pads }) old.count size
   pub copied : CopiedNumbers B D old.segment old.start (element_bits (size_number old.size)) h.segment (h.at + h.pads + 1) (size.data_words + size.pointers) old.count
   pub settled : SettlesRoom (rewriting id at D R) h (ListShape InlineComposite (old.count * (size.data_words + size.pointers)))
   pub object_zeroed : old.start + words_for (size_number old.size) old.count ≤ length (segment R old.segment) → IsZeroed R Z (row old.segment old.start (words_for (size_number old.size) old.count) ∷ [])
   pub pads_zeroed : PadsInside Z (word_at S id at) → IsZeroed Z Q (pads_of (word_at S id at))
 
-pub numbers_made : (S T B D R Z Q : Segments) (id at : ℕ) (old : ExistingList) (size : StructSize) (h : Room) → 2 ≤ size_number old.size → size_number old.size ≤ 5 → 0 < size.data_words → NumbersMade S T B D R Z Q id at old size h →
+pub numbers_made : (S T B D R Z Q : Segments) (id at : ℕ) (old : ExistingList) (size : StructSize) (h : Allocation) → 2 ≤ size_number old.size → size_number old.size ≤ 5 → 0 < size.data_words → NumbersMade S T B D R Z Q id at old size h →
     RemakesList (IsList S id at old) size (rewriting id at S Q) (list_at h size old.count)
 numbers_made S T B D R Z Q id at old size h two five some s = λ t i.
     (let k = are_numbers S id at t old five i in
@@ -61,7 +61,7 @@ numbers_made S T B D R Z Q id at old size h two five some s = λ t i.
     subst (λ u. BecomesList (rewriting id at S Q) (list_at h size old.count) (Flat w ns) u) (sym (numbers_as_structs size w ns two)) (subst (λ n. BecomesList (rewriting id at S Q) (list_at h size n) (Flat w ns) (Structs size.data_words size.pointers (struct_for_each size.data_words size.pointers ns))) (sym (ap (λ (o : ExistingList). o.count) k.list)) there) in
     subst (λ u. BecomesList (rewriting id at S Q) (list_at h size old.count) u (as_structs size u)) (sym k.tree_of) counted)
 
-pub numbers_made_anew : (s b d r z q : View) (T : Segments) (id at : ℕ) (old : ExistingList) (size : StructSize) (h : Room) → 2 ≤ size_number old.size → size_number old.size ≤ 5 → 0 < size.data_words →
+pub numbers_made_anew : (s b d r z q : View) (T : Segments) (id at : ℕ) (old : ExistingList) (size : StructSize) (h : Allocation) → 2 ≤ size_number old.size → size_number old.size ≤ 5 → 0 < size.data_words →
     NumbersMade s.words T b.words d.words r.words z.words q.words id at old size h → NumbersTaken s b d q id old.count size h → RemakesListAnew (IsList s.words id at old) size (call_at id at s q)
 numbers_made_anew s b d r z q T id at old size h two five some made taken = λ t i.
     (let k = are_numbers s.words id at t old five i in

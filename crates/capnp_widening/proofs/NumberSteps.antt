@@ -13,7 +13,7 @@ use Rattle.capnp_format.specs.Fields.{field_in}
 use Rattle.capnp_arena_traits.specs.View.{View}
 use Rattle.capnp_making.specs.Made.{IsGrown, structs_words}
 use Rattle.capnp_making.specs.Makes.{call_at}
-use Rattle.capnp_making.specs.Memory.{KeepsMemory, StandsBehind, TakesWords, start_of}
+use Rattle.capnp_making.specs.Memory.{KeepsMemory, ComesAfter, TakesWords, start_of}
 use Rattle.capnp_arena_traits.specs.declared.arena.WordPlace.{WordPlace}
 use Rattle.capnp_making.specs.Stored.{IsStored}
 use Rattle.capnp_making.specs.Zeroed.{row, IsZeroed, PadsInside}
@@ -22,9 +22,9 @@ use Rattle.capnp_making.proofs.Below.{split_row}
 use Rattle.capnp_making.proofs.BelowElements.{element_within, next_place}
 use Rattle.capnp_making.proofs.MadeWords.{word_put, outside}
 use Rattle.capnp_making.proofs.Zeros.{of_row}
-use Rattle.capnp_widening.specs.declared.widening.Room.{Room}
+use Rattle.capnp_widening.specs.declared.widening.Allocation.{Allocation}
 use Rattle.capnp_widening.specs.Anew.{BecomesAnew, OnlyWrites, StandsAnew, WritesAnew}
-use Rattle.capnp_widening.specs.Housed.{IsRoom, object_start}
+use Rattle.capnp_widening.specs.Housed.{IsAllocation, object_start}
 use Rattle.capnp_widening.specs.Moved.{Move, fresh_pads, Moves}
 use Rattle.capnp_widening.specs.RowsRemade.{IsTagWritten, BecomesList}
 use Rattle.capnp_widening.specs.Widened.{fill_words, struct_for_each}
@@ -71,9 +71,9 @@ numbers_copied_next S M R s p width v r z i x b apart some place e f =
     within : (y w : ℕ) → times (row v r ((i + 1) * z) ∷ []) y w ≡ 0 → y ≡ v → r ≤ w → w < r + (i + 1) * z → ⊥
     within y w h g k n = omega (arith, subst (λ u. times (row v r ((i + 1) * z) ∷ []) u w ≡ 0) g h, of_row v r ((i + 1) * z) w k n)
 
-pub record NumberSteps (S T B D R Z Q : Segments) (id at width n : ℕ) (size : StructSize) (h : Room) : Type 0 where
+pub record NumberSteps (S T B D R Z Q : Segments) (id at width n : ℕ) (size : StructSize) (h : Allocation) : Type 0 where
   pub place : IsPlace S id at
-  pub room : IsRoom S T id (1 + n * (size.data_words + size.pointers)) h
+  pub room : IsAllocation S T id (1 + n * (size.data_words + size.pointers)) h
   pub tagged : IsTagWritten T B (record { segment = h.segment; at = h.at + h.pads }) n size
   pub copied : CopiedNumbers B D (target S id at).segment (target S id at).start (element_bits width) h.segment (h.at + h.pads + 1) (size.data_words + size.pointers) n
   pub settled : SettlesRoom (rewriting id at D R) h (ListShape InlineComposite (n * (size.data_words + size.pointers)))
@@ -102,7 +102,7 @@ numbers_stand S T B D id at width ns v p pads size x two five g t c =
       zero = λ i j l m n. c.behind i j l m n ∙ t.kept v (p + pads + 1 + i * z + j) (outside v (p + pads) v (p + pads + 1 + i * z + j) (λ e f. omega (arith, f))) ∙ g.zero v (p + pads + 1 + i * z + j) (omega (arith, g.behind));
     }
 
-numbers_made_at : (S T B D R Z Q : Segments) (id at width : ℕ) (ns : List ℕ) (d k : ℕ) (h : Room) → IsStored S id at (Flat width ns) → 2 ≤ width → width ≤ 5 →
+numbers_made_at : (S T B D R Z Q : Segments) (id at width : ℕ) (ns : List ℕ) (d k : ℕ) (h : Allocation) → IsStored S id at (Flat width ns) → 2 ≤ width → width ≤ 5 →
     (s : NumberSteps S T B D R Z Q id at width (length ns) (record { data_words = max 1 d; pointers = k }) h) →
     IsRemade S T D D R Q id at (target S id at) (words_for width (length ns)) s.settled.0 h.segment h.at h.pads (1 + length ns * (max 1 d + k))
     (rows_moves (target S id at).segment (target S id at).start 0 h.segment (h.at + h.pads + 1 + max 1 d) (max 1 d + k) 0 (length ns))
@@ -127,7 +127,7 @@ numbers_made_at S T B D R Z Q id at width ns d k h x two five s =
     let moves : Moves D D ms = subst (λ l. Moves D D l) (sym (no_moves a.segment a.start 0 v (first + wd) z n)) (none_moved D) in
     object_remade S T D D R Z Q id at (Flat width ns) long [] b v h.at h.pads wide ms stored begun moves settled segment_of start_of s.place s.object_zeroed s.pads_zeroed
 
-pub numbers_become : (S T B D R Z Q : Segments) (id at width : ℕ) (ns : List ℕ) (d k : ℕ) (h : Room) → IsStored S id at (Flat width ns) → 2 ≤ width → width ≤ 5 →
+pub numbers_become : (S T B D R Z Q : Segments) (id at width : ℕ) (ns : List ℕ) (d k : ℕ) (h : Allocation) → IsStored S id at (Flat width ns) → 2 ≤ width → width ≤ 5 →
     NumberSteps S T B D R Z Q id at width (length ns) (record { data_words = max 1 d; pointers = k }) h →
     BecomesList (rewriting id at S Q) (list_at h (record { data_words = max 1 d; pointers = k }) (length ns)) (Flat width ns) (Structs (max 1 d) k (struct_for_each d k ns))
 numbers_become S T B D R Z Q id at width ns d k h x two five s =
@@ -172,14 +172,14 @@ numbers_become S T B D R Z Q id at width ns d k h x two five s =
     )
 
 -- The place of the list, and the words allocated for it.
-pub record NumbersTaken (s b d q : View) (id n : ℕ) (size : StructSize) (h : Room) : Type 0 where
+pub record NumbersTaken (s b d q : View) (id n : ℕ) (size : StructSize) (h : Allocation) : Type 0 where
   pub kept : KeepsMemory s b
   pub taken : TakesWords s b id (structs_words n size)
-  pub behind : StandsBehind s id (structs_words n size) (object_start h)
+  pub behind : ComesAfter s id (structs_words n size) (object_start h)
   pub first : OnlyWrites b d
   pub last : OnlyWrites d q
 
-pub numbers_anew : (s b d r z q : View) (T : Segments) (id at width : ℕ) (ns : List ℕ) (e k : ℕ) (h : Room) → IsStored s.words id at (Flat width ns) → 2 ≤ width → width ≤ 5 →
+pub numbers_anew : (s b d r z q : View) (T : Segments) (id at width : ℕ) (ns : List ℕ) (e k : ℕ) (h : Allocation) → IsStored s.words id at (Flat width ns) → 2 ≤ width → width ≤ 5 →
     NumberSteps s.words T b.words d.words r.words z.words q.words id at width (length ns) (record { data_words = max 1 e; pointers = k }) h → NumbersTaken s b d q id (length ns) (record { data_words = max 1 e; pointers = k }) h →
     BecomesAnew (call_at id at s q) (Flat width ns) (Structs (max 1 e) k (struct_for_each e k ns))
 numbers_anew s b d r z q T id at width ns e k h x two five steps t =

@@ -1,4 +1,4 @@
--- Room for landing pads if pointers are moved into another segment.
+-- Allocation for landing pads if pointers are moved into another segment.
 use Rattle.std.proofs.Common.{◌≡◌, ◌≢◌, inl, inr, true, false, ℕ, zero, suc, ◌+◌, ◌-◌, ◌*◌, ◌<◌, ◌≤◌, cond, nat_eq, nat_lt, Result, Ok, Err, IsOk, OnOk, List, [], ◌∷◌, ◌++◌, length, refl, sym, ap, ap₂, ◌∙◌, subst, arith}
 use Rattle.std.proofs.Common.{lt_of_lt_of_le}
 use Rattle.std.proofs.lemmas.Bool.{cases_lt, cases_eq}
@@ -92,7 +92,7 @@ near_same_rows S R s p w v r z v' r' z' k (suc n) m inside same =
 pub none_elsewhere : (s p n x y : ℕ) → x ≢ s → times (row s p n ∷ []) x y ≡ 0
 none_elsewhere s p n x y other = grind (arith, nat_tests)
 
--- Room for pads.
+-- Allocation for pads.
 
 pub fewer_pads : (v : View) (k n m : ℕ) → n ≤ m → HasPadRoom v k m → HasPadRoom v k n
 fewer_pads v k n m l (j, there, other, fits) = (j, there, other, omega (arith, fits))

@@ -18,7 +18,7 @@ use Rattle.capnp_making.proofs.BelowElements.{element_within}
 use Rattle.capnp_making.proofs.Extents.{times-first, times-object}
 use Rattle.capnp_making.proofs.PlacedStructs.{count-zero_elements}
 use Rattle.capnp_widening.specs.declared.remaking.ElementRows.{ElementRows}
-use Rattle.capnp_widening.specs.declared.widening.Room.{Room}
+use Rattle.capnp_widening.specs.declared.widening.Allocation.{Allocation}
 use Rattle.capnp_widening.specs.Anew.{BecomesAnew, StandsAnew, WritesAnew}
 use Rattle.capnp_widening.specs.Moved.{Move, fresh_pads, IsMoved, Moves, MovesSome, Unmoves}
 use Rattle.capnp_widening.specs.RowsRemade.{BecomesList, as_structs}
@@ -57,7 +57,7 @@ pointers_stored S id at ts x = at_level x.means.0 x.means.1 x.means.2
               (λ y w held. x.inside y w (omega (arith, held, parts y w, object y w, times-first (row a.segment a.start (count ts)) (cover_all S a.segment a.start ts) y w))));
         })
 
-pointers_made : (S T B D P R Z Q : Segments) (id at : ℕ) (ts : Trees) (d k : ℕ) (h : Room) → IsStored S id at (Pointers ts) →
+pointers_made : (S T B D P R Z Q : Segments) (id at : ℕ) (ts : Trees) (d k : ℕ) (h : Allocation) → IsStored S id at (Pointers ts) →
     (s : ListSteps S T B D P R Z Q id at (pointer_rows S id at ts) (record { data_words = d; pointers = max 1 k }) h) →
     IsRemade S T D P R Q id at (target S id at) (count ts) s.settled.0 h.segment h.at h.pads (1 + count ts * (d + max 1 k))
     (rows_moves (target S id at).segment (target S id at).start 1 h.segment (h.at + h.pads + 1 + d) (d + max 1 k) 1 (count ts))
@@ -86,7 +86,7 @@ pointers_made S T B D P R Z Q id at ts d k h x s =
     object_remade S T D P R Z Q id at (Pointers ts) n (cover_all S a.segment a.start ts) b v h.at h.pads wide ms stored begun moves settled segment_of start_of s.place
     (subst (λ m. a.start + m ≤ length (segment R a.segment) → IsZeroed R Z (row a.segment a.start m ∷ [])) whole s.object_zeroed) s.pads_zeroed
 
-wider_pointers : (S T B D P R Z Q : Segments) (id at : ℕ) (ts : Trees) (d k : ℕ) (h : Room) → IsStored S id at (Pointers ts) →
+wider_pointers : (S T B D P R Z Q : Segments) (id at : ℕ) (ts : Trees) (d k : ℕ) (h : Allocation) → IsStored S id at (Pointers ts) →
     ListSteps S T B D P R Z Q id at (pointer_rows S id at ts) (record { data_words = d; pointers = max 1 k }) h →
     BecomesList (rewriting id at S Q) (list_at h (record { data_words = d; pointers = max 1 k }) (count ts)) (Pointers ts) (Structs d (max 1 k) (struct_for_each_tree d k ts))
 wider_pointers S T B D P R Z Q id at ts d k h x s =
@@ -126,7 +126,7 @@ wider_pointers S T B D P R Z Q id at ts d k h x s =
       found_there (target Q id at) b d wk (element_count (struct_for_each_tree d k ts)) n v (h.at + h.pads) (ap target_in last.1) segment_of start_of (count-struct_for_each_tree d k ts),
     )
 
-pub pointers_become : (S T B D P R Z Q : Segments) (id at : ℕ) (ts : Trees) (size : StructSize) (h : Room) → IsStored S id at (Pointers ts) →
+pub pointers_become : (S T B D P R Z Q : Segments) (id at : ℕ) (ts : Trees) (size : StructSize) (h : Allocation) → IsStored S id at (Pointers ts) →
     ListSteps S T B D P R Z Q id at (pointer_rows S id at ts) size h → BecomesList (rewriting id at S Q) (list_at h size (count ts)) (Pointers ts) (as_structs size (Pointers ts))
 pointers_become S T B D P R Z Q id at ts size h x s =
     let one : ◌≡◌ {A = StructSize} (record { data_words = size.data_words; pointers = max 1 size.pointers }) size =
@@ -134,7 +134,7 @@ pointers_become S T B D P R Z Q id at ts size h x s =
     subst (λ z. BecomesList (rewriting id at S Q) (list_at h z (count ts)) (Pointers ts) (Structs z.data_words z.pointers (struct_for_each_tree size.data_words size.pointers ts))) one
     (wider_pointers S T B D P R Z Q id at ts size.data_words size.pointers h x (subst (λ z. ListSteps S T B D P R Z Q id at (pointer_rows S id at ts) z h) (sym one) s))
 
-pointers_anew_at : (s b d p r z q : View) (T : Segments) (id at : ℕ) (ts : Trees) (e k : ℕ) (h : Room) → IsStored s.words id at (Pointers ts) →
+pointers_anew_at : (s b d p r z q : View) (T : Segments) (id at : ℕ) (ts : Trees) (e k : ℕ) (h : Allocation) → IsStored s.words id at (Pointers ts) →
     ListSteps s.words T b.words d.words p.words r.words z.words q.words id at (pointer_rows s.words id at ts) (record { data_words = e; pointers = max 1 k }) h →
     ListTaken s b d p q id (pointer_rows s.words id at ts) (record { data_words = e; pointers = max 1 k }) h → BecomesAnew (call_at id at s q) (Pointers ts) (Structs e (max 1 k) (struct_for_each_tree e k ts))
 pointers_anew_at s b d p r z q T id at ts e k h x steps t =
@@ -148,7 +148,7 @@ pointers_anew_at s b d p r z q T id at ts e k h x steps t =
     subst (λ m. StandsAnew (call_at id at s q) (1 + m * wide) (moves (start_of (target q.words id at)))) (sym (count-struct_for_each_tree e k ts))
     (object_anew s b d p r q T id at a n steps.settled.0 h.segment h.at h.pads (1 + n * wide) moves made t.kept t.taken t.behind t.first written t.last)
 
-pub pointers_anew : (s b d p r z q : View) (T : Segments) (id at : ℕ) (ts : Trees) (size : StructSize) (h : Room) → IsStored s.words id at (Pointers ts) →
+pub pointers_anew : (s b d p r z q : View) (T : Segments) (id at : ℕ) (ts : Trees) (size : StructSize) (h : Allocation) → IsStored s.words id at (Pointers ts) →
     ListSteps s.words T b.words d.words p.words r.words z.words q.words id at (pointer_rows s.words id at ts) size h → ListTaken s b d p q id (pointer_rows s.words id at ts) size h →
     BecomesAnew (call_at id at s q) (Pointers ts) (as_structs size (Pointers ts))
 pointers_anew s b d p r z q T id at ts size h x steps t =
@@ -158,7 +158,7 @@ pointers_anew s b d p r z q T id at ts size h x steps t =
     (pointers_anew_at s b d p r z q T id at ts size.data_words size.pointers h x (subst (λ y. ListSteps s.words T b.words d.words p.words r.words z.words q.words id at (pointer_rows s.words id at ts) y h) (sym one) steps)
     (subst (λ y. ListTaken s b d p q id (pointer_rows s.words id at ts) y h) (sym one) t))
 
-pub pointers_left : (S T B D P U Z : Segments) (id at : ℕ) (ts : Trees) (size : StructSize) (h : Room) → IsStored S id at (Pointers ts) → ListUndone S T B D P U Z id (pointer_rows S id at ts) size h → GrowsByZeros S Z
+pub pointers_left : (S T B D P U Z : Segments) (id at : ℕ) (ts : Trees) (size : StructSize) (h : Allocation) → IsStored S id at (Pointers ts) → ListUndone S T B D P U Z id (pointer_rows S id at ts) size h → GrowsByZeros S Z
 pointers_left S T B D P U Z id at ts size h x s =
     let a = target S id at in
     let n = count ts in
@@ -194,7 +194,7 @@ flat_stored S id at w ns x =
 pub void_stored : (S : Segments) (id at : ℕ) (ns : List ℕ) → IsStored S id at (Flat 0 ns) → ObjectStored S id at (Flat 0 ns) 0 []
 void_stored S id at ns x = subst (λ m. ObjectStored S id at (Flat 0 ns) m []) (let e : words_for 0 (length ns) ≡ 0 = omega arith in e) (flat_stored S id at 0 ns x)
 
-void_made : (S T B D P R Z Q : Segments) (id at : ℕ) (ns : List ℕ) (size : StructSize) (h : Room) → IsStored S id at (Flat 0 ns) → (s : ListSteps S T B D P R Z Q id at (void_rows S id at ns) size h) →
+void_made : (S T B D P R Z Q : Segments) (id at : ℕ) (ns : List ℕ) (size : StructSize) (h : Allocation) → IsStored S id at (Flat 0 ns) → (s : ListSteps S T B D P R Z Q id at (void_rows S id at ns) size h) →
     IsRemade S T D P R Q id at (target S id at) 0 s.settled.0 h.segment h.at h.pads (1 + length ns * (size.data_words + size.pointers))
     (rows_moves (target S id at).segment ((target S id at).start + 0 + 0) 0 h.segment (h.at + h.pads + 1 + size.data_words) (size.data_words + size.pointers) 0 (length ns))
 void_made S T B D P R Z Q id at ns size h x s =
@@ -217,7 +217,7 @@ void_made S T B D P R Z Q id at ns size h x s =
     object_remade S T D P R Z Q id at (Flat 0 ns) 0 [] b v h.at h.pads wide ms stored begun s.moves settled segment_of start_of s.place
     (subst (λ m. a.start + m ≤ length (segment R a.segment) → IsZeroed R Z (row a.segment a.start m ∷ [])) (let e : 0 + n * (0 + 0) ≡ 0 = omega arith in e) s.object_zeroed) s.pads_zeroed
 
-pub void_become : (S T B D P R Z Q : Segments) (id at : ℕ) (ns : List ℕ) (size : StructSize) (h : Room) → IsStored S id at (Flat 0 ns) →
+pub void_become : (S T B D P R Z Q : Segments) (id at : ℕ) (ns : List ℕ) (size : StructSize) (h : Allocation) → IsStored S id at (Flat 0 ns) →
     ListSteps S T B D P R Z Q id at (void_rows S id at ns) size h → BecomesList (rewriting id at S Q) (list_at h size (length ns)) (Flat 0 ns) (as_structs size (Flat 0 ns))
 void_become S T B D P R Z Q id at ns size h x s =
     let a = target S id at in
@@ -253,7 +253,7 @@ void_become S T B D P R Z Q id at ns size h x s =
       found_there (target Q id at) b d k (element_count (zero_elements d k n)) n v (h.at + h.pads) (ap target_in last.1) segment_of start_of (count-zero_elements d k n),
     )
 
-pub void_anew : (s b d p r z q : View) (T : Segments) (id at : ℕ) (ns : List ℕ) (size : StructSize) (h : Room) → IsStored s.words id at (Flat 0 ns) →
+pub void_anew : (s b d p r z q : View) (T : Segments) (id at : ℕ) (ns : List ℕ) (size : StructSize) (h : Allocation) → IsStored s.words id at (Flat 0 ns) →
     ListSteps s.words T b.words d.words p.words r.words z.words q.words id at (void_rows s.words id at ns) size h → ListTaken s b d p q id (void_rows s.words id at ns) size h →
     BecomesAnew (call_at id at s q) (Flat 0 ns) (as_structs size (Flat 0 ns))
 void_anew s b d p r z q T id at ns size h x steps t =
@@ -268,7 +268,7 @@ void_anew s b d p r z q T id at ns size h x steps t =
     (subst (λ m. StandsAnew (call_at id at s q) (1 + m * wide) (moves y)) (sym (count-zero_elements size.data_words size.pointers n))
     (object_anew s b d p r q T id at a 0 steps.settled.0 h.segment h.at h.pads (1 + n * wide) moves made t.kept t.taken t.behind t.first t.written t.last))
 
-pub void_left : (S T B D P U Z : Segments) (id at : ℕ) (ns : List ℕ) (size : StructSize) (h : Room) → IsStored S id at (Flat 0 ns) → ListUndone S T B D P U Z id (void_rows S id at ns) size h → GrowsByZeros S Z
+pub void_left : (S T B D P U Z : Segments) (id at : ℕ) (ns : List ℕ) (size : StructSize) (h : Allocation) → IsStored S id at (Flat 0 ns) → ListUndone S T B D P U Z id (void_rows S id at ns) size h → GrowsByZeros S Z
 void_left S T B D P U Z id at ns size h x s =
     let a = target S id at in
     let n = length ns in

@@ -9,7 +9,7 @@ use Rattle.capnp_format.proofs.Frame.{leads_agree}
 use Rattle.capnp_arena_traits.specs.View.{View}
 use Rattle.capnp_arena_traits.specs.Written.{with_word}
 use Rattle.capnp_making.specs.Makes.{call_at}
-use Rattle.capnp_making.specs.Memory.{KeepsMemory, StandsBehind, TakesWords, start_of}
+use Rattle.capnp_making.specs.Memory.{KeepsMemory, ComesAfter, TakesWords, start_of}
 use Rattle.capnp_arena_traits.specs.declared.arena.WordPlace.{WordPlace}
 use Rattle.capnp_format.specs.Path.{word_interval}
 use Rattle.capnp_making.specs.Zeroed.{row, IsZeroed}
@@ -228,7 +228,7 @@ module _ (S T D P R Q : Segments) (u q : ℕ) (a : Target) (size : ℕ) (b : Tar
 -- The object is new, in the words allocated for it and its pads; its pointers are moved to where it
 -- starts.
 pub object_anew : (s t d p r q : View) (T : Segments) (u i : ℕ) (a : Target) (size : ℕ) (b : Target) (v at pads wide : ℕ) (moves : WordPlace → List Move) →
-    IsRemade s.words T d.words p.words r.words q.words u i a size b v at pads wide (moves (record { segment = v; at = at + pads })) → KeepsMemory s t → TakesWords s t u wide → StandsBehind s u wide (record { segment = v; at = at + pads }) → OnlyWrites t d →
+    IsRemade s.words T d.words p.words r.words q.words u i a size b v at pads wide (moves (record { segment = v; at = at + pads })) → KeepsMemory s t → TakesWords s t u wide → ComesAfter s u wide (record { segment = v; at = at + pads }) → OnlyWrites t d →
     WritesAnew d p (moves (record { segment = v; at = at + pads })) → OnlyWrites p q → StandsAnew (call_at u i s q) wide (moves (start_of (target q.words u i)))
 object_anew s t d p r q T u i a size b v at pads wide moves h kept taken behind first w last =
     let start : ℕ → ℕ → WordPlace = λ x y. record { segment = x; at = y } in
@@ -237,7 +237,7 @@ object_anew s t d p r q T u i a size b v at pads wide moves h kept taken behind 
     let goes : target q.words u i ≡ b = ap target_in (leads_last s.words T d.words p.words r.words q.words u i a size b v at pads wide ms h).1 in
     let there : start v (at + pads) ≡ start_of (target q.words u i) = ap₂ start (sym h.segment_of) (sym h.start_of) ∙ ap start_of (sym goes) in
     subst (λ (x : WordPlace). StandsAnew (call_at u i s q) wide (moves x)) there (record {
-      behind = subst (λ (x : WordPlace). StandsBehind s u wide x) there behind;
+      behind = subst (λ (x : WordPlace). ComesAfter s u wide x) there behind;
       forms = written_later s.words p.words q.words ms (new_last s.words T d.words p.words r.words q.words u i a size b v at pads wide ms h) written.0;
       begun = t;
       kept = kept;

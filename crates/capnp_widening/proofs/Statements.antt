@@ -19,10 +19,10 @@ use Rattle.capnp_making.specs.Stored.{IsStored, IsReplaced}
 use Rattle.capnp_making.specs.Zeroed.{row}
 use Rattle.capnp_making.specs.declared.making.Shape.{Shape}
 use Rattle.capnp_arena_traits.specs.declared.arena.WordPlace.{WordPlace}
-use Rattle.capnp_contents.specs.Existing.{StructLiesIn}
+use Rattle.capnp_contents.specs.Existing.{IsStructInside}
 use Rattle.capnp_contents.specs.declared.existing.ExistingList.{ExistingList}
 use Rattle.capnp_contents.specs.declared.existing.ExistingStruct.{ExistingStruct}
-use Rattle.capnp_widening.specs.declared.widening.Room.{Room}
+use Rattle.capnp_widening.specs.declared.widening.Allocation.{Allocation}
 use Rattle.capnp_widening.specs.Anew.{BecomesAnew, IsWrittenAnew, pad_words}
 use Rattle.capnp_widening.specs.Housed.{Settles}
 use Rattle.capnp_widening.specs.declared.moving.PointerRows.{PointerRows}
@@ -46,7 +46,7 @@ abbrev pub WidensStructAnew : (Tree → Type 0) → StructSize → CallAt → Ty
 WidensStructAnew Stands size c = (ws : List ℕ) (ts : Trees) → Stands (Struct ws ts) → BecomesAnew c (Struct ws ts) (widened size ws ts)
 
 abbrev pub LeadsToWiderStruct : (Tree → Type 0) → Segments → ℕ → ℕ → ExistingStruct → Type 0
-LeadsToWiderStruct Stands R s p e = (ws : List ℕ) (ts : Trees) → Stands (Struct ws ts) → (e.segment ≡ (target R s p).segment) × (e.start ≡ (target R s p).start) × StructLiesIn R e
+LeadsToWiderStruct Stands R s p e = (ws : List ℕ) (ts : Trees) → Stands (Struct ws ts) → (e.segment ≡ (target R s p).segment) × (e.start ≡ (target R s p).start) × IsStructInside R e
 
 abbrev pub GrowsForStruct : Segments → Segments → ℕ → ℕ → StructSize → Type 0
 GrowsForStruct S R s p size = (ws : List ℕ) (ts : Trees) → IsStored S s p (Struct ws ts) → GrowsByAtMost S R (widened_words (widened size ws ts) + 1 + 2 * count ts)
@@ -82,10 +82,10 @@ pub record IsSettled (S R : Segments) (u q : ℕ) (b : Target) (v at pads : ℕ)
   pub pads_there : (x y : ℕ) → times (pads_of (word_at R u q)) x y ≡ times (row v at pads ∷ []) x y
   pub kept : (x y : ℕ) → times (word_interval u q ∷ []) x y ≡ 0 → times (row v at pads ∷ []) x y ≡ 0 → word_at R x y ≡ word_at S x y
 
-abbrev pub SettlesRoom : CallAt → Room → Shape → Type 0
+abbrev pub SettlesRoom : CallAt → Allocation → Shape → Type 0
 SettlesRoom c h shape = (b : Target) × IsSettled c.old.words c.new.words c.segment c.at b h.segment h.at h.pads × IsShape shape b.word × (b.segment ≡ h.segment) × (b.start ≡ h.at + h.pads)
 
-pub settled_room : {S R : Segments} {place : WordPlace} {h : Room} {shape : Shape} → Settles S R place h shape → SettlesRoom (rewriting place.segment place.at S R) h shape
+pub settled_room : {S R : Segments} {place : WordPlace} {h : Allocation} {shape : Shape} → Settles S R place h shape → SettlesRoom (rewriting place.segment place.at S R) h shape
 settled_room s = (
   s.object,
   record { segments = s.segments; words = s.words; leads_there = s.leads_there; pads_there = s.pads_there; kept = s.kept },
@@ -94,7 +94,7 @@ settled_room s = (
   s.starts,
 )
 
-pub settles_room : (S R : Segments) (place : WordPlace) (h : Room) (shape : Shape) → SettlesRoom (rewriting place.segment place.at S R) h shape → Settles S R place h shape
+pub settles_room : (S R : Segments) (place : WordPlace) (h : Allocation) (shape : Shape) → SettlesRoom (rewriting place.segment place.at S R) h shape → Settles S R place h shape
 settles_room S R place h shape (b, s, shaped, there, start) = record {
   object = b;
   segments = s.segments;

@@ -10,7 +10,7 @@ use Rattle.capnp_format.proofs.Frame.{times-append}
 use Rattle.capnp_words.specs.declared.wire_pointer.StructSize.{StructSize}
 use Rattle.capnp_making.specs.Made.{IsShape}
 use Rattle.capnp_making.specs.Makes.{call_at}
-use Rattle.capnp_making.specs.Memory.{KeepsMemory, StandsBehind, TakesWords, start_of}
+use Rattle.capnp_making.specs.Memory.{KeepsMemory, ComesAfter, TakesWords, start_of}
 use Rattle.capnp_format.specs.Path.{word_interval}
 use Rattle.capnp_contents.specs.Existing.{struct_in}
 use Rattle.capnp_making.specs.Stored.{IsStored, IsReplaced}
@@ -21,19 +21,19 @@ use Rattle.capnp_making.specs.declared.making.Shape.TheVariants.{Struct as Struc
 use Rattle.capnp_making.proofs.Below.{pads_inside}
 use Rattle.capnp_making.proofs.Extents.{times-first, once_held}
 use Rattle.capnp_making.proofs.Zeros.{zeroed_again}
-use Rattle.capnp_widening.specs.declared.widening.Room.{Room}
+use Rattle.capnp_widening.specs.declared.widening.Allocation.{Allocation}
 use Rattle.capnp_widening.specs.Moved.{Move, Moves, MovesSome, Unmoves}
 use Rattle.capnp_widening.specs.Anew.{BecomesAnew, OnlyWrites, StandsAnew, WritesAnew}
-use Rattle.capnp_widening.specs.Housed.{IsRoom, AreWordsCopied, object_start}
+use Rattle.capnp_widening.specs.Housed.{IsAllocation, AreWordsCopied, object_start}
 use Rattle.capnp_widening.specs.Widened.{fill_words, fill_trees, GrowsByZeros, IsStruct, widened}
 use Rattle.capnp_widening.proofs.Remade.{IsRemade, leads_last, object_anew, undone}
 use Rattle.capnp_widening.proofs.StructRemade.{struct_parts, struct_begun, struct_remade}
 use Rattle.capnp_widening.proofs.Widenings.{length-fill_words, count-fill_trees}
 use Rattle.capnp_widening.proofs.Statements.{LeadsToWiderStruct, LeavesAll, SettlesRoom, WidensStruct, WidensStructAnew, rewriting, row_moves}
 
-pub record StructSteps (S T D P R Z Q : Segments) (id at : ℕ) (old : ExistingStruct) (size : StructSize) (h : Room) : Type 0 where
+pub record StructSteps (S T D P R Z Q : Segments) (id at : ℕ) (old : ExistingStruct) (size : StructSize) (h : Allocation) : Type 0 where
   pub place : IsPlace S id at
-  pub room : IsRoom S T id (size.data_words + size.pointers) h
+  pub room : IsAllocation S T id (size.data_words + size.pointers) h
   pub copied : AreWordsCopied T D (record { segment = old.segment; at = old.start }) (record { segment = h.segment; at = (h.at + h.pads) }) old.size.data_words
   pub moves : Moves D P (row_moves old.segment (old.start + old.size.data_words) h.segment (h.at + h.pads + size.data_words) old.size.pointers)
   pub settled : SettlesRoom (rewriting id at P R) h (StructShape size)
@@ -49,14 +49,14 @@ pub same_struct : (x y : ExistingStruct) → Some x ≡ Some y → x ≡ y
 same_struct x y e = cc
 
 -- What widening a struct leaves: its place means it filled up, and leads to its start.
-record IsWidened (S Q : Segments) (id at : ℕ) (ws : List ℕ) (ts : Trees) (size : StructSize) (h : Room) : Type 0 where
+record IsWidened (S Q : Segments) (id at : ℕ) (ws : List ℕ) (ts : Trees) (size : StructSize) (h : Allocation) : Type 0 where
   replaced : IsReplaced S Q id at (Struct ws ts) (Struct (fill_words size.data_words ws) (fill_trees size.pointers ts))
   segment_of : h.segment ≡ (target Q id at).segment
   start_of : h.at + h.pads ≡ (target Q id at).start
   claim : h.at + h.pads + (size.data_words + size.pointers) ≤ length (segment Q h.segment)
 
 -- The struct is remade, and the old one is zero.
-record RemadeBy (S T D P R Z Q : Segments) (id at : ℕ) (size : StructSize) (h : Room) (ws : List ℕ) (ts : Trees) : Type 0 where
+record RemadeBy (S T D P R Z Q : Segments) (id at : ℕ) (size : StructSize) (h : Allocation) (ws : List ℕ) (ts : Trees) : Type 0 where
   object : Target
   shaped : IsShape (StructShape size) object.word
   made :
@@ -64,7 +64,7 @@ record RemadeBy (S T D P R Z Q : Segments) (id at : ℕ) (size : StructSize) (h 
       (row_moves (target S id at).segment ((target S id at).start + length ws) h.segment (h.at + h.pads + size.data_words) (count ts))
   claim : h.at + h.pads + (size.data_words + size.pointers) ≤ length (segment Q h.segment)
 
-remade_by : (S T D P R Z Q : Segments) (id at : ℕ) (size : StructSize) (h : Room) (ws : List ℕ) (ts : Trees) → IsStored S id at (Struct ws ts) → StructSteps S T D P R Z Q id at (the_struct S id at ws ts) size h → RemadeBy S T D P R Z Q id at size h ws ts
+remade_by : (S T D P R Z Q : Segments) (id at : ℕ) (size : StructSize) (h : Allocation) (ws : List ℕ) (ts : Trees) → IsStored S id at (Struct ws ts) → StructSteps S T D P R Z Q id at (the_struct S id at ws ts) size h → RemadeBy S T D P R Z Q id at size h ws ts
 remade_by S T D P R Z Q id at size h ws ts x s =
     let a = target S id at in
     let n = length ws + count ts in
@@ -102,7 +102,7 @@ remade_by S T D P R Z Q id at size h ws ts x s =
       claim = omega (arith, grown.room, s.copied.words h.segment, moved.grows.words h.segment, settled.words h.segment, z.words h.segment, zz.words h.segment);
     }
 
-is_widened : (S T D P R Z Q : Segments) (id at : ℕ) (size : StructSize) (h : Room) (ws : List ℕ) (ts : Trees) → IsStored S id at (Struct ws ts) → StructSteps S T D P R Z Q id at (the_struct S id at ws ts) size h → IsWidened S Q id at ws ts size h
+is_widened : (S T D P R Z Q : Segments) (id at : ℕ) (size : StructSize) (h : Allocation) (ws : List ℕ) (ts : Trees) → IsStored S id at (Struct ws ts) → StructSteps S T D P R Z Q id at (the_struct S id at ws ts) size h → IsWidened S Q id at ws ts size h
 is_widened S T D P R Z Q id at size h ws ts x s =
     let a = target S id at in
     let r = remade_by S T D P R Z Q id at size h ws ts x s in
@@ -119,15 +119,15 @@ is_widened S T D P R Z Q id at size h ws ts x s =
     }
 
 -- The place of the struct, and the words allocated for it.
-pub record StructTaken (s t d p q : View) (id : ℕ) (old : ExistingStruct) (size : StructSize) (h : Room) : Type 0 where
+pub record StructTaken (s t d p q : View) (id : ℕ) (old : ExistingStruct) (size : StructSize) (h : Allocation) : Type 0 where
   pub kept : KeepsMemory s t
   pub taken : TakesWords s t id (size.data_words + size.pointers)
-  pub behind : StandsBehind s id (size.data_words + size.pointers) (object_start h)
+  pub behind : ComesAfter s id (size.data_words + size.pointers) (object_start h)
   pub first : OnlyWrites t d
   pub written : WritesAnew d p (row_moves old.segment (old.start + old.size.data_words) h.segment (h.at + h.pads + size.data_words) old.size.pointers)
   pub last : OnlyWrites p q
 
-anew_at : (s t d p r z q : View) (id at : ℕ) (size : StructSize) (h : Room) (ws : List ℕ) (ts : Trees) → IsStored s.words id at (Struct ws ts) → StructSteps s.words t.words d.words p.words r.words z.words q.words id at (the_struct s.words id at ws ts) size h →
+anew_at : (s t d p r z q : View) (id at : ℕ) (size : StructSize) (h : Allocation) (ws : List ℕ) (ts : Trees) → IsStored s.words id at (Struct ws ts) → StructSteps s.words t.words d.words p.words r.words z.words q.words id at (the_struct s.words id at ws ts) size h →
     StructTaken s t d p q id (the_struct s.words id at ws ts) size h → BecomesAnew (call_at id at s q) (Struct ws ts) (widened size ws ts)
 anew_at s t d p r z q id at size h ws ts x steps k =
     let a = target s.words id at in
@@ -142,32 +142,32 @@ anew_at s t d p r z q id at size h ws ts x steps k =
     let made = object_anew s t d p r q t.words id at a (length ws + count ts) m.object h.segment h.at h.pads n (moves size.data_words) m.made k.kept k.taken k.behind k.first k.written k.last in
     subst (λ i. StandsAnew (call_at id at s q) i (moves (length (fill_words size.data_words ws)) b)) words (subst (λ i. StandsAnew (call_at id at s q) n (moves i b)) (sym long) made)
 
-pub struct_anew : (s t d p r z q : View) (id at : ℕ) (old : ExistingStruct) (size : StructSize) (h : Room) → StructSteps s.words t.words d.words p.words r.words z.words q.words id at old size h → StructTaken s t d p q id old size h →
+pub struct_anew : (s t d p r z q : View) (id at : ℕ) (old : ExistingStruct) (size : StructSize) (h : Allocation) → StructSteps s.words t.words d.words p.words r.words z.words q.words id at old size h → StructTaken s t d p q id old size h →
     WidensStructAnew (IsStruct s.words id at old) size (call_at id at s q)
 struct_anew s t d p r z q id at old size h steps k = λ ws ts i.
     (let same = sym (same_struct (the_struct s.words id at ws ts) old i.1) in
     anew_at s t d p r z q id at size h ws ts i.0 (subst (λ o. StructSteps s.words t.words d.words p.words r.words z.words q.words id at o size h) same steps) (subst (λ o. StructTaken s t d p q id o size h) same k))
 
-pub struct_rehoused : (S T D P R Z Q : Segments) (id at : ℕ) (old : ExistingStruct) (size : StructSize) (h : Room) → StructSteps S T D P R Z Q id at old size h → WidensStruct (IsStruct S id at old) size (rewriting id at S Q)
+pub struct_rehoused : (S T D P R Z Q : Segments) (id at : ℕ) (old : ExistingStruct) (size : StructSize) (h : Allocation) → StructSteps S T D P R Z Q id at old size h → WidensStruct (IsStruct S id at old) size (rewriting id at S Q)
 struct_rehoused S T D P R Z Q id at old size h s = λ ws ts i.
     (is_widened S T D P R Z Q id at size h ws ts i.0 (subst (λ o. StructSteps S T D P R Z Q id at o size h) (sym (same_struct (the_struct S id at ws ts) old i.1)) s)).replaced
 
-pub struct_leads : (S T D P R Z Q : Segments) (id at : ℕ) (old : ExistingStruct) (size : StructSize) (h : Room) → StructSteps S T D P R Z Q id at old size h →
+pub struct_leads : (S T D P R Z Q : Segments) (id at : ℕ) (old : ExistingStruct) (size : StructSize) (h : Allocation) → StructSteps S T D P R Z Q id at old size h →
     LeadsToWiderStruct (IsStruct S id at old) Q id at (record { segment = h.segment; start = h.at + h.pads; size = size })
 struct_leads S T D P R Z Q id at old size h s = λ ws ts i.
     (let w = is_widened S T D P R Z Q id at size h ws ts i.0 (subst (λ o. StructSteps S T D P R Z Q id at o size h) (sym (same_struct (the_struct S id at ws ts) old i.1)) s) in
     (w.segment_of, w.start_of, omega (arith, w.claim)))
 
 -- A growth is refused on the way.
-pub record StructUndone (S T D P U Z : Segments) (id : ℕ) (old : ExistingStruct) (size : StructSize) (h : Room) : Type 0 where
-  pub room : IsRoom S T id (size.data_words + size.pointers) h
+pub record StructUndone (S T D P U Z : Segments) (id : ℕ) (old : ExistingStruct) (size : StructSize) (h : Allocation) : Type 0 where
+  pub room : IsAllocation S T id (size.data_words + size.pointers) h
   pub copied : AreWordsCopied T D (record { segment = old.segment; at = old.start }) (record { segment = h.segment; at = (h.at + h.pads) }) old.size.data_words
   pub some : MovesSome D P (row_moves old.segment (old.start + old.size.data_words) h.segment (h.at + h.pads + size.data_words) old.size.pointers)
   pub unmoves : Unmoves P U (row_moves old.segment (old.start + old.size.data_words) h.segment (h.at + h.pads + size.data_words) old.size.pointers)
   pub zeroed : h.at + h.pads + (size.data_words + size.pointers) ≤ length (segment U h.segment) → IsZeroed U Z (row h.segment (h.at + h.pads) (size.data_words + size.pointers) ∷ [])
   pub wider : (old.size.data_words ≤ size.data_words) × (old.size.pointers ≤ size.pointers)
 
-pub struct_left : (S T D P U Z : Segments) (id at : ℕ) (old : ExistingStruct) (size : StructSize) (h : Room) → StructUndone S T D P U Z id old size h → LeavesAll (IsStruct S id at old) S Z
+pub struct_left : (S T D P U Z : Segments) (id at : ℕ) (old : ExistingStruct) (size : StructSize) (h : Allocation) → StructUndone S T D P U Z id old size h → LeavesAll (IsStruct S id at old) S Z
 struct_left S T D P U Z id at old size h s = λ t i. each t i.0 i.1
   where
     go : (ws : List ℕ) (ts : Trees) → IsStored S id at (Struct ws ts) → StructUndone S T D P U Z id (the_struct S id at ws ts) size h → GrowsByZeros S Z

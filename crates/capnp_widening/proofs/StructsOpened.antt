@@ -11,9 +11,9 @@ use Rattle.capnp_words.specs.declared.wire_pointer.StructSize.{StructSize}
 use Rattle.capnp_arena_traits.specs.View.{View}
 use Rattle.capnp_contents.specs.declared.existing.ExistingStruct.{ExistingStruct}
 use Rattle.capnp_arena_traits.specs.declared.arena.WordPlace.{WordPlace}
-use Rattle.capnp_contents.specs.Existing.{struct_in, StructLiesIn}
+use Rattle.capnp_contents.specs.Existing.{struct_in, IsStructInside}
 use Rattle.capnp_making.specs.Made.{zero_struct, words_of_zero, nulls, LeadsToStart}
-use Rattle.capnp_making.specs.Memory.{HasRoom, KeepsMemory, SpendsMemory, IsRefusedFor, RefusesWords, StandsBehind, TakesWords, start_of}
+use Rattle.capnp_making.specs.Memory.{HasRoom, KeepsMemory, SpendsMemory, IsRefusedFor, RefusesWords, ComesAfter, TakesWords, start_of}
 use Rattle.capnp_making.specs.Stored.{IsStored, IsReplaced}
 use Rattle.capnp_making.proofs.Filling.{unchanged}
 use Rattle.capnp_making.proofs.FillingMade.{null_stored}
@@ -47,10 +47,10 @@ pub stands_grown : (S R : Segments) (s p : ℕ) (t : Tree) → IsStored S s p t 
 stands_grown S R s p t stored g = grown S R s p t g.grows stored g.kept g.zero
 
 -- The sections of a struct are inside their segment.
-struct_lies : (S : Segments) (s p : ℕ) (ws : List ℕ) (ts : Trees) → IsStored S s p (Struct ws ts) → StructLiesIn S (the_struct S s p ws ts)
+struct_lies : (S : Segments) (s p : ℕ) (ws : List ℕ) (ts : Trees) → IsStored S s p (Struct ws ts) → IsStructInside S (the_struct S s p ws ts)
 struct_lies S s p ws ts stored = at_level stored.means.0 stored.means.1 stored.means.2
   where
-    at_level : (n c : ℕ) → Means S n s p (Struct ws ts) c → StructLiesIn S (the_struct S s p ws ts)
+    at_level : (n c : ℕ) → Means S n s p (Struct ws ts) c → IsStructInside S (the_struct S s p ws ts)
     at_level n c (a, k, some, o, claim, words, all, g) =
         subst (λ (b : Target). b.start + length ws + count ts ≤ length (segment S b.segment)) (sym (ap target_in o.leads_to.1)) (omega (arith, claim))
 
@@ -66,7 +66,7 @@ struct_wide_at v s p ws ts e size stored is l m =
     ap₂ (λ vs us. struct_in (target v.words s p) (Struct vs us)) (wide_words size.data_words ws wide) (wide_trees size.pointers ts many) ∙ ap (λ x. Some x) is in
     record {
       replaced = already_wide v.words s p size.data_words size.pointers ws ts stored wide many;
-      leads = (found, subst (StructLiesIn v.words) is (struct_lies v.words s p ws ts stored));
+      leads = (found, subst (IsStructInside v.words) is (struct_lies v.words s p ws ts stored));
       memory = keeps_itself v;
       unchanged = λ h. refl;
       anew = λ narrow. absurd (narrow (wide, many));
@@ -112,7 +112,7 @@ struct_wider_at a b s p ws ts e f size greater stored is w l m =
     same_place (target b.words s p).segment (target b.words s p).start (length vs) (count us) f.segment f.start greater.data_words greater.pointers (sym leads.0) (sym leads.1) words pointers in
     record {
       replaced = made;
-      leads = (ap (λ x. Some x) same, subst (StructLiesIn b.words) same (struct_lies b.words s p vs us made.stored));
+      leads = (ap (λ x. Some x) same, subst (IsStructInside b.words) same (struct_lies b.words s p vs us made.stored));
       memory = w.memory;
       unchanged = λ h. absurd (w.narrow (omega (arith, h.0, d)) (omega (arith, h.1, q)));
       anew = λ h. w.anew ws ts stored;
@@ -176,7 +176,7 @@ zero_count : (n : ℕ) → length (words_of_zero n) ≡ n
 zero_count n = grind (arith, common_steps)
 
 pub struct_made : (a b : View) (s p : ℕ) (size : StructSize) (h : WordPlace) → IsReplaced a.words b.words s p Null (zero_struct size) → KeepsMemory a b → TakesWords a b s (size.data_words + size.pointers) →
-    StandsBehind a s (size.data_words + size.pointers) (start_of (target b.words s p)) → LeadsToStart b.words s p h →
+    ComesAfter a s (size.data_words + size.pointers) (start_of (target b.words s p)) → LeadsToStart b.words s p h →
     OpensStruct LeadsToOne size (Ok (struct_at h.segment h.at size.data_words size.pointers)) (call_at s p a b) Null
 struct_made a b s p size h made memory taken behind leads =
     let vs : List ℕ = words_of_zero size.data_words in
@@ -186,7 +186,7 @@ struct_made a b s p size h made memory taken behind leads =
     same_place (target b.words s p).segment (target b.words s p).start (length vs) (count us) h.segment h.at size.data_words size.pointers (sym leads.0) (sym leads.1) (zero_count size.data_words) (count-nulls size.pointers) in
     record {
       replaced = made;
-      leads = (ap (λ x. Some x) same, subst (StructLiesIn b.words) same (struct_lies b.words s p vs us made.stored));
+      leads = (ap (λ x. Some x) same, subst (IsStructInside b.words) same (struct_lies b.words s p vs us made.stored));
       memory = memory;
       unchanged = λ h. absurd h;
       anew = λ narrow. subst (λ n. StandsAnew (call_at s p a b) n []) long (record {

@@ -4,7 +4,7 @@ use Rattle.capnp_format.specs.Segments.{Segments, segment}
 use Rattle.capnp_arena_traits.specs.Taking.{IsFirstFit, IsFull, GrowsSegment, GainsSegment}
 use Rattle.capnp_arena_traits.specs.View.{View, KeepsLimits}
 use Rattle.capnp_arena_traits.specs.Written.{with_word}
-use Rattle.capnp_making.specs.Memory.{Lengthens, StandsBehind, TakesWords}
+use Rattle.capnp_making.specs.Memory.{Lengthens, ComesAfter, TakesWords}
 use Rattle.capnp_making.specs.Zeroed.{IsPruned}
 use Rattle.capnp_arena_traits.specs.declared.arena.WordPlace.{WordPlace}
 use Rattle.capnp_making.proofs.Memory.{words_in}
@@ -29,16 +29,16 @@ took_near a t id n p there fits (at, grown) = record {
   far = λ full. absurd (omega arith);
 }
 
-pub stands_near : (a t : View) (id n p : ℕ) → length (segment a.words id) + n ≤ a.room id → GrowsSegment a t n id p → StandsBehind a id n (record { segment = id; at = p })
+pub stands_near : (a t : View) (id n p : ℕ) → length (segment a.words id) + n ≤ a.room id → GrowsSegment a t n id p → ComesAfter a id n (record { segment = id; at = p })
 stands_near a t id n p fits (at, grown) = record { near = λ some room. (refl, at); far = λ full. absurd (omega arith) }
 
 -- Otherwise they are allocated elsewhere, with one more.
 pub took_far : (a mid t : View) (id n k p : ℕ) → mid ≡ a → (length (segment a.words id) + n ≤ a.room id → ⊥) → ((j : ℕ) → IsFirstFit mid (n + 1) j → (k ≡ j) × GrowsSegment mid t (n + 1) j p) →
-    (IsFull mid (n + 1) → GainsSegment mid t (n + 1) k p) → TakesWords a t id n × StandsBehind a id n (record { segment = k; at = p + 1 })
+    (IsFull mid (n + 1) → GainsSegment mid t (n + 1) k p) → TakesWords a t id n × ComesAfter a id n (record { segment = k; at = p + 1 })
 took_far a mid t id n k p e full first another =
     let (next, long, start) = anywhere_lengthens mid t (n + 1) k p first another in
     let h : WordPlace = record { segment = k; at = p + 1 } in
-    subst (λ v. (length (segment v.words id) + n ≤ v.room id → ⊥) → TakesWords v t id n × StandsBehind v id n h) e
+    subst (λ v. (length (segment v.words id) + n ≤ v.room id → ⊥) → TakesWords v t id n × ComesAfter v id n h) e
     (λ none. (
       record { near = λ fits. absurd (none fits); far = λ more. (k, next, long) },
       record { near = λ some fits. absurd (none fits); far = λ more. (next, ap (λ m. m + 1) start) },

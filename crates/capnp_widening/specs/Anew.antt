@@ -10,10 +10,10 @@ use Rattle.capnp_words.specs.declared.wire_pointer.StructSize.{StructSize}
 use Rattle.capnp_format.specs.Word.{kind, is_double, struct_word, upper_half}
 use Rattle.capnp_arena_traits.specs.View.{View, KeepsLimits}
 use Rattle.capnp_contents.specs.declared.existing.ExistingStruct.{ExistingStruct}
-use Rattle.capnp_contents.specs.Existing.{StructLiesIn}
+use Rattle.capnp_contents.specs.Existing.{IsStructInside}
 use Rattle.capnp_making.specs.Makes.{CallAt}
 use Rattle.capnp_making.specs.Memory.{KeepsMemory, SpendsMemory, RefusesWords}
-use Rattle.capnp_making.specs.Memory.{StandsBehind, TakesWords, start_of}
+use Rattle.capnp_making.specs.Memory.{ComesAfter, TakesWords, start_of}
 use Rattle.capnp_making.specs.Stored.{IsReplaced}
 use Rattle.capnp_making.specs.Zeroed.{IsPruned}
 use Rattle.capnp_arena_traits.specs.declared.arena.WordPlace.{WordPlace}
@@ -115,7 +115,7 @@ pub record TakesBack (old new : View) (ms : List Move) : Type 0 where
 -- there, and rewrites these pointers into it. It takes first the words of the object, then those of
 -- the landing pads of these pointers in turn, and no others.
 pub record StandsAnew (c : CallAt) (n : ℕ) (ms : List Move) : Type 0 where
-  pub behind : StandsBehind c.old c.segment n (start_of (target c.new.words c.segment c.at))
+  pub behind : ComesAfter c.old c.segment n (start_of (target c.new.words c.segment c.at))
   pub forms : AreWrittenAnew c.old.words c.new.words ms
   pub begun : View
   pub kept : KeepsMemory c.old begun
@@ -142,7 +142,7 @@ pub record MakesStructWider (result : Result ExistingStruct ErrorKind) (Stands :
       IfOk result
       (λ e. (ws : List ℕ) (ts : Trees) → Stands (Struct ws ts) →
       (e.segment ≡ (target c.new.words c.segment c.at).segment) ×
-      (e.start ≡ (target c.new.words c.segment c.at).start) × StructLiesIn c.new.words e)
+      (e.start ≡ (target c.new.words c.segment c.at).start) × IsStructInside c.new.words e)
   pub anew :
       OnOk result
       ((ws : List ℕ) (ts : Trees) → Stands (Struct ws ts) →

@@ -10,27 +10,28 @@ use Rattle.capnp_making.specs.Zeroed.{row}
 use Rattle.capnp_making.specs.Made.{IsShape, IsGrown}
 use Rattle.capnp_arena_traits.specs.View.{View, KeepsLimits}
 use Rattle.capnp_making.specs.Memory.{KeepsMemory, SpendsMemory, RefusesWords}
-use Rattle.capnp_making.specs.Memory.{StandsBehind, TakesWords}
+use Rattle.capnp_making.specs.Memory.{ComesAfter, TakesWords}
 use Rattle.capnp_making.specs.declared.making.Shape.{Shape}
 use Rattle.capnp_arena_traits.specs.declared.arena.WordPlace.{WordPlace}
 use Rattle.capnp_widening.specs.Rooms.{GrowsByAtMost, HasPadRoom, HasRoomAndPads}
-use Rattle.capnp_widening.specs.declared.widening.Room.{Room}
+use Rattle.capnp_widening.specs.declared.widening.Allocation.{Allocation}
 
 -- From S to T, space for n words has been added, all zero: in segment id, or behind a landing pad.
-abbrev pub IsRoom : Segments → Segments → ℕ → ℕ → Room → Type 0
-IsRoom S T id n h =
+abbrev pub IsAllocation : Segments → Segments → ℕ → ℕ → Allocation → Type 0
+IsAllocation S T id n h =
     IsGrown S T h.segment h.at (h.pads + n) × (((h.pads ≡ 0) × (h.segment ≡ id)) ⊎ (h.pads ≡ 1))
 
 -- Where the object of a room starts, after its pads.
-abbrev pub object_start : Room → WordPlace
+abbrev pub object_start : Allocation → WordPlace
 object_start h = record { segment = h.segment; at = h.at + h.pads }
 
 -- A call allocates n words for an object after all words that were there, and a pad if they aren't
 -- in segment id; or it is refused, and no word is written. It succeeds if there is room for them.
 -- If there was also room for pads of m objects in segment k, that is left.
-pub record TakesRoom (result : Result Room ErrorKind) (old new : View) (id n : ℕ) : Type 0 where
+pub record TakesAllocation (result : Result Allocation ErrorKind) (old new : View)
+    (id n : ℕ) : Type 0 where
   pub words : OnOk result (TakesWords old new id n)
-  pub behind : IfOk result (λ room. StandsBehind old id n (object_start room))
+  pub behind : IfOk result (λ room. ComesAfter old id n (object_start room))
   pub granted : OnOk result (KeepsMemory old new)
   pub memory : IfErr result (SpendsMemory old new)
   pub full : IfErr result (RefusesWords old new n)
@@ -54,7 +55,8 @@ pub record CopiesWords (old new : View) (from to : WordPlace) (n : ℕ) : Type 0
 
 -- From S to R the pointer at a place is overwritten, and leads to the object of this shape that is
 -- in the room h, after the room's pads.
-pub record Settles (S R : Segments) (place : WordPlace) (h : Room) (shape : Shape) : Type 0 where
+pub record Settles (S R : Segments) (place : WordPlace) (h : Allocation)
+    (shape : Shape) : Type 0 where
   pub object : Target
   pub segments : length R ≡ length S
   pub words : (x : ℕ) → length (segment R x) ≡ length (segment S x)

@@ -40,12 +40,12 @@ row_of_moves from to (suc k) =
     ∷ row_of_moves (record from { at = from.at + 1 }) (record to { at = to.at + 1 }) k
 
 -- n words from each of two places are inside their segments.
-pub record BothLieInside (S : Segments) (a b : WordPlace) (n : ℕ) : Type 0 where
+pub record AreBothInside (S : Segments) (a b : WordPlace) (n : ℕ) : Type 0 where
   pub from : a.at + n ≤ length (segment S a.segment)
   pub to : b.at + n ≤ length (segment S b.segment)
 
 -- n rows of k pointers are inside their segment, and so are n other rows.
-pub record RowsLieInside (S : Segments) (a b : PointerRows) (k n : ℕ) : Type 0 where
+pub record AreRowsInside (S : Segments) (a b : PointerRows) (k n : ℕ) : Type 0 where
   pub from : a.at + n * a.step + k ≤ length (segment S a.segment) + a.step
   pub to : b.at + n * b.step + k ≤ length (segment S b.segment) + b.step
   pub small : (a.step < 2 ^ 18) × (b.step < 2 ^ 18)

@@ -12,7 +12,7 @@ use Rattle.capnp_words.specs.declared.wire_pointer.StructSize.{StructSize}
 use Rattle.capnp_contents.specs.declared.existing.ExistingList.{ExistingList}
 use Rattle.capnp_contents.specs.declared.existing.ExistingStruct.{ExistingStruct}
 use Rattle.capnp_arena_traits.specs.declared.arena.WordPlace.{WordPlace}
-use Rattle.capnp_contents.specs.Existing.{list_in, struct_in, StructLiesIn}
+use Rattle.capnp_contents.specs.Existing.{list_in, struct_in, IsStructInside}
 use Rattle.capnp_making.specs.Made.{zero_struct}
 use Rattle.capnp_making.specs.Makes.{CallAt}
 use Rattle.capnp_making.specs.Memory.{KeepsMemory, SpendsMemory}
@@ -64,7 +64,7 @@ Opens size Given c t (Err k) result = (result ≡ Err k) × (c.new ≡ c.old)
 -- The pointer at (s, p) leads to the struct u, which is e; or to the list u, which is l, or None if
 -- u is null. All its structs are inside their segment.
 abbrev pub LeadsToOne : Segments → ℕ → ℕ → Tree → ExistingStruct → Type 0
-LeadsToOne S s p u e = (struct_in (target S s p) u ≡ Some e) × StructLiesIn S e
+LeadsToOne S s p u e = (struct_in (target S s p) u ≡ Some e) × IsStructInside S e
 
 abbrev pub LeadsToAll : Segments → ℕ → ℕ → Tree → Option ExistingList → Type 0
 LeadsToAll S s p u l =

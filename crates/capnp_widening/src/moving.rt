@@ -19,7 +19,7 @@ ghost use Rattle.capnp_making.specs.Zeroed.{IsPruned};
 ghost use Rattle.capnp_format.specs.Path.{word_interval};
 ghost use Rattle.capnp_making.specs.Makes.{call_at};
 ghost use Rattle.capnp_widening.specs.Anew.{IsWrittenAnew, MovesApart, MovesInTurn, MovesRow, TakesBack, WritesAnew, pad_words};
-ghost use Rattle.capnp_widening.specs.Moved.{BothLieInside, RowsLieInside, row_of_moves, Moves, rows_of_moves};
+ghost use Rattle.capnp_widening.specs.Moved.{AreBothInside, AreRowsInside, row_of_moves, Moves, rows_of_moves};
 ghost use Rattle.capnp_widening.specs.Pointed.{HasPlainPads, PointsTo};
 ghost use Rattle.capnp_widening.specs.Rooms.{HasPadRoom, TakesPad};
 
@@ -201,7 +201,7 @@ pub fn move_row<A: BuilderArena>(
     to: WordPlace,
     count: u32,
 ) -> Result<(), ErrorKind>
-    requires { BothLieInside (A.view arena.old).words from to count }
+    requires { AreBothInside (A.view arena.old).words from to count }
     ensures { MovesRow result
         (call_at from.segment from.at (A.view arena.old) (A.view arena.new)) to count }
 {
@@ -222,7 +222,7 @@ fn move_row_apart<A: BuilderArena>(
     to: WordPlace,
     count: u32,
 ) -> Result<(), ErrorKind>
-    requires { BothLieInside (A.view arena.old).words from to count }
+    requires { AreBothInside (A.view arena.old).words from to count }
     ensures { MovesRow result
         (call_at from.segment from.at (A.view arena.old) (A.view arena.new)) to count }
 {
@@ -238,7 +238,7 @@ fn move_each<A: BuilderArena>(
     to: WordPlace,
     count: u32,
 ) -> Result<(), ErrorKind>
-    requires { BothLieInside (A.view arena.old).words from to count }
+    requires { AreBothInside (A.view arena.old).words from to count }
     ensures { MovesRow result
         (call_at from.segment from.at (A.view arena.old) (A.view arena.new)) to count }
 {
@@ -261,7 +261,7 @@ fn move_each<A: BuilderArena>(
 #[cold]
 #[inline(never)]
 pub fn unmove_row<A: BuilderArena>(arena: &mut A, from: WordPlace, to: WordPlace, count: u32)
-    requires { BothLieInside (A.view arena.old).words from to count }
+    requires { AreBothInside (A.view arena.old).words from to count }
     ensures { TakesBack (A.view arena.old) (A.view arena.new) (row_of_moves from to count) }
 {
     for i in 0..count {
@@ -306,7 +306,7 @@ pub fn move_rows<A: BuilderArena>(
     pointers: u32,
     count: u32,
 ) -> Result<(), ErrorKind>
-    requires { RowsLieInside (A.view arena.old).words from to pointers count }
+    requires { AreRowsInside (A.view arena.old).words from to pointers count }
     ensures moves { MovesInTurn result (A.view arena.old) (A.view arena.new)
         (rows_of_moves from to pointers count)
         (count * pointers) }
@@ -342,7 +342,7 @@ pub fn unmove_rows<A: BuilderArena>(
     pointers: u32,
     count: u32,
 )
-    requires { RowsLieInside (A.view arena.old).words from to pointers count }
+    requires { AreRowsInside (A.view arena.old).words from to pointers count }
     ensures { TakesBack (A.view arena.old) (A.view arena.new)
         (rows_of_moves from to pointers count) }
 {

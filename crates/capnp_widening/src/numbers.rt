@@ -13,7 +13,7 @@ ghost use Rattle.capnp_widening.specs.Rooms.{GrowsByAtMost};
 ghost use Rattle.capnp_widening.specs.RowsRemade.{AreNumbersCopied, IsList, MakesListAnew, MakesListOfStructs, NumbersInside};
 
 use crate::remaking::begin_list;
-use crate::widening::settle;
+use crate::widening::point_to_object;
 use capnp_arena_traits::arena::{BuilderArena, WordPlace, set_word};
 use capnp_contents::existing::ExistingList;
 use capnp_making::landing::{length_of, word_of};
@@ -96,7 +96,7 @@ fn remake_numbers<A: BuilderArena>(
     };
     copy_numbers(arena, old, first, size.total());
     let shape = Shape::List(ElementSize::InlineComposite, old.count * size.total());
-    settle(arena, id, at, room, shape);
+    point_to_object(arena, id, at, room, shape);
     zero_part(arena, old.segment, old.start, words_of_numbers(old));
     zero_pads(arena, pointer);
     Ok(ExistingList {

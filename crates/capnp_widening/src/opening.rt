@@ -4,9 +4,9 @@ ghost use Rattle.std.specs.Prelude.{◌-◌, ◌≡◌, ◌+◌, ◌^◌, ◌≤
 ghost use Rattle.capnp_format.specs.Forest.{target};
 ghost use Rattle.capnp_format.specs.Segments.{Grows, IsPlace, word_at};
 ghost use Rattle.capnp_format.specs.Tree.{Tree, Null};
-ghost use Rattle.capnp_contents.specs.Existing.{StructLiesIn, struct_in};
+ghost use Rattle.capnp_contents.specs.Existing.{IsStructInside, struct_in};
 ghost use Rattle.capnp_format.specs.Word.{struct_word};
-ghost use Rattle.capnp_making.specs.Memory.{HasRoom, KeepsMemory, SpendsMemory, TakesWords, StandsBehind, start_of};
+ghost use Rattle.capnp_making.specs.Memory.{HasRoom, KeepsMemory, SpendsMemory, TakesWords, ComesAfter, start_of};
 ghost use Rattle.capnp_making.specs.Stored.{IsStored};
 ghost use Rattle.capnp_making.specs.Makes.{call_at};
 ghost use Rattle.capnp_widening.specs.Opening.{IsNoWider, LeadsToOne, OpensStruct, struct_opened, OpensExistingList, existing_struct};
@@ -53,7 +53,7 @@ pub fn open_struct<A: BuilderArena>(
     ensures empty { word_at (A.view arena.old).words id at ≡ 0 → size.data_words + size.pointers ≡ 0
         → OnOk result (word_at (A.view arena.new).words id at ≡ struct_word (2 ^ 30 - 1) 0 0) }
     ensures behind { word_at (A.view arena.old).words id at ≡ 0
-        → OnOk result (StandsBehind (A.view arena.old) id (size.data_words + size.pointers)
+        → OnOk result (ComesAfter (A.view arena.old) id (size.data_words + size.pointers)
         (start_of (target (A.view arena.new).words id at))) }
     ensures refused { word_at (A.view arena.old).words id at ≡ 0
         → OnErr result ((A.view arena.new).words ≡ (A.view arena.old).words) }
@@ -98,7 +98,7 @@ fn new_struct<A: BuilderArena>(
         (size.data_words + size.pointers)) }
     ensures empty { size.data_words + size.pointers ≡ 0
         → OnOk result (word_at (A.view arena.new).words id at ≡ struct_word (2 ^ 30 - 1) 0 0) }
-    ensures behind { OnOk result (StandsBehind (A.view arena.old) id
+    ensures behind { OnOk result (ComesAfter (A.view arena.old) id
         (size.data_words + size.pointers)
         (start_of (target (A.view arena.new).words id at))) }
     ensures refused { OnErr result ((A.view arena.new).words ≡ (A.view arena.old).words) }
@@ -123,7 +123,7 @@ fn open_narrow_struct<A: BuilderArena>(
     size: StructSize,
 ) -> Result<ExistingStruct, ErrorKind>
     requires place { IsPlace (A.view arena.old).words place.segment place.at }
-    requires inside { StructLiesIn (A.view arena.old).words (existing_struct start narrow) }
+    requires inside { IsStructInside (A.view arena.old).words (existing_struct start narrow) }
     requires known { (t : Tree) → IsStored (A.view arena.old).words place.segment place.at t
         → struct_in (target (A.view arena.old).words place.segment place.at) t
         ≡ Some (existing_struct start narrow) }

@@ -4,16 +4,16 @@ ghost use Rattle.std.specs.Prelude.{ℕ, ◌≡◌, ◌≢◌, ◌↔◌, ◌<�
 ghost use Rattle.capnp_arena_traits.specs.View.{KeepsLimits};
 ghost use Rattle.capnp_format.specs.Segments.{Segments, segment, IsPlace, Grows};
 ghost use Rattle.capnp_making.specs.Made.{structs_words};
-ghost use Rattle.capnp_making.specs.Memory.{KeepsMemory, SpendsMemory, RefusesWords, StandsBehind, TakesWords};
+ghost use Rattle.capnp_making.specs.Memory.{KeepsMemory, SpendsMemory, RefusesWords, ComesAfter, TakesWords};
 ghost use Rattle.capnp_widening.specs.Rooms.{GrowsByAtMost, HasPadRoom, HasRoomAndPads, RefusesGrowth, UsesMemory};
-ghost use Rattle.capnp_widening.specs.Housed.{IsRoom, TakesRoom, object_start};
+ghost use Rattle.capnp_widening.specs.Housed.{IsAllocation, TakesAllocation, object_start};
 ghost use Rattle.capnp_widening.specs.Moved.{MovesSome, Unmoves, near_pointers};
 ghost use Rattle.capnp_widening.specs.RowsRemade.{AreRowsCopied, CanBecome, CopiesData, FillsRows, IsTagWritten, MakesListOfStructs, RowsInside, RemakesRows, StoresRows, element_moves};
 ghost use Rattle.capnp_making.specs.Makes.{call_at};
 ghost use Rattle.capnp_arena_traits.specs.declared.arena.WordPlace.{WordPlace};
 
 use crate::moving::{PointerRows, move_rows, unmove_rows};
-use crate::widening::{Room, copy_words, settle, take};
+use crate::widening::{Allocation, copy_words, point_to_object, allocate_object};
 use capnp_arena_traits::arena::{BuilderArena, WordPlace, set_word};
 use capnp_contents::existing::ExistingList;
 use capnp_making::landing::{length_of, word_of};
@@ -84,18 +84,18 @@ pub(crate) fn begin_list<A: BuilderArena>(
     id: u32,
     count: u32,
     size: StructSize,
-) -> Result<Room, ErrorKind>
+) -> Result<Allocation, ErrorKind>
     requires there { id < length (A.view arena.old).words }
     requires few { size.data_words + size.pointers ≡ 0 → count < 2 ^ 30 }
     requires small { count * (size.data_words + size.pointers) < 2 ^ 29 }
     ensures begun { IfOk result (λ room. (T : Segments)
-        × IsRoom (A.view arena.old).words T id (structs_words count size) room
+        × IsAllocation (A.view arena.old).words T id (structs_words count size) room
         × IsTagWritten T (A.view arena.new).words (object_start room) count size) }
-    ensures room { TakesRoom result (A.view arena.old) (A.view arena.new) id
+    ensures room { TakesAllocation result (A.view arena.old) (A.view arena.new) id
         (structs_words count size) }
 {
     let words = count * size.total();
-    let room = take(arena, id, 1 + words)?;
+    let room = allocate_object(arena, id, 1 + words)?;
     let tag = WirePointer::new_tag(count, size);
     set_word(arena, room.segment, room.at + room.pads, tag.0);
     Ok(room)
@@ -243,7 +243,7 @@ fn remake_rows<A: BuilderArena>(
     match fill_rows(arena, old, first, size) {
         Ok(()) => {
             let shape = Shape::List(ElementSize::InlineComposite, words);
-            settle(arena, id, at, room, shape);
+            point_to_object(arena, id, at, room, shape);
             let step = u64::from(old.size.total());
             let length = u64::from(old.tag) + u64::from(old.count) * step;
             zero_part(arena, old.segment, old.at, length);

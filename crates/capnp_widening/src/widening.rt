@@ -7,15 +7,15 @@ ghost use Rattle.capnp_arena_traits.specs.View.{KeepsLimits};
 ghost use Rattle.capnp_format.specs.Segments.{Grows, segment, IsPlace};
 ghost use Rattle.capnp_format.specs.Forest.{target};
 ghost use Rattle.capnp_format.specs.Tree.{Tree, Trees, Struct, count};
-ghost use Rattle.capnp_contents.specs.Existing.{StructLiesIn, struct_in};
+ghost use Rattle.capnp_contents.specs.Existing.{IsStructInside, struct_in};
 ghost use Rattle.capnp_making.specs.Made.{CountFits, AsksWords};
-ghost use Rattle.capnp_making.specs.Memory.{KeepsMemory, SpendsMemory, RefusesWords, StandsBehind, TakesWords};
+ghost use Rattle.capnp_making.specs.Memory.{KeepsMemory, SpendsMemory, RefusesWords, ComesAfter, TakesWords};
 ghost use Rattle.capnp_making.specs.Makes.{call_at};
 ghost use Rattle.capnp_arena_traits.specs.declared.arena.WordPlace.{WordPlace};
 ghost use Rattle.capnp_making.specs.Stored.{IsStored};
 ghost use Rattle.capnp_widening.specs.Anew.{MakesStructWider};
-ghost use Rattle.capnp_widening.specs.Housed.{IsRoom, CopiesWords, Settles, TakesRoom};
-ghost use Rattle.capnp_widening.specs.Moved.{BothLieInside, near_pointers, row_of_moves};
+ghost use Rattle.capnp_widening.specs.Housed.{IsAllocation, CopiesWords, Settles, TakesAllocation};
+ghost use Rattle.capnp_widening.specs.Moved.{AreBothInside, near_pointers, row_of_moves};
 ghost use Rattle.capnp_widening.specs.Rooms.{GrowsByAtMost, HasPadRoom, HasRoomAndPads, RefusesGrowth, WiderStructFits, widened_words};
 ghost use Rattle.capnp_widening.specs.Widened.{IsStruct, widened};
 
@@ -30,7 +30,7 @@ use capnp_words::wire_pointer::{StructSize, WirePointer};
 
 /// The words that are allocated for an object and, if it needs one, for its landing pad.
 #[derive(Clone, Copy)]
-pub struct Room {
+pub struct Allocation {
     /// The segment of the words.
     pub segment: u32,
     /// The position of the first of these words in the segment: of the landing pad if there is one,
@@ -44,22 +44,22 @@ pub struct Room {
 /// Allocates `amount` words for an object whose pointer is in segment `id`: in that segment if they
 /// fit there. Otherwise allocates one word more, for a landing pad before the object, in any
 /// segment in which the arena finds or makes room.
-pub(crate) fn take<A: BuilderArena>(arena: &mut A, id: u32, amount: u32) -> Result<Room, ErrorKind>
+pub(crate) fn allocate_object<A: BuilderArena>(arena: &mut A, id: u32, amount: u32) -> Result<Allocation, ErrorKind>
     requires there { id < length (A.view arena.old).words }
     requires small { amount < 2 ^ 31 }
-    ensures taken { IfOk result (IsRoom (A.view arena.old).words
+    ensures taken { IfOk result (IsAllocation (A.view arena.old).words
         (A.view arena.new).words id amount) }
-    ensures room { TakesRoom result (A.view arena.old) (A.view arena.new) id amount }
+    ensures room { TakesAllocation result (A.view arena.old) (A.view arena.new) id amount }
 {
     match arena.allocate(id, amount) {
-        Some(at) => Ok(Room {
+        Some(at) => Ok(Allocation {
             segment: id,
             at,
             pads: 0,
         }),
         None => {
             let (segment, at) = arena.allocate_anywhere(amount + 1)?;
-            Ok(Room {
+            Ok(Allocation {
                 segment,
                 at,
                 pads: 1,
@@ -73,7 +73,7 @@ pub(crate) fn take<A: BuilderArena>(arena: &mut A, id: u32, amount: u32) -> Resu
 /// of the arena.
 #[inline(always)]
 pub(crate) fn copy_words<A: BuilderArena>(arena: &mut A, from: WordPlace, to: WordPlace, count: u32)
-    requires inside { BothLieInside (A.view arena.old).words from to count }
+    requires inside { AreBothInside (A.view arena.old).words from to count }
     requires apart { from.segment ≡ to.segment → from.at + count ≤ to.at }
     ensures { CopiesWords (A.view arena.old) (A.view arena.new) from to count }
 {
@@ -88,7 +88,7 @@ pub(crate) fn copy_words<A: BuilderArena>(arena: &mut A, from: WordPlace, to: Wo
 /// Copies the `count` words from `from` on over those from `to` on, by one call of the arena.
 #[inline(never)]
 fn copy_many<A: BuilderArena>(arena: &mut A, from: WordPlace, to: WordPlace, count: u32)
-    requires { BothLieInside (A.view arena.old).words from to count }
+    requires { AreBothInside (A.view arena.old).words from to count }
     ensures { CopiesWords (A.view arena.old) (A.view arena.new) from to count }
 {
     arena.move_words(from, to, count);
@@ -97,7 +97,7 @@ fn copy_many<A: BuilderArena>(arena: &mut A, from: WordPlace, to: WordPlace, cou
 /// Makes the pointer at `at` of segment `id` lead to the object `shape` in `room`. Also writes the
 /// landing pad, if `room` has one.
 #[inline(always)]
-pub(crate) fn settle<A: BuilderArena>(arena: &mut A, id: u32, at: u32, room: Room, shape: Shape)
+pub(crate) fn point_to_object<A: BuilderArena>(arena: &mut A, id: u32, at: u32, room: Allocation, shape: Shape)
     requires place { IsPlace (A.view arena.old).words id at }
     requires inside { room.at + room.pads < length (segment (A.view arena.old).words room.segment) }
     requires apart { (room.segment ≡ id) → at < room.at }
@@ -134,7 +134,7 @@ pub(crate) fn widen_known<A: BuilderArena>(
     size: StructSize,
 ) -> Result<ExistingStruct, ErrorKind>
     requires place { IsPlace (A.view arena.old).words id at }
-    requires inside { StructLiesIn (A.view arena.old).words old }
+    requires inside { IsStructInside (A.view arena.old).words old }
     requires known { (t : Tree) → IsStored (A.view arena.old).words id at t
         → struct_in (target (A.view arena.old).words id at) t ≡ Some old }
     requires narrow { size.data_words ≤ old.size.data_words
@@ -217,7 +217,7 @@ fn widen_struct<A: BuilderArena>(
     size: StructSize,
 ) -> Result<ExistingStruct, ErrorKind>
     requires place { IsPlace (A.view arena.old).words id at }
-    requires inside { StructLiesIn (A.view arena.old).words old }
+    requires inside { IsStructInside (A.view arena.old).words old }
     requires data { old.size.data_words ≤ size.data_words }
     requires pointers { old.size.pointers ≤ size.pointers }
     requires some { 0 < size.data_words + size.pointers }
@@ -236,7 +236,7 @@ fn widen_struct<A: BuilderArena>(
         old.size.pointers)) → IsOk result }
 {
     let pointer = word_of(arena, id, at);
-    let room = take(arena, id, size.total())?;
+    let room = allocate_object(arena, id, size.total())?;
     let made = ExistingStruct {
         segment: room.segment,
         start: room.at + room.pads,
@@ -253,7 +253,7 @@ fn widen_struct<A: BuilderArena>(
     let count = u32::from(old.size.pointers);
     match move_row(arena, from, to, count) {
         Ok(()) => {
-            settle(arena, id, at, room, Shape::Struct(size));
+            point_to_object(arena, id, at, room, Shape::Struct(size));
             zero_part(arena, old.segment, old.start, u64::from(old.size.total()));
             zero_pads(arena, pointer);
             Ok(made)

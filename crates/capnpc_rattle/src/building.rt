@@ -334,7 +334,7 @@ pub const ZEROES: &str = "        ensures ~zeroes~
 ";
 
 /// The tag of a member of a union.
-pub const TAG: &str = "        let tag = Tag {
+pub const TAG: &str = "        let tag = UnionTag {
             offset: ~tag_offset~,
             number: ~tag~,
         };

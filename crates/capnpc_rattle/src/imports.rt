@@ -363,7 +363,7 @@ typed_building::slots
             Slot::|Slot
 
 typed_building::tag
- = Tag {|Tag
+ = UnionTag {|UnionTag
 
 typed_building
  copying::set_|copying

@@ -190,9 +190,9 @@ impl<'m> Output<'m> {
         let nodes = self.nodes;
         for node in nodes {
             match &node.kind {
-                NodeKind::Other(what) => not_written(self.alloc, &mut text, node, what),
+                NodeKind::Other(what) => write_unwritten(self.alloc, &mut text, node, what),
                 NodeKind::Enum(names) if names.is_empty() => {
-                    not_written(self.alloc, &mut text, node, "an enum without names");
+                    write_unwritten(self.alloc, &mut text, node, "an enum without names");
                 }
                 _ => {}
             }
@@ -211,7 +211,7 @@ impl<'m> Output<'m> {
 }
 
 // Writes the line of the root module for a declaration without code.
-fn not_written(alloc: Global, to: &mut Text, node: &Node, what: &str) {
+fn write_unwritten(alloc: Global, to: &mut Text, node: &Node, what: &str) {
     let mut values = Values::new(alloc);
     values.put("full", node.full.as_str());
     values.put("what", what);

@@ -379,7 +379,7 @@ fn put_pointer_field(alloc: Global, slot: &Slot, values: &mut Values) {
     }
     values.put("type", "List ℕ");
     values.put("kind", bytes_kind(of.base));
-    values.put("bytes", bytes_of(of.base));
+    values.put("bytes", bytes_definition(of.base));
     if let Default::Bytes(bytes) = &slot.default {
         values.put_text("numbers", numbers_of(alloc, bytes.as_slice()));
         values.put_text("literal", literal_of(alloc, bytes.as_slice()));
@@ -397,7 +397,7 @@ fn bytes_kind(base: Base) -> &'static str {
 }
 
 // The definition of the bytes of a text, or of data.
-fn bytes_of(base: Base) -> &'static str {
+fn bytes_definition(base: Base) -> &'static str {
     if base == Base::Text {
         "text_bytes"
     } else {

@@ -80,7 +80,7 @@ fn put_stored(slot: &Slot, values: &mut Values) {
         return;
     };
     if base == Base::Bool {
-        values.put("function", "set_bool_or_true");
+        values.put("function", "set_bool_default_true");
         values.put("stored", "(cond value 0 1)");
         return;
     }

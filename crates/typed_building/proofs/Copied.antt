@@ -27,7 +27,7 @@ use Rattle.capnp_readers.specs.declared.readers.PointerReader.{PointerReader}
 use Rattle.capnp_readers.specs.declared.readers.list_reader.ListReader.{ListReader}
 use Rattle.capnp_readers.specs.declared.readers.struct_reader.StructPlace.{StructPlace}
 use Rattle.capnp_readers.specs.declared.readers.struct_reader.StructReader.{StructReader}
-use Rattle.capnp_copies.specs.Changes.{change}
+use Rattle.capnp_copies.specs.Changes.{copy_call}
 use Rattle.capnp_copies.specs.Growth.{TakesAtMost, TakesNone}
 use Rattle.capnp_copies.specs.Originals.{Original, list_original, value_original}
 use Rattle.capnp_copies.specs.Rooms.{CanBeCopied}
@@ -47,7 +47,7 @@ use Rattle.typed_building.proofs.Means.{one_list, one_row}
 
 -- the copy, or null after a refusal
 pub child_copied : {X : Type 0} (r : Result X ErrorKind) (o : Original Tree) (old new : View) (before after : Meter) (place : StructPlace) (i : ℕ) (u : Tree) → i < place.pointers → ((v : Tree) → o.reads plain before after v → v ≡ u) →
-    IfOk r (λ _. PutsCopy o (change plain (call_on place i old new) before after)) → IfErr r (LeavesCleared o (change plain (call_on place i old new) before after)) → MakesChild r (call_in place old.words new.words) i u
+    IfOk r (λ _. PutsCopy o (copy_call plain (call_on place i old new) before after)) → IfErr r (LeavesCleared o (copy_call plain (call_on place i old new) before after)) → MakesChild r (call_in place old.words new.words) i u
 child_copied (Ok x) o old new before after place i u inside same copied refused =
     let puts : Puts old.words new.words place.segment (place.pointers_at + i) u = subst (Puts old.words new.words place.segment (place.pointers_at + i)) (same copied.value copied.is_read) copied.put in
     record {
@@ -138,8 +138,8 @@ pub can_written : {V : Type 0} (o : Original V) (m : Meter) (a b : View) (s : �
 can_written o m a b s w can =
     record { small = can.small; value = can.value; after = can.after; is_read = can.is_read; room = omega (arith, can.room, w.words s, ap (λ (v : View). v.room s) w.limits) }
 
-pub member_read : {X : Type 0} (r : Result X ErrorKind) (o : Original Tree) (old mid new : View) (before after : Meter) (place : StructPlace) (i : ℕ) → OnlyWrites old mid → IfOk r (λ _. PutsCopy o (change plain (call_on place i mid new) before after)) →
-    IfOk r (λ _. ReadsToCopy o (change plain (call_on place i old new) before after))
+pub member_read : {X : Type 0} (r : Result X ErrorKind) (o : Original Tree) (old mid new : View) (before after : Meter) (place : StructPlace) (i : ℕ) → OnlyWrites old mid → IfOk r (λ _. PutsCopy o (copy_call plain (call_on place i mid new) before after)) →
+    IfOk r (λ _. ReadsToCopy o (copy_call plain (call_on place i old new) before after))
 member_read (Ok x) o old mid new before after place i w copied = record {
   value = copied.value;
   is_read = copied.is_read;
@@ -147,15 +147,15 @@ member_read (Ok x) o old mid new before after place i w copied = record {
 }
 member_read (Err k) o old mid new before after place i w copied = tt
 
-pub member_refused : {X : Type 0} (r : Result X ErrorKind) (o : Original Tree) (old mid new : View) (before after : Meter) (place : StructPlace) (i : ℕ) → OnlyWrites old mid → IfErr r (LeavesCleared o (change plain (call_on place i mid new) before after)) →
-    IfErr r (IsNotCopied o (change plain (call_on place i old new) before after))
+pub member_refused : {X : Type 0} (r : Result X ErrorKind) (o : Original Tree) (old mid new : View) (before after : Meter) (place : StructPlace) (i : ℕ) → OnlyWrites old mid → IfErr r (LeavesCleared o (copy_call plain (call_on place i mid new) before after)) →
+    IfErr r (IsNotCopied o (copy_call plain (call_on place i old new) before after))
 member_refused (Ok x) o old mid new before after place i w refused = tt
 member_refused (Err k) o old mid new before after place i w refused =
     let later : (n : ℕ) → mid.room place.segment < length (segment mid.words place.segment) + n → old.room place.segment < length (segment old.words place.segment) + n = λ n beyond. omega (arith, beyond, w.words place.segment, ap (λ (v : View). v.room place.segment) w.limits) in
     record {
       why = elim refused.why [
         | inl x ↦ inl (
-          lacks_before o (change plain (call_on place i mid new) before after) old k (λ n all found. (words_refused_later old mid new n k w.limits found.0, later all found.1)) x.0,
+          lacks_before o (copy_call plain (call_on place i mid new) before after) old k (λ n all found. (words_refused_later old mid new n k w.limits found.0, later all found.1)) x.0,
           λ any m m' t read. later _ (x.1 any m m' t read),
         )
         | inr x ↦ inr x
@@ -168,29 +168,29 @@ member_refused (Err k) o old mid new before after place i w refused =
 none_before : (old mid : View) → OnlyWrites old mid → TakesNone old mid
 none_before old mid w = record { segments = w.segments; words = w.words; room = λ k l. ap (λ (v : View). v.room k) w.limits }
 
-pub struct_taken : {X B : Type 0} (g : Ghosts B) (from : StructReader B g) (r : Result X ErrorKind) (old mid new : View) (before after : Meter) (place : StructPlace) (i : ℕ) → OnlyWrites old mid → TakesAtMost r (struct_read g from) (change plain (call_on place i mid new) before after) →
-    TakesAtMost r (struct_read g from) (change plain (call_on place i old new) before after)
+pub struct_taken : {X B : Type 0} (g : Ghosts B) (from : StructReader B g) (r : Result X ErrorKind) (old mid new : View) (before after : Meter) (place : StructPlace) (i : ℕ) → OnlyWrites old mid → TakesAtMost r (struct_read g from) (copy_call plain (call_on place i mid new) before after) →
+    TakesAtMost r (struct_read g from) (copy_call plain (call_on place i old new) before after)
 struct_taken g from r old mid new before after place i w taken =
-    let c = change plain (call_on place i mid new) before after in
-    let d = change plain (call_on place i old new) before after in
+    let c = copy_call plain (call_on place i mid new) before after in
+    let d = copy_call plain (call_on place i old new) before after in
     taken_so r _ _ _ _
     (λ x. sections_within (data_of g from) (pointers_read g from) from.pointer_count c d (none_before old mid w) (none_itself new) refl x)
     (λ x. sections_until_within (data_of g from) (pointers_read g from) from.pointer_count c d (none_before old mid w) (none_itself new) refl x) taken
 
-pub list_taken : {X B : Type 0} (g : Ghosts B) (from : ListReader B g) (r : Result X ErrorKind) (old mid new : View) (before after : Meter) (place : StructPlace) (i : ℕ) → OnlyWrites old mid → TakesAtMost r (list_read g from) (change plain (call_on place i mid new) before after) →
-    TakesAtMost r (list_read g from) (change plain (call_on place i old new) before after)
+pub list_taken : {X B : Type 0} (g : Ghosts B) (from : ListReader B g) (r : Result X ErrorKind) (old mid new : View) (before after : Meter) (place : StructPlace) (i : ℕ) → OnlyWrites old mid → TakesAtMost r (list_read g from) (copy_call plain (call_on place i mid new) before after) →
+    TakesAtMost r (list_read g from) (copy_call plain (call_on place i old new) before after)
 list_taken g from r old mid new before after place i w taken =
-    let c = change plain (call_on place i mid new) before after in
-    let d = change plain (call_on place i old new) before after in
+    let c = copy_call plain (call_on place i mid new) before after in
+    let d = copy_call plain (call_on place i old new) before after in
     taken_so r _ _ _ _
     (λ x. list_within from.element_size from.struct_size from.count (first_read g from) c d (none_before old mid w) (none_itself new) refl x)
     (λ x. list_until_within from.element_size from.struct_size from.count (first_read g from) c d (none_before old mid w) (none_itself new) refl x) taken
 
-pub pointer_taken : {X : Type 0} (from : Reading) (r : Result X ErrorKind) (old mid new : View) (before after : Meter) (place : StructPlace) (i : ℕ) → OnlyWrites old mid → TakesAtMost r (value_original from) (change plain (call_on place i mid new) before after) →
-    TakesAtMost r (value_original from) (change plain (call_on place i old new) before after)
+pub pointer_taken : {X : Type 0} (from : Reading) (r : Result X ErrorKind) (old mid new : View) (before after : Meter) (place : StructPlace) (i : ℕ) → OnlyWrites old mid → TakesAtMost r (value_original from) (copy_call plain (call_on place i mid new) before after) →
+    TakesAtMost r (value_original from) (copy_call plain (call_on place i old new) before after)
 pointer_taken from r old mid new before after place i w taken =
-    let c = change plain (call_on place i mid new) before after in
-    let d = change plain (call_on place i old new) before after in
+    let c = copy_call plain (call_on place i mid new) before after in
+    let d = copy_call plain (call_on place i old new) before after in
     taken_so r _ _ _ _
     (λ x. value_within from c d (none_before old mid w) (none_itself new) refl x)
     (λ x. until_within from c d (none_before old mid w) (none_itself new) refl x) taken

@@ -14,7 +14,7 @@ use Rattle.capnp_builders.specs.Places.{Field, field}
 use Rattle.typed_building.specs.Members.{MakesMember, ReplacesChildMember, ReplacesMember, SetsChildMember, SetsMember, tag_field, with_data}
 use Rattle.typed_building.specs.Slots.{BeginsGroup, HoldsSlot, HoldsSlots, ReplacesGroup, ReplacesSlots, ZeroesSlots, null_child, null_children, zero_all_data, zero_data}
 use Rattle.typed_building.specs.declared.slots.Slot.{Slot}
-use Rattle.typed_building.specs.declared.tag.Tag.{Tag}
+use Rattle.typed_building.specs.declared.tag.UnionTag.{UnionTag}
 
 -- the opposite of a bit
 pub cond_not : (b : Bool) → ◌≡◌ {A = ℕ} (cond (not b) 1 0) (cond b 0 1)
@@ -28,23 +28,23 @@ sets_as c start bits v u h e = subst (λ z. SetsField c (field start bits z)) e 
 pub replaces_as : (c : CallIn) (start bits v u : ℕ) → ReplacesField c (field start bits v) → v ≡ u → ReplacesField c (field start bits u)
 replaces_as c start bits v u h e = subst (λ z. ReplacesField c (field start bits z)) e h
 
-pub sets_member_as : (c : CallIn) (tag : Tag) (start bits v u : ℕ) → SetsMember c tag (field start bits v) → v ≡ u → SetsMember c tag (field start bits u)
+pub sets_member_as : (c : CallIn) (tag : UnionTag) (start bits v u : ℕ) → SetsMember c tag (field start bits v) → v ≡ u → SetsMember c tag (field start bits u)
 sets_member_as c tag start bits v u h e = subst (λ z. SetsMember c tag (field start bits z)) e h
 
-pub replaces_member_as : (c : CallIn) (tag : Tag) (start bits v u : ℕ) → ReplacesMember c tag (field start bits v) → v ≡ u → ReplacesMember c tag (field start bits u)
+pub replaces_member_as : (c : CallIn) (tag : UnionTag) (start bits v u : ℕ) → ReplacesMember c tag (field start bits v) → v ≡ u → ReplacesMember c tag (field start bits u)
 replaces_member_as c tag start bits v u h e = subst (λ z. ReplacesMember c tag (field start bits z)) e h
 
 -- a member that is a number
-pub sets_member : (S M R : Segments) (place : StructPlace) (tag : Tag) (f : Field) → SetsField (call_in place S M) (tag_field tag) → SetsField (call_in place M R) f → SetsMember (call_in place S R) tag f
+pub sets_member : (S M R : Segments) (place : StructPlace) (tag : UnionTag) (f : Field) → SetsField (call_in place S M) (tag_field tag) → SetsField (call_in place M R) f → SetsMember (call_in place S R) tag f
 sets_member S M R place tag f first then = λ x ws ts h. then x (with_data ws (tag_field tag)) ts (first x ws ts h)
 
-pub replaces_member : (S M R : Segments) (place : StructPlace) (tag : Tag) (f : Field) → SetsField (call_in place S M) (tag_field tag) → ReplacesField (call_in place S M) (tag_field tag) → ReplacesField (call_in place M R) f → ReplacesMember (call_in place S R) tag f
+pub replaces_member : (S M R : Segments) (place : StructPlace) (tag : UnionTag) (f : Field) → SetsField (call_in place S M) (tag_field tag) → ReplacesField (call_in place S M) (tag_field tag) → ReplacesField (call_in place M R) f → ReplacesMember (call_in place S R) tag f
 replaces_member S M R place tag f first replaced then = λ x ws ts h.
     (let vs : List ℕ = with_data ws (tag_field tag) in
     replaced_again S M R x.segment x.at (held_tree x.lead ws ts) (held_tree x.lead vs ts) (held_tree x.lead (with_data vs f) ts) (replaced x ws ts h) (then x vs ts (first x ws ts h)))
 
 -- a member that is an object
-pub makes_member : {V : Type 0} (r : Result V ErrorKind) (S M R : Segments) (place : StructPlace) (tag : Tag) (i : ℕ) (u : Tree) → SetsField (call_in place S M) (tag_field tag) → ReplacesField (call_in place S M) (tag_field tag) → MakesChild r (call_in place M R) i u → MakesMember r (call_in place S R) tag i u
+pub makes_member : {V : Type 0} (r : Result V ErrorKind) (S M R : Segments) (place : StructPlace) (tag : UnionTag) (i : ℕ) (u : Tree) → SetsField (call_in place S M) (tag_field tag) → ReplacesField (call_in place S M) (tag_field tag) → MakesChild r (call_in place M R) i u → MakesMember r (call_in place S R) tag i u
 makes_member (Ok v) S M R place tag i u first replaced then = record {
   sets = λ x ws ts h. then.sets x (with_data ws (tag_field tag)) ts (first x ws ts h);
   replaces = λ x ws ts h. replaced_again S M R x.segment x.at (held_tree x.lead ws ts) (held_tree x.lead (with_data ws (tag_field tag)) ts) (held_tree x.lead (with_data ws (tag_field tag)) (put_tree ts i u)) (replaced x ws ts h) (then.replaces x (with_data ws (tag_field tag)) ts (first x ws ts h));
@@ -70,10 +70,10 @@ replaces_child S R place i at u puts is inside = λ x ws ts h.
     child_replaced S R x place ws ts i u inside (there (tree_at ts i) (child_stored S x place ws ts i inside h)) h)
 
 -- a member that is a pointer, which always gets its new value
-pub sets_child_member : (S M R : Segments) (place : StructPlace) (tag : Tag) (i : ℕ) (u : Tree) → SetsField (call_in place S M) (tag_field tag) → SetsChild (λ z. z) (call_in place M R) i u → SetsChildMember (λ z. z) (call_in place S R) tag i u
+pub sets_child_member : (S M R : Segments) (place : StructPlace) (tag : UnionTag) (i : ℕ) (u : Tree) → SetsField (call_in place S M) (tag_field tag) → SetsChild (λ z. z) (call_in place M R) i u → SetsChildMember (λ z. z) (call_in place S R) tag i u
 sets_child_member S M R place tag i u first then = λ x ws ts h. then x (with_data ws (tag_field tag)) ts (first x ws ts h)
 
-pub replaces_child_member : (S M R : Segments) (place : StructPlace) (tag : Tag) (i : ℕ) (u : Tree) → SetsField (call_in place S M) (tag_field tag) → ReplacesField (call_in place S M) (tag_field tag) → ReplacesChild (λ z. z) (call_in place M R) i u → ReplacesChildMember (λ z. z) (call_in place S R) tag i u
+pub replaces_child_member : (S M R : Segments) (place : StructPlace) (tag : UnionTag) (i : ℕ) (u : Tree) → SetsField (call_in place S M) (tag_field tag) → ReplacesField (call_in place S M) (tag_field tag) → ReplacesChild (λ z. z) (call_in place M R) i u → ReplacesChildMember (λ z. z) (call_in place S R) tag i u
 replaces_child_member S M R place tag i u first replaced then = λ x ws ts h.
     (let vs : List ℕ = with_data ws (tag_field tag) in
     replaced_again S M R x.segment x.at (held_tree x.lead ws ts) (held_tree x.lead vs ts) (held_tree x.lead vs (put_tree ts i u)) (replaced x ws ts h) (then x vs ts (first x ws ts h)))
@@ -108,10 +108,10 @@ replaces_none S place = λ x ws ts h. unchanged S x.segment x.at (held_tree x.le
 
 -- the tag of a group, and then its parts
 
-pub begins_group : (S M R : Segments) (place : StructPlace) (tag : Tag) (slots : List Slot) → SetsField (call_in place S M) (tag_field tag) → ZeroesSlots (call_in place M R) slots → BeginsGroup (call_in place S R) tag slots
+pub begins_group : (S M R : Segments) (place : StructPlace) (tag : UnionTag) (slots : List Slot) → SetsField (call_in place S M) (tag_field tag) → ZeroesSlots (call_in place M R) slots → BeginsGroup (call_in place S R) tag slots
 begins_group S M R place tag slots first rest = λ x ws ts h. rest x (with_data ws (tag_field tag)) ts (first x ws ts h)
 
-pub replaces_group : (S M R : Segments) (place : StructPlace) (tag : Tag) (slots : List Slot) → SetsField (call_in place S M) (tag_field tag) → ReplacesField (call_in place S M) (tag_field tag) → ReplacesSlots (call_in place M R) slots → ReplacesGroup (call_in place S R) tag slots
+pub replaces_group : (S M R : Segments) (place : StructPlace) (tag : UnionTag) (slots : List Slot) → SetsField (call_in place S M) (tag_field tag) → ReplacesField (call_in place S M) (tag_field tag) → ReplacesSlots (call_in place M R) slots → ReplacesGroup (call_in place S R) tag slots
 replaces_group S M R place tag slots first replaced rest = λ x ws ts h.
     (let vs : List ℕ = with_data ws (tag_field tag) in
     replaced_again S M R x.segment x.at (held_tree x.lead ws ts) (held_tree x.lead vs ts) (held_tree x.lead (zero_all_data vs slots) (null_children ts slots)) (replaced x ws ts h) (rest x vs ts (first x ws ts h)))

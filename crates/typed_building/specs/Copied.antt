@@ -8,7 +8,7 @@ use Rattle.capnp_words.specs.declared.error.ErrorKind.{ErrorKind}
 use Rattle.capnp_format.specs.Tree.{Tree, Null, Struct, Flat, Pointers, Structs, no_elements, no_trees}
 use Rattle.capnp_making.specs.Memory.{KeepsMemory, SpendsMemory}
 use Rattle.capnp_readers.specs.Values.{struct_children, struct_data}
-use Rattle.capnp_copies.specs.Changes.{Change, RefusesToCopy}
+use Rattle.capnp_copies.specs.Changes.{CopyCall, RefusesToCopy}
 use Rattle.capnp_copies.specs.Originals.{Original}
 
 -- The copy of the struct t: t itself. Null, which is read as a struct without sections, becomes one.
@@ -28,12 +28,12 @@ copied_list size sections Null = empty_list size sections
 copied_list size sections t = t
 
 -- What is copied is read. Only words change, and the room of new segments.
-pub record ReadsToCopy (o : Original Tree) (c : Change) : Type 0 where
+pub record ReadsToCopy (o : Original Tree) (c : CopyCall) : Type 0 where
   pub value : Tree
   pub is_read : o.reads c.form c.before c.after value
   pub memory : KeepsMemory c.old c.new
 
 -- The copy is refused with k.
-pub record IsNotCopied (o : Original Tree) (c : Change) (k : ErrorKind) : Type 0 where
+pub record IsNotCopied (o : Original Tree) (c : CopyCall) (k : ErrorKind) : Type 0 where
   pub why : RefusesToCopy o c k
   pub memory : SpendsMemory c.old c.new k

@@ -9,7 +9,7 @@ use Rattle.capnp_builders.specs.Held.{CallIn, HasStruct, Holder, held_tree}
 use Rattle.capnp_builders.specs.Places.{field, number_field}
 use Rattle.typed_building.specs.Members.{tag_field, with_data}
 use Rattle.typed_building.specs.declared.slots.Slot.{Slot}
-use Rattle.typed_building.specs.declared.tag.Tag.{Tag}
+use Rattle.typed_building.specs.declared.tag.UnionTag.{UnionTag}
 use Rattle.typed_building.specs.declared.slots.Slot.TheVariants.{Bit, Byte, TwoBytes, FourBytes, EightBytes, Pointer}
 
 -- The part is inside a struct of this place.
@@ -64,14 +64,14 @@ ReplacesSlots c slots =
     (held_tree x.lead (zero_all_data ws slots) (null_children ts slots))
 
 -- The call writes the tag of a union, and makes these parts of the struct zero or null.
-abbrev pub BeginsGroup : CallIn → Tag → List Slot → Type 0
+abbrev pub BeginsGroup : CallIn → UnionTag → List Slot → Type 0
 BeginsGroup c tag slots =
     (x : Holder) (ws : List ℕ) (ts : Trees) → HasStruct c.old x c.place ws ts →
     HasStruct c.new x c.place (zero_all_data (with_data ws (tag_field tag)) slots)
     (null_children ts slots)
 
 -- The call writes the tag, makes these parts zero or null, and changes nothing else of the message.
-abbrev pub ReplacesGroup : CallIn → Tag → List Slot → Type 0
+abbrev pub ReplacesGroup : CallIn → UnionTag → List Slot → Type 0
 ReplacesGroup c tag slots =
     (x : Holder) (ws : List ℕ) (ts : Trees) → HasStruct c.old x c.place ws ts →
     IsReplaced c.old c.new x.segment x.at (held_tree x.lead ws ts)

@@ -6,7 +6,7 @@ ghost use Rattle.capnp_words.specs.declared.error.ErrorKind.{ErrorKind};
 ghost use Rattle.capnp_objects.specs.Wanted.{plain};
 ghost use Rattle.capnp_readers.specs.Readers.{IsStructPlace, read_by};
 ghost use Rattle.capnp_readers.specs.Values.{HasValue, ShowsListOf, ShowsStructOf};
-ghost use Rattle.capnp_copies.specs.Changes.{change};
+ghost use Rattle.capnp_copies.specs.Changes.{copy_call};
 ghost use Rattle.capnp_copies.specs.Growth.{TakesAtMost};
 ghost use Rattle.capnp_copies.specs.Originals.{value_original};
 ghost use Rattle.capnp_copies.specs.Rooms.{CanBeCopied};
@@ -20,7 +20,7 @@ ghost use Rattle.typed_building.specs.Copied.{IsNotCopied, ReadsToCopy, copied_l
 ghost use Rattle.typed_building.specs.Members.{MakesMember};
 ghost use Rattle.typed_building.specs.There.{call_on};
 
-use crate::tag::Tag;
+use crate::tag::UnionTag;
 use crate::value;
 use capnp_arena_traits::arena::{BuilderArena, ReaderArena};
 use capnp_builders::builders::PointerBuilder;
@@ -49,16 +49,16 @@ pub fn set_struct_from<A: BuilderArena, B: ReaderArena>(
     requires inside { IsStructPlace (A.view arena.old).words place }
     requires field { index < place.pointers }
     ensures copied { IfOk result (λ _. PutsCopy (struct_read B.ReaderArena from.now)
-        (change plain (call_on place index (A.view arena.old) (A.view arena.new))
+        (copy_call plain (call_on place index (A.view arena.old) (A.view arena.new))
         lim.old lim.new)) }
     ensures fits { CanBeCopied (struct_read B.ReaderArena from.now) plain lim.old
         (A.view arena.old) place.segment
         → IsOk result }
     ensures refused { IfErr result (LeavesCleared (struct_read B.ReaderArena from.now)
-        (change plain (call_on place index (A.view arena.old) (A.view arena.new))
+        (copy_call plain (call_on place index (A.view arena.old) (A.view arena.new))
         lim.old lim.new)) }
     ensures taken { TakesAtMost result (struct_read B.ReaderArena from.now)
-        (change plain (call_on place index (A.view arena.old) (A.view arena.new))
+        (copy_call plain (call_on place index (A.view arena.old) (A.view arena.new))
         lim.old lim.new) }
     ensures wide { (k : ErrorKind) → (struct_read B.ReaderArena from.now).exceeds plain k
         → (result ≡ Err k) × (lim.new ≡ lim.old) }
@@ -99,16 +99,16 @@ pub fn set_list_from<A: BuilderArena, B: ReaderArena>(
     requires inside { IsStructPlace (A.view arena.old).words place }
     requires field { index < place.pointers }
     ensures copied { IfOk result (λ _. PutsCopy (list_read B.ReaderArena from.now)
-        (change plain (call_on place index (A.view arena.old) (A.view arena.new))
+        (copy_call plain (call_on place index (A.view arena.old) (A.view arena.new))
         lim.old lim.new)) }
     ensures fits { CanBeCopied (list_read B.ReaderArena from.now) plain lim.old
         (A.view arena.old) place.segment
         → IsOk result }
     ensures refused { IfErr result (LeavesCleared (list_read B.ReaderArena from.now)
-        (change plain (call_on place index (A.view arena.old) (A.view arena.new))
+        (copy_call plain (call_on place index (A.view arena.old) (A.view arena.new))
         lim.old lim.new)) }
     ensures taken { TakesAtMost result (list_read B.ReaderArena from.now)
-        (change plain (call_on place index (A.view arena.old) (A.view arena.new))
+        (copy_call plain (call_on place index (A.view arena.old) (A.view arena.new))
         lim.old lim.new) }
     ensures long { (k : ErrorKind) → (list_read B.ReaderArena from.now).exceeds plain k
         → (result ≡ Err k) × (lim.new ≡ lim.old) }
@@ -147,17 +147,17 @@ pub fn set_pointer_from<A: BuilderArena, B: ReaderArena>(
     requires inside { IsStructPlace (A.view arena.old).words place }
     requires field { index < place.pointers }
     ensures copied { IfOk result (λ _. PutsCopy (value_original (read_by B.ReaderArena from.entry))
-        (change plain (call_on place index (A.view arena.old) (A.view arena.new))
+        (copy_call plain (call_on place index (A.view arena.old) (A.view arena.new))
         lim.old lim.new)) }
     ensures fits { CanBeCopied (value_original (read_by B.ReaderArena from.entry)) plain lim.old
         (A.view arena.old) place.segment
         → IsOk result }
     ensures refused { IfErr result (LeavesCleared
         (value_original (read_by B.ReaderArena from.entry))
-        (change plain (call_on place index (A.view arena.old) (A.view arena.new))
+        (copy_call plain (call_on place index (A.view arena.old) (A.view arena.new))
         lim.old lim.new)) }
     ensures taken { TakesAtMost result (value_original (read_by B.ReaderArena from.entry))
-        (change plain (call_on place index (A.view arena.old) (A.view arena.new))
+        (copy_call plain (call_on place index (A.view arena.old) (A.view arena.new))
         lim.old lim.new) }
     ensures grows { Grows (A.view arena.old).words (A.view arena.new).words }
     ensures child { (t : Tree) → HasValue (read_by B.ReaderArena from.entry) t
@@ -181,7 +181,7 @@ pub fn set_pointer_from<A: BuilderArena, B: ReaderArena>(
 pub fn set_struct_from_member<A: BuilderArena, B: ReaderArena>(
     arena: &mut A,
     place: StructPlace,
-    tag: Tag,
+    tag: UnionTag,
     index: usize,
     from: &StructReader<'_, B>,
     lim: &mut ReadLimiter,
@@ -191,16 +191,16 @@ pub fn set_struct_from_member<A: BuilderArena, B: ReaderArena>(
     requires tag { IsInside place.bits 16 tag.offset }
     requires field { index < place.pointers }
     ensures copied { IfOk result (λ _. ReadsToCopy (struct_read B.ReaderArena from.now)
-        (change plain (call_on place index (A.view arena.old) (A.view arena.new))
+        (copy_call plain (call_on place index (A.view arena.old) (A.view arena.new))
         lim.old lim.new)) }
     ensures fits { CanBeCopied (struct_read B.ReaderArena from.now) plain lim.old
         (A.view arena.old) place.segment
         → IsOk result }
     ensures refused { IfErr result (IsNotCopied (struct_read B.ReaderArena from.now)
-        (change plain (call_on place index (A.view arena.old) (A.view arena.new))
+        (copy_call plain (call_on place index (A.view arena.old) (A.view arena.new))
         lim.old lim.new)) }
     ensures taken { TakesAtMost result (struct_read B.ReaderArena from.now)
-        (change plain (call_on place index (A.view arena.old) (A.view arena.new))
+        (copy_call plain (call_on place index (A.view arena.old) (A.view arena.new))
         lim.old lim.new) }
     ensures wide { (k : ErrorKind) → (struct_read B.ReaderArena from.now).exceeds plain k
         → (result ≡ Err k) × (lim.new ≡ lim.old) }
@@ -222,7 +222,7 @@ pub fn set_struct_from_member<A: BuilderArena, B: ReaderArena>(
 pub fn set_list_from_member<A: BuilderArena, B: ReaderArena>(
     arena: &mut A,
     place: StructPlace,
-    tag: Tag,
+    tag: UnionTag,
     index: usize,
     from: &ListReader<'_, B>,
     lim: &mut ReadLimiter,
@@ -232,16 +232,16 @@ pub fn set_list_from_member<A: BuilderArena, B: ReaderArena>(
     requires tag { IsInside place.bits 16 tag.offset }
     requires field { index < place.pointers }
     ensures copied { IfOk result (λ _. ReadsToCopy (list_read B.ReaderArena from.now)
-        (change plain (call_on place index (A.view arena.old) (A.view arena.new))
+        (copy_call plain (call_on place index (A.view arena.old) (A.view arena.new))
         lim.old lim.new)) }
     ensures fits { CanBeCopied (list_read B.ReaderArena from.now) plain lim.old
         (A.view arena.old) place.segment
         → IsOk result }
     ensures refused { IfErr result (IsNotCopied (list_read B.ReaderArena from.now)
-        (change plain (call_on place index (A.view arena.old) (A.view arena.new))
+        (copy_call plain (call_on place index (A.view arena.old) (A.view arena.new))
         lim.old lim.new)) }
     ensures taken { TakesAtMost result (list_read B.ReaderArena from.now)
-        (change plain (call_on place index (A.view arena.old) (A.view arena.new))
+        (copy_call plain (call_on place index (A.view arena.old) (A.view arena.new))
         lim.old lim.new) }
     ensures long { (k : ErrorKind) → (list_read B.ReaderArena from.now).exceeds plain k
         → (result ≡ Err k) × (lim.new ≡ lim.old) }
@@ -263,7 +263,7 @@ pub fn set_list_from_member<A: BuilderArena, B: ReaderArena>(
 pub fn set_pointer_from_member<A: BuilderArena, B: ReaderArena>(
     arena: &mut A,
     place: StructPlace,
-    tag: Tag,
+    tag: UnionTag,
     index: usize,
     from: PointerReader<'_, B>,
     lim: &mut ReadLimiter,
@@ -274,16 +274,16 @@ pub fn set_pointer_from_member<A: BuilderArena, B: ReaderArena>(
     requires field { index < place.pointers }
     ensures copied { IfOk result (λ _. ReadsToCopy
         (value_original (read_by B.ReaderArena from.entry))
-        (change plain (call_on place index (A.view arena.old) (A.view arena.new))
+        (copy_call plain (call_on place index (A.view arena.old) (A.view arena.new))
         lim.old lim.new)) }
     ensures fits { CanBeCopied (value_original (read_by B.ReaderArena from.entry)) plain lim.old
         (A.view arena.old) place.segment
         → IsOk result }
     ensures refused { IfErr result (IsNotCopied (value_original (read_by B.ReaderArena from.entry))
-        (change plain (call_on place index (A.view arena.old) (A.view arena.new))
+        (copy_call plain (call_on place index (A.view arena.old) (A.view arena.new))
         lim.old lim.new)) }
     ensures taken { TakesAtMost result (value_original (read_by B.ReaderArena from.entry))
-        (change plain (call_on place index (A.view arena.old) (A.view arena.new))
+        (copy_call plain (call_on place index (A.view arena.old) (A.view arena.new))
         lim.old lim.new) }
     ensures grows { Grows (A.view arena.old).words (A.view arena.new).words }
     ensures member { (t : Tree) → HasValue (read_by B.ReaderArena from.entry) t

@@ -9,7 +9,7 @@ ghost use Rattle.capnp_widening.specs.Anew.{OnlyWrites};
 ghost use Rattle.typed_building.specs.Slots.{BeginsGroup, HoldsSlot, HoldsSlots, ReplacesGroup, ReplacesSlots, ZeroesSlots};
 
 use crate::slots::Slot;
-use crate::tag::Tag;
+use crate::tag::UnionTag;
 use crate::value;
 use capnp_arena_traits::arena::BuilderArena;
 use capnp_builders::fields;
@@ -61,7 +61,7 @@ pub fn zero_slots<A: BuilderArena>(arena: &mut A, place: StructPlace, slots: &[S
 pub fn zero_slots_member<A: BuilderArena>(
     arena: &mut A,
     place: StructPlace,
-    tag: Tag,
+    tag: UnionTag,
     slots: &[Slot],
 )
     requires aligned { IsAligned place }

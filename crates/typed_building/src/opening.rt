@@ -68,7 +68,7 @@ pub fn get_struct<A: BuilderArena>(
         segment: place.segment,
         at,
     };
-    pointer.find_struct(size, None)
+    pointer.get_struct_place(size, None)
 }
 
 /// Returns the list that pointer `index` leads to, for writing, as a list of structs with sections
@@ -122,7 +122,7 @@ pub fn get_struct_list<A: BuilderArena>(
         segment: place.segment,
         at,
     };
-    pointer.find_struct_list(size, None)
+    pointer.get_struct_list_place(size, None)
 }
 
 /// Returns the list that pointer `index` leads to, for writing. Changes nothing. If the pointer is

@@ -14,7 +14,7 @@ ghost use Rattle.capnp_builders.specs.Places.{IsAligned, element_place, field, n
 ghost use Rattle.typed_building.specs.Members.{MakesMember, ReplacesChildMember, ReplacesMember, SetsChildMember, SetsMember, tag_field};
 ghost use Rattle.typed_building.specs.There.{HasStructsPlace, HasListPlace, HasStructPlace, call_on};
 
-use crate::tag::Tag;
+use crate::tag::UnionTag;
 use capnp_arena_traits::arena::BuilderArena;
 use capnp_builders::fields;
 pub use capnp_builders::fields::{
@@ -60,7 +60,7 @@ pub fn set_number_or<A: BuilderArena, T: Primitive + Zero + Mask>(
 /// Writes bit `offset` of a struct's data, of a field whose default value is `true`: stores the
 /// opposite of `value`. Precondition: the bit is inside the data section.
 #[tactic(auto, using(crate::proofs::Sets::sets_as, crate::proofs::Sets::replaces_as))]
-pub fn set_bool_or_true<A: BuilderArena>(
+pub fn set_bool_default_true<A: BuilderArena>(
     arena: &mut A,
     place: StructPlace,
     offset: usize,
@@ -82,7 +82,7 @@ pub fn set_bool_or_true<A: BuilderArena>(
 
 /// Writes the tag of a union: sets a member without a value. Precondition: the tag is inside the
 /// data section.
-pub fn set_tag<A: BuilderArena>(arena: &mut A, place: StructPlace, tag: Tag)
+pub fn set_tag<A: BuilderArena>(arena: &mut A, place: StructPlace, tag: UnionTag)
     requires aligned { IsAligned place }
     requires inside { IsStructPlace (A.view arena.old).words place }
     requires tag { IsInside place.bits 16 tag.offset }
@@ -102,7 +102,7 @@ pub fn set_tag<A: BuilderArena>(arena: &mut A, place: StructPlace, tag: Tag)
 pub fn set_number_member<A: BuilderArena, T: Primitive + Zero>(
     arena: &mut A,
     place: StructPlace,
-    tag: Tag,
+    tag: UnionTag,
     offset: usize,
     value: T,
 )
@@ -129,7 +129,7 @@ pub fn set_number_member<A: BuilderArena, T: Primitive + Zero>(
 pub fn set_number_or_member<A: BuilderArena, T: Primitive + Zero + Mask>(
     arena: &mut A,
     place: StructPlace,
-    tag: Tag,
+    tag: UnionTag,
     offset: usize,
     value: T,
     default: <T as Mask>::T,
@@ -159,7 +159,7 @@ pub fn set_number_or_member<A: BuilderArena, T: Primitive + Zero + Mask>(
 pub fn set_bool_member<A: BuilderArena>(
     arena: &mut A,
     place: StructPlace,
-    tag: Tag,
+    tag: UnionTag,
     offset: usize,
     value: bool,
 )
@@ -181,12 +181,12 @@ pub fn set_bool_member<A: BuilderArena>(
 }
 
 /// Sets the member of a union that is a bit whose default value is `true`, like `set_bool_member`
-/// and `set_bool_or_true`. Precondition: tag and bit are inside the data section.
+/// and `set_bool_default_true`. Precondition: tag and bit are inside the data section.
 #[tactic(auto, using(crate::proofs::Sets::sets_member, crate::proofs::Sets::replaces_member))]
-pub fn set_bool_or_true_member<A: BuilderArena>(
+pub fn set_bool_default_true_member<A: BuilderArena>(
     arena: &mut A,
     place: StructPlace,
-    tag: Tag,
+    tag: UnionTag,
     offset: usize,
     value: bool,
 )
@@ -204,7 +204,7 @@ pub fn set_bool_or_true_member<A: BuilderArena>(
     ensures memory { OnlyWrites (A.view arena.old) (A.view arena.new) }
 {
     set_tag(arena, place, tag);
-    set_bool_or_true(arena, place, offset, value);
+    set_bool_default_true(arena, place, offset, value);
 }
 
 /// Sets the member of a union that is a text: writes its tag, and makes pointer `index` lead to a
@@ -218,7 +218,7 @@ pub fn set_bool_or_true_member<A: BuilderArena>(
 pub fn set_text_member<A: BuilderArena>(
     arena: &mut A,
     place: StructPlace,
-    tag: Tag,
+    tag: UnionTag,
     index: usize,
     text: &[u8],
 ) -> Result<(), ErrorKind>
@@ -249,7 +249,7 @@ pub fn set_text_member<A: BuilderArena>(
 pub fn set_data_member<A: BuilderArena>(
     arena: &mut A,
     place: StructPlace,
-    tag: Tag,
+    tag: UnionTag,
     index: usize,
     contents: &[u8],
 ) -> Result<(), ErrorKind>
@@ -281,7 +281,7 @@ pub fn set_data_member<A: BuilderArena>(
 pub fn init_struct_member<A: BuilderArena>(
     arena: &mut A,
     place: StructPlace,
-    tag: Tag,
+    tag: UnionTag,
     index: usize,
     size: StructSize,
 ) -> Result<StructPlace, ErrorKind>
@@ -318,7 +318,7 @@ pub fn init_struct_member<A: BuilderArena>(
 pub fn init_struct_list_member<A: BuilderArena>(
     arena: &mut A,
     place: StructPlace,
-    tag: Tag,
+    tag: UnionTag,
     index: usize,
     count: u32,
     size: StructSize,
@@ -360,7 +360,7 @@ pub fn init_struct_list_member<A: BuilderArena>(
 pub fn init_list_member<A: BuilderArena>(
     arena: &mut A,
     place: StructPlace,
-    tag: Tag,
+    tag: UnionTag,
     index: usize,
     size: ElementSize,
     count: u32,
@@ -437,7 +437,7 @@ pub fn set_capability<A: BuilderArena>(
 pub fn set_capability_member<A: BuilderArena>(
     arena: &mut A,
     place: StructPlace,
-    tag: Tag,
+    tag: UnionTag,
     index: usize,
     capability: u32,
 )

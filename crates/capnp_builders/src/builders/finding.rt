@@ -2,13 +2,13 @@
 //! and widens a struct or a list of structs that is too small (encoding specification, "Structs",
 //! "Lists" and "Default Values").
 ghost use Rattle.std.specs.Prelude.{◌-◌, ◌≡◌, ◌+◌, ◌*◌, ◌^◌, ◌<◌, ◌≤◌, true, IsNone, IsOk, IfOk, IfErr, OnOk, OnErr};
-ghost use Rattle.capnp_contents.specs.Existing.{BytesLieIn, data_in, is_unfound, text_in};
+ghost use Rattle.capnp_contents.specs.Existing.{AreBytesInside, data_in, is_unfound, text_in};
 ghost use Rattle.capnp_format.specs.Forest.{target};
 ghost use Rattle.capnp_format.specs.Segments.{word_at, Grows};
 ghost use Rattle.capnp_format.specs.Word.{struct_word};
 ghost use Rattle.capnp_contents.specs.InPlace.{LendsBytes};
 ghost use Rattle.capnp_making.specs.Makes.{ReachesArena};
-ghost use Rattle.capnp_making.specs.Memory.{KeepsMemory, StandsBehind, TakesWords, start_of};
+ghost use Rattle.capnp_making.specs.Memory.{KeepsMemory, ComesAfter, TakesWords, start_of};
 ghost use Rattle.capnp_making.specs.Stored.{IsStored};
 ghost use Rattle.capnp_words.specs.Sizes.{size_number};
 ghost use Rattle.capnp_readers.specs.Readers.{IsListPlace};
@@ -68,7 +68,7 @@ impl<'a, A: BuilderArena> PointerBuilder<'a, A> {
     /// Does what `get_struct` does, but returns the struct's place. `into_struct` makes the builder
     /// from the place. The contract also states what the message is after a refusal.
     #[inline(always)]
-    pub fn find_struct(
+    pub fn get_struct_place(
         &mut self,
         size: StructSize,
         default: Option<&[u8]>,
@@ -86,7 +86,7 @@ impl<'a, A: BuilderArena> PointerBuilder<'a, A> {
             → OnOk result (word_at (A.view self.new.arena.now).words self.old.segment self.old.at
             ≡ struct_word (2 ^ 30 - 1) 0 0) }
         ensures behind { IsNull (built A.view self.old) → IsIgnoredDefault default.entry
-            → OnOk result (StandsBehind (A.view self.old.arena.now) self.old.segment
+            → OnOk result (ComesAfter (A.view self.old.arena.now) self.old.segment
             (size.data_words + size.pointers)
             (start_of (target (A.view self.new.arena.now).words self.old.segment self.old.at))) }
         ensures refused { IsNull (built A.view self.old) → IsIgnoredDefault default.entry
@@ -142,19 +142,19 @@ impl<'a, A: BuilderArena> PointerBuilder<'a, A> {
             word_at (A.view b.arena.now).words self.entry.segment self.entry.at
             ≡ struct_word (2 ^ 30 - 1) 0 0) }
         ensures behind { IsNull (built A.view self.entry) → IsIgnoredDefault default.entry
-            → IfOk result (λ b. StandsBehind (A.view self.entry.arena.now) self.entry.segment
+            → IfOk result (λ b. ComesAfter (A.view self.entry.arena.now) self.entry.segment
             (size.data_words + size.pointers) (start_of
             (target (A.view b.arena.now).words self.entry.segment self.entry.at))) }
         ensures wide { IfOk result (λ b.
             (64 * size.data_words ≤ b.place.bits) × (size.pointers ≤ b.place.pointers)) }
     {
-        let place = self.find_struct(size, default)?;
+        let place = self.get_struct_place(size, default)?;
         Ok(self.into_struct(place))
     }
 
     /// Does what `get_struct_list` does, but returns the list's place. `into_list` makes the
     /// builder from the place. The contract also states what the message is after a refusal.
-    pub fn find_struct_list(
+    pub fn get_struct_list_place(
         &mut self,
         size: StructSize,
         default: Option<&[u8]>,
@@ -209,13 +209,13 @@ impl<'a, A: BuilderArena> PointerBuilder<'a, A> {
         ensures fits { StructsFindFits size default.entry
             (A.view self.entry.arena.now) self.entry.segment self.entry.at → IsOk result }
     {
-        let place = self.find_struct_list(size, default)?;
+        let place = self.get_struct_list_place(size, default)?;
         Ok(self.into_list(place))
     }
 
     /// Does what `get_list` does, but returns the list's place. `into_list` makes the builder from
     /// the place. The contract also states what the message is after a refusal.
-    pub fn find_list(
+    pub fn get_list_place(
         &mut self,
         size: ElementSize,
         default: Option<&[u8]>,
@@ -259,17 +259,17 @@ impl<'a, A: BuilderArena> PointerBuilder<'a, A> {
         ensures inside { OfStored (built A.view self.entry)
             (λ t. IfOk result (λ b. IsListPlace (A.view b.arena.now).words b.place)) }
     {
-        let place = self.find_list(size, default)?;
+        let place = self.get_list_place(size, default)?;
         Ok(self.into_list(place))
     }
 
     /// Does what `get_data` does, but returns where the data is instead of lending its bytes.
     /// `bytes_mut` then lends them. The contract also states what the message is after a refusal.
-    pub fn find_data(&mut self, default: Option<&[u8]>) -> Result<ExistingBytes, ErrorKind>
+    pub fn get_data_place(&mut self, default: Option<&[u8]>) -> Result<ExistingBytes, ErrorKind>
         requires { TakesDefault (built A.view self.old) default }
         ensures found { LooksUp A.view (FindsBytes data_in default.entry)
             self.old self.new.arena.now result }
-        ensures inside { IfOk result (BytesLieIn (A.view self.new.arena.now).words) }
+        ensures inside { IfOk result (AreBytesInside (A.view self.new.arena.now).words) }
         ensures grows { Grows (A.view self.old.arena.now).words (A.view self.new.arena.now).words }
         ensures stays { StaysThere A.view self.old self.new }
     {
@@ -285,25 +285,25 @@ impl<'a, A: BuilderArena> PointerBuilder<'a, A> {
     /// Refusals: `ExistingPointerIsNotAList` if the pointer leads to something other than a list,
     /// or if both the pointer and the first word of `default` are null;
     /// `ExistingListPointerIsNotByteSized` if the elements aren't bytes; those of `put_default`. A
-    /// default value that replaced null stays even if the call is refused afterwards. `find_data`
-    /// followed by `bytes_mut` does the same. The contracts of these two calls also state what the
-    /// message is once the bytes are written.
+    /// default value that replaced null stays even if the call is refused afterwards.
+    /// `get_data_place` followed by `bytes_mut` does the same. The contracts of these two calls
+    /// also state what the message is once the bytes are written.
     pub fn get_data(mut self, default: Option<&[u8]>) -> Result<&'a mut [u8], ErrorKind>
         requires { TakesDefault (built A.view self) default }
         ensures found { ReachesArena (LendsBytes A.segments)
             (LooksUp A.view (FindsBytes data_in default.entry) self.entry) result }
     {
-        let bytes = self.find_data(default)?;
+        let bytes = self.get_data_place(default)?;
         Ok(self.into_bytes(bytes))
     }
 
     /// Does what `get_text` does, but returns where the text is instead of lending its bytes.
     /// `bytes_mut` then lends them. The contract also states what the message is after a refusal.
-    pub fn find_text(&mut self, default: Option<&[u8]>) -> Result<ExistingBytes, ErrorKind>
+    pub fn get_text_place(&mut self, default: Option<&[u8]>) -> Result<ExistingBytes, ErrorKind>
         requires { TakesDefault (built A.view self.old) default }
         ensures found { LooksUp A.view (FindsBytes text_in default.entry)
             self.old self.new.arena.now result }
-        ensures inside { IfOk result (BytesLieIn (A.view self.new.arena.now).words) }
+        ensures inside { IfOk result (AreBytesInside (A.view self.new.arena.now).words) }
         ensures grows { Grows (A.view self.old.arena.now).words (A.view self.new.arena.now).words }
         ensures stays { StaysThere A.view self.old self.new }
     {
@@ -317,14 +317,14 @@ impl<'a, A: BuilderArena> PointerBuilder<'a, A> {
     /// `PointerBuilder::put_default`, or lends no bytes if there is no default.
     ///
     /// Refusals: those of `get_data`; `TextBlobMissingNULTerminator` if the bytes don't end in a
-    /// zero byte. `find_text` followed by `bytes_mut` does the same. The contracts of these two
-    /// calls also state what the message is once the bytes are written.
+    /// zero byte. `get_text_place` followed by `bytes_mut` does the same. The contracts of these
+    /// two calls also state what the message is once the bytes are written.
     pub fn get_text(mut self, default: Option<&[u8]>) -> Result<&'a mut [u8], ErrorKind>
         requires { TakesDefault (built A.view self) default }
         ensures found { ReachesArena (LendsBytes A.segments)
             (LooksUp A.view (FindsBytes text_in default.entry) self.entry) result }
     {
-        let bytes = self.find_text(default)?;
+        let bytes = self.get_text_place(default)?;
         Ok(self.into_bytes(bytes))
     }
 
@@ -332,7 +332,7 @@ impl<'a, A: BuilderArena> PointerBuilder<'a, A> {
     /// arena is borrowed.
     #[inline(always)]
     fn into_bytes(self, bytes: ExistingBytes) -> &'a mut [u8]
-        requires { BytesLieIn (A.view self.arena.now).words bytes }
+        requires { AreBytesInside (A.view self.arena.now).words bytes }
         ensures { LendsBytes A.segments self.entry.arena.now bytes result }
     {
         let PointerBuilder {

@@ -3,7 +3,7 @@ ghost use Rattle.std.specs.Prelude.{◌≡◌, ◌<◌, ◌≤◌, true, length,
 ghost use Rattle.capnp_format.specs.Forest.{target};
 ghost use Rattle.capnp_format.specs.Segments.{IsPlace};
 ghost use Rattle.capnp_format.specs.Tree.{Tree};
-ghost use Rattle.capnp_contents.specs.Existing.{BytesLieIn, is_unfound, list_in};
+ghost use Rattle.capnp_contents.specs.Existing.{AreBytesInside, is_unfound, list_in};
 ghost use Rattle.capnp_making.specs.Stored.{IsStored};
 ghost use Rattle.capnp_words.specs.Sizes.{size_number};
 ghost use Rattle.capnp_readers.specs.Readers.{IsListPlace};
@@ -68,9 +68,9 @@ pub(crate) fn found_bytes<A: BuilderArena>(
 ) -> Result<ExistingBytes, ErrorKind>
     requires there { segment < length (A.view arena.now).words }
     requires named { IfErr found (λ k. is_unfound k ≡ true) }
-    ensures given { IfOk found (λ there. IfSome there (BytesLieIn (A.view arena.now).words))
+    ensures given { IfOk found (λ there. IfSome there (AreBytesInside (A.view arena.now).words))
         → result ≡ bytes_given segment found }
-    ensures inside { IfOk result (BytesLieIn (A.view arena.now).words) }
+    ensures inside { IfOk result (AreBytesInside (A.view arena.now).words) }
     ensures named { IfErr result (λ k. is_unfound k ≡ true) }
 {
     match found? {

@@ -4,7 +4,7 @@ ghost use Rattle.capnp_format.specs.Numbers.{element_bits};
 ghost use Rattle.capnp_words.specs.Sizes.{size_number};
 ghost use Rattle.capnp_readers.specs.Readers.{IsStructPlace, IsListPlace};
 ghost use Rattle.capnp_format.specs.Segments.{Grows, IsPlace, Segments};
-ghost use Rattle.capnp_readers.specs.Sections.{HoldsPointer, data_bits, pointers_behind, elements_words, step_bits};
+ghost use Rattle.capnp_readers.specs.Sections.{HoldsPointer, data_bits, pointers_offset, elements_words, step_bits};
 ghost use Rattle.capnp_builders.specs.Places.{HasField, IsAligned, WritesField, element_place};
 ghost use Rattle.capnp_builders.specs.Elements.{lowest_bits};
 ghost use Rattle.capnp_builders.specs.Reads.{IsListReader};
@@ -80,7 +80,7 @@ fn element_pointer(list: ListPlace, index: u32) -> u32
     requires pointers { HoldsPointer list.size list.struct_size }
     requires inside { list.byte / 8 + elements_words list.size list.count
         (list.struct_size.data_words + list.struct_size.pointers) < 2 ^ 29 }
-    ensures { result ≡ list.byte / 8 + pointers_behind list.size list.struct_size index }
+    ensures { result ≡ list.byte / 8 + pointers_offset list.size list.struct_size index }
 {
     let start = (list.byte / 8) as u32;
     match list.size {
@@ -223,7 +223,7 @@ impl<'a, A: BuilderArena> ListBuilder<'a, A> {
         ensures arena { IsSameArena self.entry.arena result.arena }
         ensures place { (result.segment ≡ self.entry.place.segment)
             × (result.at ≡ self.entry.place.byte / 8
-            + pointers_behind self.entry.place.size self.entry.place.struct_size index) }
+            + pointers_offset self.entry.place.size self.entry.place.struct_size index) }
         ensures inside { IsPlace (A.view result.arena.now).words result.segment result.at }
     {
         let ListBuilder { arena, place } = self;

@@ -4,13 +4,13 @@ ghost use Rattle.capnp_format.specs.Word.{kind, element_size};
 ghost use Rattle.capnp_objects.specs.Wanted.{Form};
 ghost use Rattle.capnp_pointers.specs.Pointers.{reading};
 ghost use Rattle.capnp_copies.specs.Growth.{CopiesOrLeaves, CopiesOrStops};
-ghost use Rattle.capnp_copies.specs.Changes.{change, change_to, HasNullsFor, IsNullPlace, IsPointerRead};
+ghost use Rattle.capnp_copies.specs.Changes.{copy_call, copy_call_to, HasNullsFor, IsNullPlace, IsPointerRead};
 ghost use Rattle.capnp_copies.specs.Forms.{form_in};
 ghost use Rattle.capnp_copies.specs.Originals.{value_original};
 ghost use Rattle.capnp_making.specs.Makes.{call_at};
 
 use super::flat::copy_flat;
-use super::places::{place_behind, pointer_behind, pointer_inside};
+use super::places::{place_past, pointer_past, pointer_inside};
 use super::structs::copy_struct;
 use crate::form::{CopyForm, Destination};
 use capnp_arena_traits::arena::{BuilderArena, ReaderArena, WordPlace};
@@ -35,7 +35,7 @@ pub fn copy_children<A: BuilderArena, B: ReaderArena>(
     requires { HasNullsFor (reading B.ReaderArena from) count
         (A.view arena.old).words to.place.segment to.place.at }
     ensures { CopiesOrStops result (reading B.ReaderArena from.entry) count
-        (change_to to (A.view arena.old) (A.view arena.new) lim.old lim.new) }
+        (copy_call_to to (A.view arena.old) (A.view arena.new) lim.old lim.new) }
 {
     if count == 0 {
         return Ok(());
@@ -58,7 +58,7 @@ fn copy_row<A: BuilderArena, B: ReaderArena>(
     requires { HasNullsFor (reading B.ReaderArena from) count
         (A.view arena.old).words to.segment to.at }
     ensures { CopiesOrStops result (reading B.ReaderArena from.entry) count
-        (change (form_in form)
+        (copy_call (form_in form)
         (call_at to.segment to.at (A.view arena.old) (A.view arena.new)) lim.old lim.new) }
 {
     let to = Destination { place: to, form };
@@ -80,11 +80,11 @@ pub(crate) fn copy_in_line<A: BuilderArena, B: ReaderArena>(
     requires { HasNullsFor (reading B.ReaderArena from) count
         (A.view arena.old).words to.place.segment to.place.at }
     ensures { CopiesOrStops result (reading B.ReaderArena from.entry) count
-        (change_to to (A.view arena.old) (A.view arena.new) lim.old lim.new) }
+        (copy_call_to to (A.view arena.old) (A.view arena.new) lim.old lim.new) }
 {
     for i in 0..count {
-        let child = pointer_behind(from, i);
-        let place = place_behind(to.place, i);
+        let child = pointer_past(from, i);
+        let place = place_past(to.place, i);
         let form = to.form;
         copy_child(arena, Destination { place, form }, child, lim)?;
     }
@@ -104,7 +104,7 @@ fn copy_child<A: BuilderArena, B: ReaderArena>(
 ) -> Result<(), ErrorKind>
     requires { IsNullPlace (A.view arena.old).words to.place.segment to.place.at }
     ensures { CopiesOrLeaves result (value_original (reading B.ReaderArena from.entry))
-        (change_to to (A.view arena.old) (A.view arena.new) lim.old lim.new) }
+        (copy_call_to to (A.view arena.old) (A.view arena.new) lim.old lim.new) }
 {
     let word = from.place.word();
     if word.is_null() {
@@ -135,7 +135,7 @@ fn copy_near_struct<A: BuilderArena, B: ReaderArena>(
     requires word { IsPointerRead (reading B.ReaderArena from) word.0 }
     requires is_struct { kind word.0 ≡ 0 }
     ensures { CopiesOrLeaves result (value_original (reading B.ReaderArena from.entry))
-        (change_to to (A.view arena.old) (A.view arena.new) lim.old lim.new) }
+        (copy_call_to to (A.view arena.old) (A.view arena.new) lim.old lim.new) }
 {
     let pointer = PointerWord {
         place: from.place,
@@ -164,7 +164,7 @@ fn copy_near_flat<A: BuilderArena, B: ReaderArena>(
     requires of_bits { (0 < element_size word.0) × (element_size word.0 ≤ 5) }
     ensures { (form : Form)
         → CopiesOrLeaves result (value_original (reading B.ReaderArena from.entry))
-        (change form
+        (copy_call form
         (call_at to.segment to.at (A.view arena.old) (A.view arena.new)) lim.old lim.new) }
 {
     let size = word.list_element_size();

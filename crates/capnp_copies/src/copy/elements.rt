@@ -7,7 +7,7 @@ ghost use Rattle.capnp_arena_traits.specs.Written.{with_words};
 ghost use Rattle.capnp_objects.specs.Reading.{segment_read};
 ghost use Rattle.capnp_pointers.specs.Pointers.{reading};
 ghost use Rattle.capnp_copies.specs.Growth.{TakesNone, TakesAtMost};
-ghost use Rattle.capnp_copies.specs.Changes.{change_to, CopiesRows, StopsAtElements};
+ghost use Rattle.capnp_copies.specs.Changes.{copy_call_to, CopiesRows, StopsAtElements};
 ghost use Rattle.capnp_copies.specs.Forms.{form_in};
 ghost use Rattle.capnp_copies.specs.Originals.{elements_original};
 ghost use Rattle.capnp_copies.specs.Widths.{widths_kept, IsAtMost};
@@ -45,13 +45,13 @@ pub(crate) fn copy_elements<A: BuilderArena, B: ReaderArena>(
         sizes.source sizes.count }
     ensures copied { IfOk result
         (λ _. CopiesRows (reading B.ReaderArena from.entry) sizes sizes.count 0
-        (change_to to (A.view arena.old) (A.view arena.new) lim.old lim.new)) }
+        (copy_call_to to (A.view arena.old) (A.view arena.new) lim.old lim.new)) }
     ensures refused { IfErr result
         (StopsAtElements (reading B.ReaderArena from.entry) sizes sizes.count
-        (change_to to (A.view arena.old) (A.view arena.new) lim.old lim.new)) }
+        (copy_call_to to (A.view arena.old) (A.view arena.new) lim.old lim.new)) }
     ensures taken { TakesAtMost result
         (elements_original (reading B.ReaderArena from.entry) sizes sizes.count)
-        (change_to to (A.view arena.old) (A.view arena.new) lim.old lim.new) }
+        (copy_call_to to (A.view arena.old) (A.view arena.new) lim.old lim.new) }
 {
     let source_words = sizes.source.total();
     let kept_words = sizes.kept.total();

@@ -4,7 +4,7 @@ ghost use Rattle.std.specs.Prelude.{◌≡◌, ◌+◌, ◌*◌, ◌<◌, ◌≤
 ghost use Rattle.capnp_objects.specs.Reading.{segment_read};
 ghost use Rattle.capnp_pointers.specs.Pointers.{reading};
 ghost use Rattle.capnp_copies.specs.Growth.{CopiesOrLeaves};
-ghost use Rattle.capnp_copies.specs.Changes.{change_to, IsNullPlace};
+ghost use Rattle.capnp_copies.specs.Changes.{copy_call_to, IsNullPlace};
 ghost use Rattle.capnp_copies.specs.Forms.{form_in};
 ghost use Rattle.capnp_copies.specs.Originals.{pointers_original, structs_original};
 ghost use Rattle.capnp_copies.specs.Widths.{widths_kept, IsAtMost};
@@ -35,7 +35,7 @@ pub fn copy_pointers<A: BuilderArena, B: ReaderArena>(
     requires few { count < 2 ^ 29 }
     requires inside { from.place.at + count ≤ length (segment_read (reading B.ReaderArena from)) }
     ensures { CopiesOrLeaves result (pointers_original count (reading B.ReaderArena from.entry))
-        (change_to to (A.view arena.old) (A.view arena.new) lim.old lim.new) }
+        (copy_call_to to (A.view arena.old) (A.view arena.new) lim.old lim.new) }
 {
     let WordPlace { segment, at } = to.place;
     let start = make_list(arena, segment, at, ElementSize::Pointer, count)?;
@@ -65,7 +65,7 @@ pub fn copy_structs<A: BuilderArena, B: ReaderArena>(
         ≤ length (segment_read (reading B.ReaderArena from)) }
     ensures { CopiesOrLeaves result
         (structs_original list.size list.count (reading B.ReaderArena from.entry))
-        (change_to to (A.view arena.old) (A.view arena.new) lim.old lim.new) }
+        (copy_call_to to (A.view arena.old) (A.view arena.new) lim.old lim.new) }
 {
     let WordPlace { segment, at } = to.place;
     let form = to.form;

@@ -2,7 +2,7 @@
 //! to.
 ghost use Rattle.std.specs.Prelude.{◌≡◌, ◌+◌, ◌<◌, ◌^◌, pred};
 ghost use Rattle.capnp_objects.specs.Objects.{IsHeld};
-ghost use Rattle.capnp_objects.specs.Reading.{behind, source_start};
+ghost use Rattle.capnp_objects.specs.Reading.{place_past, source_start};
 ghost use Rattle.capnp_objects.specs.Source.{levels};
 ghost use Rattle.capnp_pointers.specs.Pointers.{reading};
 
@@ -11,9 +11,9 @@ use capnp_objects::object::Place;
 use capnp_pointers::pointers::Pointer;
 
 /// The pointer `words` words after `from`, in the same segment and with the same nesting limit.
-pub fn pointer_behind<B: ReaderArena>(from: Pointer<'_, B>, words: u32) -> Pointer<'_, B>
+pub fn pointer_past<B: ReaderArena>(from: Pointer<'_, B>, words: u32) -> Pointer<'_, B>
     requires { from.place.at + words < 2 ^ 32 }
-    ensures { reading B.ReaderArena result ≡ behind (reading B.ReaderArena from.entry) words }
+    ensures { reading B.ReaderArena result ≡ place_past (reading B.ReaderArena from.entry) words }
 {
     Pointer {
         source: from.source,
@@ -26,7 +26,7 @@ pub fn pointer_behind<B: ReaderArena>(from: Pointer<'_, B>, words: u32) -> Point
 }
 
 /// The place `words` words after `place`, in the same segment.
-pub fn place_behind(place: WordPlace, words: u32) -> WordPlace
+pub fn place_past(place: WordPlace, words: u32) -> WordPlace
     requires { place.at + words < 2 ^ 32 }
     ensures { result ≡ record place { at = place.at + words } }
 {

@@ -1,10 +1,10 @@
 //! Copies a struct (encoding specification, "Structs" and "Canonicalization").
 ghost use Rattle.std.specs.Prelude.{◌≡◌, ◌+◌, ◌≤◌, length};
 ghost use Rattle.capnp_format.specs.Canonical.{used_words};
-ghost use Rattle.capnp_objects.specs.Reading.{segment_read, behind, words_from};
+ghost use Rattle.capnp_objects.specs.Reading.{segment_read, place_past, words_from};
 ghost use Rattle.capnp_pointers.specs.Pointers.{reading};
 ghost use Rattle.capnp_copies.specs.Growth.{CopiesOrLeaves};
-ghost use Rattle.capnp_copies.specs.Changes.{change_to, IsNullPlace};
+ghost use Rattle.capnp_copies.specs.Changes.{copy_call_to, IsNullPlace};
 ghost use Rattle.capnp_copies.specs.Forms.{form_in};
 ghost use Rattle.capnp_copies.specs.Originals.{sections_original, kept_count};
 ghost use Rattle.capnp_copies.specs.Widths.{IsAtMost};
@@ -38,8 +38,8 @@ pub fn copy_struct<A: BuilderArena, B: ReaderArena>(
         ≤ length (segment_read (reading B.ReaderArena from)) }
     ensures { CopiesOrLeaves result
         (sections_original (words_from (reading B.ReaderArena from.entry) size.data_words)
-        (behind (reading B.ReaderArena from.entry) size.data_words) size.pointers)
-        (change_to to (A.view arena.old) (A.view arena.new) lim.old lim.new) }
+        (place_past (reading B.ReaderArena from.entry) size.data_words) size.pointers)
+        (copy_call_to to (A.view arena.old) (A.view arena.new) lim.old lim.new) }
 {
     let form = to.form;
     let kept = kept_sections(from, size, form);
@@ -77,7 +77,7 @@ fn kept_sections<B: ReaderArena>(
     ensures data { result.data_words ≡ kept_count (form_in form)
         (words_from (reading B.ReaderArena from.entry) size.data_words) }
     ensures pointers { result.pointers ≡ kept_count (form_in form)
-        (words_from (behind (reading B.ReaderArena from.entry) size.data_words) size.pointers) }
+        (words_from (place_past (reading B.ReaderArena from.entry) size.data_words) size.pointers) }
     ensures less { IsAtMost result size }
 {
     match form {
@@ -95,7 +95,7 @@ fn used_sections<B: ReaderArena>(from: Pointer<'_, B>, size: StructSize) -> Stru
     ensures data { result.data_words
         ≡ used_words (words_from (reading B.ReaderArena from.entry) size.data_words) }
     ensures pointers { result.pointers ≡ used_words
-        (words_from (behind (reading B.ReaderArena from.entry) size.data_words) size.pointers) }
+        (words_from (place_past (reading B.ReaderArena from.entry) size.data_words) size.pointers) }
     ensures less { IsAtMost result size }
 {
     let bytes = from.place.bytes;

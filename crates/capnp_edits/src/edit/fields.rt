@@ -1,7 +1,7 @@
 //! Edits of the data section of a struct.
 ghost use Rattle.std.specs.Prelude.{◌≡◌, true, cond, IfErr};
 ghost use Rattle.capnp_words.specs.declared.error.ErrorKind.TheVariants.{NoSuchPlace};
-ghost use Rattle.capnp_contents.specs.Existing.{StructLiesIn};
+ghost use Rattle.capnp_contents.specs.Existing.{IsStructInside};
 ghost use Rattle.capnp_builders.specs.Places.{field, number_field};
 ghost use Rattle.capnp_edits.specs.Tasks.{is_number};
 ghost use Rattle.capnp_edits.specs.Edits.{refusal_of, bits_of, PutsBits, WritesWords};
@@ -23,7 +23,7 @@ fn put_number<A: BuilderArena, T: Primitive + Drop>(
     index: u32,
     value: T,
 ) -> Result<(), ErrorKind>
-    requires { StructLiesIn (A.view arena.old).words parent }
+    requires { IsStructInside (A.view arena.old).words parent }
     ensures put { PutsBits (A.view arena.old).words (A.view arena.new).words parent
         (number_field T.BYTES index (T.bits_of value)) (refusal_of result) }
     ensures only { WritesWords result (A.view arena.old) (A.view arena.new) }
@@ -52,7 +52,7 @@ fn put_bit<A: BuilderArena>(
     index: u32,
     value: bool,
 ) -> Result<(), ErrorKind>
-    requires { StructLiesIn (A.view arena.old).words parent }
+    requires { IsStructInside (A.view arena.old).words parent }
     ensures put { PutsBits (A.view arena.old).words (A.view arena.new).words parent
         (field index 1 (cond value 1 0)) (refusal_of result) }
     ensures only { WritesWords result (A.view arena.old) (A.view arena.new) }
@@ -73,7 +73,7 @@ pub(crate) fn put_field<A: BuilderArena>(
     parent: ExistingStruct,
     number: Number,
 ) -> Result<(), ErrorKind>
-    requires inside { StructLiesIn (A.view arena.old).words parent }
+    requires inside { IsStructInside (A.view arena.old).words parent }
     requires range { is_number number.size number.value ≡ true }
     ensures put { PutsBits (A.view arena.old).words (A.view arena.new).words parent
         (bits_of number) (refusal_of result) }

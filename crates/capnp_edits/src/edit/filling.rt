@@ -1,7 +1,7 @@
 //! Edits of a struct: writes to its data section, and copies of the content of another message's
 //! struct.
 ghost use Rattle.std.specs.Prelude.{◌≡◌, ◌+◌, None, true, IsOk, IfErr, IfSome};
-ghost use Rattle.capnp_contents.specs.Existing.{StructLiesIn};
+ghost use Rattle.capnp_contents.specs.Existing.{IsStructInside};
 ghost use Rattle.capnp_readers.specs.Readers.{IsStructPlace};
 ghost use Rattle.capnp_builders.specs.Places.{struct_place};
 ghost use Rattle.capnp_edits.specs.declared.edit.path.PathEnd.TheVariants.{Element as AtElement};
@@ -9,7 +9,7 @@ ghost use Rattle.capnp_edits.specs.declared.edit.tasks.StructChange.TheVariants.
 ghost use Rattle.capnp_edits.specs.declared.edit.tasks.Task.TheVariants.{InStruct};
 ghost use Rattle.capnp_edits.specs.Tasks.{is_in_range};
 ghost use Rattle.capnp_edits.specs.Edits.{refusal_of, FillsAt, refusals_after};
-ghost use Rattle.capnp_edits.specs.Steps.{FitsAt, IsDoneAt, IsRefusedAt, TakesAt};
+ghost use Rattle.capnp_edits.specs.Steps.{FitsAt, IsDoneAt, IsRefusedAt, AllocatesAt};
 
 use crate::edit::Source;
 use crate::edit::copying::open_source;
@@ -25,7 +25,7 @@ use capnp_words::error::ErrorKind;
 
 /// Returns where the struct `parent` is; `None` if the struct has no words.
 fn place_in<A: BuilderArena>(arena: &A, parent: ExistingStruct) -> Option<StructPlace>
-    requires { StructLiesIn (A.view arena.now).words parent }
+    requires { IsStructInside (A.view arena.now).words parent }
     ensures empty { result ≡ None → parent.size.data_words + parent.size.pointers ≡ 0 }
     ensures place { IfSome result (λ place. place ≡ struct_place parent) }
     ensures inside { IfSome result (IsStructPlace (A.view arena.now).words) }
@@ -50,14 +50,14 @@ pub(crate) fn fill<A: BuilderArena>(
     parent: ExistingStruct,
     source: Source<'_>,
 ) -> Result<(), ErrorKind>
-    requires { StructLiesIn (A.view arena.old).words parent }
+    requires { IsStructInside (A.view arena.old).words parent }
     ensures filled { FillsAt (A.view arena.old).words (A.view arena.new).words
         (struct_place parent) source.entry (refusal_of result) }
     ensures counted { (A.view arena.new).refusals ≡ refusals_after (refusal_of result)
         (A.view arena.old).refusals }
     ensures named { IfErr result (λ k. IsRefusedAt (A.view arena.old) (A.view arena.new)
         (InStruct (Content source.entry)) k (AtElement parent)) }
-    ensures taken { TakesAt (A.view arena.old) (A.view arena.new)
+    ensures taken { AllocatesAt (A.view arena.old) (A.view arena.new)
         (InStruct (Content source.entry)) (refusal_of result) (AtElement parent) }
     ensures fits { FitsAt (A.view arena.old) (InStruct (Content source.entry)) (AtElement parent)
         → IsOk result }
@@ -79,7 +79,7 @@ pub(crate) fn change_struct<A: BuilderArena>(
     parent: ExistingStruct,
     change: StructChange<'_>,
 ) -> Result<(), ErrorKind>
-    requires inside { StructLiesIn (A.view arena.old).words parent }
+    requires inside { IsStructInside (A.view arena.old).words parent }
     requires range { is_in_range (InStruct change) ≡ true }
     ensures { IsDoneAt (A.view arena.old) (A.view arena.new) (AtElement parent)
         (InStruct change.entry) (refusal_of result) }

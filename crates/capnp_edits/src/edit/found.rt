@@ -24,10 +24,10 @@ pub(crate) fn look<A: BuilderArena>(
         (refusal_of result) }
 {
     match sought {
-        Sought::Struct(size) => done(pointer.find_struct(size, default)),
-        Sought::List(size) => done(pointer.find_list(size, default)),
-        Sought::StructList(size) => done(pointer.find_struct_list(size, default)),
-        Sought::Text => done(pointer.find_text(default)),
-        Sought::Data => done(pointer.find_data(default)),
+        Sought::Struct(size) => done(pointer.get_struct_place(size, default)),
+        Sought::List(size) => done(pointer.get_list_place(size, default)),
+        Sought::StructList(size) => done(pointer.get_struct_list_place(size, default)),
+        Sought::Text => done(pointer.get_text_place(default)),
+        Sought::Data => done(pointer.get_data_place(default)),
     }
 }

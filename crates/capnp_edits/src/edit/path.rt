@@ -3,7 +3,7 @@ ghost use Rattle.std.specs.Prelude.{◌≡◌, ◌↔◌, ◌≤◌, ◌<◌, �
 ghost use Rattle.capnp_format.specs.Segments.{segment, IsPlace};
 ghost use Rattle.capnp_format.specs.Tree.{Tree};
 ghost use Rattle.capnp_making.specs.Stored.{IsStored};
-ghost use Rattle.capnp_edits.specs.Paths.{step_of, IsPathFound, EndLiesIn, IsEndFound, Steps, child_in, element_in};
+ghost use Rattle.capnp_edits.specs.Paths.{step_of, IsPathFound, IsEndInside, IsEndFound, Steps, child_in, element_in};
 
 use crate::edit::Step;
 use capnp_arena::arena::BuilderArena;
@@ -84,7 +84,7 @@ fn element_of<A: BuilderArena>(arena: &A, list: ExistingList, i: u32) -> Option<
 /// Where `step` leads from `here`; `None` if it leads nowhere.
 fn step_from<A: BuilderArena>(arena: &A, here: PathEnd, step: Step) -> Option<PathEnd>
     ensures steps { Steps (A.view arena.now).words here (step_of step) result }
-    ensures inside { IfSome result (EndLiesIn (A.view arena.now).words) }
+    ensures inside { IfSome result (IsEndInside (A.view arena.now).words) }
 {
     match (here, step) {
         (PathEnd::Pointer(place), Step::Child(i)) => {
@@ -111,7 +111,7 @@ pub(crate) fn find<A: BuilderArena>(arena: &A, path: &[Step]) -> Option<PathEnd>
     ensures found { (t : Tree) → IsStored (A.view arena.now).words 0 0 t
         → IsPathFound (A.view arena.now).words (record { segment = 0; word = 0 }) t
         (map step_of path.now) result }
-    ensures inside { IfSome result (EndLiesIn (A.view arena.now).words) }
+    ensures inside { IfSome result (IsEndInside (A.view arena.now).words) }
 {
     let mut here = PathEnd::Pointer(PointerPlace {
         segment: 0,

@@ -38,10 +38,10 @@ fn make<A: BuilderArena>(
     ensures { IsDoneBy A.view pointer.old pointer.new (Make object.entry) (refusal_of result) }
 {
     match object {
-        NewObject::ZeroStruct(size) => done(pointer.put_struct(size)),
-        NewObject::ZeroList(size, count) => done(pointer.put_list(size, count)),
-        NewObject::ZeroStructs(count, size) => done(pointer.put_struct_list(count, size)),
-        NewObject::ZeroText(size) => done(pointer.put_list(ElementSize::Byte, size + 1)),
+        NewObject::ZeroStruct(size) => done(pointer.init_struct_place(size)),
+        NewObject::ZeroList(size, count) => done(pointer.init_list_place(size, count)),
+        NewObject::ZeroStructs(count, size) => done(pointer.init_struct_list_place(count, size)),
+        NewObject::ZeroText(size) => done(pointer.init_list_place(ElementSize::Byte, size + 1)),
         NewObject::Text(bytes) => pointer.set_text(bytes),
         NewObject::Data(bytes) => pointer.set_data(bytes),
     }

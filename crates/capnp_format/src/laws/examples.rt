@@ -10,7 +10,7 @@ ghost use Rattle.capnp_format.specs.Segments.{Segments, segment, word_at, words_
 ghost use Rattle.capnp_format.specs.Tree.{Tree, Null, Capability, Struct, Flat, Pointers, Structs, no_trees, tree, no_elements, element, count, element_count, depth, capabilities, blank};
 ghost use Rattle.capnp_format.specs.Value.{IsValue};
 ghost use Rattle.capnp_format.specs.Means.{Means};
-ghost use Rattle.capnp_format.specs.Canonical.{used_words, used_trees, trim, word_count, pointer, body, encoding, charge, offset_to, Reaches, IsEncodable, Stands};
+ghost use Rattle.capnp_format.specs.Canonical.{used_words, used_trees, trim, word_count, pointer, body, encoding, charge, offset_to, Reaches, IsEncodable, HasCanonicalAt};
 ghost use Rattle.capnp_format.specs.Forest.{times, cover, root, IsTidy, IsForest, ArenaHolds};
 ghost use Rattle.capnp_format.specs.Bytes.{words_of, message};
 ghost use Rattle.capnp_format.specs.Examples.{HasCanonicalWords, MeansNothing, trimmed_struct, far_pointer, double_far, shared_child, mixed, pair};
@@ -226,8 +226,9 @@ pub fn worked_examples()
     ensures farthest_back { Reaches (2 ^ 29 - 1) 0 }
     ensures too_far_back { Reaches (2 ^ 29) 0 → ⊥ }
     ensures offsets_fit { IsEncodable mixed }
-    ensures stands { Stands ((0x00000001_00000000 ∷ 9 ∷ []) ∷ []) 0 0 1 (Struct (9 ∷ []) no_trees) }
-    ensures stands_nowhere_else { Stands ((0x00000001_00000000 ∷ 9 ∷ 9 ∷ []) ∷ []) 0 0 2
+    ensures stands { HasCanonicalAt ((0x00000001_00000000 ∷ 9 ∷ []) ∷ []) 0 0 1
+        (Struct (9 ∷ []) no_trees) }
+    ensures stands_nowhere_else { HasCanonicalAt ((0x00000001_00000000 ∷ 9 ∷ 9 ∷ []) ∷ []) 0 0 2
         (Struct (9 ∷ []) no_trees) → ⊥ }
 
     // What a value covers: in a builder's message no word twice; the shared child's word is covered

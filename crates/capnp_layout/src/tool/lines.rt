@@ -106,7 +106,7 @@ fn line_end(text: &[u8]) -> usize
 /// Returns the first line of `text`, without its line feed, and what follows the line feed.
 /// Precondition: `text` isn't empty.
 #[tactic(auto, using(crate::proofs::LineLemmas::cut_line, crate::proofs::LineLemmas::last_line))]
-fn first_line(text: &[u8]) -> (&[u8], &[u8])
+fn split_first_line(text: &[u8]) -> (&[u8], &[u8])
     requires { 0 < length text.now }
     ensures lines { lines_of text.now ≡ result.0.now ∷ lines_of result.1.now }
     ensures shorter { length result.1.now < length text.now }
@@ -157,7 +157,7 @@ pub fn read_lines<A: Allocator>(
     let mut segments = Vec::new(alloc);
     let mut rest = text;
     while !rest.is_empty() {
-        let (line, behind) = first_line(rest);
+        let (line, behind) = split_first_line(rest);
         let segment = read_line(alloc, allocator, line)?;
         if allocator.keep(&mut segments, segment).is_some() {
             return Err(InputFault::NoMemory);

@@ -12,7 +12,7 @@ use crate::devices::{DeviceFault, Output, write_all};
 use capnp_words::words::word_at;
 
 /// Writes a word in 16 hex digits, the lowest byte first.
-fn write_word<W: Output>(output: &mut W, word: u64) -> Result<(), DeviceFault>
+fn write_word_digits<W: Output>(output: &mut W, word: u64) -> Result<(), DeviceFault>
     requires { W.has_failed output.old ≡ false }
     ensures { Writes W.Output result output.old output.new (word_digits word) }
 {
@@ -28,7 +28,7 @@ pub(crate) fn write_digits<W: Output>(output: &mut W, segment: &[u8]) -> Result<
         (digits_of (words_of segment.now)) }
 {
     for at in 0..segment.len() / 8 {
-        write_word(output, word_at(segment, at))?;
+        write_word_digits(output, word_at(segment, at))?;
     }
     Ok(())
 }

@@ -13,7 +13,7 @@ ghost use Rattle.capnp_arena_traits.specs.Allocations.{max_segment_words, one_mo
 ghost use Rattle.capnp_objects.specs.Outcomes.{Reads};
 ghost use Rattle.capnp_objects.specs.Wanted.{canonical};
 ghost use Rattle.capnp_pointers.specs.Pointers.{reading};
-ghost use Rattle.capnp_copies.specs.Changes.{IsNullPlace, MakesCopy, StopsCopy, change};
+ghost use Rattle.capnp_copies.specs.Changes.{IsNullPlace, MakesCopy, StopsCopy, copy_call};
 ghost use Rattle.capnp_making.specs.Makes.{call_at};
 ghost use Rattle.capnp_messages.specs.Copies.{HoldsCanonicalWords, LacksMemoryOr, RefusesCopy, is_message_too_large};
 ghost use Rattle.capnp_messages.specs.EndValues.{EndIsMadeByFirstTry, EndNeedsMoreRoom, EndReads, EndStops, IsEndThere, RefusesEndCopy, RefusesEndCopyAnywhere, end_original, end_place};
@@ -56,10 +56,10 @@ fn copy_reached<A: BuilderArena, B: ReaderArena>(
     requires { IsNullPlace (A.view arena.old).words to.segment to.at }
     ensures there { IsEndThere (end_read B.ReaderArena from.entry) }
     ensures copied { OnOk result (MakesCopy (end_original (end_read B.ReaderArena from.entry))
-        (change canonical
+        (copy_call canonical
         (call_at to.segment to.at (A.view arena.old) (A.view arena.new)) lim.old lim.new)) }
     ensures refused { IfErr result (λ k. (t : Tree)
-        × StopsCopy (end_original (end_read B.ReaderArena from.entry)) (change canonical
+        × StopsCopy (end_original (end_read B.ReaderArena from.entry)) (copy_call canonical
         (call_at to.segment to.at (A.view arena.old) (A.view arena.new)) lim.old lim.new) t k) }
 {
     match from {
@@ -173,7 +173,7 @@ fn count_pointers(lim: &mut ReadLimiter, pointers: u64)
 /// followed. Precondition: before the copy, `own` had as many words left as `lim`, and had counted
 /// no pointers. If `lim` has counted no pointers either, replaces `lim` by `own`, which has the
 /// same result.
-fn settle(lim: &mut ReadLimiter, own: ReadLimiter)
+fn charge_copy(lim: &mut ReadLimiter, own: ReadLimiter)
     requires { IsLeftOf own.left lim.old.left }
     ensures left { lim.new.left ≡ own.left }
     ensures counted { lim.new.followed ≡ raised lim.old.followed own.followed }
@@ -222,7 +222,7 @@ fn copy_to_message<A: Allocator, B: ReaderArena>(
     let made = segments.with_allocator(allocator);
     match copied {
         Ok(own) => {
-            settle(lim, own);
+            charge_copy(lim, own);
             Ok(made)
         }
         Err(kind) => Err((kind, made.into_allocator())),

@@ -2,14 +2,14 @@
 ghost use Rattle.std.specs.Prelude.{◌≡◌, ◌+◌, ◌<◌, ◌≤◌, length, ⊤};
 ghost use Rattle.capnp_format.specs.Segments.{segment};
 ghost use Rattle.capnp_objects.specs.Objects.{IsHeld};
-ghost use Rattle.capnp_objects.specs.Reading.{behind, segment_read, source_start};
+ghost use Rattle.capnp_objects.specs.Reading.{place_past, segment_read, source_start};
 ghost use Rattle.capnp_objects.specs.Source.{levels};
 ghost use Rattle.capnp_pointers.specs.Pointers.{reading};
 ghost use Rattle.capnp_messages.specs.EndValues.{IsElementPlace};
 ghost use Rattle.capnp_messages.specs.Parts.{inside, pointer_in};
 
 use capnp_arena::arena::ReaderArena;
-use capnp_copies::copy::pointer_behind;
+use capnp_copies::copy::pointer_past;
 use capnp_objects::object::Place;
 use capnp_pointers::pointers::Pointer;
 use capnp_words::error::ErrorKind;
@@ -95,11 +95,11 @@ impl<'a, A: ReaderArena> PointerRun<'a, A> {
     /// The pointers of an element.
     pub(super) fn of_element(element: ElementPlace<'a, A>) -> Self
         ensures first { reading A.ReaderArena result.first
-            ≡ behind (reading A.ReaderArena element.entry.first) element.entry.size.data_words }
+            ≡ place_past (reading A.ReaderArena element.entry.first) element.entry.size.data_words }
         ensures count { result.count ≡ element.entry.size.pointers }
     {
         PointerRun {
-            first: pointer_behind(element.first, u32::from(element.size.data_words)),
+            first: pointer_past(element.first, u32::from(element.size.data_words)),
             count: u32::from(element.size.pointers),
         }
     }
@@ -113,6 +113,6 @@ impl<'a, A: ReaderArena> PointerRun<'a, A> {
         if index >= self.count {
             return Err(ErrorKind::NoSuchPlace);
         }
-        Ok(pointer_behind(self.first, index))
+        Ok(pointer_past(self.first, index))
     }
 }

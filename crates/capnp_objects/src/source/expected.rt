@@ -6,7 +6,7 @@ ghost use Rattle.capnp_words.specs.Sizes.{size_number};
 ghost use Rattle.capnp_objects.specs.declared.object.Purpose.TheVariants.{Value};
 ghost use Rattle.capnp_objects.specs.Reading.{source_start, reading_at};
 ghost use Rattle.capnp_objects.specs.Objects.{IsObject, IsHeld, IsFew};
-ghost use Rattle.capnp_objects.specs.Expected.{expectation, narrow_elements, narrow_structs, CanBeGiven, IsGiven, Withheld};
+ghost use Rattle.capnp_objects.specs.Expected.{expectation, narrow_elements, narrow_structs, HasExpected, IsExpected, RefusesExpected};
 ghost use Rattle.capnp_objects.specs.Entering.{found_target, entered_from, ReadsAs, object_misfit, place_byte, IsAtHand};
 ghost use Rattle.capnp_objects.specs.Values.{enter_expected, expect};
 
@@ -46,13 +46,13 @@ impl<'a, A: ReaderArena> Source<'a, A> {
         ensures object { IfOk result (IsObject Value
             (reading_at A.ReaderArena self.entry place.entry (pos 1))
             lim.old lim.new) }
-        ensures given { IfOk result (IsGiven expected
+        ensures given { IfOk result (IsExpected expected
             (reading_at A.ReaderArena self.entry place.entry nesting_limit).levels) }
         ensures few { IfOk result IsFew }
-        ensures exactly { IsOk result ↔ CanBeGiven (expectation expected)
+        ensures exactly { IsOk result ↔ HasExpected (expectation expected)
             (reading_at A.ReaderArena self.entry place.entry nesting_limit) lim.old }
         ensures refused { IfErr result
-            (Withheld (expectation expected)
+            (RefusesExpected (expectation expected)
             (reading_at A.ReaderArena self.entry place.entry nesting_limit) lim.old lim.new) }
     {
         self.expect(expected, place, nesting_limit, lim)

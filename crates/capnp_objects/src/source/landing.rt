@@ -42,7 +42,7 @@ impl<'a, A: ReaderArena> Entrance<'a, A> {
     ghost use Rattle.capnp_format.specs.Word.{kind, element_size};
     ghost use Rattle.capnp_words.specs.Sizes.{size_number};
     ghost use Rattle.capnp_objects.specs.declared.object.Purpose.{Purpose};
-    ghost use Rattle.capnp_objects.specs.Demands.{claim, IsStructList, IsVoidList};
+    ghost use Rattle.capnp_objects.specs.Demands.{claimed_words, IsStructList, IsVoidList};
     ghost use Rattle.capnp_objects.specs.Enter.{enter_object, enter};
     ghost use Rattle.capnp_objects.specs.Entering.{found_target, entered_from, claim_words, enter_plain, enter_void, enter_structs, ReadsAs};
 
@@ -76,7 +76,7 @@ impl<'a, A: ReaderArena> Entrance<'a, A> {
     // Checks and charges the words that an object claims.
     #[inline(always)]
     pub(crate) fn claim(self, words: u32, lim: &mut ReadLimiter) -> Result<(), ErrorKind>
-        requires { words ≡ claim self.found.word.0 }
+        requires { words ≡ claimed_words self.found.word.0 }
         ensures { claim_words (entered_from A.ReaderArena self.entry) (found_target self.entry.found)
             lim.old ≡ (result, lim.new) }
     {

@@ -2,7 +2,7 @@
 ghost use Rattle.std.specs.Prelude.{◌≡◌, ◌<◌, IfOk};
 ghost use Rattle.capnp_format.specs.Word.{kind};
 ghost use Rattle.capnp_objects.specs.declared.object.Purpose.TheVariants.{Size};
-ghost use Rattle.capnp_objects.specs.Demands.{claim, IsStructList, IsVoidList};
+ghost use Rattle.capnp_objects.specs.Demands.{claimed_words, IsStructList, IsVoidList};
 ghost use Rattle.capnp_objects.specs.Reading.{source_start, reading_at, pointer_at};
 ghost use Rattle.capnp_objects.specs.Objects.{IsObject, IsHeld, IsWordRead, IsFew, EntersNear};
 ghost use Rattle.capnp_objects.specs.Enter.{read, result_shape, near_shape};
@@ -63,7 +63,7 @@ impl<'a, A: ReaderArena> Source<'a, A> {
         requires near { kind pointer.word.0 < 2 }
         requires of_bits { IsVoidList pointer.word.0 → ⊥ }
         requires untagged { IsStructList pointer.word.0 → ⊥ }
-        requires claimed { words ≡ claim pointer.word.0 }
+        requires claimed { words ≡ claimed_words pointer.word.0 }
         ensures object { IfOk result (EntersNear Size
             (pointer_at A.ReaderArena self.entry pointer.entry) lim.old lim.new) }
         ensures computed { let r = pointer_at A.ReaderArena self.entry pointer.entry in

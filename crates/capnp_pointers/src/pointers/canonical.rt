@@ -5,7 +5,7 @@ ghost use Rattle.capnp_format.specs.Word.{kind, element_size};
 ghost use Rattle.capnp_format.specs.Numbers.{words_for};
 ghost use Rattle.capnp_words.specs.Sizes.{size_number};
 ghost use Rattle.capnp_objects.specs.Metered.{◌>>>◌, answer};
-ghost use Rattle.capnp_objects.specs.Reading.{behind, segment_read};
+ghost use Rattle.capnp_objects.specs.Reading.{place_past, segment_read};
 ghost use Rattle.capnp_objects.specs.Source.{levels};
 ghost use Rattle.capnp_pointers.specs.Pointers.{reading, reading_on};
 ghost use Rattle.capnp_pointers.specs.Checking.{HasSmallSegment, IsTestedWord, StartsRight, TellsFlat};

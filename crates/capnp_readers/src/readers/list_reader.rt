@@ -11,7 +11,7 @@ ghost use Rattle.capnp_objects.specs.Outcomes.{MeansThere};
 ghost use Rattle.capnp_objects.specs.Reading.{source_start};
 ghost use Rattle.capnp_objects.specs.Rows.{rows_sized};
 ghost use Rattle.capnp_objects.specs.Objects.{IsHeld};
-ghost use Rattle.capnp_readers.specs.Sections.{IsPart, HasWordsFrom, HoldsPointer, elements_words, pointers_behind, bit_at, step_bits, data_bits, low_data};
+ghost use Rattle.capnp_readers.specs.Sections.{IsPart, HasWordsFrom, HoldsPointer, elements_words, pointers_offset, bit_at, step_bits, data_bits, low_data};
 
 use crate::readers::{NO_SECTIONS, PointerReader, StructReader, are_bytes};
 use capnp_arena_traits::arena::ReaderArena;
@@ -332,7 +332,7 @@ impl<'a, A: ReaderArena> ListReader<'a, A> {
         ensures source { result.source ≡ self.entry.source }
         ensures place { (result.place.segment ≡ self.entry.start.segment)
             × (result.place.at ≡ self.entry.start.at
-            + pointers_behind self.entry.element_size self.entry.struct_size index) }
+            + pointers_offset self.entry.element_size self.entry.struct_size index) }
         ensures nesting { result.nesting_limit ≡ self.entry.nesting_limit }
         ensures value { (t : Tree) → ShowsListOf A.ReaderArena self.entry t → HasStructs t
             → HasValue (read_by A.ReaderArena result) (next (struct_element t index) (Child 0)) }

@@ -4,7 +4,7 @@ ghost use Rattle.capnp_format.specs.Bytes.{words_of};
 ghost use Rattle.capnp_objects.specs.declared.object.Purpose.TheVariants.{Value};
 ghost use Rattle.capnp_objects.specs.Enter.{read, result_shape};
 ghost use Rattle.capnp_objects.specs.Objects.{IsHeld};
-ghost use Rattle.capnp_objects.specs.Reading.{behind, source_start};
+ghost use Rattle.capnp_objects.specs.Reading.{place_past, source_start};
 ghost use Rattle.capnp_objects.specs.Source.{levels};
 ghost use Rattle.capnp_objects.specs.Entering.{IsObjectHeld};
 ghost use Rattle.capnp_messages.specs.Parts.{inside};
@@ -74,7 +74,7 @@ fn less(nesting_limit: i32) -> i32
 /// The pointer `words` words after the pointer `first` of the same object.
 pub(super) fn pointer_after<'a, A: ReaderArena>(first: Pointer<'a, A>, words: u32) -> Pointer<'a, A>
     ensures { first.entry.place.at + words < 2 ^ 32
-        → reading A.ReaderArena result ≡ behind (reading A.ReaderArena first.entry) words }
+        → reading A.ReaderArena result ≡ place_past (reading A.ReaderArena first.entry) words }
 {
     Pointer {
         source: first.source,

@@ -5,7 +5,7 @@ ghost use Rattle.capnp_framing.specs.declared.framing.frame_error.FrameError.The
 ghost use Rattle.capnp_format.specs.Bytes.{message};
 ghost use Rattle.capnp_streams.specs.Streams.{Answers, CountsRefusals, question_on, with_pointer};
 
-use super::fault::Fault;
+use super::fault::StreamError;
 use super::parts::{check, copy_asked, digest_asked, size_asked, validate};
 use super::task::Task;
 use super::writing::{write_canonical, write_canonical_words, write_fault, write_hex_line};
@@ -18,7 +18,7 @@ use capnp_refusals::refusals::pointer_of_refusal;
 use std::alloc::Global;
 
 /// The fault if writing to the output fails.
-const WRITE_FAILED: Fault = Fault::Frame(FrameError::WriteFailed);
+const WRITE_FAILED: StreamError = StreamError::Frame(FrameError::WriteFailed);
 
 /// What a run keeps from one message to the next.
 #[derive(Drop)]
@@ -68,9 +68,9 @@ fn is_first_segment<S: ReaderSegments>(source: &ReaderArenaImpl<S>, bytes: &[u8]
 }
 
 /// Returns `holds` if the answer was written, and the error `WRITE_FAILED` if it wasn't.
-fn if_written(written: Result<(), DeviceFault>, holds: bool) -> Result<bool, Fault>
+fn if_written(written: Result<(), DeviceFault>, holds: bool) -> Result<bool, StreamError>
     ensures written { OnOk written (result ≡ Ok holds) }
-    ensures failed { OnErr written (result ≡ Err (Fault.Frame WriteFailed)) }
+    ensures failed { OnErr written (result ≡ Err (StreamError.Frame WriteFailed)) }
 {
     match written {
         Ok(()) => Ok(holds),
@@ -87,7 +87,7 @@ fn canon_copy<A: Allocator, S: ReaderSegments, W: Output>(
     task: Task,
     source: &ReaderArenaImpl<S>,
     output: &mut W,
-) -> Result<bool, Fault>
+) -> Result<bool, StreamError>
     requires there { IsSome memory.old.allocator }
     requires nesting { source.now.nesting_limit ≡ task.limits.nesting_limit }
     requires works { W.has_failed output.old ≡ false }
@@ -109,7 +109,7 @@ fn canon_copy<A: Allocator, S: ReaderSegments, W: Output>(
         }
         Err((kind, allocator)) => {
             memory.allocator = Some(allocator);
-            Err(Fault::Layout(kind, None))
+            Err(StreamError::Layout(kind, None))
         }
     }
 }
@@ -123,7 +123,7 @@ fn canon<A: Allocator, S: ReaderSegments + Drop, W: Output>(
     task: Task,
     segments: S,
     output: &mut W,
-) -> Result<bool, Fault>
+) -> Result<bool, StreamError>
     requires there { IsSome memory.old.allocator }
     requires small { IsSmall (S.segments segments) }
     requires works { W.has_failed output.old ≡ false }
@@ -148,7 +148,7 @@ fn digest<A: Allocator, S: ReaderSegments + Drop, W: Output>(
     task: Task,
     segments: S,
     output: &mut W,
-) -> Result<bool, Fault>
+) -> Result<bool, StreamError>
     requires there { IsSome memory.old.allocator }
     requires small { IsSmall (S.segments segments) }
     requires works { W.has_failed output.old ≡ false }
@@ -164,7 +164,7 @@ fn digest<A: Allocator, S: ReaderSegments + Drop, W: Output>(
     memory.allocator = Some(allocator);
     match digest {
         Ok(digest) => if_written(write_hex_line(output, &digest), true),
-        Err(kind) => Err(Fault::Layout(kind, None)),
+        Err(kind) => Err(StreamError::Layout(kind, None)),
     }
 }
 
@@ -175,7 +175,7 @@ pub(super) fn answer<A: Allocator, S: ReaderSegments + Drop, W: Output>(
     task: Task,
     segments: S,
     output: &mut W,
-) -> Result<bool, Fault>
+) -> Result<bool, StreamError>
     requires there { IsSome memory.old.allocator }
     requires small { IsSmall (S.segments segments) }
     requires works { W.has_failed output.old ≡ false }
@@ -189,16 +189,16 @@ pub(super) fn answer<A: Allocator, S: ReaderSegments + Drop, W: Output>(
         Command::Check => match check(segments, task.limits) {
             Ok(None) => if_written(write_canonical(output), true),
             Ok(Some(fault)) => if_written(write_fault(output, fault), false),
-            Err(kind) => Err(Fault::Layout(kind, None)),
+            Err(kind) => Err(StreamError::Layout(kind, None)),
         },
         Command::Size => match size_asked(segments, task) {
             Ok(size) => if_written(write_size(output, size), true),
-            Err(kind) => Err(Fault::Layout(kind, None)),
+            Err(kind) => Err(StreamError::Layout(kind, None)),
         },
         Command::Digest => digest(memory, task, segments, output),
         Command::Validate => match validate(segments, task.limits) {
             Ok(extent) => if_written(write_extent(output, extent.value), true),
-            Err(kind) => Err(Fault::Layout(kind, None)),
+            Err(kind) => Err(StreamError::Layout(kind, None)),
         },
     }
 }
@@ -206,18 +206,18 @@ pub(super) fn answer<A: Allocator, S: ReaderSegments + Drop, W: Output>(
 /// Adds to `fault` the pointer at which the message in `segments` is refused, if `fault` is the
 /// refusal of a pointer and `task` is about the whole message. The message is read once more for
 /// this.
-pub(super) fn located<S: ReaderSegments + Drop>(fault: Fault, task: Task, segments: S) -> Fault
+pub(super) fn located<S: ReaderSegments + Drop>(fault: StreamError, task: Task, segments: S) -> StreamError
     requires { IsSmall (S.segments segments) }
     ensures { result ≡ with_pointer task (message (S.segments segments)) fault }
 {
     match fault {
-        Fault::Layout(kind, _) => {
+        StreamError::Layout(kind, _) => {
             let pointer = if task.path.is_whole() {
                 pointer_of_refusal(kind, task.command, segments, task.limits)
             } else {
                 None
             };
-            Fault::Layout(kind, pointer)
+            StreamError::Layout(kind, pointer)
         }
         other => other,
     }

@@ -3,7 +3,8 @@ ghost use Rattle.std.specs.Prelude.{◌≡◌};
 ghost use Rattle.capnp_streams.specs.Arguments.{assigned_step, budget_of, command_step, end_of, exclusion_of, form_exclusion, lacks_check, parsed_diff, parsed_form, parsed_reads_flat, parsed_request, parsed_show, parsed_with_value, named_step, nesting_of, operand_step, option_named, option_step, parted_step, no_arguments, show_exclusion, step_if_allowed, argument_step, step_or, parsed_task, subcommand_exclusion};
 
 use super::options::{
-    OptionName, Subcommand, ValueOption, looks_like_option, option_of, parted, subcommand_of,
+    OptionName, Subcommand, ValueOption, looks_like_option, option_of, split_at_equals,
+        subcommand_of,
 };
 use super::path::{Path, path_of};
 use super::task::{DiffTask, Request, ShowTask, Task};
@@ -436,7 +437,7 @@ impl ParsedArguments {
     fn with_parted(self, text: &str) -> Result<ArgumentStep, ArgumentFault>
         ensures { result ≡ parted_step text.now self }
     {
-        match parted(text) {
+        match split_at_equals(text) {
             Some((name, value)) => self.with_assigned(option_of(name), value),
             None => Err(ArgumentFault::UnknownOption),
         }

@@ -6,7 +6,7 @@ ghost use Rattle.capnp_format.specs.Bytes.{message};
 ghost use Rattle.capnp_framing.specs.Writing.{IsUnwritten};
 ghost use Rattle.capnp_messages.specs.Messages.{IsReadable};
 
-use super::fault::Fault;
+use super::fault::StreamError;
 use super::parts::validate;
 use super::runs::{Stop, words_of};
 use super::task::DiffTask;
@@ -79,7 +79,7 @@ impl Reading {
     }
 
     /// The fault if the message is refused.
-    fn refused(&self, fault: Fault) -> DiffFault {
+    fn refused(&self, fault: StreamError) -> DiffFault {
         DiffFault::Refused(
             self.side,
             Stop {
@@ -106,7 +106,7 @@ impl Reading {
                 Some(fault) => Err(self.refused(fault)),
             },
             Ok(false) => Ok(false),
-            Err(error) => Err(self.refused(Fault::Frame(error))),
+            Err(error) => Err(self.refused(StreamError::Frame(error))),
         }
     }
 
@@ -123,7 +123,7 @@ impl Reading {
                 None => Ok(()),
                 Some(fault) => Err(self.refused(fault)),
             },
-            Err(error) => Err(self.refused(Fault::Frame(error))),
+            Err(error) => Err(self.refused(StreamError::Frame(error))),
         }
     }
 
@@ -137,7 +137,7 @@ impl Reading {
 }
 
 /// Why the message isn't sound; `None` if its whole value can be read within the limits.
-fn fault_of(segments: &OwnedSegments, limits: ReaderOptions) -> Option<Fault>
+fn fault_of(segments: &OwnedSegments, limits: ReaderOptions) -> Option<StreamError>
     requires { IsSmall (⟦<OwnedSegments as ReaderSegments>⟧.segments segments.now) }
     ensures { IsNone result
         → IsReadable (message (⟦<OwnedSegments as ReaderSegments>⟧.segments segments.now)) limits }
@@ -146,7 +146,7 @@ fn fault_of(segments: &OwnedSegments, limits: ReaderOptions) -> Option<Fault>
         Ok(_) => None,
         Err(kind) => {
             let pointer = pointer_of_refusal(kind, Command::Validate, segments, limits);
-            Some(Fault::Layout(kind, pointer))
+            Some(StreamError::Layout(kind, pointer))
         }
     }
 }
@@ -328,7 +328,7 @@ fn finish<R: Input>(
         Stop {
             answered,
             byte,
-            fault: Fault::Frame(error),
+            fault: StreamError::Frame(error),
         },
     ))
 }

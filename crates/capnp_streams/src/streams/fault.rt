@@ -8,7 +8,7 @@ use capnp_words::error::ErrorKind;
 
 /// Why a message of a stream isn't answered.
 #[derive(Clone, Copy, Debug, PartialEq, Eq)]
-pub enum Fault {
+pub enum StreamError {
     /// The message's frame can't be read, or the answer can't be written.
     Frame(FrameError),
     /// The message can't be copied, tested or measured: why, and at which of its pointers, if it is
@@ -18,15 +18,15 @@ pub enum Fault {
     TooManyMessages,
 }
 
-impl Fault {
+impl StreamError {
     /// The name of the fault, which is printed after `refused`.
     pub fn name(&self) -> &'static str
         ensures { result.now ≡ fault_name self.now }
     {
         match self {
-            Fault::Frame(error) => error.name(),
-            Fault::Layout(kind, _) => kind.name(),
-            Fault::TooManyMessages => "TooManyMessages",
+            StreamError::Frame(error) => error.name(),
+            StreamError::Layout(kind, _) => kind.name(),
+            StreamError::TooManyMessages => "TooManyMessages",
         }
     }
 
@@ -35,8 +35,8 @@ impl Fault {
         ensures { result ≡ fault_pointer self.now }
     {
         match self {
-            Fault::Layout(_, pointer) => *pointer,
-            Fault::Frame(_) | Fault::TooManyMessages => None,
+            StreamError::Layout(_, pointer) => *pointer,
+            StreamError::Frame(_) | StreamError::TooManyMessages => None,
         }
     }
 }

@@ -6,7 +6,7 @@ ghost use Rattle.capnp_streams.specs.Flat.{CanFlatBeAnswered, HasTakenFlat, IsFl
 ghost use Rattle.capnp_streams.specs.Streams.{AreWorking, IsOfDevices, IsWriteFault, RunsToEnd, refusals_behind, stage_of};
 
 use super::answers::{Memory, answer, located};
-use super::fault::Fault;
+use super::fault::StreamError;
 use super::runs::words_of;
 use super::task::Task;
 use capnp_arena::arena::Allocator;
@@ -42,7 +42,7 @@ pub fn run_flat_with<A: Allocator, R: Input, W: Output>(
     task: Task,
     input: &mut R,
     output: &mut W,
-) -> (Result<bool, Fault>, A)
+) -> (Result<bool, StreamError>, A)
     requires { AreWorking R.Input W.Output input.old output.old }
     ensures done { IfOk result.0 (IsFlatDone task (stage_of R.Input W.Output input.old output.old)
         (stage_of R.Input W.Output input.new output.new)) }
@@ -53,7 +53,7 @@ pub fn run_flat_with<A: Allocator, R: Input, W: Output>(
     ensures exactly { IfErr result.0 (λ fault.
         IsSomeAnd (R.remaining input.old) (CanFlatBeAnswered task) → IsOfDevices fault) }
     ensures failed { IfErr result.0 (λ fault. R.has_failed input.new ≡ true
-        → fault ≡ Fault.Frame ReadFailed) }
+        → fault ≡ StreamError.Frame ReadFailed) }
     ensures taken { IfErr result.0 (HasTakenFlat R.Input input.old input.new) }
     ensures kept { OnOk result.0 (A.refusals result.1 ≡ A.refusals allocator) }
     ensures counted { IfErr result.0 (λ fault. A.refusals result.1
@@ -72,7 +72,7 @@ pub fn run_flat_with<A: Allocator, R: Input, W: Output>(
                 }
             }
         }
-        Err(error) => (Err(Fault::Frame(error)), allocator),
+        Err(error) => (Err(StreamError::Frame(error)), allocator),
     }
 }
 
@@ -82,7 +82,7 @@ pub fn run_flat<R: Input, W: Output>(
     task: Task,
     input: &mut R,
     output: &mut W,
-) -> Result<bool, Fault>
+) -> Result<bool, StreamError>
     requires { AreWorking R.Input W.Output input.old output.old }
     ensures done { IfOk result (IsFlatDone task (stage_of R.Input W.Output input.old output.old)
         (stage_of R.Input W.Output input.new output.new)) }
@@ -93,7 +93,7 @@ pub fn run_flat<R: Input, W: Output>(
     ensures exactly { IfErr result (λ fault.
         IsSomeAnd (R.remaining input.old) (CanFlatBeAnswered task) → IsOfDevices fault) }
     ensures failed { IfErr result (λ fault. R.has_failed input.new ≡ true
-        → fault ≡ Fault.Frame ReadFailed) }
+        → fault ≡ StreamError.Frame ReadFailed) }
     ensures taken { IfErr result (HasTakenFlat R.Input input.old input.new) }
 {
     let (answered, _) = run_flat_with(alloc, CopyMemory::new(alloc), task, input, output);

@@ -185,7 +185,7 @@ pub(super) fn subcommand_of(text: &str) -> Option<Subcommand>
 }
 
 /// Returns the parts of `text` before and after its first `=`; `None` if there is no `=`.
-pub(super) fn parted(text: &str) -> Option<(&str, &str)>
+pub(super) fn split_at_equals(text: &str) -> Option<(&str, &str)>
     ensures { MatchOption result (position_or_len is_equals text.now ≡ length text.now) (λ x.
         (position_or_len is_equals text.now < length text.now)
         × (x.0.now ≡ before_first is_equals text.now)

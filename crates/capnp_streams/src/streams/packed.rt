@@ -3,10 +3,10 @@ ghost use Rattle.std.specs.Prelude.{◌≡◌, ◌⊎◌, ℕ, List, [], Option,
 ghost use Rattle.capnp_packing.specs.Packing.{IsWhole, unpacked_bytes};
 ghost use Rattle.capnp_packing.specs.declared.packing.place.Place.TheVariants.{Tag};
 ghost use Rattle.capnp_framing.specs.declared.framing.frame_error.FrameError.TheVariants.{ReadFailed};
-ghost use Rattle.capnp_streams.specs.Packed.{IsCutBehind, unpacked_stage};
-ghost use Rattle.capnp_streams.specs.Streams.{AreDone, AreWorking, CanBeAnswered, EndsBehind, IsOfDevices, IsWriteFault, Stage, WereAnswered, refusals_behind, stage_of};
+ghost use Rattle.capnp_streams.specs.Packed.{IsCutAfter, unpacked_stage};
+ghost use Rattle.capnp_streams.specs.Streams.{AreDone, AreWorking, CanBeAnswered, EndsAfter, IsOfDevices, IsWriteFault, Stage, WereAnswered, refusals_behind, stage_of};
 
-use super::fault::Fault;
+use super::fault::StreamError;
 use super::runs::{Stop, Summary, run_with};
 use super::task::Task;
 use capnp_arena::arena::Allocator;
@@ -39,10 +39,10 @@ pub fn run_packed_with<A: Allocator, R: Input + Drop, W: BufferedOutput>(
     ensures refused { IfErr result.0 (λ s. (behind : Stage)
         × WereAnswered task (unpacked_stage (stage_of R.Input W.Output packed output.old)) behind s
         × (IsWriteFault W.Output output.new s.fault
-        ⊎ IsCutBehind (R.remaining packed) behind (W.contents output.new) s.fault
-        ⊎ ((left : Option (List ℕ)) × EndsBehind task behind
+        ⊎ IsCutAfter (R.remaining packed) behind (W.contents output.new) s.fault
+        ⊎ ((left : Option (List ℕ)) × EndsAfter task behind
         (record { input = left; output = W.contents output.new }) true s))) }
-    ensures failed { IfErr result.0 (λ s. s.fault ≡ Fault.Frame ReadFailed
+    ensures failed { IfErr result.0 (λ s. s.fault ≡ StreamError.Frame ReadFailed
         → IfSome (R.remaining packed) (λ _. (device : R) × (R.has_failed device ≡ true))) }
     ensures exactly { IfErr result.0 (λ s. IsSomeAnd (R.remaining packed)
         (λ bytes. IsWhole Tag bytes × CanBeAnswered task (unpacked_bytes Tag bytes))
@@ -57,8 +57,8 @@ pub fn run_packed_with<A: Allocator, R: Input + Drop, W: BufferedOutput>(
     match answered {
         Ok(summary) => match input.finish() {
             Ok(true) => (Ok(summary), allocator),
-            Ok(false) => (Err(behind(summary, FrameError::Truncated)), allocator),
-            Err(DeviceFault) => (Err(behind(summary, FrameError::ReadFailed)), allocator),
+            Ok(false) => (Err(stop_after(summary, FrameError::Truncated)), allocator),
+            Err(DeviceFault) => (Err(stop_after(summary, FrameError::ReadFailed)), allocator),
         },
         Err(stop) => (Err(stop), allocator),
     }
@@ -79,10 +79,10 @@ pub fn run_packed<R: Input + Drop, W: BufferedOutput>(
     ensures refused { IfErr result (λ s. (behind : Stage)
         × WereAnswered task (unpacked_stage (stage_of R.Input W.Output packed output.old)) behind s
         × (IsWriteFault W.Output output.new s.fault
-        ⊎ IsCutBehind (R.remaining packed) behind (W.contents output.new) s.fault
-        ⊎ ((left : Option (List ℕ)) × EndsBehind task behind
+        ⊎ IsCutAfter (R.remaining packed) behind (W.contents output.new) s.fault
+        ⊎ ((left : Option (List ℕ)) × EndsAfter task behind
         (record { input = left; output = W.contents output.new }) true s))) }
-    ensures failed { IfErr result (λ s. s.fault ≡ Fault.Frame ReadFailed
+    ensures failed { IfErr result (λ s. s.fault ≡ StreamError.Frame ReadFailed
         → IfSome (R.remaining packed) (λ _. (device : R) × (R.has_failed device ≡ true))) }
     ensures exactly { IfErr result (λ s. IsSomeAnd (R.remaining packed)
         (λ bytes. IsWhole Tag bytes × CanBeAnswered task (unpacked_bytes Tag bytes))
@@ -94,14 +94,14 @@ pub fn run_packed<R: Input + Drop, W: BufferedOutput>(
 }
 
 /// Returns the `Stop` whose fault is `error`, after the messages that `summary` counts.
-fn behind(summary: Summary, error: FrameError) -> Stop
+fn stop_after(summary: Summary, error: FrameError) -> Stop
     ensures answered { result.answered ≡ summary.messages }
     ensures byte { result.byte ≡ summary.bytes }
-    ensures fault { result.fault ≡ Fault.Frame error }
+    ensures fault { result.fault ≡ StreamError.Frame error }
 {
     Stop {
         answered: summary.messages,
         byte: summary.bytes,
-        fault: Fault::Frame(error),
+        fault: StreamError::Frame(error),
     }
 }

@@ -3,10 +3,10 @@ ghost use Rattle.std.specs.Prelude.{◌≡◌, ◌⊎◌, [], Some, true, Ok, No
 ghost use Rattle.std.specs.Io.KnownBytes.{IsAtEnd, Keeps};
 ghost use Rattle.capnp_framing.specs.declared.framing.frame_error.FrameError.TheVariants.{ReadFailed};
 ghost use Rattle.capnp_framing.specs.Wholeness.{KeepsWhole};
-ghost use Rattle.capnp_streams.specs.Streams.{AreDone, AreWorking, CanBeAnswered, CountsRefusals, EndsBehind, IsOfDevices, IsWriteFault, RunsToEnd, Stage, StopsAt, WereAnswered, most_words, refusals_behind, stage_of};
+ghost use Rattle.capnp_streams.specs.Streams.{AreDone, AreWorking, CanBeAnswered, CountsRefusals, EndsAfter, IsOfDevices, IsWriteFault, RunsToEnd, Stage, StopsAt, WereAnswered, most_words, refusals_behind, stage_of};
 
 use super::answers::{Memory, answer, located};
-use super::fault::Fault;
+use super::fault::StreamError;
 use super::task::Task;
 use capnp_arena::arena::{Allocator, ReaderOptions};
 use capnp_framing::devices::{Input, Output};
@@ -36,7 +36,7 @@ pub struct Stop {
     /// position in the unpacked bytes.
     pub byte: u64,
     /// Why the next message isn't answered.
-    pub fault: Fault,
+    pub fault: StreamError,
 }
 
 /// The result for one message that was answered.
@@ -68,7 +68,7 @@ fn answer_next<A: Allocator, R: BufferedInput, W: BufferedOutput>(
     segments: &mut OwnedSegments,
     memory: &mut Memory<A>,
     output: &mut W,
-) -> Result<Option<Answered>, Fault>
+) -> Result<Option<Answered>, StreamError>
     requires there { IsSome memory.old.allocator }
     requires work { AreWorking R.Input W.Output input.old output.old }
     requires passed_on { R.has_enough input.old ⊎ (W.kept output.old ≡ 0) }
@@ -82,7 +82,7 @@ fn answer_next<A: Allocator, R: BufferedInput, W: BufferedOutput>(
     ensures whole { OnOk result (KeepsWhole (R.ends_whole input.old) (R.ends_whole input.new)) }
     ensures work { OnOk result (AreWorking R.Input W.Output input.new output.new) }
     ensures failed { IfErr result (λ e. R.has_failed input.new ≡ true
-        → e ≡ Fault.Frame ReadFailed) }
+        → e ≡ StreamError.Frame ReadFailed) }
     ensures refused { IfErr result (λ e. IsWriteFault W.Output output.new e
         ⊎ (StopsAt task (R.remaining input.old) (R.remaining input.new) (R.has_failed input.new) e
         × Keeps (W.contents output.old) (W.contents output.new))) }
@@ -101,7 +101,7 @@ fn answer_next<A: Allocator, R: BufferedInput, W: BufferedOutput>(
             })),
             Err(fault) => Err(located(fault, task, &*segments)),
         },
-        Err(error) => Err(Fault::Frame(error)),
+        Err(error) => Err(StreamError::Frame(error)),
     }
 }
 
@@ -113,7 +113,7 @@ fn next<A: Allocator, R: BufferedInput, W: BufferedOutput>(
     segments: &mut OwnedSegments,
     memory: &mut Memory<A>,
     output: &mut W,
-) -> Result<Option<Answered>, Fault>
+) -> Result<Option<Answered>, StreamError>
     requires there { IsSome memory.old.allocator }
     requires work { AreWorking R.Input W.Output input.old output.old }
     ensures end { result ≡ Ok None → IsAtEnd (R.remaining input.old)
@@ -126,7 +126,7 @@ fn next<A: Allocator, R: BufferedInput, W: BufferedOutput>(
     ensures whole { OnOk result (KeepsWhole (R.ends_whole input.old) (R.ends_whole input.new)) }
     ensures work { OnOk result (AreWorking R.Input W.Output input.new output.new) }
     ensures failed { IfErr result (λ e. R.has_failed input.new ≡ true
-        → e ≡ Fault.Frame ReadFailed) }
+        → e ≡ StreamError.Frame ReadFailed) }
     ensures refused { IfErr result (λ e. IsWriteFault W.Output output.new e
         ⊎ (StopsAt task (R.remaining input.old) (R.remaining input.new) (R.has_failed input.new) e
         × Keeps (W.contents output.old) (W.contents output.new))) }
@@ -134,7 +134,7 @@ fn next<A: Allocator, R: BufferedInput, W: BufferedOutput>(
         task.command result }
 {
     if pass_on_before_waiting(input, output).is_err() {
-        return Err(Fault::Frame(FrameError::WriteFailed));
+        return Err(StreamError::Frame(FrameError::WriteFailed));
     }
     answer_next(task, input, segments, memory, output)
 }
@@ -183,13 +183,13 @@ pub fn run_with<A: Allocator, R: BufferedInput, W: BufferedOutput>(
     ensures refused { IfErr result.0 (λ s. (behind : Stage)
         × WereAnswered task (stage_of R.Input W.Output input.old output.old) behind s
         × (IsWriteFault W.Output output.new s.fault
-        ⊎ EndsBehind task behind (stage_of R.Input W.Output input.new output.new)
+        ⊎ EndsAfter task behind (stage_of R.Input W.Output input.new output.new)
         (R.has_failed input.new) s)) }
     ensures exactly { IfErr result.0 (λ s.
         IsSomeAnd (R.remaining input.old) (CanBeAnswered task) → IsOfDevices s.fault) }
     ensures ended { OnOk result.0 (RunsToEnd R.Input W.Output input.old input.new output.new) }
     ensures failed { IfErr result.0 (λ s. R.has_failed input.new ≡ true
-        → s.fault ≡ Fault.Frame ReadFailed) }
+        → s.fault ≡ StreamError.Frame ReadFailed) }
     ensures kept { OnOk result.0 (A.refusals result.1 ≡ A.refusals allocator) }
     ensures counted { IfErr result.0 (λ s. A.refusals result.1
         ≡ refusals_behind task.command s.fault (A.refusals allocator)) }
@@ -225,7 +225,7 @@ pub fn run_with<A: Allocator, R: BufferedInput, W: BufferedOutput>(
     let stop = Stop {
         answered: u64::MAX,
         byte: bytes,
-        fault: Fault::TooManyMessages,
+        fault: StreamError::TooManyMessages,
     };
     (Err(stop), memory.into_allocator())
 }
@@ -244,13 +244,13 @@ pub fn run<R: BufferedInput, W: BufferedOutput>(
     ensures refused { IfErr result (λ s. (behind : Stage)
         × WereAnswered task (stage_of R.Input W.Output input.old output.old) behind s
         × (IsWriteFault W.Output output.new s.fault
-        ⊎ EndsBehind task behind (stage_of R.Input W.Output input.new output.new)
+        ⊎ EndsAfter task behind (stage_of R.Input W.Output input.new output.new)
         (R.has_failed input.new) s)) }
     ensures exactly { IfErr result (λ s.
         IsSomeAnd (R.remaining input.old) (CanBeAnswered task) → IsOfDevices s.fault) }
     ensures ended { OnOk result (RunsToEnd R.Input W.Output input.old input.new output.new) }
     ensures failed { IfErr result (λ s. R.has_failed input.new ≡ true
-        → s.fault ≡ Fault.Frame ReadFailed) }
+        → s.fault ≡ StreamError.Frame ReadFailed) }
 {
     let (answered, _) = run_with(alloc, CopyMemory::new(alloc), task, input, output);
     answered

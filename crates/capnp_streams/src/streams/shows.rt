@@ -4,7 +4,7 @@ ghost use Rattle.capnp_arena_traits.specs.Limits.{IsSmall};
 ghost use Rattle.capnp_show.specs.Show.{PrintsAtMost};
 ghost use Rattle.capnp_streams.specs.Streams.{AreWorking};
 
-use super::fault::Fault;
+use super::fault::StreamError;
 use super::runs::{Stop, Summary, words_of};
 use super::task::ShowTask;
 use capnp_arena::arena::ReaderSegments;
@@ -23,7 +23,7 @@ fn show<S: ReaderSegments + Drop, W: Output>(
     number: u64,
     segments: S,
     output: &mut W,
-) -> Result<bool, Fault>
+) -> Result<bool, StreamError>
     requires small { IsSmall (S.segments segments) }
     requires works { W.has_failed output.old ≡ false }
     ensures bounded { OnOk result (PrintsAtMost W.Output MOST_BYTES output.old output.new) }
@@ -38,8 +38,8 @@ fn show<S: ReaderSegments + Drop, W: Output>(
     let path = task.path.indexes();
     match show_message(alloc, showing, task.limits, number, path, segments, output) {
         Ok(is_sound) => Ok(is_sound),
-        Err(ShowFault::AllocationFailed) => Err(Fault::Frame(FrameError::AllocationFailed)),
-        Err(ShowFault::WriteFailed) => Err(Fault::Frame(FrameError::WriteFailed)),
+        Err(ShowFault::AllocationFailed) => Err(StreamError::Frame(FrameError::AllocationFailed)),
+        Err(ShowFault::WriteFailed) => Err(StreamError::Frame(FrameError::WriteFailed)),
     }
 }
 
@@ -52,12 +52,12 @@ fn show_next<R: BufferedInput, W: BufferedOutput>(
     input: &mut R,
     segments: &mut OwnedSegments,
     output: &mut W,
-) -> Result<Option<bool>, Fault>
+) -> Result<Option<bool>, StreamError>
     requires { AreWorking R.Input W.Output input.old output.old }
     ensures { OnOk result (AreWorking R.Input W.Output input.new output.new) }
 {
     if pass_on_before_waiting(input, output).is_err() {
-        return Err(Fault::Frame(FrameError::WriteFailed));
+        return Err(StreamError::Frame(FrameError::WriteFailed));
     }
     match read_into(input, words_of(task.limits), segments) {
         Ok(false) => Ok(None),
@@ -65,7 +65,7 @@ fn show_next<R: BufferedInput, W: BufferedOutput>(
             Ok(is_sound) => Ok(Some(is_sound)),
             Err(fault) => Err(fault),
         },
-        Err(error) => Err(Fault::Frame(error)),
+        Err(error) => Err(StreamError::Frame(error)),
     }
 }
 
@@ -114,7 +114,7 @@ pub fn run_show<R: BufferedInput, W: BufferedOutput>(
     Err(Stop {
         answered: u64::MAX,
         byte: bytes,
-        fault: Fault::TooManyMessages,
+        fault: StreamError::TooManyMessages,
     })
 }
 
@@ -140,7 +140,7 @@ pub fn run_show_packed<R: Input + Drop, W: BufferedOutput>(
     Err(Stop {
         answered: summary.messages,
         byte: summary.bytes,
-        fault: Fault::Frame(error),
+        fault: StreamError::Frame(error),
     })
 }
 
@@ -151,7 +151,7 @@ pub fn run_show_flat<R: Input, W: Output>(
     task: ShowTask,
     input: &mut R,
     output: &mut W,
-) -> Result<bool, Fault>
+) -> Result<bool, StreamError>
     requires { AreWorking R.Input W.Output input.old output.old }
     ensures bounded { OnOk result (PrintsAtMost W.Output MOST_BYTES output.old output.new) }
     ensures works { OnOk result (W.has_failed output.new ≡ false) }
@@ -159,6 +159,6 @@ pub fn run_show_flat<R: Input, W: Output>(
     let mut segments = OwnedSegments::new(alloc);
     match read_segment_into(input, words_of(task.limits), &mut segments) {
         Ok(()) => show(alloc, task, 1, &segments, output),
-        Err(error) => Err(Fault::Frame(error)),
+        Err(error) => Err(StreamError::Frame(error)),
     }
 }

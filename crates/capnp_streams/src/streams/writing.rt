@@ -47,7 +47,7 @@ fn write_segment<W: Output>(output: &mut W, segment: u64) -> Result<(), DeviceFa
 
 /// Writes the word of the fault, and ends the line.
 #[tactic(auto, unfolding(crate::specs::Streams::word_text))]
-fn write_word<W: Output>(output: &mut W, word: u64) -> Result<(), DeviceFault>
+fn write_word_number<W: Output>(output: &mut W, word: u64) -> Result<(), DeviceFault>
     requires { W.has_failed output.old ≡ false }
     ensures { Writes W.Output result output.old output.new (word_text word) }
 {
@@ -67,7 +67,7 @@ pub(super) fn write_fault<W: Output>(
     write_no(output)?;
     write_all(output, fault.reason.text().as_bytes())?;
     write_segment(output, fault.segment)?;
-    write_word(output, u64::from(fault.word))
+    write_word_number(output, u64::from(fault.word))
 }
 
 /// Writes at most 512 bytes as lower case hex digits, two a byte.

@@ -5,13 +5,13 @@ ghost use Rattle.capnp_objects.specs.Reading.{segment_read};
 ghost use Rattle.capnp_objects.specs.Wanted.{plain};
 ghost use Rattle.capnp_pointers.specs.Pointers.{reading};
 ghost use Rattle.capnp_copies.specs.Growth.{TakesAtMost};
-ghost use Rattle.capnp_copies.specs.Changes.{change, CopiesChildren, CopiesFirst, HasNullsFor};
+ghost use Rattle.capnp_copies.specs.Changes.{copy_call, CopiesChildren, CopiesFirst, HasNullsFor};
 ghost use Rattle.capnp_copies.specs.Rooms.{CanBeCopied};
 ghost use Rattle.capnp_copies.specs.Originals.{children_original};
 ghost use Rattle.capnp_making.specs.Makes.{call_at};
 
 use capnp_arena_traits::arena::{BuilderArena, ReaderArena, WordPlace};
-use capnp_copies::copy::{copy_value, place_behind, pointer_behind};
+use capnp_copies::copy::{copy_value, place_past, pointer_past};
 use capnp_pointers::pointers::Pointer;
 use capnp_words::error::ErrorKind;
 use capnp_words::read_limiter::ReadLimiter;
@@ -32,21 +32,21 @@ pub fn copy_each<A: BuilderArena, B: ReaderArena>(
     requires { HasNullsFor (reading B.ReaderArena from) count
         (A.view arena.old).words to.segment to.at }
     ensures copied { IfOk result (λ _. CopiesChildren (reading B.ReaderArena from.entry) count
-        (change plain
+        (copy_call plain
         (call_at to.segment to.at (A.view arena.old) (A.view arena.new)) lim.old lim.new)) }
     ensures fits { CanBeCopied (children_original (reading B.ReaderArena from.entry) count)
         plain lim.old (A.view arena.old) to.segment → IsOk result }
     ensures refused { IfErr result
         (CopiesFirst (reading B.ReaderArena from.entry) count
-        (change plain
+        (copy_call plain
         (call_at to.segment to.at (A.view arena.old) (A.view arena.new)) lim.old lim.new)) }
     ensures taken { TakesAtMost result (children_original (reading B.ReaderArena from.entry) count)
-        (change plain
+        (copy_call plain
         (call_at to.segment to.at (A.view arena.old) (A.view arena.new)) lim.old lim.new) }
 {
     for i in 0..count {
-        let child = pointer_behind(from, i);
-        let place = place_behind(to, i);
+        let child = pointer_past(from, i);
+        let place = place_past(to, i);
         copy_value(arena, place, child, lim, false)?;
     }
     Ok(())

@@ -1,7 +1,7 @@
 //! Copies a list that a `ListReader` reads (encoding specification, "Lists" and
 //! "Canonicalization").
 ghost use Rattle.std.specs.Prelude.{◌+◌, ◌↔◌, IsTrue};
-ghost use Rattle.capnp_copies.specs.Changes.{change, IsNullPlace};
+ghost use Rattle.capnp_copies.specs.Changes.{copy_call, IsNullPlace};
 ghost use Rattle.capnp_copies.specs.Rooms.{CopiesOrClears};
 ghost use Rattle.capnp_copies.specs.Forms.{form_of};
 ghost use Rattle.capnp_value_copies.specs.ListValues.{list_read};
@@ -42,7 +42,7 @@ pub fn copy_list<A: BuilderArena, B: ReaderArena>(
 ) -> Result<(), ErrorKind>
     requires { IsNullPlace (A.view arena.old).words to.segment to.at }
     ensures { CopiesOrClears result (list_read B.ReaderArena value.entry)
-        (change (form_of canonicalize)
+        (copy_call (form_of canonicalize)
         (call_at to.segment to.at (A.view arena.old) (A.view arena.new)) lim.old lim.new) }
 {
     let count = value.count;

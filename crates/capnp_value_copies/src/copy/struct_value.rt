@@ -3,7 +3,7 @@
 ghost use Rattle.std.specs.Prelude.{◌≡◌, ◌<◌, ◌^◌, IfOk, IfErr};
 ghost use Rattle.capnp_objects.specs.Reading.{words_from};
 ghost use Rattle.capnp_readers.specs.Sizes.{pointers_read};
-ghost use Rattle.capnp_copies.specs.Changes.{change, IsNullPlace};
+ghost use Rattle.capnp_copies.specs.Changes.{copy_call, IsNullPlace};
 ghost use Rattle.capnp_copies.specs.Rooms.{CopiesOrClears};
 ghost use Rattle.capnp_copies.specs.Forms.{form_of};
 ghost use Rattle.capnp_copies.specs.Originals.{kept_count};
@@ -45,7 +45,7 @@ pub fn copy_struct_value<A: BuilderArena, B: ReaderArena>(
 ) -> Result<(), ErrorKind>
     requires { IsNullPlace (A.view arena.old).words to.segment to.at }
     ensures { CopiesOrClears result (struct_read B.ReaderArena value.entry)
-        (change (form_of canonicalize)
+        (copy_call (form_of canonicalize)
         (call_at to.segment to.at (A.view arena.old) (A.view arena.new)) lim.old lim.new) }
 {
     let kept = kept_sections(value, canonicalize)?;

@@ -104,8 +104,8 @@ fn find<A: BuilderArena>(
 {
     let mut pointer = pointer(arena, place)?;
     let found = match blob {
-        Blob::Text => pointer.find_text(default)?,
-        Blob::Data => pointer.find_data(default)?,
+        Blob::Text => pointer.get_text_place(default)?,
+        Blob::Data => pointer.get_data_place(default)?,
     };
     out.put(found.segment);
     out.slash(found.start);

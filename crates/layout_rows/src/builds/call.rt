@@ -179,7 +179,7 @@ pub static FORMS: [Form<Call>; 65] = [
         Call::Pointer(PointerCall::Word(WordCall::GetCapability)),
     ),
     (
-        "put_struct",
+        "init_struct_place",
         "dp",
         2,
         Call::Pointer(PointerCall::Struct(Verb::Put)),
@@ -191,7 +191,7 @@ pub static FORMS: [Form<Call>; 65] = [
         Call::Pointer(PointerCall::Struct(Verb::Init)),
     ),
     (
-        "put_list",
+        "init_list_place",
         "sc",
         2,
         Call::Pointer(PointerCall::List(Verb::Put)),
@@ -203,7 +203,7 @@ pub static FORMS: [Form<Call>; 65] = [
         Call::Pointer(PointerCall::List(Verb::Init)),
     ),
     (
-        "put_struct_list",
+        "init_struct_list_place",
         "cdp",
         3,
         Call::Pointer(PointerCall::StructList(Verb::Put)),
@@ -221,7 +221,7 @@ pub static FORMS: [Form<Call>; 65] = [
         Call::Pointer(PointerCall::PutDefault),
     ),
     (
-        "find_struct",
+        "get_struct_place",
         "dph",
         2,
         Call::Pointer(PointerCall::Struct(Verb::Find)),
@@ -233,7 +233,7 @@ pub static FORMS: [Form<Call>; 65] = [
         Call::Pointer(PointerCall::Struct(Verb::Get)),
     ),
     (
-        "find_list",
+        "get_list_place",
         "sh",
         1,
         Call::Pointer(PointerCall::List(Verb::Find)),
@@ -245,7 +245,7 @@ pub static FORMS: [Form<Call>; 65] = [
         Call::Pointer(PointerCall::List(Verb::Get)),
     ),
     (
-        "find_struct_list",
+        "get_struct_list_place",
         "dph",
         2,
         Call::Pointer(PointerCall::StructList(Verb::Find)),
@@ -270,8 +270,8 @@ pub static FORMS: [Form<Call>; 65] = [
     ),
     ("set_text", "h", 1, Call::Bytes(Blob::Text, BlobCall::Set)),
     ("set_data", "h", 1, Call::Bytes(Blob::Data, BlobCall::Set)),
-    ("find_text", "h", 0, Call::Bytes(Blob::Text, BlobCall::Find)),
-    ("find_data", "h", 0, Call::Bytes(Blob::Data, BlobCall::Find)),
+    ("get_text_place", "h", 0, Call::Bytes(Blob::Text, BlobCall::Find)),
+    ("get_data_place", "h", 0, Call::Bytes(Blob::Data, BlobCall::Find)),
     ("get_text", "h", 0, Call::Bytes(Blob::Text, BlobCall::Get)),
     ("get_data", "h", 0, Call::Bytes(Blob::Data, BlobCall::Get)),
     (

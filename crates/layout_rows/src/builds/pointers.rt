@@ -99,7 +99,7 @@ fn structure<A: BuilderArena>(
     requires few { IsShortDefault default }
 {
     let place = match verb {
-        Verb::Put => pointer.put_struct(size)?,
+        Verb::Put => pointer.init_struct_place(size)?,
         Verb::Init => pointer.init_struct(size)?.place,
         verb => found_struct(pointer, verb, size, default)?,
     };
@@ -118,7 +118,7 @@ fn found_struct<A: BuilderArena>(
 {
     match verb {
         Verb::Get => Ok(pointer.get_struct(size, default)?.place),
-        _ => pointer.find_struct(size, default),
+        _ => pointer.get_struct_place(size, default),
     }
 }
 
@@ -138,7 +138,7 @@ fn list<A: BuilderArena>(
         return Err(Fault::Unfit);
     }
     let place = match verb {
-        Verb::Put => pointer.put_list(size, count)?,
+        Verb::Put => pointer.init_list_place(size, count)?,
         Verb::Init => pointer.init_list(size, count)?.place,
         verb => found_list(pointer, verb, size, default)?,
     };
@@ -158,7 +158,7 @@ fn found_list<A: BuilderArena>(
 {
     match verb {
         Verb::Get => Ok(pointer.get_list(size, default)?.place),
-        _ => pointer.find_list(size, default),
+        _ => pointer.get_list_place(size, default),
     }
 }
 
@@ -178,7 +178,7 @@ fn struct_list<A: BuilderArena>(
         return Err(Fault::Unfit);
     }
     let place = match verb {
-        Verb::Put => pointer.put_struct_list(count, size)?,
+        Verb::Put => pointer.init_struct_list_place(count, size)?,
         Verb::Init => pointer.init_struct_list(count, size)?.place,
         verb => found_struct_list(pointer, verb, size, default)?,
     };
@@ -197,6 +197,6 @@ fn found_struct_list<A: BuilderArena>(
 {
     match verb {
         Verb::Get => Ok(pointer.get_struct_list(size, default)?.place),
-        _ => pointer.find_struct_list(size, default),
+        _ => pointer.get_struct_list_place(size, default),
     }
 }

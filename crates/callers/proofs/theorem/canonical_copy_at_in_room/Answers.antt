@@ -1,13 +1,13 @@
 use Rattle.std.proofs.Common.{rules, IfOk, IfErr, OnOk, OnErr, ◌≡◌, ◌↔◌, ◌+◌, ◌≤◌, ℕ, true, [], ◌∷◌, map, ap, subst}
 use Rattle.std.proofs.lemmas.Result.{IfErr-weaker, IfOk-weaker}
 use Rattle.capnp_format.specs.Bytes.{message}
-use Rattle.capnp_format.specs.Canonical.{IsFree, encoding, trim, word_count}
+use Rattle.capnp_format.specs.Canonical.{HasNoCapabilities, encoding, trim, word_count}
 use Rattle.capnp_format.specs.Forest.{IsForest}
 use Rattle.capnp_format.specs.Means.{Means}
 use Rattle.capnp_format.specs.Segments.{word_at}
 use Rattle.capnp_format.specs.Tree.{Tree}
 use Rattle.capnp_arena_traits.specs.Limits.{whole}
-use Rattle.capnp_copies.specs.Changes.{RefusesToCopy, change}
+use Rattle.capnp_copies.specs.Changes.{RefusesToCopy, copy_call}
 use Rattle.capnp_copies.specs.Originals.{value_original}
 use Rattle.capnp_making.specs.Makes.{call_at}
 use Rattle.capnp_objects.specs.Source.{levels}
@@ -32,7 +32,7 @@ returns-clause-made g c =
     record { same = ap view c.get_root.ensures.now; segment = c.get_root.ensures.place.0; at = c.get_root.ensures.place.1; fresh = c.requires.root } in
     let now = c.copy_from.new.self.arena.now in
     let made = IfOk-weaker c.copy_from.result _ _ (λ x. made_here (view now) (rw (← c.of_pointer-from.ensures.source, ← c.of_pointer-from.ensures.place, ← c.of_pointer-from.ensures.nesting) at c.pointer_at.ensures) root (g.met.A.BuilderArena.within now 0)) (c.copy_from.ensures.near (null_root root)) in
-    subst (λ (a : g.row.A.Denot). IfOk c.copy_from.result (λ _. (t : Tree) × (cost : ℕ) × Means S (levels c.args.source.now.nesting_limit) c.args.place.segment c.args.place.word t cost × IsFree t ×
+    subst (λ (a : g.row.A.Denot). IfOk c.copy_from.result (λ _. (t : Tree) × (cost : ℕ) × Means S (levels c.args.source.now.nesting_limit) c.args.place.segment c.args.place.word t cost × HasNoCapabilities t ×
     Paid true c.args.lim.now c.copy_from.new.lim cost (pointers_in t) ×
     (1 + word_count (trim t) ≤ (view c.args.arena.now).room 0 ↔ ((view a).words ≡ encoding (trim t) ∷ [])) × IsForest (view a).words (trim t))) (search rules) made
 
@@ -63,4 +63,4 @@ returns-clause-refused g c =
     let now = c.copy_from.new.self.arena.now in
     let refused = IfErr-weaker c.copy_from.result _ _ (λ k. refused_here (view now) k (rw (← c.of_pointer-from.ensures.source, ← c.of_pointer-from.ensures.place, ← c.of_pointer-from.ensures.nesting) at c.pointer_at.ensures) root) c.copy_from.ensures.refused in
     subst (λ (a : g.row.A.Denot). IfErr c.copy_from.result (RefusesToCopy (value_original (read_at S (levels c.args.source.now.nesting_limit) c.args.place.segment c.args.place.word))
-    (change canonical (call_at 0 0 (view c.args.arena.now) (view a)) c.args.lim.now c.copy_from.new.lim))) (search rules) refused
+    (copy_call canonical (call_at 0 0 (view c.args.arena.now) (view a)) c.args.lim.now c.copy_from.new.lim))) (search rules) refused

@@ -7,7 +7,7 @@ use Rattle.capnp_arena.specs.declared.arena.reader_arena_impl.ReaderOptions.{Rea
 use Rattle.capnp_making.specs.Makes.{call_at}
 use Rattle.capnp_objects.specs.Reading.{Reading}
 use Rattle.capnp_objects.specs.Wanted.{canonical}
-use Rattle.capnp_copies.specs.Changes.{MakesCopy, change}
+use Rattle.capnp_copies.specs.Changes.{MakesCopy, copy_call}
 use Rattle.capnp_copies.specs.Originals.{value_original}
 use Rattle.capnp_messages.proofs.MessageLemmas.{value_of}
 use Rattle.callers.proofs.AgreedLemmas.{fresh_forest}
@@ -78,13 +78,13 @@ returns-clause-refused g c =
 
 -- what is made there is all of the message, in however many segments
 means_there : {S : Segments} {limits : ReaderOptions} {r : Reading} {m after : Meter} {v w : View} {s p : ℕ} (made : View) → AtRoot S limits r m →
-    IsFreshRoot v w s p → MakesCopy (value_original r) (change canonical (call_at s p w made) m after) →
+    IsFreshRoot v w s p → MakesCopy (value_original r) (copy_call canonical (call_at s p w made) m after) →
     (t : Tree) × IsValueOf S limits t × IsForest made.words (trim t)
 means_there {S} {limits} {r} {m} {after} {v} {w} {s} {p} made at root makes =
-    let here : MakesCopy (value_original r) (change canonical (call_at 0 0 v made) m after) =
-    subst (λ (x : View). MakesCopy (value_original r) (change canonical (call_at 0 0 x made) m after)) root.same
-    (subst (λ (i : ℕ). MakesCopy (value_original r) (change canonical (call_at 0 i w made) m after)) root.at
-    (subst (λ (i : ℕ). MakesCopy (value_original r) (change canonical (call_at i p w made) m after)) root.segment makes)) in
+    let here : MakesCopy (value_original r) (copy_call canonical (call_at 0 0 v made) m after) =
+    subst (λ (x : View). MakesCopy (value_original r) (copy_call canonical (call_at 0 0 x made) m after)) root.same
+    (subst (λ (i : ℕ). MakesCopy (value_original r) (copy_call canonical (call_at 0 i w made) m after)) root.at
+    (subst (λ (i : ℕ). MakesCopy (value_original r) (copy_call canonical (call_at i p w made) m after)) root.segment makes)) in
     let forest : IsForest v.words Null = subst (λ (X : Segments). IsForest X Null) (sym root.fresh) fresh_forest in
     (here.value, value_of at here.is_read, forest_updated v.words made.words Null [] 0 0 Null (trim here.value) forest refl here.made)
 

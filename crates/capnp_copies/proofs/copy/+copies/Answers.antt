@@ -18,7 +18,7 @@ use Rattle.capnp_objects.specs.declared.object.Place.{Place}
 use Rattle.capnp_objects.specs.declared.object.Object.TheVariants.{Struct as ObjectStruct}
 use Rattle.capnp_objects.specs.Objects.{IsObject}
 use Rattle.capnp_objects.specs.Source.{levels}
-use Rattle.capnp_objects.specs.Reading.{Reading, behind, segment_read, word_of, words_from}
+use Rattle.capnp_objects.specs.Reading.{Reading, place_past, segment_read, word_of, words_from}
 use Rattle.capnp_objects.specs.declared.object.Purpose.TheVariants.{Value}
 use Rattle.capnp_pointers.specs.Pointers.{reading}
 use Rattle.capnp_pointers.proofs.Checks.{struct_room}
@@ -50,12 +50,12 @@ use Rattle.capnp_copies.proofs.copy.+copies.Goals as goal
 
 -- Positions fit 32 bits.
 
-pub children::copy_in_line-pointer_behind-child-requires : goal.children::copy_in_line-pointer_behind-child-requires
-children::copy_in_line-pointer_behind-child-requires g t c =
+pub children::copy_in_line-pointer_past-child-requires : goal.children::copy_in_line-pointer_past-child-requires
+children::copy_in_line-pointer_past-child-requires g t c =
     child_fits c.args.from.place.at c.args.count c.loop-i.i c.requires.inside c.loop-i-test.true c.args.from.held.1 c.args.from.held.2
 
-pub children::copy_in_line-place_behind-place-requires : goal.children::copy_in_line-place_behind-place-requires
-children::copy_in_line-place_behind-place-requires g t c =
+pub children::copy_in_line-place_past-place-requires : goal.children::copy_in_line-place_past-place-requires
+children::copy_in_line-place_past-place-requires g t c =
     let now = c.args.arena.now in
     null_fits c.args.to.place.at c.args.count c.loop-i.i c.requires.nulls.room c.loop-i-test.true (g.met.A.BuilderArena.within now c.args.to.place.segment) (g.met.A.BuilderArena.small now c.args.to.place.segment)
 
@@ -80,7 +80,7 @@ children::copy_in_line-copy_child-requires g t c κs within =
     child_ahead c.loop-i.invariant.0 (child_there c.args.to.place.at c.args.count c.loop-i.i
     c.requires.nulls.room c.loop-i-test.true (le_refl _)) ∙ c.requires.nulls.null c.loop-i.i
     c.loop-i-test.true in
-    (falls_below 1 0 (ap (λ (r : Reading). r.levels) c.pointer_behind-child.ensures) c.decreases, (within.0, (within.1, rw c.place_behind-place.ensures (record { place = PLACE; null = NULL }))))
+    (falls_below 1 0 (ap (λ (r : Reading). r.levels) c.pointer_past-child.ensures) c.decreases, (within.0, (within.1, rw c.place_past-place.ensures (record { place = PLACE; null = NULL }))))
 
 pub children::copy_in_line-returns-in_err-copy_child : goal.children::copy_in_line-returns-in_err-copy_child
 children::copy_in_line-returns-in_err-copy_child g t c =
@@ -88,8 +88,8 @@ children::copy_in_line-returns-in_err-copy_child g t c =
     rw (p.1, p.2) (record {
       copied = tt;
       refused = child_stops (child_there c.args.to.place.at c.args.count c.loop-i.i c.requires.nulls.room
-          c.loop-i-test.true (le_refl _)) c.loop-i-test.true c.loop-i.invariant.0 c.loop-i.invariant.1 (rw (c.pointer_behind-child.ensures, c.place_behind-place.ensures) at c.in_err-copy_child.ensures.refused);
-      taken = stop_taken c.loop-i-test.true c.loop-i.invariant.1 (rw (c.pointer_behind-child.ensures, c.place_behind-place.ensures) at c.in_err-copy_child.ensures.taken);
+          c.loop-i-test.true (le_refl _)) c.loop-i-test.true c.loop-i.invariant.0 c.loop-i.invariant.1 (rw (c.pointer_past-child.ensures, c.place_past-place.ensures) at c.in_err-copy_child.ensures.refused);
+      taken = stop_taken c.loop-i-test.true c.loop-i.invariant.1 (rw (c.pointer_past-child.ensures, c.place_past-place.ensures) at c.in_err-copy_child.ensures.taken);
     })
 
 pub children::copy_in_line-loop-i-preserved : goal.children::copy_in_line-loop-i-preserved
@@ -98,8 +98,8 @@ children::copy_in_line-loop-i-preserved g t c =
     lt_of_le_of_lt (g.met.A.BuilderArena.within c.loop-i.arena c.args.to.place.segment) (g.met.A.BuilderArena.small
     c.loop-i.arena c.args.to.place.segment) in (
       child_copied (child_there c.args.to.place.at c.args.count c.loop-i.i c.requires.nulls.room c.loop-i-test.true
-          (le_refl _)) few c.loop-i.invariant.0 (rw (c.pointer_behind-child.ensures, c.place_behind-place.ensures) at c.in_ok-copy_child.ensures.copied),
-      one_taken c.loop-i.invariant.1 (rw (c.pointer_behind-child.ensures, c.place_behind-place.ensures) at c.in_ok-copy_child.ensures.taken),
+          (le_refl _)) few c.loop-i.invariant.0 (rw (c.pointer_past-child.ensures, c.place_past-place.ensures) at c.in_ok-copy_child.ensures.copied),
+      one_taken c.loop-i.invariant.1 (rw (c.pointer_past-child.ensures, c.place_past-place.ensures) at c.in_ok-copy_child.ensures.taken),
     )
 
 pub children::copy_in_line-returns : goal.children::copy_in_line-returns
@@ -583,7 +583,7 @@ structs::copy_struct-returns-in_err-start g t c =
     record {
       copied = rw p.1 tt;
       refused = (let full : HasRoom (g.A.BuilderArena.view c.args.arena.now) c.args.to.place.segment (least.data_words + least.pointers) → ⊥ = λ room. absurd (false≢true (c.in_err-start.ensures.memory.fits room)) in let none = nothing_made (form_in c.args.to.form) c.args.to.place.segment c.args.to.place.at (least.data_words + least.pointers) (g.A.BuilderArena.view c.args.arena.now) (g.A.BuilderArena.view c.make_struct.new.arena) c.args.lim.now c.args.lim.now c.in_err-start.field-0.0 c.requires.place.place c.requires.place.null
-          c.in_err-start.ensures.memory.named c.in_err-start.ensures.refused full in let r : Reading = reading g.B.ReaderArena c.args.from in let cut : SectionsCut (form_in c.args.to.form) (words_from r c.args.size.data_words) (behind r
+          c.in_err-start.ensures.memory.named c.in_err-start.ensures.refused full in let r : Reading = reading g.B.ReaderArena c.args.from in let cut : SectionsCut (form_in c.args.to.form) (words_from r c.args.size.data_words) (place_past r
           c.args.size.data_words) c.args.size.pointers least = record {
             inside = behind_inside
                 c.args.from.place.at c.args.size.data_words c.args.size.pointers c.requires.inside;
@@ -591,7 +591,7 @@ structs::copy_struct-returns-in_err-start g t c =
             of_pointers = c.kept_sections-kept.ensures.pointers;
           } in let makes = ap₂ (λ i j. i + j) cut.of_data cut.of_pointers in rw (p.1, p.2) (halfway (inl (
             inl (least.data_words + least.pointers, refl, makes, (none.0, no_own_room (g.A.BuilderArena.view c.args.arena.now) c.args.to.place.segment (least.data_words + least.pointers) full)),
-            sections_large (form_in c.args.to.form) (words_from r c.args.size.data_words) (behind r c.args.size.data_words) c.args.size.pointers (length (segment (g.A.BuilderArena.view c.args.arena.now).words c.args.to.place.segment)) ((g.A.BuilderArena.view c.args.arena.now).room c.args.to.place.segment)
+            sections_large (form_in c.args.to.form) (words_from r c.args.size.data_words) (place_past r c.args.size.data_words) c.args.size.pointers (length (segment (g.A.BuilderArena.view c.args.arena.now).words c.args.to.place.segment)) ((g.A.BuilderArena.view c.args.arena.now).room c.args.to.place.segment)
                 (no_sections_room c.args.to.place.segment (g.A.BuilderArena.view c.args.arena.now) (form_in c.args.to.form) cut full),
           )) none.1));
       taken = rw p.1 (inl (refl, made_none (none_refused (g.A.BuilderArena.view c.args.arena.now) (g.A.BuilderArena.view c.make_struct.new.arena) (least.data_words + least.pointers) c.in_err-start.field-0.0 c.in_err-start.ensures.memory.named c.in_err-start.ensures.refused)));
@@ -606,7 +606,7 @@ structs::copy_struct-returns g t c =
     let section : words_of c.part-data.result.now ≡ take least.data_words (words_from r c.args.size.data_words) =
     (rw (c.from-data_words.ensures, held) at c.part-data.ensures.words) ∙ sym (words_taken r.segments r.segment r.at least.data_words c.args.size.data_words c.kept_sections-kept.ensures.less.data_words) in
     record {
-      copied = (let begun : SectionsBegun (form_in c.args.to.form) (words_from r c.args.size.data_words) (behind r c.args.size.data_words) c.args.size.pointers least c.args.to.place.segment c.args.to.place.at (g.A.BuilderArena.view c.args.arena.now) (g.A.BuilderArena.view c.make_struct.new.arena) (g.A.BuilderArena.view c.put_words.new.arena) c.in_ok-start.start = record {
+      copied = (let begun : SectionsBegun (form_in c.args.to.form) (words_from r c.args.size.data_words) (place_past r c.args.size.data_words) c.args.size.pointers least c.args.to.place.segment c.args.to.place.at (g.A.BuilderArena.view c.args.arena.now) (g.A.BuilderArena.view c.make_struct.new.arena) (g.A.BuilderArena.view c.put_words.new.arena) c.in_ok-start.start = record {
         cut = record {
           inside = behind_inside c.args.from.place.at c.args.size.data_words c.args.size.pointers
               c.requires.inside;
@@ -623,7 +623,7 @@ structs::copy_struct-returns g t c =
         near = c.in_ok-start.ensures.near;
         empty = c.in_ok-start.ensures.empty;
       } in ok_so c.copy_children.result c.copy_children.ensures.copied (λ x made. sections_done r c.args.size.data_words begun c.from.ensures c.from-2.ensures c.from-pointers.ensures (ap levels nl) made));
-      refused = (let begun : SectionsBegun (form_in c.args.to.form) (words_from r c.args.size.data_words) (behind r c.args.size.data_words) c.args.size.pointers least c.args.to.place.segment c.args.to.place.at (g.A.BuilderArena.view c.args.arena.now) (g.A.BuilderArena.view c.make_struct.new.arena) (g.A.BuilderArena.view c.put_words.new.arena) c.in_ok-start.start = record {
+      refused = (let begun : SectionsBegun (form_in c.args.to.form) (words_from r c.args.size.data_words) (place_past r c.args.size.data_words) c.args.size.pointers least c.args.to.place.segment c.args.to.place.at (g.A.BuilderArena.view c.args.arena.now) (g.A.BuilderArena.view c.make_struct.new.arena) (g.A.BuilderArena.view c.put_words.new.arena) c.in_ok-start.start = record {
         cut = record {
           inside = behind_inside c.args.from.place.at c.args.size.data_words c.args.size.pointers
               c.requires.inside;
@@ -640,7 +640,7 @@ structs::copy_struct-returns g t c =
         near = c.in_ok-start.ensures.near;
         empty = c.in_ok-start.ensures.empty;
       } in err_so c.copy_children.result c.copy_children.ensures.refused (λ k stop. sections_refused r c.args.size.data_words begun c.from.ensures c.from-2.ensures c.from-pointers.ensures (ap levels nl) stop));
-      taken = (let made = struct_begins c.args.to.place.segment c.args.to.place.at least (g.A.BuilderArena.view c.args.arena.now) (g.A.BuilderArena.view c.make_struct.new.arena) c.in_ok-start.start c.requires.place.place c.in_ok-start.ensures.memory.taken c.in_ok-start.ensures.memory.granted c.in_ok-start.ensures.start.behind c.in_ok-start.ensures.start.leads c.in_ok-start.ensures.empty in let put = c.put_words.ensures.taken in let last = none_itself (g.A.BuilderArena.view c.copy_children.new.arena) in let fewer = c.kept_sections-kept.ensures.less.pointers in let cut : SectionsCut (form_in c.args.to.form) (words_from r c.args.size.data_words) (behind r
+      taken = (let made = struct_begins c.args.to.place.segment c.args.to.place.at least (g.A.BuilderArena.view c.args.arena.now) (g.A.BuilderArena.view c.make_struct.new.arena) c.in_ok-start.start c.requires.place.place c.in_ok-start.ensures.memory.taken c.in_ok-start.ensures.memory.granted c.in_ok-start.ensures.start.behind c.in_ok-start.ensures.start.leads c.in_ok-start.ensures.empty in let put = c.put_words.ensures.taken in let last = none_itself (g.A.BuilderArena.view c.copy_children.new.arena) in let fewer = c.kept_sections-kept.ensures.less.pointers in let cut : SectionsCut (form_in c.args.to.form) (words_from r c.args.size.data_words) (place_past r
           c.args.size.data_words) c.args.size.pointers least = record {
             inside = behind_inside
                 c.args.from.place.at c.args.size.data_words c.args.size.pointers c.requires.inside;
@@ -649,8 +649,8 @@ structs::copy_struct-returns g t c =
           } in let long = length_words r.segments r.segment r.at c.args.size.data_words (part_inside
           c.args.from.place.at c.args.size.data_words c.args.size.data_words c.args.size.pointers
           c.requires.inside (le_refl _)) in let less : least.data_words + least.pointers ≤ length (words_from r c.args.size.data_words) +
-          c.args.size.pointers = fewer_words c.kept_sections-kept.ensures.less.data_words fewer long in taken_so c.copy_children.result _ _ _ _ (λ x. sections_behind (words_from r c.args.size.data_words) (behind r c.args.size.data_words) c.args.size.pointers least.pointers (least.data_words + least.pointers) _ _ _ _ _ _ _ _ cut.inside cut.of_pointers made less (all_within put last x))
-          (λ x. sections_stop_behind (words_from r c.args.size.data_words) (behind r c.args.size.data_words)
+          c.args.size.pointers = fewer_words c.kept_sections-kept.ensures.less.data_words fewer long in taken_so c.copy_children.result _ _ _ _ (λ x. sections_behind (words_from r c.args.size.data_words) (place_past r c.args.size.data_words) c.args.size.pointers least.pointers (least.data_words + least.pointers) _ _ _ _ _ _ _ _ cut.inside cut.of_pointers made less (all_within put last x))
+          (λ x. sections_stop_behind (words_from r c.args.size.data_words) (place_past r c.args.size.data_words)
           c.args.size.pointers least.pointers (least.data_words + least.pointers) _ _ _ _ _ _ _ _ fewer made
           less (among_within (le_refl _) put last x))
           (rw (c.from.ensures, c.from-pointers.ensures, nl) at c.copy_children.ensures.taken));
@@ -664,7 +664,7 @@ structs::copy_struct-copy_children-requires g t c κs within =
     let held : words_of c.args.from.place.bytes.now ≡ segment_read r = c.args.from.held.0 in
     let section : words_of c.part-data.result.now ≡ take least.data_words (words_from r c.args.size.data_words) =
     (rw (c.from-data_words.ensures, held) at c.part-data.ensures.words) ∙ sym (words_taken r.segments r.segment r.at least.data_words c.args.size.data_words c.kept_sections-kept.ensures.less.data_words) in
-    let begun : SectionsBegun (form_in c.args.to.form) (words_from r c.args.size.data_words) (behind r c.args.size.data_words) c.args.size.pointers least c.args.to.place.segment c.args.to.place.at (g.A.BuilderArena.view c.args.arena.now) (g.A.BuilderArena.view c.make_struct.new.arena) (g.A.BuilderArena.view c.put_words.new.arena) c.in_ok-start.start = record {
+    let begun : SectionsBegun (form_in c.args.to.form) (words_from r c.args.size.data_words) (place_past r c.args.size.data_words) c.args.size.pointers least c.args.to.place.segment c.args.to.place.at (g.A.BuilderArena.view c.args.arena.now) (g.A.BuilderArena.view c.make_struct.new.arena) (g.A.BuilderArena.view c.put_words.new.arena) c.in_ok-start.start = record {
       cut = record {
         inside = behind_inside c.args.from.place.at c.args.size.data_words c.args.size.pointers
             c.requires.inside;

@@ -1,7 +1,7 @@
 use Rattle.std.proofs.Common.{◌+◌, ◌-◌, ◌*◌}
 use Rattle.capnp_objects.specs.Source.{levels}
 use Rattle.capnp_pointers.specs.Pointers.{reading}
-use Rattle.capnp_copies.specs.Changes.{change_to, CopiesChildren, CopiesRows}
+use Rattle.capnp_copies.specs.Changes.{copy_call_to, CopiesChildren, CopiesRows}
 use Rattle.capnp_copies.specs.Originals.{children_original, elements_original}
 use Rattle.capnp_copies.proofs.ObjectsMade.{TakesForCopy}
 use Rattle.capnp_copies.proofs.copy.+copies.Given as goal
@@ -38,10 +38,10 @@ decreases-structs::copy_struct g l = 8 * levels l.from.nesting_limit + 5
 
 abbrev pub invariant-children::copy_in_line-loop-i : goal.invariant-children::copy_in_line-loop-i
 invariant-children::copy_in_line-loop-i g l =
-    CopiesChildren (reading g.B.ReaderArena l.from) l.i (change_to l.to (g.A.BuilderArena.view l.fn.arena) (g.A.BuilderArena.view l.arena) l.fn.lim l.lim)
-    × TakesForCopy (children_original (reading g.B.ReaderArena l.from) l.i) (change_to l.to (g.A.BuilderArena.view l.fn.arena) (g.A.BuilderArena.view l.arena) l.fn.lim l.lim)
+    CopiesChildren (reading g.B.ReaderArena l.from) l.i (copy_call_to l.to (g.A.BuilderArena.view l.fn.arena) (g.A.BuilderArena.view l.arena) l.fn.lim l.lim)
+    × TakesForCopy (children_original (reading g.B.ReaderArena l.from) l.i) (copy_call_to l.to (g.A.BuilderArena.view l.fn.arena) (g.A.BuilderArena.view l.arena) l.fn.lim l.lim)
 
 abbrev pub invariant-elements::copy_elements-loop-i : goal.invariant-elements::copy_elements-loop-i
 invariant-elements::copy_elements-loop-i g l =
-    CopiesRows (reading g.B.ReaderArena l.from) l.sizes l.i (l.sizes.count - l.i) (change_to l.to (g.A.BuilderArena.view l.fn.arena) (g.A.BuilderArena.view l.arena) l.fn.lim l.lim)
-    × TakesForCopy (elements_original (reading g.B.ReaderArena l.from) l.sizes l.i) (change_to l.to (g.A.BuilderArena.view l.fn.arena) (g.A.BuilderArena.view l.arena) l.fn.lim l.lim)
+    CopiesRows (reading g.B.ReaderArena l.from) l.sizes l.i (l.sizes.count - l.i) (copy_call_to l.to (g.A.BuilderArena.view l.fn.arena) (g.A.BuilderArena.view l.arena) l.fn.lim l.lim)
+    × TakesForCopy (elements_original (reading g.B.ReaderArena l.from) l.sizes l.i) (copy_call_to l.to (g.A.BuilderArena.view l.fn.arena) (g.A.BuilderArena.view l.arena) l.fn.lim l.lim)

@@ -1,6 +1,6 @@
 use Rattle.std.proofs.Common.{◌≡◌, sym, ap, ◌∙◌, subst}
 use Rattle.std.proofs.lemmas.List.{length-set}
-use Rattle.capnp_edits.specs.Edits.{refusal_of, IsApplied, Takes}
+use Rattle.capnp_edits.specs.Edits.{refusal_of, IsApplied, EditTakes}
 use Rattle.capnp_edits.specs.Steps.{IsStep}
 use Rattle.capnp_edits.proofs.Folded.{next_applied}
 use Rattle.capnp_edits.proofs.Stepped.{next_step}
@@ -16,7 +16,7 @@ loop-i-preserved g c =
     let old = g.A.BuilderArena.view c.loop-i.arena in
     let new = g.A.BuilderArena.view c.apply.new.arena in
     let step = subst (λ e. IsStep old new e (refusal_of c.apply.result)) c.index-edits-i.is c.apply.ensures in
-    let applied = subst (λ e. IsApplied (Takes e (refusal_of c.apply.result)) old.words new.words) c.index-edits-i.is c.apply.ensures.applied in
+    let applied = subst (λ e. IsApplied (EditTakes e (refusal_of c.apply.result)) old.words new.words) c.index-edits-i.is c.apply.ensures.applied in
     record {
       steps = next_step _ _ _ c.args.edits.now c.loop-i.outcomes c.loop-i.i edit (refusal_of c.apply.result) r c.loop-i-test.true before.long same before.steps step;
       applied = next_applied _ _ _ c.args.edits.now c.loop-i.outcomes c.loop-i.i edit (refusal_of c.apply.result) r c.loop-i-test.true before.long same before.applied applied;

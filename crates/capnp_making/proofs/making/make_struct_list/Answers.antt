@@ -3,7 +3,7 @@ use Rattle.capnp_format.specs.Means.{IsTag}
 use Rattle.capnp_format.specs.Segments.{Segments}
 use Rattle.capnp_arena_traits.specs.Written.{with_word}
 use Rattle.capnp_format.specs.Word.{list_word}
-use Rattle.capnp_making.specs.Near.{HasOwnRoom, StartsBehind, offset_behind, with_object}
+use Rattle.capnp_making.specs.Near.{HasOwnRoom, StartsAtEnd, offset_to_end, with_object}
 use Rattle.capnp_making.proofs.NearMade.{first_put, long_as}
 use Rattle.capnp_making.proofs.Memory.{words_in}
 use Rattle.capnp_making.proofs.MadeWords.{word_put}
@@ -58,10 +58,10 @@ returns-clause-near g c = λ room.
     let n : ℕ = c.args.count * c.total.result in
     let same : n ≡ c.args.count * w = ap (λ i. c.args.count * i) c.total.ensures in
     let fits : HasOwnRoom (g.A.BuilderArena.view c.args.arena.now) id (1 + n) = omega (arith, room, same) in
-    let start : StartsBehind S id c.in_ok-start.start = c.in_ok-start.ensures.at_end fits in
+    let start : StartsAtEnd S id c.in_ok-start.start = c.in_ok-start.ensures.at_end fits in
     let tag : ℕ = c.new_tag-tag.result.0 in
-    let x : ℕ = list_word (offset_behind S id c.args.at) 7 n in
+    let x : ℕ = list_word (offset_to_end S id c.args.at) 7 n in
     let T : Segments = with_word S id c.args.at x in
     ap words_in c.set_word.ensures ∙ ap₂ (λ M b. with_word M b c.in_ok-start.start.at tag) (c.in_ok-start.ensures.near fits) start.0
     ∙ first_put T id n tag (start.1 ∙ sym (long_as S id c.args.at x))
-    ∙ ap₂ (λ y m. with_object S id c.args.at (list_word (offset_behind S id c.args.at) 7 m) (y ∷ replicate m 0)) c.new_tag-tag.ensures.word same)
+    ∙ ap₂ (λ y m. with_object S id c.args.at (list_word (offset_to_end S id c.args.at) 7 m) (y ∷ replicate m 0)) c.new_tag-tag.ensures.word same)

@@ -4,7 +4,7 @@ use Rattle.capnp_format.specs.Segments.{Segments, segment, IsPlace}
 use Rattle.capnp_arena_traits.specs.View.{View}
 use Rattle.capnp_making.specs.Made.{IsGrown, IsMade, IsShape}
 use Rattle.capnp_arena_traits.specs.Written.{with_word, with_more, extended}
-use Rattle.capnp_making.specs.Near.{offset_behind, shape_word, with_object, HasOwnRoom}
+use Rattle.capnp_making.specs.Near.{offset_to_end, shape_word, with_object, HasOwnRoom}
 use Rattle.capnp_making.proofs.Memory.{words_in, keeps_written}
 use Rattle.capnp_making.proofs.MadeWords.{made_near, extended_grown, word_put}
 use Rattle.capnp_making.proofs.NearMade.{object_put}
@@ -42,7 +42,7 @@ returns-in-Some-clause-near g c = λ fits.
     (let S : Segments = (g.A.BuilderArena.view c.args.arena.now).words in
     let (at, made) = c.in-Some.ensures.taken in
     let x : ℕ = c.pointer_to-word.result.0 in
-    let word : x ≡ shape_word c.args.shape (offset_behind S c.args.id c.args.at) = c.pointer_to-word.ensures.word ∙ ap (λ b. shape_word c.args.shape (offset_to c.args.at b)) at in
+    let word : x ≡ shape_word c.args.shape (offset_to_end S c.args.id c.args.at) = c.pointer_to-word.ensures.word ∙ ap (λ b. shape_word c.args.shape (offset_to c.args.at b)) at in
     ap words_in c.set_word.ensures ∙ ap (λ (v : View). with_word v.words c.args.id c.args.at x) made
     ∙ object_put S c.args.id c.args.at x (replicate c.args.amount 0) c.requires.place
     ∙ ap (λ y. with_object S c.args.id c.args.at y (replicate c.args.amount 0)) word)

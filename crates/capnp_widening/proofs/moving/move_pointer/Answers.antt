@@ -126,7 +126,7 @@ returns-in-None-clause-written g c =
     let goes = rw (is, c.length_of.ensures) at (sym c.target.ensures ∙ c.in-None.is) in
     λ B k. absurd (means_nothing B S c.args.from.segment c.args.from.at c.args.to.segment c.args.to.at (λ e. some (is ∙ e)) (λ e. omega (arith, near, ap kind is)) goes k)
 
--- Room for the landing pad of a near pointer is enough in another segment, and then at most one pad
+-- Allocation for the landing pad of a near pointer is enough in another segment, and then at most one pad
 -- is allocated.
 pub returns-then-is_null-clause-apart : goal.returns-then-is_null-clause-apart
 returns-then-is_null-clause-apart g c =

@@ -80,33 +80,33 @@ copy_numbers-requires-clause-some g c = subst (λ n. 0 < n) (sym c.total.ensures
     (some_total c.args.size.pointers c.requires.data)
 
 -- The new words come after the pointer, if they are in its segment.
-pub settle-requires-clause-place : goal.settle-requires-clause-place
-settle-requires-clause-place g c =
+pub point_to_object-requires-clause-place : goal.point_to_object-requires-clause-place
+point_to_object-requires-clause-place g c =
     let (T, room, tagged) = c.in_ok-room.ensures.begun in
     let id : ℕ = c.args.id in
     lt_of_lt_of_le c.requires.place (le_trans (room.0.grows.words id)
     (le_of_eq (sym (c.copy_numbers.ensures.copied.words id ∙ tagged.words id))))
 
-pub settle-requires-clause-inside : goal.settle-requires-clause-inside
-settle-requires-clause-inside g c =
+pub point_to_object-requires-clause-inside : goal.point_to_object-requires-clause-inside
+point_to_object-requires-clause-inside g c =
     let (T, room, tagged) = c.in_ok-room.ensures.begun in
     let v : ℕ = c.in_ok-room.room.segment in
     tag_inside c.in_ok-room.room.at c.in_ok-room.room.pads
     (c.args.old.count * (c.args.size.data_words + c.args.size.pointers))
     room.0.room (tagged.words v) (le_of_eq (sym (c.copy_numbers.ensures.copied.words v)))
 
-pub settle-requires-clause-apart : goal.settle-requires-clause-apart
-settle-requires-clause-apart g c = λ e.
+pub point_to_object-requires-clause-apart : goal.point_to_object-requires-clause-apart
+point_to_object-requires-clause-apart g c = λ e.
     (let (T, room, tagged) = c.in_ok-room.ensures.begun in
     let S : Segments = (g.A.BuilderArena.view c.args.arena.now).words in
     lt_of_lt_of_le c.requires.place
     (subst (λ s. length (segment S s) ≤ c.in_ok-room.room.at) e room.0.behind))
 
-pub settle-requires-clause-near : goal.settle-requires-clause-near
-settle-requires-clause-near g c = let (T, room, tagged) = c.in_ok-room.ensures.begun in near_or_behind room.1
+pub point_to_object-requires-clause-near : goal.point_to_object-requires-clause-near
+point_to_object-requires-clause-near g c = let (T, room, tagged) = c.in_ok-room.ensures.begun in near_or_behind room.1
 
-pub settle-requires-clause-few : goal.settle-requires-clause-few
-settle-requires-clause-few g c =
+pub point_to_object-requires-clause-few : goal.point_to_object-requires-clause-few
+point_to_object-requires-clause-few g c =
     subst (λ n. c.args.old.count * n < 2 ^ 29) (sym c.total-2.ensures) c.requires.small
 
 -- The refusal is that of the allocation.
@@ -128,13 +128,13 @@ returns-clause-made g c =
     let s : View = g.A.BuilderArena.view c.args.arena.now in
     let b : View = g.A.BuilderArena.view c.begin_list.new.arena in
     let d : View = g.A.BuilderArena.view c.copy_numbers.new.arena in
-    let r : View = g.A.BuilderArena.view c.settle.new.arena in
+    let r : View = g.A.BuilderArena.view c.point_to_object.new.arena in
     let z : View = g.A.BuilderArena.view c.zero_part.new.arena in
     let q : View = g.A.BuilderArena.view c.zero_pads.new.arena in
     let (T, room, tagged) = c.in_ok-room.ensures.begun in
-    let (o, settled, shaped, segment_of, start_of) = settled_room c.settle.ensures.settled in
+    let (o, settled, shaped, segment_of, start_of) = settled_room c.point_to_object.ensures.settled in
     let first : OnlyWrites b d = record { limits = c.copy_numbers.ensures.limits; segments = c.copy_numbers.ensures.copied.segments; words = c.copy_numbers.ensures.copied.words } in
-    let set : OnlyWrites d r = record { limits = c.settle.ensures.limits; segments = settled.segments; words = settled.words } in
+    let set : OnlyWrites d r = record { limits = c.point_to_object.ensures.limits; segments = settled.segments; words = settled.words } in
     let zeroed = pruned_writes r z c.zero_part.ensures.limits c.zero_part.ensures.pruned in
     let cleared = pruned_writes z q c.zero_pads.ensures.limits c.zero_pads.ensures.pruned in
     let last = writes_both d r q set (writes_both r z q zeroed cleared) in
@@ -143,7 +143,7 @@ returns-clause-made g c =
       room = room;
       tagged = tagged;
       copied = rw c.total.ensures at (copied_numbers c.copy_numbers.ensures.copied);
-      settled = rw c.total-2.ensures at (settled_room c.settle.ensures.settled);
+      settled = rw c.total-2.ensures at (settled_room c.point_to_object.ensures.settled);
       object_zeroed = rw c.words_of_numbers.ensures.value at c.zero_part.ensures.zeroed;
       pads_zeroed = rw c.word_of-pointer.ensures at c.zero_pads.ensures.zeroed;
     } in
@@ -179,10 +179,10 @@ pub returns-clause-few : goal.returns-clause-few
 returns-clause-few g c =
     let B : Segments = (g.A.BuilderArena.view c.begin_list.new.arena).words in
     let D : Segments = (g.A.BuilderArena.view c.copy_numbers.new.arena).words in
-    let R : Segments = (g.A.BuilderArena.view c.settle.new.arena).words in
+    let R : Segments = (g.A.BuilderArena.view c.point_to_object.new.arena).words in
     let Z : Segments = (g.A.BuilderArena.view c.zero_part.new.arena).words in
     let Q : Segments = (g.A.BuilderArena.view c.zero_pads.new.arena).words in
-    let (b, settled, shaped, segment_of, start_of) = settled_room c.settle.ensures.settled in
+    let (b, settled, shaped, segment_of, start_of) = settled_room c.point_to_object.ensures.settled in
     let copied = same_words B D c.copy_numbers.ensures.copied.segments c.copy_numbers.ensures.copied.words in
     let set = same_words D R settled.segments settled.words in
     let zeroed = same_words R Z c.zero_part.ensures.pruned.segments c.zero_part.ensures.pruned.words in
@@ -202,11 +202,11 @@ returns-clause-grows g c =
     let S : Segments = (g.A.BuilderArena.view c.args.arena.now).words in
     let B : Segments = (g.A.BuilderArena.view c.begin_list.new.arena).words in
     let D : Segments = (g.A.BuilderArena.view c.copy_numbers.new.arena).words in
-    let R : Segments = (g.A.BuilderArena.view c.settle.new.arena).words in
+    let R : Segments = (g.A.BuilderArena.view c.point_to_object.new.arena).words in
     let Z : Segments = (g.A.BuilderArena.view c.zero_part.new.arena).words in
     let Q : Segments = (g.A.BuilderArena.view c.zero_pads.new.arena).words in
     let (T, room, tagged) = c.in_ok-room.ensures.begun in
-    let (o, settled, shaped, segment_of, start_of) = settled_room c.settle.ensures.settled in
+    let (o, settled, shaped, segment_of, start_of) = settled_room c.point_to_object.ensures.settled in
     let copied = c.copy_numbers.ensures.copied in
     let tag = same_grows T B (record { segments = tagged.segments; words = tagged.words }) in
     let copy = same_grows B D (record { segments = copied.segments; words = copied.words }) in

@@ -15,7 +15,7 @@ use Rattle.capnp_widening.proofs.remaking.begin_list.Goals as goal
 
 pub returns-clause-begun : goal.returns-clause-begun
 returns-clause-begun g c =
-    let T : Segments = (g.A.BuilderArena.view c.take.new.arena).words in
+    let T : Segments = (g.A.BuilderArena.view c.allocate_object.new.arena).words in
     let R : Segments = (g.A.BuilderArena.view c.set_word.new.arena).words in
     let room = rw c.total.ensures at c.in_ok-room.ensures.taken in
     let x : ℕ = c.new_tag-tag.result.0 in
@@ -35,7 +35,7 @@ returns-in_err-room-clause-room g c = record {
   memory = search rules;
   full = (let p = err_from_is_err_and c.from_residual.result c.from_residual.ensures.1 in rw (p.1, p.2) (rw c.total.ensures at c.in_err-room.ensures.room.full));
   refused = search rules;
-  few = (let taken = rw c.total.ensures at c.take.ensures.room.few in omega (arith, taken));
+  few = (let taken = rw c.total.ensures at c.allocate_object.ensures.room.few in omega (arith, taken));
   fits = (λ k n h.
       absurd (not_true (c.in_err-room.ensures.room.fits k n (subst (λ m. HasRoomAndPads (g.A.BuilderArena.view c.args.arena.now) c.args.id (1 + c.args.count * m) k n) (sym c.total.ensures) h)).0));
 }
@@ -44,7 +44,7 @@ returns-in_err-room-clause-room g c = record {
 pub returns-clause-room : goal.returns-clause-room
 returns-clause-room g c = record {
   words = (let S : View = g.A.BuilderArena.view c.args.arena.now in
-      let T : View = g.A.BuilderArena.view c.take.new.arena in
+      let T : View = g.A.BuilderArena.view c.allocate_object.new.arena in
       let R : View = g.A.BuilderArena.view c.set_word.new.arena in
       let room = rw c.total.ensures at c.in_ok-room.ensures.taken in
       let inside : c.in_ok-room.room.at + c.in_ok-room.room.pads < length (segment T.words c.in_ok-room.room.segment) = omega (arith, room.0.room) in
@@ -56,13 +56,13 @@ returns-clause-room g c = record {
   memory = search rules;
   full = search rules;
   refused = search rules;
-  few = (let T : Segments = (g.A.BuilderArena.view c.take.new.arena).words in
+  few = (let T : Segments = (g.A.BuilderArena.view c.allocate_object.new.arena).words in
       let R : Segments = (g.A.BuilderArena.view c.set_word.new.arena).words in
-      let taken = rw c.total.ensures at c.take.ensures.room.few in
+      let taken = rw c.total.ensures at c.allocate_object.ensures.room.few in
       omega (arith, taken, words_put T R c.in_ok-room.room.segment (c.in_ok-room.room.at + c.in_ok-room.room.pads) c.new_tag-tag.result.0 (ap words_in c.set_word.ensures)));
   fits = (λ k n h.
       (let S : View = g.A.BuilderArena.view c.args.arena.now in
-      let T : View = g.A.BuilderArena.view c.take.new.arena in
+      let T : View = g.A.BuilderArena.view c.allocate_object.new.arena in
       let R : View = g.A.BuilderArena.view c.set_word.new.arena in
       let room = rw c.total.ensures at c.in_ok-room.ensures.taken in
       let inside : c.in_ok-room.room.at + c.in_ok-room.room.pads < length (segment T.words c.in_ok-room.room.segment) = omega (arith, room.0.room) in

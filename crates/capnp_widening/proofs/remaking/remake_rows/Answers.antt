@@ -54,15 +54,15 @@ overflow_add-first g c =
     }
 
 -- No segment has become shorter.
-pub settle-requires-clause-place : goal.settle-requires-clause-place
-settle-requires-clause-place g c =
+pub point_to_object-requires-clause-place : goal.point_to_object-requires-clause-place
+point_to_object-requires-clause-place g c =
     let (T, room, tagged) = c.in_ok-room.ensures.begun in
     let id : ℕ = c.args.id in
     lt_of_lt_of_le c.requires.place (le_trans (room.0.grows.words id)
     (le_trans (le_of_eq (sym (tagged.words id))) (c.fill_rows.ensures.longer.words id)))
 
-pub settle-requires-clause-inside : goal.settle-requires-clause-inside
-settle-requires-clause-inside g c =
+pub point_to_object-requires-clause-inside : goal.point_to_object-requires-clause-inside
+point_to_object-requires-clause-inside g c =
     let (T, room, tagged) = c.in_ok-room.ensures.begun in
     let v : ℕ = c.in_ok-room.room.segment in
     tag_inside c.in_ok-room.room.at c.in_ok-room.room.pads
@@ -97,18 +97,18 @@ fill_rows-requires-clause-apart g c = λ e.
     stands_before c.in_ok-room.room.pads c.requires.inside (ap (λ s. length (segment S s)) e) room.0.behind)
 
 -- The new words come after the pointer, if they are in its segment.
-pub settle-requires-clause-apart : goal.settle-requires-clause-apart
-settle-requires-clause-apart g c = λ e.
+pub point_to_object-requires-clause-apart : goal.point_to_object-requires-clause-apart
+point_to_object-requires-clause-apart g c = λ e.
     (let (T, room, tagged) = c.in_ok-room.ensures.begun in
     let S : Segments = (g.A.BuilderArena.view c.args.arena.now).words in
     lt_of_lt_of_le c.requires.place
     (subst (λ s. length (segment S s) ≤ c.in_ok-room.room.at) e room.0.behind))
 
-pub settle-requires-clause-near : goal.settle-requires-clause-near
-settle-requires-clause-near g c = let (T, room, tagged) = c.in_ok-room.ensures.begun in near_or_behind room.1
+pub point_to_object-requires-clause-near : goal.point_to_object-requires-clause-near
+point_to_object-requires-clause-near g c = let (T, room, tagged) = c.in_ok-room.ensures.begun in near_or_behind room.1
 
-pub settle-requires-clause-few : goal.settle-requires-clause-few
-settle-requires-clause-few g c =
+pub point_to_object-requires-clause-few : goal.point_to_object-requires-clause-few
+point_to_object-requires-clause-few g c =
     subst (λ n. c.args.old.count * n < 2 ^ 29) (sym c.total.ensures) c.requires.small
 
 -- The old rows have fewer words than a segment.
@@ -142,14 +142,14 @@ returns-in-Ok-clause-remakes g c = record {
   made = (let s : View = g.A.BuilderArena.view c.args.arena.now in
       let b : View = g.A.BuilderArena.view c.begin_list.new.arena in
       let p : View = g.A.BuilderArena.view c.fill_rows.new.arena in
-      let r : View = g.A.BuilderArena.view c.settle.new.arena in
+      let r : View = g.A.BuilderArena.view c.point_to_object.new.arena in
       let z : View = g.A.BuilderArena.view c.zero_part.new.arena in
       let q : View = g.A.BuilderArena.view c.zero_pads.new.arena in
       let (T, room, tagged) = c.in_ok-room.ensures.begun in
       let filled = c.in-Ok.ensures.filled in
       let d : View = filled.between in
-      let (o, settled, shaped, segment_of, start_of) = settled_room c.settle.ensures.settled in
-      let set : OnlyWrites p r = record { limits = c.settle.ensures.limits; segments = settled.segments; words = settled.words } in
+      let (o, settled, shaped, segment_of, start_of) = settled_room c.point_to_object.ensures.settled in
+      let set : OnlyWrites p r = record { limits = c.point_to_object.ensures.limits; segments = settled.segments; words = settled.words } in
       let zeroed = pruned_writes r z c.zero_part.ensures.limits c.zero_part.ensures.pruned in
       let cleared = pruned_writes z q c.zero_pads.ensures.limits c.zero_pads.ensures.pruned in
       let last = writes_both p r q set (writes_both r z q zeroed cleared) in
@@ -161,7 +161,7 @@ returns-in-Ok-clause-remakes g c = record {
         tagged = tagged;
         copied = filled.copied;
         moves = filled.moved;
-        settled = rw c.total.ensures at (settled_room c.settle.ensures.settled);
+        settled = rw c.total.ensures at (settled_room c.point_to_object.ensures.settled);
         object_zeroed = rw (c.from.ensures, c.from-in-Ok.ensures, c.from-step.ensures, c.total-in-Ok.ensures) at c.zero_part.ensures.zeroed;
         pads_zeroed = rw c.word_of-pointer.ensures at c.zero_pads.ensures.zeroed;
         wider = (c.requires.wider.data_words, c.requires.wider.pointers);
@@ -183,10 +183,10 @@ returns-in-Ok-clause-remakes g c = record {
         refused = tt;
       });
   few = (let P : Segments = (g.A.BuilderArena.view c.fill_rows.new.arena).words in
-      let R : Segments = (g.A.BuilderArena.view c.settle.new.arena).words in
+      let R : Segments = (g.A.BuilderArena.view c.point_to_object.new.arena).words in
       let Z : Segments = (g.A.BuilderArena.view c.zero_part.new.arena).words in
       let Q : Segments = (g.A.BuilderArena.view c.zero_pads.new.arena).words in
-      let (b, settled, shaped, segment_of, start_of) = settled_room c.settle.ensures.settled in
+      let (b, settled, shaped, segment_of, start_of) = settled_room c.point_to_object.ensures.settled in
       let set = same_words P R settled.segments settled.words in
       let zeroed = same_words R Z c.zero_part.ensures.pruned.segments c.zero_part.ensures.pruned.words in
       let cleared = same_words Z Q c.zero_pads.ensures.pruned.segments c.zero_pads.ensures.pruned.words in
@@ -300,11 +300,11 @@ returns-in-Ok-clause-grows g c =
     let S : Segments = (g.A.BuilderArena.view c.args.arena.now).words in
     let B : Segments = (g.A.BuilderArena.view c.begin_list.new.arena).words in
     let P : Segments = (g.A.BuilderArena.view c.fill_rows.new.arena).words in
-    let R : Segments = (g.A.BuilderArena.view c.settle.new.arena).words in
+    let R : Segments = (g.A.BuilderArena.view c.point_to_object.new.arena).words in
     let Z : Segments = (g.A.BuilderArena.view c.zero_part.new.arena).words in
     let Q : Segments = (g.A.BuilderArena.view c.zero_pads.new.arena).words in
     let (T, room, tagged) = c.in_ok-room.ensures.begun in
-    let (o, settled, shaped, segment_of, start_of) = settled_room c.settle.ensures.settled in
+    let (o, settled, shaped, segment_of, start_of) = settled_room c.point_to_object.ensures.settled in
     let tag = same_grows T B (record { segments = tagged.segments; words = tagged.words }) in
     let set = same_grows P R (record { segments = settled.segments; words = settled.words }) in
     let zeroed = grows_again R Z Q (pruned_grows c.zero_part.ensures.pruned) (pruned_grows c.zero_pads.ensures.pruned) in

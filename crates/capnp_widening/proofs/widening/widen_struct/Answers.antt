@@ -52,8 +52,8 @@ old_before_new : (start d q pads : ℕ) {s t at : ℕ} → start + d + q ≤ s �
 old_before_new start d q pads inside same behind = omega arith
 
 -- Old words stay in their places, and the new ones come after them.
-pub take-requires-clause-there : goal.take-requires-clause-there
-take-requires-clause-there g c =
+pub allocate_object-requires-clause-there : goal.allocate_object-requires-clause-there
+allocate_object-requires-clause-there g c =
     there (g.A.BuilderArena.view c.args.arena.now).words c.args.id c.args.at c.requires.place
 
 pub pointers_of-from-requires : goal.pointers_of-from-requires
@@ -67,8 +67,8 @@ pointers_of-to-requires g c =
     let (grown, near) = c.in_ok-room.ensures.taken in
     new_data_fits c.in_ok-room.room.at c.in_ok-room.room.pads c.args.size.data_words c.args.size.pointers
     grown.room c.total.ensures
-    (g.met.A.BuilderArena.within c.take.new.arena c.in_ok-room.room.segment)
-    (g.met.A.BuilderArena.small c.take.new.arena c.in_ok-room.room.segment)
+    (g.met.A.BuilderArena.within c.allocate_object.new.arena c.in_ok-room.room.segment)
+    (g.met.A.BuilderArena.small c.allocate_object.new.arena c.in_ok-room.room.segment)
 
 pub copy_words-requires-clause-inside : goal.copy_words-requires-clause-inside
 copy_words-requires-clause-inside g c = record {
@@ -105,16 +105,16 @@ move_row-requires g c = record {
       (le_of_eq (sym (c.copy_words.ensures.copied.words c.in_ok-room.room.segment)))));
 }
 
-pub settle-requires-clause-place : goal.settle-requires-clause-place
-settle-requires-clause-place g c =
+pub point_to_object-requires-clause-place : goal.point_to_object-requires-clause-place
+point_to_object-requires-clause-place g c =
     let (grown, near) = c.in_ok-room.ensures.taken in
     let id : ℕ = c.args.id in
     lt_of_lt_of_le c.requires.place (le_trans (grown.grows.words id)
     (le_trans (le_of_eq (sym (c.copy_words.ensures.copied.words id)))
     (c.in-Ok.ensures.moves.longer.words id)))
 
-pub settle-requires-clause-inside : goal.settle-requires-clause-inside
-settle-requires-clause-inside g c =
+pub point_to_object-requires-clause-inside : goal.point_to_object-requires-clause-inside
+point_to_object-requires-clause-inside g c =
     let (grown, near) = c.in_ok-room.ensures.taken in
     let v : ℕ = c.in_ok-room.room.segment in
     lt_of_lt_of_le
@@ -122,14 +122,14 @@ settle-requires-clause-inside g c =
     grown.room c.total.ensures c.requires.some)
     (le_trans (le_of_eq (sym (c.copy_words.ensures.copied.words v))) (c.in-Ok.ensures.moves.longer.words v))
 
-pub settle-requires-clause-apart : goal.settle-requires-clause-apart
-settle-requires-clause-apart g c = λ e.
+pub point_to_object-requires-clause-apart : goal.point_to_object-requires-clause-apart
+point_to_object-requires-clause-apart g c = λ e.
     (let (grown, near) = c.in_ok-room.ensures.taken in
     let S : Segments = (g.A.BuilderArena.view c.args.arena.now).words in
     lt_of_lt_of_le c.requires.place (subst (λ s. length (segment S s) ≤ c.in_ok-room.room.at) e grown.behind))
 
-pub settle-requires-clause-near : goal.settle-requires-clause-near
-settle-requires-clause-near g c = near_or_behind c.in_ok-room.ensures.taken.1
+pub point_to_object-requires-clause-near : goal.point_to_object-requires-clause-near
+point_to_object-requires-clause-near g c = near_or_behind c.in_ok-room.ensures.taken.1
 
 pub unmove_row-requires : goal.unmove_row-requires
 unmove_row-requires g c = record {
@@ -158,17 +158,17 @@ zero_part-requires g c =
 pub returns-in-Ok-clause-wider : goal.returns-in-Ok-clause-wider
 returns-in-Ok-clause-wider g c =
     let s : View = g.A.BuilderArena.view c.args.arena.now in
-    let t : View = g.A.BuilderArena.view c.take.new.arena in
+    let t : View = g.A.BuilderArena.view c.allocate_object.new.arena in
     let d : View = g.A.BuilderArena.view c.copy_words.new.arena in
     let p : View = g.A.BuilderArena.view c.move_row.new.arena in
-    let r : View = g.A.BuilderArena.view c.settle.new.arena in
+    let r : View = g.A.BuilderArena.view c.point_to_object.new.arena in
     let z : View = g.A.BuilderArena.view c.zero_part.new.arena in
     let q : View = g.A.BuilderArena.view c.zero_pads.new.arena in
-    let (b, settled, shaped, segment_of, start_of) = settled_room c.settle.ensures.settled in
+    let (b, settled, shaped, segment_of, start_of) = settled_room c.point_to_object.ensures.settled in
     let (grown, near) = c.in_ok-room.ensures.taken in
     let moves = c.in-Ok.ensures.moves in
     let first : OnlyWrites t d = record { limits = c.copy_words.ensures.limits; segments = c.copy_words.ensures.copied.segments; words = c.copy_words.ensures.copied.words } in
-    let set : OnlyWrites p r = record { limits = c.settle.ensures.limits; segments = settled.segments; words = settled.words } in
+    let set : OnlyWrites p r = record { limits = c.point_to_object.ensures.limits; segments = settled.segments; words = settled.words } in
     let zeroed = pruned_writes r z c.zero_part.ensures.limits c.zero_part.ensures.pruned in
     let cleared = pruned_writes z q c.zero_pads.ensures.limits c.zero_pads.ensures.pruned in
     let last = writes_both p r q set (writes_both r z q zeroed cleared) in
@@ -180,7 +180,7 @@ returns-in-Ok-clause-wider g c =
       room = rw c.total.ensures at c.in_ok-room.ensures.taken;
       copied = rw (c.data_of.ensures, c.data_of-2.ensures, c.from.ensures) at c.copy_words.ensures.copied;
       moves = rw (c.pointers_of-from.ensures, c.pointers_of-to.ensures, c.from-count.ensures) at moves.moved;
-      settled = settled_room c.settle.ensures.settled;
+      settled = settled_room c.point_to_object.ensures.settled;
       object_zeroed = rw (c.from-in-Ok.ensures ∙ c.total-in-Ok.ensures) at c.zero_part.ensures.zeroed;
       pads_zeroed = rw c.word_of-pointer.ensures at c.zero_pads.ensures.zeroed;
       wider = (c.requires.data, c.requires.pointers);
@@ -205,7 +205,7 @@ returns-in-Ok-clause-wider g c =
 pub returns-in-Err-clause-wider : goal.returns-in-Err-clause-wider
 returns-in-Err-clause-wider g c =
     let s : View = g.A.BuilderArena.view c.args.arena.now in
-    let t : View = g.A.BuilderArena.view c.take.new.arena in
+    let t : View = g.A.BuilderArena.view c.allocate_object.new.arena in
     let d : View = g.A.BuilderArena.view c.copy_words.new.arena in
     let p : View = g.A.BuilderArena.view c.move_row.new.arena in
     let u : View = g.A.BuilderArena.view c.unmove_row.new.arena in
@@ -243,7 +243,7 @@ returns-in_err-room-clause-wider g c =
       anew = tt;
       granted = tt;
       memory = e.memory;
-      refused = λ t i. nothing_grown (g.A.BuilderArena.view c.args.arena.now).words (g.A.BuilderArena.view c.take.new.arena).words e.refused;
+      refused = λ t i. nothing_grown (g.A.BuilderArena.view c.args.arena.now).words (g.A.BuilderArena.view c.allocate_object.new.arena).words e.refused;
     })
 
 pub returns-in_err-room-clause-full : goal.returns-in_err-room-clause-full
@@ -253,7 +253,7 @@ returns-in_err-room-clause-full g c =
 pub returns-in-Err-clause-full : goal.returns-in-Err-clause-full
 returns-in-Err-clause-full g c =
     let old : View = g.A.BuilderArena.view c.args.arena.now in
-    let T : View = g.A.BuilderArena.view c.take.new.arena in
+    let T : View = g.A.BuilderArena.view c.allocate_object.new.arena in
     let D : View = g.A.BuilderArena.view c.copy_words.new.arena in
     let P : View = g.A.BuilderArena.view c.move_row.new.arena in
     let U : View = g.A.BuilderArena.view c.unmove_row.new.arena in
@@ -268,14 +268,14 @@ returns-in-Err-clause-full g c =
 -- Words are allocated for the struct, and then at most two for a pointer.
 pub returns-in-Ok-clause-few : goal.returns-in-Ok-clause-few
 returns-in-Ok-clause-few g c =
-    let T : Segments = (g.A.BuilderArena.view c.take.new.arena).words in
+    let T : Segments = (g.A.BuilderArena.view c.allocate_object.new.arena).words in
     let D : Segments = (g.A.BuilderArena.view c.copy_words.new.arena).words in
     let P : Segments = (g.A.BuilderArena.view c.move_row.new.arena).words in
-    let R : Segments = (g.A.BuilderArena.view c.settle.new.arena).words in
+    let R : Segments = (g.A.BuilderArena.view c.point_to_object.new.arena).words in
     let Z : Segments = (g.A.BuilderArena.view c.zero_part.new.arena).words in
     let Q : Segments = (g.A.BuilderArena.view c.zero_pads.new.arena).words in
-    let (b, settled, shaped, segment_of, start_of) = settled_room c.settle.ensures.settled in
-    let taken = rw c.total.ensures at c.take.ensures.room.few in
+    let (b, settled, shaped, segment_of, start_of) = settled_room c.point_to_object.ensures.settled in
+    let taken = rw c.total.ensures at c.allocate_object.ensures.room.few in
     let moved = rw c.from-count.ensures at c.move_row.ensures.moves.few in
     let copied = same_words T D c.copy_words.ensures.copied.segments c.copy_words.ensures.copied.words in
     let set = same_words P R settled.segments settled.words in
@@ -286,12 +286,12 @@ returns-in-Ok-clause-few g c =
 
 pub returns-in-Err-clause-few : goal.returns-in-Err-clause-few
 returns-in-Err-clause-few g c =
-    let T : Segments = (g.A.BuilderArena.view c.take.new.arena).words in
+    let T : Segments = (g.A.BuilderArena.view c.allocate_object.new.arena).words in
     let D : Segments = (g.A.BuilderArena.view c.copy_words.new.arena).words in
     let P : Segments = (g.A.BuilderArena.view c.move_row.new.arena).words in
     let U : Segments = (g.A.BuilderArena.view c.unmove_row.new.arena).words in
     let Z : Segments = (g.A.BuilderArena.view c.zero_part-in-Err.new.arena).words in
-    let taken = rw c.total.ensures at c.take.ensures.room.few in
+    let taken = rw c.total.ensures at c.allocate_object.ensures.room.few in
     let moved = rw c.from-count.ensures at c.move_row.ensures.moves.few in
     let copied = same_words T D c.copy_words.ensures.copied.segments c.copy_words.ensures.copied.words in
     let undone = same_words P U c.unmove_row.ensures.pruned.segments c.unmove_row.ensures.pruned.words in
@@ -300,7 +300,7 @@ returns-in-Err-clause-few g c =
     (2 * c.args.old.size.pointers) taken (few_before _ copied moved)) (zeroed ∙ undone)
 
 pub returns-in_err-room-clause-few : goal.returns-in_err-room-clause-few
-returns-in_err-room-clause-few g c = let taken = rw c.total.ensures at c.take.ensures.room.few in few_at_most _ _
+returns-in_err-room-clause-few g c = let taken = rw c.total.ensures at c.allocate_object.ensures.room.few in few_at_most _ _
     (c.args.size.data_words + c.args.size.pointers + 1) _ taken
 
 -- If there is room for the struct and for the landing pads that its pointers need, neither is
@@ -316,7 +316,7 @@ returns-in_err-room-clause-fits g c =
 pub returns-in-Err-clause-fits : goal.returns-in-Err-clause-fits
 returns-in-Err-clause-fits g c = λ to h.
     (let S : View = g.A.BuilderArena.view c.args.arena.now in
-    let T : View = g.A.BuilderArena.view c.take.new.arena in
+    let T : View = g.A.BuilderArena.view c.allocate_object.new.arena in
     let D : View = g.A.BuilderArena.view c.copy_words.new.arena in
     let (grown, near) = c.in_ok-room.ensures.taken in
     let copied = rw (c.data_of.ensures, c.data_of-2.ensures, c.from.ensures) at c.copy_words.ensures.copied in
@@ -345,13 +345,13 @@ returns-in-Err-clause-fits g c = λ to h.
 pub returns-in-Ok-clause-grows : goal.returns-in-Ok-clause-grows
 returns-in-Ok-clause-grows g c =
     let S : Segments = (g.A.BuilderArena.view c.args.arena.now).words in
-    let T : Segments = (g.A.BuilderArena.view c.take.new.arena).words in
+    let T : Segments = (g.A.BuilderArena.view c.allocate_object.new.arena).words in
     let D : Segments = (g.A.BuilderArena.view c.copy_words.new.arena).words in
     let P : Segments = (g.A.BuilderArena.view c.move_row.new.arena).words in
-    let R : Segments = (g.A.BuilderArena.view c.settle.new.arena).words in
+    let R : Segments = (g.A.BuilderArena.view c.point_to_object.new.arena).words in
     let Z : Segments = (g.A.BuilderArena.view c.zero_part.new.arena).words in
     let Q : Segments = (g.A.BuilderArena.view c.zero_pads.new.arena).words in
-    let (b, settled, shaped, segment_of, start_of) = settled_room c.settle.ensures.settled in
+    let (b, settled, shaped, segment_of, start_of) = settled_room c.point_to_object.ensures.settled in
     let copied = c.copy_words.ensures.copied in
     let copy = same_grows T D (record { segments = copied.segments; words = copied.words }) in
     let set = same_grows P R (record { segments = settled.segments; words = settled.words }) in
@@ -362,7 +362,7 @@ returns-in-Ok-clause-grows g c =
 pub returns-in-Err-clause-grows : goal.returns-in-Err-clause-grows
 returns-in-Err-clause-grows g c =
     let S : Segments = (g.A.BuilderArena.view c.args.arena.now).words in
-    let T : Segments = (g.A.BuilderArena.view c.take.new.arena).words in
+    let T : Segments = (g.A.BuilderArena.view c.allocate_object.new.arena).words in
     let D : Segments = (g.A.BuilderArena.view c.copy_words.new.arena).words in
     let P : Segments = (g.A.BuilderArena.view c.move_row.new.arena).words in
     let U : Segments = (g.A.BuilderArena.view c.unmove_row.new.arena).words in

@@ -1,5 +1,5 @@
 use Rattle.std.proofs.Common.{rules, refl, arith}
-use Rattle.capnp_copies.specs.Changes.{change}
+use Rattle.capnp_copies.specs.Changes.{copy_call}
 use Rattle.capnp_copies.specs.Forms.{form_of}
 use Rattle.capnp_value_copies.specs.ListValues.{list_read}
 use Rattle.capnp_value_copies.proofs.ListValues.{first_read}
@@ -15,13 +15,13 @@ use Rattle.capnp_making.specs.Makes.{call_at}
 pub returns-clause-copied : goal.returns-clause-copied
 returns-clause-copied g c =
     if_ok_so c.copy_list.result _ _ c.copy_list.ensures.copied
-    (λ x made. put_copied (change (form_of c.args.canonicalize) (call_at c.args.self.now.segment c.args.self.now.at (g.A.BuilderArena.view c.args.self.now.arena.now) (g.A.BuilderArena.view c.copy_list.new.arena)) c.args.lim.now c.copy_list.new.lim)
+    (λ x made. put_copied (copy_call (form_of c.args.canonicalize) (call_at c.args.self.now.segment c.args.self.now.at (g.A.BuilderArena.view c.args.self.now.arena.now) (g.A.BuilderArena.view c.copy_list.new.arena)) c.args.lim.now c.copy_list.new.lim)
     (g.A.BuilderArena.view c.clear.new.arena) c.clear.ensures.limits c.clear.ensures.only c.clear.ensures.cleared made)
 
 pub returns-clause-refused : goal.returns-clause-refused
 returns-clause-refused g c =
     if_err_so c.copy_list.result _ _ c.copy_list.ensures.refused
-    (λ k stop. put_stopped (change (form_of c.args.canonicalize) (call_at c.args.self.now.segment c.args.self.now.at (g.A.BuilderArena.view c.args.self.now.arena.now) (g.A.BuilderArena.view c.copy_list.new.arena)) c.args.lim.now c.copy_list.new.lim)
+    (λ k stop. put_stopped (copy_call (form_of c.args.canonicalize) (call_at c.args.self.now.segment c.args.self.now.at (g.A.BuilderArena.view c.args.self.now.arena.now) (g.A.BuilderArena.view c.copy_list.new.arena)) c.args.lim.now c.copy_list.new.lim)
     (g.A.BuilderArena.view c.clear.new.arena) c.clear.ensures.limits c.clear.ensures.only c.clear.ensures.cleared stop)
 
 pub returns-clause-fits : goal.returns-clause-fits
@@ -30,7 +30,7 @@ returns-clause-fits g c = λ can.
 
 pub returns-clause-grows : goal.returns-clause-grows
 returns-clause-grows g c =
-    grows_again _ _ _ (pruned_grows c.clear.ensures.only) (copy_grows c.copy_list.result (list_read g.B.ReaderArena c.args.value.now) (change (form_of c.args.canonicalize) (call_at c.args.self.now.segment c.args.self.now.at (g.A.BuilderArena.view c.clear.new.arena) (g.A.BuilderArena.view c.copy_list.new.arena)) c.args.lim.now c.copy_list.new.lim) c.copy_list.ensures.copied c.copy_list.ensures.refused)
+    grows_again _ _ _ (pruned_grows c.clear.ensures.only) (copy_grows c.copy_list.result (list_read g.B.ReaderArena c.args.value.now) (copy_call (form_of c.args.canonicalize) (call_at c.args.self.now.segment c.args.self.now.at (g.A.BuilderArena.view c.clear.new.arena) (g.A.BuilderArena.view c.copy_list.new.arena)) c.args.lim.now c.copy_list.new.lim) c.copy_list.ensures.copied c.copy_list.ensures.refused)
 
 pub returns-clause-stays : goal.returns-clause-stays
 returns-clause-stays g c = record { builder = search rules; there = omega (arith, (returns-clause-grows g c).words c.args.self.now.segment, c.requires.place) }
@@ -40,7 +40,7 @@ returns-clause-taken g c =
     let before = none_pruned (g.A.BuilderArena.view c.args.self.now.arena.now) (g.A.BuilderArena.view c.clear.new.arena) c.clear.ensures.limits c.clear.ensures.only in
     let last = none_itself (g.A.BuilderArena.view c.copy_list.new.arena) in
     taken_so c.copy_list.result _ _ _ _
-    (λ x. list_within c.args.value.now.element_size c.args.value.now.struct_size c.args.value.now.count (first_read g.B.ReaderArena c.args.value.now) (change (form_of c.args.canonicalize) (call_at c.args.self.now.segment c.args.self.now.at (g.A.BuilderArena.view c.clear.new.arena) (g.A.BuilderArena.view c.copy_list.new.arena)) c.args.lim.now c.copy_list.new.lim)
-    (change (form_of c.args.canonicalize) (call_at c.args.self.now.segment c.args.self.now.at (g.A.BuilderArena.view c.args.self.now.arena.now) (g.A.BuilderArena.view c.copy_list.new.arena)) c.args.lim.now c.copy_list.new.lim) before last refl x)
-    (λ x. list_until_within c.args.value.now.element_size c.args.value.now.struct_size c.args.value.now.count (first_read g.B.ReaderArena c.args.value.now) (change (form_of c.args.canonicalize) (call_at c.args.self.now.segment c.args.self.now.at (g.A.BuilderArena.view c.clear.new.arena) (g.A.BuilderArena.view c.copy_list.new.arena)) c.args.lim.now c.copy_list.new.lim)
-    (change (form_of c.args.canonicalize) (call_at c.args.self.now.segment c.args.self.now.at (g.A.BuilderArena.view c.args.self.now.arena.now) (g.A.BuilderArena.view c.copy_list.new.arena)) c.args.lim.now c.copy_list.new.lim) before last refl x) c.copy_list.ensures.taken
+    (λ x. list_within c.args.value.now.element_size c.args.value.now.struct_size c.args.value.now.count (first_read g.B.ReaderArena c.args.value.now) (copy_call (form_of c.args.canonicalize) (call_at c.args.self.now.segment c.args.self.now.at (g.A.BuilderArena.view c.clear.new.arena) (g.A.BuilderArena.view c.copy_list.new.arena)) c.args.lim.now c.copy_list.new.lim)
+    (copy_call (form_of c.args.canonicalize) (call_at c.args.self.now.segment c.args.self.now.at (g.A.BuilderArena.view c.args.self.now.arena.now) (g.A.BuilderArena.view c.copy_list.new.arena)) c.args.lim.now c.copy_list.new.lim) before last refl x)
+    (λ x. list_until_within c.args.value.now.element_size c.args.value.now.struct_size c.args.value.now.count (first_read g.B.ReaderArena c.args.value.now) (copy_call (form_of c.args.canonicalize) (call_at c.args.self.now.segment c.args.self.now.at (g.A.BuilderArena.view c.clear.new.arena) (g.A.BuilderArena.view c.copy_list.new.arena)) c.args.lim.now c.copy_list.new.lim)
+    (copy_call (form_of c.args.canonicalize) (call_at c.args.self.now.segment c.args.self.now.at (g.A.BuilderArena.view c.args.self.now.arena.now) (g.A.BuilderArena.view c.copy_list.new.arena)) c.args.lim.now c.copy_list.new.lim) before last refl x) c.copy_list.ensures.taken

@@ -1,6 +1,6 @@
 use Rattle.std.proofs.Common.{rules, refl, arith}
 use Rattle.capnp_readers.specs.Sizes.{pointers_read}
-use Rattle.capnp_copies.specs.Changes.{change}
+use Rattle.capnp_copies.specs.Changes.{copy_call}
 use Rattle.capnp_copies.specs.Forms.{form_of}
 use Rattle.capnp_value_copies.specs.StructValues.{data_of, struct_read}
 use Rattle.capnp_making.proofs.Outcomes.{if_ok_so, if_err_so}
@@ -15,13 +15,13 @@ use Rattle.capnp_making.specs.Makes.{call_at}
 pub returns-clause-copied : goal.returns-clause-copied
 returns-clause-copied g c =
     if_ok_so c.copy_struct_value.result _ _ c.copy_struct_value.ensures.copied
-    (λ x made. put_copied (change (form_of c.args.canonicalize) (call_at c.args.self.now.segment c.args.self.now.at (g.A.BuilderArena.view c.args.self.now.arena.now) (g.A.BuilderArena.view c.copy_struct_value.new.arena)) c.args.lim.now c.copy_struct_value.new.lim)
+    (λ x made. put_copied (copy_call (form_of c.args.canonicalize) (call_at c.args.self.now.segment c.args.self.now.at (g.A.BuilderArena.view c.args.self.now.arena.now) (g.A.BuilderArena.view c.copy_struct_value.new.arena)) c.args.lim.now c.copy_struct_value.new.lim)
     (g.A.BuilderArena.view c.clear.new.arena) c.clear.ensures.limits c.clear.ensures.only c.clear.ensures.cleared made)
 
 pub returns-clause-refused : goal.returns-clause-refused
 returns-clause-refused g c =
     if_err_so c.copy_struct_value.result _ _ c.copy_struct_value.ensures.refused
-    (λ k stop. put_stopped (change (form_of c.args.canonicalize) (call_at c.args.self.now.segment c.args.self.now.at (g.A.BuilderArena.view c.args.self.now.arena.now) (g.A.BuilderArena.view c.copy_struct_value.new.arena)) c.args.lim.now c.copy_struct_value.new.lim)
+    (λ k stop. put_stopped (copy_call (form_of c.args.canonicalize) (call_at c.args.self.now.segment c.args.self.now.at (g.A.BuilderArena.view c.args.self.now.arena.now) (g.A.BuilderArena.view c.copy_struct_value.new.arena)) c.args.lim.now c.copy_struct_value.new.lim)
     (g.A.BuilderArena.view c.clear.new.arena) c.clear.ensures.limits c.clear.ensures.only c.clear.ensures.cleared stop)
 
 pub returns-clause-fits : goal.returns-clause-fits
@@ -30,7 +30,7 @@ returns-clause-fits g c = λ can.
 
 pub returns-clause-grows : goal.returns-clause-grows
 returns-clause-grows g c =
-    grows_again _ _ _ (pruned_grows c.clear.ensures.only) (copy_grows c.copy_struct_value.result (struct_read g.B.ReaderArena c.args.value.now) (change (form_of c.args.canonicalize) (call_at c.args.self.now.segment c.args.self.now.at (g.A.BuilderArena.view c.clear.new.arena) (g.A.BuilderArena.view c.copy_struct_value.new.arena)) c.args.lim.now c.copy_struct_value.new.lim) c.copy_struct_value.ensures.copied c.copy_struct_value.ensures.refused)
+    grows_again _ _ _ (pruned_grows c.clear.ensures.only) (copy_grows c.copy_struct_value.result (struct_read g.B.ReaderArena c.args.value.now) (copy_call (form_of c.args.canonicalize) (call_at c.args.self.now.segment c.args.self.now.at (g.A.BuilderArena.view c.clear.new.arena) (g.A.BuilderArena.view c.copy_struct_value.new.arena)) c.args.lim.now c.copy_struct_value.new.lim) c.copy_struct_value.ensures.copied c.copy_struct_value.ensures.refused)
 
 pub returns-clause-stays : goal.returns-clause-stays
 returns-clause-stays g c = record { builder = search rules; there = omega (arith, (returns-clause-grows g c).words c.args.self.now.segment, c.requires.place) }
@@ -40,7 +40,7 @@ returns-clause-taken g c =
     let before = none_pruned (g.A.BuilderArena.view c.args.self.now.arena.now) (g.A.BuilderArena.view c.clear.new.arena) c.clear.ensures.limits c.clear.ensures.only in
     let last = none_itself (g.A.BuilderArena.view c.copy_struct_value.new.arena) in
     taken_so c.copy_struct_value.result _ _ _ _
-    (λ x. sections_within (data_of g.B.ReaderArena c.args.value.now) (pointers_read g.B.ReaderArena c.args.value.now) c.args.value.now.pointer_count (change (form_of c.args.canonicalize) (call_at c.args.self.now.segment c.args.self.now.at (g.A.BuilderArena.view c.clear.new.arena) (g.A.BuilderArena.view c.copy_struct_value.new.arena)) c.args.lim.now c.copy_struct_value.new.lim)
-    (change (form_of c.args.canonicalize) (call_at c.args.self.now.segment c.args.self.now.at (g.A.BuilderArena.view c.args.self.now.arena.now) (g.A.BuilderArena.view c.copy_struct_value.new.arena)) c.args.lim.now c.copy_struct_value.new.lim) before last refl x)
-    (λ x. sections_until_within (data_of g.B.ReaderArena c.args.value.now) (pointers_read g.B.ReaderArena c.args.value.now) c.args.value.now.pointer_count (change (form_of c.args.canonicalize) (call_at c.args.self.now.segment c.args.self.now.at (g.A.BuilderArena.view c.clear.new.arena) (g.A.BuilderArena.view c.copy_struct_value.new.arena)) c.args.lim.now c.copy_struct_value.new.lim)
-    (change (form_of c.args.canonicalize) (call_at c.args.self.now.segment c.args.self.now.at (g.A.BuilderArena.view c.args.self.now.arena.now) (g.A.BuilderArena.view c.copy_struct_value.new.arena)) c.args.lim.now c.copy_struct_value.new.lim) before last refl x) c.copy_struct_value.ensures.taken
+    (λ x. sections_within (data_of g.B.ReaderArena c.args.value.now) (pointers_read g.B.ReaderArena c.args.value.now) c.args.value.now.pointer_count (copy_call (form_of c.args.canonicalize) (call_at c.args.self.now.segment c.args.self.now.at (g.A.BuilderArena.view c.clear.new.arena) (g.A.BuilderArena.view c.copy_struct_value.new.arena)) c.args.lim.now c.copy_struct_value.new.lim)
+    (copy_call (form_of c.args.canonicalize) (call_at c.args.self.now.segment c.args.self.now.at (g.A.BuilderArena.view c.args.self.now.arena.now) (g.A.BuilderArena.view c.copy_struct_value.new.arena)) c.args.lim.now c.copy_struct_value.new.lim) before last refl x)
+    (λ x. sections_until_within (data_of g.B.ReaderArena c.args.value.now) (pointers_read g.B.ReaderArena c.args.value.now) c.args.value.now.pointer_count (copy_call (form_of c.args.canonicalize) (call_at c.args.self.now.segment c.args.self.now.at (g.A.BuilderArena.view c.clear.new.arena) (g.A.BuilderArena.view c.copy_struct_value.new.arena)) c.args.lim.now c.copy_struct_value.new.lim)
+    (copy_call (form_of c.args.canonicalize) (call_at c.args.self.now.segment c.args.self.now.at (g.A.BuilderArena.view c.args.self.now.arena.now) (g.A.BuilderArena.view c.copy_struct_value.new.arena)) c.args.lim.now c.copy_struct_value.new.lim) before last refl x) c.copy_struct_value.ensures.taken

@@ -4,7 +4,7 @@ use Rattle.capnp_words.specs.Meter.{unused}
 use Rattle.capnp_format.specs.Tree.{Null}
 use Rattle.capnp_arena_traits.specs.View.{View}
 use Rattle.capnp_objects.specs.Wanted.{of_default}
-use Rattle.capnp_copies.specs.Changes.{change, MakesCopy, StopsCopy}
+use Rattle.capnp_copies.specs.Changes.{copy_call, MakesCopy, StopsCopy}
 use Rattle.capnp_copies.specs.Growth.{TakesAtMost}
 use Rattle.capnp_copies.specs.Originals.{value_original}
 use Rattle.capnp_making.proofs.Outcomes.{if_err_so}
@@ -24,10 +24,10 @@ returns g c =
     let bytes : List ℕ = c.args.default.now in
     let old : View = g.A.BuilderArena.view c.args.arena.now in
     let new : View = g.A.BuilderArena.view c.copy_in_form.new.arena in
-    let taken : TakesAtMost c.copy_in_form.result (value_original (default_root bytes)) (change of_default (call_at c.args.id c.args.at old new) (unused None) c.copy_in_form.new.lim) =
+    let taken : TakesAtMost c.copy_in_form.result (value_original (default_root bytes)) (copy_call of_default (call_at c.args.id c.args.at old new) (unused None) c.copy_in_form.new.lim) =
     rw (c.pointer.ensures.source, c.pointer.ensures.place, c.pointer.ensures.nesting, from.source, from.place.0, from.place.1, from.nesting, c.new-lim.ensures) at c.copy_in_form.ensures.taken in
     let same : c.copy_in_form.new.lim ≡ unused None = nothing_spent c.copy_in_form.result bytes c.args.id c.args.at old new (unused None) c.copy_in_form.new.lim taken in
-    let copied : IfOk c.copy_in_form.result (λ _. MakesCopy (value_original (default_root bytes)) (change of_default (call_at c.args.id c.args.at old new) (unused None) c.copy_in_form.new.lim)) =
+    let copied : IfOk c.copy_in_form.result (λ _. MakesCopy (value_original (default_root bytes)) (copy_call of_default (call_at c.args.id c.args.at old new) (unused None) c.copy_in_form.new.lim)) =
     rw (c.pointer.ensures.source, c.pointer.ensures.place, c.pointer.ensures.nesting, from.source, from.place.0, from.place.1, from.nesting, c.new-lim.ensures) at c.copy_in_form.ensures.copied in
     let refused : IfErr c.copy_in_form.result (StopsCopy (value_original (default_root bytes)) (default_copy c.args.id c.args.at old new) Null) =
     rw (c.pointer.ensures.source, c.pointer.ensures.place, c.pointer.ensures.nesting, from.source, from.place.0, from.place.1, from.nesting, c.new-lim.ensures, same) at c.copy_in_form.ensures.refused in

@@ -16,7 +16,7 @@ use Rattle.capnp_making.proofs.Memory.{words_in, made_refused}
 use Rattle.capnp_making.proofs.WordsPut.{words_put}
 use Rattle.capnp_words.specs.Sizes.{size_number}
 use Rattle.capnp_format.specs.Word.{list_word}
-use Rattle.capnp_making.specs.Near.{HasOwnRoom, offset_behind, with_object}
+use Rattle.capnp_making.specs.Near.{HasOwnRoom, offset_to_end, with_object}
 use Rattle.std.proofs.lemmas.Result.{err_from_is_err_and}
 use Rattle.capnp_copies.proofs.Copying.{there}
 use Rattle.capnp_copies.proofs.ObjectsMade.{Begins}
@@ -77,7 +77,7 @@ returns-clause-stands g c = λ fits.
     (ap words_in c.put_elements.ensures
     ∙ ap₂ (λ i k. with_words (g.A.BuilderArena.view c.make_list.new.arena).words i k D) (c.in_ok-start.ensures.at_end room).0 (c.in_ok-start.ensures.at_end room).1
     ∙ ap (λ T. with_words T id (length (segment S id)) D)
-    (c.in_ok-start.ensures.near room ∙ ap₂ (λ i k. with_object S id c.args.to.at (list_word (offset_behind S id c.args.to.at) size i) (replicate k 0)) (sym counts) (list ∙ ap (words_for size) (sym counts)))))
+    (c.in_ok-start.ensures.near room ∙ ap₂ (λ i k. with_object S id c.args.to.at (list_word (offset_to_end S id c.args.to.at) size i) (replicate k 0)) (sym counts) (list ∙ ap (words_for size) (sym counts)))))
 
 pub returns-clause-taken : goal.returns-clause-taken
 returns-clause-taken g c =

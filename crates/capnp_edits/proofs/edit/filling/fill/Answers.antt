@@ -3,7 +3,7 @@ use Rattle.std.proofs.lemmas.Result.{err_from_is_err_and}
 use Rattle.capnp_readers.specs.declared.readers.struct_reader.StructPlace.{StructPlace}
 use Rattle.capnp_edits.specs.declared.edit.copying.Wanted.TheVariants.{Struct as AStruct}
 use Rattle.capnp_edits.specs.Edits.{refusal_of, refusals_after, FillsAt, none_filled}
-use Rattle.capnp_edits.specs.Steps.{IsRefusedAt, TakesAt}
+use Rattle.capnp_edits.specs.Steps.{IsRefusedAt, AllocatesAt}
 use Rattle.capnp_edits.specs.declared.edit.path.PathEnd.TheVariants.{Element as AtElement}
 use Rattle.capnp_edits.specs.declared.edit.tasks.Task.TheVariants.{InStruct}
 use Rattle.capnp_edits.specs.declared.edit.tasks.StructChange.TheVariants.{Content}
@@ -80,13 +80,13 @@ returns-in-Some-clause-taken g c =
     let old = g.A.BuilderArena.view c.args.arena.now in
     let new = g.A.BuilderArena.view c.copy_content_from.new.self.arena.now in
     let value = c.in_ok-value.value in
-    let taken : TakesAt old new (InStruct (Content c.args.source)) (refusal_of c.copy_content_from.result) (AtElement c.args.parent) = (
+    let taken : AllocatesAt old new (InStruct (Content c.args.source)) (refusal_of c.copy_content_from.result) (AtElement c.args.parent) = (
       c.args.parent,
       refl,
       subst (λ p. TakesForContentFrom old new p c.args.source (refusal_of c.copy_content_from.result)) c.in-Some.ensures.place
           (fill_taken c.copy_content_from.result _ c.args.source c.in_ok-root.root value _ _ _ old new c.in-Some.place c.in_ok-root.ensures.found value.content_is.1 c.in_ok-value.ensures.read c.copy_content_from.ensures.taken c.copy_content_from.ensures.copied),
     ) in
-    subst (λ (a : g.row.A.Denot). TakesAt old (g.A.BuilderArena.view a) (InStruct (Content c.args.source)) (refusal_of c.copy_content_from.result) (AtElement c.args.parent)) (search rules) taken
+    subst (λ (a : g.row.A.Denot). AllocatesAt old (g.A.BuilderArena.view a) (InStruct (Content c.args.source)) (refusal_of c.copy_content_from.result) (AtElement c.args.parent)) (search rules) taken
 
 -- Copying over a struct without words changes nothing.
 pub returns-in-None-clause-filled : goal.returns-in-None-clause-filled

@@ -8,75 +8,75 @@ use Rattle.capnp_edits.specs.Steps.{IsDoneAt}
 use Rattle.capnp_edits.proofs.Sought.{few_words, list_range, struct_sought, list_sought, structs_sought, text_sought, data_sought}
 use Rattle.capnp_edits.proofs.edit.found.look.Goals as goal
 
-pub find_struct-requires : goal.find_struct-requires
-find_struct-requires g c = record { there = c.requires.there; few = few_words c.args.default (subst (λ s. is_in_range (Search s c.args.default) ≡ true) c.in-Struct.is c.requires.range) }
+pub get_struct_place-requires : goal.get_struct_place-requires
+get_struct_place-requires g c = record { there = c.requires.there; few = few_words c.args.default (subst (λ s. is_in_range (Search s c.args.default) ≡ true) c.in-Struct.is c.requires.range) }
 
 pub returns-in-Struct : goal.returns-in-Struct
 returns-in-Struct g c =
     let old = g.A.BuilderArena.view c.args.pointer.now.arena.now in
-    let new = g.A.BuilderArena.view c.find_struct.new.self.arena.now in
+    let new = g.A.BuilderArena.view c.get_struct_place.new.self.arena.now in
     record {
       done = rw c.done.ensures (
-          subst (λ s. IsDoneAt old new (AtPointer (place_of c.args.pointer.now)) (Search s c.args.default) (refusal_of c.find_struct.result)) (sym c.in-Struct.is)
-          (struct_sought c.find_struct.result c.in-Struct.size c.args.default (call_at c.args.pointer.now.segment c.args.pointer.now.at old new) c.requires.there c.find_struct.ensures.found.found c.find_struct.ensures.set c.find_struct.ensures.found.memory.granted c.find_struct.ensures.found.memory.refused c.find_struct.ensures.fits c.find_struct.ensures.empty));
+          subst (λ s. IsDoneAt old new (AtPointer (place_of c.args.pointer.now)) (Search s c.args.default) (refusal_of c.get_struct_place.result)) (sym c.in-Struct.is)
+          (struct_sought c.get_struct_place.result c.in-Struct.size c.args.default (call_at c.args.pointer.now.segment c.args.pointer.now.at old new) c.requires.there c.get_struct_place.ensures.found.found c.get_struct_place.ensures.set c.get_struct_place.ensures.found.memory.granted c.get_struct_place.ensures.found.memory.refused c.get_struct_place.ensures.fits c.get_struct_place.ensures.empty));
       same = search rules;
     }
 
-pub find_list-requires-clause-takes : goal.find_list-requires-clause-takes
-find_list-requires-clause-takes g c = record { there = c.requires.there; few = few_words c.args.default (list_range c.in-List.size c.args.default (subst (λ s. is_in_range (Search s c.args.default) ≡ true) c.in-List.is c.requires.range)).1 }
+pub get_list_place-requires-clause-takes : goal.get_list_place-requires-clause-takes
+get_list_place-requires-clause-takes g c = record { there = c.requires.there; few = few_words c.args.default (list_range c.in-List.size c.args.default (subst (λ s. is_in_range (Search s c.args.default) ≡ true) c.in-List.is c.requires.range)).1 }
 
-pub find_list-requires-clause-plain : goal.find_list-requires-clause-plain
-find_list-requires-clause-plain g c = (list_range c.in-List.size c.args.default (subst (λ s. is_in_range (Search s c.args.default) ≡ true) c.in-List.is c.requires.range)).0
+pub get_list_place-requires-clause-plain : goal.get_list_place-requires-clause-plain
+get_list_place-requires-clause-plain g c = (list_range c.in-List.size c.args.default (subst (λ s. is_in_range (Search s c.args.default) ≡ true) c.in-List.is c.requires.range)).0
 
 pub returns-in-List : goal.returns-in-List
 returns-in-List g c =
     let old = g.A.BuilderArena.view c.args.pointer.now.arena.now in
-    let new = g.A.BuilderArena.view c.find_list.new.self.arena.now in
+    let new = g.A.BuilderArena.view c.get_list_place.new.self.arena.now in
     record {
       done = rw c.done-in-List.ensures (
-          subst (λ s. IsDoneAt old new (AtPointer (place_of c.args.pointer.now)) (Search s c.args.default) (refusal_of c.find_list.result)) (sym c.in-List.is)
-          (list_sought c.find_list.result c.in-List.size c.args.default (call_at c.args.pointer.now.segment c.args.pointer.now.at old new) c.requires.there c.find_list.ensures.found.finds.found c.find_list.ensures.found.set c.find_list.ensures.found.finds.memory.granted c.find_list.ensures.found.finds.memory.refused));
+          subst (λ s. IsDoneAt old new (AtPointer (place_of c.args.pointer.now)) (Search s c.args.default) (refusal_of c.get_list_place.result)) (sym c.in-List.is)
+          (list_sought c.get_list_place.result c.in-List.size c.args.default (call_at c.args.pointer.now.segment c.args.pointer.now.at old new) c.requires.there c.get_list_place.ensures.found.finds.found c.get_list_place.ensures.found.set c.get_list_place.ensures.found.finds.memory.granted c.get_list_place.ensures.found.finds.memory.refused));
       same = search rules;
     }
 
-pub find_struct_list-requires : goal.find_struct_list-requires
-find_struct_list-requires g c = record { there = c.requires.there; few = few_words c.args.default (subst (λ s. is_in_range (Search s c.args.default) ≡ true) c.in-StructList.is c.requires.range) }
+pub get_struct_list_place-requires : goal.get_struct_list_place-requires
+get_struct_list_place-requires g c = record { there = c.requires.there; few = few_words c.args.default (subst (λ s. is_in_range (Search s c.args.default) ≡ true) c.in-StructList.is c.requires.range) }
 
 pub returns-in-StructList : goal.returns-in-StructList
 returns-in-StructList g c =
     let old = g.A.BuilderArena.view c.args.pointer.now.arena.now in
-    let new = g.A.BuilderArena.view c.find_struct_list.new.self.arena.now in
+    let new = g.A.BuilderArena.view c.get_struct_list_place.new.self.arena.now in
     record {
       done = rw c.done-in-StructList.ensures (
-          subst (λ s. IsDoneAt old new (AtPointer (place_of c.args.pointer.now)) (Search s c.args.default) (refusal_of c.find_struct_list.result)) (sym c.in-StructList.is)
-          (structs_sought c.find_struct_list.result c.in-StructList.size c.args.default (call_at c.args.pointer.now.segment c.args.pointer.now.at old new) c.requires.there c.find_struct_list.ensures.found.found c.find_struct_list.ensures.set c.find_struct_list.ensures.found.memory.granted c.find_struct_list.ensures.found.memory.refused c.find_struct_list.ensures.fits));
+          subst (λ s. IsDoneAt old new (AtPointer (place_of c.args.pointer.now)) (Search s c.args.default) (refusal_of c.get_struct_list_place.result)) (sym c.in-StructList.is)
+          (structs_sought c.get_struct_list_place.result c.in-StructList.size c.args.default (call_at c.args.pointer.now.segment c.args.pointer.now.at old new) c.requires.there c.get_struct_list_place.ensures.found.found c.get_struct_list_place.ensures.set c.get_struct_list_place.ensures.found.memory.granted c.get_struct_list_place.ensures.found.memory.refused c.get_struct_list_place.ensures.fits));
       same = search rules;
     }
 
-pub find_text-requires : goal.find_text-requires
-find_text-requires g c = record { there = c.requires.there; few = few_words c.args.default (subst (λ s. is_in_range (Search s c.args.default) ≡ true) c.in-Text.is c.requires.range) }
+pub get_text_place-requires : goal.get_text_place-requires
+get_text_place-requires g c = record { there = c.requires.there; few = few_words c.args.default (subst (λ s. is_in_range (Search s c.args.default) ≡ true) c.in-Text.is c.requires.range) }
 
 pub returns-in-Text : goal.returns-in-Text
 returns-in-Text g c =
     let old = g.A.BuilderArena.view c.args.pointer.now.arena.now in
-    let new = g.A.BuilderArena.view c.find_text.new.self.arena.now in
+    let new = g.A.BuilderArena.view c.get_text_place.new.self.arena.now in
     record {
       done = rw c.done-in-Text.ensures (
-          subst (λ s. IsDoneAt old new (AtPointer (place_of c.args.pointer.now)) (Search s c.args.default) (refusal_of c.find_text.result)) (sym c.in-Text.is)
-          (text_sought c.find_text.result c.args.default (call_at c.args.pointer.now.segment c.args.pointer.now.at old new) c.requires.there c.find_text.ensures.found.finds.found c.find_text.ensures.found.set c.find_text.ensures.found.finds.memory.granted c.find_text.ensures.found.finds.memory.refused));
+          subst (λ s. IsDoneAt old new (AtPointer (place_of c.args.pointer.now)) (Search s c.args.default) (refusal_of c.get_text_place.result)) (sym c.in-Text.is)
+          (text_sought c.get_text_place.result c.args.default (call_at c.args.pointer.now.segment c.args.pointer.now.at old new) c.requires.there c.get_text_place.ensures.found.finds.found c.get_text_place.ensures.found.set c.get_text_place.ensures.found.finds.memory.granted c.get_text_place.ensures.found.finds.memory.refused));
       same = search rules;
     }
 
-pub find_data-requires : goal.find_data-requires
-find_data-requires g c = record { there = c.requires.there; few = few_words c.args.default (subst (λ s. is_in_range (Search s c.args.default) ≡ true) c.in-Data.is c.requires.range) }
+pub get_data_place-requires : goal.get_data_place-requires
+get_data_place-requires g c = record { there = c.requires.there; few = few_words c.args.default (subst (λ s. is_in_range (Search s c.args.default) ≡ true) c.in-Data.is c.requires.range) }
 
 pub returns-in-Data : goal.returns-in-Data
 returns-in-Data g c =
     let old = g.A.BuilderArena.view c.args.pointer.now.arena.now in
-    let new = g.A.BuilderArena.view c.find_data.new.self.arena.now in
+    let new = g.A.BuilderArena.view c.get_data_place.new.self.arena.now in
     record {
       done = rw c.done-in-Data.ensures (
-          subst (λ s. IsDoneAt old new (AtPointer (place_of c.args.pointer.now)) (Search s c.args.default) (refusal_of c.find_data.result)) (sym c.in-Data.is)
-          (data_sought c.find_data.result c.args.default (call_at c.args.pointer.now.segment c.args.pointer.now.at old new) c.requires.there c.find_data.ensures.found.finds.found c.find_data.ensures.found.set c.find_data.ensures.found.finds.memory.granted c.find_data.ensures.found.finds.memory.refused));
+          subst (λ s. IsDoneAt old new (AtPointer (place_of c.args.pointer.now)) (Search s c.args.default) (refusal_of c.get_data_place.result)) (sym c.in-Data.is)
+          (data_sought c.get_data_place.result c.args.default (call_at c.args.pointer.now.segment c.args.pointer.now.at old new) c.requires.there c.get_data_place.ensures.found.finds.found c.get_data_place.ensures.found.set c.get_data_place.ensures.found.finds.memory.granted c.get_data_place.ensures.found.finds.memory.refused));
       same = search rules;
     }

@@ -15,53 +15,53 @@ use Rattle.capnp_edits.proofs.edit.pointer.make.Goals as goal
 pub returns-in-ZeroStruct : goal.returns-in-ZeroStruct
 returns-in-ZeroStruct g c =
     let old = g.A.BuilderArena.view c.args.pointer.now.arena.now in
-    let new = g.A.BuilderArena.view c.put_struct.new.self.arena.now in
+    let new = g.A.BuilderArena.view c.init_struct_place.new.self.arena.now in
     let place = place_of c.args.pointer.now in
     record {
       done = rw c.done.ensures (
-          subst (λ o. IsDoneAt old new (AtPointer place) (Make o) (refusal_of c.put_struct.result)) (sym c.in-ZeroStruct.is)
-          (object_made c.put_struct.result old new place (ZeroStruct c.in-ZeroStruct.size) _ (struct_words c.in-ZeroStruct.size) c.put_struct.ensures.object
-          (struct_leads c.put_struct.result (call_at place.segment place.word old new) c.in-ZeroStruct.size (rw (c.put_struct.ensures.builder.segment, c.put_struct.ensures.builder.at) at c.put_struct.ensures.empty))));
+          subst (λ o. IsDoneAt old new (AtPointer place) (Make o) (refusal_of c.init_struct_place.result)) (sym c.in-ZeroStruct.is)
+          (object_made c.init_struct_place.result old new place (ZeroStruct c.in-ZeroStruct.size) _ (struct_words c.in-ZeroStruct.size) c.init_struct_place.ensures.object
+          (struct_leads c.init_struct_place.result (call_at place.segment place.word old new) c.in-ZeroStruct.size (rw (c.init_struct_place.ensures.builder.segment, c.init_struct_place.ensures.builder.at) at c.init_struct_place.ensures.empty))));
       same = search rules;
     }
 
 pub returns-in-ZeroList : goal.returns-in-ZeroList
 returns-in-ZeroList g c =
     let old = g.A.BuilderArena.view c.args.pointer.now.arena.now in
-    let new = g.A.BuilderArena.view c.put_list.new.self.arena.now in
+    let new = g.A.BuilderArena.view c.init_list_place.new.self.arena.now in
     let place = place_of c.args.pointer.now in
     record {
       done = rw c.done-in-ZeroList.ensures (
-          subst (λ o. IsDoneAt old new (AtPointer place) (Make o) (refusal_of c.put_list.result)) (sym c.in-ZeroList.is)
-          (object_made c.put_list.result old new place (ZeroList c.in-ZeroList.size c.in-ZeroList.count) _ (list_words_are (size_number c.in-ZeroList.size) c.in-ZeroList.count) c.put_list.ensures.object
-          (subst (λ n. OnOk c.put_list.result (LeadsToEnd (call_at place.segment place.word old new) n)) (list_words_are (size_number c.in-ZeroList.size) c.in-ZeroList.count) c.put_list.ensures.at_end)));
+          subst (λ o. IsDoneAt old new (AtPointer place) (Make o) (refusal_of c.init_list_place.result)) (sym c.in-ZeroList.is)
+          (object_made c.init_list_place.result old new place (ZeroList c.in-ZeroList.size c.in-ZeroList.count) _ (list_words_are (size_number c.in-ZeroList.size) c.in-ZeroList.count) c.init_list_place.ensures.object
+          (subst (λ n. OnOk c.init_list_place.result (LeadsToEnd (call_at place.segment place.word old new) n)) (list_words_are (size_number c.in-ZeroList.size) c.in-ZeroList.count) c.init_list_place.ensures.at_end)));
       same = search rules;
     }
 
 pub returns-in-ZeroStructs : goal.returns-in-ZeroStructs
 returns-in-ZeroStructs g c =
     let old = g.A.BuilderArena.view c.args.pointer.now.arena.now in
-    let new = g.A.BuilderArena.view c.put_struct_list.new.self.arena.now in
+    let new = g.A.BuilderArena.view c.init_struct_list_place.new.self.arena.now in
     let place = place_of c.args.pointer.now in
     record {
       done = rw c.done-in-ZeroStructs.ensures (
-          subst (λ o. IsDoneAt old new (AtPointer place) (Make o) (refusal_of c.put_struct_list.result)) (sym c.in-ZeroStructs.is)
-          (object_made c.put_struct_list.result old new place (ZeroStructs c.in-ZeroStructs.count c.in-ZeroStructs.size) _ (structs_words_are c.in-ZeroStructs.count c.in-ZeroStructs.size) c.put_struct_list.ensures.object
-          (subst (λ n. OnOk c.put_struct_list.result (LeadsToEnd (call_at place.segment place.word old new) n)) (structs_words_are c.in-ZeroStructs.count c.in-ZeroStructs.size)
-          (leads_behind c.put_struct_list.result (call_at place.segment place.word old new) (1 + c.in-ZeroStructs.count * (c.in-ZeroStructs.size.data_words + c.in-ZeroStructs.size.pointers)) (omega arith) c.put_struct_list.ensures.object.behind))));
+          subst (λ o. IsDoneAt old new (AtPointer place) (Make o) (refusal_of c.init_struct_list_place.result)) (sym c.in-ZeroStructs.is)
+          (object_made c.init_struct_list_place.result old new place (ZeroStructs c.in-ZeroStructs.count c.in-ZeroStructs.size) _ (structs_words_are c.in-ZeroStructs.count c.in-ZeroStructs.size) c.init_struct_list_place.ensures.object
+          (subst (λ n. OnOk c.init_struct_list_place.result (LeadsToEnd (call_at place.segment place.word old new) n)) (structs_words_are c.in-ZeroStructs.count c.in-ZeroStructs.size)
+          (leads_behind c.init_struct_list_place.result (call_at place.segment place.word old new) (1 + c.in-ZeroStructs.count * (c.in-ZeroStructs.size.data_words + c.in-ZeroStructs.size.pointers)) (omega arith) c.init_struct_list_place.ensures.object.behind))));
       same = search rules;
     }
 
 pub returns-in-ZeroText : goal.returns-in-ZeroText
 returns-in-ZeroText g c =
     let old = g.A.BuilderArena.view c.args.pointer.now.arena.now in
-    let new = g.A.BuilderArena.view c.put_list-in-ZeroText.new.self.arena.now in
+    let new = g.A.BuilderArena.view c.init_list_place-in-ZeroText.new.self.arena.now in
     let place = place_of c.args.pointer.now in
     record {
       done = rw c.done-in-ZeroText.ensures (
-          subst (λ o. IsDoneAt old new (AtPointer place) (Make o) (refusal_of c.put_list-in-ZeroText.result)) (sym c.in-ZeroText.is)
-          (object_made c.put_list-in-ZeroText.result old new place (ZeroText c.in-ZeroText.size) _ (list_words_are 2 (c.in-ZeroText.size + 1)) c.put_list-in-ZeroText.ensures.object
-          (subst (λ n. OnOk c.put_list-in-ZeroText.result (LeadsToEnd (call_at place.segment place.word old new) n)) (list_words_are 2 (c.in-ZeroText.size + 1)) c.put_list-in-ZeroText.ensures.at_end)));
+          subst (λ o. IsDoneAt old new (AtPointer place) (Make o) (refusal_of c.init_list_place-in-ZeroText.result)) (sym c.in-ZeroText.is)
+          (object_made c.init_list_place-in-ZeroText.result old new place (ZeroText c.in-ZeroText.size) _ (list_words_are 2 (c.in-ZeroText.size + 1)) c.init_list_place-in-ZeroText.ensures.object
+          (subst (λ n. OnOk c.init_list_place-in-ZeroText.result (LeadsToEnd (call_at place.segment place.word old new) n)) (list_words_are 2 (c.in-ZeroText.size + 1)) c.init_list_place-in-ZeroText.ensures.at_end)));
       same = search rules;
     }
 

@@ -8,14 +8,14 @@ loop-rest-preserved g c =
     let none : IsNone c.keep.result = search rules in
     let kept = c.keep.ensures.kept none in
     record {
-      read = kept_line vec_items _ _ kept.0 (record { read = c.loop-rest.invariant.read; lines = c.first_line.ensures.lines }) c.in_ok-segment.ensures.bytes;
+      read = kept_line vec_items _ _ kept.0 (record { read = c.loop-rest.invariant.read; lines = c.split_first_line.ensures.lines }) c.in_ok-segment.ensures.bytes;
       granted = kept.1 ∙ c.in_ok-segment.ensures.counted.kept ∙ c.loop-rest.invariant.granted;
     }
 
 pub returns-in_err-segment-clause-bad : goal.returns-in_err-segment-clause-bad
 returns-in_err-segment-clause-bad g c =
     let p = err_from_is_err_and c.from_residual.result c.from_residual.ensures.1 in
-    rw (p.1, p.2) (λ bad. bad_line (record { read = c.loop-rest.invariant.read; lines = c.first_line.ensures.lines }) (c.in_err-segment.ensures.bad bad))
+    rw (p.1, p.2) (λ bad. bad_line (record { read = c.loop-rest.invariant.read; lines = c.split_first_line.ensures.lines }) (c.in_err-segment.ensures.bad bad))
 
 pub returns-clause-segments : goal.returns-clause-segments
 returns-clause-segments g c =

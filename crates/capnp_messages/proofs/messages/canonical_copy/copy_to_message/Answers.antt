@@ -11,12 +11,12 @@ pub copy_to_segment-copied-requires-clause-room : goal.copy_to_segment-copied-re
 copy_to_segment-copied-requires-clause-room g c =
     subst (λ (rooms : ℕ → ℕ). c.args.room ≤ rooms 0) (sym c.without_allocator-segments.ensures.room) c.in_default.ensures.room
 
-pub settle-requires : goal.settle-requires
-settle-requires g c = subst (λ (l : Option ℕ). IsLeftOf c.in-Ok.own.left l) c.left.ensures (copy_left (end_read g.B.ReaderArena c.args.from) c.left.result c.in-Ok.own c.in-Ok.ensures.copied.0 c.in-Ok.ensures.copied.1)
+pub charge_copy-requires : goal.charge_copy-requires
+charge_copy-requires g c = subst (λ (l : Option ℕ). IsLeftOf c.in-Ok.own.left l) c.left.ensures (copy_left (end_read g.B.ReaderArena c.args.from) c.left.result c.in-Ok.own c.in-Ok.ensures.copied.0 c.in-Ok.ensures.copied.1)
 
 pub returns-in-Ok-clause-copied : goal.returns-in-Ok-clause-copied
 returns-in-Ok-clause-copied g c =
-    copy_settled (end_read g.B.ReaderArena c.args.from) c.args.lim.now c.in-Ok.own c.settle.new.lim c.left.ensures c.settle.ensures.left c.settle.ensures.counted (ap message c.with_allocator-made.ensures.segments) c.in-Ok.ensures.copied
+    copy_settled (end_read g.B.ReaderArena c.args.from) c.args.lim.now c.in-Ok.own c.charge_copy.new.lim c.left.ensures c.charge_copy.ensures.left c.charge_copy.ensures.counted (ap message c.with_allocator-made.ensures.segments) c.in-Ok.ensures.copied
 
 pub returns-in-Ok-clause-asked : goal.returns-in-Ok-clause-asked
 returns-in-Ok-clause-asked g c =

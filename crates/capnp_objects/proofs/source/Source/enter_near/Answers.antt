@@ -2,7 +2,7 @@ use Rattle.std.proofs.Common.{◌≡◌, ◌<◌, Ok, ap, sym, ◌∙◌, w32, r
 use Rattle.std.proofs.lemmas.Int.{to_z-of_z}
 use Rattle.std.proofs.lemmas.Result.{err_from_is_err_and}
 use Rattle.capnp_format.specs.Word.{kind}
-use Rattle.capnp_objects.specs.Demands.{claim}
+use Rattle.capnp_objects.specs.Demands.{claimed_words}
 use Rattle.capnp_objects.specs.Enter.{shape}
 use Rattle.capnp_objects.specs.Entering.{found_target, enter_plain}
 use Rattle.capnp_objects.specs.Metered.{onward, answer}
@@ -15,7 +15,7 @@ pub claim-requires : goal.claim-requires
 claim-requires g c =
     let r : Reading = pointer_at g.A.ReaderArena c.args.self c.args.pointer in
     let near : kind (word_of r) < 2 = rw c.requires.word.there at c.requires.near in
-    c.requires.claimed ∙ ap claim (c.requires.word.there ∙ sym (ap (λ a. a.word) (near_found r (found_target c.in_ok-found.found) c.args.lim.now c.follow.new.lim near c.in_ok-found.ensures.computed)))
+    c.requires.claimed ∙ ap claimed_words (c.requires.word.there ∙ sym (ap (λ a. a.word) (near_found r (found_target c.in_ok-found.found) c.args.lim.now c.follow.new.lim near c.in_ok-found.ensures.computed)))
 
 pub returns : goal.returns
 returns g c =

@@ -8,7 +8,7 @@ use Rattle.capnp_format.specs.Segments.{segment}
 use Rattle.capnp_objects.specs.declared.object.Object.TheVariants.{Struct as ObjectStruct, Flat as ObjectFlat, Pointers as ObjectPointers, Structs as ObjectStructs}
 use Rattle.capnp_objects.specs.Source.{levels}
 use Rattle.capnp_objects.specs.Objects.{EntersNear, IsFew, IsObject}
-use Rattle.capnp_objects.specs.Reading.{Reading, word_of, behind}
+use Rattle.capnp_objects.specs.Reading.{Reading, word_of, place_past}
 use Rattle.capnp_objects.specs.declared.object.Purpose.TheVariants.{Value}
 use Rattle.capnp_pointers.specs.Pointers.{reading_on}
 use Rattle.capnp_pointers.specs.Checking.{IsTested, StartsRight}
@@ -66,12 +66,12 @@ test_rows-loop-i-preserved g t c =
     let q : ℕ = c.args.size.pointers in
     let i : ℕ = c.loop-i.i in
     let z : Reading = reading_on g.A.ReaderArena c.args.from.now c.args.start (to_z w32 (of_z w32 c.args.nesting_limit)) in
-    let data_is : c.if-is_data_used.is_data_used ≡ (c.loop-i.is_data_used || is_used (behind z (i * (d + q))) d) =
+    let data_is : c.if-is_data_used.is_data_used ≡ (c.loop-i.is_data_used || is_used (place_past z (i * (d + q))) d) =
     elim c.if-is_data_used.branch [
       | test_rows-then-is_data_used w ↦ w.is_data_used-is ∙ rw w.if-is_data_used.true refl
       | test_rows-else-is_data_used w ↦ w.is_data_used-is ∙ rw w.if-is_data_used.false (decides _ _ _ (rw (c.from-data_words.ensures, c.from-pointers.ensures, c.args.from.now.held.0) at w.ends_used-is_data_used.ensures))
     ] in
-    let pointers_are : c.if-are_pointers_used.are_pointers_used ≡ (c.loop-i.are_pointers_used || is_used (behind (behind z (i * (d + q))) d) q) =
+    let pointers_are : c.if-are_pointers_used.are_pointers_used ≡ (c.loop-i.are_pointers_used || is_used (place_past (place_past z (i * (d + q))) d) q) =
     elim c.if-are_pointers_used.branch [
       | test_rows-then-are_pointers_used w ↦ w.are_pointers_used-is ∙ rw w.if-are_pointers_used.true refl
       | test_rows-else-are_pointers_used w ↦ w.are_pointers_used-is ∙ rw w.if-are_pointers_used.false (decides _ _ _ (rw (c.from-data_words.ensures, c.from-pointers.ensures, c.args.from.now.held.0) at w.ends_used-are_pointers_used.ensures))
@@ -203,7 +203,7 @@ test_children-returns-in_err-head-clause-computed g t c =
     let r : Reading = reading_on g.A.ReaderArena c.args.from.now c.args.at (to_z w32 (of_z w32 c.args.nesting_limit)) in
     let nl = to_z-of_z w32 c.args.nesting_limit c.ranges.nesting_limit in
     let rest = c.loop-i.invariant.1 (suc (c.args.count - c.loop-i.i - 1)) (omega (arith, c.loop-i-test.true)) in
-    let whole = rest ∙ pointers_stop (test_within r.levels) (c.args.count - c.loop-i.i - 1) (behind r c.loop-i.i) _ _ _ _ c.in_err-head.ensures.computed in
+    let whole = rest ∙ pointers_stop (test_within r.levels) (c.args.count - c.loop-i.i - 1) (place_past r c.loop-i.i) _ _ _ _ c.in_err-head.ensures.computed in
     rw nl at whole ∙ ap (λ x. (x, c.test_place.new.test.lim)) (step_stopped c.from_residual.result _ c.from_residual.ensures.0)
 
 pub test_children-returns-clause-computed : goal.test_children-returns-clause-computed
@@ -328,7 +328,7 @@ test_rows-returns-in_err-head g t c =
     let f = test_within r.levels in
     let stops = rw (c.from-data_words.ensures, c.from-pointers.ensures) at c.in_err-head.ensures in
     let rest = (c.loop-i.invariant (suc (c.args.count - i - 1)) (omega (arith, c.loop-i-test.true))).0 in
-    let whole = rows_halt f d q c.args.count r c.args.test.now.lim c.test_row.new.test.lim c.test_row.new.test.answer (rest ∙ rows_stop f d q (c.args.count - i - 1) (behind r (i * (d + q))) c.loop-i.head c.test_row.new.test.answer c.loop-i.test.lim c.test_row.new.test.lim stops) in
+    let whole = rows_halt f d q c.args.count r c.args.test.now.lim c.test_row.new.test.lim c.test_row.new.test.answer (rest ∙ rows_stop f d q (c.args.count - i - 1) (place_past r (i * (d + q))) c.loop-i.head c.test_row.new.test.answer c.loop-i.test.lim c.test_row.new.test.lim stops) in
     rw nl at whole ∙ ap (λ x. (x, c.test_row.new.test.lim)) (step_stopped c.from_residual.result _ c.from_residual.ensures.0)
 
 pub test_rows-returns-then-not-is_data_used : goal.test_rows-returns-then-not-is_data_used

@@ -1,6 +1,6 @@
 use Rattle.std.proofs.Common.{◌≡◌, ℕ, ◌+◌, ◌*◌, ◌||◌, ◌<◌, nat_eq}
 use Rattle.capnp_format.specs.Segments.{HasSmallWords}
-use Rattle.capnp_objects.specs.Reading.{Reading, behind}
+use Rattle.capnp_objects.specs.Reading.{Reading, place_past}
 use Rattle.capnp_objects.specs.Source.{levels}
 use Rattle.capnp_pointers.specs.Pointers.{reading_on}
 use Rattle.capnp_pointers.specs.Testing.{elements_tested, some_used, test_values, test_within}
@@ -34,7 +34,7 @@ abbrev pub invariant-test_children-loop-i : goal.invariant-test_children-loop-i
 invariant-test_children-loop-i g l =
     let r : Reading = reading_on g.A.ReaderArena l.fn.from l.at l.nesting_limit in
     (0 < l.i → HasSmallWords r.segments r.segment) ×
-    ((k : ℕ) → l.i + k ≡ l.fn.count → test_values l.fn.count r l.fn.first l.fn.test.lim ≡ test_values k (behind r l.i) l.head l.test.lim)
+    ((k : ℕ) → l.i + k ≡ l.fn.count → test_values l.fn.count r l.fn.first l.fn.test.lim ≡ test_values k (place_past r l.i) l.head l.test.lim)
 
 -- What is left of the elements, and whether those that are left need their sections, too.
 abbrev pub invariant-test_rows-loop-i : goal.invariant-test_rows-loop-i
@@ -44,5 +44,5 @@ invariant-test_rows-loop-i g l =
     let q : ℕ = l.fn.size.pointers in
     let w : ℕ = d + q in
     let f = test_within (levels l.nesting_limit) in
-    (k : ℕ) → l.i + k ≡ l.fn.count → (elements_tested f d q l.fn.count r (l.start + l.fn.count * w) l.fn.test.lim ≡ elements_tested f d q k (behind r (l.i * w)) l.head l.test.lim) ×
-    ((nat_eq d 0 || some_used r d w l.fn.count) ≡ l.is_data_used || some_used (behind r (l.i * w)) d w k) × ((nat_eq q 0 || some_used (behind r d) q w l.fn.count) ≡ l.are_pointers_used || some_used (behind (behind r (l.i * w)) d) q w k)
+    (k : ℕ) → l.i + k ≡ l.fn.count → (elements_tested f d q l.fn.count r (l.start + l.fn.count * w) l.fn.test.lim ≡ elements_tested f d q k (place_past r (l.i * w)) l.head l.test.lim) ×
+    ((nat_eq d 0 || some_used r d w l.fn.count) ≡ l.is_data_used || some_used (place_past r (l.i * w)) d w k) × ((nat_eq q 0 || some_used (place_past r d) q w l.fn.count) ≡ l.are_pointers_used || some_used (place_past (place_past r (l.i * w)) d) q w k)

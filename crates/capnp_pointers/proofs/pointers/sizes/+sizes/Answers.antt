@@ -8,7 +8,7 @@ use Rattle.capnp_objects.specs.declared.object.Purpose.TheVariants.{Size}
 use Rattle.capnp_objects.specs.Enter.{object_shape}
 use Rattle.capnp_objects.specs.Objects.{near_at}
 use Rattle.capnp_objects.specs.Outcomes.{Entered}
-use Rattle.capnp_objects.specs.Reading.{Reading, behind, word_of}
+use Rattle.capnp_objects.specs.Reading.{Reading, place_past, word_of}
 use Rattle.capnp_pointers.specs.Measure.{fold_pointers, measure_within, shape_size}
 use Rattle.capnp_pointers.specs.Pointers.{reading, reading_on}
 use Rattle.capnp_pointers.proofs.Measured.{measure_err, object_added, object_over, capability_ends, null_added, one_more, one_stops, row_more, row_stops, no_pointers, no_capability, no_children, children_in_rows, ended_err, near_struct}
@@ -76,7 +76,7 @@ add_row-returns-in_err-add_pointer g t c =
     let r : Reading = reading_on g.A.ReaderArena c.args.from.now c.args.at (to_z w32 (of_z w32 c.args.nesting_limit)) in
     let nl = to_z-of_z w32 c.args.nesting_limit c.ranges.nesting_limit in
     let rest = c.loop-i.invariant (suc (c.args.count - c.loop-i.i - 1)) (omega (arith, c.loop-i-test.true)) in
-    let whole = rest ∙ one_stops (measure_within r.levels) (behind r c.loop-i.i) (c.args.count - c.loop-i.i - 1) _ _ _ _ c.in_err-add_pointer.ensures in
+    let whole = rest ∙ one_stops (measure_within r.levels) (place_past r c.loop-i.i) (c.args.count - c.loop-i.i - 1) _ _ _ _ c.in_err-add_pointer.ensures in
     rw nl at whole ∙ ap (λ x. (x, c.add_pointer.new.walk.lim)) (sym (ended_err c.from_residual.result _ c.from_residual.ensures.0))
 
 pub add_row-loop-i-preserved : goal.add_row-loop-i-preserved
@@ -107,7 +107,7 @@ add_rows-returns-in_err-add_row g t c =
     let i : ℕ = c.loop-i.i in
     let stops = ap (λ p. fold_pointers (measure_within r.levels) q (record r { at = p }) c.loop-i.walk.sums.size c.loop-i.walk.lim) (omega arith) ∙ rw (at, nl) at c.in_err-add_row.ensures in
     c.loop-i.invariant (suc (c.args.count - i - 1)) (omega (arith, c.loop-i-test.true))
-    ∙ row_stops (measure_within r.levels) (behind r (i * (d + q))) d q (c.args.count - i - 1) _ _ _ _ stops
+    ∙ row_stops (measure_within r.levels) (place_past r (i * (d + q))) d q (c.args.count - i - 1) _ _ _ _ stops
     ∙ ap (λ x. (x, c.add_row.new.walk.lim)) (sym (ended_err c.from_residual.result _ c.from_residual.ensures.0))
 
 pub add_rows-loop-i-preserved : goal.add_rows-loop-i-preserved

@@ -5,7 +5,7 @@ use mir.Val.{to_z, of_z}
 use Rattle.capnp_objects.specs.declared.object.Purpose.TheVariants.{Value}
 use Rattle.capnp_objects.specs.Enter.{object_shape}
 use Rattle.capnp_objects.specs.Objects.{EntersNear, IsObject}
-use Rattle.capnp_objects.specs.Reading.{Reading, behind, word_of}
+use Rattle.capnp_objects.specs.Reading.{Reading, place_past, word_of}
 use Rattle.capnp_pointers.specs.Measure.{fold_pointers}
 use Rattle.capnp_pointers.specs.Pointers.{reading, reading_on}
 use Rattle.capnp_pointers.specs.Validation.{tally_shape, tally_words, validate_within}
@@ -58,7 +58,7 @@ validate_pointers-returns-in_err-validate_pointer g t c =
     let r : Reading = reading_on g.A.ReaderArena c.args.from.now c.args.at (to_z w32 (of_z w32 c.args.nesting_limit)) in
     let nl = to_z-of_z w32 c.args.nesting_limit c.ranges.nesting_limit in
     let rest = c.loop-i.invariant (suc (c.args.count - c.loop-i.i - 1)) (omega (arith, c.loop-i-test.true)) in
-    let whole = rest ∙ one_stops (validate_within r.levels) (behind r c.loop-i.i) (c.args.count - c.loop-i.i - 1) _ _ _ _ c.in_err-validate_pointer.ensures in
+    let whole = rest ∙ one_stops (validate_within r.levels) (place_past r c.loop-i.i) (c.args.count - c.loop-i.i - 1) _ _ _ _ c.in_err-validate_pointer.ensures in
     rw nl at whole ∙ ap (λ x. (x, c.validate_pointer.new.walk.lim)) (sym (stopped_result c.from_residual.result _ c.from_residual.ensures.0))
 
 pub validate_pointers-loop-i-preserved : goal.validate_pointers-loop-i-preserved
@@ -88,7 +88,7 @@ validate_rows-returns-in_err-validate_pointers g t c =
     let i : ℕ = c.loop-i.i in
     let stops = ap (λ p. fold_pointers (validate_within r.levels) q (record r { at = p }) c.loop-i.walk.tally c.loop-i.walk.lim) (omega arith) ∙ rw (at, nl) at c.in_err-validate_pointers.ensures in
     c.loop-i.invariant (suc (c.args.count - i - 1)) (omega (arith, c.loop-i-test.true))
-    ∙ row_stops (validate_within r.levels) (behind r (i * (d + q))) d q (c.args.count - i - 1) _ _ _ _ stops
+    ∙ row_stops (validate_within r.levels) (place_past r (i * (d + q))) d q (c.args.count - i - 1) _ _ _ _ stops
     ∙ ap (λ x. (x, c.validate_pointers.new.walk.lim)) (sym (stopped_result c.from_residual.result _ c.from_residual.ensures.0))
 
 pub validate_rows-loop-i-preserved : goal.validate_rows-loop-i-preserved

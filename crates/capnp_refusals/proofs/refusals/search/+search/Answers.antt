@@ -4,7 +4,7 @@ use mir.Syntax.{w32}
 use mir.Val.{to_z, of_z}
 use Rattle.capnp_objects.specs.Enter.{object_shape}
 use Rattle.capnp_objects.specs.Objects.{IsObject}
-use Rattle.capnp_objects.specs.Reading.{Reading, behind}
+use Rattle.capnp_objects.specs.Reading.{Reading, place_past}
 use Rattle.capnp_pointers.specs.Measure.{fold_pointers}
 use Rattle.capnp_pointers.specs.Pointers.{reading, reading_on}
 use Rattle.capnp_pointers.proofs.Falls.{falls_in}
@@ -19,7 +19,7 @@ search_pointers-returns-in-Some g t c =
     let r : Reading = reading_on g.A.ReaderArena c.args.from.now c.args.at (to_z w32 (of_z w32 c.args.nesting_limit)) in
     let nl = to_z-of_z w32 c.args.nesting_limit c.ranges.nesting_limit in
     let rest = c.loop-i.invariant (suc (c.args.count - c.loop-i.i - 1)) (omega (arith, c.loop-i-test.true)) in
-    let whole = rest ∙ pointer_found (search_within c.args.demands r.levels) (behind r c.loop-i.i) (c.args.count - c.loop-i.i - 1) _ _ _ c.in-Some.ensures in
+    let whole = rest ∙ pointer_found (search_within c.args.demands r.levels) (place_past r c.loop-i.i) (c.args.count - c.loop-i.i - 1) _ _ _ c.in-Some.ensures in
     rw nl at whole
 
 pub search_pointers-loop-i-preserved : goal.search_pointers-loop-i-preserved
@@ -50,7 +50,7 @@ search_elements-returns-in-Some g t c =
     let i : ℕ = c.loop-i.i in
     let found = ap (λ p. fold_pointers (unless_found f) q (record r { at = p }) None c.loop-i.lim) (omega arith) ∙ rw (at, nl) at c.in-Some.ensures in
     c.loop-i.invariant (suc (c.args.count - i - 1)) (omega (arith, c.loop-i-test.true))
-    ∙ row_found f (behind r (i * (d + q))) d q (c.args.count - i - 1) _ _ _ found
+    ∙ row_found f (place_past r (i * (d + q))) d q (c.args.count - i - 1) _ _ _ found
 
 pub search_elements-loop-i-preserved : goal.search_elements-loop-i-preserved
 search_elements-loop-i-preserved g t c =

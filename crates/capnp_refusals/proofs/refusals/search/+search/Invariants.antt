@@ -1,5 +1,5 @@
 use Rattle.std.proofs.Common.{◌≡◌, ℕ, ◌+◌, ◌*◌}
-use Rattle.capnp_objects.specs.Reading.{Reading, behind}
+use Rattle.capnp_objects.specs.Reading.{Reading, place_past}
 use Rattle.capnp_objects.specs.Source.{levels}
 use Rattle.capnp_pointers.specs.Pointers.{reading, reading_on}
 use Rattle.capnp_refusals.specs.Search.{search_elements, search_pointers}
@@ -17,11 +17,11 @@ decreases-search_elements g l = 6 * levels l.from.now.nesting_limit + 2
 abbrev pub invariant-search_pointers-loop-i : goal.invariant-search_pointers-loop-i
 invariant-search_pointers-loop-i g l =
     let r : Reading = reading_on g.A.ReaderArena l.from l.at l.nesting_limit in
-    (k : ℕ) → l.i + k ≡ l.count → search_pointers l.demands l.count r l.fn.lim ≡ search_pointers l.demands k (behind r l.i) l.lim
+    (k : ℕ) → l.i + k ≡ l.count → search_pointers l.demands l.count r l.fn.lim ≡ search_pointers l.demands k (place_past r l.i) l.lim
 
 abbrev pub invariant-search_elements-loop-i : goal.invariant-search_elements-loop-i
 invariant-search_elements-loop-i g l =
     let r : Reading = reading g.A.ReaderArena l.from in
     let d : ℕ = l.data_words in
     let q : ℕ = l.pointers in
-    (k : ℕ) → l.i + k ≡ l.count → search_elements l.demands d q l.count r l.fn.lim ≡ search_elements l.demands d q k (behind r (l.i * (d + q))) l.lim
+    (k : ℕ) → l.i + k ≡ l.count → search_elements l.demands d q l.count r l.fn.lim ≡ search_elements l.demands d q k (place_past r (l.i * (d + q))) l.lim

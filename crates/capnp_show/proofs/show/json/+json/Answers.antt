@@ -2,7 +2,7 @@ use Rattle.std.proofs.Common.{◌≢◌, ℕ, suc, ◌+◌, ◌*◌, ◌-◌, �
 use Rattle.std.specs.Prelude.{codes}
 use Rattle.hex.specs.Hex.{encode_lower}
 use Rattle.capnp_objects.specs.Enter.{object_shape}
-use Rattle.capnp_objects.specs.Reading.{Reading, behind, segment_read, word_of, words_from}
+use Rattle.capnp_objects.specs.Reading.{Reading, place_past, segment_read, word_of, words_from}
 use Rattle.capnp_pointers.specs.Pointers.{reading}
 use Rattle.capnp_messages.specs.Parts.{inside}
 use Rattle.capnp_messages.specs.PathEnds.{IsObjectRead}
@@ -105,17 +105,17 @@ json_struct-returns-in_err-push_data g t c =
     let bytes = struct_data r c.args.start.place d c.from-words.result c.bytes_at-data.result.now c.args.start.held (omega (arith, c.requires.inside)) c.from-words.ensures c.bytes_at-data.ensures c.are_bytes.ensures in
     λ plain.
     push_stops c.args.json.now _ _ _ c.from_residual.ensures.1 (adds_as (ap (λ bs. member (codes "data") (in_quotes (encode_lower bs)) ++ codes ",") bytes) c.in_err-push_data.ensures)
-    (within_longer c.args.depth false c.args.size.pointers (behind r d) (add (data_member (words_from r d) ++ codes ",") (shown_json c.args.json.now)))
+    (within_longer c.args.depth false c.args.size.pointers (place_past r d) (add (data_member (words_from r d) ++ codes ",") (shown_json c.args.json.now)))
 
 pub json_struct-returns : goal.json_struct-returns
 json_struct-returns g t c =
     let r : Reading = reading g.A.ReaderArena c.args.start in
     let d : ℕ = c.args.size.data_words in
     let bytes = struct_data r c.args.start.place d c.from-words.result c.bytes_at-data.result.now c.args.start.held (omega (arith, c.requires.inside)) c.from-words.ensures c.bytes_at-data.ensures c.are_bytes.ensures in
-    let at = c.pointer_after-first.ensures (omega (arith, c.from-words.ensures, c.requires.inside, c.args.start.held.1, c.args.start.held.2)) ∙ ap (behind r) c.from-words.ensures in
+    let at = c.pointer_after-first.ensures (omega (arith, c.from-words.ensures, c.requires.inside, c.args.start.held.1, c.args.start.held.2)) ∙ ap (place_past r) c.from-words.ensures in
     λ plain.
     let begun = push_shows c.args.json.now c.push_data.new.self plain (adds_as (ap (λ bs. member (codes "data") (in_quotes (encode_lower bs)) ++ codes ",") bytes) c.in_ok-push_data.ensures) in
-    shows_then (array_within c.args.depth false c.args.size.pointers) (behind r d) _ _ at begun (rw c.from.ensures at c.json_pointers.ensures)
+    shows_then (array_within c.args.depth false c.args.size.pointers) (place_past r d) _ _ at begun (rw c.from.ensures at c.json_pointers.ensures)
 
 -- ---- pointers
 
@@ -143,7 +143,7 @@ json_pointers-returns-in_err-push_comma g t c =
     λ plain.
     let (kept, so_far) = c.loop-i.invariant plain in
     let whole = each_whole c.args.depth c.args.count i c.args.are_elements r (shown_json c.args.json.now) (shown_json c.loop-i.json) (omega (arith, c.if-depth-eq0.false)) c.loop-i-test.true so_far in
-    push_stops c.loop-i.json _ _ _ c.from_residual-in_err-push_comma.ensures.1 c.in_err-push_comma.ensures (each_rest (c.args.depth - 1) i (c.args.count - suc i) (behind r i) (shown_json c.loop-i.json) _ whole)
+    push_stops c.loop-i.json _ _ _ c.from_residual-in_err-push_comma.ensures.1 c.in_err-push_comma.ensures (each_rest (c.args.depth - 1) i (c.args.count - suc i) (place_past r i) (shown_json c.loop-i.json) _ whole)
 
 pub json_pointers-returns-in_err-len : goal.json_pointers-returns-in_err-len
 json_pointers-returns-in_err-len g t c =
@@ -159,7 +159,7 @@ json_pointers-returns-in_err-json_pointer g t c =
     let whole = each_whole c.args.depth c.args.count i c.args.are_elements r (shown_json c.args.json.now) (shown_json c.loop-i.json) (omega (arith, c.if-depth-eq0.false)) c.loop-i-test.true so_far in
     let entered = (c.in_ok-len.ensures (still_plain c.loop-i.json c.push_comma.new.self kept)).1 in
     let one = each_shown (c.args.depth - 1) i r _ c.loop-i.json c.enter.new.self c.push_comma.new.self kept c.in_ok-push_comma.ensures entered at c.in_err-json_pointer.ensures in
-    shows_stops c.from_residual-in_err-json_pointer.result _ _ c.from_residual-in_err-json_pointer.ensures.1 one (each_after (c.args.depth - 1) i (c.args.count - suc i) (behind r i) (shown_json c.loop-i.json) _ whole)
+    shows_stops c.from_residual-in_err-json_pointer.result _ _ c.from_residual-in_err-json_pointer.ensures.1 one (each_after (c.args.depth - 1) i (c.args.count - suc i) (place_past r i) (shown_json c.loop-i.json) _ whole)
 
 pub json_pointers-loop-i-preserved : goal.json_pointers-loop-i-preserved
 json_pointers-loop-i-preserved g t c =
@@ -246,7 +246,7 @@ json_elements-returns-in_err-push_comma g t c =
     λ plain.
     let (kept, so_far) = c.loop-i.invariant plain in
     let whole = elements_whole below d q c.args.count i r (shown_json c.args.json.now) (shown_json c.loop-i.json) c.loop-i-test.true so_far in
-    push_stops c.loop-i.json _ _ _ c.from_residual.ensures.1 c.in_err-push_comma.ensures (elements_begun below (within_longer c.args.depth) d q i (c.args.count - suc i) (behind r (i * (d + q))) (shown_json c.loop-i.json) _ whole)
+    push_stops c.loop-i.json _ _ _ c.from_residual.ensures.1 c.in_err-push_comma.ensures (elements_begun below (within_longer c.args.depth) d q i (c.args.count - suc i) (place_past r (i * (d + q))) (shown_json c.loop-i.json) _ whole)
 
 pub json_elements-returns-in_err-len : goal.json_elements-returns-in_err-len
 json_elements-returns-in_err-len g t c =
@@ -264,7 +264,7 @@ json_elements-returns-in_err-push g t c =
     let whole = elements_whole below d q c.args.count i r (shown_json c.args.json.now) (shown_json c.loop-i.json) c.loop-i-test.true so_far in
     let entered = (c.in_ok-len.ensures (still_plain c.loop-i.json c.push_comma.new.self kept)).1 in
     let opened = element_opened i c.loop-i.json c.enter.new.self c.push_comma.new.self c.push.new.self kept c.in_ok-push_comma.ensures entered c.in_err-push.ensures in
-    shows_stops c.from_residual-in_err-push.result _ _ c.from_residual-in_err-push.ensures.1 opened (elements_opened below (within_longer c.args.depth) d q i (c.args.count - suc i) (behind r (i * (d + q))) (shown_json c.loop-i.json) _ whole)
+    shows_stops c.from_residual-in_err-push.result _ _ c.from_residual-in_err-push.ensures.1 opened (elements_opened below (within_longer c.args.depth) d q i (c.args.count - suc i) (place_past r (i * (d + q))) (shown_json c.loop-i.json) _ whole)
 
 pub json_elements-returns-in_err-json_struct : goal.json_elements-returns-in_err-json_struct
 json_elements-returns-in_err-json_struct g t c =
@@ -274,14 +274,14 @@ json_elements-returns-in_err-json_struct g t c =
     let i : ℕ = c.loop-i.i in
     let below = array_within c.args.depth in
     let room = row_inside c.args.first.place.at c.args.count i c.total.result d q _ c.requires.inside c.loop-i-test.true c.total.ensures in
-    let at = c.pointer_after-element.ensures (omega (arith, room, c.args.first.held.1, c.args.first.held.2)) ∙ ap (λ w. behind r (i * w)) c.total.ensures in
+    let at = c.pointer_after-element.ensures (omega (arith, room, c.args.first.held.1, c.args.first.held.2)) ∙ ap (λ w. place_past r (i * w)) c.total.ensures in
     λ plain.
     let (kept, so_far) = c.loop-i.invariant plain in
     let whole = elements_whole below d q c.args.count i r (shown_json c.args.json.now) (shown_json c.loop-i.json) c.loop-i-test.true so_far in
     let entered = (c.in_ok-len.ensures (still_plain c.loop-i.json c.push_comma.new.self kept)).1 in
     let opened = element_opened i c.loop-i.json c.enter.new.self c.push_comma.new.self c.push.new.self kept c.in_ok-push_comma.ensures entered c.in_ok-push.ensures in
-    let one = shows_then (show_struct below d q) (behind r (i * (d + q))) _ _ at opened c.in_err-json_struct.ensures in
-    shows_stops c.from_residual-in_err-json_struct.result _ _ c.from_residual-in_err-json_struct.ensures.1 one (elements_rest below (within_longer c.args.depth) d q i (c.args.count - suc i) (behind r (i * (d + q))) (shown_json c.loop-i.json) _ whole)
+    let one = shows_then (show_struct below d q) (place_past r (i * (d + q))) _ _ at opened c.in_err-json_struct.ensures in
+    shows_stops c.from_residual-in_err-json_struct.result _ _ c.from_residual-in_err-json_struct.ensures.1 one (elements_rest below (within_longer c.args.depth) d q i (c.args.count - suc i) (place_past r (i * (d + q))) (shown_json c.loop-i.json) _ whole)
 
 pub json_elements-returns-in_err-end_object : goal.json_elements-returns-in_err-end_object
 json_elements-returns-in_err-end_object g t c =
@@ -299,12 +299,12 @@ json_elements-loop-i-preserved g t c =
     let i : ℕ = c.loop-i.i in
     let below = array_within c.args.depth in
     let room = row_inside c.args.first.place.at c.args.count i c.total.result d q _ c.requires.inside c.loop-i-test.true c.total.ensures in
-    let at = c.pointer_after-element.ensures (omega (arith, room, c.args.first.held.1, c.args.first.held.2)) ∙ ap (λ w. behind r (i * w)) c.total.ensures in
+    let at = c.pointer_after-element.ensures (omega (arith, room, c.args.first.held.1, c.args.first.held.2)) ∙ ap (λ w. place_past r (i * w)) c.total.ensures in
     λ plain.
     let (kept, so_far) = c.loop-i.invariant plain in
     let entered = (c.in_ok-len.ensures (still_plain c.loop-i.json c.push_comma.new.self kept)).1 in
     let opened = element_opened i c.loop-i.json c.enter.new.self c.push_comma.new.self c.push.new.self kept c.in_ok-push_comma.ensures entered c.in_ok-push.ensures in
-    let one = shows_then (show_struct below d q) (behind r (i * (d + q))) _ _ at opened c.in_ok-json_struct.ensures in
+    let one = shows_then (show_struct below d q) (place_past r (i * (d + q))) _ _ at opened c.in_ok-json_struct.ensures in
     let ended = (c.in_ok-end_object.ensures one.plain).1 in
     let left = c.leave.ensures (plain_after ended one.plain) in
     let same = left ∙ ended in
@@ -317,7 +317,7 @@ json_elements-json_struct-requires g t c κs within =
     let q : ℕ = c.args.size.pointers in
     let i : ℕ = c.loop-i.i in
     let room = row_inside c.args.first.place.at c.args.count i c.total.result d q _ c.requires.inside c.loop-i-test.true c.total.ensures in
-    let at = c.pointer_after-element.ensures (omega (arith, room, c.args.first.held.1, c.args.first.held.2)) ∙ ap (λ w. behind r (i * w)) c.total.ensures in
+    let at = c.pointer_after-element.ensures (omega (arith, room, c.args.first.held.1, c.args.first.held.2)) ∙ ap (λ w. place_past r (i * w)) c.total.ensures in
     let there = row_inside c.args.first.place.at c.args.count i (d + q) d q _ c.requires.inside c.loop-i-test.true refl in
     (omega (arith, c.decreases), (within, subst (λ (z : Reading). z.at + (d + q) ≤ length (segment_read z)) (sym at) there))
 

@@ -1,5 +1,5 @@
 use Rattle.std.proofs.Common.{◌≡◌, ℕ, ◌+◌, ◌-◌, ◌*◌}
-use Rattle.capnp_objects.specs.Reading.{Reading, behind}
+use Rattle.capnp_objects.specs.Reading.{Reading, place_past}
 use Rattle.capnp_pointers.specs.Pointers.{reading}
 use Rattle.capnp_show.specs.Shown.{IsPlain, add, array_begin, array_within, show_each, show_elements, show_within, shown_json}
 use Rattle.capnp_show.proofs.show.json.+json.Given as goal
@@ -29,7 +29,7 @@ abbrev pub invariant-json_pointers-loop-i : goal.invariant-json_pointers-loop-i
 invariant-json_pointers-loop-i g l =
     let r : Reading = reading g.A.ReaderArena l.first in
     IsPlain l.fn.json → IsPlain l.json
-    × ((k : ℕ) → l.i + k ≡ l.count → show_each (show_within (l.depth - 1)) 0 l.count r (add (array_begin l.are_elements) (shown_json l.fn.json)) ≡ show_each (show_within (l.depth - 1)) l.i k (behind r l.i) (shown_json l.json))
+    × ((k : ℕ) → l.i + k ≡ l.count → show_each (show_within (l.depth - 1)) 0 l.count r (add (array_begin l.are_elements) (shown_json l.fn.json)) ≡ show_each (show_within (l.depth - 1)) l.i k (place_past r l.i) (shown_json l.json))
 
 abbrev pub invariant-json_elements-loop-i : goal.invariant-json_elements-loop-i
 invariant-json_elements-loop-i g l =
@@ -37,4 +37,4 @@ invariant-json_elements-loop-i g l =
     let d : ℕ = l.size.data_words in
     let q : ℕ = l.size.pointers in
     IsPlain l.fn.json → IsPlain l.json
-    × ((k : ℕ) → l.i + k ≡ l.count → show_elements (array_within l.depth) d q 0 l.count r (shown_json l.fn.json) ≡ show_elements (array_within l.depth) d q l.i k (behind r (l.i * (d + q))) (shown_json l.json))
+    × ((k : ℕ) → l.i + k ≡ l.count → show_elements (array_within l.depth) d q 0 l.count r (shown_json l.fn.json) ≡ show_elements (array_within l.depth) d q l.i k (place_past r (l.i * (d + q))) (shown_json l.json))

@@ -8,11 +8,11 @@ returns-in-Ok-false-clause-refused g c =
     let ended = rw c.in-Ok.is at c.run_with-answered.ensures.ended in
     let done = rw c.in-Ok.is at c.run_with-answered.ensures.done in
     let cut = rw no at (c.in-Ok-false.ensures.whole ended.end) in
-    cut_behind _ _ _ _ _ _ c.in-Ok.summary c.behind.result c.new-input.ensures.remaining
-    c.new-input.ensures.whole ended.whole cut done c.behind.ensures.answered c.behind.ensures.byte c.behind.ensures.fault
+    cut_behind _ _ _ _ _ _ c.in-Ok.summary c.stop_after.result c.new-input.ensures.remaining
+    c.new-input.ensures.whole ended.whole cut done c.stop_after.ensures.answered c.stop_after.ensures.byte c.stop_after.ensures.fault
 
 pub returns-in-Ok-false-clause-failed : goal.returns-in-Ok-false-clause-failed
-returns-in-Ok-false-clause-failed g c = λ is. absurd (cut_not_failed c.behind.ensures.fault is)
+returns-in-Ok-false-clause-failed g c = λ is. absurd (cut_not_failed c.stop_after.ensures.fault is)
 
 pub returns-clause-failed : goal.returns-clause-failed
 returns-clause-failed g c = λ is.

@@ -6,7 +6,7 @@ use Rattle.capnp_format.specs.Numbers.{words_for, unpacked}
 use Rattle.capnp_format.specs.Tree.{Tree, Null, Flat}
 use Rattle.capnp_objects.specs.Reading.{source_start}
 use Rattle.capnp_words.specs.Sizes.{size_number}
-use Rattle.capnp_copies.specs.Changes.{Change, change, MakesCopy, StopsCopy}
+use Rattle.capnp_copies.specs.Changes.{CopyCall, copy_call, MakesCopy, StopsCopy}
 use Rattle.capnp_copies.proofs.Cleared.{place_left, refused_clear, ends_clear, copies_or_clears}
 use Rattle.capnp_copies.specs.Forms.{form_of}
 use Rattle.capnp_copies.specs.Growth.{CopiesOrLeaves, MakesAtMost, TakesAtMost}
@@ -50,7 +50,7 @@ returns-in_default g c =
     let held = numbers_held (source_start g.B.ReaderArena value.source).segments value.start value.element_size value.count width value.content.now flat value.held value.content_is value.inside in
     let outcome : FlatOutcome c.copy_flat.result c.args.to.segment c.args.to.at (words_for size value.count) (g.A.BuilderArena.view c.args.arena.now) (g.A.BuilderArena.view c.copy_flat.new.arena) (Flat size (unpacked size value.count (words_of value.content.now))) =
     record { copied = c.copy_flat.ensures.copied; granted = c.copy_flat.ensures.granted; refused = c.copy_flat.ensures.refused; kept = c.copy_flat.ensures.kept; memory = c.copy_flat.ensures.memory; stands = c.copy_flat.ensures.stands; fits = λ room. c.copy_flat.ensures.fits (omega (arith, room, word_count-flat size value.count (words_of value.content.now))) } in
-    let call : Change = change (form_of c.args.canonicalize) (call_at c.args.to.segment c.args.to.at (g.A.BuilderArena.view c.args.arena.now) (g.A.BuilderArena.view c.copy_flat.new.arena)) c.args.lim.now c.args.lim.now in
+    let call : CopyCall = copy_call (form_of c.args.canonicalize) (call_at c.args.to.segment c.args.to.at (g.A.BuilderArena.view c.args.arena.now) (g.A.BuilderArena.view c.copy_flat.new.arena)) c.args.lim.now c.args.lim.now in
     let listed : (P : Original Tree → Type 0) → P (numbers_original value.element_size value.count (first_read g.B.ReaderArena value)) → P (list_read g.B.ReaderArena value) =
     λ P h. numbers_listed value.element_size value.struct_size value.count (first_read g.B.ReaderArena value) P c.in_default.not-Pointer c.in_default.not-InlineComposite h in
     ends_clear c.copy_flat.result (list_apart c.args.value.element_size c.args.value.struct_size c.args.value.count (first_read g.B.ReaderArena c.args.value) (form_of c.args.canonicalize) c.args.lim.now c.args.lim.now)
@@ -68,7 +68,7 @@ pub returns-in-Pointer : goal.returns-in-Pointer
 returns-in-Pointer g c =
     let nl = to_z-of_z w32 c.args.value.nesting_limit (search rules) in
     let left = pointers_listed c.args.value.element_size c.args.value.struct_size c.args.value.count (first_read g.B.ReaderArena c.args.value)
-    (λ o. CopiesOrLeaves c.copy_pointers-copied.result o (change (form_of c.args.canonicalize) (call_at c.args.to.segment c.args.to.at (g.A.BuilderArena.view c.args.arena.now) (g.A.BuilderArena.view c.copy_pointers-copied.new.arena)) c.args.lim.now c.copy_pointers-copied.new.lim))
+    (λ o. CopiesOrLeaves c.copy_pointers-copied.result o (copy_call (form_of c.args.canonicalize) (call_at c.args.to.segment c.args.to.at (g.A.BuilderArena.view c.args.arena.now) (g.A.BuilderArena.view c.copy_pointers-copied.new.arena)) c.args.lim.now c.copy_pointers-copied.new.lim))
     c.in-Pointer.is (rw (nl, c.of-form.ensures) at c.copy_pointers-copied.ensures) in
     copies_or_clears c.copy_pointers-copied.result (list_apart c.args.value.element_size c.args.value.struct_size c.args.value.count (first_read g.B.ReaderArena c.args.value) (form_of c.args.canonicalize) c.args.lim.now c.copy_pointers-copied.new.lim)
     (λ k large. (exceeding c.args.value.element_size c.args.value.struct_size c.args.value.count (first_read g.B.ReaderArena c.args.value) (form_of c.args.canonicalize) k large).0 (c.fits_list_pointer.ensures.0 (search rules)))
@@ -81,7 +81,7 @@ pub returns-in-InlineComposite : goal.returns-in-InlineComposite
 returns-in-InlineComposite g c =
     let nl = to_z-of_z w32 c.args.value.nesting_limit (search rules) in
     let left = structs_listed c.args.value.element_size c.args.value.struct_size c.args.value.count (first_read g.B.ReaderArena c.args.value)
-    (λ o. CopiesOrLeaves c.copy_structs-copied.result o (change (form_of c.args.canonicalize) (call_at c.args.to.segment c.args.to.at (g.A.BuilderArena.view c.args.arena.now) (g.A.BuilderArena.view c.copy_structs-copied.new.arena)) c.args.lim.now c.copy_structs-copied.new.lim))
+    (λ o. CopiesOrLeaves c.copy_structs-copied.result o (copy_call (form_of c.args.canonicalize) (call_at c.args.to.segment c.args.to.at (g.A.BuilderArena.view c.args.arena.now) (g.A.BuilderArena.view c.copy_structs-copied.new.arena)) c.args.lim.now c.copy_structs-copied.new.lim))
     c.in-InlineComposite.is (rw (nl, c.of-form.ensures) at c.copy_structs-copied.ensures) in
     copies_or_clears c.copy_structs-copied.result (list_apart c.args.value.element_size c.args.value.struct_size c.args.value.count (first_read g.B.ReaderArena c.args.value) (form_of c.args.canonicalize) c.args.lim.now c.copy_structs-copied.new.lim)
     (λ k large. (exceeding c.args.value.element_size c.args.value.struct_size c.args.value.count (first_read g.B.ReaderArena c.args.value) (form_of c.args.canonicalize) k large).0 (c.fits_list_pointer.ensures.0 (search rules)))

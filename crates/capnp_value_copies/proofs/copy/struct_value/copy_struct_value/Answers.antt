@@ -10,11 +10,11 @@ use Rattle.capnp_readers.specs.Sizes.{pointers_read}
 use Rattle.capnp_pointers.proofs.Walking.{ok_so, err_so}
 use Rattle.std.proofs.lemmas.Result.{err_from_is_err_and}
 use Rattle.capnp_making.specs.Makes.{call_at}
-use Rattle.capnp_copies.specs.Changes.{change}
+use Rattle.capnp_copies.specs.Changes.{copy_call}
 use Rattle.capnp_copies.specs.Growth.{CopiesOrLeaves}
 use Rattle.capnp_copies.specs.Originals.{sections_original}
 use Rattle.capnp_copies.specs.Forms.{form_of}
-use Rattle.capnp_copies.proofs.Cleared.{place_behind, refused_clear, copies_or_clears}
+use Rattle.capnp_copies.proofs.Cleared.{place_past, refused_clear, copies_or_clears}
 use Rattle.capnp_value_copies.proofs.OneReading.{sections_apart}
 use Rattle.capnp_value_copies.specs.StructValues.{data_of}
 use Rattle.capnp_copies.proofs.KeptForms.{kept_count-le}
@@ -105,7 +105,7 @@ clear_refused-requires g c =
     let start = c.in_ok-start.start in
     let ws : List ℕ = take c.in_ok-kept.kept.data_words (data_of g.B.ReaderArena c.args.value) in
     let over = none_written made put start.segment start.at ws (omega (arith, c.in_ok-start.ensures.start.inside.1, length-take c.in_ok-kept.kept.data_words (data_of g.B.ReaderArena c.args.value))) c.put_section.ensures in
-    place_behind _ _ c.args.to.segment c.args.to.at _ c.copy_children-copied.result (omega (arith, c.requires.place, c.in_ok-start.ensures.made.words c.args.to.segment, over.words c.args.to.segment)) c.copy_children-copied.ensures.refused
+    place_past _ _ c.args.to.segment c.args.to.at _ c.copy_children-copied.result (omega (arith, c.requires.place, c.in_ok-start.ensures.made.words c.args.to.segment, over.words c.args.to.segment)) c.copy_children-copied.ensures.refused
 
 pub returns : goal.returns
 returns g c =
@@ -139,7 +139,7 @@ returns g c =
       near = c.in_ok-start.ensures.near;
       empty = c.in_ok-start.ensures.empty;
     } in
-    let left : CopiesOrLeaves c.copy_children-copied.result (sections_original ws r value.pointer_count) (change (form_of c.args.canonicalize) (call_at c.args.to.segment c.args.to.at old (g.A.BuilderArena.view c.copy_children-copied.new.arena)) c.args.lim.now c.copy_children-copied.new.lim) = record {
+    let left : CopiesOrLeaves c.copy_children-copied.result (sections_original ws r value.pointer_count) (copy_call (form_of c.args.canonicalize) (call_at c.args.to.segment c.args.to.at old (g.A.BuilderArena.view c.copy_children-copied.new.arena)) c.args.lim.now c.copy_children-copied.new.lim) = record {
       copied = ok_so c.copy_children-copied.result c.copy_children-copied.ensures.copied (λ x made. sections_copied begun (rw (c.from.ensures, c.from-pointers.ensures, nl, c.of-form.ensures) at made));
       refused = err_so c.copy_children-copied.result c.copy_children-copied.ensures.refused (λ k stop. sections_stop begun (rw (c.from.ensures, c.from-pointers.ensures, nl, c.of-form.ensures) at stop));
       taken = taken_so c.copy_children-copied.result _ _ _ _ (λ x. sections_behind ws r value.pointer_count size.pointers (size.data_words + size.pointers) _ _ _ _ _ _ _ _ value.inside c.in_ok-kept.ensures.pointers begins less (all_within over last x)) (λ x. sections_stop_behind ws r value.pointer_count size.pointers (size.data_words + size.pointers) _ _ _ _ _ _ _ _ pointers_kept begins less (among_within (omega arith) over last x)) (rw (c.of-form.ensures, nl, c.from-pointers.ensures) at c.copy_children-copied.ensures.taken);

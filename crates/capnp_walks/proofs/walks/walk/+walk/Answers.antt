@@ -3,7 +3,7 @@ use Rattle.std.proofs.lemmas.Int.{to_z-of_z}
 use mir.Syntax.{w32}
 use Rattle.capnp_objects.specs.declared.object.Purpose.TheVariants.{Value}
 use Rattle.capnp_objects.specs.Objects.{IsObject}
-use Rattle.capnp_objects.specs.Reading.{Reading, behind}
+use Rattle.capnp_objects.specs.Reading.{Reading, place_past}
 use Rattle.capnp_pointers.specs.Measure.{fold_pointers}
 use Rattle.capnp_pointers.specs.Pointers.{reading, reading_on}
 use Rattle.capnp_pointers.proofs.Falls.{falls_in}
@@ -20,7 +20,7 @@ walk_pointers-returns-in-Some g t c =
     let nl = to_z-of_z w32 c.args.from.now.nesting_limit (search rules) in
     let r : Reading = reading_on g.A.ReaderArena c.args.from.now c.args.at c.args.from.now.nesting_limit in
     c.loop-i.invariant (suc (c.args.pointers - c.loop-i.i - 1)) (omega (arith, c.loop-i-test.true))
-    ∙ pointer_stops (walk_within into_array r.levels c.args.parent) (behind r c.loop-i.i) (c.args.pointers - c.loop-i.i - 1) (c.loop-i.objects, c.loop-i.count) _ _ _ _ (rw nl at c.in-Some.ensures)
+    ∙ pointer_stops (walk_within into_array r.levels c.args.parent) (place_past r c.loop-i.i) (c.args.pointers - c.loop-i.i - 1) (c.loop-i.objects, c.loop-i.count) _ _ _ _ (rw nl at c.in-Some.ensures)
 
 pub walk_pointers-loop-i-preserved : goal.walk_pointers-loop-i-preserved
 walk_pointers-loop-i-preserved g t c =
@@ -48,7 +48,7 @@ walk_elements-returns-in-Some g t c =
     let i : ℕ = c.loop-i.i in
     let found = ap (λ p. fold_pointers (unless_stopped f) q (record r { at = p }) ((c.loop-i.objects, c.loop-i.count), None) c.loop-i.lim) (omega arith) ∙ rw there at c.in-Some.ensures in
     c.loop-i.invariant (suc (c.args.elements - i - 1)) (omega (arith, c.loop-i-test.true))
-    ∙ row_stops f (behind r (i * (d + q))) d q (c.args.elements - i - 1) (c.loop-i.objects, c.loop-i.count) _ _ _ _ found
+    ∙ row_stops f (place_past r (i * (d + q))) d q (c.args.elements - i - 1) (c.loop-i.objects, c.loop-i.count) _ _ _ _ found
 
 pub walk_elements-loop-i-preserved : goal.walk_elements-loop-i-preserved
 walk_elements-loop-i-preserved g t c =

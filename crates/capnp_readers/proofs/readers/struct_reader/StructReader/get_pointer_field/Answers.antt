@@ -1,6 +1,6 @@
 use Rattle.std.proofs.Common.{refl, w32, arith, rules}
 use Rattle.std.proofs.lemmas.Int.{to_z-of_z}
-use Rattle.capnp_objects.specs.Reading.{behind}
+use Rattle.capnp_objects.specs.Reading.{place_past}
 use Rattle.capnp_readers.specs.Readers.{read_by}
 use Rattle.capnp_readers.specs.Sizes.{pointers_read}
 use Rattle.capnp_readers.specs.Values.{child_cost}
@@ -26,7 +26,7 @@ pub returns-clause-means : goal.returns-clause-means
 returns-clause-means g c =
     let within = c.if-index-from.false in
     let level = to_z-of_z w32 c.args.self.now.nesting_limit (search rules) in
-    λ t shows. rw level (child_means g.A.ReaderArena c.args.self.now c.args.index (behind (pointers_read g.A.ReaderArena c.args.self.now) c.args.index) t (record { there = λ l. refl; beyond = λ l. absurd (omega (arith, l, within, c.from.ensures)) }) shows)
+    λ t shows. rw level (child_means g.A.ReaderArena c.args.self.now c.args.index (place_past (pointers_read g.A.ReaderArena c.args.self.now) c.args.index) t (record { there = λ l. refl; beyond = λ l. absurd (omega (arith, l, within, c.from.ensures)) }) shows)
 
 pub returns-clause-value : goal.returns-clause-value
 returns-clause-value g c = λ t shows. record { cost = child_cost g.A.ReaderArena shows c.args.index; means = returns-clause-means g c t shows }

@@ -8,7 +8,7 @@ use Rattle.capnp_making.proofs.Memory.{words_in}
 use Rattle.capnp_making.proofs.Shapes.{shape_some, shape_near}
 use Rattle.capnp_widening.proofs.Settled.{settled_near, settled_far}
 use Rattle.capnp_widening.proofs.Statements.{IsSettled, settles_room}
-use Rattle.capnp_widening.proofs.widening.settle.Goals as goal
+use Rattle.capnp_widening.proofs.widening.point_to_object.Goals as goal
 
 -- In the segment of the pointer.
 pub returns-then-room-eq0-clause-settled : goal.returns-then-room-eq0-clause-settled

@@ -3,10 +3,10 @@ use Rattle.capnp_arena_traits.specs.View.{View}
 use Rattle.capnp_format.specs.Forest.{target}
 use Rattle.capnp_builders.specs.Defaults.{blob_default}
 use Rattle.capnp_builders.proofs.DefaultUses.{then_does}
-use Rattle.capnp_builders.proofs.FoundBytes.{GivesFoundBytes, text_inside, found_given}
-use Rattle.capnp_contents.specs.Existing.{text_in}
+use Rattle.capnp_builders.proofs.FoundBytes.{GivesFoundBytes, data_inside, found_given}
+use Rattle.capnp_contents.specs.Existing.{data_in}
 use Rattle.capnp_making.proofs.Zeros.{there}
-use Rattle.capnp_builders.proofs.builders.PointerBuilder.find_text.Goals as goal
+use Rattle.capnp_builders.proofs.builders.PointerBuilder.get_data_place.Goals as goal
 
 -- The value that is there after the default is put is inside the message.
 pub returns-clause-found : goal.returns-clause-found
@@ -18,10 +18,10 @@ returns-clause-found g c = record {
         let s = c.args.self.now.segment in
         let p = c.args.self.now.at in
         let inside : s < length m.words = there m.words s p (omega (arith, c.requires.there, c.in_ok-put_blob_default.ensures.longer.words s)) in
-        then_does (blob_default c.args.default t) s p a m m t c.in_ok-put_blob_default.field-0 c.found_bytes.result (GivesFoundBytes text_in c.found_bytes.result) stored (c.in_ok-put_blob_default.ensures.put t stored)
+        then_does (blob_default c.args.default t) s p a m m t c.in_ok-put_blob_default.field-0 c.found_bytes.result (GivesFoundBytes data_in c.found_bytes.result) stored (c.in_ok-put_blob_default.ensures.put t stored)
         (λ u stands. (
-          found_given m.words s (text_in (target m.words s p) u) c.get_text-found.result c.found_bytes.result (c.get_text-found.ensures.found u stands)
-              (λ b e. text_inside m.words s p u b inside stands e) c.found_bytes.ensures.given,
+          found_given m.words s (data_in (target m.words s p) u) c.get_data-found.result c.found_bytes.result (c.get_data-found.ensures.found u stands)
+              (λ b e. data_inside m.words s p u b inside stands e) c.found_bytes.ensures.given,
           refl,
         )));
     memory = search rules;

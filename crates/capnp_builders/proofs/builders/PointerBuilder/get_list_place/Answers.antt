@@ -3,7 +3,7 @@ use Rattle.capnp_arena_traits.specs.View.{View}
 use Rattle.capnp_builders.specs.Defaults.{object_default}
 use Rattle.capnp_builders.proofs.FoundLists.{GivesFoundList}
 use Rattle.capnp_builders.proofs.DefaultUses.{then_does}
-use Rattle.capnp_builders.proofs.builders.PointerBuilder.find_list.Goals as goal
+use Rattle.capnp_builders.proofs.builders.PointerBuilder.get_list_place.Goals as goal
 
 -- The value that is there after the default is put.
 pub returns-clause-found : goal.returns-clause-found

@@ -5,7 +5,7 @@ use Rattle.capnp_arena_traits.specs.View.{View}
 use Rattle.capnp_format.specs.Segments.{segment, word_at}
 use Rattle.capnp_format.specs.Tree.{Null}
 use Rattle.capnp_format.specs.Forest.{target}
-use Rattle.capnp_making.specs.Memory.{TakesWords, StandsBehind, start_of}
+use Rattle.capnp_making.specs.Memory.{TakesWords, ComesAfter, start_of}
 use Rattle.capnp_making.proofs.FillingMade.{null_stored}
 use Rattle.capnp_making.proofs.Memory.{words_in}
 use Rattle.capnp_making.proofs.Zeros.{there}
@@ -17,7 +17,7 @@ use Rattle.capnp_contents.proofs.Growing.{grows_again}
 use Rattle.capnp_builders.proofs.DefaultRooms.{null_left, then_fits, refused_default}
 use Rattle.capnp_builders.proofs.DefaultUses.{then_does}
 use Rattle.capnp_builders.proofs.Openings.{struct_opens, struct_refused, still_there}
-use Rattle.capnp_builders.proofs.builders.PointerBuilder.find_struct.Goals as goal
+use Rattle.capnp_builders.proofs.builders.PointerBuilder.get_struct_place.Goals as goal
 use Rattle.capnp_making.specs.Makes.{call_at}
 
 -- The value that is there after the default is put is opened.
@@ -110,7 +110,7 @@ returns-clause-behind g c = λ null none.
     let s = c.args.self.now.segment in
     let p = c.args.self.now.at in
     let same : m ≡ a = null_left (object_default c.args.default Null) s p a m (Ok c.in_ok-put_default.field-0) none (c.in_ok-put_default.ensures.put.put Null (null_stored a.words s p c.requires.there null)) in
-    subst (λ (v : View). StandsBehind v s (c.args.size.data_words + c.args.size.pointers) (start_of (target b.words s p))) same (c.in_ok-opened.ensures.behind (subst (λ (v : View). word_at v.words s p ≡ 0) (sym same) null)))
+    subst (λ (v : View). ComesAfter v s (c.args.size.data_words + c.args.size.pointers) (start_of (target b.words s p))) same (c.in_ok-opened.ensures.behind (subst (λ (v : View). word_at v.words s p ≡ 0) (sym same) null)))
 
 pub returns-in_err-opened-clause-refused : goal.returns-in_err-opened-clause-refused
 returns-in_err-opened-clause-refused g c = λ null none.

@@ -11,7 +11,7 @@ use Rattle.capnp_contents.proofs.Growing.{grows_again}
 use Rattle.capnp_builders.proofs.DefaultRooms.{then_fits, refused_default}
 use Rattle.capnp_builders.proofs.DefaultUses.{then_does}
 use Rattle.capnp_builders.proofs.Openings.{list_opens, list_refused, still_there}
-use Rattle.capnp_builders.proofs.builders.PointerBuilder.find_struct_list.Goals as goal
+use Rattle.capnp_builders.proofs.builders.PointerBuilder.get_struct_list_place.Goals as goal
 
 -- The value that is there after the default is put is opened.
 pub returns-clause-found : goal.returns-clause-found

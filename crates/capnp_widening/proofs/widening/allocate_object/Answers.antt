@@ -7,14 +7,14 @@ use Rattle.std.proofs.Common.{◌∙◌}
 use Rattle.std.proofs.lemmas.List.{length-replicate}
 use Rattle.capnp_arena_traits.specs.View.{View}
 use Rattle.capnp_arena_traits.specs.Written.{extended}
-use Rattle.capnp_making.specs.Memory.{Lengthens, StandsBehind, TakesWords}
+use Rattle.capnp_making.specs.Memory.{Lengthens, ComesAfter, TakesWords}
 use Rattle.capnp_making.proofs.Taken.{anywhere_lengthens}
 use Rattle.capnp_widening.proofs.Refusing.{anywhere_refused}
 use Rattle.capnp_widening.proofs.PadRooms.{pads_left}
 use Rattle.capnp_widening.proofs.Rooms.{all_words, words_extended, words_taken, room_elsewhere, room_still, less_room, not_true, not_within, none_refused}
 use Rattle.capnp_making.proofs.Memory.{words_in}
 use Rattle.capnp_widening.proofs.TakingWords.{took_near, took_far, stands_near}
-use Rattle.capnp_widening.proofs.widening.take.Goals as goal
+use Rattle.capnp_widening.proofs.widening.allocate_object.Goals as goal
 
 -- One more word is allocated, for a landing pad.
 pub returns-in_ok-segment-in-None-clause-taken : goal.returns-in_ok-segment-in-None-clause-taken
@@ -59,7 +59,7 @@ pub returns-in-Some-clause-room : goal.returns-in-Some-clause-room
 returns-in-Some-clause-room g c = record {
   words = (took_near (g.A.BuilderArena.view c.args.arena.now) (g.A.BuilderArena.view c.allocate.new.self) c.args.id c.args.amount c.in-Some.at c.requires.there (c.in-Some.ensures.exactly.0 refl) c.in-Some.ensures.taken);
   behind = (let h = stands_near (g.A.BuilderArena.view c.args.arena.now) (g.A.BuilderArena.view c.allocate.new.self) c.args.id c.args.amount c.in-Some.at (c.in-Some.ensures.exactly.0 refl) c.in-Some.ensures.taken in
-      subst (λ p. StandsBehind (g.A.BuilderArena.view c.args.arena.now) c.args.id c.args.amount (record { segment = c.args.id; at = p })) (let e : c.in-Some.at ≡ c.in-Some.at + 0 = omega arith in e) h);
+      subst (λ p. ComesAfter (g.A.BuilderArena.view c.args.arena.now) c.args.id c.args.amount (record { segment = c.args.id; at = p })) (let e : c.in-Some.at ≡ c.in-Some.at + 0 = omega arith in e) h);
   granted = search rules;
   memory = search rules;
   full = search rules;
