@@ -40,7 +40,7 @@ ORDER = (
     'capnp_arena_traits/Limits', 'capnp_arena_traits/Allocations', 'capnp_format/Tree', 'capnp_format/Value', 'capnp_format/Bytes', 'capnp_format/Means',
     'capnp_format/Segments', 'capnp_format/Word', 'capnp_format/Numbers', 'capnp_format/Canonical',
     'capnp_format/Forest', 'capnp_edits/Paths', 'capnp_format/Path', 'capnp_edits/Tasks', 'capnp_edits/Edits', 'callers/Truly', 'capnp_edits/Sources',
-    'capnp_making/Made', 'capnp_format/Fields', 'capnp_making/Fields', 'capnp_contents/Existing', 'capnp_widening/Opening', 'capnp_widening/Widened', 'capnp_builders/Defaults',
+    'capnp_making/Made', 'capnp_format/Fields', 'capnp_making/Fields', 'capnp_contents/Existing', 'capnp_contents/Opening', 'capnp_contents/Widened', 'capnp_builders/Defaults',
     'capnp_builders/Content', 'capnp_copies/Forms',
     'capnp_objects/Reading', 'capnp_objects/Outcomes', 'capnp_objects/Spending', 'capnp_objects/Wanted', 'capnp_objects/Faults', 'capnp_objects/Demands',
     'capnp_objects/Refusals', 'capnp_objects/Expected', 'capnp_objects/Follow', 'capnp_words/Sizes', 'capnp_arena_traits/View', 'capnp_arena_traits/Checks',

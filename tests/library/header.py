@@ -13,7 +13,7 @@ import sys
 TOP = pathlib.Path(__file__).resolve().parents[2]
 HEADER = (TOP / 'bindings/c/capnp_canonical.h').read_text(encoding='utf-8')
 NUMBERS = (TOP / 'crates/capnp_canonical/specs/Numbers.antt').read_text(encoding='utf-8')
-REASONS = (TOP / 'crates/capnp_pointers/specs/Faults.antt').read_text(encoding='utf-8')
+REASONS = (TOP / 'crates/capnp_objects/specs/CanonicalFaults.antt').read_text(encoding='utf-8')
 EXPORTS = ''.join(it.read_text(encoding='utf-8') for it in sorted((TOP / 'crates/capnp_canonical/src').glob('*.rt')))
 PREFIX = 'CAPNP_CANONICAL_'
 # The other files that have the header's version.

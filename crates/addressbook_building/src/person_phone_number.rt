@@ -6,7 +6,7 @@ ghost use Rattle.capnp_format.specs.Tree.{Flat, Null, Struct, Tree, Trees};
 ghost use Rattle.capnp_making.specs.Made.{nulls, words_of_zero, zero_struct};
 ghost use Rattle.capnp_making.specs.Makes.{MakesObject, call_at};
 ghost use Rattle.capnp_making.specs.Stored.{IsStored};
-ghost use Rattle.capnp_widening.specs.Anew.{OnlyWrites};
+ghost use Rattle.capnp_contents.specs.Anew.{OnlyWrites};
 ghost use Rattle.capnp_builders.specs.Held.{HasStruct, Holder, MakesChild, ReplacesField, SetsField, call_in, pointer_to};
 ghost use Rattle.capnp_builders.specs.Places.{element_place, field};
 ghost use Rattle.typed_building.specs.There.{HasStructPlace, HasStructsPlace, call_on};

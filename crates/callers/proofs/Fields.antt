@@ -13,7 +13,7 @@ use Rattle.capnp_making.specs.Stored.{Puts}
 use Rattle.capnp_making.proofs.Placed.{count-nulls}
 use Rattle.capnp_making.proofs.Paths.{node_of_parts}
 use Rattle.capnp_making.proofs.Replaced.{forest_stored, forest_updated, stored_within}
-use Rattle.capnp_widening.specs.Opening.{existing_struct}
+use Rattle.capnp_contents.specs.Opening.{existing_struct}
 use Rattle.capnp_making.specs.Makes.{CallAt}
 use Rattle.capnp_builders.specs.Places.{IsStructOf, struct_place}
 

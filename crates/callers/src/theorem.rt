@@ -22,8 +22,8 @@ ghost use Rattle.capnp_objects.specs.Metered.{◌>>>◌, answer};
 ghost use Rattle.capnp_objects.specs.Source.{levels};
 ghost use Rattle.capnp_objects.specs.Spending.{Paid, pointers_in};
 ghost use Rattle.capnp_objects.specs.Wanted.{canonical};
-ghost use Rattle.capnp_pointers.specs.Testing.{head_found, head_moved, test_value};
-ghost use Rattle.capnp_pointers.specs.Pointers.{reading};
+ghost use Rattle.capnp_objects.specs.Testing.{head_found, head_moved, test_value};
+ghost use Rattle.capnp_objects.specs.Pointers.{reading};
 ghost use Rattle.capnp_edits.specs.Edits.{IsApplied, EditsTake};
 ghost use Rattle.capnp_edits.specs.Steps.{AreSteps};
 ghost use Rattle.capnp_messages.specs.CanonicalMessages.{IsCanonicalMessage, IsCanonicalOf};
@@ -47,7 +47,7 @@ use capnp_messages::messages::{
     CanonicalError, Form, canonical_bytes, canonicalize, canonicalize_pointer, check, read_root,
     write_copy,
 };
-use capnp_pointers::pointers::Pointer;
+use capnp_objects::pointers::Pointer;
 use capnp_readers::readers::{PointerPlace, PointerReader, StructPlace};
 use capnp_words::error::ErrorKind;
 use capnp_words::read_limiter::ReadLimiter;

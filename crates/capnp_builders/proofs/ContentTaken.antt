@@ -26,7 +26,7 @@ use Rattle.capnp_making.proofs.Replace.{put_tree-count}
 use Rattle.capnp_making.proofs.Replaced.{replaced_again}
 use Rattle.capnp_readers.specs.declared.readers.struct_reader.StructPlace.{StructPlace}
 use Rattle.capnp_builders.specs.Content.{content_byte, with_fields, fields_from, with_content, AreCleared, HoldContent, up_to, TakesBytes}
-use Rattle.capnp_widening.specs.Opening.{existing_struct}
+use Rattle.capnp_contents.specs.Opening.{existing_struct}
 use Rattle.capnp_builders.specs.Places.{struct_place}
 use Rattle.capnp_builders.proofs.StructPlaces.{StructStartsAt, struct_starts}
 use Rattle.capnp_making.specs.Memory.{start_of}

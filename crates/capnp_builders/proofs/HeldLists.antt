@@ -21,7 +21,7 @@ use Rattle.capnp_readers.specs.declared.readers.struct_reader.StructPlace.{Struc
 use Rattle.capnp_builders.specs.Held.{HasList, HasStruct, Holder, struct_held}
 use Rattle.capnp_builders.proofs.HeldStructs.{child_set}
 use Rattle.capnp_builders.proofs.StructPlaces.{struct_starts}
-use Rattle.capnp_widening.proofs.Listed.{flat_width}
+use Rattle.capnp_contents.proofs.Listed.{flat_width}
 
 step_of : (size : ElementSize) (sizes : StructSize) → size_number size ≤ 5 → step_bits size sizes ≡ element_bits (size_number size)
 step_of Void sizes l = refl

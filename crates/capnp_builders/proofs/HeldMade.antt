@@ -26,8 +26,8 @@ use Rattle.capnp_making.proofs.Zeros.{lengths_kept}
 use Rattle.capnp_readers.specs.Sections.{IsInside}
 use Rattle.capnp_readers.specs.declared.readers.list_reader.ListPlace.{ListPlace}
 use Rattle.capnp_readers.specs.declared.readers.struct_reader.StructPlace.{StructPlace}
-use Rattle.capnp_widening.specs.Anew.{OnlyWrites}
-use Rattle.capnp_widening.specs.Opening.{existing_struct}
+use Rattle.capnp_contents.specs.Anew.{OnlyWrites}
+use Rattle.capnp_contents.specs.Opening.{existing_struct}
 use Rattle.capnp_builders.specs.Held.{HasList, HasStruct, Holder, IsPlainList, MakesChild, ReplacesField, SetsField, call_in, element_of, pointer_to}
 use Rattle.capnp_builders.specs.Places.{Field, IsListOf, IsStructOf, WritesField, element_place, list_place, struct_place}
 use Rattle.capnp_builders.proofs.ElementContent.{put_struct-same}

@@ -1,3 +1,8 @@
+pub mod EachCopied
+pub mod ListValues
+pub mod OneReading
+pub mod DataSections
+pub mod BudgetRoom
 pub mod BytesAsFields
 pub mod ElementFields
 pub mod StructPlaces

@@ -13,7 +13,7 @@ use Rattle.capnp_readers.specs.Readers.{IsStructPlace, IsListPlace}
 use Rattle.capnp_readers.specs.Sections.{IsInside, data_bits}
 use Rattle.capnp_readers.specs.declared.readers.list_reader.ListPlace.{ListPlace}
 use Rattle.capnp_readers.specs.declared.readers.struct_reader.StructPlace.{StructPlace}
-use Rattle.capnp_widening.specs.Rooms.{UsesMemory}
+use Rattle.capnp_contents.specs.Rooms.{UsesMemory}
 use Rattle.capnp_builders.specs.declared.builders.PointerBuilder.{PointerBuilder}
 use Rattle.capnp_builders.specs.declared.builders.struct_builder.StructBuilder.{StructBuilder}
 use Rattle.capnp_builders.specs.declared.builders.list_builder.ListBuilder.{ListBuilder}

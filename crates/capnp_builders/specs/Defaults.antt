@@ -24,7 +24,7 @@ use Rattle.capnp_copies.specs.Growth.{MakesAtMost}
 use Rattle.capnp_copies.specs.Originals.{value_original}
 use Rattle.capnp_copies.specs.Rooms.{CanBeCopied}
 use Rattle.capnp_making.specs.Makes.{CallAt, call_at}
-use Rattle.capnp_widening.specs.Rooms.{UsesMemory}
+use Rattle.capnp_contents.specs.Rooms.{UsesMemory}
 use Rattle.capnp_builders.specs.Building.{Building, IsThere}
 
 -- The first word of a default, whose bytes are one segment. Reading it isn't charged, and may enter

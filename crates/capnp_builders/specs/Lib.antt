@@ -1,3 +1,5 @@
+pub mod StructValues
+pub mod ListValues
 pub mod Building
 pub mod Elements
 pub mod Found

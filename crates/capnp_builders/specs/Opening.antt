@@ -14,9 +14,9 @@ use Rattle.capnp_readers.specs.Readers.{IsListPlace, IsStructPlace}
 use Rattle.capnp_readers.specs.declared.readers.list_reader.ListPlace.{ListPlace}
 use Rattle.capnp_readers.specs.declared.readers.struct_reader.StructPlace.{StructPlace}
 use Rattle.capnp_making.specs.Makes.{CallAt}
-use Rattle.capnp_widening.specs.Opening.{Opens, OpensStruct}
-use Rattle.capnp_widening.specs.Rooms.{WiderListFits, OpeningFits}
-use Rattle.capnp_widening.specs.Widened.{list_widened}
+use Rattle.capnp_contents.specs.Opening.{Opens, OpensStruct}
+use Rattle.capnp_contents.specs.Rooms.{WiderListFits, OpeningFits}
+use Rattle.capnp_contents.specs.Widened.{list_widened}
 use Rattle.capnp_builders.specs.Defaults.{object_default, FitsWithDefault, WithDefault}
 use Rattle.capnp_builders.specs.Found.{list_given, void_list}
 use Rattle.capnp_builders.specs.Places.{struct_place}

@@ -1,6 +1,9 @@
 //! Laws of structs of a message being built: of their children, and of the calls that copy another
 //! struct's content into them. Each function does nothing: its contract is the law, proved for all
 //! messages.
+
+pub mod copies;
+
 ghost use Rattle.std.specs.Prelude.{◌≡◌, ℕ, ◌+◌, ◌*◌, ◌<◌, ◌≤◌, List, length};
 ghost use Rattle.capnp_format.specs.Forest.{target};
 ghost use Rattle.capnp_format.specs.Segments.{Segments};
@@ -10,7 +13,7 @@ ghost use Rattle.capnp_making.specs.Memory.{start_of};
 ghost use Rattle.capnp_format.specs.Path.{put_struct, put_tree, struct_at, tree_at};
 ghost use Rattle.capnp_making.specs.Stored.{IsStored, IsReplaced};
 ghost use Rattle.capnp_readers.specs.declared.readers.struct_reader.StructPlace.{StructPlace};
-ghost use Rattle.capnp_widening.specs.Opening.{existing_struct};
+ghost use Rattle.capnp_contents.specs.Opening.{existing_struct};
 ghost use Rattle.capnp_builders.specs.Content.{TakesBytes, HoldContent, up_to};
 ghost use Rattle.capnp_builders.specs.Held.{HasStruct, Holder};
 ghost use Rattle.capnp_builders.specs.Places.{struct_place};

@@ -2,5 +2,7 @@
 #![tactic(auto)]
 
 pub mod builders;
+pub mod copy;
 pub mod fields;
 pub mod laws;
+pub(crate) mod section;

@@ -46,21 +46,21 @@ use Rattle.capnp_framing.specs.declared.framing.frame_error.FrameError.TheVarian
 use Rattle.capnp_framing.specs.declared.framing.frame_error.FrameError.TheVariants.{ReadFailed}
 use Rattle.capnp_framing.specs.declared.framing.frame_error.FrameError.TheVariants.{WriteFailed}
 use Rattle.capnp_framing.specs.declared.framing.frame_error.FrameError.TheVariants.{AllocationFailed as NoMemory}
-use Rattle.capnp_pointers.specs.declared.pointers.canonical_fault.CanonicalFaultReason.{CanonicalFaultReason}
-use Rattle.capnp_pointers.specs.declared.pointers.canonical_fault.CanonicalFaultReason.TheVariants.{SegmentCount}
-use Rattle.capnp_pointers.specs.declared.pointers.canonical_fault.CanonicalFaultReason.TheVariants.{NoPointer}
-use Rattle.capnp_pointers.specs.declared.pointers.canonical_fault.CanonicalFaultReason.TheVariants.{FarPointer}
-use Rattle.capnp_pointers.specs.declared.pointers.canonical_fault.CanonicalFaultReason.TheVariants.{Capability}
-use Rattle.capnp_pointers.specs.declared.pointers.canonical_fault.CanonicalFaultReason.TheVariants.{UnknownPointer}
-use Rattle.capnp_pointers.specs.declared.pointers.canonical_fault.CanonicalFaultReason.TheVariants.{EmptyStructPlace}
-use Rattle.capnp_pointers.specs.declared.pointers.canonical_fault.CanonicalFaultReason.TheVariants.{ObjectPlace}
-use Rattle.capnp_pointers.specs.declared.pointers.canonical_fault.CanonicalFaultReason.TheVariants.{Padding}
-use Rattle.capnp_pointers.specs.declared.pointers.canonical_fault.CanonicalFaultReason.TheVariants.{DataSection}
-use Rattle.capnp_pointers.specs.declared.pointers.canonical_fault.CanonicalFaultReason.TheVariants.{PointerSection}
-use Rattle.capnp_pointers.specs.declared.pointers.canonical_fault.CanonicalFaultReason.TheVariants.{ElementWords}
-use Rattle.capnp_pointers.specs.declared.pointers.canonical_fault.CanonicalFaultReason.TheVariants.{ElementData}
-use Rattle.capnp_pointers.specs.declared.pointers.canonical_fault.CanonicalFaultReason.TheVariants.{ElementPointers}
-use Rattle.capnp_pointers.specs.declared.pointers.canonical_fault.CanonicalFaultReason.TheVariants.{WordsBehind}
+use Rattle.capnp_objects.specs.declared.pointers.canonical_fault.CanonicalFaultReason.{CanonicalFaultReason}
+use Rattle.capnp_objects.specs.declared.pointers.canonical_fault.CanonicalFaultReason.TheVariants.{SegmentCount}
+use Rattle.capnp_objects.specs.declared.pointers.canonical_fault.CanonicalFaultReason.TheVariants.{NoPointer}
+use Rattle.capnp_objects.specs.declared.pointers.canonical_fault.CanonicalFaultReason.TheVariants.{FarPointer}
+use Rattle.capnp_objects.specs.declared.pointers.canonical_fault.CanonicalFaultReason.TheVariants.{Capability}
+use Rattle.capnp_objects.specs.declared.pointers.canonical_fault.CanonicalFaultReason.TheVariants.{UnknownPointer}
+use Rattle.capnp_objects.specs.declared.pointers.canonical_fault.CanonicalFaultReason.TheVariants.{EmptyStructPlace}
+use Rattle.capnp_objects.specs.declared.pointers.canonical_fault.CanonicalFaultReason.TheVariants.{ObjectPlace}
+use Rattle.capnp_objects.specs.declared.pointers.canonical_fault.CanonicalFaultReason.TheVariants.{Padding}
+use Rattle.capnp_objects.specs.declared.pointers.canonical_fault.CanonicalFaultReason.TheVariants.{DataSection}
+use Rattle.capnp_objects.specs.declared.pointers.canonical_fault.CanonicalFaultReason.TheVariants.{PointerSection}
+use Rattle.capnp_objects.specs.declared.pointers.canonical_fault.CanonicalFaultReason.TheVariants.{ElementWords}
+use Rattle.capnp_objects.specs.declared.pointers.canonical_fault.CanonicalFaultReason.TheVariants.{ElementData}
+use Rattle.capnp_objects.specs.declared.pointers.canonical_fault.CanonicalFaultReason.TheVariants.{ElementPointers}
+use Rattle.capnp_objects.specs.declared.pointers.canonical_fault.CanonicalFaultReason.TheVariants.{WordsBehind}
 use Rattle.capnp_canonical.specs.declared.refusal.Refusal.{Refusal}
 use Rattle.capnp_canonical.specs.declared.refusal.Refusal.TheVariants.{NoRoom, NoMessage}
 use Rattle.capnp_canonical.specs.declared.refusal.Refusal.TheVariants.{SegmentIsNotWholeWords}

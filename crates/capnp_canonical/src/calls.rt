@@ -19,7 +19,7 @@ use capnp_messages::messages;
 use capnp_messages::messages::{
     Form, LentMemory, canonical_bytes, canonical_segment, canonicalize, canonicalize_into,
 };
-use capnp_pointers::pointers::{CanonicalFault, MessageSize};
+use capnp_objects::pointers::{CanonicalFault, MessageSize};
 use std::alloc::Global;
 
 /// The limits for reading a message.

@@ -20,7 +20,7 @@ use capnp_messages::messages::{
     LentMemory, canonical_bytes, canonicalize_part, canonicalize_part_into, digest_of_part,
     size_of_part,
 };
-use capnp_pointers::pointers::MessageSize;
+use capnp_objects::pointers::MessageSize;
 use std::alloc::Global;
 
 /// The size in bytes of the stack memory into which a small part is copied.

@@ -12,7 +12,7 @@ use crate::digest::digest;
 use crate::refusal::Refusal;
 use capnp_arena::arena::{ReaderSegments, SegmentArray};
 use capnp_messages::messages::Form;
-use capnp_pointers::pointers::{CanonicalFault, MessageSize};
+use capnp_objects::pointers::{CanonicalFault, MessageSize};
 use capnp_words::error::ErrorKind;
 use std::alloc::Global;
 

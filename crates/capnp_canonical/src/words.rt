@@ -15,7 +15,7 @@ use crate::refusal::Refusal;
 use crate::segments::without_null;
 use capnp_arena::arena::OutputSegments;
 use capnp_messages::messages::Form;
-use capnp_pointers::pointers::{CanonicalFault, MessageSize};
+use capnp_objects::pointers::{CanonicalFault, MessageSize};
 use capnp_words::error::ErrorKind;
 use std::alloc::Global;
 

@@ -1,3 +1,12 @@
 pub mod Existing
 pub mod InPlace
 pub mod Initialized
+pub mod Anew
+pub mod Housed
+pub mod Laws
+pub mod Moved
+pub mod Opening
+pub mod Pointed
+pub mod Rooms
+pub mod RowsRemade
+pub mod Widened

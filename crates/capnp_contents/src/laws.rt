@@ -1,6 +1,8 @@
 //! Laws of the calls that put a value at a place of a message, and of those that write or read a
 //! number or a bit. Each function does nothing: its contract is the law, proved for all messages.
 
+pub mod widening;
+
 ghost use Rattle.std.specs.Prelude.{◌≡◌, ◌⊎◌, ℕ, ◌+◌, ◌*◌, ◌/◌, ◌%◌, ◌^◌, ◌<◌, ◌≤◌, List, length, slice_set};
 ghost use Rattle.capnp_format.specs.Forest.{IsForest, times, target};
 ghost use Rattle.capnp_format.specs.Numbers.{element_bits};

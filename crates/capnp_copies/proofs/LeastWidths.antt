@@ -5,7 +5,7 @@ use Rattle.capnp_words.specs.declared.wire_pointer.StructSize.{StructSize}
 use Rattle.capnp_objects.specs.Outcomes.{MeansThere}
 use Rattle.capnp_objects.specs.Reading.{Reading, place_past, segment_read, word_of, words_from}
 use Rattle.capnp_format.specs.Canonical.{used_from, used_words, is_null, used_trees, data_width, pointer_width}
-use Rattle.capnp_pointers.proofs.Used.{words_at-more}
+use Rattle.capnp_objects.proofs.Used.{words_at-more}
 use Rattle.capnp_copies.specs.Widths.{most_used}
 use Rattle.capnp_copies.proofs.Scanning.{data_used, pointers_used}
 use Rattle.capnp_objects.proofs.Shorthands.{MeanThere, ElementsMean}

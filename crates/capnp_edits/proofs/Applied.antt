@@ -29,7 +29,7 @@ use Rattle.capnp_contents.proofs.FieldsWritten.{data_field_written, element_has_
 use Rattle.capnp_making.proofs.Placed.{count-nulls}
 use Rattle.capnp_making.proofs.PlacedStructs.{count-zero_elements}
 use Rattle.capnp_making.proofs.Replaced.{forest_stored, forest_updated, stored_within}
-use Rattle.capnp_pointers.specs.declared.pointers.PointerPlace.{PointerPlace}
+use Rattle.capnp_objects.specs.declared.pointers.PointerPlace.{PointerPlace}
 use Rattle.capnp_words.specs.Names.{is_allocation_name}
 use Rattle.capnp_words.specs.declared.wire_pointer.StructSize.{StructSize}
 use Rattle.capnp_edits.specs.declared.edit.Edit.{Edit}

@@ -20,7 +20,7 @@ use Rattle.capnp_making.specs.Stored.{IsStored, IsReplaced}
 use Rattle.capnp_contents.proofs.FieldsWritten.{flat_part_written, element_field_written}
 use Rattle.capnp_making.proofs.Zeros.{there}
 use Rattle.capnp_readers.specs.Sections.{step_bits, data_bits}
-use Rattle.capnp_pointers.specs.declared.pointers.PointerPlace.{PointerPlace}
+use Rattle.capnp_objects.specs.declared.pointers.PointerPlace.{PointerPlace}
 use Rattle.capnp_builders.specs.Places.{field}
 use Rattle.capnp_builders.proofs.FoundBytes.{data_inside, text_inside}
 use Rattle.capnp_builders.proofs.FoundLists.{found_inside}

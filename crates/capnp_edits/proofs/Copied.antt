@@ -33,15 +33,15 @@ use Rattle.capnp_readers.specs.Sizes.{pointers_read}
 use Rattle.capnp_readers.specs.declared.readers.PointerReader.{PointerReader}
 use Rattle.capnp_readers.specs.declared.readers.struct_reader.StructReader.{StructReader}
 use Rattle.capnp_readers.specs.declared.readers.list_reader.ListReader.{ListReader}
-use Rattle.capnp_pointers.specs.declared.pointers.PointerPlace.{PointerPlace}
+use Rattle.capnp_objects.specs.declared.pointers.PointerPlace.{PointerPlace}
 use Rattle.capnp_copies.specs.Changes.{CopyCall, RefusesToCopy, copy_call}
 use Rattle.capnp_copies.specs.Forms.{form_of, kept}
 use Rattle.capnp_copies.specs.Growth.{TakesAtMost}
 use Rattle.capnp_copies.specs.Originals.{Original, value_original, sections_original, list_original}
 use Rattle.capnp_copies.proofs.Originals.{value_beyond, refused_words}
 use Rattle.capnp_making.specs.Makes.{CallAt, call_at}
-use Rattle.capnp_value_copies.specs.ListValues.{list_read}
-use Rattle.capnp_value_copies.specs.StructValues.{data_of, struct_read}
+use Rattle.capnp_builders.specs.ListValues.{list_read}
+use Rattle.capnp_builders.specs.StructValues.{data_of, struct_read}
 use Rattle.capnp_builders.specs.Kept.{PutsCopy, LeavesCleared}
 use Rattle.capnp_edits.specs.declared.edit.path.PathEnd.TheVariants.{Pointer as AtPointer}
 use Rattle.capnp_edits.specs.declared.edit.Source.{Source}

@@ -40,7 +40,7 @@ use Rattle.capnp_readers.specs.declared.readers.PointerReader.{PointerReader}
 use Rattle.capnp_readers.specs.declared.readers.list_reader.ListReader.{ListReader}
 use Rattle.capnp_copies.specs.Changes.{RefusesToCopy, copy_call}
 use Rattle.capnp_copies.specs.Forms.{form_of}
-use Rattle.capnp_value_copies.proofs.ListValues.{first_read}
+use Rattle.capnp_builders.proofs.ListValues.{first_read}
 use Rattle.capnp_copies.specs.Originals.{FitsListPointer, list_original}
 use Rattle.capnp_copies.proofs.Originals.{exceeding, list_words, refused_words}
 use Rattle.capnp_edits.specs.declared.edit.copying.Copying.{Copying}

@@ -35,12 +35,12 @@ use Rattle.capnp_readers.specs.declared.readers.struct_reader.StructReader.{Stru
 use Rattle.capnp_copies.specs.Forms.{form_of, kept}
 use Rattle.capnp_copies.specs.Changes.{RefusesToCopy, copy_call}
 use Rattle.capnp_copies.specs.Originals.{sections_original}
-use Rattle.capnp_value_copies.specs.StructValues.{section_words, data_of}
+use Rattle.capnp_builders.specs.StructValues.{section_words, data_of}
 use Rattle.capnp_format.specs.Bytes.{words_of}
 use Rattle.capnp_objects.specs.declared.object.Purpose.TheVariants.{Value}
 use Rattle.capnp_format.proofs.WordsOf.{words}
 use Rattle.capnp_copies.proofs.Originals.{refused_words}
-use Rattle.capnp_value_copies.proofs.DataSections.{whole_section}
+use Rattle.capnp_builders.proofs.DataSections.{whole_section}
 use Rattle.capnp_copies.proofs.KeptForms.{kept_count-le}
 use Rattle.capnp_edits.specs.declared.edit.copying.Copying.{Copying}
 use Rattle.capnp_edits.specs.declared.edit.copying.Wanted.TheVariants.{Struct as AStruct}

@@ -16,8 +16,8 @@ use Rattle.capnp_objects.specs.Follow.{◌>=>◌}
 use Rattle.capnp_objects.specs.Reading.{Reading}
 use Rattle.capnp_objects.specs.Wanted.{Form}
 use Rattle.capnp_objects.proofs.Followed.{or_named, far_named, follow, is_named, followed_at, existing, far_steps}
-use Rattle.capnp_widening.specs.Opening.{struct_opened}
-use Rattle.capnp_widening.specs.Widened.{limited, list_widened}
+use Rattle.capnp_contents.specs.Opening.{struct_opened}
+use Rattle.capnp_contents.specs.Widened.{limited, list_widened}
 
 -- Whether a result is the refusal NoSuchPlace.
 abbrev pub is_nowhere : {A : Type 0} → Result A ErrorKind → Bool

@@ -35,16 +35,16 @@ use Rattle.capnp_objects.proofs.Faultless.{no_fault}
 use Rattle.capnp_copies.specs.Rooms.{CanBeCopied}
 use Rattle.capnp_copies.specs.Originals.{value_original}
 use Rattle.capnp_copies.proofs.Originals.{refused_words}
-use Rattle.capnp_pointers.specs.declared.pointers.PointerPlace.{PointerPlace}
+use Rattle.capnp_objects.specs.declared.pointers.PointerPlace.{PointerPlace}
 use Rattle.capnp_readers.specs.declared.readers.list_reader.ListPlace.{ListPlace}
 use Rattle.capnp_readers.specs.declared.readers.struct_reader.StructPlace.{StructPlace}
 use Rattle.capnp_making.specs.Makes.{CallAt, call_at}
-use Rattle.capnp_widening.specs.Opening.{IsNoWider, Opens, OpensStruct, struct_opened}
-use Rattle.capnp_widening.specs.Rooms.{HasRoomFor, OpeningFits, RefusesGrowth, RefusesToBecome, direct_pointers, widened_words}
+use Rattle.capnp_contents.specs.Opening.{IsNoWider, Opens, OpensStruct, struct_opened}
+use Rattle.capnp_contents.specs.Rooms.{HasRoomFor, OpeningFits, RefusesGrowth, RefusesToBecome, direct_pointers, widened_words}
 use Rattle.capnp_words.specs.Names.{is_allocation_name}
-use Rattle.capnp_widening.specs.RowsRemade.{RefusesWider}
-use Rattle.capnp_widening.specs.Widened.{list_widened, widened}
-use Rattle.capnp_widening.proofs.Refusing.{growth_named}
+use Rattle.capnp_contents.specs.RowsRemade.{RefusesWider}
+use Rattle.capnp_contents.specs.Widened.{list_widened, widened}
+use Rattle.capnp_contents.proofs.Refusing.{growth_named}
 use Rattle.capnp_builders.specs.Defaults.{IsIgnoredDefault, IsShortDefault, DefaultUse, ignored, denied as is_denied_by, copied as is_copied_from, default_use, default_root, RefusesDefault, WithDefault, DefaultFits, FitsWithDefault, object_default, blob_default}
 use Rattle.capnp_builders.proofs.DefaultRooms.{use_of_words}
 use Rattle.capnp_builders.proofs.DefaultCopies.{default_copy}
@@ -64,7 +64,7 @@ use Rattle.capnp_edits.proofs.Contents.{list_anywhere, data_anywhere, text_anywh
 use Rattle.capnp_edits.proofs.Names.{elsewhere, struct_elsewhere, structs_elsewhere, list_elsewhere, data_elsewhere, text_elsewhere, fault_elsewhere, unfound_name, list_unfound, data_unfound, text_unfound}
 use Rattle.capnp_edits.proofs.Steps.{same_some}
 use Rattle.capnp_edits.proofs.Ways.{Way, as_it_stands, default_dropped, default_put, is_allocated, is_denied, is_done, is_not_allocated, yielded}
-use Rattle.capnp_widening.proofs.Listed.{same_tree}
+use Rattle.capnp_contents.proofs.Listed.{same_tree}
 use Rattle.capnp_builders.proofs.Openings.{same_error}
 
 -- a small default has few words

@@ -17,7 +17,7 @@ use Rattle.capnp_edits.specs.Edits.{refusal_of, are_written, are_outside, PutsBi
 use Rattle.capnp_edits.specs.declared.edit.tasks.Number.{Number}
 use Rattle.capnp_edits.specs.Steps.{result_of}
 use Rattle.capnp_arena_traits.specs.View.{View, KeepsLimits}
-use Rattle.capnp_widening.specs.Anew.{OnlyWrites}
+use Rattle.capnp_contents.specs.Anew.{OnlyWrites}
 use Rattle.capnp_words.specs.declared.wire_pointer.ElementSize.TheVariants.{Byte}
 
 -- Every segment has as many words as before.

@@ -35,15 +35,15 @@ use Rattle.capnp_objects.specs.Wanted.{of_default}
 use Rattle.capnp_readers.specs.Readers.{IsListPlace}
 use Rattle.capnp_readers.specs.declared.readers.struct_reader.StructPlace.{StructPlace}
 use Rattle.capnp_words.specs.Names.{is_allocation_name}
-use Rattle.capnp_widening.specs.Widened.{list_widened}
+use Rattle.capnp_contents.specs.Widened.{list_widened}
 use Rattle.capnp_builders.specs.Defaults.{DefaultUse, ignored, denied as is_denied_by}
 use Rattle.capnp_builders.specs.Defaults.{copied as is_copied_from, default_use}
 use Rattle.capnp_builders.specs.Defaults.{default_root}
-use Rattle.capnp_widening.specs.Opening.{struct_opened}
+use Rattle.capnp_contents.specs.Opening.{struct_opened}
 use Rattle.capnp_builders.specs.Content.{HoldContent, TakesBytes, up_to}
 use Rattle.capnp_edits.specs.declared.edit.Source.{Source}
 use Rattle.capnp_readers.specs.Sections.{step_bits, data_bits}
-use Rattle.capnp_pointers.specs.declared.pointers.PointerPlace.{PointerPlace}
+use Rattle.capnp_objects.specs.declared.pointers.PointerPlace.{PointerPlace}
 use Rattle.capnp_builders.specs.declared.builders.PointerBuilder.{PointerBuilder}
 use Rattle.capnp_builders.specs.Places.{Field, list_place}
 use Rattle.capnp_edits.specs.declared.edit.Edit.{Edit}

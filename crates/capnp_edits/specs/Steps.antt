@@ -23,17 +23,17 @@ use Rattle.capnp_contents.specs.declared.existing.ExistingStruct.{ExistingStruct
 use Rattle.capnp_objects.specs.Reading.{place_past}
 use Rattle.capnp_objects.specs.Refusals.{Refused}
 use Rattle.capnp_objects.specs.Wanted.{plain}
-use Rattle.capnp_pointers.specs.declared.pointers.PointerPlace.{PointerPlace}
+use Rattle.capnp_objects.specs.declared.pointers.PointerPlace.{PointerPlace}
 use Rattle.capnp_readers.specs.declared.readers.struct_reader.StructPlace.{StructPlace}
 use Rattle.capnp_copies.specs.Changes.{ComesToObject, CopiesChildren, FindsNoRoom, IsTooLarge}
 use Rattle.capnp_copies.specs.Changes.{RefusesToCopy, copy_call}
 use Rattle.capnp_copies.specs.Forms.{form_of}
 use Rattle.capnp_copies.specs.Growth.{TakesAtMost}
 use Rattle.capnp_copies.specs.Originals.{children_original, value_original}
-use Rattle.capnp_widening.specs.Anew.{OnlyWrites}
-use Rattle.capnp_widening.specs.Opening.{Opens, struct_opened}
-use Rattle.capnp_widening.specs.Rooms.{HasRoomFor, RefusesToBecome}
-use Rattle.capnp_widening.specs.Widened.{list_widened}
+use Rattle.capnp_contents.specs.Anew.{OnlyWrites}
+use Rattle.capnp_contents.specs.Opening.{Opens, struct_opened}
+use Rattle.capnp_contents.specs.Rooms.{HasRoomFor, RefusesToBecome}
+use Rattle.capnp_contents.specs.Widened.{list_widened}
 use Rattle.capnp_builders.specs.Content.{pointers_copied}
 use Rattle.capnp_builders.specs.Defaults.{RefusesDefault, DefaultFits, FitsWithDefault, WithDefault}
 use Rattle.capnp_builders.specs.Defaults.{default_use, ignored, IsIgnoredDefault}

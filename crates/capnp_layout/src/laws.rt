@@ -16,5 +16,5 @@ pub use capnp_framing::laws as frames;
 pub use capnp_messages::messages::laws as messages;
 pub use capnp_objects::laws as objects;
 pub use capnp_readers::laws as readers;
-pub use capnp_value_copies::laws as copies;
-pub use capnp_widening::laws as widening;
+pub use capnp_builders::laws::copies;
+pub use capnp_contents::laws::widening;

@@ -14,10 +14,10 @@ use Rattle.capnp_objects.proofs.Inverted.{same_refusal}
 use Rattle.capnp_objects.specs.Source.{levels}
 use Rattle.capnp_objects.specs.Values.{value}
 use Rattle.capnp_objects.specs.Wanted.{plain}
-use Rattle.capnp_pointers.specs.Checking.{level_refusal_name}
-use Rattle.capnp_pointers.specs.Testing.{IsTestName}
-use Rattle.capnp_pointers.specs.declared.pointers.canonical_fault.CanonicalFault.{CanonicalFault}
-use Rattle.capnp_pointers.proofs.ReadsAlong.{Along, refused_along, value_along}
+use Rattle.capnp_objects.specs.Checking.{level_refusal_name}
+use Rattle.capnp_objects.specs.Testing.{IsTestName}
+use Rattle.capnp_objects.specs.declared.pointers.canonical_fault.CanonicalFault.{CanonicalFault}
+use Rattle.capnp_objects.proofs.ReadsAlong.{Along, refused_along, value_along}
 use Rattle.capnp_messages.specs.CanonicalMessages.{CanBeTested, IsCanonicalMessage, IsCanonicalOf}
 use Rattle.capnp_messages.specs.Check.{check, message_tested, plain_value}
 use Rattle.capnp_messages.specs.Messages.{IsReadable, IsValueOf}

@@ -17,8 +17,8 @@ use Rattle.capnp_objects.specs.Values.{value}
 use Rattle.capnp_objects.specs.Wanted.{plain}
 use Rattle.capnp_objects.proofs.OneName.{reads_is}
 use Rattle.capnp_objects.proofs.Valued.{Agree, value_agrees}
-use Rattle.capnp_pointers.specs.Extents.{value_extent, read_extent}
-use Rattle.capnp_pointers.specs.declared.pointers.validate.Extent.{Extent}
+use Rattle.capnp_objects.specs.Extents.{value_extent, read_extent}
+use Rattle.capnp_objects.specs.declared.pointers.validate.Extent.{Extent}
 use Rattle.capnp_messages.specs.Extents.{HasExtent, root_extent, validate, with_cost, words_taken}
 use Rattle.capnp_messages.specs.Messages.{IsReadable, left_of, root_within}
 use Rattle.capnp_messages.specs.Roots.{CoversRoot}

@@ -10,15 +10,15 @@ use Rattle.capnp_arena.specs.declared.arena.reader_arena_impl.ReaderOptions.{Rea
 use Rattle.capnp_objects.specs.Metered.{fits, onward}
 use Rattle.capnp_objects.specs.Reading.{Reading}
 use Rattle.capnp_objects.specs.Source.{levels}
-use Rattle.capnp_pointers.specs.declared.pointers.sizes.MessageSize.{MessageSize}
-use Rattle.capnp_pointers.specs.Measure.{measure, only_words}
-use Rattle.capnp_pointers.proofs.Counted.{size_is}
+use Rattle.capnp_objects.specs.declared.pointers.sizes.MessageSize.{MessageSize}
+use Rattle.capnp_objects.specs.Measure.{measure, only_words}
+use Rattle.capnp_objects.proofs.Counted.{size_is}
 use Rattle.capnp_messages.specs.Roots.{CoversRoot, RefusesRoot, message_root, read_message_root}
 use Rattle.capnp_messages.specs.Roots.RefusesRoot.{no_root, no_budget}
 use Rattle.capnp_messages.specs.Messages.{HasSizeOf, HasSizeWithin, RefusesSize, message_size, root_within}
 use Rattle.capnp_format.specs.Means.{Means}
 use Rattle.capnp_format.specs.Tree.{Tree}
-use Rattle.capnp_pointers.specs.ValueSize.{value_size}
+use Rattle.capnp_objects.specs.ValueSize.{value_size}
 use Rattle.capnp_messages.proofs.MessageLemmas.{AtRoot}
 
 pub fits_one : (left : Option ℕ) → FitsIn left 1 → fits left 1 ≡ true

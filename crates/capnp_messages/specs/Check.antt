@@ -9,10 +9,10 @@ use Rattle.capnp_objects.specs.Metered.{Metered, answer, ◌>>>◌}
 use Rattle.capnp_objects.specs.Source.{levels}
 use Rattle.capnp_objects.specs.Values.{value}
 use Rattle.capnp_objects.specs.Wanted.{plain}
-use Rattle.capnp_pointers.specs.declared.pointers.canonical_fault.CanonicalFault.{CanonicalFault}
-use Rattle.capnp_pointers.specs.declared.pointers.canonical_fault.CanonicalFaultReason.TheVariants.{SegmentCount}
-use Rattle.capnp_pointers.specs.declared.pointers.canonical_fault.CanonicalFaultReason.TheVariants.{WordsBehind}
-use Rattle.capnp_pointers.specs.Testing.{Verdict, test_value}
+use Rattle.capnp_objects.specs.declared.pointers.canonical_fault.CanonicalFault.{CanonicalFault}
+use Rattle.capnp_objects.specs.declared.pointers.canonical_fault.CanonicalFaultReason.TheVariants.{SegmentCount}
+use Rattle.capnp_objects.specs.declared.pointers.canonical_fault.CanonicalFaultReason.TheVariants.{WordsBehind}
+use Rattle.capnp_objects.specs.Testing.{Verdict, test_value}
 use Rattle.capnp_messages.specs.Roots.{read_message_root}
 
 -- The fault of S, a message of one segment, by what the test at its root has found: words may not

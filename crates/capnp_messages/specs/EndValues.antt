@@ -18,8 +18,8 @@ use Rattle.capnp_objects.specs.Reading.{Reading, place_past, segment_read, words
 use Rattle.capnp_objects.specs.Refusals.{Stopped}
 use Rattle.capnp_objects.specs.Wanted.{canonical}
 use Rattle.capnp_objects.specs.declared.object.Purpose.TheVariants.{Value}
-use Rattle.capnp_pointers.specs.Measure.{measure, measure_pointers, only_words}
-use Rattle.capnp_pointers.specs.declared.pointers.sizes.MessageSize.{MessageSize}
+use Rattle.capnp_objects.specs.Measure.{measure, measure_pointers, only_words}
+use Rattle.capnp_objects.specs.declared.pointers.sizes.MessageSize.{MessageSize}
 use Rattle.capnp_copies.specs.Changes.{ComesToObject}
 use Rattle.capnp_copies.specs.Originals.{Original, sections_original, value_original}
 use Rattle.capnp_messages.specs.Copies.{OutgrowsRoom}

@@ -11,7 +11,7 @@ use Rattle.capnp_arena.specs.declared.arena.reader_arena_impl.ReaderOptions.{Rea
 use Rattle.capnp_framing.specs.Frames.{bytes_of_words}
 use Rattle.capnp_objects.specs.Metered.{◌>>>◌}
 use Rattle.capnp_objects.specs.Source.{levels}
-use Rattle.capnp_pointers.specs.declared.pointers.sizes.MessageSize.{MessageSize}
+use Rattle.capnp_objects.specs.declared.pointers.sizes.MessageSize.{MessageSize}
 use Rattle.capnp_messages.specs.EndValues.{EndMeans, IsEndThere, RefusesEndCopy, end_place, measure_end}
 use Rattle.capnp_messages.specs.Parts.{PathEnd, part}
 

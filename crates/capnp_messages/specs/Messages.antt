@@ -11,9 +11,9 @@ use Rattle.capnp_arena.specs.declared.arena.reader_arena_impl.ReaderOptions.{Rea
 use Rattle.capnp_objects.specs.Metered.{◌>>>◌}
 use Rattle.capnp_objects.specs.Reading.{Reading}
 use Rattle.capnp_objects.specs.Source.{levels}
-use Rattle.capnp_pointers.specs.declared.pointers.canonical_fault.CanonicalFault.{CanonicalFault}
-use Rattle.capnp_pointers.specs.declared.pointers.sizes.MessageSize.{MessageSize}
-use Rattle.capnp_pointers.specs.Measure.{measure, only_words}
+use Rattle.capnp_objects.specs.declared.pointers.canonical_fault.CanonicalFault.{CanonicalFault}
+use Rattle.capnp_objects.specs.declared.pointers.sizes.MessageSize.{MessageSize}
+use Rattle.capnp_objects.specs.Measure.{measure, only_words}
 use Rattle.capnp_messages.specs.Roots.{CoversRoot, RefusesRoot, message_root, read_message_root}
 use Rattle.capnp_messages.specs.Copies.{RefusesCopy}
 use Rattle.capnp_messages.specs.CanonicalMessages.{CanBeTested}

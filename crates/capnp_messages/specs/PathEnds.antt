@@ -7,8 +7,8 @@ use Rattle.capnp_objects.specs.declared.object.Object.{Object}
 use Rattle.capnp_objects.specs.declared.object.Purpose.TheVariants.{Value}
 use Rattle.capnp_objects.specs.Objects.{IsFew, IsObject}
 use Rattle.capnp_objects.specs.Reading.{Reading}
-use Rattle.capnp_pointers.specs.declared.pointers.Pointer.{Pointer}
-use Rattle.capnp_pointers.specs.Pointers.{reading}
+use Rattle.capnp_objects.specs.declared.pointers.Pointer.{Pointer}
+use Rattle.capnp_objects.specs.Pointers.{reading}
 use Rattle.capnp_messages.specs.Parts.{PathEnd, to_pointer, to_element}
 use Rattle.capnp_messages.specs.declared.messages.path.Reached.{Reached}
 use Rattle.capnp_messages.specs.declared.messages.path.Reached.TheVariants.{Pointer as AtPointer}

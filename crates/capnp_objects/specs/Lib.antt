@@ -17,3 +17,15 @@ pub mod Metered
 pub mod Enter
 pub mod Values
 pub mod Examples
+pub mod Pointers
+pub mod Sizes
+pub mod Standing
+pub mod CanonicalFaults
+pub mod Checking
+pub mod Measure
+pub mod Testing
+pub mod ValueSize
+pub mod Extents
+pub mod Validation
+pub mod Unexpected
+pub mod Traversals

@@ -4,6 +4,7 @@
 //! docs/FORMAT.md explains both in plain words.
 
 mod examples;
+mod pointers;
 
 ghost use Rattle.std.specs.Prelude.{◌≡◌, ◌≢◌, ◌⊎◌, ◌↔◌, ◌+◌, ◌≤◌, ℕ, true, Some, Ok, Err, IsOk};
 ghost use Rattle.capnp_words.specs.declared.error.ErrorKind.{ErrorKind};
@@ -29,6 +30,7 @@ ghost use Rattle.capnp_objects.specs.Types.{IsOfType, HasNoType};
 ghost use Rattle.capnp_objects.specs.Values.{value, expect, pointer_type};
 ghost use Rattle.capnp_objects.specs.Wanted.{Form, FollowsTo, AllowsCapabilities};
 
+pub use pointers::{extents_within_limits, one_size_refusal, one_verdict, refused_as_reading, refused_as_unexpected, size_of_value, tests_of_places, tests_of_pointers, traversals_within_limits, values_have_sizes};
 pub use examples::worked_readings;
 
 /// A demand is a condition for reading an object, and has the name of the refusal that follows if

@@ -5,4 +5,5 @@
 
 pub mod laws;
 pub mod object;
+pub mod pointers;
 pub mod source;

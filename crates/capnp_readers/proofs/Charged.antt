@@ -16,11 +16,11 @@ use Rattle.capnp_objects.proofs.Budgets.{affords_none, after_none, paid_both, pa
 use Rattle.capnp_objects.proofs.Computed.{capability_is, entering_is, null_is, stopped_is}
 use Rattle.capnp_objects.proofs.Decided.{same_or_not}
 use Rattle.capnp_objects.proofs.Inverted.{Ends, at_capability, at_object, refused, ends}
-use Rattle.capnp_pointers.specs.Faults.{other_reason}
-use Rattle.capnp_pointers.specs.Testing.{TestStep, Verdict, elements_tested, fault_unless, flat_tested, is_padded, is_used, near_tested, object_tested, pointers_tested, renamed, rows_tested, some_used, struct_tested, structs_tested, test_values, test_within, unless_fault}
-use Rattle.capnp_pointers.specs.Measure.{fold_elements, fold_pointers}
-use Rattle.capnp_pointers.specs.declared.pointers.canonical_fault.CanonicalFaultReason.{CanonicalFaultReason}
-use Rattle.capnp_pointers.specs.declared.pointers.canonical_fault.CanonicalFaultReason.TheVariants.{DataSection, ElementData, ElementPointers, ElementWords, EmptyStructPlace, NoPointer, ObjectPlace, Padding, PointerSection}
+use Rattle.capnp_objects.specs.CanonicalFaults.{other_reason}
+use Rattle.capnp_objects.specs.Testing.{TestStep, Verdict, elements_tested, fault_unless, flat_tested, is_padded, is_used, near_tested, object_tested, pointers_tested, renamed, rows_tested, some_used, struct_tested, structs_tested, test_values, test_within, unless_fault}
+use Rattle.capnp_objects.specs.Measure.{fold_elements, fold_pointers}
+use Rattle.capnp_objects.specs.declared.pointers.canonical_fault.CanonicalFaultReason.{CanonicalFaultReason}
+use Rattle.capnp_objects.specs.declared.pointers.canonical_fault.CanonicalFaultReason.TheVariants.{DataSection, ElementData, ElementPointers, ElementWords, EmptyStructPlace, NoPointer, ObjectPlace, Padding, PointerSection}
 
 -- From m to m' g words were granted and i pointers counted.
 abbrev pub IsCharged : Bool → Meter → Meter → Type 0

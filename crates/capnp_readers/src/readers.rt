@@ -30,8 +30,8 @@ mod target;
 use capnp_arena_traits::arena::ReaderArena;
 use capnp_objects::object::{Expected, Object, Place};
 use capnp_objects::source::Source;
-use capnp_pointers::pointers::Pointer;
-pub use capnp_pointers::pointers::{
+use capnp_objects::pointers::Pointer;
+pub use capnp_objects::pointers::{
     CanonicalFault, CanonicalFaultReason, MessageSize, PointerPlace,
 };
 use capnp_words::error::ErrorKind;

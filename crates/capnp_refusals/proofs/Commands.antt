@@ -11,13 +11,13 @@ use Rattle.capnp_objects.specs.Source.{levels}
 use Rattle.capnp_objects.specs.Values.{value}
 use Rattle.capnp_objects.specs.Wanted.{canonical, plain}
 use Rattle.capnp_objects.proofs.OneName.{refused_is}
-use Rattle.capnp_pointers.specs.Extents.{read_extent, value_extent}
-use Rattle.capnp_pointers.specs.Measure.{measure, only_words}
-use Rattle.capnp_pointers.specs.Testing.{IsTestName, Verdict, test_value}
-use Rattle.capnp_pointers.specs.declared.pointers.canonical_fault.CanonicalFault.{CanonicalFault}
-use Rattle.capnp_pointers.specs.declared.pointers.canonical_fault.CanonicalFaultReason.TheVariants.{SegmentCount}
-use Rattle.capnp_pointers.specs.declared.pointers.sizes.MessageSize.{MessageSize}
-use Rattle.capnp_pointers.proofs.ReadsAlong.{Along, refused_along, value_along}
+use Rattle.capnp_objects.specs.Extents.{read_extent, value_extent}
+use Rattle.capnp_objects.specs.Measure.{measure, only_words}
+use Rattle.capnp_objects.specs.Testing.{IsTestName, Verdict, test_value}
+use Rattle.capnp_objects.specs.declared.pointers.canonical_fault.CanonicalFault.{CanonicalFault}
+use Rattle.capnp_objects.specs.declared.pointers.canonical_fault.CanonicalFaultReason.TheVariants.{SegmentCount}
+use Rattle.capnp_objects.specs.declared.pointers.sizes.MessageSize.{MessageSize}
+use Rattle.capnp_objects.proofs.ReadsAlong.{Along, refused_along, value_along}
 use Rattle.capnp_messages.specs.Check.{check, whole_fault}
 use Rattle.capnp_messages.specs.Commands.{RefusesAnswer}
 use Rattle.capnp_messages.specs.Extents.{validate, with_cost}

@@ -10,7 +10,7 @@ use Rattle.capnp_objects.specs.Metered.{Metered, answer, onward, outcome, ◌>>>
 use Rattle.capnp_objects.specs.Reading.{Reading, place_past, words_from}
 use Rattle.capnp_objects.specs.Values.{object_value, permit, read_element_values, read_values, value, value_within}
 use Rattle.capnp_objects.specs.Wanted.{Form, canonical, plain}
-use Rattle.capnp_pointers.specs.Measure.{fold_children, fold_elements, fold_pointers}
+use Rattle.capnp_objects.specs.Measure.{fold_children, fold_elements, fold_pointers}
 use Rattle.capnp_refusals.specs.Search.{Finding, form_for, of_values, permitted, search_on, search_place, search_within, unless_found}
 use Rattle.capnp_refusals.specs.declared.refusals.search.RefusedPointer.{RefusedPointer}
 use Rattle.capnp_refusals.proofs.Searched.{elements_stay, pointers_stay}

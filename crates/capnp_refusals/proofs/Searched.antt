@@ -16,9 +16,9 @@ use Rattle.capnp_objects.specs.Objects.{IsObject}
 use Rattle.capnp_objects.specs.Reading.{Reading, place_past}
 use Rattle.capnp_objects.specs.Refusals.{NotRead}
 use Rattle.capnp_objects.proofs.Computed.{object_is, stopped_is}
-use Rattle.capnp_pointers.specs.Measure.{fold_children, fold_elements, fold_pointers}
-use Rattle.capnp_pointers.proofs.Measured.{one_row}
-use Rattle.capnp_pointers.proofs.Walking.{object_inside}
+use Rattle.capnp_objects.specs.Measure.{fold_children, fold_elements, fold_pointers}
+use Rattle.capnp_objects.proofs.Measured.{one_row}
+use Rattle.capnp_objects.proofs.Walking.{object_inside}
 use Rattle.capnp_refusals.specs.Search.{Finding, demanded, permitted, refused_at, search_elements, search_on, search_place, search_within, unless_found}
 use Rattle.capnp_refusals.specs.declared.refusals.search.Demands.{Demands}
 use Rattle.capnp_refusals.specs.declared.refusals.search.RefusedPointer.{RefusedPointer}

@@ -10,7 +10,7 @@ use Rattle.capnp_objects.specs.Enter.{Shape, nothing, capability, struct, flat, 
 use Rattle.capnp_objects.specs.Metered.{Metered, answer, outcome, ◌>>>◌}
 use Rattle.capnp_objects.specs.Reading.{Reading}
 use Rattle.capnp_objects.specs.Wanted.{Form, canonical, plain}
-use Rattle.capnp_pointers.specs.Measure.{fold_children, fold_elements, fold_pointers}
+use Rattle.capnp_objects.specs.Measure.{fold_children, fold_elements, fold_pointers}
 use Rattle.capnp_refusals.specs.declared.refusals.search.Demands.{Demands}
 use Rattle.capnp_refusals.specs.declared.refusals.search.RefusedPointer.{RefusedPointer}
 

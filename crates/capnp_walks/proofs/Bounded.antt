@@ -20,7 +20,7 @@ use Rattle.capnp_objects.proofs.Computed.{null_is, capability_is, entering_is}
 use Rattle.capnp_objects.proofs.Decided.{same_or_not}
 use Rattle.capnp_objects.proofs.Inverted.{Ends, at_capability, at_object, refused, ends}
 use Rattle.capnp_objects.proofs.Objects.{own_pointers, own_struct, own_structs}
-use Rattle.capnp_pointers.specs.Measure.{fold_children, fold_elements, fold_pointers}
+use Rattle.capnp_objects.specs.Measure.{fold_children, fold_elements, fold_pointers}
 use Rattle.capnp_walks.specs.Listing.{into_list}
 use Rattle.capnp_walks.specs.Walks.{Walking, added, unless_stopped, walk_place, walk_within}
 use Rattle.capnp_walks.specs.declared.walks.listing.WalkedObject.{WalkedObject}

@@ -6,7 +6,7 @@ use Rattle.capnp_objects.specs.declared.object.Purpose.TheVariants.{Value}
 use Rattle.capnp_objects.specs.Enter.{Shape, nothing, capability, struct, flat, pointers, structs, read}
 use Rattle.capnp_objects.specs.Metered.{Metered, answer, onward}
 use Rattle.capnp_objects.specs.Reading.{Reading, place_past}
-use Rattle.capnp_pointers.specs.Measure.{fold_children, fold_elements, fold_pointers}
+use Rattle.capnp_objects.specs.Measure.{fold_children, fold_elements, fold_pointers}
 use Rattle.capnp_walks.specs.Listing.{Collector, collected, walked_object}
 use Rattle.capnp_walks.specs.Walks.{Walking, added, unless_stopped, walk_on, walk_within}
 use Rattle.capnp_walks.specs.declared.walks.listing.WalkedObject.{WalkedObject}

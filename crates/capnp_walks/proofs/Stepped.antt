@@ -14,8 +14,8 @@ use Rattle.capnp_objects.specs.Objects.{IsObject}
 use Rattle.capnp_objects.specs.Reading.{Reading, place_past}
 use Rattle.capnp_objects.specs.Refusals.{NotRead}
 use Rattle.capnp_objects.proofs.Computed.{object_is, stopped_is}
-use Rattle.capnp_pointers.specs.Measure.{fold_children, fold_elements, fold_pointers}
-use Rattle.capnp_pointers.proofs.Measured.{one_row}
+use Rattle.capnp_objects.specs.Measure.{fold_children, fold_elements, fold_pointers}
+use Rattle.capnp_objects.proofs.Measured.{one_row}
 use Rattle.capnp_refusals.specs.Search.{refused_at}
 use Rattle.capnp_refusals.specs.declared.refusals.search.RefusedPointer.{RefusedPointer}
 use Rattle.capnp_walks.specs.Listing.{Collector}

@@ -23,8 +23,8 @@ use Rattle.capnp_objects.proofs.Decided.{same_or_not}
 use Rattle.capnp_objects.proofs.Inverted.{Ends, at_capability, at_object, refused, ends}
 use Rattle.capnp_objects.proofs.Parts.{claim_struct}
 use Rattle.capnp_objects.proofs.Valued.{leaf_is, refusal_is, value_is}
-use Rattle.capnp_pointers.specs.Extents.{capped}
-use Rattle.capnp_pointers.specs.Measure.{fold_children, fold_elements, fold_pointers}
+use Rattle.capnp_objects.specs.Extents.{capped}
+use Rattle.capnp_objects.specs.Measure.{fold_children, fold_elements, fold_pointers}
 use Rattle.capnp_walks.specs.Figures.{Figures, figures, objects_of, objects_of_all, objects_of_elements}
 use Rattle.capnp_walks.specs.Listing.{Collector, into_list}
 use Rattle.capnp_walks.specs.Walks.{Walking, added, unless_stopped, walk_place, walk_within}

@@ -11,7 +11,7 @@ use Rattle.capnp_objects.specs.Enter.{Shape, read}
 use Rattle.capnp_objects.specs.Metered.{Metered, answer}
 use Rattle.capnp_objects.specs.Reading.{Reading}
 use Rattle.capnp_objects.specs.Source.{levels}
-use Rattle.capnp_pointers.specs.Measure.{fold_children, fold_elements, fold_pointers}
+use Rattle.capnp_objects.specs.Measure.{fold_children, fold_elements, fold_pointers}
 use Rattle.capnp_messages.specs.Roots.{message_root, read_message_root}
 use Rattle.capnp_refusals.specs.Search.{Finding, refused_at}
 use Rattle.capnp_walks.specs.Listing.{Collector, into_list, no_parent, noted}

@@ -249,10 +249,10 @@ Rattle.capnp_making.specs.Stored
 (IsStored |IsStored
  IsStored |IsStored
 
-Rattle.capnp_widening.specs.Anew
+Rattle.capnp_contents.specs.Anew
  OnlyWrites |OnlyWrites
 
-Rattle.capnp_widening.specs.Rooms
+Rattle.capnp_contents.specs.Rooms
  OpeningFits |OpeningFits
  WiderListFits|WiderListFits
 
@@ -275,10 +275,10 @@ Rattle.capnp_copies.specs.Originals
 Rattle.capnp_copies.specs.Rooms
  CanBeCopied|CanBeCopied
 
-Rattle.capnp_value_copies.specs.ListValues
+Rattle.capnp_builders.specs.ListValues
 (list_read |list_read
 
-Rattle.capnp_value_copies.specs.StructValues
+Rattle.capnp_builders.specs.StructValues
 (struct_read |struct_read
 
 Rattle.capnp_builders.specs.Held

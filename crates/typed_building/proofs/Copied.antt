@@ -16,8 +16,8 @@ use Rattle.capnp_format.specs.Path.{tree_at}
 use Rattle.capnp_format.specs.Segments.{segment}
 use Rattle.capnp_making.specs.Stored.{Puts}
 use Rattle.capnp_making.proofs.Memory.{keeps_both, keeps_then_spends}
-use Rattle.capnp_widening.specs.Anew.{OnlyWrites}
-use Rattle.capnp_widening.proofs.WrittenAnew.{keeps_writes}
+use Rattle.capnp_contents.specs.Anew.{OnlyWrites}
+use Rattle.capnp_contents.proofs.WrittenAnew.{keeps_writes}
 use Rattle.capnp_objects.specs.Reading.{Reading, words_from}
 use Rattle.capnp_objects.specs.Wanted.{plain}
 use Rattle.capnp_readers.specs.Readers.{read_by}
@@ -33,10 +33,10 @@ use Rattle.capnp_copies.specs.Originals.{Original, list_original, value_original
 use Rattle.capnp_copies.specs.Rooms.{CanBeCopied}
 use Rattle.capnp_copies.proofs.Growth.{list_until_within, list_within, none_itself, sections_until_within, sections_within, taken_so, until_within, value_within}
 use Rattle.capnp_copies.proofs.Originals.{lacks_before}
-use Rattle.capnp_value_copies.specs.ListValues.{list_read}
-use Rattle.capnp_value_copies.specs.StructValues.{data_of, section_words, struct_read}
-use Rattle.capnp_value_copies.proofs.DataSections.{whole_section}
-use Rattle.capnp_value_copies.proofs.ListValues.{first_read, numbers_held}
+use Rattle.capnp_builders.specs.ListValues.{list_read}
+use Rattle.capnp_builders.specs.StructValues.{data_of, section_words, struct_read}
+use Rattle.capnp_builders.proofs.DataSections.{whole_section}
+use Rattle.capnp_builders.proofs.ListValues.{first_read, numbers_held}
 use Rattle.capnp_builders.specs.Held.{MakesChild, call_in}
 use Rattle.capnp_builders.specs.Kept.{LeavesCleared, PutsCopy}
 use Rattle.capnp_builders.proofs.CopiesHeld.{words_refused_later}

@@ -8,8 +8,8 @@ use Rattle.capnp_making.specs.Makes.{Allocates, call_at}
 use Rattle.capnp_making.specs.Memory.{HasRoom, IsRefusedFor, KeepsMemory, TakesWords}
 use Rattle.capnp_making.proofs.Memory.{keeps_both}
 use Rattle.capnp_making.proofs.Outcomes.{if_err_so, on_made_so}
-use Rattle.capnp_widening.specs.Anew.{OnlyWrites}
-use Rattle.capnp_widening.proofs.WrittenAnew.{keeps_writes, taken_before}
+use Rattle.capnp_contents.specs.Anew.{OnlyWrites}
+use Rattle.capnp_contents.proofs.WrittenAnew.{keeps_writes, taken_before}
 
 room_written : (a b : View) (id n : ℕ) → OnlyWrites a b → HasRoom a id n → HasRoom b id n
 room_written a b id n w (inl fits) = inl (omega (arith, fits, w.words id, ap (λ (v : View). v.room id) w.limits))

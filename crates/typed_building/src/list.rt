@@ -8,7 +8,7 @@ ghost use Rattle.capnp_words.specs.Sizes.{size_number};
 ghost use Rattle.capnp_words.specs.declared.wire_pointer.ElementSize.TheVariants.{Bit, Pointer};
 ghost use Rattle.capnp_making.specs.Made.{list_words, zero_list, zero_structs};
 ghost use Rattle.capnp_making.specs.Makes.{MakesObject};
-ghost use Rattle.capnp_widening.specs.Anew.{OnlyWrites};
+ghost use Rattle.capnp_contents.specs.Anew.{OnlyWrites};
 ghost use Rattle.capnp_readers.specs.Readers.{IsStructPlace};
 ghost use Rattle.capnp_builders.specs.Held.{HasList, HasStruct, Holder};
 ghost use Rattle.capnp_builders.specs.Places.{element_place};

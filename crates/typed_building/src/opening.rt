@@ -7,8 +7,8 @@ ghost use Rattle.capnp_format.specs.Tree.{Tree, Null, Struct, Structs, Trees, El
 ghost use Rattle.capnp_words.specs.Sizes.{size_number, sized};
 ghost use Rattle.capnp_contents.specs.Existing.{list_in};
 ghost use Rattle.capnp_making.specs.Stored.{IsStored};
-ghost use Rattle.capnp_widening.specs.Opening.{OpensStruct};
-ghost use Rattle.capnp_widening.specs.Rooms.{OpeningFits, WiderListFits};
+ghost use Rattle.capnp_contents.specs.Opening.{OpensStruct};
+ghost use Rattle.capnp_contents.specs.Rooms.{OpeningFits, WiderListFits};
 ghost use Rattle.capnp_readers.specs.Readers.{IsStructPlace};
 ghost use Rattle.capnp_readers.specs.Values.{struct_children, struct_data};
 ghost use Rattle.capnp_builders.specs.Found.{list_given};

@@ -6,7 +6,7 @@ ghost use Rattle.capnp_format.specs.Tree.{Capability, Flat, Null, Trees};
 ghost use Rattle.capnp_words.specs.Sizes.{size_number};
 ghost use Rattle.capnp_making.specs.Made.{list_words, nulls, words_of_zero, zero_elements, zero_list, zero_struct, zero_structs};
 ghost use Rattle.capnp_making.specs.Makes.{Allocates};
-ghost use Rattle.capnp_widening.specs.Anew.{OnlyWrites};
+ghost use Rattle.capnp_contents.specs.Anew.{OnlyWrites};
 ghost use Rattle.capnp_readers.specs.Readers.{IsStructPlace};
 ghost use Rattle.capnp_readers.specs.Sections.{IsInside};
 ghost use Rattle.capnp_builders.specs.Held.{HasList, HasStruct, Holder, ReplacesChild, ReplacesField, SetsChild, SetsField, call_in, element_of, pointer_to};

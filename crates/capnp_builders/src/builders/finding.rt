@@ -12,8 +12,8 @@ ghost use Rattle.capnp_making.specs.Memory.{KeepsMemory, ComesAfter, TakesWords,
 ghost use Rattle.capnp_making.specs.Stored.{IsStored};
 ghost use Rattle.capnp_words.specs.Sizes.{size_number};
 ghost use Rattle.capnp_readers.specs.Readers.{IsListPlace};
-ghost use Rattle.capnp_widening.specs.Opening.{IsNoWider};
-ghost use Rattle.capnp_widening.specs.RowsRemade.{RefusesWider};
+ghost use Rattle.capnp_contents.specs.Opening.{IsNoWider};
+ghost use Rattle.capnp_contents.specs.RowsRemade.{RefusesWider};
 ghost use Rattle.capnp_builders.specs.Defaults.{DefaultFits, IsIgnoredDefault, PutsDefaultBy, TakesDefault, object_default};
 ghost use Rattle.capnp_builders.specs.Found.{FindsList, FindsBytes};
 ghost use Rattle.capnp_builders.specs.Opening.{FindsStruct, FindsStructs, StructFindFits, StructsFindFits};
@@ -29,7 +29,7 @@ use capnp_arena_traits::arena::BuilderArena;
 use capnp_contents::existing::{self, ExistingBytes};
 use capnp_contents::lent;
 use capnp_readers::readers::{ListPlace, StructPlace};
-use capnp_widening::opening::{open_struct, open_struct_list};
+use capnp_contents::opening::{open_struct, open_struct_list};
 use capnp_words::error::ErrorKind;
 use capnp_words::wire_pointer::{ElementSize, StructSize};
 

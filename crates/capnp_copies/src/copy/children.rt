@@ -2,7 +2,7 @@
 ghost use Rattle.std.specs.Prelude.{◌≡◌, ◌<◌, ◌≤◌, ◌↔◌, IsTrue};
 ghost use Rattle.capnp_format.specs.Word.{kind, element_size};
 ghost use Rattle.capnp_objects.specs.Wanted.{Form};
-ghost use Rattle.capnp_pointers.specs.Pointers.{reading};
+ghost use Rattle.capnp_objects.specs.Pointers.{reading};
 ghost use Rattle.capnp_copies.specs.Growth.{CopiesOrLeaves, CopiesOrStops};
 ghost use Rattle.capnp_copies.specs.Changes.{copy_call, copy_call_to, HasNullsFor, IsNullPlace, IsPointerRead};
 ghost use Rattle.capnp_copies.specs.Forms.{form_in};
@@ -15,7 +15,7 @@ use super::structs::copy_struct;
 use crate::form::{CopyForm, Destination};
 use capnp_arena_traits::arena::{BuilderArena, ReaderArena, WordPlace};
 use capnp_objects::object::{Place, PointerWord};
-use capnp_pointers::pointers::Pointer;
+use capnp_objects::pointers::Pointer;
 use capnp_words::error::ErrorKind;
 use capnp_words::read_limiter::ReadLimiter;
 use capnp_words::wire_pointer::{WirePointer, WirePointerKind, flat_words, is_of_bits};

@@ -4,11 +4,11 @@ ghost use Rattle.std.specs.Prelude.{◌≡◌, ◌+◌, ◌<◌, ◌^◌, pred};
 ghost use Rattle.capnp_objects.specs.Objects.{IsHeld};
 ghost use Rattle.capnp_objects.specs.Reading.{place_past, source_start};
 ghost use Rattle.capnp_objects.specs.Source.{levels};
-ghost use Rattle.capnp_pointers.specs.Pointers.{reading};
+ghost use Rattle.capnp_objects.specs.Pointers.{reading};
 
 use capnp_arena_traits::arena::{ReaderArena, WordPlace};
 use capnp_objects::object::Place;
-use capnp_pointers::pointers::Pointer;
+use capnp_objects::pointers::Pointer;
 
 /// The pointer `words` words after `from`, in the same segment and with the same nesting limit.
 pub fn pointer_past<B: ReaderArena>(from: Pointer<'_, B>, words: u32) -> Pointer<'_, B>

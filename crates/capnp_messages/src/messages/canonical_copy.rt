@@ -12,7 +12,7 @@ ghost use Rattle.capnp_words.specs.declared.error.ErrorKind.TheVariants.{Allocat
 ghost use Rattle.capnp_arena_traits.specs.Allocations.{max_segment_words, one_more};
 ghost use Rattle.capnp_objects.specs.Outcomes.{Reads};
 ghost use Rattle.capnp_objects.specs.Wanted.{canonical};
-ghost use Rattle.capnp_pointers.specs.Pointers.{reading};
+ghost use Rattle.capnp_objects.specs.Pointers.{reading};
 ghost use Rattle.capnp_copies.specs.Changes.{IsNullPlace, MakesCopy, StopsCopy, copy_call};
 ghost use Rattle.capnp_making.specs.Makes.{call_at};
 ghost use Rattle.capnp_messages.specs.Copies.{HoldsCanonicalWords, LacksMemoryOr, RefusesCopy, is_message_too_large};
@@ -30,7 +30,7 @@ use capnp_arena_traits::arena::WordPlace;
 use capnp_copies::copy::{copy_struct, copy_value};
 use capnp_copies::form::{CopyForm, Destination};
 use capnp_objects::source::Source;
-use capnp_pointers::pointers::Pointer;
+use capnp_objects::pointers::Pointer;
 use capnp_words::error::ErrorKind;
 use capnp_words::read_limiter::ReadLimiter;
 use std::alloc::Global;

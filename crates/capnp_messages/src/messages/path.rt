@@ -8,7 +8,7 @@ ghost use Rattle.capnp_objects.specs.Enter.{object_shape, read, result_shape, st
 ghost use Rattle.capnp_objects.specs.Objects.{IsHeld};
 ghost use Rattle.capnp_objects.specs.Reading.{source_start};
 ghost use Rattle.capnp_objects.specs.Source.{levels};
-ghost use Rattle.capnp_pointers.specs.Pointers.{reading};
+ghost use Rattle.capnp_objects.specs.Pointers.{reading};
 ghost use Rattle.capnp_messages.specs.EndValues.{measure_end};
 ghost use Rattle.capnp_messages.specs.Parts.{end_at, end_in, follow_path, part, pointer_in, step, to_pointer};
 ghost use Rattle.capnp_messages.specs.PathEnds.{IsObjectRead, end_read, end_result};
@@ -17,7 +17,7 @@ use super::pointer_run::{ElementPlace, PointerRun, pointer_within};
 use super::root::read_root;
 use capnp_arena::arena::{ReaderArena, ReaderArenaImpl, ReaderSegments};
 use capnp_objects::object::{Object, Place};
-use capnp_pointers::pointers::{MessageSize, Pointer};
+use capnp_objects::pointers::{MessageSize, Pointer};
 use capnp_words::error::ErrorKind;
 use capnp_words::read_limiter::ReadLimiter;
 use capnp_words::wire_pointer::StructSize;

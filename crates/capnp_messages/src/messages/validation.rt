@@ -7,7 +7,7 @@ ghost use Rattle.capnp_messages.specs.Messages.{IsReadable, arena_limits};
 
 use super::root::read_root;
 use capnp_arena::arena::{ReaderArena, ReaderArenaImpl, ReaderSegments};
-use capnp_pointers::pointers::Extent;
+use capnp_objects::pointers::Extent;
 use capnp_words::error::ErrorKind;
 use capnp_words::read_limiter::ReadLimiter;
 

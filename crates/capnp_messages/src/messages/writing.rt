@@ -13,7 +13,7 @@ ghost use Rattle.capnp_framing.specs.declared.framing.frame_error.FrameError.{Fr
 ghost use Rattle.capnp_framing.specs.declared.framing.frame_error.FrameError.TheVariants.{WriteFailed};
 ghost use Rattle.capnp_objects.specs.Outcomes.{Reads};
 ghost use Rattle.capnp_objects.specs.Wanted.{canonical};
-ghost use Rattle.capnp_pointers.specs.Pointers.{reading};
+ghost use Rattle.capnp_objects.specs.Pointers.{reading};
 ghost use Rattle.capnp_messages.specs.Commands.{form_bytes};
 ghost use Rattle.capnp_messages.specs.Copies.{RefusesCopy};
 
@@ -24,7 +24,7 @@ use super::copy_memory::CopyMemory;
 use capnp_arena::arena::{Allocator, BuilderArena, BuilderArenaImpl, OutputSegments, ReaderArena};
 use capnp_framing::devices::{DeviceFault, Output, write_all};
 use capnp_framing::framing::{FrameError, write};
-use capnp_pointers::pointers::Pointer;
+use capnp_objects::pointers::Pointer;
 use capnp_words::read_limiter::ReadLimiter;
 use std::alloc::Global;
 

@@ -4,13 +4,13 @@ ghost use Rattle.capnp_objects.specs.Enter.{object_shape, read, result_shape};
 ghost use Rattle.capnp_objects.specs.Objects.{IsFew, IsHeld, IsObject};
 ghost use Rattle.capnp_objects.specs.Reading.{reading_at, segment_read, source_start};
 ghost use Rattle.capnp_objects.specs.Source.{levels};
-ghost use Rattle.capnp_pointers.specs.Pointers.{reading, reading_on};
+ghost use Rattle.capnp_objects.specs.Pointers.{reading, reading_on};
 ghost use Rattle.capnp_refusals.specs.Search.{demanded, permitted, search_elements, search_place, search_pointers};
 
 use capnp_arena_traits::arena::ReaderArena;
 use capnp_objects::object::{Object, Place, Purpose};
 use capnp_objects::source::Source;
-use capnp_pointers::pointers::Pointer;
+use capnp_objects::pointers::Pointer;
 use capnp_words::error::ErrorKind;
 use capnp_words::read_limiter::ReadLimiter;
 

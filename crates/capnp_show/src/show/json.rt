@@ -2,7 +2,7 @@
 ghost use Rattle.std.specs.Prelude.{◌≡◌, ◌+◌, ◌*◌, ◌≤◌, ◌≢◌, true, false, codes, length, [], None, Ok};
 ghost use Rattle.capnp_objects.specs.Enter.{object_shape};
 ghost use Rattle.capnp_objects.specs.Reading.{segment_read};
-ghost use Rattle.capnp_pointers.specs.Pointers.{reading};
+ghost use Rattle.capnp_objects.specs.Pointers.{reading};
 ghost use Rattle.capnp_messages.specs.Parts.{PathEnd};
 ghost use Rattle.capnp_messages.specs.PathEnds.{IsObjectRead, end_read, end_result};
 ghost use Rattle.capnp_show.specs.Shown.{IsPlain, Shows, add, array_within, show_elements, show_end};
@@ -14,7 +14,7 @@ use super::text::{CUT_OBJECT, Ended, Text};
 use capnp_arena_traits::arena::ReaderArena;
 use capnp_messages::messages::{ElementPlace, Reached};
 use capnp_objects::object::{Object, Place};
-use capnp_pointers::pointers::Pointer;
+use capnp_objects::pointers::Pointer;
 use capnp_words::error::ErrorKind;
 use capnp_words::read_limiter::ReadLimiter;
 use capnp_words::wire_pointer::{StructSize, WirePointerKind};

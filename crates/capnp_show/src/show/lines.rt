@@ -6,7 +6,7 @@ use super::text::{CUT_COLORED_LINE, CUT_LINE, Ended, Text, front_of, text_of};
 use capnp_arena_traits::arena::ReaderArena;
 use capnp_messages::messages::ElementPlace;
 use capnp_objects::object::{Object, Place};
-use capnp_pointers::pointers::Pointer;
+use capnp_objects::pointers::Pointer;
 use capnp_words::read_limiter::ReadLimiter;
 use capnp_words::wire_pointer::{ElementSize, StructSize, WirePointerKind};
 use std::alloc::Global;

@@ -9,12 +9,12 @@ ghost use Rattle.capnp_objects.specs.Source.{levels};
 ghost use Rattle.capnp_objects.specs.Entering.{IsObjectHeld};
 ghost use Rattle.capnp_messages.specs.Parts.{inside};
 ghost use Rattle.capnp_messages.specs.PathEnds.{IsObjectRead};
-ghost use Rattle.capnp_pointers.specs.Pointers.{reading};
+ghost use Rattle.capnp_objects.specs.Pointers.{reading};
 ghost use Rattle.capnp_show.specs.Numbers.{number_in, word_index};
 
 use capnp_arena_traits::arena::ReaderArena;
 use capnp_objects::object::{Object, Place};
-use capnp_pointers::pointers::Pointer;
+use capnp_objects::pointers::Pointer;
 use capnp_words::error::ErrorKind;
 use capnp_words::read_limiter::ReadLimiter;
 use capnp_words::wire_pointer::ElementSize;

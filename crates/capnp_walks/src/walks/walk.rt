@@ -2,14 +2,14 @@
 ghost use Rattle.std.specs.Prelude.{◌≡◌, ◌≤◌, ◌+◌, ◌*◌, Ok, length, pred};
 ghost use Rattle.capnp_objects.specs.Reading.{segment_read};
 ghost use Rattle.capnp_objects.specs.Source.{levels};
-ghost use Rattle.capnp_pointers.specs.Pointers.{reading, reading_on};
+ghost use Rattle.capnp_objects.specs.Pointers.{reading, reading_on};
 ghost use Rattle.capnp_walks.specs.Listing.{into_array, no_parent};
 ghost use Rattle.capnp_walks.specs.Walks.{walk_elements, walk_place, walk_pointers};
 
 use crate::walks::listing::{NO_PARENT, WalkedObject, add_object};
 use capnp_arena_traits::arena::ReaderArena;
 use capnp_objects::object::{Object, Place};
-use capnp_pointers::pointers::Pointer;
+use capnp_objects::pointers::Pointer;
 use capnp_refusals::refusals::RefusedPointer;
 use capnp_words::read_limiter::ReadLimiter;
 

@@ -1,5 +1,5 @@
 use Rattle.std.proofs.Common.{rules, subst}
-use Rattle.capnp_value_copies.specs.ListValues.{list_read}
+use Rattle.capnp_builders.specs.ListValues.{list_read}
 use Rattle.capnp_builders.specs.Held.{MakesChild, call_in}
 use Rattle.typed_building.specs.Copied.{copied_list}
 use Rattle.typed_building.proofs.Copied.{child_copied, list_shown}

@@ -1,4 +1,4 @@
-use Rattle.capnp_value_copies.specs.ListValues.{list_read}
+use Rattle.capnp_builders.specs.ListValues.{list_read}
 use Rattle.typed_building.proofs.Copied.{can_written, member_read, member_refused, list_taken}
 use Rattle.typed_building.proofs.Sets.{makes_member}
 use Rattle.typed_building.proofs.copying.set_list_from_member.Goals as goal

@@ -1,5 +1,5 @@
 use Rattle.std.proofs.Common.{rules, subst}
-use Rattle.capnp_value_copies.specs.StructValues.{struct_read}
+use Rattle.capnp_builders.specs.StructValues.{struct_read}
 use Rattle.capnp_builders.specs.Held.{MakesChild, call_in}
 use Rattle.typed_building.specs.Copied.{copied_struct}
 use Rattle.typed_building.proofs.Copied.{child_copied, struct_shown}

@@ -2,7 +2,7 @@ use Rattle.std.proofs.Common.{◌≡◌, ◌+◌, [], ◌∷◌, ◌++◌, get_o
 use Rattle.std.proofs.lemmas.List.{take_more}
 use Rattle.capnp_builders.specs.Held.{call_in}
 use Rattle.capnp_contents.proofs.Growing.{grows_again}
-use Rattle.capnp_widening.proofs.WrittenAnew.{writes_both, writes_nothing}
+use Rattle.capnp_contents.proofs.WrittenAnew.{writes_both, writes_nothing}
 use Rattle.capnp_making.proofs.FillingChains.{no_growth}
 use Rattle.typed_building.specs.Slots.{ReplacesSlots, ZeroesSlots}
 use Rattle.typed_building.specs.declared.slots.Slot.TheVariants.{Bit}

@@ -1,4 +1,4 @@
-use Rattle.capnp_widening.proofs.WrittenAnew.{writes_both}
+use Rattle.capnp_contents.proofs.WrittenAnew.{writes_both}
 use Rattle.typed_building.proofs.Sets.{begins_group, replaces_group}
 use Rattle.typed_building.proofs.groups.zero_slots_member.Goals as goal
 

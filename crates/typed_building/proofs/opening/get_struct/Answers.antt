@@ -3,7 +3,7 @@ use Rattle.capnp_format.specs.Path.{tree_at}
 use Rattle.capnp_format.specs.Segments.{Grows}
 use Rattle.capnp_format.specs.Tree.{Tree}
 use Rattle.capnp_making.specs.Stored.{IsStored}
-use Rattle.capnp_widening.specs.Opening.{OpensStruct, struct_opened}
+use Rattle.capnp_contents.specs.Opening.{OpensStruct, struct_opened}
 use Rattle.capnp_readers.specs.Values.{struct_children, struct_data}
 use Rattle.capnp_builders.specs.Held.{HasStruct, call_in, pointer_to}
 use Rattle.capnp_builders.specs.Opening.{IsStructGiven}

@@ -1,6 +1,6 @@
 use Rattle.std.proofs.Common.{◌+◌, refl}
 use Rattle.capnp_format.specs.Tree.{Null}
-use Rattle.capnp_widening.proofs.TakingWords.{pruned_writes}
+use Rattle.capnp_contents.proofs.TakingWords.{pruned_writes}
 use Rattle.typed_building.proofs.Sets.{replaces_child, sets_child}
 use Rattle.typed_building.proofs.value.clear.Goals as goal
 

@@ -1,6 +1,6 @@
 use Rattle.std.proofs.Common.{cond}
 use Rattle.capnp_builders.specs.Places.{field}
-use Rattle.capnp_widening.proofs.WrittenAnew.{writes_both}
+use Rattle.capnp_contents.proofs.WrittenAnew.{writes_both}
 use Rattle.typed_building.proofs.Sets.{replaces_member, sets_member}
 use Rattle.typed_building.proofs.value.set_bool_default_true_member.Goals as goal
 

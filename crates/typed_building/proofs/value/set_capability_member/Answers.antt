@@ -1,4 +1,4 @@
-use Rattle.capnp_widening.proofs.WrittenAnew.{writes_both}
+use Rattle.capnp_contents.proofs.WrittenAnew.{writes_both}
 use Rattle.typed_building.proofs.Sets.{replaces_child_member, sets_child_member}
 use Rattle.typed_building.proofs.value.set_capability_member.Goals as goal
 

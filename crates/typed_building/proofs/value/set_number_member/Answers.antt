@@ -1,5 +1,5 @@
 use Rattle.capnp_builders.specs.Places.{number_field}
-use Rattle.capnp_widening.proofs.WrittenAnew.{writes_both}
+use Rattle.capnp_contents.proofs.WrittenAnew.{writes_both}
 use Rattle.typed_building.proofs.Sets.{replaces_member, sets_member}
 use Rattle.typed_building.proofs.value.set_number_member.Goals as goal
 

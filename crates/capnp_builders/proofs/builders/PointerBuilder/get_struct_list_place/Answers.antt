@@ -3,8 +3,8 @@ use Rattle.std.proofs.lemmas.Bool.{false≢true}
 use Rattle.std.proofs.lemmas.Result.{err_from_is_err_and}
 use Rattle.capnp_arena_traits.specs.View.{View}
 use Rattle.capnp_making.specs.Stored.{IsStored}
-use Rattle.capnp_widening.specs.Rooms.{WiderListFits}
-use Rattle.capnp_widening.specs.RowsRemade.{RefusesWider}
+use Rattle.capnp_contents.specs.Rooms.{WiderListFits}
+use Rattle.capnp_contents.specs.RowsRemade.{RefusesWider}
 use Rattle.capnp_builders.specs.Defaults.{object_default}
 use Rattle.capnp_builders.specs.Opening.{OpensList}
 use Rattle.capnp_contents.proofs.Growing.{grows_again}

@@ -9,8 +9,8 @@ use Rattle.capnp_making.specs.Memory.{TakesWords, ComesAfter, start_of}
 use Rattle.capnp_making.proofs.FillingMade.{null_stored}
 use Rattle.capnp_making.proofs.Memory.{words_in}
 use Rattle.capnp_making.proofs.Zeros.{there}
-use Rattle.capnp_widening.specs.Opening.{IsNoWider, OpensStruct}
-use Rattle.capnp_widening.specs.Rooms.{OpeningFits}
+use Rattle.capnp_contents.specs.Opening.{IsNoWider, OpensStruct}
+use Rattle.capnp_contents.specs.Rooms.{OpeningFits}
 use Rattle.capnp_builders.specs.Defaults.{object_default}
 use Rattle.capnp_builders.specs.Opening.{IsStructGiven}
 use Rattle.capnp_contents.proofs.Growing.{grows_again}

@@ -1,8 +1,8 @@
 use Rattle.std.proofs.Common.{rules, refl, arith}
 use Rattle.capnp_copies.specs.Changes.{copy_call}
 use Rattle.capnp_copies.specs.Forms.{form_of}
-use Rattle.capnp_value_copies.specs.ListValues.{list_read}
-use Rattle.capnp_value_copies.proofs.ListValues.{first_read}
+use Rattle.capnp_builders.specs.ListValues.{list_read}
+use Rattle.capnp_builders.proofs.ListValues.{first_read}
 use Rattle.capnp_making.proofs.Outcomes.{if_ok_so, if_err_so}
 use Rattle.capnp_copies.proofs.Growth.{none_itself, none_pruned, taken_so, list_within, list_until_within}
 use Rattle.capnp_contents.proofs.Growing.{grows_again, pruned_grows}

@@ -2,7 +2,7 @@ use Rattle.std.proofs.Common.{rules, refl, arith}
 use Rattle.capnp_readers.specs.Sizes.{pointers_read}
 use Rattle.capnp_copies.specs.Changes.{copy_call}
 use Rattle.capnp_copies.specs.Forms.{form_of}
-use Rattle.capnp_value_copies.specs.StructValues.{data_of, struct_read}
+use Rattle.capnp_builders.specs.StructValues.{data_of, struct_read}
 use Rattle.capnp_making.proofs.Outcomes.{if_ok_so, if_err_so}
 use Rattle.capnp_copies.proofs.Growth.{none_itself, none_pruned, taken_so, sections_within, sections_until_within}
 use Rattle.capnp_contents.proofs.Growing.{grows_again, pruned_grows}

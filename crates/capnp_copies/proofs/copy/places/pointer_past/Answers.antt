@@ -3,7 +3,7 @@ use Rattle.std.proofs.lemmas.Int.{to_z-of_z}
 use mir.Syntax.{w32}
 use Rattle.capnp_objects.specs.Reading.{place_past}
 use Rattle.capnp_objects.specs.Source.{levels}
-use Rattle.capnp_pointers.specs.Pointers.{reading}
+use Rattle.capnp_objects.specs.Pointers.{reading}
 use Rattle.capnp_copies.proofs.copy.places.pointer_past.Goals as goal
 
 pub returns : goal.returns

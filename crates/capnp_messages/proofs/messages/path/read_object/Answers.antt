@@ -2,7 +2,7 @@ use Rattle.std.proofs.Common.{rules}
 use Rattle.std.proofs.lemmas.Int.{to_z-of_z}
 use mir.Syntax.{w32}
 use Rattle.capnp_objects.specs.Reading.{Reading}
-use Rattle.capnp_pointers.specs.Pointers.{reading}
+use Rattle.capnp_objects.specs.Pointers.{reading}
 use Rattle.capnp_messages.proofs.PathLemmas.{read_is, was_read}
 use Rattle.capnp_messages.proofs.messages.path.read_object.Goals as goal
 

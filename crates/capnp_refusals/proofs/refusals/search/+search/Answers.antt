@@ -5,11 +5,11 @@ use mir.Val.{to_z, of_z}
 use Rattle.capnp_objects.specs.Enter.{object_shape}
 use Rattle.capnp_objects.specs.Objects.{IsObject}
 use Rattle.capnp_objects.specs.Reading.{Reading, place_past}
-use Rattle.capnp_pointers.specs.Measure.{fold_pointers}
-use Rattle.capnp_pointers.specs.Pointers.{reading, reading_on}
-use Rattle.capnp_pointers.proofs.Falls.{falls_in}
-use Rattle.capnp_pointers.proofs.Measured.{no_pointers, one_more, row_more}
-use Rattle.capnp_pointers.proofs.Returned.{inner_levels}
+use Rattle.capnp_objects.specs.Measure.{fold_pointers}
+use Rattle.capnp_objects.specs.Pointers.{reading, reading_on}
+use Rattle.capnp_objects.proofs.Falls.{falls_in}
+use Rattle.capnp_objects.proofs.Measured.{no_pointers, one_more, row_more}
+use Rattle.capnp_objects.proofs.Returned.{inner_levels}
 use Rattle.capnp_refusals.specs.Search.{search_elements, search_within, unless_found}
 use Rattle.capnp_refusals.proofs.Searched.{ends_here, leaf_object, pointer_found, pointers_open, row_found, struct_opens, structs_inside, structs_level, structs_open, unmet, unread}
 use Rattle.capnp_refusals.proofs.refusals.search.+search.Goals as goal

@@ -3,7 +3,7 @@ use Rattle.std.specs.Prelude.{codes}
 use Rattle.hex.specs.Hex.{encode_lower}
 use Rattle.capnp_objects.specs.Enter.{object_shape}
 use Rattle.capnp_objects.specs.Reading.{Reading, place_past, segment_read, word_of, words_from}
-use Rattle.capnp_pointers.specs.Pointers.{reading}
+use Rattle.capnp_objects.specs.Pointers.{reading}
 use Rattle.capnp_messages.specs.Parts.{inside}
 use Rattle.capnp_messages.specs.PathEnds.{IsObjectRead}
 use Rattle.capnp_messages.proofs.PathLemmas.{pointers_room, row_inside, struct_room, structs_room}

@@ -4,11 +4,11 @@ use mir.Syntax.{w32}
 use Rattle.capnp_objects.specs.declared.object.Purpose.TheVariants.{Value}
 use Rattle.capnp_objects.specs.Objects.{IsObject}
 use Rattle.capnp_objects.specs.Reading.{Reading, place_past}
-use Rattle.capnp_pointers.specs.Measure.{fold_pointers}
-use Rattle.capnp_pointers.specs.Pointers.{reading, reading_on}
-use Rattle.capnp_pointers.proofs.Falls.{falls_in}
-use Rattle.capnp_pointers.proofs.Measured.{no_pointers, one_more, row_more}
-use Rattle.capnp_pointers.proofs.Returned.{inner_levels}
+use Rattle.capnp_objects.specs.Measure.{fold_pointers}
+use Rattle.capnp_objects.specs.Pointers.{reading, reading_on}
+use Rattle.capnp_objects.proofs.Falls.{falls_in}
+use Rattle.capnp_objects.proofs.Measured.{no_pointers, one_more, row_more}
+use Rattle.capnp_objects.proofs.Returned.{inner_levels}
 use Rattle.capnp_refusals.proofs.Searched.{structs_inside, structs_level}
 use Rattle.capnp_walks.specs.Listing.{into_array}
 use Rattle.capnp_walks.specs.Walks.{unless_stopped, walk_elements, walk_within}

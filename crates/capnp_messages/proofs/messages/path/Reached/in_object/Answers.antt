@@ -1,6 +1,6 @@
 use Rattle.std.proofs.Common.{subst, arith}
 use Rattle.capnp_objects.specs.Reading.{Reading}
-use Rattle.capnp_pointers.specs.Pointers.{reading}
+use Rattle.capnp_objects.specs.Pointers.{reading}
 use Rattle.capnp_messages.specs.PathEnds.{IsObjectRead}
 use Rattle.capnp_messages.proofs.PathLemmas.{pointers_room, struct_room, structs_room}
 use Rattle.capnp_messages.proofs.messages.path.Reached.in_object.Goals as goal

@@ -1,0 +1,5 @@
+use Rattle.capnp_contents.proofs.CanonicalWords.{wider_list}
+use Rattle.capnp_contents.proofs.laws.widening.wider_list.Goals as goal
+
+pub returns : goal.returns
+returns c = wider_list

@@ -1,0 +1,5 @@
+use Rattle.capnp_objects.proofs.Traversed.{traversed}
+use Rattle.capnp_objects.proofs.laws.pointers.traversals_within_limits.Goals as goal
+
+pub returns : goal.returns
+returns c = traversed

@@ -1,0 +1,5 @@
+use Rattle.capnp_objects.proofs.Counted.{has_size}
+use Rattle.capnp_objects.proofs.laws.pointers.values_have_sizes.Goals as goal
+
+pub returns : goal.returns
+returns c = has_size

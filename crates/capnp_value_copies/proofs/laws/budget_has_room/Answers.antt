@@ -1,5 +1,0 @@
-use Rattle.capnp_value_copies.proofs.BudgetRoom.{budget_has_room as refused_by_reading}
-use Rattle.capnp_value_copies.proofs.laws.budget_has_room.Goals as goal
-
-pub returns : goal.returns
-returns c = refused_by_reading

@@ -1,5 +1,0 @@
-use Rattle.capnp_copies.proofs.Growth.{few_taken as covered}
-use Rattle.capnp_value_copies.proofs.laws.few_taken.Goals as goal
-
-pub returns : goal.returns
-returns c = covered

@@ -1,2 +1,0 @@
-pub mod StructValues
-pub mod ListValues
