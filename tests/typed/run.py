@@ -39,7 +39,7 @@ from libraries import Crates
 # What the crates of a schema depend on, and the programs over them.
 READERS = 'capnp_format capnp_words capnp_arena_traits capnp_objects capnp_readers typed_reading'
 PROGRAM = 'capnp_format capnp_words capnp_arena_traits capnp_arena capnp_framing capnp_objects capnp_readers typed_reading'
-BUILT_ON = 'capnp_making capnp_contents capnp_widening capnp_copies capnp_value_copies capnp_builders typed_building'
+BUILT_ON = 'capnp_making capnp_contents capnp_copies capnp_builders typed_building'
 # The planted bugs: what is wrong, the kind of field, a part of its call, and what takes the place of that.
 READER_BUGS = (
     ('offset', 'uint32', r'value::get_number\(&self\.reader, (\d+)\)', lambda n: f'value::get_number(&self.reader, {int(n) + 1})'),

@@ -37,7 +37,7 @@ pub mod places;
 mod primitive_element;
 mod struct_builder;
 
-use crate::fields;
+use crate::{copy, fields};
 use capnp_arena_traits::arena::{BuilderArena, ReaderArena, WordPlace};
 use capnp_contents::existing::ExistingBytes;
 use capnp_contents::{bytes, existing, initializing, lent};
@@ -45,7 +45,6 @@ use capnp_making::making;
 use capnp_objects::object::Place;
 use capnp_objects::source::Source;
 use capnp_readers::readers::{ListPlace, ListReader, PointerReader, StructPlace, StructReader};
-use crate::copy;
 use capnp_words::error::ErrorKind;
 use capnp_words::read_limiter::ReadLimiter;
 use capnp_words::wire_pointer::{ElementSize, StructSize};
@@ -316,7 +315,11 @@ impl<'a, A: BuilderArena> PointerBuilder<'a, A> {
     /// `MessageTooLarge(n)` if n is above 536,870,911, where n is the number of the structs' words,
     /// plus two for the tag and a landing pad; `MessageTooLarge(usize::MAX)` if the message already
     /// has 4,294,967,295 segments. After a refusal the pointer is null.
-    pub fn init_struct_list_place(&mut self, count: u32, size: StructSize) -> Result<ListPlace, ErrorKind>
+    pub fn init_struct_list_place(
+        &mut self,
+        count: u32,
+        size: StructSize,
+    ) -> Result<ListPlace, ErrorKind>
         requires there { IsThere (built A.view self.old) }
         requires few { count < 2 ^ 30 }
         requires words { count * (size.data_words + size.pointers) < 2 ^ 29 }

@@ -13,7 +13,7 @@ use capnp_refusals::refusals::RefusedPointer;
 use capnp_streams::devices::{BufReaderInput, NamedLines, NumberedLines};
 use capnp_streams::looks::{InputForm, guess_of};
 use capnp_streams::seen::{DeviceLog, Logged};
-use capnp_streams::streams::{self, Command, StreamError, ShowTask, Stop, Summary, Task};
+use capnp_streams::streams::{self, Command, ShowTask, Stop, StreamError, Summary, Task};
 use std::alloc::{AllocError, Global};
 use std::fs::File;
 use std::io::{self, BufReader, Read};

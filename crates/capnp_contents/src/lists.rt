@@ -10,11 +10,11 @@ ghost use Rattle.capnp_contents.specs.RowsRemade.{MakesListWider, WidensList, el
 ghost use Rattle.capnp_contents.specs.Widened.{list_widened};
 ghost use Rattle.capnp_words.specs.declared.wire_pointer.ElementSize.TheVariants.{InlineComposite};
 
+use crate::existing::{self, ExistingList};
 use crate::number_lists::widen_numbers;
 use crate::remaking::{ElementRows, widen_rows};
 use crate::widening::{greater_size, is_wide};
 use capnp_arena_traits::arena::BuilderArena;
-use crate::existing::{self, ExistingList};
 use capnp_words::error::ErrorKind;
 use capnp_words::wire_pointer::{ElementSize, StructSize};
 

@@ -12,10 +12,10 @@ ghost use Rattle.capnp_making.specs.Memory.{HasRoom, RefusesWords};
 ghost use Rattle.capnp_contents.specs.Rooms.{GrowsByAtMost};
 ghost use Rattle.capnp_contents.specs.RowsRemade.{AreNumbersCopied, IsList, MakesListAnew, MakesListOfStructs, NumbersInside};
 
+use crate::existing::ExistingList;
 use crate::remaking::begin_list;
 use crate::widening::point_to_object;
 use capnp_arena_traits::arena::{BuilderArena, WordPlace, set_word};
-use crate::existing::ExistingList;
 use capnp_making::landing::{length_of, word_of};
 use capnp_making::making::Shape;
 use capnp_making::zeroing::{zero_pads, zero_part};

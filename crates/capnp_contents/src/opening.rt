@@ -14,10 +14,10 @@ ghost use Rattle.capnp_contents.specs.Rooms.{RefusesToBecome, UsesMemory, WiderL
 ghost use Rattle.capnp_contents.specs.RowsRemade.{RefusesWider};
 ghost use Rattle.capnp_contents.specs.Widened.{IsAtLeast};
 
+use crate::existing::{self, ExistingList, ExistingStruct};
 use crate::lists::get_struct_list;
 use crate::widening::{is_wide, widen_known};
 use capnp_arena_traits::arena::{BuilderArena, WordPlace};
-use crate::existing::{self, ExistingList, ExistingStruct};
 use capnp_making::landing::word_of;
 use capnp_making::making::make_struct;
 use capnp_words::error::ErrorKind;

@@ -12,10 +12,10 @@ ghost use Rattle.capnp_contents.specs.RowsRemade.{AreRowsCopied, CanBecome, Copi
 ghost use Rattle.capnp_making.specs.Makes.{call_at};
 ghost use Rattle.capnp_arena_traits.specs.declared.arena.WordPlace.{WordPlace};
 
-use crate::moving::{PointerRows, move_rows, unmove_rows};
-use crate::widening::{Allocation, copy_words, point_to_object, allocate_object};
-use capnp_arena_traits::arena::{BuilderArena, WordPlace, set_word};
 use crate::existing::ExistingList;
+use crate::moving::{PointerRows, move_rows, unmove_rows};
+use crate::widening::{Allocation, allocate_object, copy_words, point_to_object};
+use capnp_arena_traits::arena::{BuilderArena, WordPlace, set_word};
 use capnp_making::landing::{length_of, word_of};
 use capnp_making::making::Shape;
 use capnp_making::zeroing::{zero_pads, zero_part};

@@ -19,9 +19,9 @@ ghost use Rattle.capnp_contents.specs.Moved.{AreBothInside, near_pointers, row_o
 ghost use Rattle.capnp_contents.specs.Rooms.{GrowsByAtMost, HasPadRoom, HasRoomAndPads, RefusesGrowth, WiderStructFits, widened_words};
 ghost use Rattle.capnp_contents.specs.Widened.{IsStruct, widened};
 
+use crate::existing::ExistingStruct;
 use crate::moving::{move_row, unmove_row};
 use capnp_arena_traits::arena::{BuilderArena, WordPlace, set_word};
-use crate::existing::ExistingStruct;
 use capnp_making::landing::word_of;
 use capnp_making::making::{Shape, pointer_to};
 use capnp_making::zeroing::{zero_pads, zero_part};
@@ -44,7 +44,11 @@ pub struct Allocation {
 /// Allocates `amount` words for an object whose pointer is in segment `id`: in that segment if they
 /// fit there. Otherwise allocates one word more, for a landing pad before the object, in any
 /// segment in which the arena finds or makes room.
-pub(crate) fn allocate_object<A: BuilderArena>(arena: &mut A, id: u32, amount: u32) -> Result<Allocation, ErrorKind>
+pub(crate) fn allocate_object<A: BuilderArena>(
+    arena: &mut A,
+    id: u32,
+    amount: u32,
+) -> Result<Allocation, ErrorKind>
     requires there { id < length (A.view arena.old).words }
     requires small { amount < 2 ^ 31 }
     ensures taken { IfOk result (IsAllocation (A.view arena.old).words
@@ -97,7 +101,13 @@ fn copy_many<A: BuilderArena>(arena: &mut A, from: WordPlace, to: WordPlace, cou
 /// Makes the pointer at `at` of segment `id` lead to the object `shape` in `room`. Also writes the
 /// landing pad, if `room` has one.
 #[inline(always)]
-pub(crate) fn point_to_object<A: BuilderArena>(arena: &mut A, id: u32, at: u32, room: Allocation, shape: Shape)
+pub(crate) fn point_to_object<A: BuilderArena>(
+    arena: &mut A,
+    id: u32,
+    at: u32,
+    room: Allocation,
+    shape: Shape,
+)
     requires place { IsPlace (A.view arena.old).words id at }
     requires inside { room.at + room.pads < length (segment (A.view arena.old).words room.segment) }
     requires apart { (room.segment ≡ id) → at < room.at }

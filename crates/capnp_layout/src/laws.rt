@@ -3,7 +3,9 @@
 //! crates below.
 
 pub use capnp_builders::laws as builders;
+pub use capnp_builders::laws::copies;
 pub use capnp_contents::laws as contents;
+pub use capnp_contents::laws::widening;
 pub use capnp_edits::laws as edits;
 pub use capnp_format::laws::{
     body_length, canonical_again, canonical_words_are_cheap, canonical_words_mean,
@@ -16,5 +18,3 @@ pub use capnp_framing::laws as frames;
 pub use capnp_messages::messages::laws as messages;
 pub use capnp_objects::laws as objects;
 pub use capnp_readers::laws as readers;
-pub use capnp_builders::laws::copies;
-pub use capnp_contents::laws::widening;

@@ -11,7 +11,7 @@ use Rattle.capnp_objects.specs.Demands.{claimed_words, tag, element_words, ampli
 use Rattle.capnp_objects.specs.declared.object.Purpose.{Purpose}
 use Rattle.capnp_objects.specs.declared.object.Purpose.TheVariants.{Value, Size}
 use Rattle.capnp_objects.specs.Metered.{Metered, refuse, onward, covers}
-use Rattle.capnp_objects.specs.Enter.{Shape, is_struct_list, is_void_list, shape, is_in_segment, no_tag_name, enter_object}
+use Rattle.capnp_objects.specs.Enter.{Shape, is_struct_list, shape, is_in_segment, no_tag_name, enter_object}
 use Rattle.capnp_objects.specs.Reading.{Reading}
 use Rattle.capnp_objects.specs.Spending.{after_charge}
 use Rattle.capnp_format.specs.Word.{is_double, upper_half}
@@ -48,11 +48,11 @@ beyond x y h = let lt : y < x = omega (arith, h) in let e : nat_le x y ≡ false
 
 lies_true : (purpose : Purpose) (S : Segments) (a : Target) → IsInSegment purpose S a → is_in_segment purpose S a ≡ true
 lies_true Value S a h = le-leb _ _ h
-lies_true Size S a h = go (is_void_list a.word) refl
+lies_true Size S a h = go ((nat_eq (kind a.word) 1 && nat_eq (element_size a.word) 0)) refl
   where
-    go : (b : Bool) → is_void_list a.word ≡ b → (b || nat_le (a.start + claimed_words a.word) (length (segment S a.segment))) ≡ true
+    go : (b : Bool) → (nat_eq (kind a.word) 1 && nat_eq (element_size a.word) 0) ≡ b → (b || nat_le (a.start + claimed_words a.word) (length (segment S a.segment))) ≡ true
     go true e = refl
-    go false e = le-leb _ _ (h (λ v. let two : is_void_list a.word ≡ true = ap₂ (λ b c. b && c) (eq-eqb _ _ v.0) (eq-eqb _ _ v.1) in absurd (cc (e, two))))
+    go false e = le-leb _ _ (h (λ v. let two : (nat_eq (kind a.word) 1 && nat_eq (element_size a.word) 0) ≡ true = ap₂ (λ b c. b && c) (eq-eqb _ _ v.0) (eq-eqb _ _ v.1) in absurd (cc (e, two))))
 
 lies_false : (purpose : Purpose) (S : Segments) (a : Target) → (IsInSegment purpose S a → ⊥) → is_in_segment purpose S a ≡ false
 lies_false Value S a h = beyond _ _ h

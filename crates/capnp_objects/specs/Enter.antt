@@ -43,12 +43,9 @@ pub data Shape : Type 0 where
   pointers : (segment start count : ℕ) → Shape
   structs : (segment start data_words pointers count : ℕ) → Shape
 
--- Whether the word describes a list of structs, or a list of void.
+-- Whether the word describes a list of structs.
 abbrev pub is_struct_list : ℕ → Bool
 is_struct_list w = nat_eq (kind w) 1 && nat_eq (element_size w) 7
-
-abbrev pub is_void_list : ℕ → Bool
-is_void_list w = nat_eq (kind w) 1 && nat_eq (element_size w) 0
 
 -- The struct or list at the target a.
 abbrev pub shape : Segments → Target → Shape
@@ -72,7 +69,8 @@ has_level Size n = nat_lt 0 n
 abbrev pub is_in_segment : Purpose → Segments → Target → Bool
 is_in_segment Value S a = nat_le (a.start + claimed_words a.word) (length (segment S a.segment))
 is_in_segment Size S a =
-    is_void_list a.word || nat_le (a.start + claimed_words a.word) (length (segment S a.segment))
+    (nat_eq (kind a.word) 1 && nat_eq (element_size a.word) 0)
+    || nat_le (a.start + claimed_words a.word) (length (segment S a.segment))
 
 -- The error for a list of structs that doesn't begin with a tag.
 abbrev pub no_tag_name : Purpose → ErrorKind

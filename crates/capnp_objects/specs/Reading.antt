@@ -21,29 +21,19 @@ pub record Reading : Type 0 where
   pub segment : ℕ
   pub at : ℕ
 
+-- A place in no message, with no level.
+abbrev pub unset : Reading
+unset =
+    record { segments = []; charging = false; of_default = false; levels = 0; segment = 0; at = 0 }
+
 -- The first word of a source, with no level: of a message, of a default, which is free of charge,
 -- or of nothing.
 abbrev pub source_start : {A : Type 0} (g : Ghosts A) → Source A → Reading
 source_start g (Arena a) =
-    record {
-      segments = message (g.segments a.now);
-      charging = g.charging a.now;
-      of_default = false;
-      levels = 0;
-      segment = 0;
-      at = 0;
-    }
+    record unset { segments = message (g.segments a.now); charging = g.charging a.now }
 source_start g (Default d) =
-    record {
-      segments = default_segments d.now;
-      charging = false;
-      of_default = true;
-      levels = 0;
-      segment = default_segment;
-      at = 0;
-    }
-source_start g Nothing =
-    record { segments = []; charging = false; of_default = false; levels = 0; segment = 0; at = 0 }
+    record unset { segments = default_segments d.now; of_default = true; segment = default_segment }
+source_start g Nothing = unset
 
 -- The place of a source that is read within a nesting limit.
 abbrev pub reading_at : {A : Type 0} (g : Ghosts A) → Source A → Place → ℤ → Reading

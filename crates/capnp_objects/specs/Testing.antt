@@ -95,7 +95,7 @@ rows_tested f d q n r =
     (elements_tested f d q n r >->
     fault_unless (nat_eq d 0 || some_used r d (d + q) n) ElementData r (r.at - 1) >->
     fault_unless (nat_eq q 0 || some_used (place_past r d) q (d + q) n) ElementPointers r
-        (r.at - 1))
+    (r.at - 1))
     (r.at + n * (d + q))
 
 -- The same for elements of this size, but first tests that the list claims no other words than

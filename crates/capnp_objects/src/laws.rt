@@ -30,8 +30,12 @@ ghost use Rattle.capnp_objects.specs.Types.{IsOfType, HasNoType};
 ghost use Rattle.capnp_objects.specs.Values.{value, expect, pointer_type};
 ghost use Rattle.capnp_objects.specs.Wanted.{Form, FollowsTo, AllowsCapabilities};
 
-pub use pointers::{extents_within_limits, one_size_refusal, one_verdict, refused_as_reading, refused_as_unexpected, size_of_value, tests_of_places, tests_of_pointers, traversals_within_limits, values_have_sizes};
 pub use examples::worked_readings;
+pub use pointers::{
+    extents_within_limits, one_size_refusal, one_verdict, refused_as_reading,
+    refused_as_unexpected, size_of_value, tests_of_places, tests_of_pointers,
+    traversals_within_limits, values_have_sizes,
+};
 
 /// A demand is a condition for reading an object, and has the name of the refusal that follows if
 /// the condition is broken. A reading is refused for one of two reasons: a place that the reading

@@ -16,11 +16,11 @@ mod sizes;
 mod validate;
 mod walk;
 
+use crate::object::Place;
+use crate::source::Source;
 pub use canonical::ends_used;
 pub use canonical_fault::{CanonicalFault, CanonicalFaultReason};
 use capnp_arena_traits::arena::ReaderArena;
-use crate::object::Place;
-use crate::source::Source;
 use capnp_words::error::ErrorKind;
 use capnp_words::read_limiter::ReadLimiter;
 pub use sizes::MessageSize;

@@ -29,11 +29,11 @@ mod target;
 
 use capnp_arena_traits::arena::ReaderArena;
 use capnp_objects::object::{Expected, Object, Place};
-use capnp_objects::source::Source;
 use capnp_objects::pointers::Pointer;
 pub use capnp_objects::pointers::{
     CanonicalFault, CanonicalFaultReason, MessageSize, PointerPlace,
 };
+use capnp_objects::source::Source;
 use capnp_words::error::ErrorKind;
 use capnp_words::read_limiter::ReadLimiter;
 use capnp_words::wire_pointer::{ElementSize, PointerType, StructSize};

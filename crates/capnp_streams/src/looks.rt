@@ -2,7 +2,7 @@
 //! answered, the user is told the guess.
 ghost use Rattle.std.specs.Prelude.{◌<◌, ◌≤◌, ◌^◌, IfSome};
 
-use crate::streams::{DiffTask, StreamError, ShowTask, Task};
+use crate::streams::{DiffTask, ShowTask, StreamError, Task};
 use capnp_framing::devices::{Input, MemoryInput};
 use capnp_framing::framing::FrameError;
 use capnp_packing::packing::UnpackingInput;
@@ -287,7 +287,10 @@ fn word(bytes: &[u8], at: u64) -> Option<u64> {
 /// these words.
 fn leads_within(word: u64, words: u64) -> bool {
     let pointer = WirePointer(word);
-    match (object_words(pointer), pointer.target(0, clamp_to_u32(words))) {
+    match (
+        object_words(pointer),
+        pointer.target(0, clamp_to_u32(words)),
+    ) {
         (Some(claimed), Some(start)) => u64::from(start) + claimed <= words,
         _ => false,
     }

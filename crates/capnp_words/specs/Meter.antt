@@ -37,7 +37,7 @@ counted m = record m { followed = raised m.followed 1 }
 
 -- The limiter after a pointer was followed. It isn't counted if the arena doesn't charge.
 abbrev pub counted_once : Bool → Meter → Meter
-counted_once true m = counted m
+counted_once true m = record m { followed = raised m.followed 1 }
 counted_once false m = m
 
 -- The limiter grants n words, if the arena charges; otherwise this always holds.
@@ -47,5 +47,5 @@ Affords false m n = ⊤
 
 -- The limiter once an arena has requested n words.
 abbrev pub charged : Bool → Meter → ℕ → Meter
-charged true m n = spent m n
+charged true m n = record m { left = less m.left n }
 charged false m n = m

@@ -9,11 +9,11 @@ ghost use Rattle.capnp_copies.specs.Changes.{IsNullPlace};
 ghost use Rattle.capnp_contents.specs.Rooms.{UsesMemory};
 ghost use Rattle.capnp_builders.specs.Defaults.{DropsDefault, PutsDefault, PutsDefaultBy, IsShortDefault, object_default, blob_default, DefaultCopyFits, DefaultFits};
 
+use crate::copy;
 use capnp_arena_traits::arena::{BuilderArena, WordPlace};
 use capnp_copies::form::{CopyForm, Destination};
 use capnp_making::landing::word_of;
 use capnp_readers::readers::PointerReader;
-use crate::copy;
 use capnp_words::error::ErrorKind;
 use capnp_words::read_limiter::ReadLimiter;
 use capnp_words::words;

@@ -28,8 +28,8 @@ use super::struct_builder::StructBuilder;
 use capnp_arena_traits::arena::BuilderArena;
 use capnp_contents::existing::{self, ExistingBytes};
 use capnp_contents::lent;
-use capnp_readers::readers::{ListPlace, StructPlace};
 use capnp_contents::opening::{open_struct, open_struct_list};
+use capnp_readers::readers::{ListPlace, StructPlace};
 use capnp_words::error::ErrorKind;
 use capnp_words::wire_pointer::{ElementSize, StructSize};
 

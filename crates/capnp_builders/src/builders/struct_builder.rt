@@ -12,12 +12,11 @@ ghost use Rattle.capnp_readers.specs.Sizes.{pointers_read};
 
 use super::content::{clear_pointers, write_content};
 use crate::builders::PointerBuilder;
-use crate::fields;
+use crate::{copy, fields};
 use capnp_arena_traits::arena::{BuilderArena, ReaderArena, WordPlace};
 use capnp_contents::numbers;
 use capnp_objects::pointers::Pointer;
 use capnp_readers::readers::{StructPlace, StructReader};
-use crate::copy;
 use capnp_words::error::ErrorKind;
 use capnp_words::mask::Mask;
 use capnp_words::primitive::Primitive;

@@ -10,7 +10,7 @@ ghost use Rattle.capnp_copies.specs.Originals.{value_original};
 ghost use Rattle.capnp_making.specs.Makes.{call_at};
 
 use super::flat::copy_flat;
-use super::places::{place_past, pointer_past, pointer_inside};
+use super::places::{place_past, pointer_inside, pointer_past};
 use super::structs::copy_struct;
 use crate::form::{CopyForm, Destination};
 use capnp_arena_traits::arena::{BuilderArena, ReaderArena, WordPlace};

@@ -29,8 +29,8 @@ use capnp_arena::arena::{
 use capnp_arena_traits::arena::WordPlace;
 use capnp_copies::copy::{copy_struct, copy_value};
 use capnp_copies::form::{CopyForm, Destination};
-use capnp_objects::source::Source;
 use capnp_objects::pointers::Pointer;
+use capnp_objects::source::Source;
 use capnp_words::error::ErrorKind;
 use capnp_words::read_limiter::ReadLimiter;
 use std::alloc::Global;

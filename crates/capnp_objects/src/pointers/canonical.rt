@@ -11,12 +11,12 @@ ghost use Rattle.capnp_objects.specs.Pointers.{reading, reading_on};
 ghost use Rattle.capnp_objects.specs.Checking.{HasSmallSegment, IsTestedWord, StartsRight, TellsFlat};
 ghost use Rattle.capnp_objects.specs.Testing.{Tests, fault_verdict, head_found, head_moved, rows_tested, struct_tested, structs_tested, test_value, test_values, test_within};
 
+use crate::object::{Object, Place, PointerWord};
 use crate::pointers::Pointer;
 use crate::pointers::canonical_answer::{Answer, Stopped, Test, fault_at, reason_of, refused};
 use crate::pointers::canonical_fault::{CanonicalFault, CanonicalFaultReason};
-use capnp_arena_traits::arena::ReaderArena;
-use crate::object::{Object, Place, PointerWord};
 use crate::source::Source;
+use capnp_arena_traits::arena::ReaderArena;
 use capnp_words::error::ErrorKind;
 use capnp_words::lanes;
 use capnp_words::read_limiter::ReadLimiter;

@@ -4,8 +4,8 @@ ghost use Rattle.std.specs.Prelude.{◌≡◌, Ok, Err};
 ghost use Rattle.capnp_objects.specs.CanonicalFaults.{other_reason};
 ghost use Rattle.capnp_objects.specs.Checking.{level_refusal_name};
 
-use crate::pointers::canonical_fault::{CanonicalFault, CanonicalFaultReason};
 use crate::object::Place;
+use crate::pointers::canonical_fault::{CanonicalFault, CanonicalFaultReason};
 use capnp_words::error::ErrorKind;
 use capnp_words::read_limiter::ReadLimiter;
 use capnp_words::wire_pointer::{WirePointer, WirePointerKind};

@@ -9,10 +9,10 @@ ghost use Rattle.capnp_objects.specs.Pointers.{reading, reading_on};
 ghost use Rattle.capnp_objects.specs.declared.pointers.sizes.MeasuredRows.{MeasuredRows};
 ghost use Rattle.capnp_objects.specs.Sizes.{HasRows, IsWordAt, Walks};
 
+use crate::object::{Object, Place, PointerWord};
 use crate::pointers::Pointer;
 use crate::pointers::walk::{Stopped, Walk};
 use capnp_arena_traits::arena::ReaderArena;
-use crate::object::{Object, Place, PointerWord};
 use capnp_words::error::ErrorKind;
 use capnp_words::read_limiter::ReadLimiter;
 use capnp_words::wire_pointer::{WirePointer, WirePointerKind, flat_words, is_of_bits};

@@ -10,12 +10,12 @@ ghost use Rattle.capnp_objects.specs.Pointers.{reading, reading_on};
 ghost use Rattle.capnp_objects.specs.Sizes.{IsWordAt};
 ghost use Rattle.capnp_objects.specs.Validation.{Validates, tally_shape, tally_words, validate_elements, validate_place, validate_pointers};
 
+use crate::object::{Object, Place, PointerWord};
 use crate::pointers::Pointer;
 use crate::pointers::canonical::less;
 use crate::pointers::sizes::rows_of_object;
 use crate::pointers::walk::Stopped;
 use capnp_arena_traits::arena::ReaderArena;
-use crate::object::{Object, Place, PointerWord};
 use capnp_words::error::ErrorKind;
 use capnp_words::read_limiter::ReadLimiter;
 use capnp_words::wire_pointer::{WirePointer, WirePointerKind, flat_words, is_of_bits};

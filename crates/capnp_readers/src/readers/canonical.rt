@@ -10,8 +10,8 @@ ghost use Rattle.capnp_readers.specs.Checking.{StartsWhole, IsDataUsed, ArePoint
 
 use crate::readers::{PointerReader, StructReader};
 use capnp_arena_traits::arena::ReaderArena;
-use capnp_objects::source::Source;
 use capnp_objects::pointers::{CanonicalFault, ends_used};
+use capnp_objects::source::Source;
 use capnp_words::error::ErrorKind;
 use capnp_words::read_limiter::ReadLimiter;
 

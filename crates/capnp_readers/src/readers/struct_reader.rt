@@ -15,8 +15,8 @@ ghost use Rattle.capnp_readers.specs.Sections.{IsPart, IsInside, HasWordsFrom, b
 use crate::readers::{ListReader, NO_SECTIONS, PointerReader, are_bytes};
 use capnp_arena_traits::arena::ReaderArena;
 use capnp_objects::object::Place;
-use capnp_objects::source::Source;
 use capnp_objects::pointers::Pointer;
+use capnp_objects::source::Source;
 use capnp_words::mask::Mask;
 use capnp_words::primitive::Primitive;
 use capnp_words::wire_pointer::{ElementSize, StructSize};

@@ -9,8 +9,8 @@ ghost use Rattle.capnp_refusals.specs.Search.{demanded, permitted, search_elemen
 
 use capnp_arena_traits::arena::ReaderArena;
 use capnp_objects::object::{Object, Place, Purpose};
-use capnp_objects::source::Source;
 use capnp_objects::pointers::Pointer;
+use capnp_objects::source::Source;
 use capnp_words::error::ErrorKind;
 use capnp_words::read_limiter::ReadLimiter;
 

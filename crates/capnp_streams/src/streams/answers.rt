@@ -206,7 +206,11 @@ pub(super) fn answer<A: Allocator, S: ReaderSegments + Drop, W: Output>(
 /// Adds to `fault` the pointer at which the message in `segments` is refused, if `fault` is the
 /// refusal of a pointer and `task` is about the whole message. The message is read once more for
 /// this.
-pub(super) fn located<S: ReaderSegments + Drop>(fault: StreamError, task: Task, segments: S) -> StreamError
+pub(super) fn located<S: ReaderSegments + Drop>(
+    fault: StreamError,
+    task: Task,
+    segments: S,
+) -> StreamError
     requires { IsSmall (S.segments segments) }
     ensures { result ≡ with_pointer task (message (S.segments segments)) fault }
 {

@@ -4,7 +4,7 @@ ghost use Rattle.capnp_streams.specs.Arguments.{assigned_step, budget_of, comman
 
 use super::options::{
     OptionName, Subcommand, ValueOption, looks_like_option, option_of, split_at_equals,
-        subcommand_of,
+    subcommand_of,
 };
 use super::path::{Path, path_of};
 use super::task::{DiffTask, Request, ShowTask, Task};

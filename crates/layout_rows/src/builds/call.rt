@@ -270,8 +270,18 @@ pub static FORMS: [Form<Call>; 65] = [
     ),
     ("set_text", "h", 1, Call::Bytes(Blob::Text, BlobCall::Set)),
     ("set_data", "h", 1, Call::Bytes(Blob::Data, BlobCall::Set)),
-    ("get_text_place", "h", 0, Call::Bytes(Blob::Text, BlobCall::Find)),
-    ("get_data_place", "h", 0, Call::Bytes(Blob::Data, BlobCall::Find)),
+    (
+        "get_text_place",
+        "h",
+        0,
+        Call::Bytes(Blob::Text, BlobCall::Find),
+    ),
+    (
+        "get_data_place",
+        "h",
+        0,
+        Call::Bytes(Blob::Data, BlobCall::Find),
+    ),
     ("get_text", "h", 0, Call::Bytes(Blob::Text, BlobCall::Get)),
     ("get_data", "h", 0, Call::Bytes(Blob::Data, BlobCall::Get)),
     (
