@@ -58,7 +58,6 @@ fn main(rt: HostRuntime) -> anyhow::Result<()> {{
 '''
 SIZES = {'void': 'Void', 'bool': 'Bit', 'int8': 'Byte', 'uint8': 'Byte', 'int16': 'TwoBytes', 'uint16': 'TwoBytes', 'enum': 'TwoBytes', 'int32': 'FourBytes', 'uint32': 'FourBytes', 'float32': 'FourBytes', 'int64': 'EightBytes', 'uint64': 'EightBytes', 'float64': 'EightBytes'}
 
-SIGNED = 'int8', 'int16', 'int32', 'int64'
 
 
 class Copier:
@@ -116,21 +115,12 @@ class Copier:
             to.append(f'{pad}to.set_{setter}(arena);\n' if is_member else '')
         elif what == 'enum':
             to.append(f'{pad}match r.get_{getter}() {{\n{pad}    Ok(v) => to.set_{setter}(arena, v),\n{pad}    Err(_) => {{}}\n{pad}}}\n')
-        elif what in SIGNED:
-            to.append(self.signed(field, is_member, pad))
         elif what in BITS:
             to.append(f'{pad}to.set_{setter}(arena, r.get_{getter}());\n')
         elif what in ('text', 'data', 'struct', 'list'):
             to.append(f'{pad}if r.has_{getter}() {{\n')
             self.pointer(field, to, pad + '    ')
             to.append(f'{pad}}}\n')
-
-    def signed(self, field, is_member, pad):
-        """Copies a number with a sign, which generated builders have no call for."""
-        default = int(field['slot']['defaultValue'].get(kind(field['slot']['type']), 0))
-        tag = f'typed_building::tag::UnionTag {{ offset: {self.tag_offset}, number: {field["discriminantValue"]} }}, ' if is_member else ''
-        call = f'set_number{"_or" if default else ""}{"_member" if is_member else ""}'
-        return f'{pad}typed_building::value::{call}(arena, to.place, {tag}{field["slot"]["offset"]}, r.get_{field["getter"]}(){f", {default}" if default else ""});\n'
 
     def pointer(self, field, to, pad):
         of, getter, setter = field['slot']['type'], field['getter'], field['setter']
@@ -152,7 +142,6 @@ class Copier:
 
     def function(self, node):
         module, body = node['module'], []
-        self.tag_offset = node['struct'].get('discriminantOffset', 0)
         for field in always(node):
             self.field(field, False, body, '    ')
         if 'which' in node:

@@ -63,6 +63,8 @@ BUILDER_BUGS = (
     ('value', 'uint64', r'value::set_number\(arena, self\.place, (\d+), value\)', lambda n: f'value::set_number(arena, self.place, {n}, value & 0xffff)'),
     ('default', 'uint8', r'value::set_number_or\(arena, self\.place, (\d+), value, \d+\)', lambda n: f'value::set_number(arena, self.place, {n}, value)'),
     ('mask', 'uint16', r'value::set_number_or\(arena, self\.place, (\d+), value, 8080\)', lambda n: f'value::set_number_or(arena, self.place, {n}, value, 8081)'),
+    ('mask', 'int16', r'value::set_number_or\(arena, self\.place, (\d+), value, -300\)', lambda n: f'value::set_number_or(arena, self.place, {n}, value, 300)'),
+    ('sign', 'int8', r'value::set_number\(arena, self\.place, (\d+), value\)', lambda n: f'value::set_number(arena, self.place, {n}, value.saturating_abs())'),
     ('sense', 'bool', r'value::set_bool\(arena, self\.place, (\d+), value\)', lambda n: f'value::set_bool(arena, self.place, {n}, !value)'),
     ('bytes', 'text', r'value::set_text\(arena, self\.place, (\d+), text\)', lambda n: f'value::set_text(arena, self.place, {n}, b"")'),
     ('type', 'data', r'value::set_data\(arena, self\.place, (\d+), contents\)', lambda n: f'value::set_data(arena, self.place, {int(n) - 1}, contents)'),

@@ -2,7 +2,7 @@
 
 use crate::building as templates;
 use crate::copying::{write_copy, write_list_copy};
-use crate::fields::{is_in_data, skip, skip_setter, type_of};
+use crate::fields::{is_in_data, skip, type_of};
 use crate::getters::{
     write_enum_getter, write_has, write_list_getter, write_number_getter, write_opening,
     write_structs_opening, write_which,
@@ -242,10 +242,6 @@ impl<'m> Builders<'m> {
         if is_void && !is_member(values) {
             return;
         }
-        if slot.of.lists == 0 && slot.of.base.has_sign() {
-            write_signed(module, slot, values);
-            return;
-        }
         begin_call(module, field.ordinal, slot.of, values);
         if is_void {
             write_void(module, values);
@@ -327,16 +323,6 @@ impl<'m> Builders<'m> {
             put_sections(inner, values);
         }
     }
-}
-
-// Writes the call that returns a number with a sign. The prover doesn't find the proof of one that
-// sets it.
-fn write_signed(module: &mut Module, slot: &Slot, values: &mut Values) {
-    let alloc = module.alloc();
-    values.put_number("bits", slot.of.base.bits());
-    module.specs.add(alloc, values.get("spec"));
-    skip_setter(module, "a number with a sign has no proof", values);
-    write_number_getter(module, slot, values);
 }
 
 /// Whether a field is a member of a union.

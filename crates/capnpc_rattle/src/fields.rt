@@ -31,15 +31,6 @@ pub fn skip(module: &mut Module, why: &str, values: &mut Values) {
         .fill("    // ~name~ isn't written: ~why~.\n", values);
 }
 
-/// Writes a comment in place of the call that sets a field.
-pub fn skip_setter(module: &mut Module, why: &str, values: &mut Values) {
-    values.put("why", why);
-    module.begin();
-    module
-        .body
-        .fill("    // set_~snake~ isn't written: ~why~.\n", values);
-}
-
 /// The element size of a list.
 pub fn element_size(of: Type) -> &'static str {
     if of.lists == 1 {

@@ -318,6 +318,12 @@ Rattle.typed_building.specs.Opened
  opened_list |opened_list
 (opened_struct |opened_struct
 
+Rattle.typed_building.specs.Signed
+(int8_bits |int8_bits
+(int16_bits |int16_bits
+(int32_bits |int32_bits
+(int64_bits |int64_bits
+
 Rattle.typed_building.specs.Slots
  BeginsGroup|BeginsGroup
  ReplacesGroup|ReplacesGroup

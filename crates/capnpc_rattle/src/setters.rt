@@ -17,8 +17,8 @@ pub fn begin_call(module: &mut Module, ordinal: Option<u16>, of: Type, values: &
     }
 }
 
-/// Writes the call that sets a number without a sign, a bit or an enum. `named` has the module and the name of an
-/// enum.
+/// Writes the call that sets a number, a bit or an enum. `named` has the module and the name of an
+/// enum. Of a number with a sign, the bits are stored.
 pub fn write_number(
     module: &mut Module,
     slot: &Slot,
@@ -97,6 +97,7 @@ fn stored(base: Base) -> &'static str {
     match base {
         Base::Bool => "(cond value 1 0)",
         Base::Enum => "(~enum~_number value)",
+        _ if base.has_sign() => "(int~bits~_bits value)",
         _ => "value",
     }
 }

@@ -4,3 +4,4 @@ pub mod Elements
 pub mod Slots
 pub mod Copied
 pub mod Opened
+pub mod Signed

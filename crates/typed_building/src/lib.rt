@@ -5,6 +5,7 @@
 
 pub mod copying;
 pub mod groups;
+pub mod laws;
 pub mod list;
 pub mod opening;
 pub mod reading;
