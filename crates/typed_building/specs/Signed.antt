@@ -1,5 +1,5 @@
--- The bits of numbers with a sign, in two's complement, as a call stores them. The number is handed
--- to the call as its bits, so it is cast there and back (`laws::bits_of_signed`).
+-- The bits that a call stores for a number with a sign: those of two's complement
+-- (`laws::bits_of_signed`). The call gets the number by its bits, so it is cast there and back.
 use Rattle.std.specs.Prelude.{ℕ, ℤ}
 use Rattle.std.specs.Int.{cast_signed, cast_unsigned, w8, w16, w32, w64}
 
