@@ -15,8 +15,8 @@
 - Planted bugs in the readers and the builders of `fields.capnp`, one for each kind of field, are refused by a clause of that
   field.
 
-The gate must have built the libraries of the crates below. With UNPROVED=1 the generator isn't proved and built before its first
-run. The last line is `N passed, M failed`."""
+The gate must have built the libraries of the crates below. If the generator isn't built from its current sources, its first run
+proves and builds it. The last line is `N passed, M failed`."""
 import argparse
 import filecmp
 import pathlib

@@ -11,7 +11,7 @@ loop-at-preserved g c =
     let ws : List ℕ = words_of c.args.segment.now in
     let inside : c.loop-at.at < length ws = omega (arith, words c.args.segment.now) in
     record {
-      left_over = left_over_less _ (record { left_over = c.loop-at.invariant.left_over; appended = c.in_ok-write_word.ensures.written }) (digits-drop ws c.loop-at.at inside ∙ ap (λ (w : ℕ). word_digits w ++ digits_of (drop (c.loop-at.at + 1) ws)) (sym c.word_at.ensures));
+      left_over = left_over_less _ (record { left_over = c.loop-at.invariant.left_over; appended = c.in_ok-write_word_digits.ensures.written }) (digits-drop ws c.loop-at.at inside ∙ ap (λ (w : ℕ). word_digits w ++ digits_of (drop (c.loop-at.at + 1) ws)) (sym c.word_at.ensures));
       works = search rules;
     }
 
