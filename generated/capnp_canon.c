@@ -312,7 +312,6 @@ INLINE u64 c_signal(u32 number, u64 how)
 }
 
 struct s_i16_i16 { u16 f0; u16 f1; };
-struct s_i32_i1 { u32 f0; u8 f1; };
 struct s_i8_i32 { u8 f0; u32 f1; };
 struct s_i8_i64 { u8 f0; u64 f1; };
 struct s_i8_i8 { u8 f0; u8 f1; };
@@ -496,40 +495,37 @@ static const u8 g_static_147[12] = ",\"segments\":";
 static const u8 g_static_148[9] = ",\"words\":";
 static const u8 g_static_149[8] = ",\"root\":";
 static const u8 g_static_150[4] = "null";
-static const u8 g_static_151[1] = "}";
-static const u8 g_static_153[11] = "\"pointer\":[";
-static const u8 g_static_154[14] = "\"double_far\":[";
-static const u8 g_static_155[7] = "\"far\":[";
-static const u8 g_static_156[1] = ",";
-static const u8 g_static_157[2] = "],";
-static const u8 g_static_158[11] = "\"refused\":\"";
-static const u8 g_static_159[2] = "\"}";
-static const u8 g_static_160[13] = "\"capability\":";
-static const u8 g_static_161[7] = "\"void\":";
-static const u8 g_static_162[7] = "\"text\":";
-static const u8 g_static_163[9] = "\"bytes\":\"";
-static const u8 g_static_164[1] = "\"";
-static const u8 g_static_165[2] = "\\\"";
-static const u8 g_static_166[2] = "\\\\";
-static const u8 g_static_167[2] = "\\t";
-static const u8 g_static_168[2] = "\\n";
-static const u8 g_static_169[2] = "\\r";
-static const u8 g_static_170[8] = "\"bits\":[";
-static const u8 g_static_171[7] = "\"u16\":[";
-static const u8 g_static_172[7] = "\"u32\":[";
-static const u8 g_static_173[7] = "\"u64\":[";
-static const u8 g_static_174[2] = "]}";
+static const u8 g_static_152[11] = "\"pointer\":[";
+static const u8 g_static_153[14] = "\"double_far\":[";
+static const u8 g_static_154[7] = "\"far\":[";
+static const u8 g_static_156[2] = "],";
+static const u8 g_static_158[6] = "\"at\":[";
+static const u8 g_static_159[13] = "\"capability\":";
+static const u8 g_static_160[7] = "\"void\":";
+static const u8 g_static_161[7] = "\"text\":";
+static const u8 g_static_163[2] = "\\\"";
+static const u8 g_static_164[2] = "\\\\";
+static const u8 g_static_165[2] = "\\t";
+static const u8 g_static_166[2] = "\\n";
+static const u8 g_static_167[2] = "\\r";
+static const u8 g_static_168[9] = "\"bytes\":\"";
+static const u8 g_static_169[2] = "\"}";
+static const u8 g_static_170[2] = "]}";
+static const u8 g_static_171[8] = "\"bits\":[";
+static const u8 g_static_172[7] = "\"u16\":[";
+static const u8 g_static_173[7] = "\"u32\":[";
+static const u8 g_static_174[7] = "\"u64\":[";
 static const u8 g_static_175[8] = "\"data\":\"";
 static const u8 g_static_176[2] = "\",";
 static const u8 g_static_177[14] = "\"cut\":\"depth\"}";
 static const u8 g_static_178[8] = "\"list\":[";
 static const u8 g_static_179[12] = "\"pointers\":[";
 static const u8 g_static_182[1] = "]";
-static const u8 g_static_183[6] = "\"at\":[";
+static const u8 g_static_183[11] = "\"structs\":[";
 static const u8 g_static_184[13] = "\"data_words\":";
 static const u8 g_static_185[17] = ",\"pointer_count\":";
 static const u8 g_static_186[8] = "\"count\":";
-static const u8 g_static_187[11] = "\"structs\":[";
+static const u8 g_static_187[11] = "\"refused\":\"";
 static const u8 g_static_188[16] = "AllocationFailed";
 static const u8 g_static_189[44] = "CannotCreateACanonicalMessageWithACapability";
 static const u8 g_static_190[34] = "CantHandleNonStructInlineComposite";
@@ -644,8 +640,8 @@ static const u8 g_static_296[2] = "\n"
 static const u8 g_static_297[3] = " ..";
 static const u8 g_static_298[25] = ": only in the first file\n";
 static const u8 g_static_299[26] = ": only in the second file\n";
-static const u64 switch_table_capnp_pointers_pointers_canonical_test_li_c3e4b247[6] = { 0u, 1u, 8u, 16u, 32u, 64u };
-static const u64 switch_table_capnp_pointers_pointers_sizes_add_object__4567bcc5[8] = { 0u, 1u, 8u, 16u, 32u, 64u, 0u, 0u };
+static const u64 switch_table_capnp_objects_pointers_canonical_test_lis_086bba06[6] = { 0u, 1u, 8u, 16u, 32u, 64u };
+static const u64 switch_table_capnp_objects_pointers_sizes_add_object_5_3d258a4b[8] = { 0u, 1u, 8u, 16u, 32u, 64u, 0u, 0u };
 static const u64 switch_table_capnp_copies_copy_copy_object_f743e1513b93edc7[7] = { 0u, 1u, 8u, 16u, 32u, 64u, 0u };
 static const u64 switch_table_capnp_show_show_objects_read_object_5ccc1_1b90c80b[5] = { 1u, 8u, 16u, 32u, 64u };
 static const u64 switch_table_capnp_show_show_lines_show_pointer_5ccc1b_f847c92d[8] = { 4u, 4u, 5u, 3u, 3u, 3u, 3u, 3u };
@@ -718,14 +714,14 @@ static NEVER COLD u8 std_alloc_vec_Vec_grow_amortized_5400d4f5161e8cc6(u8 *a_1);
 static void capnp_streams_streams_answers_answer_9ba1beceb8aac8a5(u8 *a_1, u8 *a_2, u8 *a_3, u8 *a_4, u8 *a_5);
 static void capnp_messages_messages_message_fault_canonical_fault__490a0445(u8 *a_1, u8 *a_2, u8 *a_3);
 static NEVER void capnp_objects_source_follow_far_5ccc1be374b2e488(u8 *a_1, u8 *a_2, u64 a_3, u8 *a_4);
-static struct s_i8_i32 capnp_pointers_pointers_canonical_test_children_5ccc1b_aa7a1372(u8 *a_1, u32 a_2, u32 a_3, u32 a_4, u32 a_5, u8 *a_6);
-static NEVER struct s_i8_i32 capnp_pointers_pointers_canonical_test_list_5ccc1be374b2e488(u8 *a_1, u32 a_2, u64 a_3, u32 a_4, u32 a_5, u8 *a_6);
-static struct s_i8_i32 capnp_pointers_pointers_canonical_test_rows_5ccc1be374b2e488(u8 *a_1, u32 a_2, u16 a_3, u16 a_4, u32 a_5, u32 a_6, u8 *a_7);
+static struct s_i8_i32 capnp_objects_pointers_canonical_test_children_5ccc1be374b2e488(u8 *a_1, u32 a_2, u32 a_3, u32 a_4, u32 a_5, u8 *a_6);
+static NEVER struct s_i8_i32 capnp_objects_pointers_canonical_test_list_5ccc1be374b2e488(u8 *a_1, u32 a_2, u64 a_3, u32 a_4, u32 a_5, u8 *a_6);
+static struct s_i8_i32 capnp_objects_pointers_canonical_test_rows_5ccc1be374b2e488(u8 *a_1, u32 a_2, u16 a_3, u16 a_4, u32 a_5, u32 a_6, u8 *a_7);
 static u8 capnp_streams_streams_writing_write_canonical_words_eb_7e690c63(u8 *a_1, u8 *a_2, u64 a_3, u8 a_4, u8 a_5);
 static u8 capnp_streams_streams_writing_write_hex_line_ebb589c36e6b8e33(u8 *a_1, u8 *a_2, u64 a_3);
 static u8 capnp_framing_devices_writing_write_all_ebb589c36e6b8e33(u8 *a_1, u8 *a_2, u64 a_3);
 static void capnp_streams_streams_parts_copy_asked_ad42fe8b34616de5(u8 *a_1, u8 *a_2, u8 *a_3, u8 *a_4);
-static void capnp_messages_messages_whole_canonical_from_ad42fe8b34616de5(u8 *a_1, u8 *a_2, u8 *a_3, u8 *a_4);
+static void capnp_messages_messages_whole_canonicalize_ad42fe8b34616de5(u8 *a_1, u8 *a_2, u8 *a_3, u8 a_4, u64 a_5);
 static void capnp_messages_messages_canonical_copy_copy_reached_wi_8d1bfcda(u8 *a_1, u8 *a_2, u8 *a_3, u8 *a_4);
 static NEVER COLD u8 std_alloc_vec_Vec_grow_amortized_044c3d3b74b9c55e(u8 *a_1, u64 a_2);
 static NEVER COLD void capnp_messages_messages_copy_memory_CopySegment_zero_up_to(u8 *a_1, u64 a_2);
@@ -757,9 +753,9 @@ static NEVER void capnp_arena_arena_builder_arena_impl_give_back_others__e4469f8
 static NEVER void core_slice_edits_mirror_e0f4f6844e27f7b4(u8 *a_1, u8 *a_2, u64 a_3);
 static u8 capnp_messages_text_write_number_ebb589c36e6b8e33(u8 *a_1, u64 a_2);
 static void capnp_streams_streams_parts_size_asked_a3cb57cd4b1504b3(u8 *a_1, u8 *a_2, u8 *a_3);
-static NEVER u8 capnp_pointers_pointers_sizes_add_object_5ccc1be374b2e488(u8 *a_1, u32 a_2, u32 a_3, u8 *a_4);
+static NEVER u8 capnp_objects_pointers_sizes_add_object_5ccc1be374b2e488(u8 *a_1, u32 a_2, u32 a_3, u8 *a_4);
 static NEVER void capnp_objects_source_Source_measure_object_5ccc1be374b2e488(u8 *a_1, u8 *a_2, u8 *a_3, u32 a_4, u8 *a_5);
-static NEVER u8 capnp_pointers_pointers_sizes_add_pointers_5ccc1be374b2e488(u8 *a_1, u32 a_2, u32 a_3, u32 a_4, u8 *a_5);
+static NEVER u8 capnp_objects_pointers_sizes_add_pointers_5ccc1be374b2e488(u8 *a_1, u32 a_2, u32 a_3, u32 a_4, u8 *a_5);
 static void capnp_streams_streams_parts_digest_asked_37ce5737081a64d7(u8 *a_1, u8 *a_2, u8 *a_3, u8 *a_4);
 static void capnp_messages_messages_canonical_copy_copy_in_room_8e_45be7280(u8 *a_1, u8 *a_2, u8 *a_3, u8 a_4, u64 a_5);
 static NEVER COLD u8 std_alloc_vec_Vec_grow_amortized_aae383c1cebb016e(u8 *a_1);
@@ -784,14 +780,14 @@ static struct s_p_i64 capnp_messages_messages_writing_canonical_bytes_bd7e3d_4a7
 static void sha2_Digest_digest_8314f5c2d9589b12(u8 *a_1, u8 *a_2, u64 a_3);
 static void sha2_block256_Core256_update(u8 *a_1, u8 *a_2, u64 a_3);
 static void sha2_block256_compress(u8 *a_1, u8 *a_2);
-static NEVER void capnp_messages_messages_digest_digest_of_copy_ad42fe8b34616de5(u8 *a_1, u8 *a_2, u8 *a_3, u8 *a_4);
+static NEVER void capnp_messages_messages_whole_digest_digest_of_copy_ad_90329eb6(u8 *a_1, u8 *a_2, u8 *a_3, u8 a_4, u64 a_5);
 static void capnp_arena_arena_builder_arena_impl_BuilderArenaImpl__1592d6b0(u8 *a_1);
 static NEVER void capnp_arena_arena_builder_arena_impl_give_back_others__f61dbe69(u8 *a_1);
 static NEVER void core_slice_edits_mirror_240280a245146760(u8 *a_1, u8 *a_2, u64 a_3);
-static NEVER void capnp_messages_messages_part_digest_digest_of_part_cop_bd8dbb16(u8 *a_1, u8 *a_2, u8 *a_3, u8 *a_4, u64 a_5, u8 *a_6);
-static void capnp_messages_messages_validation_validate_of_a3cb57cd4b1504b3(u8 *a_1, u8 *a_2, u8 *a_3);
-static NEVER u8 capnp_pointers_pointers_validate_validate_object_5ccc1_0a1aa550(u8 *a_1, u32 a_2, u32 a_3, u8 *a_4);
-static NEVER u8 capnp_pointers_pointers_validate_validate_pointers_5cc_67e99f56(u8 *a_1, u32 a_2, u32 a_3, u32 a_4, u8 *a_5);
+static NEVER void capnp_messages_messages_part_digest_digest_of_part_cop_bd8dbb16(u8 *a_1, u8 *a_2, u8 *a_3, u8 *a_4, u64 a_5, u8 a_6, u64 a_7);
+static void capnp_streams_streams_parts_validate_a3cb57cd4b1504b3(u8 *a_1, u8 *a_2, u8 *a_3);
+static NEVER u8 capnp_objects_pointers_validate_validate_object_5ccc1b_507f75cf(u8 *a_1, u32 a_2, u32 a_3, u8 *a_4);
+static NEVER u8 capnp_objects_pointers_validate_validate_pointers_5ccc_6252bdf3(u8 *a_1, u32 a_2, u32 a_3, u32 a_4, u8 *a_5);
 static void capnp_refusals_refusals_pointer_of_refusal_a3cb57cd4b1504b3(u8 *a_1, u8 *a_2, u8 a_3, u8 *a_4, u8 *a_5);
 static void capnp_refusals_refusals_search_search_object_5ccc1be374b2e488(u8 *a_1, u8 a_2, u8 a_3, u8 *a_4, u32 a_5, u32 a_6, u8 *a_7);
 static void capnp_refusals_refusals_search_search_elements_5ccc1be374b2e488(u8 *a_1, u8 a_2, u8 a_3, u8 *a_4, u32 a_5, u32 a_6, u32 a_7, u8 *a_8);
@@ -814,16 +810,15 @@ static NEVER COLD u8 std_alloc_vec_Vec_grow_amortized_9634afabedddd7ee(u8 *a_1, 
 static struct s_i8_i8 capnp_show_show_json_json_pointer_5ccc1be374b2e488(u8 *a_1, u32 a_2, u8 *a_3);
 static struct s_i8_i8 capnp_show_show_json_Json_write_place(u8 *a_1, u8 *a_2, u64 a_3, u64 a_4, u32 a_5);
 static void capnp_show_show_objects_read_object_5ccc1be374b2e488(u8 *a_1, u8 *a_2, u8 *a_3);
-static struct s_i8_i8 capnp_show_show_json_Json_write_refusal(u8 *a_1, u8 *a_2, u64 a_3);
-static struct s_i8_i8 capnp_show_show_json_Json_write_capability(u8 *a_1, u32 a_2);
-static struct s_i8_i8 capnp_show_show_json_Json_write_flat(u8 *a_1, u8 *a_2, u8 a_3, u32 a_4);
+static struct s_i8_i8 capnp_show_show_text_Text_push_last(u8 *a_1, u8 *a_2, u64 a_3, u64 a_4);
 static struct s_i8_i8 capnp_show_show_text_Text_push_quoted(u8 *a_1, u8 *a_2, u64 a_3);
 static struct s_i8_i8 capnp_show_show_json_json_struct_5ccc1be374b2e488(u8 *a_1, u16 a_2, u16 a_3, u32 a_4, u8 *a_5);
 static struct s_i8_i8 capnp_show_show_json_json_pointers_5ccc1be374b2e488(u8 a_1, u8 *a_2, u32 a_3, u32 a_4, u8 *a_5);
+static struct s_i8_i8 capnp_show_show_text_Text_push_array(u8 *a_1, u8 a_2);
 static void capnp_show_show_path_PathText_enter(u8 *a_1, u8 *a_2, u8 a_3, u32 a_4);
-static struct s_i8_i8 capnp_show_show_json_Json_write_sizes(u8 *a_1, u16 a_2, u16 a_3);
-static struct s_i8_i8 capnp_show_show_json_Json_write_count(u8 *a_1, u32 a_2);
+static struct s_i8_i8 capnp_show_show_text_Text_push_sizes(u8 *a_1, u16 a_2, u16 a_3);
 static struct s_i8_i8 capnp_show_show_json_json_elements_5ccc1be374b2e488(u8 *a_1, u16 a_2, u16 a_3, u32 a_4, u32 a_5, u8 *a_6);
+static struct s_i8_i8 capnp_show_show_json_Json_write_refusal(u8 *a_1, u8 *a_2, u64 a_3);
 static void capnp_show_show_message_lines_of_9d3526b9b0726c59(u8 *a_1, u8 *a_2, u8 *a_3, u64 a_4, u64 a_5, u8 *a_6, u64 a_7, u8 *a_8);
 static struct s_i8_i8 capnp_show_show_lines_show_pointer_5ccc1be374b2e488(u8 *a_1, u32 a_2, u8 *a_3);
 static struct s_i8_i8 capnp_show_show_lines_Lines_write_path(u8 *a_1);
@@ -21895,7 +21890,6 @@ l_arm_9w:;
     r_eg_1 = (u64)ld8((slot_12 + 8));
     t_38 = ld64((slot_12 + 16));
     t_z4 = ld32((slot_12 + 24));
-    memset(slot_1, 0u, 32);
     r_yz_1 = ld64(a_4);
     if (r_yz_1 == 0ull) { r_r6 = 0ull; goto l_capnp_t3; }
     r_xw_8 = ldp(away(a_4, 32ull));
@@ -21914,14 +21908,15 @@ l_capnp_jc_1:;
     r_9u_1 = r_36_1;
     goto l_join_y7_1;
 l_capnp_t3:;
-    stp(slot_2, a_4);
-    st32((slot_2 + 8), t_z4);
-    st32((slot_2 + 12), 0u);
-    st64((slot_2 + 16), r_r6);
-    st64(slot_3, r_eg_1);
-    st64((slot_3 + 8), t_38);
-    st64((slot_3 + 16), 0ull);
-    capnp_messages_messages_message_fault_canonical_fault__490a0445(slot_1, slot_2, slot_3);
+    stp(slot_3, a_4);
+    st32((slot_3 + 8), t_z4);
+    st32((slot_3 + 12), 0u);
+    st64((slot_3 + 16), r_r6);
+    memset(slot_1, 0u, 32);
+    st64(slot_2, r_eg_1);
+    st64((slot_2 + 8), t_38);
+    st64((slot_2 + 16), 0ull);
+    capnp_messages_messages_message_fault_canonical_fault__490a0445(slot_1, slot_3, slot_2);
     r_r5_5 = ld8((slot_1 + 8));
     t_uq = ld32((slot_1 + 12));
     r_38_12 = ld64((slot_1 + 16));
@@ -22279,7 +22274,7 @@ l_arm_91:;
     st64(slot_18, (u64)ld8((slot_12 + 8)));
     st64((slot_18 + 8), ld64((slot_12 + 16)));
     st32((slot_18 + 16), ld32((slot_12 + 24)));
-    capnp_messages_messages_validation_validate_of_a3cb57cd4b1504b3(slot_17, a_4, slot_18);
+    capnp_streams_streams_parts_validate_a3cb57cd4b1504b3(slot_17, a_4, slot_18);
     r_x5_17 = (slot_17 + 8);
     if (!(ld8(slot_17) == 0u)) goto l_arm_cc_2;
     r_z4_2 = ld32(r_x5_17);
@@ -22618,14 +22613,14 @@ l_join_4w:;
     r_ff = (r_az + 1u);
     r_68 = (r_ff + r_12);
     r_ts_6 = (r_y6 == 0ull);
-    if (!r_ts_6) goto l_join_kz;
+    if (!r_ts_6) goto l_join_ns;
     struct s_i8_i32 t_ph = (struct s_i8_i32){ 0u, 0u };
     t_ph.f1 = r_68;
     r_d4 = t_ph;
     goto l_capnp_o7;
-l_join_kz:;
-    struct s_i8_i32 r_w7 = capnp_pointers_pointers_canonical_test_children_5ccc1b_aa7a1372(slot_2, r_ff, r_12, (r_ny + 0xffffffffu), r_68, slot_1);
-    r_d4 = r_w7;
+l_join_ns:;
+    struct s_i8_i32 r_8c = capnp_objects_pointers_canonical_test_children_5ccc1be374b2e488(slot_2, r_ff, r_12, (r_ny + 0xffffffffu), r_68, slot_1);
+    r_d4 = r_8c;
 l_capnp_o7:;
     r_xo = r_d4.f1;
     if (!(r_d4.f0 == 0u)) { r_tu = 0u; r_di = 1u; goto l_capnp_cm; }
@@ -22661,7 +22656,7 @@ l_capnp_cm:;
     r_ef = r_i6;
     goto l_capnp_vv;
 l_arm_st:;
-    if (!((u8)((u8)((u8)r_ep & 7u) + 255u) < 5u)) goto l_join_9k;
+    if (!((u8)((u8)((u8)r_ep & 7u) + 255u) < 5u)) goto l_join_9i;
     r_ij = (u64)(r_qw_2 >> 35ull);
     r_c6 = (u64)(((ld64(away(away(((u8 *)switch_table_capnp_show_show_objects_read_object_5ccc1_1b90c80b), 8 * (r_ep & 7ull)), 0xfffffffffffffff8ull)) * r_ij) + 63ull) >> 6ull);
     if (!t_d6) goto l_join_z3;
@@ -22722,9 +22717,9 @@ l_capnp_cm_1:;
     r_i6_1.f1 = r_tu_1;
     r_ef = r_i6_1;
     goto l_capnp_vv;
-l_join_9k:;
-    struct s_i8_i32 r_at = capnp_pointers_pointers_canonical_test_list_5ccc1be374b2e488(slot_2, 0u, r_qw_2, r_ny, 1u, slot_1);
-    r_ef = r_at;
+l_join_9i:;
+    struct s_i8_i32 r_r5 = capnp_objects_pointers_canonical_test_list_5ccc1be374b2e488(slot_2, 0u, r_qw_2, r_ny, 1u, slot_1);
+    r_ef = r_r5;
 l_capnp_vv:;
     r_5h_1 = r_ef.f0;
     r_38_2 = ld64(r_x5_1);
@@ -22955,8 +22950,8 @@ l_join_s8:;
     goto l_common_68;
 }
 
-/* capnp_pointers::pointers::canonical::test_children::<#5ccc1be374b2e488> */
-static struct s_i8_i32 capnp_pointers_pointers_canonical_test_children_5ccc1b_aa7a1372(u8 *a_1, u32 a_2, u32 a_3, u32 a_4, u32 a_5, u8 *a_6)
+/* capnp_objects::pointers::canonical::test_children::<#5ccc1be374b2e488> */
+static struct s_i8_i32 capnp_objects_pointers_canonical_test_children_5ccc1be374b2e488(u8 *a_1, u32 a_2, u32 a_3, u32 a_4, u32 a_5, u8 *a_6)
 {
     u8 *r_xz;
     u8 *r_xm;
@@ -23131,14 +23126,14 @@ l_join_p3:;
     r_w0 = (r_l6 + r_az);
     r_w0_1 = (r_w0 + r_12);
     r_ts_2 = (r_y6 == 0ull);
-    if (!r_ts_2) goto l_join_li;
+    if (!r_ts_2) goto l_join_41;
     struct s_i8_i32 t_ph = (struct s_i8_i32){ 0u, 0u };
     t_ph.f1 = r_w0_1;
     r_d4 = t_ph;
     goto l_capnp_o7;
-l_join_li:;
-    struct s_i8_i32 r_8b = capnp_pointers_pointers_canonical_test_children_5ccc1b_aa7a1372(a_1, r_w0, r_12, r_y0, r_w0_1, a_6);
-    r_d4 = r_8b;
+l_join_41:;
+    struct s_i8_i32 r_oa = capnp_objects_pointers_canonical_test_children_5ccc1be374b2e488(a_1, r_w0, r_12, r_y0, r_w0_1, a_6);
+    r_d4 = r_oa;
 l_capnp_o7:;
     r_xo = r_d4.f1;
     if (!(r_d4.f0 == 0u)) { r_tu = 0u; r_di = 1u; goto l_capnp_cm; }
@@ -23180,7 +23175,7 @@ l_capnp_cm:;
     goto l_capnp_7u;
 l_arm_ui:;
     r_ep_1 = (u64)(r_qw_1 >> 32ull);
-    if (!((u8)((u8)((u8)r_ep_1 & 7u) + 255u) < 5u)) goto l_join_e8;
+    if (!((u8)((u8)((u8)r_ep_1 & 7u) + 255u) < 5u)) goto l_join_6e;
     r_ij = (u64)(r_qw_1 >> 35ull);
     r_c6 = (u64)(((ld64(away(away(((u8 *)switch_table_capnp_show_show_objects_read_object_5ccc1_1b90c80b), 8 * (r_ep_1 & 7ull)), 0xfffffffffffffff8ull)) * r_ij) + 63ull) >> 6ull);
     t_0c_1 = (ld8(a_1) == 0u);
@@ -23250,9 +23245,9 @@ l_capnp_cm_1:;
     r_i6_1.f1 = r_tu_1;
     r_cp = r_i6_1;
     goto l_capnp_7u;
-l_join_e8:;
-    struct s_i8_i32 r_7n = capnp_pointers_pointers_canonical_test_list_5ccc1be374b2e488(a_1, r_7m, r_qw_1, a_4, r_l6, a_6);
-    r_cp = r_7n;
+l_join_6e:;
+    struct s_i8_i32 r_ka = capnp_objects_pointers_canonical_test_list_5ccc1be374b2e488(a_1, r_7m, r_qw_1, a_4, r_l6, a_6);
+    r_cp = r_ka;
 l_capnp_7u:;
     if (r_cp.f0 == 0u) { r_kr = r_cp.f1; goto l_loop_2y; }
     r_us = 0u;
@@ -23275,8 +23270,8 @@ l_return_pr:;
     return r_i6_2;
 }
 
-/* capnp_pointers::pointers::canonical::test_list::<#5ccc1be374b2e488> */
-static NEVER struct s_i8_i32 capnp_pointers_pointers_canonical_test_list_5ccc1be374b2e488(u8 *a_1, u32 a_2, u64 a_3, u32 a_4, u32 a_5, u8 *a_6)
+/* capnp_objects::pointers::canonical::test_list::<#5ccc1be374b2e488> */
+static NEVER struct s_i8_i32 capnp_objects_pointers_canonical_test_list_5ccc1be374b2e488(u8 *a_1, u32 a_2, u64 a_3, u32 a_4, u32 a_5, u8 *a_6)
 {
     A(8) u8 slot_1[56];
     u8 *r_xz;
@@ -23550,7 +23545,7 @@ l_capnp_f9:;
     r_ru = 34u;
     goto l_arm_ud;
 l_arm_s2:;
-    if (r_nz == a_5) goto l_arm_ei;
+    if (r_nz == a_5) goto l_arm_lp;
     goto l_then_um;
 l_then_s2:;
     if (r_nz == a_2) goto l_arm_um;
@@ -23559,7 +23554,7 @@ l_join_s2:;
     if (r_nz == a_5) goto l_arm_um;
     goto l_then_um;
 l_capnp_s2:;
-    if (r_nz == a_5) goto l_arm_mp;
+    if (r_nz == a_5) goto l_arm_tn;
     goto l_then_um;
 l_arm_ud:;
     u8 or_i7 = (u8)((u8)((a_3 & 3ull) == 1ull) & (u8)(r_ru == 26u));
@@ -23580,9 +23575,9 @@ l_then_um:;
     r_us = 0u;
     r_1x = 1u;
     goto l_return_pr;
-l_arm_ei:;
+l_arm_lp:;
     r_xz_3 = away(a_6, 24ull);
-    u64 r_1q = (ld64((((u8 *)switch_table_capnp_pointers_pointers_canonical_test_li_c3e4b247) + (i64)(8 * (u64)r_xq))) * r_ij);
+    u64 r_1q = (ld64((((u8 *)switch_table_capnp_objects_pointers_canonical_test_lis_086bba06) + (i64)(8 * (u64)r_xq))) * r_ij);
     r_eh_1 = (a_5 + (u32)(u64)(r_1q >> 6ull));
     r_4i = (r_1q & 63ull);
     if (r_4i == 0ull) { r_us = r_eh_1; r_1x = 0u; goto l_return_pr; }
@@ -23595,10 +23590,10 @@ l_arm_ei:;
     r_us = 0u;
     r_1x = 1u;
     goto l_return_pr;
-l_arm_mp:;
-    struct s_i8_i32 r_5c = capnp_pointers_pointers_canonical_test_children_5ccc1b_aa7a1372(a_1, a_5, r_12_2, (a_4 + 0xffffffffu), (a_5 + r_12_2), a_6);
-    r_us = r_5c.f1;
-    r_1x = r_5c.f0;
+l_arm_tn:;
+    struct s_i8_i32 r_ce = capnp_objects_pointers_canonical_test_children_5ccc1be374b2e488(a_1, a_5, r_12_2, (a_4 + 0xffffffffu), (a_5 + r_12_2), a_6);
+    r_us = r_ce.f1;
+    r_1x = r_ce.f0;
     goto l_return_pr;
 l_arm_bb:;
     r_y0_1 = (a_4 + 0xffffffffu);
@@ -23615,9 +23610,9 @@ l_arm_bb:;
     goto l_return_pr;
 l_join_1x:;
     if (r_68_1 == 0u) { r_us = r_ll; r_1x = 0u; goto l_return_pr; }
-    struct s_i8_i32 r_vv = capnp_pointers_pointers_canonical_test_rows_5ccc1be374b2e488(a_1, r_ll, t_xg, r_py, t_c8, r_y0_1, a_6);
-    r_us = r_vv.f1;
-    r_1x = r_vv.f0;
+    struct s_i8_i32 r_6c = capnp_objects_pointers_canonical_test_rows_5ccc1be374b2e488(a_1, r_ll, t_xg, r_py, t_c8, r_y0_1, a_6);
+    r_us = r_6c.f1;
+    r_1x = r_6c.f0;
     goto l_return_pr;
 l_arm_um:;
     u64 r_qw_5 = ld64(r_xz);
@@ -23636,8 +23631,8 @@ l_return_pr:;
     return r_i6;
 }
 
-/* capnp_pointers::pointers::canonical::test_rows::<#5ccc1be374b2e488> */
-static struct s_i8_i32 capnp_pointers_pointers_canonical_test_rows_5ccc1be374b2e488(u8 *a_1, u32 a_2, u16 a_3, u16 a_4, u32 a_5, u32 a_6, u8 *a_7)
+/* capnp_objects::pointers::canonical::test_rows::<#5ccc1be374b2e488> */
+static struct s_i8_i32 capnp_objects_pointers_canonical_test_rows_5ccc1be374b2e488(u8 *a_1, u32 a_2, u16 a_3, u16 a_4, u32 a_5, u32 a_6, u8 *a_7)
 {
     u32 r_m2;
     u32 r_m2_1;
@@ -23688,14 +23683,14 @@ static struct s_i8_i32 capnp_pointers_pointers_canonical_test_rows_5ccc1be374b2e
 l_join_l2:;
     r_kq_1 = ((r_68 * (u32)indvars_lg) + a_2);
     r_w0 = (r_kq_1 + r_m2);
-    if (!r_kh_1) goto l_join_2m;
+    if (!r_kh_1) goto l_join_lg;
     struct s_i8_i32 t_ph = (struct s_i8_i32){ 0u, 0u };
     t_ph.f1 = r_23;
     r_ff = t_ph;
     goto l_capnp_28;
-l_join_2m:;
-    struct s_i8_i32 r_xq = capnp_pointers_pointers_canonical_test_children_5ccc1b_aa7a1372(a_1, r_w0, r_m2_1, a_6, r_23, a_7);
-    r_ff = r_xq;
+l_join_lg:;
+    struct s_i8_i32 r_dl = capnp_objects_pointers_canonical_test_children_5ccc1be374b2e488(a_1, r_w0, r_m2_1, a_6, r_23, a_7);
+    r_ff = r_dl;
 l_capnp_28:;
     r_xo = r_ff.f1;
     if (!(r_ff.f0 == 0u)) { r_us = 0u; r_1x = 1u; goto l_return_pr; }
@@ -24007,46 +24002,43 @@ static void capnp_streams_streams_parts_copy_asked_ad42fe8b34616de5(u8 *a_1, u8 
     A(8) u8 slot_6[176];
     A(8) u8 slot_7[136];
     A(8) u8 slot_8[32];
-    A(8) u8 slot_9[24];
+    u8 r_r5;
+    u64 r_38;
     u64 r_52;
-    u8 r_r5_3;
+    u8 r_r5_2;
     u8 r_re;
     u8 r_nj;
     memset(slot_7, 0u, 136);
-    st64((slot_9 + 16), 0ull);
     memcpy(slot_6, a_4, 176);
+    r_r5 = ld8((slot_6 + 8));
+    r_38 = ld64((slot_6 + 16));
     r_52 = ld64((slot_6 + 168));
-    if (!(r_52 == 0ull)) goto l_else_e5;
+    if (!(r_52 == 0ull)) goto l_else_fi;
     mv32(slot_8, a_2);
-    st64(slot_9, (u64)ld8((slot_6 + 8)));
-    st64((slot_9 + 8), ld64((slot_6 + 16)));
-    st32((slot_9 + 16), ld32((slot_6 + 24)));
-    capnp_messages_messages_whole_canonical_from_ad42fe8b34616de5(slot_7, slot_8, a_3, slot_9);
+    capnp_messages_messages_whole_canonicalize_ad42fe8b34616de5(slot_7, slot_8, a_3, r_r5, r_38);
     r_nj = ld8(slot_7);
     goto l_join_79;
-l_else_e5:;
-    u64 r_eg_1 = (u64)ld8((slot_6 + 8));
-    u64 t_38_1 = ld64((slot_6 + 16));
+l_else_fi:;
     mv32(slot_1, a_2);
     memset(slot_3, 0u, 88);
     memset(slot_4, 0u, 136);
-    st64(slot_2, r_eg_1);
-    st64((slot_2 + 8), t_38_1);
+    st64(slot_2, (u64)r_r5);
+    st64((slot_2 + 8), r_38);
     st64((slot_2 + 16), 0ull);
     capnp_messages_messages_path_read_part_9d3526b9b0726c59(slot_3, a_3, (slot_6 + 40), umin64(r_52, 32ull), slot_2);
-    r_r5_3 = ld8((slot_3 + 8));
+    r_r5_2 = ld8((slot_3 + 8));
     if (!(ld8(slot_3) == 0u)) goto l_arm_e5;
-    st64(slot_5, (u64)r_r5_3);
+    st64(slot_5, (u64)r_r5_2);
     memcpy((slot_5 + 8), (slot_3 + 16), 72);
     capnp_messages_messages_canonical_copy_copy_reached_wi_8d1bfcda(slot_4, slot_1, slot_5, slot_2);
     r_re = ld8(slot_4);
     goto l_capnp_sd;
 l_arm_e5:;
     u32 r_uq = ld32((slot_3 + 12));
-    u64 r_38 = ld64((slot_3 + 16));
-    st32((slot_4 + 8), (u32)r_r5_3);
+    u64 r_38_1 = ld64((slot_3 + 16));
+    st32((slot_4 + 8), (u32)r_r5_2);
     st32((slot_4 + 12), r_uq);
-    st64((slot_4 + 16), r_38);
+    st64((slot_4 + 16), r_38_1);
     mv32((slot_4 + 24), slot_1);
     r_re = 1u;
 l_capnp_sd:;
@@ -24058,8 +24050,8 @@ l_join_79:;
     return;
 }
 
-/* capnp_messages::messages::whole::canonical_from::<#ad42fe8b34616de5> */
-static void capnp_messages_messages_whole_canonical_from_ad42fe8b34616de5(u8 *a_1, u8 *a_2, u8 *a_3, u8 *a_4)
+/* capnp_messages::messages::whole::canonicalize::<#ad42fe8b34616de5> */
+static void capnp_messages_messages_whole_canonicalize_ad42fe8b34616de5(u8 *a_1, u8 *a_2, u8 *a_3, u8 a_4, u64 a_5)
 {
     A(8) u8 slot_1[136];
     A(8) u8 slot_2[32];
@@ -24067,8 +24059,6 @@ static void capnp_messages_messages_whole_canonical_from_ad42fe8b34616de5(u8 *a_
     A(8) u8 slot_4[24];
     A(8) u8 slot_5[32];
     A(8) u8 slot_6[80];
-    u8 r_dh;
-    u64 r_qw;
     u8 *r_x5;
     u8 *r_fx;
     u64 r_52_1;
@@ -24077,21 +24067,19 @@ static void capnp_messages_messages_whole_canonical_from_ad42fe8b34616de5(u8 *a_
     u32 r_3l;
     u32 r_rk;
     u64 r_7q;
-    r_dh = ld8(a_4);
-    r_qw = ld64(away(a_4, 8ull));
     memset(slot_6, 0u, 80);
-    st64(slot_4, (u64)r_dh);
+    st64(slot_4, (u64)a_4);
     r_x5 = (slot_4 + 8);
-    st64(r_x5, r_qw);
+    st64(r_x5, a_5);
     st64((slot_4 + 16), 0ull);
     r_fx = ldp(a_3);
     if (ld64(r_fx) == 0ull) { r_6z = 12u; goto l_arm_pa; }
     r_52_1 = ld64(ldp(away(r_fx, 32ull)));
     if ((r_52_1 & 0x1fffffffffffffffull) == 0ull) { r_6z = 23u; goto l_arm_pa; }
-    if (!(r_dh == 1u)) goto l_arm_zz;
-    if (r_qw == 0ull) { r_6z = 30u; goto l_arm_pa; }
+    if (!(a_4 == 1u)) goto l_arm_zz;
+    if (a_5 == 0ull) { r_6z = 30u; goto l_arm_pa; }
     st64(slot_4, 1ull);
-    st64(r_x5, (r_qw + 0xffffffffffffffffull));
+    st64(r_x5, (a_5 + 0xffffffffffffffffull));
 l_arm_zz:;
     u32 r_yf = ld32(away(a_3, 8ull));
     u8 *r_lz = ldp(away(r_fx, 56ull));
@@ -30016,25 +30004,24 @@ static void capnp_streams_streams_parts_size_asked_a3cb57cd4b1504b3(u8 *a_1, u8 
     A(8) u8 slot_5[88];
     A(8) u8 slot_6[176];
     A(8) u8 slot_7[24];
-    u8 *r_a8;
-    u64 a_ot;
     u8 r_r5;
-    u64 r_eg;
     u8 *r_zd;
-    u64 r_6f;
-    u32 r_3l;
-    u32 r_rk;
-    u64 r_7q;
-    u64 t_38;
     u32 t_z4;
-    u8 *t_6c;
     u64 r_yz;
+    u8 r_ts;
     u8 *r_xw;
     u64 r_ma;
     u64 r_9u;
     u64 r_l3;
     u64 r_h3;
-    u64 r_5q;
+    u64 r_r6;
+    u64 r_38;
+    u64 r_52_2;
+    u64 r_6f;
+    u32 r_3l;
+    u32 r_rk;
+    u64 r_7q;
+    u8 *t_6c;
     u64 r_52_3;
     u64 r_sv;
     u8 *r_zd_3;
@@ -30044,24 +30031,16 @@ static void capnp_streams_streams_parts_size_asked_a3cb57cd4b1504b3(u8 *a_1, u8 
     u32 r_cf;
     u32 r_4s;
     u64 r_3d;
-    u64 r_w3;
-    u32 r_fz;
-    u32 r_4q;
-    u64 r_lr;
-    u32 t_z4_1;
-    u64 r_yz_1;
-    u8 *r_xw_1;
-    u64 r_ma_1;
-    u64 r_9u_1;
-    u64 r_l3_1;
-    u64 r_h3_1;
-    u64 r_r6;
-    u8 *r_x5_5;
-    u8 *r_zd_5;
+    u64 r_p0;
+    u32 r_81;
+    u32 r_s5;
+    u64 r_x6;
+    u8 *r_x5_4;
+    u8 *r_zd_4;
     u8 r_r5_2;
-    u64 r_38_2;
-    u8 *r_lk_3;
     u64 r_38_3;
+    u8 *r_lk_2;
+    u64 r_38_4;
     u8 *r_c4_2;
     u32 r_z4_1;
     u32 r_uq_2;
@@ -30069,17 +30048,17 @@ static void capnp_streams_streams_parts_size_asked_a3cb57cd4b1504b3(u8 *a_1, u8 
     u16 r_xv;
     u16 r_f4;
     u8 *t_6c_1;
-    u8 *r_zd_7;
+    u8 *r_zd_6;
     u8 *r_zo_1;
-    u8 *r_lk_5;
+    u8 *r_lk_4;
     u64 r_2g_1;
     u32 r_cf_2;
     u32 r_4s_1;
     u64 r_3d_1;
-    u8 *r_x5_10;
-    u8 *r_zd_8;
+    u8 *r_x5_9;
+    u8 *r_zd_7;
     u8 *r_zo_2;
-    u8 *r_lk_7;
+    u8 *r_lk_6;
     u64 r_2g_2;
     u32 r_cf_4;
     u32 r_4s_2;
@@ -30088,32 +30067,17 @@ static void capnp_streams_streams_parts_size_asked_a3cb57cd4b1504b3(u8 *a_1, u8 
     u32 r_qh;
     u32 r_ip;
     u64 r_wq;
-    u64 r_w3_1;
-    u32 r_fz_1;
-    u32 r_4q_1;
-    u64 r_lr_1;
+    u64 r_w3;
+    u32 r_fz;
+    u32 r_4q;
+    u64 r_lr;
     memcpy(slot_6, a_3, 176);
-    r_a8 = (slot_6 + 40);
-    u64 r_52 = ld64((slot_6 + 168));
-    a_ot = umin64(r_52, 32ull);
     r_r5 = ld8((slot_6 + 8));
-    r_eg = (u64)r_r5;
     r_zd = (slot_6 + 16);
-    if (r_52 == 0ull) goto l_then_fh;
-    goto l_join_jq;
-l_common_6f:;
-    st64(a_1, r_6f);
-    st32(away(a_1, 8ull), r_3l);
-    st32(away(a_1, 12ull), r_rk);
-    st64(away(a_1, 16ull), r_7q);
-    return;
-l_then_fh:;
-    t_38 = ld64(r_zd);
     t_z4 = ld32((slot_6 + 24));
-    t_6c = (slot_3 + 56);
-    st64(t_6c, 0ull);
     r_yz = ld64(a_2);
-    if (r_yz == 0ull) { r_w3 = 1ull; r_fz = 12u; r_4q = 0u; r_lr = 0ull; goto l_capnp_zr; }
+    r_ts = (r_yz == 0ull);
+    if (r_ts) { r_r6 = 0ull; goto l_capnp_t3; }
     r_xw = ldp(away(a_2, 32ull));
     r_ma = 0ull;
     r_9u = 0ull;
@@ -30123,27 +30087,45 @@ l_join_y7:;
     r_l3 = r_um;
     r_h3 = ld64(away(away(r_xw, r_um), 0xfffffffffffffff8ull));
 l_capnp_jc:;
-    r_5q = (((ld64((r_xw + (i64)(r_l3))) - r_h3) & 0x1fffffffffffffffull) + r_ma);
+    u64 r_5q = (((ld64((r_xw + (i64)(r_l3))) - r_h3) & 0x1fffffffffffffffull) + r_ma);
     u64 r_36 = (r_9u + 1ull);
-    if (!(r_36 == r_yz)) { r_ma = r_5q; r_9u = r_36; goto l_join_y7; }
-    stp(slot_2, a_2);
-    st32((slot_2 + 8), t_z4);
-    st32((slot_2 + 12), 0u);
-    st64((slot_2 + 16), r_5q);
-    r_52_3 = ld64(r_xw);
-    if ((r_52_3 & 0x1fffffffffffffffull) == 0ull) { r_w3 = 1ull; r_fz = 23u; r_4q = 0u; r_lr = 0ull; goto l_capnp_zr; }
-    if (!(r_r5 == 1u)) { r_sv = t_38; goto l_arm_eu; }
-    if (t_38 == 0ull) { r_w3 = 1ull; r_fz = 30u; r_4q = 0u; r_lr = 0ull; goto l_capnp_zr; }
-    r_sv = (t_38 + 0xffffffffffffffffull);
+    if (r_36 == r_yz) { r_r6 = r_5q; goto l_capnp_t3; }
+    r_ma = r_5q;
+    r_9u = r_36;
+    goto l_join_y7;
+l_capnp_t3:;
+    stp(slot_7, a_2);
+    st32((slot_7 + 8), t_z4);
+    st32((slot_7 + 12), 0u);
+    st64((slot_7 + 16), r_r6);
+    r_38 = ld64(r_zd);
+    r_52_2 = ld64((slot_6 + 168));
+    if (r_52_2 == 0ull) goto l_then_iw;
+    goto l_else_fi;
+l_common_6f:;
+    st64(a_1, r_6f);
+    st32(away(a_1, 8ull), r_3l);
+    st32(away(a_1, 12ull), r_rk);
+    st64(away(a_1, 16ull), r_7q);
+    return;
+l_then_iw:;
+    t_6c = (slot_2 + 56);
+    st64(t_6c, 0ull);
+    if (r_ts) { r_p0 = 1ull; r_81 = 12u; r_s5 = 0u; r_x6 = 0ull; goto l_capnp_kw; }
+    r_52_3 = ld64(ldp(away(a_2, 32ull)));
+    if ((r_52_3 & 0x1fffffffffffffffull) == 0ull) { r_p0 = 1ull; r_81 = 23u; r_s5 = 0u; r_x6 = 0ull; goto l_capnp_kw; }
+    if (!(r_r5 == 1u)) { r_sv = r_38; goto l_arm_eu; }
+    if (r_38 == 0ull) { r_p0 = 1ull; r_81 = 30u; r_s5 = 0u; r_x6 = 0ull; goto l_capnp_kw; }
+    r_sv = (r_38 + 0xffffffffffffffffull);
 l_arm_eu:;
     u8 *r_lz = ldp(away(a_2, 56ull));
-    st64(slot_3, 0ull);
-    st64((slot_3 + 8), (u64)(uptr)slot_2);
-    memset((slot_3 + 16), 0u, 16);
-    stp((slot_3 + 32), r_lz);
-    st64((slot_3 + 40), (u64)(r_52_3 << 3ull));
-    st32((slot_3 + 48), 0u);
-    st32((slot_3 + 52), 0u);
+    st64(slot_2, 0ull);
+    st64((slot_2 + 8), (u64)(uptr)slot_7);
+    memset((slot_2 + 16), 0u, 16);
+    stp((slot_2 + 32), r_lz);
+    st64((slot_2 + 40), (u64)(r_52_3 << 3ull));
+    st32((slot_2 + 48), 0u);
+    st32((slot_2 + 52), 0u);
     st32(t_6c, t_z4);
     r_zd_3 = (slot_1 + 16);
     memset(slot_1, 0u, 16);
@@ -30152,11 +30134,11 @@ l_arm_eu:;
     st32(r_zo, 0u);
     r_lk_1 = (slot_1 + 24);
     st64(r_lk_1, 0ull);
-    st64((slot_1 + 32), r_eg);
+    st64((slot_1 + 32), (u64)r_r5);
     st64((slot_1 + 40), r_sv);
     st64((slot_1 + 48), 0ull);
-    u8 r_kc = capnp_pointers_pointers_sizes_add_object_5ccc1be374b2e488(slot_3, 0u, t_z4, slot_1);
-    if ((u8)(r_kc & 1)) goto l_arm_t6;
+    u8 r_m3 = capnp_objects_pointers_sizes_add_object_5ccc1be374b2e488(slot_2, 0u, t_z4, slot_1);
+    if ((u8)(r_m3 & 1)) goto l_arm_t6;
     r_2g = 0ull;
     r_cf = ld32(slot_1);
     r_4s = ld32((slot_1 + 4));
@@ -30168,53 +30150,29 @@ l_arm_t6:;
     r_4s = ld32(r_zo);
     r_3d = ld64(r_lk_1);
 l_capnp_8g:;
-    r_w3 = r_2g;
-    r_fz = r_cf;
-    r_4q = r_4s;
-    r_lr = r_3d;
-l_capnp_zr:;
-    r_6f = r_w3;
-    r_3l = r_fz;
-    r_rk = r_4q;
-    r_7q = r_lr;
+    r_p0 = r_2g;
+    r_81 = r_cf;
+    r_s5 = r_4s;
+    r_x6 = r_3d;
+l_capnp_kw:;
+    r_6f = r_p0;
+    r_3l = r_81;
+    r_rk = r_s5;
+    r_7q = r_x6;
     goto l_common_6f;
-l_join_jq:;
-    t_z4_1 = ld32((slot_6 + 24));
-    r_yz_1 = ld64(a_2);
-    if (r_yz_1 == 0ull) { r_r6 = 0ull; goto l_capnp_t3; }
-    r_xw_1 = ldp(away(a_2, 32ull));
-    r_ma_1 = 0ull;
-    r_9u_1 = 0ull;
-l_join_y7_1:;
-    if ((r_9u_1 & 0xffffffffull) == 0ull) { r_l3_1 = 0ull; r_h3_1 = 0ull; goto l_capnp_jc_1; }
-    u64 r_um_1 = ((u64)(r_9u_1 << 3ull) & 0x7fffffff8ull);
-    r_l3_1 = r_um_1;
-    r_h3_1 = ld64(away(away(r_xw_1, r_um_1), 0xfffffffffffffff8ull));
-l_capnp_jc_1:;
-    u64 r_5q_1 = (((ld64((r_xw_1 + (i64)(r_l3_1))) - r_h3_1) & 0x1fffffffffffffffull) + r_ma_1);
-    u64 r_36_1 = (r_9u_1 + 1ull);
-    if (r_36_1 == r_yz_1) { r_r6 = r_5q_1; goto l_capnp_t3; }
-    r_ma_1 = r_5q_1;
-    r_9u_1 = r_36_1;
-    goto l_join_y7_1;
-l_capnp_t3:;
-    stp(slot_7, a_2);
-    st32((slot_7 + 8), t_z4_1);
-    st32((slot_7 + 12), 0u);
-    st64((slot_7 + 16), r_r6);
-    u64 t_38_1 = ld64(r_zd);
+l_else_fi:;
     memset(slot_5, 0u, 88);
-    st64(slot_4, r_eg);
-    r_x5_5 = (slot_4 + 8);
-    st64(r_x5_5, t_38_1);
-    r_zd_5 = (slot_4 + 16);
-    st64(r_zd_5, 0ull);
-    capnp_messages_messages_path_read_part_9d3526b9b0726c59(slot_5, slot_7, r_a8, a_ot, slot_4);
+    st64(slot_4, (u64)r_r5);
+    r_x5_4 = (slot_4 + 8);
+    st64(r_x5_4, r_38);
+    r_zd_4 = (slot_4 + 16);
+    st64(r_zd_4, 0ull);
+    capnp_messages_messages_path_read_part_9d3526b9b0726c59(slot_5, slot_7, (slot_6 + 40), umin64(r_52_2, 32ull), slot_4);
     r_r5_2 = ld8((slot_5 + 8));
-    r_38_2 = ld64((slot_5 + 16));
+    r_38_3 = ld64((slot_5 + 16));
     if (!(ld8(slot_5) == 0u)) goto l_arm_t1;
-    r_lk_3 = (slot_5 + 24);
-    r_38_3 = ld64((slot_5 + 40));
+    r_lk_2 = (slot_5 + 24);
+    r_38_4 = ld64((slot_5 + 40));
     r_c4_2 = (slot_5 + 48);
     r_z4_1 = ld32((slot_5 + 64));
     r_uq_2 = ld32((slot_5 + 68));
@@ -30224,28 +30182,28 @@ l_capnp_t3:;
     t_6c_1 = (slot_2 + 56);
     st64(t_6c_1, 0ull);
     if (!(r_r5_2 == 0u)) goto l_arm_tb;
-    st64(slot_2, (r_38_2 & 255ull));
-    mv16((slot_2 + 8), r_lk_3);
-    st64((slot_2 + 24), r_38_3);
+    st64(slot_2, (r_38_3 & 255ull));
+    mv16((slot_2 + 8), r_lk_2);
+    st64((slot_2 + 24), r_38_4);
     mv16((slot_2 + 32), r_c4_2);
     st32((slot_2 + 48), r_z4_1);
     st32((slot_2 + 52), r_uq_2);
     st32(t_6c_1, r_z4_2);
-    r_zd_7 = (slot_1 + 16);
-    u64 r_eg_1 = (u64)ld8(slot_4);
-    u64 r_38_4 = ld64(r_x5_5);
-    u64 r_38_5 = ld64(r_zd_5);
+    r_zd_6 = (slot_1 + 16);
+    u64 r_eg_2 = (u64)ld8(slot_4);
+    u64 r_38_5 = ld64(r_x5_4);
+    u64 r_38_6 = ld64(r_zd_4);
     memset(slot_1, 0u, 16);
-    st32(r_zd_7, 30u);
+    st32(r_zd_6, 30u);
     r_zo_1 = (slot_1 + 20);
     st32(r_zo_1, 0u);
-    r_lk_5 = (slot_1 + 24);
-    st64(r_lk_5, 0ull);
-    st64((slot_1 + 32), r_eg_1);
-    st64((slot_1 + 40), r_38_4);
-    st64((slot_1 + 48), r_38_5);
-    u8 r_xk = capnp_pointers_pointers_sizes_add_object_5ccc1be374b2e488(slot_2, r_z4_1, r_z4_2, slot_1);
-    if ((u8)(r_xk & 1)) goto l_arm_t6_1;
+    r_lk_4 = (slot_1 + 24);
+    st64(r_lk_4, 0ull);
+    st64((slot_1 + 32), r_eg_2);
+    st64((slot_1 + 40), r_38_5);
+    st64((slot_1 + 48), r_38_6);
+    u8 r_b6 = capnp_objects_pointers_sizes_add_object_5ccc1be374b2e488(slot_2, r_z4_1, r_z4_2, slot_1);
+    if ((u8)(r_b6 & 1)) goto l_arm_t6_1;
     r_2g_1 = 0ull;
     r_cf_2 = ld32(slot_1);
     r_4s_1 = ld32((slot_1 + 4));
@@ -30253,9 +30211,9 @@ l_capnp_t3:;
     goto l_capnp_8g_1;
 l_arm_t6_1:;
     r_2g_1 = 1ull;
-    r_cf_2 = (u32)ld8(r_zd_7);
+    r_cf_2 = (u32)ld8(r_zd_6);
     r_4s_1 = ld32(r_zo_1);
-    r_3d_1 = ld64(r_lk_5);
+    r_3d_1 = ld64(r_lk_4);
 l_capnp_8g_1:;
     r_2b = r_2g_1;
     r_qh = r_cf_2;
@@ -30266,9 +30224,9 @@ l_arm_tb:;
     u32 r_00 = (u32)r_xv;
     u32 r_00_1 = (u32)r_f4;
     u32 r_w0 = (r_z4_1 + r_00);
-    st64(slot_3, (r_38_2 & 255ull));
-    mv16((slot_3 + 8), r_lk_3);
-    st64((slot_3 + 24), r_38_3);
+    st64(slot_3, (r_38_3 & 255ull));
+    mv16((slot_3 + 8), r_lk_2);
+    st64((slot_3 + 24), r_38_4);
     mv16((slot_3 + 32), r_c4_2);
     st32((slot_3 + 48), r_w0);
     st32((slot_3 + 52), 0u);
@@ -30276,60 +30234,60 @@ l_arm_tb:;
     st32((slot_3 + 60), 0u);
     st32((slot_3 + 64), r_00_1);
     st32((slot_3 + 68), 0u);
-    u64 r_eg_2 = (u64)ld8(slot_4);
-    u64 r_38_8 = ld64(r_x5_5);
-    u64 r_38_9 = ld64(r_zd_5);
+    u64 r_eg_3 = (u64)ld8(slot_4);
+    u64 r_38_9 = ld64(r_x5_4);
+    u64 r_38_10 = ld64(r_zd_4);
     st64(slot_1, (u64)(r_00_1 + r_00));
-    r_x5_10 = (slot_1 + 8);
-    st32(r_x5_10, 0u);
+    r_x5_9 = (slot_1 + 8);
+    st32(r_x5_9, 0u);
     st32((slot_1 + 12), 0u);
-    r_zd_8 = (slot_1 + 16);
-    st32(r_zd_8, 30u);
+    r_zd_7 = (slot_1 + 16);
+    st32(r_zd_7, 30u);
     r_zo_2 = (slot_1 + 20);
     st32(r_zo_2, 0u);
-    r_lk_7 = (slot_1 + 24);
-    st64(r_lk_7, 0ull);
-    st64((slot_1 + 32), r_eg_2);
-    st64((slot_1 + 40), r_38_8);
-    st64((slot_1 + 48), r_38_9);
-    u8 r_jq = capnp_pointers_pointers_sizes_add_pointers_5ccc1be374b2e488(slot_3, r_w0, r_00_1, r_z4_2, slot_1);
-    if ((u8)(r_jq & 1)) goto l_arm_t6_2;
+    r_lk_6 = (slot_1 + 24);
+    st64(r_lk_6, 0ull);
+    st64((slot_1 + 32), r_eg_3);
+    st64((slot_1 + 40), r_38_9);
+    st64((slot_1 + 48), r_38_10);
+    u8 r_b2 = capnp_objects_pointers_sizes_add_pointers_5ccc1be374b2e488(slot_3, r_w0, r_00_1, r_z4_2, slot_1);
+    if ((u8)(r_b2 & 1)) goto l_arm_t6_2;
     r_2g_2 = 0ull;
     r_cf_4 = ld32(slot_1);
     r_4s_2 = ld32((slot_1 + 4));
-    r_3d_2 = ld64(r_x5_10);
+    r_3d_2 = ld64(r_x5_9);
     goto l_capnp_8g_2;
 l_arm_t6_2:;
     r_2g_2 = 1ull;
-    r_cf_4 = (u32)ld8(r_zd_8);
+    r_cf_4 = (u32)ld8(r_zd_7);
     r_4s_2 = ld32(r_zo_2);
-    r_3d_2 = ld64(r_lk_7);
+    r_3d_2 = ld64(r_lk_6);
 l_capnp_8g_2:;
     r_2b = r_2g_2;
     r_qh = r_cf_4;
     r_ip = r_4s_2;
     r_wq = r_3d_2;
 l_capnp_no:;
-    r_w3_1 = r_2b;
-    r_fz_1 = r_qh;
-    r_4q_1 = r_ip;
-    r_lr_1 = r_wq;
-    goto l_capnp_zr_1;
+    r_w3 = r_2b;
+    r_fz = r_qh;
+    r_4q = r_ip;
+    r_lr = r_wq;
+    goto l_capnp_zr;
 l_arm_t1:;
-    r_w3_1 = 1ull;
-    r_fz_1 = (u32)r_r5_2;
-    r_4q_1 = ld32((slot_5 + 12));
-    r_lr_1 = r_38_2;
-l_capnp_zr_1:;
-    r_6f = r_w3_1;
-    r_3l = r_fz_1;
-    r_rk = r_4q_1;
-    r_7q = r_lr_1;
+    r_w3 = 1ull;
+    r_fz = (u32)r_r5_2;
+    r_4q = ld32((slot_5 + 12));
+    r_lr = r_38_3;
+l_capnp_zr:;
+    r_6f = r_w3;
+    r_3l = r_fz;
+    r_rk = r_4q;
+    r_7q = r_lr;
     goto l_common_6f;
 }
 
-/* capnp_pointers::pointers::sizes::add_object::<#5ccc1be374b2e488> */
-static NEVER u8 capnp_pointers_pointers_sizes_add_object_5ccc1be374b2e488(u8 *a_1, u32 a_2, u32 a_3, u8 *a_4)
+/* capnp_objects::pointers::sizes::add_object::<#5ccc1be374b2e488> */
+static NEVER u8 capnp_objects_pointers_sizes_add_object_5ccc1be374b2e488(u8 *a_1, u32 a_2, u32 a_3, u8 *a_4)
 {
     A(8) u8 slot_1[64];
     A(8) u8 slot_2[56];
@@ -30416,14 +30374,14 @@ static NEVER u8 capnp_pointers_pointers_sizes_add_object_5ccc1be374b2e488(u8 *a_
     switch (r_r5) {
     case 0u: { r_8m = 0ull; goto l_capnp_my; }
     case 1u: { r_8m = 0ull; goto l_capnp_my; }
-    case 3u: goto l_arm_yk;
+    case 3u: goto l_arm_6l;
     case 2u: goto l_arm_1x;
     case 4u: goto l_arm_nl;
     case 5u: goto l_arm_kb;
     default: goto l_noarm_e1;
     }
-l_arm_yk:;
-    r_8m = (u64)(((ld64((((u8 *)switch_table_capnp_pointers_pointers_sizes_add_object__4567bcc5) + (i64)(8 * (u64)(r_z4 & 255u)))) * (u64)r_uq) + 63ull) >> 6ull);
+l_arm_6l:;
+    r_8m = (u64)(((ld64((((u8 *)switch_table_capnp_objects_pointers_sizes_add_object_5_3d258a4b) + (i64)(8 * (u64)(r_z4 & 255u)))) * (u64)r_uq) + 63ull) >> 6ull);
     goto l_capnp_my;
 l_arm_1x:;
     r_8m = (u64)((u32)(r_z4 >> 16u) + (r_z4 & 65535u));
@@ -30536,8 +30494,8 @@ l_join_x4:;
     switch ((u8)((u8)r_qw & 3u)) {
     case 0u: goto l_arm_vb;
     case 1u: goto l_arm_ui;
-    case 2u: goto l_after_5f;
-    case 3u: goto l_after_5f;
+    case 2u: goto l_after_e9;
+    case 3u: goto l_after_e9;
     default: goto l_default_e1;
     }
 l_arm_vb:;
@@ -30588,20 +30546,20 @@ l_arm_h4:;
 l_arm_dt:;
     st64(a_4, (r_yz_1 + r_es_3));
     if (r_y6 == 0ull) goto l_loop_aa;
-    goto l_join_5h;
+    goto l_join_g1;
 l_arm_0l:;
     st32(r_08_3, 27u);
     st32(r_m3_3, 0u);
     st64(r_xz_4, 0xffffffffffffffffull);
     r_fk = 1u;
     goto l_return_ri;
-l_join_5h:;
-    u8 r_ky = capnp_pointers_pointers_sizes_add_pointers_5ccc1be374b2e488(slot_1, (r_6l + r_az_4), r_12, r_53, a_4);
-    r_hf = r_ky;
+l_join_g1:;
+    u8 r_eh = capnp_objects_pointers_sizes_add_pointers_5ccc1be374b2e488(slot_1, (r_6l + r_az_4), r_12, r_53, a_4);
+    r_hf = r_eh;
     goto l_capnp_5o;
 l_arm_ui:;
     r_ep_1 = (u64)(r_qw >> 32ull);
-    if (!((u8)((u8)((u8)r_ep_1 & 7u) + 255u) < 5u)) goto l_after_5f;
+    if (!((u8)((u8)((u8)r_ep_1 & 7u) + 255u) < 5u)) goto l_after_e9;
     r_c6_1 = (u64)(((ld64(away(away(((u8 *)switch_table_capnp_show_show_objects_read_object_5ccc1_1b90c80b), 8 * (r_ep_1 & 7ull)), 0xfffffffffffffff8ull)) * (u64)(r_qw >> 35ull)) + 63ull) >> 6ull);
     if (r_n1) { r_dq_1 = 25u; goto l_arm_h4_1; }
     if (!t_0c_1) goto l_join_bd_1;
@@ -30642,9 +30600,9 @@ l_arm_h4_1:;
     st64(r_xz_4, 0ull);
     r_fk = 1u;
     goto l_return_ri;
-l_after_5f:;
-    u8 r_oc = capnp_pointers_pointers_sizes_add_object_5ccc1be374b2e488(slot_1, r_sr, r_e3, a_4);
-    r_hf = r_oc;
+l_after_e9:;
+    u8 r_z5 = capnp_objects_pointers_sizes_add_object_5ccc1be374b2e488(slot_1, r_sr, r_e3, a_4);
+    r_hf = r_z5;
     goto l_capnp_5o;
 l_default_e1:;
     UNREACHABLE();
@@ -30961,8 +30919,8 @@ l_capnp_6f:;
     return;
 }
 
-/* capnp_pointers::pointers::sizes::add_pointers::<#5ccc1be374b2e488> */
-static NEVER u8 capnp_pointers_pointers_sizes_add_pointers_5ccc1be374b2e488(u8 *a_1, u32 a_2, u32 a_3, u32 a_4, u8 *a_5)
+/* capnp_objects::pointers::sizes::add_pointers::<#5ccc1be374b2e488> */
+static NEVER u8 capnp_objects_pointers_sizes_add_pointers_5ccc1be374b2e488(u8 *a_1, u32 a_2, u32 a_3, u32 a_4, u8 *a_5)
 {
     u8 *r_su;
     u8 *r_xm;
@@ -31035,8 +30993,8 @@ l_join_7l:;
     switch ((u8)((u8)r_qw_1 & 3u)) {
     case 0u: goto l_arm_vb;
     case 1u: goto l_arm_ui;
-    case 2u: goto l_after_mx;
-    case 3u: goto l_after_mx;
+    case 2u: goto l_after_ti;
+    case 3u: goto l_after_ti;
     default: goto l_default_e1;
     }
 l_arm_vb:;
@@ -31081,12 +31039,12 @@ l_arm_up:;
     if (r_yz > (r_es_1 ^ 0xffffffffffffffffull)) { sink_qh = 27u; sink_dw = 0xffffffffffffffffull; goto l_capnp_y7; }
     st64(a_5, (r_yz + r_es_1));
     if (r_y6 == 0ull) goto l_loop_da;
-    u8 r_kn = capnp_pointers_pointers_sizes_add_pointers_5ccc1be374b2e488(a_1, (r_6l + r_az), r_12, r_ra, a_5);
-    r_t4 = r_kn;
+    u8 r_x6 = capnp_objects_pointers_sizes_add_pointers_5ccc1be374b2e488(a_1, (r_6l + r_az), r_12, r_ra, a_5);
+    r_t4 = r_x6;
     goto l_capnp_qq;
 l_arm_ui:;
     r_ep_1 = (u64)(r_qw_1 >> 32ull);
-    if (!((u8)((u8)((u8)r_ep_1 & 7u) + 255u) < 5u)) goto l_after_mx;
+    if (!((u8)((u8)((u8)r_ep_1 & 7u) + 255u) < 5u)) goto l_after_ti;
     r_c6 = (u64)(((ld64(away(away(((u8 *)switch_table_capnp_show_show_objects_read_object_5ccc1_1b90c80b), 8 * (r_ep_1 & 7ull)), 0xfffffffffffffff8ull)) * (u64)(r_qw_1 >> 35ull)) + 63ull) >> 6ull);
     if (r_30) { sink_qh = 25u; sink_dw = 0ull; goto l_capnp_y7; }
     t_0c = (ld8(a_1) == 0u);
@@ -31117,9 +31075,9 @@ l_arm_8q:;
     if (r_yz_1 > (r_c6 ^ 0xffffffffffffffffull)) { sink_qh = 27u; sink_dw = 0xffffffffffffffffull; goto l_capnp_y7; }
     st64(a_5, (r_yz_1 + r_c6));
     goto l_loop_da;
-l_after_mx:;
-    u8 r_ua = capnp_pointers_pointers_sizes_add_object_5ccc1be374b2e488(a_1, r_7m, a_4, a_5);
-    r_t4 = r_ua;
+l_after_ti:;
+    u8 r_xz_1 = capnp_objects_pointers_sizes_add_object_5ccc1be374b2e488(a_1, r_7m, a_4, a_5);
+    r_t4 = r_xz_1;
     goto l_capnp_qq;
 l_default_e1:;
     UNREACHABLE();
@@ -31142,46 +31100,40 @@ static void capnp_streams_streams_parts_digest_asked_37ce5737081a64d7(u8 *a_1, u
     A(8) u8 slot_2[24];
     A(8) u8 slot_3[80];
     A(8) u8 slot_4[88];
-    A(8) u8 slot_5[80];
-    A(8) u8 slot_6[512];
-    A(8) u8 slot_7[112];
-    A(8) u8 slot_8[512];
+    A(8) u8 slot_5[512];
+    A(8) u8 slot_6[112];
+    A(8) u8 slot_7[512];
+    A(8) u8 slot_8[112];
     A(8) u8 slot_9[112];
     A(8) u8 slot_10[112];
     A(8) u8 slot_11[112];
     A(8) u8 slot_12[112];
     A(8) u8 slot_13[112];
-    A(8) u8 slot_14[112];
-    A(1) u8 slot_15[39];
-    A(1) u8 slot_16[7];
-    A(8) u8 slot_17[9];
-    A(1) u8 slot_18[39];
-    A(8) u8 slot_19[24];
-    A(1) u8 slot_20[7];
-    A(8) u8 slot_21[9];
-    A(1) u8 slot_22[39];
-    A(8) u8 slot_23[176];
-    A(8) u8 slot_24[24];
-    u8 *r_a8;
-    u64 a_ot;
+    A(1) u8 slot_14[39];
+    A(8) u8 slot_15[176];
+    A(8) u8 slot_16[24];
+    A(1) u8 slot_17[7];
+    A(8) u8 slot_18[9];
+    A(1) u8 slot_19[39];
     u8 r_r5;
-    u64 r_eg;
     u8 *r_zd;
-    u8 r_0r;
-    u32 r_af;
-    u32 r_bj;
-    u64 r_q2;
-    u8 *r_xr;
-    u64 t_38;
     u32 t_z4;
     u64 r_yz;
-    u8 r_ts_1;
+    u8 r_ts;
     u8 *r_xw;
     u64 r_ma;
     u64 r_9u;
     u64 r_l3;
     u64 r_h3;
     u64 r_r6;
+    u64 r_38;
+    u8 *r_a8;
+    u64 a_ot;
+    u8 r_0r;
+    u32 r_af;
+    u32 r_bj;
+    u64 r_q2;
+    u8 *r_xr;
     u8 *t_5q;
     u64 r_52_3;
     u8 r_7k;
@@ -31201,57 +31153,28 @@ static void capnp_streams_streams_parts_digest_asked_37ce5737081a64d7(u8 *a_1, u
     u32 r_if;
     u32 r_ek;
     u64 r_y4;
-    u32 t_z4_1;
-    u64 r_yz_1;
-    u8 *r_xw_3;
-    u64 r_ma_1;
-    u64 r_9u_1;
-    u64 r_l3_1;
-    u64 r_h3_1;
-    u64 r_xk;
-    u8 *r_x5_14;
+    u8 *r_x5_10;
     u8 r_r5_4;
-    u64 r_38_3;
+    u64 r_38_4;
     u8 t_dd_1;
     u8 r_pp_1;
     u64 r_2g_1;
     u32 r_qb_1;
-    u32 r_m5_1;
-    u64 r_8z_1;
+    u8 r_m5_1;
+    u32 r_8z_1;
     u32 r_q8_1;
-    u8 r_nh_1;
+    u64 r_nh_1;
     u8 *r_ls_1;
-    memset(slot_20, 0u, 7);
-    memset(slot_21, 0u, 9);
-    memset(slot_22, 0u, 39);
-    memset(slot_24, 0u, 24);
-    memcpy(slot_23, a_4, 176);
-    r_a8 = (slot_23 + 40);
-    u64 r_52 = ld64((slot_23 + 168));
-    a_ot = umin64(r_52, 32ull);
-    r_r5 = ld8((slot_23 + 8));
-    r_eg = (u64)r_r5;
-    r_zd = (slot_23 + 16);
-    if (r_52 == 0ull) goto l_then_fh;
-    goto l_join_jq;
-l_common_zd:;
-    st8(a_1, r_0r);
-    mv7(away(a_1, 1ull), slot_20);
-    st32(away(a_1, 8ull), r_af);
-    st32(away(a_1, 12ull), r_bj);
-    st64(away(a_1, 16ull), r_q2);
-    mv9(away(a_1, 24ull), slot_21);
-    mv32(away(a_1, 40ull), r_xr);
-    return;
-l_then_fh:;
-    t_38 = ld64(r_zd);
-    t_z4 = ld32((slot_23 + 24));
-    memset(slot_16, 0u, 7);
-    memset(slot_17, 0u, 9);
-    memset(slot_18, 0u, 39);
+    memset(slot_17, 0u, 7);
+    memset(slot_18, 0u, 9);
+    memset(slot_19, 0u, 39);
+    memcpy(slot_15, a_4, 176);
+    r_r5 = ld8((slot_15 + 8));
+    r_zd = (slot_15 + 16);
+    t_z4 = ld32((slot_15 + 24));
     r_yz = ld64(a_3);
-    r_ts_1 = (r_yz == 0ull);
-    if (r_ts_1) { r_r6 = 0ull; goto l_capnp_t3; }
+    r_ts = (r_yz == 0ull);
+    if (r_ts) { r_r6 = 0ull; goto l_capnp_t3; }
     r_xw = ldp(away(a_3, 32ull));
     r_ma = 0ull;
     r_9u = 0ull;
@@ -31268,45 +31191,56 @@ l_capnp_jc:;
     r_9u = r_36;
     goto l_join_y7;
 l_capnp_t3:;
-    stp(slot_19, a_3);
-    st32((slot_19 + 8), t_z4);
-    st32((slot_19 + 12), 0u);
-    st64((slot_19 + 16), r_r6);
-    memset(slot_13, 0u, 7);
-    memset(slot_14, 0u, 9);
-    memset(slot_15, 0u, 39);
-    if (!(r_r6 < 64ull)) goto l_else_xs;
+    stp(slot_16, a_3);
+    st32((slot_16 + 8), t_z4);
+    st32((slot_16 + 12), 0u);
+    st64((slot_16 + 16), r_r6);
+    r_38 = ld64(r_zd);
+    r_a8 = (slot_15 + 40);
+    u64 r_52_2 = ld64((slot_15 + 168));
+    a_ot = umin64(r_52_2, 32ull);
+    if (r_52_2 == 0ull) goto l_then_lq;
+    goto l_else_xs;
+l_common_zd:;
+    st8(a_1, r_0r);
+    mv7(away(a_1, 1ull), slot_17);
+    st32(away(a_1, 8ull), r_af);
+    st32(away(a_1, 12ull), r_bj);
+    st64(away(a_1, 16ull), r_q2);
+    mv9(away(a_1, 24ull), slot_18);
+    mv32(away(a_1, 40ull), r_xr);
+    return;
+l_then_lq:;
+    memset(slot_12, 0u, 7);
+    memset(slot_13, 0u, 9);
+    memset(slot_14, 0u, 39);
+    if (!(r_r6 < 64ull)) goto l_else_ug;
     mv32(slot_4, a_2);
-    u8 *t_zd = (slot_5 + 16);
-    st64(t_zd, 0ull);
-    st64(slot_5, r_eg);
-    st64((slot_5 + 8), t_38);
-    st32(t_zd, t_z4);
-    memset(slot_8, 0u, 72);
-    memset(slot_9, 0u, 32);
+    memset(slot_7, 0u, 72);
+    memset(slot_8, 0u, 32);
+    memset(slot_9, 0u, 112);
     memset(slot_10, 0u, 112);
     memset(slot_11, 0u, 112);
-    memset(slot_12, 0u, 112);
-    memset(slot_6, 0u, 512);
-    st64(slot_7, 1ull);
-    stp((slot_7 + 8), slot_6);
-    st64((slot_7 + 16), 512ull);
-    st64((slot_7 + 24), 0ull);
-    stp((slot_7 + 32), slot_1);
-    memset((slot_7 + 40), 0u, 16);
-    stp((slot_7 + 56), slot_1);
-    memset((slot_7 + 64), 0u, 24);
-    stp((slot_7 + 88), slot_1);
-    memset((slot_7 + 96), 0u, 16);
+    memset(slot_5, 0u, 512);
+    st64(slot_6, 1ull);
+    stp((slot_6 + 8), slot_5);
+    st64((slot_6 + 16), 512ull);
+    st64((slot_6 + 24), 0ull);
+    stp((slot_6 + 32), slot_1);
+    memset((slot_6 + 40), 0u, 16);
+    stp((slot_6 + 56), slot_1);
+    memset((slot_6 + 64), 0u, 24);
+    stp((slot_6 + 88), slot_1);
+    memset((slot_6 + 96), 0u, 16);
     memset(slot_2, 0u, 24);
     t_5q = (slot_3 + 64);
     memset(t_5q, 0u, 16);
-    if (r_ts_1) { r_7k = 12u; goto l_capnp_i0; }
+    if (r_ts) { r_7k = 12u; goto l_capnp_i0; }
     r_52_3 = ld64(ldp(away(a_3, 32ull)));
     if ((r_52_3 & 0x1fffffffffffffffull) == 0ull) { r_7k = 23u; goto l_capnp_i0; }
-    if (!(r_r5 == 1u)) { r_sv = t_38; goto l_capnp_eu; }
-    if (t_38 == 0ull) { r_7k = 30u; goto l_capnp_i0; }
-    r_sv = (t_38 + 0xffffffffffffffffull);
+    if (!(r_r5 == 1u)) { r_sv = r_38; goto l_capnp_eu; }
+    if (r_38 == 0ull) { r_7k = 30u; goto l_capnp_i0; }
+    r_sv = (r_38 + 0xffffffffffffffffull);
     goto l_capnp_eu;
 l_capnp_i0:;
     r_pp = 0ull;
@@ -31316,236 +31250,199 @@ l_capnp_i0:;
 l_capnp_eu:;
     u8 *r_lz = ldp(away(a_3, 56ull));
     memset(slot_3, 0u, 16);
-    st64((slot_3 + 16), (u64)(uptr)slot_19);
+    st64((slot_3 + 16), (u64)(uptr)slot_16);
     memset((slot_3 + 24), 0u, 16);
     stp((slot_3 + 40), r_lz);
     st64((slot_3 + 48), (u64)(r_52_3 << 3ull));
     st32((slot_3 + 56), 0u);
     st32((slot_3 + 60), 0u);
     st32(t_5q, t_z4);
-    capnp_messages_messages_canonical_copy_copy_in_room_8e_45be7280(slot_2, slot_7, slot_3, r_r5, r_sv);
+    capnp_messages_messages_canonical_copy_copy_in_room_8e_45be7280(slot_2, slot_6, slot_3, r_r5, r_sv);
     t_dd = ld8((slot_2 + 1));
     if (!(ld8(slot_2) == 0u)) { r_pp = ld64((slot_2 + 16)); r_2g = ld32((slot_2 + 12)); r_qb = ld8((slot_2 + 8)); goto l_arm_xm; }
-    if (!(u8)(t_dd & 1)) goto l_else_wj;
-    struct s_p_i64 r_7d = capnp_messages_messages_writing_canonical_bytes_bd7e3d_4a746b72(slot_7);
-    sha2_Digest_digest_8314f5c2d9589b12(slot_9, r_7d.f0, r_7d.f1);
-    mv32((slot_8 + 1), slot_9);
-    u32 r_z4 = ld32((slot_8 + 8));
-    u32 r_uq = ld32((slot_8 + 12));
-    u64 r_38 = ld64((slot_8 + 16));
-    memcpy(slot_10, slot_7, 112);
-    capnp_arena_arena_builder_arena_impl_BuilderArenaImpl__1592d6b0(slot_10);
-    mv7(slot_13, slot_9);
-    mv9(slot_14, (slot_9 + 23));
+    if (!(u8)(t_dd & 1)) goto l_else_bj;
+    struct s_p_i64 r_7d = capnp_messages_messages_writing_canonical_bytes_bd7e3d_4a746b72(slot_6);
+    sha2_Digest_digest_8314f5c2d9589b12(slot_8, r_7d.f0, r_7d.f1);
+    mv32((slot_7 + 1), slot_8);
+    u32 r_z4 = ld32((slot_7 + 8));
+    u32 r_uq = ld32((slot_7 + 12));
+    u64 r_38_1 = ld64((slot_7 + 16));
+    memcpy(slot_9, slot_6, 112);
+    capnp_arena_arena_builder_arena_impl_BuilderArenaImpl__1592d6b0(slot_9);
+    mv7(slot_12, slot_8);
+    mv9(slot_13, (slot_8 + 23));
     r_m5 = 0u;
     r_8z = r_z4;
     r_q8 = r_uq;
-    r_nh = r_38;
+    r_nh = r_38_1;
     r_ls = slot_4;
     goto l_capnp_9i;
-l_else_wj:;
-    capnp_messages_messages_digest_digest_of_copy_ad42fe8b34616de5(slot_8, slot_4, slot_19, slot_5);
-    u8 r_r5_2 = ld8(slot_8);
-    u32 r_z4_1 = ld32((slot_8 + 8));
-    u32 r_uq_1 = ld32((slot_8 + 12));
-    u64 r_38_1 = ld64((slot_8 + 16));
-    memcpy(slot_11, slot_7, 112);
-    capnp_arena_arena_builder_arena_impl_BuilderArenaImpl__1592d6b0(slot_11);
-    mv7(slot_13, (slot_8 + 1));
-    mv9(slot_14, (slot_8 + 24));
+l_else_bj:;
+    capnp_messages_messages_whole_digest_digest_of_copy_ad_90329eb6(slot_7, slot_4, slot_16, r_r5, r_38);
+    u8 r_r5_2 = ld8(slot_7);
+    u32 r_z4_1 = ld32((slot_7 + 8));
+    u32 r_uq_1 = ld32((slot_7 + 12));
+    u64 r_38_2 = ld64((slot_7 + 16));
+    memcpy(slot_10, slot_6, 112);
+    capnp_arena_arena_builder_arena_impl_BuilderArenaImpl__1592d6b0(slot_10);
+    mv7(slot_12, (slot_7 + 1));
+    mv9(slot_13, (slot_7 + 24));
     r_m5 = r_r5_2;
     r_8z = r_z4_1;
     r_q8 = r_uq_1;
-    r_nh = r_38_1;
-    r_ls = (slot_8 + 40);
+    r_nh = r_38_2;
+    r_ls = (slot_7 + 40);
     goto l_capnp_9i;
 l_arm_xm:;
-    memcpy(slot_12, slot_7, 112);
-    capnp_arena_arena_builder_arena_impl_BuilderArenaImpl__1592d6b0(slot_12);
-    memset(slot_13, 0u, 7);
-    memset(slot_14, 0u, 9);
+    memcpy(slot_11, slot_6, 112);
+    capnp_arena_arena_builder_arena_impl_BuilderArenaImpl__1592d6b0(slot_11);
+    memset(slot_12, 0u, 7);
+    memset(slot_13, 0u, 9);
     r_m5 = 1u;
     r_8z = (u32)r_qb;
     r_q8 = r_2g;
     r_nh = r_pp;
     r_ls = slot_4;
 l_capnp_9i:;
-    mv32((slot_15 + 7), r_ls);
+    mv32((slot_14 + 7), r_ls);
     r_6l = r_m5;
     r_if = r_8z;
     r_ek = r_q8;
     r_y4 = r_nh;
     goto l_capnp_5t;
-l_else_xs:;
+l_else_ug:;
     mv32(slot_4, a_2);
-    u8 *t_zd_1 = (slot_5 + 16);
-    st64(t_zd_1, 0ull);
-    st64(slot_5, r_eg);
-    st64((slot_5 + 8), t_38);
-    st32(t_zd_1, t_z4);
-    memset(slot_6, 0u, 72);
-    memset(slot_7, 0u, 32);
+    memset(slot_5, 0u, 72);
+    memset(slot_6, 0u, 32);
     memset(slot_3, 0u, 32);
-    if (r_r6 > 0x1fffffffull) goto l_arm_xi;
-    st64(slot_2, r_eg);
-    st64((slot_2 + 8), t_38);
+    if (r_r6 > 0x1fffffffull) goto l_arm_og;
+    st64(slot_2, (u64)r_r5);
+    st64((slot_2 + 8), r_38);
     st64((slot_2 + 16), 0ull);
-    capnp_messages_messages_message_fault_canonical_fault__490a0445(slot_3, slot_19, slot_2);
-    if (!((ld8(slot_3) == 0u) ? (ld8((slot_3 + 8)) == 0u) : 0u)) goto l_arm_xi;
-    r_lz_1 = ldp(slot_19);
-    if (ld64(r_lz_1) == 0ull) goto l_arm_xi;
-    sha2_Digest_digest_8314f5c2d9589b12(slot_7, ldp(away(r_lz_1, 56ull)), (u64)(ld64(ldp(away(r_lz_1, 32ull))) << 3ull));
-    mv32((slot_6 + 1), slot_7);
-    mv32((slot_6 + 40), slot_4);
+    capnp_messages_messages_message_fault_canonical_fault__490a0445(slot_3, slot_16, slot_2);
+    if (!((ld8(slot_3) == 0u) ? (ld8((slot_3 + 8)) == 0u) : 0u)) goto l_arm_og;
+    r_lz_1 = ldp(slot_16);
+    if (ld64(r_lz_1) == 0ull) goto l_arm_og;
+    sha2_Digest_digest_8314f5c2d9589b12(slot_6, ldp(away(r_lz_1, 56ull)), (u64)(ld64(ldp(away(r_lz_1, 32ull))) << 3ull));
+    mv32((slot_5 + 1), slot_6);
+    mv32((slot_5 + 40), slot_4);
     t_4o = 0u;
     goto l_capnp_16;
-l_arm_xi:;
-    capnp_messages_messages_digest_digest_of_copy_ad42fe8b34616de5(slot_6, slot_4, slot_19, slot_5);
-    t_4o = ld8(slot_6);
+l_arm_og:;
+    capnp_messages_messages_whole_digest_digest_of_copy_ad_90329eb6(slot_5, slot_4, slot_16, r_r5, r_38);
+    t_4o = ld8(slot_5);
 l_capnp_16:;
-    mv7(slot_13, (slot_6 + 1));
-    u32 r_z4_2 = ld32((slot_6 + 8));
-    u32 r_uq_2 = ld32((slot_6 + 12));
-    u64 r_38_2 = ld64((slot_6 + 16));
-    mv9(slot_14, (slot_6 + 24));
-    mv32((slot_15 + 7), (slot_6 + 40));
+    mv7(slot_12, (slot_5 + 1));
+    u32 r_z4_2 = ld32((slot_5 + 8));
+    u32 r_uq_2 = ld32((slot_5 + 12));
+    u64 r_38_3 = ld64((slot_5 + 16));
+    mv9(slot_13, (slot_5 + 24));
+    mv32((slot_14 + 7), (slot_5 + 40));
     r_6l = t_4o;
     r_if = r_z4_2;
     r_ek = r_uq_2;
-    r_y4 = r_38_2;
+    r_y4 = r_38_3;
 l_capnp_5t:;
-    mv7(slot_16, slot_13);
-    mv9(slot_17, slot_14);
-    u8 *r_b9_2 = (slot_18 + 7);
-    mv32(r_b9_2, (slot_15 + 7));
-    mv7(slot_20, slot_16);
-    mv9(slot_21, slot_17);
-    u8 *r_b9_4 = (slot_22 + 7);
-    mv32(r_b9_4, r_b9_2);
+    mv7(slot_17, slot_12);
+    mv9(slot_18, slot_13);
+    u8 *r_b9_2 = (slot_19 + 7);
+    mv32(r_b9_2, (slot_14 + 7));
     r_0r = r_6l;
     r_af = r_if;
     r_bj = r_ek;
     r_q2 = r_y4;
-    r_xr = r_b9_4;
+    r_xr = r_b9_2;
     goto l_common_zd;
-l_join_jq:;
-    t_z4_1 = ld32((slot_23 + 24));
-    r_yz_1 = ld64(a_3);
-    if (r_yz_1 == 0ull) { r_xk = 0ull; goto l_capnp_pa; }
-    r_xw_3 = ldp(away(a_3, 32ull));
-    r_ma_1 = 0ull;
-    r_9u_1 = 0ull;
-l_join_y7_1:;
-    if ((r_9u_1 & 0xffffffffull) == 0ull) { r_l3_1 = 0ull; r_h3_1 = 0ull; goto l_capnp_jc_1; }
-    u64 r_um_1 = ((u64)(r_9u_1 << 3ull) & 0x7fffffff8ull);
-    r_l3_1 = r_um_1;
-    r_h3_1 = ld64(away(away(r_xw_3, r_um_1), 0xfffffffffffffff8ull));
-l_capnp_jc_1:;
-    u64 r_5q_2 = (((ld64((r_xw_3 + (i64)(r_l3_1))) - r_h3_1) & 0x1fffffffffffffffull) + r_ma_1);
-    u64 r_36_1 = (r_9u_1 + 1ull);
-    if (r_36_1 == r_yz_1) { r_xk = r_5q_2; goto l_capnp_pa; }
-    r_ma_1 = r_5q_2;
-    r_9u_1 = r_36_1;
-    goto l_join_y7_1;
-l_capnp_pa:;
-    stp(slot_24, a_3);
-    st32((slot_24 + 8), t_z4_1);
-    st64((slot_24 + 16), r_xk);
-    u64 t_38_2 = ld64(r_zd);
+l_else_xs:;
     mv32(slot_6, a_2);
-    u8 *t_zd_2 = (slot_7 + 16);
-    st64(t_zd_2, 0ull);
-    st64(slot_7, r_eg);
-    st64((slot_7 + 8), t_38_2);
-    st32(t_zd_2, t_z4_1);
-    memset(slot_10, 0u, 72);
-    memset(slot_11, 0u, 32);
+    memset(slot_9, 0u, 72);
+    memset(slot_10, 0u, 32);
+    memset(slot_11, 0u, 112);
     memset(slot_12, 0u, 112);
     memset(slot_13, 0u, 112);
-    memset(slot_14, 0u, 112);
-    memset(slot_8, 0u, 512);
-    st64(slot_9, 1ull);
-    stp((slot_9 + 8), slot_8);
-    st64((slot_9 + 16), 512ull);
-    st64((slot_9 + 24), 0ull);
-    stp((slot_9 + 32), slot_1);
-    memset((slot_9 + 40), 0u, 16);
-    stp((slot_9 + 56), slot_1);
-    memset((slot_9 + 64), 0u, 24);
-    stp((slot_9 + 88), slot_1);
-    memset((slot_9 + 96), 0u, 16);
+    memset(slot_7, 0u, 512);
+    st64(slot_8, 1ull);
+    stp((slot_8 + 8), slot_7);
+    st64((slot_8 + 16), 512ull);
+    st64((slot_8 + 24), 0ull);
+    stp((slot_8 + 32), slot_1);
+    memset((slot_8 + 40), 0u, 16);
+    stp((slot_8 + 56), slot_1);
+    memset((slot_8 + 64), 0u, 24);
+    stp((slot_8 + 88), slot_1);
+    memset((slot_8 + 96), 0u, 16);
     memset(slot_2, 0u, 24);
     memset(slot_4, 0u, 88);
-    st64(slot_3, r_eg);
-    r_x5_14 = (slot_3 + 8);
-    st64(r_x5_14, t_38_2);
+    st64(slot_3, (u64)r_r5);
+    r_x5_10 = (slot_3 + 8);
+    st64(r_x5_10, r_38);
     st64((slot_3 + 16), 0ull);
-    capnp_messages_messages_path_read_part_9d3526b9b0726c59(slot_4, slot_24, r_a8, a_ot, slot_3);
+    capnp_messages_messages_path_read_part_9d3526b9b0726c59(slot_4, slot_16, r_a8, a_ot, slot_3);
     r_r5_4 = ld8((slot_4 + 8));
-    r_38_3 = ld64((slot_4 + 16));
+    r_38_4 = ld64((slot_4 + 16));
     if (ld8(slot_4) == 0u) goto l_capnp_9v;
     r_pp_1 = r_r5_4;
-    r_2g_1 = r_38_3;
+    r_2g_1 = r_38_4;
     r_qb_1 = ld32((slot_4 + 12));
     goto l_arm_xm_1;
 l_capnp_9v:;
     st64(slot_5, (u64)r_r5_4);
-    st64((slot_5 + 8), r_38_3);
+    st64((slot_5 + 8), r_38_4);
     mv64((slot_5 + 16), (slot_4 + 24));
-    capnp_messages_messages_canonical_copy_copy_in_room_8e_45be7280(slot_2, slot_9, slot_5, ld8(slot_3), ld64(r_x5_14));
+    capnp_messages_messages_canonical_copy_copy_in_room_8e_45be7280(slot_2, slot_8, slot_5, ld8(slot_3), ld64(r_x5_10));
     t_dd_1 = ld8((slot_2 + 1));
     if (!(ld8(slot_2) == 0u)) { r_pp_1 = ld8((slot_2 + 8)); r_2g_1 = ld64((slot_2 + 16)); r_qb_1 = ld32((slot_2 + 12)); goto l_arm_xm_1; }
-    if (!(u8)(t_dd_1 & 1)) goto l_else_ms;
-    struct s_p_i64 r_7d_1 = capnp_messages_messages_writing_canonical_bytes_bd7e3d_4a746b72(slot_9);
-    sha2_Digest_digest_8314f5c2d9589b12(slot_11, r_7d_1.f0, r_7d_1.f1);
-    mv32((slot_10 + 1), slot_11);
-    u32 r_z4_3 = ld32((slot_10 + 8));
-    u32 r_uq_4 = ld32((slot_10 + 12));
-    u64 r_38_5 = ld64((slot_10 + 16));
-    memcpy(slot_12, slot_9, 112);
-    capnp_arena_arena_builder_arena_impl_BuilderArenaImpl__1592d6b0(slot_12);
-    mv7(slot_20, slot_11);
-    mv9(slot_21, (slot_11 + 23));
-    r_m5_1 = r_uq_4;
-    r_8z_1 = r_38_5;
-    r_q8_1 = r_z4_3;
-    r_nh_1 = 0u;
+    if (!(u8)(t_dd_1 & 1)) goto l_else_kl;
+    struct s_p_i64 r_7d_1 = capnp_messages_messages_writing_canonical_bytes_bd7e3d_4a746b72(slot_8);
+    sha2_Digest_digest_8314f5c2d9589b12(slot_10, r_7d_1.f0, r_7d_1.f1);
+    mv32((slot_9 + 1), slot_10);
+    u32 r_z4_3 = ld32((slot_9 + 8));
+    u32 r_uq_4 = ld32((slot_9 + 12));
+    u64 r_38_6 = ld64((slot_9 + 16));
+    memcpy(slot_11, slot_8, 112);
+    capnp_arena_arena_builder_arena_impl_BuilderArenaImpl__1592d6b0(slot_11);
+    mv7(slot_17, slot_10);
+    mv9(slot_18, (slot_10 + 23));
+    r_m5_1 = 0u;
+    r_8z_1 = r_z4_3;
+    r_q8_1 = r_uq_4;
+    r_nh_1 = r_38_6;
     r_ls_1 = slot_6;
     goto l_capnp_9i_1;
-l_else_ms:;
-    capnp_messages_messages_part_digest_digest_of_part_cop_bd8dbb16(slot_10, slot_6, slot_24, r_a8, a_ot, slot_7);
-    u8 r_r5_8 = ld8(slot_10);
-    u32 r_z4_4 = ld32((slot_10 + 8));
-    u32 r_uq_5 = ld32((slot_10 + 12));
-    u64 r_38_6 = ld64((slot_10 + 16));
-    memcpy(slot_13, slot_9, 112);
-    capnp_arena_arena_builder_arena_impl_BuilderArenaImpl__1592d6b0(slot_13);
-    mv7(slot_20, (slot_10 + 1));
-    mv9(slot_21, (slot_10 + 24));
-    r_m5_1 = r_uq_5;
-    r_8z_1 = r_38_6;
-    r_q8_1 = r_z4_4;
-    r_nh_1 = r_r5_8;
-    r_ls_1 = (slot_10 + 40);
+l_else_kl:;
+    capnp_messages_messages_part_digest_digest_of_part_cop_bd8dbb16(slot_9, slot_6, slot_16, r_a8, a_ot, r_r5, r_38);
+    u8 r_r5_8 = ld8(slot_9);
+    u32 r_z4_4 = ld32((slot_9 + 8));
+    u32 r_uq_5 = ld32((slot_9 + 12));
+    u64 r_38_7 = ld64((slot_9 + 16));
+    memcpy(slot_12, slot_8, 112);
+    capnp_arena_arena_builder_arena_impl_BuilderArenaImpl__1592d6b0(slot_12);
+    mv7(slot_17, (slot_9 + 1));
+    mv9(slot_18, (slot_9 + 24));
+    r_m5_1 = r_r5_8;
+    r_8z_1 = r_z4_4;
+    r_q8_1 = r_uq_5;
+    r_nh_1 = r_38_7;
+    r_ls_1 = (slot_9 + 40);
     goto l_capnp_9i_1;
 l_arm_xm_1:;
-    memcpy(slot_14, slot_9, 112);
-    capnp_arena_arena_builder_arena_impl_BuilderArenaImpl__1592d6b0(slot_14);
-    memset(slot_20, 0u, 7);
-    memset(slot_21, 0u, 9);
-    r_m5_1 = r_qb_1;
-    r_8z_1 = r_2g_1;
-    r_q8_1 = (u32)r_pp_1;
-    r_nh_1 = 1u;
+    memcpy(slot_13, slot_8, 112);
+    capnp_arena_arena_builder_arena_impl_BuilderArenaImpl__1592d6b0(slot_13);
+    memset(slot_17, 0u, 7);
+    memset(slot_18, 0u, 9);
+    r_m5_1 = 1u;
+    r_8z_1 = (u32)r_pp_1;
+    r_q8_1 = r_qb_1;
+    r_nh_1 = r_2g_1;
     r_ls_1 = slot_6;
 l_capnp_9i_1:;
-    u8 *r_b9_5 = (slot_22 + 7);
-    mv32(r_b9_5, r_ls_1);
-    r_0r = r_nh_1;
-    r_af = r_q8_1;
-    r_bj = r_m5_1;
-    r_q2 = r_8z_1;
-    r_xr = r_b9_5;
+    u8 *r_b9_4 = (slot_19 + 7);
+    mv32(r_b9_4, r_ls_1);
+    r_0r = r_m5_1;
+    r_af = r_8z_1;
+    r_bj = r_q8_1;
+    r_q2 = r_nh_1;
+    r_xr = r_b9_4;
     goto l_common_zd;
 }
 
@@ -36545,23 +36442,22 @@ l_join_7b:;
     return;
 }
 
-/* capnp_messages::messages::digest::digest_of_copy::<#ad42fe8b34616de5> */
-static NEVER void capnp_messages_messages_digest_digest_of_copy_ad42fe8b34616de5(u8 *a_1, u8 *a_2, u8 *a_3, u8 *a_4)
+/* capnp_messages::messages::whole_digest::digest_of_copy::<#ad42fe8b34616de5> */
+static NEVER void capnp_messages_messages_whole_digest_digest_of_copy_ad_90329eb6(u8 *a_1, u8 *a_2, u8 *a_3, u8 a_4, u64 a_5)
 {
     A(8) u8 slot_1[40];
     A(8) u8 slot_2[32];
-    A(8) u8 slot_3[24];
-    A(1) u8 slot_4[32];
-    A(8) u8 slot_5[136];
-    A(8) u8 slot_6[32];
-    A(1) u8 slot_7[7];
-    A(8) u8 slot_8[9];
-    A(1) u8 slot_9[39];
-    A(1) u8 slot_10[7];
-    A(1) u8 slot_11[9];
-    A(8) u8 slot_12[32];
+    A(1) u8 slot_3[32];
+    A(8) u8 slot_4[136];
+    A(8) u8 slot_5[32];
+    A(1) u8 slot_6[7];
+    A(8) u8 slot_7[9];
+    A(1) u8 slot_8[39];
+    A(1) u8 slot_9[7];
+    A(1) u8 slot_10[9];
+    A(8) u8 slot_11[32];
     u8 r_uz;
-    u8 *r_x5_1;
+    u8 *r_x5;
     u8 *r_xw;
     u64 r_38;
     u64 r_38_1;
@@ -36579,7 +36475,7 @@ static NEVER void capnp_messages_messages_digest_digest_of_copy_ad42fe8b34616de5
     u64 r_ax;
     u64 r_du;
     u64 r_zn;
-    u8 *r_zd_3;
+    u8 *r_zd_2;
     u64 r_o3;
     u64 r_zn_1;
     u8 *r_xw_4;
@@ -36587,43 +36483,39 @@ static NEVER void capnp_messages_messages_digest_digest_of_copy_ad42fe8b34616de5
     u32 r_k9;
     u32 r_al;
     u64 r_jb;
-    st64((slot_3 + 16), 0ull);
-    st64(slot_3, (u64)ld8(a_4));
-    st64((slot_3 + 8), ld64(away(a_4, 8ull)));
-    st32((slot_3 + 16), ld32(away(a_4, 16ull)));
-    memset(slot_4, 0u, 32);
-    memset(slot_9, 0u, 39);
-    memset(slot_12, 0u, 32);
-    mv32(slot_6, a_2);
-    capnp_messages_messages_whole_canonical_from_ad42fe8b34616de5(slot_5, slot_6, a_3, slot_3);
-    r_uz = ld8(slot_5);
-    r_x5_1 = (slot_5 + 8);
+    memset(slot_3, 0u, 32);
+    memset(slot_8, 0u, 39);
+    memset(slot_11, 0u, 32);
+    mv32(slot_5, a_2);
+    capnp_messages_messages_whole_canonicalize_ad42fe8b34616de5(slot_4, slot_5, a_3, a_4, a_5);
+    r_uz = ld8(slot_4);
+    r_x5 = (slot_4 + 8);
     if (!(r_uz == 0u)) goto l_arm_b3;
-    r_xw = ldp((slot_5 + 40));
-    r_38 = ld64((slot_5 + 48));
-    r_38_1 = ld64((slot_5 + 56));
-    r_xw_1 = ldp((slot_5 + 64));
-    r_38_2 = ld64((slot_5 + 72));
-    r_38_3 = ld64((slot_5 + 80));
-    r_xw_2 = ldp((slot_5 + 112));
-    r_38_4 = ld64((slot_5 + 120));
-    r_38_5 = ld64((slot_5 + 128));
-    u8 r_r5 = ld8((slot_5 + 104));
-    struct s_p_i64 r_ej = capnp_messages_messages_writing_canonical_bytes_369107_aea7980e(r_x5_1);
-    sha2_Digest_digest_8314f5c2d9589b12(slot_4, r_ej.f0, r_ej.f1);
-    mv7(slot_10, slot_4);
-    r_5k = ld32((slot_4 + 7));
-    r_5k_1 = ld32((slot_4 + 11));
-    r_qw = ld64((slot_4 + 15));
-    mv9(slot_11, (slot_4 + 23));
-    mv32(slot_2, r_x5_1);
+    r_xw = ldp((slot_4 + 40));
+    r_38 = ld64((slot_4 + 48));
+    r_38_1 = ld64((slot_4 + 56));
+    r_xw_1 = ldp((slot_4 + 64));
+    r_38_2 = ld64((slot_4 + 72));
+    r_38_3 = ld64((slot_4 + 80));
+    r_xw_2 = ldp((slot_4 + 112));
+    r_38_4 = ld64((slot_4 + 120));
+    r_38_5 = ld64((slot_4 + 128));
+    u8 r_r5 = ld8((slot_4 + 104));
+    struct s_p_i64 r_ej = capnp_messages_messages_writing_canonical_bytes_369107_aea7980e(r_x5);
+    sha2_Digest_digest_8314f5c2d9589b12(slot_3, r_ej.f0, r_ej.f1);
+    mv7(slot_9, slot_3);
+    r_5k = ld32((slot_3 + 7));
+    r_5k_1 = ld32((slot_3 + 11));
+    r_qw = ld64((slot_3 + 15));
+    mv9(slot_10, (slot_3 + 23));
+    mv32(slot_2, r_x5);
     if (!(u8)(r_r5 & 1)) goto l_else_r8;
     r_xw_3 = ldp(slot_2);
-    u8 *r_zd_1 = (slot_2 + 16);
-    u64 r_38_6 = ld64(r_zd_1);
+    u8 *r_zd = (slot_2 + 16);
+    u64 r_38_6 = ld64(r_zd);
     stp(slot_2, r_xw_1);
     st64((slot_2 + 8), r_38_2);
-    st64(r_zd_1, r_38_3);
+    st64(r_zd, r_38_3);
     if (r_38_6 == 0ull) goto l_capnp_4o;
     rattle_dealloc(r_xw_3);
 l_capnp_4o:;
@@ -36670,12 +36562,12 @@ l_core_e6:;
 l_join_jj:;
     if (r_38 == 0ull) goto l_capnp_p4;
 l_arm_yi:;
-    r_zd_3 = (slot_2 + 16);
+    r_zd_2 = (slot_2 + 16);
     r_o3 = r_38;
 l_arm_zl:;
     r_zn_1 = (r_o3 + 0xffffffffffffffffull);
     r_xw_4 = ldp(slot_2);
-    u64 r_38_7 = ld64(r_zd_3);
+    u64 r_38_7 = ld64(r_zd_2);
     mv24(slot_2, (r_xw + (i64)((r_zn_1 * 40ull))));
     if (r_38_7 == 0ull) goto l_capnp_jj;
     rattle_dealloc(r_xw_4);
@@ -36685,33 +36577,33 @@ l_capnp_p4:;
     if (r_38_1 == 0ull) goto l_std_qd;
     rattle_dealloc(r_xw);
 l_std_qd:;
-    mv32(slot_12, slot_2);
-    mv7(slot_7, slot_10);
-    mv9(slot_8, slot_11);
-    r_kj = slot_12;
+    mv32(slot_11, slot_2);
+    mv7(slot_6, slot_9);
+    mv9(slot_7, slot_10);
+    r_kj = slot_11;
     r_k9 = r_5k;
     r_al = r_5k_1;
     r_jb = r_qw;
     goto l_join_m3;
 l_arm_b3:;
-    u32 r_cf = (u32)ld8(r_x5_1);
-    u32 r_uq = ld32((slot_5 + 12));
-    u64 r_38_8 = ld64((slot_5 + 16));
-    memset(slot_7, 0u, 7);
-    memset(slot_8, 0u, 9);
-    r_kj = (slot_5 + 24);
+    u32 r_cf = (u32)ld8(r_x5);
+    u32 r_uq = ld32((slot_4 + 12));
+    u64 r_38_8 = ld64((slot_4 + 16));
+    memset(slot_6, 0u, 7);
+    memset(slot_7, 0u, 9);
+    r_kj = (slot_4 + 24);
     r_k9 = r_cf;
     r_al = r_uq;
     r_jb = r_38_8;
 l_join_m3:;
-    mv32((slot_9 + 7), r_kj);
+    mv32((slot_8 + 7), r_kj);
     st8(a_1, r_uz);
-    mv7(away(a_1, 1ull), slot_7);
+    mv7(away(a_1, 1ull), slot_6);
     st32(away(a_1, 8ull), r_k9);
     st32(away(a_1, 12ull), r_al);
     st64(away(a_1, 16ull), r_jb);
-    mv9(away(a_1, 24ull), slot_8);
-    mv32(away(a_1, 40ull), (slot_9 + 7));
+    mv9(away(a_1, 24ull), slot_7);
+    mv32(away(a_1, 40ull), (slot_8 + 7));
     return;
 }
 
@@ -36856,7 +36748,7 @@ l_join_0g:;
 }
 
 /* capnp_messages::messages::part_digest::digest_of_part_copy::<#ad42fe8b34616de5> */
-static NEVER void capnp_messages_messages_part_digest_digest_of_part_cop_bd8dbb16(u8 *a_1, u8 *a_2, u8 *a_3, u8 *a_4, u64 a_5, u8 *a_6)
+static NEVER void capnp_messages_messages_part_digest_digest_of_part_cop_bd8dbb16(u8 *a_1, u8 *a_2, u8 *a_3, u8 *a_4, u64 a_5, u8 a_6, u64 a_7)
 {
     A(8) u8 slot_1[40];
     A(8) u8 slot_2[32];
@@ -36904,8 +36796,6 @@ static NEVER void capnp_messages_messages_part_digest_digest_of_part_cop_bd8dbb1
     u32 r_k9;
     u32 r_al;
     u64 r_jb;
-    u64 r_eg = (u64)ld8(a_6);
-    u64 t_qw = ld64(away(a_6, 8ull));
     memset(slot_6, 0u, 128);
     memset(slot_7, 0u, 32);
     memset(slot_8, 0u, 3);
@@ -36920,8 +36810,8 @@ static NEVER void capnp_messages_messages_part_digest_digest_of_part_cop_bd8dbb1
     mv32(slot_1, a_2);
     memset(slot_3, 0u, 88);
     memset(slot_4, 0u, 136);
-    st64(slot_2, r_eg);
-    st64((slot_2 + 8), t_qw);
+    st64(slot_2, (u64)a_6);
+    st64((slot_2 + 8), a_7);
     st64((slot_2 + 16), 0ull);
     capnp_messages_messages_path_read_part_9d3526b9b0726c59(slot_3, a_3, a_4, a_5, slot_2);
     r_r5 = ld8((slot_3 + 8));
@@ -37068,8 +36958,8 @@ l_join_m3:;
     return;
 }
 
-/* capnp_messages::messages::validation::validate_of::<#a3cb57cd4b1504b3> */
-static void capnp_messages_messages_validation_validate_of_a3cb57cd4b1504b3(u8 *a_1, u8 *a_2, u8 *a_3)
+/* capnp_streams::streams::parts::validate::<#a3cb57cd4b1504b3> */
+static void capnp_streams_streams_parts_validate_a3cb57cd4b1504b3(u8 *a_1, u8 *a_2, u8 *a_3)
 {
     A(8) u8 slot_1[64];
     A(8) u8 slot_2[64];
@@ -37095,19 +36985,26 @@ static void capnp_messages_messages_validation_validate_of_a3cb57cd4b1504b3(u8 *
     u8 *r_89_1;
     u8 *r_a8_1;
     u8 *r_c4_1;
-    u64 r_25;
-    u32 r_1w;
-    u32 r_rk;
+    u64 r_2g;
+    u32 r_cf;
+    u32 r_4s;
+    u32 r_6f;
+    u32 r_3l;
+    u64 r_rk;
+    u64 r_7q;
+    u64 r_yr;
+    u64 r_c1;
+    u64 r_g3;
     r_dh = ld8(a_3);
     r_eg = (u64)r_dh;
     t_qw = ld64(away(a_3, 8ull));
     t_5k = ld32(away(a_3, 16ull));
     r_yz = ld64(a_2);
     if (!(r_yz == 0ull)) goto l_join_gh;
-    r_25 = 0ull;
-    r_1w = 0u;
-    r_rk = 12u;
-    goto l_arm_va;
+    r_2g = 0ull;
+    r_cf = 0u;
+    r_4s = 12u;
+    goto l_arm_8g;
 l_join_gh:;
     r_xw = ldp(away(a_2, 32ull));
     r_ma = 0ull;
@@ -37128,10 +37025,10 @@ l_capnp_jc:;
     t_6c = (slot_2 + 56);
     st64(t_6c, 0ull);
     r_52_2 = ld64(r_xw);
-    if ((r_52_2 & 0x1fffffffffffffffull) == 0ull) { r_25 = 0ull; r_1w = 0u; r_rk = 23u; goto l_arm_va; }
+    if ((r_52_2 & 0x1fffffffffffffffull) == 0ull) { r_2g = 0ull; r_cf = 0u; r_4s = 23u; goto l_arm_8g; }
     t_0q = (r_dh == 1u);
     if (!t_0q) { r_sv = t_qw; goto l_arm_eu; }
-    if (t_qw == 0ull) { r_25 = 0ull; r_1w = 0u; r_rk = 30u; goto l_arm_va; }
+    if (t_qw == 0ull) { r_2g = 0ull; r_cf = 0u; r_4s = 30u; goto l_arm_8g; }
     r_sv = (t_qw + 0xffffffffffffffffull);
 l_arm_eu:;
     u8 *r_lz = ldp(away(a_2, 56ull));
@@ -37157,38 +37054,43 @@ l_arm_eu:;
     r_c4_1 = (slot_1 + 48);
     st64(r_c4_1, r_sv);
     st64((slot_1 + 56), 0ull);
-    u8 r_63 = capnp_pointers_pointers_validate_validate_object_5ccc1_0a1aa550(slot_2, 0u, t_5k, slot_1);
-    if (!(u8)(r_63 & 1)) goto l_arm_p0;
-    r_25 = ld64(r_89_1);
-    r_1w = ld32(r_nk);
-    r_rk = (u32)ld8(r_lk);
-    goto l_arm_va;
+    u8 r_5v = capnp_objects_pointers_validate_validate_object_5ccc1b_507f75cf(slot_2, 0u, t_5k, slot_1);
+    if (!(u8)(r_5v & 1)) goto l_arm_p0;
+    r_2g = ld64(r_89_1);
+    r_cf = ld32(r_nk);
+    r_4s = (u32)ld8(r_lk);
+    goto l_arm_8g;
 l_arm_p0:;
     u8 or_55 = (u8)((u8)t_0q & (u8)(ld8(r_a8_1) == 1u));
-    u32 r_ew = (a_of - ld32(slot_1));
-    u64 r_52_3 = ld64((slot_1 + 8));
-    u64 r_52_4 = ld64((slot_1 + 16));
-    u64 r_qr = (or_55 ? usub_sat64(t_qw, ld64(r_c4_1)) : 0ull);
-    st64(a_1, 0ull);
-    st32(away(a_1, 8ull), r_ew);
-    st32(away(a_1, 12ull), 0u);
-    st64(away(a_1, 16ull), r_52_3);
-    st64(away(a_1, 24ull), r_52_4);
-    st64(away(a_1, 32ull), (u64)or_55);
-    st64(away(a_1, 40ull), r_qr);
-l_common_68:;
+    r_6f = (a_of - ld32(slot_1));
+    r_3l = 0u;
+    r_rk = ld64((slot_1 + 8));
+    r_7q = ld64((slot_1 + 16));
+    r_yr = (u64)or_55;
+    r_c1 = (or_55 ? usub_sat64(t_qw, ld64(r_c4_1)) : 0ull);
+    r_g3 = 0ull;
+    goto l_capnp_6f;
+l_arm_8g:;
+    r_6f = r_4s;
+    r_3l = r_cf;
+    r_rk = r_2g;
+    r_7q = 0ull;
+    r_yr = 0ull;
+    r_c1 = 0ull;
+    r_g3 = 1ull;
+l_capnp_6f:;
+    st64(a_1, r_g3);
+    st32(away(a_1, 8ull), r_6f);
+    st32(away(a_1, 12ull), r_3l);
+    st64(away(a_1, 16ull), r_rk);
+    st64(away(a_1, 24ull), r_7q);
+    st64(away(a_1, 32ull), r_yr);
+    st64(away(a_1, 40ull), r_c1);
     return;
-l_arm_va:;
-    st64(a_1, 1ull);
-    st32(away(a_1, 8ull), r_rk);
-    st32(away(a_1, 12ull), r_1w);
-    st64(away(a_1, 16ull), r_25);
-    memset(away(a_1, 24ull), 0u, 24);
-    goto l_common_68;
 }
 
-/* capnp_pointers::pointers::validate::validate_object::<#5ccc1be374b2e488> */
-static NEVER u8 capnp_pointers_pointers_validate_validate_object_5ccc1_0a1aa550(u8 *a_1, u32 a_2, u32 a_3, u8 *a_4)
+/* capnp_objects::pointers::validate::validate_object::<#5ccc1be374b2e488> */
+static NEVER u8 capnp_objects_pointers_validate_validate_object_5ccc1b_507f75cf(u8 *a_1, u32 a_2, u32 a_3, u8 *a_4)
 {
     A(8) u8 slot_1[56];
     A(8) u8 slot_2[64];
@@ -37265,7 +37167,7 @@ static NEVER u8 capnp_pointers_pointers_validate_validate_object_5ccc1_0a1aa550(
     u32 r_68_3;
     u32 invariant_w0;
     u32 r_e3_1;
-    u32 r_6s_1;
+    u32 r_7o;
     u8 r_fk;
     memset(slot_2, 0u, 64);
     r_52 = ld64(away(a_1, 24ull));
@@ -37561,22 +37463,22 @@ l_arm_2c:;
     if (r_ij == 0u) { r_fk = 0u; goto l_return_ri; }
     invariant_w0 = (r_ae + ld32(r_c4_2));
     r_e3_1 = ld32(r_6c);
-    r_6s_1 = 0u;
-    goto l_join_a1;
+    r_7o = 0u;
+    goto l_join_17;
 l_loop_i4:;
-    u32 r_ff = (r_6s_1 + 1u);
+    u32 r_ff = (r_7o + 1u);
     if (r_ff == r_ij) { r_fk = 0u; goto l_return_ri; }
-    r_6s_1 = r_ff;
-l_join_a1:;
-    u8 r_68_4 = capnp_pointers_pointers_validate_validate_pointers_5cc_67e99f56(slot_2, ((r_6s_1 * r_68_3) + invariant_w0), r_3i, r_e3_1, a_4);
-    if ((u8)(r_68_4 & 1)) { r_fk = 1u; goto l_return_ri; }
+    r_7o = r_ff;
+l_join_17:;
+    u8 r_vo_1 = capnp_objects_pointers_validate_validate_pointers_5ccc_6252bdf3(slot_2, ((r_7o * r_68_3) + invariant_w0), r_3i, r_e3_1, a_4);
+    if ((u8)(r_vo_1 & 1)) { r_fk = 1u; goto l_return_ri; }
     goto l_loop_i4;
 l_return_ri:;
     return r_fk;
 }
 
-/* capnp_pointers::pointers::validate::validate_pointers::<#5ccc1be374b2e488> */
-static NEVER u8 capnp_pointers_pointers_validate_validate_pointers_5cc_67e99f56(u8 *a_1, u32 a_2, u32 a_3, u32 a_4, u8 *a_5)
+/* capnp_objects::pointers::validate::validate_pointers::<#5ccc1be374b2e488> */
+static NEVER u8 capnp_objects_pointers_validate_validate_pointers_5ccc_6252bdf3(u8 *a_1, u32 a_2, u32 a_3, u32 a_4, u8 *a_5)
 {
     u8 *r_su;
     u8 *r_xm;
@@ -37650,8 +37552,8 @@ l_join_7l:;
     switch ((u8)((u8)r_qw_1 & 3u)) {
     case 0u: goto l_arm_kb;
     case 1u: goto l_arm_ui;
-    case 2u: goto l_after_mh;
-    case 3u: goto l_after_mh;
+    case 2u: goto l_after_q8;
+    case 3u: goto l_after_q8;
     default: goto l_default_e1;
     }
 l_arm_kb:;
@@ -37694,12 +37596,12 @@ l_arm_0g:;
     st32(a_5, (r_93 ? 0u : umin32(t_1n, ld32(a_5))));
     st64(r_rq, uadd_sat64((u64)(r_az + r_12), ld64(r_rq)));
     if (r_y6 == 0ull) goto l_loop_2y;
-    u8 r_9q = capnp_pointers_pointers_validate_validate_pointers_5cc_67e99f56(a_1, (r_ae + r_az), r_12, t_y0, a_5);
-    r_hf = r_9q;
+    u8 r_f7 = capnp_objects_pointers_validate_validate_pointers_5ccc_6252bdf3(a_1, (r_ae + r_az), r_12, t_y0, a_5);
+    r_hf = r_f7;
     goto l_capnp_5o;
 l_arm_ui:;
     r_ep_1 = (u64)(r_qw_1 >> 32ull);
-    if (!((u8)((u8)((u8)r_ep_1 & 7u) + 255u) < 5u)) goto l_after_mh;
+    if (!((u8)((u8)((u8)r_ep_1 & 7u) + 255u) < 5u)) goto l_after_q8;
     r_c6 = (u64)(((ld64(away(away(((u8 *)switch_table_capnp_show_show_objects_read_object_5ccc1_1b90c80b), 8 * (r_ep_1 & 7ull)), 0xfffffffffffffff8ull)) * (u64)(r_qw_1 >> 35ull)) + 63ull) >> 6ull);
     t_0c = (ld8(a_1) == 0u);
     if (!t_0c) goto l_join_bd_1;
@@ -37729,9 +37631,9 @@ l_arm_z5:;
     st32(a_5, umin32(t_y0, ld32(a_5)));
     st64(r_rq, uadd_sat64(r_c6, ld64(r_rq)));
     goto l_loop_2y;
-l_after_mh:;
-    u8 r_x0 = capnp_pointers_pointers_validate_validate_object_5ccc1_0a1aa550(a_1, r_7m, a_4, a_5);
-    r_hf = r_x0;
+l_after_q8:;
+    u8 r_ni = capnp_objects_pointers_validate_validate_object_5ccc1b_507f75cf(a_1, r_7m, a_4, a_5);
+    r_hf = r_ni;
     goto l_capnp_5o;
 l_default_e1:;
     UNREACHABLE();
@@ -40046,78 +39948,88 @@ static void capnp_show_show_message_json_of_9d3526b9b0726c59(u8 *a_1, u8 *a_2, u
     A(1) u8 slot_1[1];
     A(8) u8 slot_2[120];
     A(2) u8 slot_3[126];
-    u8 *r_x5;
-    u8 r_kp;
+    A(8) u8 slot_4[120];
+    A(2) u8 slot_5[126];
+    struct s_i8_i8 r_5j;
+    u8 *r_x5_1;
     u8 *r_zd;
     u64 r_xx;
     u64 r_c8;
     u64 r_br;
-    u8 *r_lz;
     u8 *r_2b;
     u64 r_1p;
-    u8 r_4u;
+    u8 r_7z;
     u8 r_kd;
     u8 r_dd = ld8((a_2 + 1));
     u32 r_5k = ld32((a_2 + 4));
     u8 r_dh = ld8(a_3);
     u64 r_qw = ld64(away(a_3, 8ull));
+    memset(slot_5, 0u, 126);
+    stp(slot_4, slot_1);
+    memset((slot_4 + 8), 0u, 16);
+    st8((slot_4 + 24), 1u);
+    memset((slot_4 + 25), 0u, 7);
+    st64((slot_4 + 32), (u64)r_dh);
+    st64((slot_4 + 40), r_qw);
+    st64((slot_4 + 48), 0ull);
+    st8((slot_4 + 56), (u8)((u8)(r_dd & 1u) ^ 1u));
+    memset((slot_4 + 57), 0u, 63);
+    r_5j = capnp_show_show_message_write_json_9d3526b9b0726c59(a_8, a_4, a_5, a_6, a_7, r_5k, slot_4);
+    if (!(r_5j.f0 == 0u)) goto l_arm_ao;
+    memcpy((slot_5 + 6), slot_4, 120);
+    r_kd = 0u;
+    goto l_join_0b;
+l_arm_ao:;
+    if (!(r_5j.f1 == 0u)) goto l_arm_st;
     memset(slot_3, 0u, 126);
-    stp(slot_2, slot_1);
-    r_x5 = (slot_2 + 8);
-    memset(r_x5, 0u, 16);
-    st8((slot_2 + 24), 1u);
-    memset((slot_2 + 25), 0u, 7);
-    st64((slot_2 + 32), (u64)r_dh);
-    st64((slot_2 + 40), r_qw);
-    st64((slot_2 + 48), 0ull);
-    st8((slot_2 + 56), (u8)((u8)(r_dd & 1u) ^ 1u));
-    memset((slot_2 + 57), 0u, 63);
-    struct s_i8_i8 r_5j = capnp_show_show_message_write_json_9d3526b9b0726c59(a_8, a_4, a_5, a_6, a_7, r_5k, slot_2);
-    r_kp = r_5j.f0;
-    if (!((r_kp == 1u) ? (r_5j.f1 == 0u) : 0u)) goto l_after_x6;
-    if (ld64(r_x5) == 0ull) goto l_after_ob;
-    st64(r_x5, 0ull);
-l_after_ob:;
+    memcpy(slot_2, slot_4, 120);
+    r_x5_1 = (slot_2 + 8);
+    st64(r_x5_1, 0ull);
     r_zd = (slot_2 + 16);
-    u64 r_52_1 = ld64(r_zd);
-    if (!(r_52_1 < 17ull)) { r_xx = r_52_1; r_c8 = 0ull; goto l_join_if; }
+    u64 r_52 = ld64(r_zd);
+    if (!(r_52 < 17ull)) { r_xx = r_52; r_c8 = 0ull; goto l_join_if; }
     u8 r_vs = std_alloc_vec_Vec_grow_amortized_9634afabedddd7ee(slot_2, 17ull);
-    if (!r_vs) { r_4u = 1u; goto l_arm_st; }
+    if (!r_vs) goto l_arm_i7;
     r_xx = ld64(r_zd);
-    r_c8 = ld64(r_x5);
+    r_c8 = ld64(r_x5_1);
 l_join_if:;
     r_br = (r_c8 + 17ull);
-    r_lz = ldp(slot_2);
-    r_2b = away(r_lz, r_c8);
+    r_2b = away(ldp(slot_2), r_c8);
     if (((u64)(uptr)r_2b - (u64)(uptr)((u8 *)g_static_224)) < 17ull) { r_1p = 0ull; goto l_join_kb; }
     mv17(r_2b, ((u8 *)g_static_224));
-    goto l_after_pu;
+    goto l_arm_pd;
 l_join_kb:;
     st8((r_2b + (i64)(r_1p)), ld8((((u8 *)g_static_224) + (i64)(r_1p))));
     u64 r_c4_1 = (r_1p + 1ull);
     if (!(r_c4_1 == 17ull)) { r_1p = r_c4_1; goto l_join_kb; }
-l_after_pu:;
-    stp(slot_2, r_lz);
-    st64(r_x5, r_br);
+l_arm_pd:;
+    st64(r_x5_1, r_br);
     st64(r_zd, r_xx);
-    goto l_arm_nv;
-l_after_x6:;
-    if (!(r_kp == 0u)) { r_4u = r_kp; goto l_arm_st; }
-l_arm_nv:;
     memcpy((slot_3 + 6), slot_2, 120);
-    r_kd = 0u;
-    goto l_join_0b;
-l_arm_st:;
-    if (ld64((slot_2 + 16)) == 0ull) goto l_std_fy;
+    r_7z = 0u;
+    goto l_capnp_gm;
+l_arm_i7:;
+    if (ld64(r_zd) == 0ull) goto l_std_fy;
     rattle_dealloc(ldp(slot_2));
 l_std_fy:;
-    if ((ld8((slot_2 + 64)) != 1u) ? 1u : (ld64((slot_2 + 104)) == 0ull)) { r_kd = r_4u; goto l_join_0b; }
+    if ((ld8((slot_2 + 64)) != 1u) ? 1u : (ld64((slot_2 + 104)) == 0ull)) { r_7z = 1u; goto l_capnp_gm; }
     rattle_dealloc(ldp((slot_2 + 88)));
-    r_kd = r_4u;
+    r_7z = 1u;
+l_capnp_gm:;
+    memcpy((slot_5 + 6), (slot_3 + 6), 120);
+    r_kd = r_7z;
+    goto l_join_0b;
+l_arm_st:;
+    if (ld64((slot_4 + 16)) == 0ull) goto l_std_fy_1;
+    rattle_dealloc(ldp(slot_4));
+l_std_fy_1:;
+    if ((ld8((slot_4 + 64)) != 1u) ? 1u : (ld64((slot_4 + 104)) == 0ull)) { r_kd = 1u; goto l_join_0b; }
+    rattle_dealloc(ldp((slot_4 + 88)));
+    r_kd = 1u;
 l_join_0b:;
     st8(a_1, r_kd);
     st8(away(a_1, 1ull), 0u);
-    memcpy(away(a_1, 8ull), (slot_3 + 6), 120);
+    memcpy(away(a_1, 8ull), (slot_5 + 6), 120);
     return;
 }
 
@@ -40125,8 +40037,8 @@ l_join_0b:;
 static struct s_i8_i8 capnp_show_show_message_write_json_9d3526b9b0726c59(u8 *a_1, u64 a_2, u64 a_3, u8 *a_4, u64 a_5, u32 a_6, u8 *a_7)
 {
     A(8) u8 slot_1[64];
-    A(8) u8 slot_2[88];
-    A(8) u8 slot_3[64];
+    A(8) u8 slot_2[64];
+    A(8) u8 slot_3[88];
     u64 r_52;
     u8 *r_r2;
     u8 *r_rq;
@@ -40169,24 +40081,26 @@ static struct s_i8_i8 capnp_show_show_message_write_json_9d3526b9b0726c59(u8 *a_
     u8 *r_2b_3;
     u64 r_mh;
     u8 r_r5;
-    u8 r_r5_1;
-    struct s_i8_i8 r_kv;
     u64 r_38_8;
+    u8 *r_lk;
+    u64 r_38_9;
     u8 *r_c4_4;
-    u32 r_z4_1;
+    u32 r_z4;
     u32 r_uq;
-    u32 r_z4_2;
+    u32 r_z4_1;
     u16 r_xv;
     u16 r_f4;
     u8 *t_6c;
+    u8 *t_6c_1;
     u8 *r_rq_1;
     u64 r_52_9;
     u8 *r_08_5;
     u64 r_co;
     u64 r_q5;
-    struct s_i8_i8 r_p2;
+    struct s_i8_i8 r_77;
     u8 r_e7_3;
-    struct s_i8_i8 r_0l;
+    struct s_i8_i8 r_2g_1;
+    struct s_i8_i8 r_2g;
     u64 switch_xq;
     u8 *switch_mb;
     u8 *r_rq_2;
@@ -40195,25 +40109,25 @@ static struct s_i8_i8 capnp_show_show_message_write_json_9d3526b9b0726c59(u8 *a_
     u64 r_co_1;
     u64 r_q5_1;
     u8 r_e7_4;
-    struct s_i8_i8 r_dk;
-    u8 *static_tt;
-    u64 i_0a;
+    struct s_i8_i8 r_yu_3;
     u8 *r_rq_3;
     u64 r_52_13;
     u8 *r_08_7;
-    u64 r_4b_1;
-    u64 r_19_1;
-    u64 r_qh;
+    u64 r_c0;
+    u64 r_54;
+    u64 r_x4;
     u8 *r_fx_6;
     u8 *r_2b_6;
-    u64 r_es;
+    u64 r_nm;
+    u8 *r_08_8;
+    u64 r_w4;
+    u64 r_61;
     u8 r_fu;
     u8 r_vh;
-    memset(slot_2, 0u, 88);
-    memset(slot_3, 0u, 64);
+    memset(slot_3, 0u, 88);
     r_52 = ld64(away(a_1, 16ull));
     r_r2 = away(a_7, 56ull);
-    if (!(u8)(ld8(r_r2) & 1)) goto l_arm_2f;
+    if (!(u8)(ld8(r_r2) & 1)) goto l_arm_7b;
     r_rq = away(a_7, 8ull);
     r_52_1 = ld64(r_rq);
     if (r_52_1 > 0x3ffffb5ull) { r_e7 = 0u; goto l_arm_n5; }
@@ -40350,37 +40264,40 @@ l_core_aw:;
     stp(a_7, r_fx_3);
     st64(r_rq, r_5q);
     st64(r_08_4, r_di);
-    goto l_arm_2f;
+    goto l_arm_7b;
 l_arm_dn_2:;
     r_fu = r_yu_2.f1;
     r_vh = 1u;
     goto l_return_4x;
-l_arm_2f:;
-    capnp_messages_messages_path_read_part_9d3526b9b0726c59(slot_2, a_1, a_4, a_5, away(a_7, 32ull));
-    r_r5 = ld8((slot_2 + 8));
-    if (!(ld8(slot_2) == 0u)) goto l_switch_ri;
-    r_r5_1 = ld8((slot_2 + 16));
-    if (!(r_r5 == 0u)) goto l_arm_h8;
-    u32 r_z4 = ld32((slot_2 + 72));
-    st64(slot_3, (u64)r_r5_1);
-    mv16((slot_3 + 8), (slot_2 + 24));
-    mv32((slot_3 + 24), (slot_2 + 40));
-    st32((slot_3 + 56), r_z4);
-    r_kv = capnp_show_show_json_json_pointer_5ccc1be374b2e488(slot_3, a_6, a_7);
-    if (r_kv.f0 == 0u) goto l_join_yz;
-    r_fu = r_kv.f1;
-    r_vh = 1u;
-    goto l_return_4x;
-l_arm_h8:;
-    r_38_8 = ld64((slot_2 + 40));
-    r_c4_4 = (slot_2 + 48);
-    r_z4_1 = ld32((slot_2 + 64));
-    r_uq = ld32((slot_2 + 68));
-    r_z4_2 = ld32((slot_2 + 72));
-    r_xv = ld16((slot_2 + 80));
-    r_f4 = ld16((slot_2 + 82));
-    t_6c = (slot_1 + 56);
+l_arm_7b:;
+    capnp_messages_messages_path_read_part_9d3526b9b0726c59(slot_3, a_1, a_4, a_5, away(a_7, 32ull));
+    r_r5 = ld8((slot_3 + 8));
+    r_38_8 = ld64((slot_3 + 16));
+    r_lk = (slot_3 + 24);
+    r_38_9 = ld64((slot_3 + 40));
+    r_c4_4 = (slot_3 + 48);
+    r_z4 = ld32((slot_3 + 64));
+    r_uq = ld32((slot_3 + 68));
+    r_z4_1 = ld32((slot_3 + 72));
+    r_xv = ld16((slot_3 + 80));
+    r_f4 = ld16((slot_3 + 82));
+    if (!(ld8(slot_3) == 0u)) goto l_switch_ri;
+    t_6c = (slot_2 + 56);
     st64(t_6c, 0ull);
+    if (!(r_r5 == 0u)) goto l_arm_if;
+    st64(slot_2, (r_38_8 & 255ull));
+    mv16((slot_2 + 8), r_lk);
+    st64((slot_2 + 24), r_38_9);
+    mv16((slot_2 + 32), r_c4_4);
+    st32((slot_2 + 48), r_z4);
+    st32((slot_2 + 52), r_uq);
+    st32(t_6c, r_z4_1);
+    struct s_i8_i8 r_fd = capnp_show_show_json_json_pointer_5ccc1be374b2e488(slot_2, a_6, a_7);
+    r_2g = r_fd;
+    goto l_capnp_8g;
+l_arm_if:;
+    t_6c_1 = (slot_1 + 56);
+    st64(t_6c_1, 0ull);
     r_rq_1 = away(a_7, 8ull);
     r_52_9 = ld64(r_rq_1);
     if (r_52_9 > 0x3ffffbfull) { r_e7_3 = 0u; goto l_arm_n5_3; }
@@ -40397,35 +40314,35 @@ l_join_df:;
     stp(a_7, r_fx_4);
     st64(r_rq_1, (r_q5 + 1ull));
     st64(r_08_5, r_co);
-    if (!(u8)(ld8(r_r2) & 1)) goto l_arm_2s;
-    r_p2 = capnp_show_show_json_Json_write_place(a_7, ((u8 *)g_static_183), 6ull, r_38_8, r_z4_1);
-    if (r_p2.f0 == 0u) goto l_arm_2s;
+    if (!(u8)(ld8(r_r2) & 1)) goto l_arm_45;
+    r_77 = capnp_show_show_json_Json_write_place(a_7, ((u8 *)g_static_158), 6ull, r_38_9, r_z4);
+    if (r_77.f0 == 0u) goto l_arm_45;
     goto l_arm_ev;
 l_arm_n5_3:;
     struct s_i8_i8 t_fj_3 = (struct s_i8_i8){ 1u, 0u };
     t_fj_3.f1 = r_e7_3;
-    r_0l = t_fj_3;
-    goto l_capnp_bt;
-l_arm_2s:;
-    st64(slot_1, (u64)r_r5_1);
-    mv16((slot_1 + 8), (slot_2 + 24));
-    st64((slot_1 + 24), r_38_8);
+    r_2g_1 = t_fj_3;
+    goto l_capnp_8g_1;
+l_arm_45:;
+    st64(slot_1, (r_38_8 & 255ull));
+    mv16((slot_1 + 8), r_lk);
+    st64((slot_1 + 24), r_38_9);
     mv16((slot_1 + 32), r_c4_4);
-    st32((slot_1 + 48), r_z4_1);
+    st32((slot_1 + 48), r_z4);
     st32((slot_1 + 52), r_uq);
-    st32(t_6c, r_z4_2);
+    st32(t_6c_1, r_z4_1);
     struct s_i8_i8 r_35 = capnp_show_show_json_json_struct_5ccc1be374b2e488(slot_1, r_xv, r_f4, a_6, a_7);
-    r_0l = r_35;
-    goto l_capnp_bt;
+    r_2g_1 = r_35;
+    goto l_capnp_8g_1;
 l_arm_ev:;
     struct s_i8_i8 t_fj_4 = (struct s_i8_i8){ 1u, 0u };
-    t_fj_4.f1 = r_p2.f1;
-    r_0l = t_fj_4;
-l_capnp_bt:;
-    if (r_0l.f0 == 0u) goto l_join_yz;
-    r_fu = r_0l.f1;
-    r_vh = 1u;
-    goto l_return_4x;
+    t_fj_4.f1 = r_77.f1;
+    r_2g_1 = t_fj_4;
+l_capnp_8g_1:;
+    r_2g = r_2g_1;
+l_capnp_8g:;
+    r_yu_3 = r_2g;
+    goto l_capnp_v4_3;
 l_switch_ri:;
     switch_xq = ld64((((u8 *)switch_table_capnp_canon_inputs_refuse_32) + (i64)(8 * (u64)r_r5)));
     switch_mb = ldp((((u8 *)switch_table_capnp_canon_inputs_refuse_31) + (i64)(8 * (u64)r_r5)));
@@ -40446,48 +40363,64 @@ l_join_df_1:;
     st64(r_rq_2, (r_q5_1 + 1ull));
     st64(r_08_6, r_co_1);
     struct s_i8_i8 r_ic = capnp_show_show_json_Json_write_refusal(a_7, switch_mb, switch_xq);
-    r_dk = r_ic;
-    goto l_capnp_tg;
+    r_yu_3 = r_ic;
+    goto l_capnp_v4_3;
 l_arm_n5_4:;
     struct s_i8_i8 t_fj_5 = (struct s_i8_i8){ 1u, 0u };
     t_fj_5.f1 = r_e7_4;
-    r_dk = t_fj_5;
-l_capnp_tg:;
-    if (r_dk.f0 == 0u) goto l_join_yz;
-    r_fu = r_dk.f1;
-    r_vh = 1u;
-    goto l_return_4x;
-l_join_yz:;
-    u8 r_mp_2 = (u8)(ld8(r_r2) & 1);
-    static_tt = (r_mp_2 ? ((u8 *)g_static_223) : ((u8 *)g_static_7));
-    i_0a = (r_mp_2 ? 2ull : 1ull);
+    r_yu_3 = t_fj_5;
+l_capnp_v4_3:;
+    if (!(r_yu_3.f0 == 0u)) goto l_arm_dn_3;
     r_rq_3 = away(a_7, 8ull);
     r_52_13 = ld64(r_rq_3);
-    if ((r_52_13 > 0x3ffffc0ull) ? 1u : ((0x3ffffc0ull - r_52_13) < i_0a)) { r_fu = 0u; r_vh = 1u; goto l_return_4x; }
+    if (!(u8)(ld8(r_r2) & 1)) goto l_join_qd;
+    if (r_52_13 > 0x3ffffbeull) { r_fu = 0u; r_vh = 1u; goto l_return_4x; }
     r_08_7 = away(a_7, 16ull);
     u64 r_52_14 = ld64(r_08_7);
-    if (!(i_0a > (r_52_14 - r_52_13))) { r_4b_1 = r_52_14; r_19_1 = r_52_13; goto l_join_ue; }
-    u8 r_ku = std_alloc_vec_Vec_grow_amortized_9634afabedddd7ee(a_7, i_0a);
-    if (!r_ku) { r_fu = 1u; r_vh = 1u; goto l_return_4x; }
-    r_4b_1 = ld64(r_08_7);
-    r_19_1 = ld64(r_rq_3);
-l_join_ue:;
-    r_qh = (r_19_1 + i_0a);
+    if (!((r_52_14 - r_52_13) < 2ull)) { r_c0 = r_52_14; r_54 = r_52_13; goto l_join_p3; }
+    u8 r_y4 = std_alloc_vec_Vec_grow_amortized_9634afabedddd7ee(a_7, 2ull);
+    if (!r_y4) { r_fu = 1u; r_vh = 1u; goto l_return_4x; }
+    r_c0 = ld64(r_08_7);
+    r_54 = ld64(r_rq_3);
+l_join_p3:;
+    r_x4 = (r_54 + 2ull);
     r_fx_6 = ldp(a_7);
-    r_2b_6 = away(r_fx_6, r_19_1);
-    if (((u64)(uptr)r_2b_6 - (u64)(uptr)static_tt) < i_0a) { r_es = 0ull; goto l_join_fx; }
-    memcpy_or_none(r_2b_6, static_tt, i_0a);
+    r_2b_6 = away(r_fx_6, r_54);
+    if (((u64)(uptr)r_2b_6 - (u64)(uptr)((u8 *)g_static_223)) < 2ull) { r_nm = 0ull; goto l_join_8b; }
+    st16(r_2b_6, 2685u);
     goto l_core_x2;
-l_join_fx:;
-    st8((r_2b_6 + (i64)(r_es)), ld8((static_tt + (i64)(r_es))));
-    u64 r_c4_6 = (r_es + 1ull);
-    if (!(r_c4_6 == i_0a)) { r_es = r_c4_6; goto l_join_fx; }
+l_join_8b:;
+    st8((r_2b_6 + (i64)(r_nm)), ld8((((u8 *)g_static_223) + (i64)(r_nm))));
+    u64 r_c4_7 = (r_nm + 1ull);
+    if (!(r_c4_7 == 2ull)) { r_nm = r_c4_7; goto l_join_8b; }
 l_core_x2:;
     stp(a_7, r_fx_6);
-    st64(r_rq_3, r_qh);
-    st64(r_08_7, r_4b_1);
+    st64(r_rq_3, r_x4);
+    st64(r_08_7, r_c0);
     r_fu = 0u;
     r_vh = 0u;
+    goto l_return_4x;
+l_join_qd:;
+    if (r_52_13 > 0x3ffffbfull) { r_fu = 0u; r_vh = 1u; goto l_return_4x; }
+    r_08_8 = away(a_7, 16ull);
+    u64 r_52_15 = ld64(r_08_8);
+    if (!(r_52_15 == r_52_13)) { r_w4 = r_52_15; r_61 = r_52_13; goto l_join_e4; }
+    u8 r_av_2 = std_alloc_vec_Vec_grow_amortized_9634afabedddd7ee(a_7, 1ull);
+    if (!r_av_2) { r_fu = 1u; r_vh = 1u; goto l_return_4x; }
+    r_w4 = ld64(r_08_8);
+    r_61 = ld64(r_rq_3);
+l_join_e4:;
+    u8 *r_fx_7 = ldp(a_7);
+    st8(away(r_fx_7, r_61), 10u);
+    stp(a_7, r_fx_7);
+    st64(r_rq_3, (r_61 + 1ull));
+    st64(r_08_8, r_w4);
+    r_fu = 0u;
+    r_vh = 0u;
+    goto l_return_4x;
+l_arm_dn_3:;
+    r_fu = r_yu_3.f1;
+    r_vh = 1u;
 l_return_4x:;
     struct s_i8_i8 r_3j = (struct s_i8_i8){ 0 };
     r_3j.f0 = r_vh;
@@ -40499,23 +40432,24 @@ l_return_4x:;
 /* capnp_show::show::text::Text::push_number */
 static struct s_i8_i8 capnp_show_show_text_Text_push_number(u8 *a_1, u64 a_2)
 {
-    struct s_i8_i8 r_i6;
     u8 r_ry;
     u8 *r_rq;
     u64 r_52;
     u8 *r_08;
     u64 r_rm;
     u64 r_7j;
+    u64 r_79;
+    struct s_i8_i8 r_i6;
+    u8 r_ry_1;
+    u8 *r_rq_1;
+    u64 r_52_2;
+    u8 *r_08_1;
+    u64 r_rm_1;
+    u64 r_7j_1;
     u8 r_fu;
     u8 r_vh;
-    if (!(a_2 > 9ull)) goto l_join_0s;
-    r_i6 = capnp_show_show_text_Text_push_number(a_1, (a_2 / 10ull));
-    if (r_i6.f0 == 0u) goto l_join_0s;
-    r_fu = r_i6.f1;
-    r_vh = 1u;
-    goto l_return_4x;
-l_join_0s:;
-    r_ry = (u8)((u8)(a_2 % 10ull) | 48u);
+    if (!(a_2 < 10ull)) goto l_join_n3;
+    r_ry = (u8)((u8)a_2 | 48u);
     r_rq = away(a_1, 8ull);
     r_52 = ld64(r_rq);
     if (r_52 > 0x3ffffbfull) { r_fu = 0u; r_vh = 1u; goto l_return_4x; }
@@ -40534,6 +40468,34 @@ l_join_r2:;
     st64(r_08, r_rm);
     r_fu = 0u;
     r_vh = 0u;
+    goto l_return_4x;
+l_join_n3:;
+    r_79 = (a_2 % 10ull);
+    r_i6 = capnp_show_show_text_Text_push_number(a_1, (a_2 / 10ull));
+    if (!(r_i6.f0 == 0u)) goto l_arm_dn;
+    r_ry_1 = (u8)((u8)r_79 | 48u);
+    r_rq_1 = away(a_1, 8ull);
+    r_52_2 = ld64(r_rq_1);
+    if (r_52_2 > 0x3ffffbfull) { r_fu = 0u; r_vh = 1u; goto l_return_4x; }
+    r_08_1 = away(a_1, 16ull);
+    u64 r_52_3 = ld64(r_08_1);
+    if (!(r_52_3 == r_52_2)) { r_rm_1 = r_52_3; r_7j_1 = r_52_2; goto l_join_r2_1; }
+    u8 r_av_1 = std_alloc_vec_Vec_grow_amortized_9634afabedddd7ee(a_1, 1ull);
+    if (!r_av_1) { r_fu = 1u; r_vh = 1u; goto l_return_4x; }
+    r_rm_1 = ld64(r_08_1);
+    r_7j_1 = ld64(r_rq_1);
+l_join_r2_1:;
+    u8 *r_fx_1 = ldp(a_1);
+    st8(away(r_fx_1, r_7j_1), r_ry_1);
+    stp(a_1, r_fx_1);
+    st64(r_rq_1, (r_7j_1 + 1ull));
+    st64(r_08_1, r_rm_1);
+    r_fu = 0u;
+    r_vh = 0u;
+    goto l_return_4x;
+l_arm_dn:;
+    r_fu = r_i6.f1;
+    r_vh = 1u;
 l_return_4x:;
     struct s_i8_i8 r_3j = (struct s_i8_i8){ 0 };
     r_3j.f0 = r_vh;
@@ -40635,11 +40597,11 @@ l_arm_m7:;
 /* capnp_show::show::json::json_pointer::<#5ccc1be374b2e488> */
 static struct s_i8_i8 capnp_show_show_json_json_pointer_5ccc1be374b2e488(u8 *a_1, u32 a_2, u8 *a_3)
 {
-    A(8) u8 slot_1[16];
-    A(8) u8 slot_2[56];
+    A(8) u8 slot_1[1024];
+    A(8) u8 slot_2[64];
     A(8) u8 slot_3[64];
-    A(8) u8 slot_4[64];
-    A(8) u8 slot_5[64];
+    A(8) u8 slot_4[16];
+    A(8) u8 slot_5[56];
     A(8) u8 slot_6[64];
     u64 r_eg;
     u64 r_qw;
@@ -40659,46 +40621,139 @@ static struct s_i8_i8 capnp_show_show_json_json_pointer_5ccc1be374b2e488(u8 *a_1
     u8 *r_fx;
     u8 *r_2b;
     u64 r_1h;
-    u8 r_95;
-    u8 r_t2;
     u8 *r_08_1;
     u64 r_co;
     u64 r_q5;
     u8 *r_r2_1;
-    struct s_i8_i8 r_wa;
+    struct s_i8_i8 r_hv_1;
     u64 r_qw_3;
     u64 r_ep;
     u32 t_ri;
     struct s_i8_i8 r_jw;
     u8 r_r5;
+    u8 a_u1;
+    u32 r_uq;
     u64 r_38_4;
-    u8 *r_lk_1;
-    u32 r_z4;
-    u16 r_xv;
-    u16 r_f4;
-    struct s_i8_i8 r_p2;
+    u8 *r_xw;
     u64 r_38_5;
-    u8 *r_lk_3;
-    u32 r_z4_1;
-    u32 r_e3;
-    struct s_i8_i8 r_p2_1;
     u64 r_38_6;
-    u8 *r_lk_5;
-    u32 r_z4_2;
-    u32 t_z4;
-    u16 r_is;
-    u32 r_xh;
+    u32 r_z4;
+    u32 r_uq_1;
+    u8 r_ne;
+    u16 t_t8;
+    u32 r_5d;
     u16 r_gr;
-    u32 r_yf_2;
-    struct s_i8_i8 r_p2_2;
-    struct s_i8_i8 r_r4;
-    struct s_i8_i8 r_vh;
-    u8 a_z5;
-    struct s_i8_i8 r_61;
-    u8 r_gp;
+    u32 r_wt;
+    u32 r_az;
     u64 r_52_3;
+    u64 r_29;
+    u64 r_el;
+    u8 r_bs;
+    u8 r_77_1;
+    u8 *r_ud;
+    u64 a_5j;
+    u8 r_qh;
+    u64 r_qd;
+    u8 *r_xw_1;
+    u64 r_38_9;
+    u8 r_ux;
+    u64 r_dq;
+    u8 r_47_2;
+    u8 r_17;
+    u64 r_52_5;
+    u64 r_0s;
+    u64 r_nq;
+    u64 r_xe;
+    u8 *r_fx_3;
+    u8 *r_2b_4;
+    u64 r_a4;
+    struct s_i8_i8 r_z6_1;
+    u64 r_52_7;
+    u64 r_29_1;
+    u64 r_el_1;
+    u64 r_52_9;
+    u64 r_wv;
+    u64 r_9w;
+    u64 r_wr;
+    u8 *r_fx_5;
+    u8 *r_2b_6;
+    u64 r_hn;
+    u8 *r_x9;
+    u64 r_tc;
+    u64 r_wl;
+    u8 *r_uz_1;
+    u64 r_eu;
+    u64 a_3q;
+    u64 r_pt;
+    u64 r_yb;
+    u8 *r_wy;
+    u64 r_2n;
+    u64 r_wj;
+    u8 *r_aq;
+    u64 r_9p;
+    u64 r_9e;
+    u8 *r_oq;
+    u64 r_1g;
+    u64 r_q8;
+    u64 r_x4;
+    u8 *r_2b_8;
+    u64 r_mp_2;
+    u8 r_2g;
+    u8 r_bs_1;
+    u8 r_77_2;
+    u64 r_ad;
+    u8 *r_8o;
+    u64 r_52_11;
+    u64 r_bu;
+    u64 r_tk;
+    u64 r_5q_1;
+    u8 *r_fx_6;
+    u8 *r_2b_9;
+    u64 r_il;
+    u64 r_gw_1;
+    u32 r_ci;
+    u64 r_52_13;
+    u64 r_qd_1;
+    u64 r_cr_1;
+    u32 r_st;
+    u64 r_24_4;
+    u64 r_pv;
+    u32 r_c2;
+    u64 sink_g9;
+    u64 r_cw;
+    u64 r_52_15;
+    u64 r_08_2;
+    u64 r_vr;
+    struct s_i8_i8 r_zo_1;
+    u64 r_52_17;
+    u64 r_08_3;
+    u64 r_vr_1;
+    u8 r_95;
+    u8 r_t2;
+    struct s_i8_i8 r_pg;
+    u64 r_aq_1;
+    u64 r_c0;
+    u64 r_54_1;
+    u64 r_x4_1;
+    u8 *r_fx_10;
+    u8 *r_2b_13;
+    u64 r_a6;
+    u8 r_bs_2;
+    u8 r_77_3;
+    u32 r_mx_2;
+    struct s_i8_i8 r_kp_6;
+    struct s_i8_i8 r_86;
+    struct s_i8_i8 r_19_2;
+    struct s_i8_i8 r_a8_5;
+    u8 r_g7_1;
+    struct s_i8_i8 r_vh_1;
+    struct s_i8_i8 r_a8_2;
+    u8 r_g7;
+    u8 r_u1;
+    struct s_i8_i8 r_1j;
+    u64 r_52_20;
     u8 r_fu;
-    u8 r_vh_1;
+    u8 r_vh;
     r_eg = (u64)ld8(a_1);
     r_qw = ld64(away(a_1, 24ull));
     r_rv = ldp(away(a_1, 32ull));
@@ -40708,23 +40763,20 @@ static struct s_i8_i8 capnp_show_show_json_json_pointer_5ccc1be374b2e488(u8 *a_1
     r_5k_2 = ld32(away(a_1, 56ull));
     r_rq = away(a_3, 8ull);
     r_52 = ld64(r_rq);
-    mv16(slot_1, away(a_1, 8ull));
-    memset(slot_2, 0u, 56);
-    memset(slot_3, 0u, 64);
-    memset(slot_4, 0u, 64);
-    memset(slot_5, 0u, 64);
-    memset(slot_6, 0u, 64);
+    mv16(slot_4, away(a_1, 8ull));
+    memset(slot_5, 0u, 56);
+    st64((slot_6 + 56), 0ull);
     r_24 = (u64)r_5k;
     if (!((u64)(r_qw_1 >> 3ull) > r_24)) goto l_then_km;
     r_a7 = (r_rv + (i64)((u64)(r_24 << 3ull)));
     if (!(ld64(r_a7) == 0ull)) goto l_join_zl;
 l_then_km:;
-    if (r_52 > 0x3ffffbcull) { r_95 = 0u; r_t2 = 1u; goto l_capnp_5p; }
+    if (r_52 > 0x3ffffbcull) { r_u1 = 0u; goto l_capnp_oj; }
     r_08 = away(a_3, 16ull);
     u64 r_52_1 = ld64(r_08);
     if (!((r_52_1 - r_52) < 4ull)) { r_y1 = r_52_1; r_pz = r_52; goto l_join_tt; }
     u8 r_t3 = std_alloc_vec_Vec_grow_amortized_9634afabedddd7ee(a_3, 4ull);
-    if (!r_t3) { r_95 = 1u; r_t2 = 1u; goto l_capnp_5p; }
+    if (!r_t3) { r_u1 = 1u; goto l_capnp_oj; }
     r_y1 = ld64(r_08);
     r_pz = ld64(r_rq);
 l_join_tt:;
@@ -40733,32 +40785,23 @@ l_join_tt:;
     r_2b = away(r_fx, r_pz);
     if (((u64)(uptr)r_2b - (u64)(uptr)((u8 *)g_static_150)) < 4ull) { r_1h = 0ull; goto l_join_yh; }
     st32(r_2b, 0x6c6c756eu);
-    goto l_core_ga;
+    goto l_capnp_l4;
 l_join_yh:;
     st8((r_2b + (i64)(r_1h)), ld8((((u8 *)g_static_150) + (i64)(r_1h))));
     u64 r_c4 = (r_1h + 1ull);
     if (!(r_c4 == 4ull)) { r_1h = r_c4; goto l_join_yh; }
-l_core_ga:;
+l_capnp_l4:;
     stp(a_3, r_fx);
     st64(r_rq, r_5b);
     st64(r_08, r_y1);
-    r_95 = 0u;
-    r_t2 = 0u;
-l_capnp_5p:;
-    struct s_i8_i8 r_3j = (struct s_i8_i8){ 0 };
-    r_3j.f0 = r_t2;
-    struct s_i8_i8 r_9n = r_3j;
-    r_9n.f1 = r_95;
-    r_61 = r_9n;
-    r_gp = r_t2;
-    goto l_capnp_z0;
+    goto l_arm_2q;
 l_join_zl:;
-    if (r_52 > 0x3ffffbfull) { a_z5 = 0u; goto l_capnp_f7; }
+    if (r_52 > 0x3ffffbfull) { a_u1 = 0u; goto l_capnp_oj_1; }
     r_08_1 = away(a_3, 16ull);
     u64 r_52_2 = ld64(r_08_1);
     if (!(r_52_2 == r_52)) { r_co = r_52_2; r_q5 = r_52; goto l_join_df; }
     u8 r_av = std_alloc_vec_Vec_grow_amortized_9634afabedddd7ee(a_3, 1ull);
-    if (!r_av) { a_z5 = 1u; goto l_capnp_f7; }
+    if (!r_av) { a_u1 = 1u; goto l_capnp_oj_1; }
     r_co = ld64(r_08_1);
     r_q5 = ld64(r_rq);
 l_join_df:;
@@ -40769,173 +40812,617 @@ l_join_df:;
     st64(r_08_1, r_co);
     r_r2_1 = away(a_3, 56ull);
     if (!(u8)(ld8(r_r2_1) & 1)) goto l_arm_cw;
-    r_wa = capnp_show_show_json_Json_write_place(a_3, ((u8 *)g_static_153), 11ull, r_qw, r_5k);
-    if (!(r_wa.f0 == 0u)) goto l_arm_21;
+    r_hv_1 = capnp_show_show_json_Json_write_place(a_3, ((u8 *)g_static_152), 11ull, r_qw, r_5k);
+    if (!(r_hv_1.f0 == 0u)) goto l_arm_21;
     r_qw_3 = ld64(r_a7);
     if ((r_qw_3 & 3ull) == 2ull) goto l_join_m4;
     goto l_arm_cw;
 l_arm_21:;
-    a_z5 = r_wa.f1;
-    goto l_capnp_f7;
+    a_u1 = r_hv_1.f1;
+    goto l_capnp_oj_1;
 l_join_m4:;
     r_ep = (u64)(r_qw_3 >> 32ull);
     t_ri = (u32)((u32)r_qw_3 >> 3u);
-    if ((r_qw_3 & 4ull) == 0ull) goto l_else_m8;
-    struct s_i8_i8 r_9h = capnp_show_show_json_Json_write_place(a_3, ((u8 *)g_static_154), 14ull, r_ep, t_ri);
-    r_jw = r_9h;
+    if ((r_qw_3 & 4ull) == 0ull) goto l_else_hz;
+    struct s_i8_i8 r_cv = capnp_show_show_json_Json_write_place(a_3, ((u8 *)g_static_153), 14ull, r_ep, t_ri);
+    r_jw = r_cv;
     goto l_capnp_2v;
-l_else_m8:;
-    struct s_i8_i8 r_jg = capnp_show_show_json_Json_write_place(a_3, ((u8 *)g_static_155), 7ull, r_ep, t_ri);
-    r_jw = r_jg;
+l_else_hz:;
+    struct s_i8_i8 r_7n_1 = capnp_show_show_json_Json_write_place(a_3, ((u8 *)g_static_154), 7ull, r_ep, t_ri);
+    r_jw = r_7n_1;
 l_capnp_2v:;
-    if (!(r_jw.f0 == 0u)) { a_z5 = r_jw.f1; goto l_capnp_f7; }
+    if (!(r_jw.f0 == 0u)) { a_u1 = r_jw.f1; goto l_capnp_oj_1; }
 l_arm_cw:;
-    st64(slot_3, r_eg);
-    mv16((slot_3 + 8), slot_1);
-    st64((slot_3 + 24), r_qw);
-    stp((slot_3 + 32), r_rv);
-    st64((slot_3 + 40), r_qw_1);
-    st32((slot_3 + 48), r_5k);
-    st32((slot_3 + 52), r_5k_1);
-    st32((slot_3 + 56), r_5k_2);
-    capnp_show_show_objects_read_object_5ccc1be374b2e488(slot_2, slot_3, away(a_3, 32ull));
-    r_r5 = ld8((slot_2 + 8));
-    if (!(ld8(slot_2) == 1u)) goto l_arm_sf;
-    struct s_i8_i8 r_ml_1 = capnp_show_show_json_Json_write_refusal(a_3, ldp((((u8 *)switch_table_capnp_canon_inputs_refuse_31) + (i64)(8 * (u64)r_r5))), ld64((((u8 *)switch_table_capnp_canon_inputs_refuse_32) + (i64)(8 * (u64)r_r5))));
-    r_vh = r_ml_1;
-    goto l_join_zt;
+    st64(slot_6, r_eg);
+    mv16((slot_6 + 8), slot_4);
+    st64((slot_6 + 24), r_qw);
+    stp((slot_6 + 32), r_rv);
+    st64((slot_6 + 40), r_qw_1);
+    st32((slot_6 + 48), r_5k);
+    st32((slot_6 + 52), r_5k_1);
+    st32((slot_6 + 56), r_5k_2);
+    capnp_show_show_objects_read_object_5ccc1be374b2e488(slot_5, slot_6, away(a_3, 32ull));
+    r_r5 = ld8((slot_5 + 8));
+    if (ld8(slot_5) == 0u) goto l_arm_ac;
+    goto l_switch_ri;
+l_capnp_oj_1:;
+    r_fu = a_u1;
+    r_vh = 1u;
+    goto l_return_4x;
+l_arm_ac:;
+    r_uq = ld32((slot_5 + 12));
+    r_38_4 = ld64((slot_5 + 16));
+    r_xw = ldp((slot_5 + 24));
+    r_38_5 = ld64((slot_5 + 32));
+    r_38_6 = ld64((slot_5 + 40));
+    r_z4 = ld32((slot_5 + 48));
+    r_uq_1 = ld32((slot_5 + 52));
+    r_ne = (u8)r_z4;
+    t_t8 = (u16)r_z4;
+    r_5d = (u32)(r_z4 >> 16u);
+    r_gr = (u16)r_5d;
+    memset(slot_2, 0u, 64);
+    memset(slot_3, 0u, 64);
+    r_wt = (u32)r_38_6;
+    r_az = (r_z4 & 65535u);
+    if (!((u8)(r_r5 + 254u) < 4u)) goto l_arm_sf;
+    if (!(u8)(ld8(r_r2_1) & 1)) goto l_arm_sf;
+    struct s_i8_i8 r_77 = capnp_show_show_json_Json_write_place(a_3, ((u8 *)g_static_158), 6ull, r_38_4, r_wt);
+    if (!(r_77.f0 == 0u)) { r_a8_2 = r_77; r_g7 = 1u; goto l_capnp_mf; }
 l_arm_sf:;
     switch (r_r5) {
-    case 0u: goto l_arm_5w;
-    case 1u: goto l_arm_80;
-    case 3u: goto l_arm_xr;
-    case 2u: goto l_arm_pp;
-    case 4u: goto l_arm_pp_1;
-    case 5u: goto l_arm_pp_2;
+    case 0u: goto l_arm_ik;
+    case 1u: goto l_arm_6v;
+    case 3u: goto l_arm_aq;
+    case 2u: goto l_arm_qc;
+    case 4u: goto l_arm_qc_1;
+    case 5u: goto l_arm_pg;
     default: goto l_noarm_e1;
     }
-l_arm_5w:;
-    struct s_i8_i8 r_3d = capnp_show_show_text_Text_push(a_3, ((u8 *)g_static_151), 1ull);
-    r_vh = r_3d;
+l_arm_ik:;
+    r_52_3 = ld64(r_rq);
+    if (r_52_3 > 0x3ffffbfull) { r_bs = 0u; r_77_1 = 1u; goto l_capnp_8i; }
+    u64 r_52_4 = ld64(r_08_1);
+    if (!(r_52_4 == r_52_3)) { r_29 = r_52_4; r_el = r_52_3; goto l_join_n2; }
+    u8 r_av_1 = std_alloc_vec_Vec_grow_amortized_9634afabedddd7ee(a_3, 1ull);
+    if (!r_av_1) { r_bs = 1u; r_77_1 = 1u; goto l_capnp_8i; }
+    r_29 = ld64(r_08_1);
+    r_el = ld64(r_rq);
+l_join_n2:;
+    u8 *r_fx_2 = ldp(a_3);
+    st8(away(r_fx_2, r_el), 125u);
+    stp(a_3, r_fx_2);
+    st64(r_rq, (r_el + 1ull));
+    st64(r_08_1, r_29);
+    r_bs = 0u;
+    r_77_1 = 0u;
+l_capnp_8i:;
+    struct s_i8_i8 r_3j = (struct s_i8_i8){ 0 };
+    r_3j.f0 = r_77_1;
+    struct s_i8_i8 r_9n = r_3j;
+    r_9n.f1 = r_bs;
+    r_vh_1 = r_9n;
     goto l_join_zt;
-l_arm_80:;
-    struct s_i8_i8 r_lt = capnp_show_show_json_Json_write_capability(a_3, ld32((slot_2 + 12)));
-    r_vh = r_lt;
+l_arm_6v:;
+    struct s_i8_i8 r_s2 = capnp_show_show_text_Text_push_last(a_3, ((u8 *)g_static_159), 13ull, (u64)r_uq);
+    r_vh_1 = r_s2;
     goto l_join_zt;
-l_arm_xr:;
-    struct s_i8_i8 r_1d = capnp_show_show_json_Json_write_flat(a_3, (slot_2 + 16), ld8((slot_2 + 48)), ld32((slot_2 + 52)));
-    r_vh = r_1d;
+l_arm_aq:;
+    switch (r_ne) {
+    case 0u: goto l_arm_u5;
+    case 2u: goto l_arm_88;
+    case 1u: { r_ad = 8ull; r_8o = ((u8 *)g_static_171); goto l_capnp_6t; }
+    case 3u: goto l_arm_h9;
+    case 4u: goto l_arm_h9_1;
+    case 7u: goto l_arm_h9_2;
+    case 5u: goto l_arm_h9_2;
+    case 6u: goto l_arm_h9_2;
+    default: goto l_noarm_e1_1;
+    }
+l_arm_u5:;
+    struct s_i8_i8 r_54 = capnp_show_show_text_Text_push_last(a_3, ((u8 *)g_static_160), 7ull, (u64)r_uq_1);
+    r_vh_1 = r_54;
     goto l_join_zt;
-l_arm_pp:;
-    r_38_4 = ld64((slot_2 + 16));
-    r_lk_1 = (slot_2 + 24);
-    r_z4 = ld32((slot_2 + 40));
-    r_xv = ld16((slot_2 + 48));
-    r_f4 = ld16((slot_2 + 50));
-    if (!(u8)(ld8(r_r2_1) & 1)) goto l_arm_0q;
-    r_p2 = capnp_show_show_json_Json_write_place(a_3, ((u8 *)g_static_183), 6ull, r_38_4, r_z4);
-    if (!(r_p2.f0 == 0u)) goto l_arm_21_1;
-l_arm_0q:;
-    st64(slot_4, r_eg);
-    mv16((slot_4 + 8), slot_1);
-    st64((slot_4 + 24), r_38_4);
-    mv16((slot_4 + 32), r_lk_1);
-    st32((slot_4 + 48), r_z4);
-    st32((slot_4 + 52), 0u);
-    st32((slot_4 + 56), ((r_5k_2 == 0x80000000u) ? 0x80000000u : (r_5k_2 + 0xffffffffu)));
-    struct s_i8_i8 r_35 = capnp_show_show_json_json_struct_5ccc1be374b2e488(slot_4, r_xv, r_f4, a_2, a_3);
-    r_vh = r_35;
-    goto l_join_zt;
+l_arm_88:;
+    u64 a_f1 = umin64(r_38_5, ((u64)(r_38_6 << 3ull) & 0x7fffffff8ull));
+    r_ud = away(r_xw, a_f1);
+    a_5j = umin64((r_38_5 - a_f1), (u64)r_uq_1);
+    r_qh = (a_5j == 0ull);
+    if (r_qh) goto l_arm_s4;
+    r_qd = (a_5j + 0xffffffffffffffffull);
+    if (!(ld8((r_ud + (i64)(r_qd))) == 0u)) goto l_arm_s4;
+    memset(slot_1, 0u, 24);
+    core_str_utf8_from_utf8(slot_1, r_ud, r_qd);
+    r_xw_1 = ldp((slot_1 + 8));
+    r_38_9 = ld64((slot_1 + 16));
+    if (!(ld8(slot_1) == 0u)) goto l_arm_s4;
+    if (r_qd == 0ull) goto l_arm_m3;
+    r_ux = 0u;
+    r_dq = 0ull;
+    goto l_join_1e;
+l_loop_2r:;
+    u64 r_36 = (r_dq + 1ull);
+    if (r_36 == r_qd) goto l_arm_m3;
+    r_ux = r_47_2;
+    r_dq = r_36;
+l_join_1e:;
+    r_47_2 = ld8(away(r_ud, r_dq));
+    if (!(r_47_2 < 32u)) { r_17 = 0u; goto l_capnp_fz; }
+    r_17 = (u8)((u8)(r_47_2 != 13u) & (u8)((u8)(r_47_2 + 245u) < 254u));
+l_capnp_fz:;
+    if ((u8)((u8)(u8)((u8)(r_ux == 194u) & (u8)(r_47_2 < 160u)) | (u8)(u8)((u8)(r_47_2 == 127u) | (u8)r_17))) goto l_arm_s4;
+    goto l_loop_2r;
+l_arm_m3:;
+    r_52_5 = ld64(r_rq);
+    if (r_52_5 > 0x3ffffb9ull) { r_bs_1 = 1u; r_77_2 = 0u; goto l_capnp_8i_1; }
+    u64 r_52_6 = ld64(r_08_1);
+    if (!((r_52_6 - r_52_5) < 7ull)) { r_0s = r_52_6; r_nq = r_52_5; goto l_join_me; }
+    u8 r_f5 = std_alloc_vec_Vec_grow_amortized_9634afabedddd7ee(a_3, 7ull);
+    if (!r_f5) { r_bs_1 = 1u; r_77_2 = 1u; goto l_capnp_8i_1; }
+    r_0s = ld64(r_08_1);
+    r_nq = ld64(r_rq);
+l_join_me:;
+    r_xe = (r_nq + 7ull);
+    r_fx_3 = ldp(a_3);
+    r_2b_4 = away(r_fx_3, r_nq);
+    if (((u64)(uptr)r_2b_4 - (u64)(uptr)((u8 *)g_static_161)) < 7ull) { r_a4 = 0ull; goto l_join_7z; }
+    mv7(r_2b_4, ((u8 *)g_static_161));
+    goto l_arm_61;
+l_join_7z:;
+    st8((r_2b_4 + (i64)(r_a4)), ld8((((u8 *)g_static_161) + (i64)(r_a4))));
+    u64 r_c4_3 = (r_a4 + 1ull);
+    if (!(r_c4_3 == 7ull)) { r_a4 = r_c4_3; goto l_join_7z; }
+l_arm_61:;
+    stp(a_3, r_fx_3);
+    st64(r_rq, r_xe);
+    st64(r_08_1, r_0s);
+    r_z6_1 = capnp_show_show_text_Text_push_quoted(a_3, r_xw_1, r_38_9);
+    if (!(r_z6_1.f0 == 0u)) goto l_arm_21_1;
+    r_52_7 = ld64(r_rq);
+    if (r_52_7 > 0x3ffffbfull) { r_bs_1 = 1u; r_77_2 = 0u; goto l_capnp_8i_1; }
+    u64 r_52_8 = ld64(r_08_1);
+    if (!(r_52_8 == r_52_7)) { r_29_1 = r_52_8; r_el_1 = r_52_7; goto l_join_n2_1; }
+    u8 r_av_2 = std_alloc_vec_Vec_grow_amortized_9634afabedddd7ee(a_3, 1ull);
+    if (!r_av_2) { r_bs_1 = 1u; r_77_2 = 1u; goto l_capnp_8i_1; }
+    r_29_1 = ld64(r_08_1);
+    r_el_1 = ld64(r_rq);
+l_join_n2_1:;
+    u8 *r_fx_4 = ldp(a_3);
+    st8(away(r_fx_4, r_el_1), 125u);
+    stp(a_3, r_fx_4);
+    st64(r_rq, (r_el_1 + 1ull));
+    st64(r_08_1, r_29_1);
+    r_bs_1 = 0u;
+    r_77_2 = 0u;
+    goto l_capnp_8i_1;
 l_arm_21_1:;
-    a_z5 = r_p2.f1;
-    goto l_capnp_f7;
-l_arm_pp_1:;
-    r_38_5 = ld64((slot_2 + 16));
-    r_lk_3 = (slot_2 + 24);
-    r_z4_1 = ld32((slot_2 + 40));
-    r_e3 = ld32((slot_2 + 48));
-    if (!(u8)(ld8(r_r2_1) & 1)) goto l_arm_v4;
-    r_p2_1 = capnp_show_show_json_Json_write_place(a_3, ((u8 *)g_static_183), 6ull, r_38_5, r_z4_1);
-    if (!(r_p2_1.f0 == 0u)) goto l_arm_21_2;
-l_arm_v4:;
-    mv16((slot_5 + 8), slot_1);
-    mv16((slot_5 + 32), r_lk_3);
-    st64(slot_5, r_eg);
-    st64((slot_5 + 24), r_38_5);
-    st32((slot_5 + 48), r_z4_1);
-    st32((slot_5 + 52), 0u);
-    st32((slot_5 + 56), ((r_5k_2 == 0x80000000u) ? 0x80000000u : (r_5k_2 + 0xffffffffu)));
-    struct s_i8_i8 r_vy = capnp_show_show_json_json_pointers_5ccc1be374b2e488(1u, slot_5, r_e3, a_2, a_3);
-    r_vh = r_vy;
+    r_bs_1 = 1u;
+    r_77_2 = r_z6_1.f1;
+    goto l_capnp_8i_1;
+l_arm_s4:;
+    r_52_9 = ld64(r_rq);
+    if (r_52_9 > 0x3ffffb7ull) { r_bs_1 = 1u; r_77_2 = 0u; goto l_capnp_8i_1; }
+    u64 r_52_10 = ld64(r_08_1);
+    if (!((r_52_10 - r_52_9) < 9ull)) { r_wv = r_52_10; r_9w = r_52_9; goto l_join_k6; }
+    u8 r_xy = std_alloc_vec_Vec_grow_amortized_9634afabedddd7ee(a_3, 9ull);
+    if (!r_xy) { r_bs_1 = 1u; r_77_2 = 1u; goto l_capnp_8i_1; }
+    r_wv = ld64(r_08_1);
+    r_9w = ld64(r_rq);
+l_join_k6:;
+    r_wr = (r_9w + 9ull);
+    r_fx_5 = ldp(a_3);
+    r_2b_6 = away(r_fx_5, r_9w);
+    if (((u64)(uptr)r_2b_6 - (u64)(uptr)((u8 *)g_static_168)) < 9ull) { r_hn = 0ull; goto l_join_ge; }
+    mv9(r_2b_6, ((u8 *)g_static_168));
+    goto l_arm_um;
+l_join_ge:;
+    st8((r_2b_6 + (i64)(r_hn)), ld8((((u8 *)g_static_168) + (i64)(r_hn))));
+    u64 r_c4_4 = (r_hn + 1ull);
+    if (!(r_c4_4 == 9ull)) { r_hn = r_c4_4; goto l_join_ge; }
+l_arm_um:;
+    stp(a_3, r_fx_5);
+    st64(r_rq, r_wr);
+    st64(r_08_1, r_wv);
+    if (r_qh) { r_aq = r_fx_5; r_9p = r_wv; r_9e = r_wr; goto l_arm_06; }
+    r_x9 = r_fx_5;
+    r_tc = r_wv;
+    r_wl = r_wr;
+    r_uz_1 = r_ud;
+    r_eu = a_5j;
+l_join_kl:;
+    a_3q = umin64(r_eu, 512ull);
+    memset(slot_1, 0u, 1024);
+    r_pt = 0ull;
+l_join_jf:;
+    u8 r_47_5 = ld8((r_uz_1 + (i64)(r_pt)));
+    u8 *r_a7_6 = (slot_1 + (i64)((u64)(r_pt << 1ull)));
+    st8(r_a7_6, ld8((((u8 *)g_static_118) + (i64)((u64)(u8)((u32)r_47_5 >> 4u)))));
+    st8((r_a7_6 + 1), ld8((((u8 *)g_static_118) + (i64)((u64)(u8)(r_47_5 & 15u)))));
+    u64 r_c4_5 = (r_pt + 1ull);
+    if (!(r_c4_5 == a_3q)) { r_pt = r_c4_5; goto l_join_jf; }
+    r_yb = (u64)(a_3q << 1ull);
+    if ((r_wl > 0x3ffffc0ull) ? 1u : ((0x3ffffc0ull - r_wl) < r_yb)) { r_2g = 0u; goto l_arm_8g; }
+    if (!(r_yb > (r_tc - r_wl))) { r_wy = r_x9; r_2n = r_tc; r_wj = r_wl; goto l_arm_nw; }
+    u8 r_c4_6 = std_alloc_vec_Vec_grow_amortized_9634afabedddd7ee(a_3, r_yb);
+    if (!r_c4_6) { r_2g = 1u; goto l_arm_8g; }
+    r_wy = ldp(a_3);
+    r_2n = ld64(r_08_1);
+    r_wj = ld64(r_rq);
+l_arm_nw:;
+    u64 r_5q = (r_wj + r_yb);
+    memcpy_or_none(away(r_wy, r_wj), slot_1, r_yb);
+    stp(a_3, r_wy);
+    st64(r_rq, r_5q);
+    st64(r_08_1, r_2n);
+    u64 r_nr_1 = (r_eu - a_3q);
+    if (r_nr_1 == 0ull) { r_aq = r_wy; r_9p = r_2n; r_9e = r_5q; goto l_arm_06; }
+    u8 *r_1 = r_wy;
+    u64 r_2 = r_2n;
+    u64 r_3 = r_5q;
+    u8 *r_4 = away(r_uz_1, a_3q);
+    u64 r_5 = r_nr_1;
+    r_x9 = r_1;
+    r_tc = r_2;
+    r_wl = r_3;
+    r_uz_1 = r_4;
+    r_eu = r_5;
+    goto l_join_kl;
+l_arm_06:;
+    if (r_9e > 0x3ffffbeull) { r_bs_1 = 1u; r_77_2 = 0u; goto l_capnp_8i_1; }
+    if (!((r_9p - r_9e) < 2ull)) { r_oq = r_aq; r_1g = r_9p; r_q8 = r_9e; goto l_join_7k; }
+    u8 r_y4 = std_alloc_vec_Vec_grow_amortized_9634afabedddd7ee(a_3, 2ull);
+    if (!r_y4) { r_bs_1 = 1u; r_77_2 = 1u; goto l_capnp_8i_1; }
+    r_oq = ldp(a_3);
+    r_1g = ld64(r_08_1);
+    r_q8 = ld64(r_rq);
+l_join_7k:;
+    r_x4 = (r_q8 + 2ull);
+    r_2b_8 = away(r_oq, r_q8);
+    if (((u64)(uptr)r_2b_8 - (u64)(uptr)((u8 *)g_static_169)) < 2ull) { r_mp_2 = 0ull; goto l_join_or; }
+    st16(r_2b_8, 32034u);
+    goto l_core_ga;
+l_join_or:;
+    st8((r_2b_8 + (i64)(r_mp_2)), ld8((((u8 *)g_static_169) + (i64)(r_mp_2))));
+    u64 r_c4_7 = (r_mp_2 + 1ull);
+    if (!(r_c4_7 == 2ull)) { r_mp_2 = r_c4_7; goto l_join_or; }
+l_core_ga:;
+    stp(a_3, r_oq);
+    st64(r_rq, r_x4);
+    st64(r_08_1, r_1g);
+    r_bs_1 = 0u;
+    r_77_2 = 0u;
+    goto l_capnp_8i_1;
+l_arm_8g:;
+    r_bs_1 = 1u;
+    r_77_2 = r_2g;
+l_capnp_8i_1:;
+    struct s_i8_i8 r_3j_1 = (struct s_i8_i8){ 0 };
+    r_3j_1.f0 = r_bs_1;
+    struct s_i8_i8 r_9n_1 = r_3j_1;
+    r_9n_1.f1 = r_77_2;
+    r_vh_1 = r_9n_1;
     goto l_join_zt;
+l_arm_h9:;
+    r_ad = 7ull;
+    r_8o = ((u8 *)g_static_172);
+    goto l_capnp_6t;
+l_arm_h9_1:;
+    r_ad = 7ull;
+    r_8o = ((u8 *)g_static_173);
+    goto l_capnp_6t;
+l_arm_h9_2:;
+    r_ad = 7ull;
+    r_8o = ((u8 *)g_static_174);
+l_capnp_6t:;
+    r_52_11 = ld64(r_rq);
+    if ((r_52_11 > 0x3ffffc0ull) ? 1u : ((0x3ffffc0ull - r_52_11) < r_ad)) { r_bs_2 = 0u; r_77_3 = 1u; goto l_capnp_8i_2; }
+    u64 r_52_12 = ld64(r_08_1);
+    if (!(r_ad > (r_52_12 - r_52_11))) { r_bu = r_52_12; r_tk = r_52_11; goto l_join_pq; }
+    u8 r_c4_8 = std_alloc_vec_Vec_grow_amortized_9634afabedddd7ee(a_3, r_ad);
+    if (!r_c4_8) { r_bs_2 = 1u; r_77_3 = 1u; goto l_capnp_8i_2; }
+    r_bu = ld64(r_08_1);
+    r_tk = ld64(r_rq);
+l_join_pq:;
+    r_5q_1 = (r_tk + r_ad);
+    r_fx_6 = ldp(a_3);
+    r_2b_9 = away(r_fx_6, r_tk);
+    if (((u64)(uptr)r_2b_9 - (u64)(uptr)r_8o) < r_ad) { r_il = 0ull; goto l_join_fh; }
+    memcpy_or_none(r_2b_9, r_8o, r_ad);
+    goto l_arm_dd;
+l_join_fh:;
+    st8((r_2b_9 + (i64)(r_il)), ld8((r_8o + (i64)(r_il))));
+    u64 r_c4_9 = (r_il + 1ull);
+    if (!(r_c4_9 == r_ad)) { r_il = r_c4_9; goto l_join_fh; }
+l_arm_dd:;
+    stp(a_3, r_fx_6);
+    st64(r_rq, r_5q_1);
+    st64(r_08_1, r_bu);
+    if (r_uq_1 == 0u) { r_aq_1 = r_5q_1; goto l_arm_06_1; }
+    r_gw_1 = (u64)(r_38_5 >> 3ull);
+    r_ci = 0u;
+    goto l_join_fo;
+l_loop_q6:;
+    u32 r_7t_1 = (r_ci + 1u);
+    if (r_7t_1 == r_uq_1) goto l_arm_n1;
+    r_ci = r_7t_1;
+l_join_fo:;
+    if (r_ci == 0u) goto l_arm_0h;
+    r_52_13 = ld64(r_rq);
+    if (r_52_13 > 0x3ffffbfull) { r_bs_2 = 0u; r_77_3 = 1u; goto l_capnp_8i_2; }
+    u64 r_52_14 = ld64(r_08_1);
+    if (!(r_52_14 == r_52_13)) { r_qd_1 = r_52_14; r_cr_1 = r_52_13; goto l_join_tk; }
+    u8 r_av_3 = std_alloc_vec_Vec_grow_amortized_9634afabedddd7ee(a_3, 1ull);
+    if (!r_av_3) { r_bs_2 = 1u; r_77_3 = 1u; goto l_capnp_8i_2; }
+    r_qd_1 = ld64(r_08_1);
+    r_cr_1 = ld64(r_rq);
+l_join_tk:;
+    u8 *r_fx_7 = ldp(a_3);
+    st8(away(r_fx_7, r_cr_1), 44u);
+    stp(a_3, r_fx_7);
+    st64(r_rq, (r_cr_1 + 1ull));
+    st64(r_08_1, r_qd_1);
+l_arm_0h:;
+    switch (r_ne) {
+    case 1u: goto l_arm_t6;
+    case 2u: goto l_arm_br;
+    case 3u: goto l_arm_tw;
+    case 4u: goto l_arm_fo;
+    case 0u: { r_st = r_ci; goto l_capnp_k6; }
+    case 5u: { r_st = r_ci; goto l_capnp_k6; }
+    case 6u: { r_st = r_ci; goto l_capnp_k6; }
+    case 7u: { r_st = r_ci; goto l_capnp_k6; }
+    default: goto l_noarm_e1_2;
+    }
+l_arm_t6:;
+    r_st = (u32)(r_ci >> 6u);
+    goto l_capnp_k6;
+l_arm_br:;
+    r_st = (u32)(r_ci >> 3u);
+    goto l_capnp_k6;
+l_arm_tw:;
+    r_st = (u32)(r_ci >> 2u);
+    goto l_capnp_k6;
+l_arm_fo:;
+    r_st = (u32)(r_ci >> 1u);
+    goto l_capnp_k6;
+l_noarm_e1_2:;
+    UNREACHABLE();
+l_capnp_k6:;
+    r_24_4 = (u64)uadd_sat32(r_st, r_wt);
+    if (!(r_gw_1 > r_24_4)) { r_pv = 0ull; goto l_capnp_pd; }
+    r_pv = ld64((r_xw + (i64)((u64)(r_24_4 << 3ull))));
+l_capnp_pd:;
+    switch (r_ne) {
+    case 1u: goto l_arm_34;
+    case 2u: goto l_capnp_r9;
+    case 3u: goto l_arm_ij;
+    case 4u: goto l_arm_gu;
+    case 0u: { r_cw = r_pv; goto l_arm_ik_1; }
+    case 5u: { r_cw = r_pv; goto l_arm_ik_1; }
+    case 6u: { r_cw = r_pv; goto l_arm_ik_1; }
+    case 7u: { r_cw = r_pv; goto l_arm_ik_1; }
+    default: goto l_noarm_e1_3;
+    }
+l_arm_34:;
+    r_c2 = (r_ci & 63u);
+    sink_g9 = 1ull;
+    goto l_arm_aj;
+l_capnp_r9:;
+    r_cw = ((u64)(r_pv >> ((u64)((u32)(r_ci << 3u) & 56u) & 63u)) & 255ull);
+    goto l_arm_ik_1;
+l_arm_ij:;
+    r_c2 = ((u32)(r_ci << 4u) & 48u);
+    sink_g9 = 65535ull;
+    goto l_arm_aj;
+l_arm_gu:;
+    r_c2 = ((u32)(r_ci << 5u) & 32u);
+    sink_g9 = 0xffffffffull;
+    goto l_arm_aj;
+l_noarm_e1_3:;
+    UNREACHABLE();
+l_arm_aj:;
+    struct s_i8_i8 r_zo = capnp_show_show_text_Text_push_number(a_3, ((u64)(r_pv >> ((u64)r_c2 & 63u)) & sink_g9));
+    r_pg = r_zo;
+    goto l_capnp_6i;
+l_arm_ik_1:;
+    r_52_15 = ld64(r_rq);
+    if (r_52_15 > 0x3ffffbfull) { r_95 = 0u; r_t2 = 1u; goto l_capnp_5p; }
+    u64 r_52_16 = ld64(r_08_1);
+    if (!(r_52_16 == r_52_15)) { r_08_2 = r_52_16; r_vr = r_52_15; goto l_join_wq; }
+    u8 r_av_4 = std_alloc_vec_Vec_grow_amortized_9634afabedddd7ee(a_3, 1ull);
+    if (!r_av_4) { r_95 = 1u; r_t2 = 1u; goto l_capnp_5p; }
+    r_08_2 = ld64(r_08_1);
+    r_vr = ld64(r_rq);
+l_join_wq:;
+    u8 *r_fx_8 = ldp(a_3);
+    st8(away(r_fx_8, r_vr), 34u);
+    stp(a_3, r_fx_8);
+    st64(r_rq, (r_vr + 1ull));
+    st64(r_08_1, r_08_2);
+    r_zo_1 = capnp_show_show_text_Text_push_number(a_3, r_cw);
+    if (!(r_zo_1.f0 == 0u)) goto l_arm_21_2;
+    r_52_17 = ld64(r_rq);
+    if (r_52_17 > 0x3ffffbfull) { r_95 = 0u; r_t2 = 1u; goto l_capnp_5p; }
+    u64 r_52_18 = ld64(r_08_1);
+    if (!(r_52_18 == r_52_17)) { r_08_3 = r_52_18; r_vr_1 = r_52_17; goto l_join_wq_1; }
+    u8 r_av_5 = std_alloc_vec_Vec_grow_amortized_9634afabedddd7ee(a_3, 1ull);
+    if (!r_av_5) { r_95 = 1u; r_t2 = 1u; goto l_capnp_5p; }
+    r_08_3 = ld64(r_08_1);
+    r_vr_1 = ld64(r_rq);
+l_join_wq_1:;
+    u8 *r_fx_9 = ldp(a_3);
+    st8(away(r_fx_9, r_vr_1), 34u);
+    stp(a_3, r_fx_9);
+    st64(r_rq, (r_vr_1 + 1ull));
+    st64(r_08_1, r_08_3);
+    r_95 = 0u;
+    r_t2 = 0u;
+    goto l_capnp_5p;
 l_arm_21_2:;
-    a_z5 = r_p2_1.f1;
-    goto l_capnp_f7;
-l_arm_pp_2:;
-    r_38_6 = ld64((slot_2 + 16));
-    r_lk_5 = (slot_2 + 24);
-    r_z4_2 = ld32((slot_2 + 40));
-    t_z4 = ld32((slot_2 + 48));
-    r_is = (u16)t_z4;
-    r_xh = (u32)(t_z4 >> 16u);
-    r_gr = (u16)r_xh;
-    r_yf_2 = ld32((slot_2 + 52));
-    if (!(u8)(ld8(r_r2_1) & 1)) goto l_arm_05;
-    r_p2_2 = capnp_show_show_json_Json_write_place(a_3, ((u8 *)g_static_183), 6ull, r_38_6, r_z4_2);
-    if (!(r_p2_2.f0 == 0u)) goto l_arm_21_3;
-l_arm_05:;
-    r_r4 = capnp_show_show_json_Json_write_sizes(a_3, r_is, r_gr);
-    if (r_r4.f0 == 0u) goto l_arm_90;
-    goto l_arm_21_4;
-l_arm_21_3:;
-    a_z5 = r_p2_2.f1;
-    goto l_capnp_f7;
-l_arm_90:;
-    if ((r_xh | (t_z4 & 65535u)) == 0u) goto l_then_cz;
-    goto l_join_v4;
-l_arm_21_4:;
-    a_z5 = r_r4.f1;
-    goto l_capnp_f7;
-l_then_cz:;
-    struct s_i8_i8 r_10 = capnp_show_show_json_Json_write_count(a_3, r_yf_2);
-    r_61 = r_10;
-    r_gp = r_10.f0;
-    goto l_capnp_z0;
-l_join_v4:;
-    mv16((slot_6 + 8), slot_1);
-    mv16((slot_6 + 32), r_lk_5);
-    st64(slot_6, r_eg);
-    st64((slot_6 + 24), r_38_6);
-    st32((slot_6 + 48), r_z4_2);
-    st32((slot_6 + 52), 0u);
-    st32((slot_6 + 56), ((r_5k_2 == 0x80000000u) ? 0x80000000u : (r_5k_2 + 0xffffffffu)));
-    struct s_i8_i8 r_1n = capnp_show_show_json_json_elements_5ccc1be374b2e488(slot_6, r_is, r_gr, r_yf_2, a_2, a_3);
-    r_vh = r_1n;
+    r_95 = r_zo_1.f1;
+    r_t2 = 1u;
+l_capnp_5p:;
+    struct s_i8_i8 r_3j_2 = (struct s_i8_i8){ 0 };
+    r_3j_2.f0 = r_t2;
+    struct s_i8_i8 r_9n_2 = r_3j_2;
+    r_9n_2.f1 = r_95;
+    r_pg = r_9n_2;
+l_capnp_6i:;
+    if (r_pg.f0 == 0u) goto l_loop_q6;
+    r_bs_2 = r_pg.f1;
+    r_77_3 = 1u;
+    goto l_capnp_8i_2;
+l_arm_n1:;
+    r_aq_1 = ld64(r_rq);
+l_arm_06_1:;
+    if (r_aq_1 > 0x3ffffbeull) { r_bs_2 = 0u; r_77_3 = 1u; goto l_capnp_8i_2; }
+    u64 r_52_19 = ld64(r_08_1);
+    if (!((r_52_19 - r_aq_1) < 2ull)) { r_c0 = r_52_19; r_54_1 = r_aq_1; goto l_join_p3; }
+    u8 r_y4_1 = std_alloc_vec_Vec_grow_amortized_9634afabedddd7ee(a_3, 2ull);
+    if (!r_y4_1) { r_bs_2 = 1u; r_77_3 = 1u; goto l_capnp_8i_2; }
+    r_c0 = ld64(r_08_1);
+    r_54_1 = ld64(r_rq);
+l_join_p3:;
+    r_x4_1 = (r_54_1 + 2ull);
+    r_fx_10 = ldp(a_3);
+    r_2b_13 = away(r_fx_10, r_54_1);
+    if (((u64)(uptr)r_2b_13 - (u64)(uptr)((u8 *)g_static_170)) < 2ull) { r_a6 = 0ull; goto l_join_ht; }
+    st16(r_2b_13, 32093u);
+    goto l_core_ga_1;
+l_join_ht:;
+    st8((r_2b_13 + (i64)(r_a6)), ld8((((u8 *)g_static_170) + (i64)(r_a6))));
+    u64 r_c4_11 = (r_a6 + 1ull);
+    if (!(r_c4_11 == 2ull)) { r_a6 = r_c4_11; goto l_join_ht; }
+l_core_ga_1:;
+    stp(a_3, r_fx_10);
+    st64(r_rq, r_x4_1);
+    st64(r_08_1, r_c0);
+    r_bs_2 = 0u;
+    r_77_3 = 0u;
+l_capnp_8i_2:;
+    struct s_i8_i8 r_3j_3 = (struct s_i8_i8){ 0 };
+    r_3j_3.f0 = r_77_3;
+    struct s_i8_i8 r_9n_3 = r_3j_3;
+    r_9n_3.f1 = r_bs_2;
+    r_vh_1 = r_9n_3;
+    goto l_join_zt;
+l_noarm_e1_1:;
+    UNREACHABLE();
+l_arm_qc:;
+    mv16((slot_2 + 8), slot_4);
+    st64(slot_2, r_eg);
+    st64((slot_2 + 24), r_38_4);
+    stp((slot_2 + 32), r_xw);
+    st64((slot_2 + 40), r_38_5);
+    st32((slot_2 + 48), r_wt);
+    st32((slot_2 + 52), 0u);
+    st32((slot_2 + 56), ((r_5k_2 == 0x80000000u) ? 0x80000000u : (r_5k_2 + 0xffffffffu)));
+    struct s_i8_i8 r_rw = capnp_show_show_json_json_struct_5ccc1be374b2e488(slot_2, t_t8, r_gr, a_2, a_3);
+    r_vh_1 = r_rw;
+    goto l_join_zt;
+l_arm_qc_1:;
+    mv16((slot_3 + 8), slot_4);
+    st64(slot_3, r_eg);
+    st64((slot_3 + 24), r_38_4);
+    stp((slot_3 + 32), r_xw);
+    st64((slot_3 + 40), r_38_5);
+    st32((slot_3 + 48), r_wt);
+    st32((slot_3 + 52), 0u);
+    st32((slot_3 + 56), ((r_5k_2 == 0x80000000u) ? 0x80000000u : (r_5k_2 + 0xffffffffu)));
+    struct s_i8_i8 r_vy = capnp_show_show_json_json_pointers_5ccc1be374b2e488(1u, slot_3, r_z4, a_2, a_3);
+    r_vh_1 = r_vy;
+    goto l_join_zt;
+l_arm_pg:;
+    r_mx_2 = ((r_5k_2 == 0x80000000u) ? 0x80000000u : (r_5k_2 + 0xffffffffu));
+    st64((slot_1 + 56), 0ull);
+    r_kp_6 = capnp_show_show_text_Text_push_sizes(a_3, t_t8, r_gr);
+    if (!(r_kp_6.f0 == 0u)) goto l_arm_rc;
+    if ((r_5d | r_az) == 0u) goto l_then_8o;
+    goto l_join_te;
+l_arm_rc:;
+    struct s_i8_i8 r_fj = (struct s_i8_i8){ 1u, 0u };
+    r_fj.f1 = r_kp_6.f1;
+    r_a8_5 = r_fj;
+    r_g7_1 = 1u;
+    goto l_capnp_mf_1;
+l_then_8o:;
+    struct s_i8_i8 r_gb = capnp_show_show_text_Text_push_last(a_3, ((u8 *)g_static_186), 8ull, (u64)r_uq_1);
+    r_a8_5 = r_gb;
+    r_g7_1 = r_gb.f0;
+    goto l_capnp_mf_1;
+l_join_te:;
+    r_86 = capnp_show_show_text_Text_push(a_3, ((u8 *)g_static_183), 11ull);
+    if (!(r_86.f0 == 0u)) goto l_arm_rc_1;
+    st64(slot_1, r_eg);
+    mv16((slot_1 + 8), slot_4);
+    st64((slot_1 + 24), r_38_4);
+    stp((slot_1 + 32), r_xw);
+    st64((slot_1 + 40), r_38_5);
+    st32((slot_1 + 48), r_wt);
+    st32((slot_1 + 52), 0u);
+    st32((slot_1 + 56), r_mx_2);
+    r_19_2 = capnp_show_show_json_json_elements_5ccc1be374b2e488(slot_1, t_t8, r_gr, r_uq_1, a_2, a_3);
+    if (r_19_2.f0 == 0u) goto l_arm_5x;
+    goto l_arm_rc_2;
+l_arm_rc_1:;
+    struct s_i8_i8 r_fj_1 = (struct s_i8_i8){ 1u, 0u };
+    r_fj_1.f1 = r_86.f1;
+    r_a8_5 = r_fj_1;
+    r_g7_1 = 1u;
+    goto l_capnp_mf_1;
+l_arm_5x:;
+    struct s_i8_i8 r_qf = capnp_show_show_text_Text_push(a_3, ((u8 *)g_static_170), 2ull);
+    r_a8_5 = r_qf;
+    r_g7_1 = r_qf.f0;
+    goto l_capnp_mf_1;
+l_arm_rc_2:;
+    struct s_i8_i8 r_fj_2 = (struct s_i8_i8){ 1u, 0u };
+    r_fj_2.f1 = r_19_2.f1;
+    r_a8_5 = r_fj_2;
+    r_g7_1 = 1u;
+l_capnp_mf_1:;
+    struct s_i8_i8 r_3j_4 = (struct s_i8_i8){ 0 };
+    r_3j_4.f0 = r_g7_1;
+    struct s_i8_i8 r_9n_4 = r_3j_4;
+    r_9n_4.f1 = r_a8_5.f1;
+    r_vh_1 = r_9n_4;
 l_join_zt:;
-    r_61 = r_vh;
-    r_gp = r_vh.f0;
-    goto l_capnp_z0;
+    r_a8_2 = r_vh_1;
+    r_g7 = r_vh_1.f0;
+    goto l_capnp_mf;
 l_noarm_e1:;
     UNREACHABLE();
-l_capnp_f7:;
-    r_fu = a_z5;
-    r_vh_1 = 1u;
+l_capnp_mf:;
+    struct s_i8_i8 r_3j_5 = (struct s_i8_i8){ 0 };
+    r_3j_5.f0 = r_g7;
+    struct s_i8_i8 r_9n_5 = r_3j_5;
+    r_9n_5.f1 = r_a8_2.f1;
+    r_1j = r_9n_5;
+    goto l_capnp_y9;
+l_switch_ri:;
+    struct s_i8_i8 r_ml_1 = capnp_show_show_json_Json_write_refusal(a_3, ldp((((u8 *)switch_table_capnp_canon_inputs_refuse_31) + (i64)(8 * (u64)r_r5))), ld64((((u8 *)switch_table_capnp_canon_inputs_refuse_32) + (i64)(8 * (u64)r_r5))));
+    r_1j = r_ml_1;
+    goto l_capnp_y9;
+l_capnp_oj:;
+    r_fu = r_u1;
+    r_vh = 1u;
     goto l_return_4x;
-l_capnp_z0:;
-    if (!(r_gp == 0u)) { r_fu = r_61.f1; r_vh_1 = 1u; goto l_return_4x; }
-    r_52_3 = ld64(r_rq);
-    if (!(ld8(away(a_3, 64ull)) == 1u)) { r_fu = 0u; r_vh_1 = 0u; goto l_return_4x; }
-    if (r_52 > ld64(away(a_3, 80ull))) { r_fu = 0u; r_vh_1 = 0u; goto l_return_4x; }
-    if (!(ld64(away(a_3, 72ull)) < r_52_3)) { r_fu = 0u; r_vh_1 = 0u; goto l_return_4x; }
+l_capnp_y9:;
+    if (!(r_1j.f0 == 0u)) { r_fu = r_1j.f1; r_vh = 1u; goto l_return_4x; }
+l_arm_2q:;
+    r_52_20 = ld64(r_rq);
+    if (!(ld8(away(a_3, 64ull)) == 1u)) { r_fu = 0u; r_vh = 0u; goto l_return_4x; }
+    if (r_52 > ld64(away(a_3, 80ull))) { r_fu = 0u; r_vh = 0u; goto l_return_4x; }
+    if (!(ld64(away(a_3, 72ull)) < r_52_20)) { r_fu = 0u; r_vh = 0u; goto l_return_4x; }
     st64(away(a_3, 112ull), r_52);
     r_fu = 2u;
-    r_vh_1 = 1u;
+    r_vh = 1u;
 l_return_4x:;
-    struct s_i8_i8 r_3j_1 = (struct s_i8_i8){ 0 };
-    r_3j_1.f0 = r_vh_1;
-    struct s_i8_i8 r_9n_1 = r_3j_1;
-    r_9n_1.f1 = r_fu;
-    return r_9n_1;
+    struct s_i8_i8 r_3j_6 = (struct s_i8_i8){ 0 };
+    r_3j_6.f0 = r_vh;
+    struct s_i8_i8 r_9n_6 = r_3j_6;
+    r_9n_6.f1 = r_fu;
+    return r_9n_6;
 }
 
 /* capnp_show::show::json::Json::write_place */
@@ -40966,7 +41453,7 @@ static struct s_i8_i8 capnp_show_show_json_Json_write_place(u8 *a_1, u8 *a_2, u6
     u64 r_x4;
     u8 *r_fx_2;
     u8 *r_2b_2;
-    u64 r_i5;
+    u64 r_f9;
     u8 r_fu;
     u8 r_vh;
     r_rq = away(a_1, 8ull);
@@ -41048,13 +41535,13 @@ l_join_p3:;
     r_x4 = (r_54 + 2ull);
     r_fx_2 = ldp(a_1);
     r_2b_2 = away(r_fx_2, r_54);
-    if (((u64)(uptr)r_2b_2 - (u64)(uptr)((u8 *)g_static_157)) < 2ull) { r_i5 = 0ull; goto l_join_ph; }
+    if (((u64)(uptr)r_2b_2 - (u64)(uptr)((u8 *)g_static_156)) < 2ull) { r_f9 = 0ull; goto l_join_pr; }
     st16(r_2b_2, 11357u);
     goto l_core_x2;
-l_join_ph:;
-    st8((r_2b_2 + (i64)(r_i5)), ld8((((u8 *)g_static_157) + (i64)(r_i5))));
-    u64 r_c4_1 = (r_i5 + 1ull);
-    if (!(r_c4_1 == 2ull)) { r_i5 = r_c4_1; goto l_join_ph; }
+l_join_pr:;
+    st8((r_2b_2 + (i64)(r_f9)), ld8((((u8 *)g_static_156) + (i64)(r_f9))));
+    u64 r_c4_1 = (r_f9 + 1ull);
+    if (!(r_c4_1 == 2ull)) { r_f9 = r_c4_1; goto l_join_pr; }
 l_core_x2:;
     stp(a_1, r_fx_2);
     st64(r_rq, r_x4);
@@ -41406,187 +41893,71 @@ l_capnp_6f:;
     return;
 }
 
-/* capnp_show::show::json::Json::write_refusal */
-static struct s_i8_i8 capnp_show_show_json_Json_write_refusal(u8 *a_1, u8 *a_2, u64 a_3)
+/* capnp_show::show::text::Text::push_last */
+static struct s_i8_i8 capnp_show_show_text_Text_push_last(u8 *a_1, u8 *a_2, u64 a_3, u64 a_4)
 {
     u8 *r_rq;
     u64 r_52;
     u8 *r_08;
-    u64 r_4b;
-    u64 r_jh;
-    u64 r_sb;
-    u8 *r_fx;
-    u8 *r_2b;
-    u64 r_ta;
-    u8 *r_4a;
-    u64 r_uv;
-    u64 r_0z;
+    u64 r_0p;
+    u64 r_fj;
     u64 r_zx;
-    u8 *r_2b_1;
-    u64 r_31;
-    u8 *r_um;
-    u64 r_nb;
-    u64 r_ym;
-    u64 r_x4;
-    u8 *r_2b_2;
-    u64 r_81;
-    u8 r_fu;
-    u8 r_vh;
-    st8(away(a_1, 24ull), 0u);
-    r_rq = away(a_1, 8ull);
-    r_52 = ld64(r_rq);
-    if (r_52 > 0x3ffffb5ull) { r_fu = 0u; r_vh = 1u; goto l_return_4x; }
-    r_08 = away(a_1, 16ull);
-    u64 r_52_1 = ld64(r_08);
-    if (!((r_52_1 - r_52) < 11ull)) { r_4b = r_52_1; r_jh = r_52; goto l_join_12; }
-    u8 r_pt = std_alloc_vec_Vec_grow_amortized_9634afabedddd7ee(a_1, 11ull);
-    if (!r_pt) { r_fu = 1u; r_vh = 1u; goto l_return_4x; }
-    r_4b = ld64(r_08);
-    r_jh = ld64(r_rq);
-l_join_12:;
-    r_sb = (r_jh + 11ull);
-    r_fx = ldp(a_1);
-    r_2b = away(r_fx, r_jh);
-    if (((u64)(uptr)r_2b - (u64)(uptr)((u8 *)g_static_158)) < 11ull) { r_ta = 0ull; goto l_join_6r; }
-    mv11(r_2b, ((u8 *)g_static_158));
-    goto l_arm_cq;
-l_join_6r:;
-    st8((r_2b + (i64)(r_ta)), ld8((((u8 *)g_static_158) + (i64)(r_ta))));
-    u64 r_c4 = (r_ta + 1ull);
-    if (!(r_c4 == 11ull)) { r_ta = r_c4; goto l_join_6r; }
-l_arm_cq:;
-    stp(a_1, r_fx);
-    st64(r_rq, r_sb);
-    st64(r_08, r_4b);
-    if ((r_sb > 0x3ffffc0ull) ? 1u : ((0x3ffffb5ull - r_jh) < a_3)) { r_fu = 0u; r_vh = 1u; goto l_return_4x; }
-    if (!(a_3 > (r_4b - r_sb))) { r_4a = r_fx; r_uv = r_4b; r_0z = r_sb; goto l_join_xu; }
-    u8 r_7h = std_alloc_vec_Vec_grow_amortized_9634afabedddd7ee(a_1, a_3);
-    if (!r_7h) { r_fu = 1u; r_vh = 1u; goto l_return_4x; }
-    r_4a = ldp(a_1);
-    r_uv = ld64(r_08);
-    r_0z = ld64(r_rq);
-l_join_xu:;
-    r_zx = (r_0z + a_3);
-    memset(r_rq, 0u, 16);
-    r_2b_1 = away(r_4a, r_0z);
-    if (((u64)(uptr)r_2b_1 - (u64)(uptr)a_2) < a_3) { r_31 = 0ull; goto l_join_sz; }
-    memmove_or_none(r_2b_1, a_2, a_3);
-    goto l_arm_pd;
-l_join_sz:;
-    st8((r_2b_1 + (i64)(r_31)), ld8((a_2 + (i64)(r_31))));
-    u64 r_c4_1 = (r_31 + 1ull);
-    if (!(r_c4_1 == a_3)) { r_31 = r_c4_1; goto l_join_sz; }
-l_arm_pd:;
-    stp(a_1, r_4a);
-    st64(r_rq, r_zx);
-    st64(r_08, r_uv);
-    if (r_zx > 0x3ffffbeull) { r_fu = 0u; r_vh = 1u; goto l_return_4x; }
-    if (!((r_uv - r_zx) < 2ull)) { r_um = r_4a; r_nb = r_uv; r_ym = r_zx; goto l_join_ye; }
-    u8 r_y4 = std_alloc_vec_Vec_grow_amortized_9634afabedddd7ee(a_1, 2ull);
-    if (!r_y4) { r_fu = 1u; r_vh = 1u; goto l_return_4x; }
-    r_um = ldp(a_1);
-    r_nb = ld64(r_08);
-    r_ym = ld64(r_rq);
-l_join_ye:;
-    r_x4 = (r_ym + 2ull);
-    r_2b_2 = away(r_um, r_ym);
-    if (((u64)(uptr)r_2b_2 - (u64)(uptr)((u8 *)g_static_159)) < 2ull) { r_81 = 0ull; goto l_join_b9; }
-    st16(r_2b_2, 32034u);
-    goto l_core_x2;
-l_join_b9:;
-    st8((r_2b_2 + (i64)(r_81)), ld8((((u8 *)g_static_159) + (i64)(r_81))));
-    u64 r_c4_2 = (r_81 + 1ull);
-    if (!(r_c4_2 == 2ull)) { r_81 = r_c4_2; goto l_join_b9; }
-l_core_x2:;
-    stp(a_1, r_um);
-    st64(r_rq, r_x4);
-    st64(r_08, r_nb);
-    r_fu = 0u;
-    r_vh = 0u;
-l_return_4x:;
-    struct s_i8_i8 r_3j = (struct s_i8_i8){ 0 };
-    r_3j.f0 = r_vh;
-    struct s_i8_i8 r_9n = r_3j;
-    r_9n.f1 = r_fu;
-    return r_9n;
-}
-
-/* capnp_show::show::json::Json::write_capability */
-static struct s_i8_i8 capnp_show_show_json_Json_write_capability(u8 *a_1, u32 a_2)
-{
-    u64 r_7l;
-    u8 *r_rq;
-    u64 r_52;
-    u8 *r_08;
-    u64 r_3h;
-    u64 r_v4;
-    u64 r_dr;
     u8 *r_fx;
     u8 *r_2b;
-    u64 r_y3;
-    u8 r_e7;
-    struct s_i8_i8 r_yu;
+    u64 r_31;
+    struct s_i8_i8 r_vc;
     u64 r_52_2;
-    u8 *r_08_1;
     u64 r_29;
     u64 r_el;
     u8 r_fu;
     u8 r_vh;
-    r_7l = (u64)a_2;
     r_rq = away(a_1, 8ull);
     r_52 = ld64(r_rq);
-    if (r_52 > 0x3ffffb3ull) { r_e7 = 0u; goto l_arm_n5; }
+    if ((r_52 > 0x3ffffc0ull) ? 1u : ((0x3ffffc0ull - r_52) < a_3)) { r_fu = 0u; r_vh = 1u; goto l_return_4x; }
     r_08 = away(a_1, 16ull);
     u64 r_52_1 = ld64(r_08);
-    if (!((r_52_1 - r_52) < 13ull)) { r_3h = r_52_1; r_v4 = r_52; goto l_join_jf; }
-    u8 r_bz = std_alloc_vec_Vec_grow_amortized_9634afabedddd7ee(a_1, 13ull);
-    if (!r_bz) { r_e7 = 1u; goto l_arm_n5; }
-    r_3h = ld64(r_08);
-    r_v4 = ld64(r_rq);
-l_join_jf:;
-    r_dr = (r_v4 + 13ull);
+    if (!(a_3 > (r_52_1 - r_52))) { r_0p = r_52_1; r_fj = r_52; goto l_join_8y; }
+    u8 r_7h = std_alloc_vec_Vec_grow_amortized_9634afabedddd7ee(a_1, a_3);
+    if (!r_7h) { r_fu = 1u; r_vh = 1u; goto l_return_4x; }
+    r_0p = ld64(r_08);
+    r_fj = ld64(r_rq);
+l_join_8y:;
+    r_zx = (r_fj + a_3);
     r_fx = ldp(a_1);
-    r_2b = away(r_fx, r_v4);
-    if (((u64)(uptr)r_2b - (u64)(uptr)((u8 *)g_static_160)) < 13ull) { r_y3 = 0ull; goto l_join_f6; }
-    mv13(r_2b, ((u8 *)g_static_160));
-    goto l_arm_na;
-l_join_f6:;
-    st8((r_2b + (i64)(r_y3)), ld8((((u8 *)g_static_160) + (i64)(r_y3))));
-    u64 r_c4 = (r_y3 + 1ull);
-    if (!(r_c4 == 13ull)) { r_y3 = r_c4; goto l_join_f6; }
-l_arm_na:;
+    memset(r_rq, 0u, 16);
+    r_2b = away(r_fx, r_fj);
+    if (((u64)(uptr)r_2b - (u64)(uptr)a_2) < a_3) { r_31 = 0ull; goto l_join_sz; }
+    memmove_or_none(r_2b, a_2, a_3);
+    goto l_arm_zo;
+l_join_sz:;
+    st8((r_2b + (i64)(r_31)), ld8((a_2 + (i64)(r_31))));
+    u64 r_c4 = (r_31 + 1ull);
+    if (!(r_c4 == a_3)) { r_31 = r_c4; goto l_join_sz; }
+l_arm_zo:;
     stp(a_1, r_fx);
-    st64(r_rq, r_dr);
-    st64(r_08, r_3h);
-    struct s_i8_i8 r_zo = capnp_show_show_text_Text_push_number(a_1, r_7l);
-    r_yu = r_zo;
-    goto l_capnp_v4;
-l_arm_n5:;
-    struct s_i8_i8 t_fj = (struct s_i8_i8){ 1u, 0u };
-    t_fj.f1 = r_e7;
-    r_yu = t_fj;
-l_capnp_v4:;
-    if (!(r_yu.f0 == 0u)) goto l_arm_dn;
+    st64(r_rq, r_zx);
+    st64(r_08, r_0p);
+    r_vc = capnp_show_show_text_Text_push_number(a_1, a_4);
+    if (!(r_vc.f0 == 0u)) goto l_arm_dn;
     r_52_2 = ld64(r_rq);
     if (r_52_2 > 0x3ffffbfull) { r_fu = 0u; r_vh = 1u; goto l_return_4x; }
-    r_08_1 = away(a_1, 16ull);
-    u64 r_52_3 = ld64(r_08_1);
+    u64 r_52_3 = ld64(r_08);
     if (!(r_52_3 == r_52_2)) { r_29 = r_52_3; r_el = r_52_2; goto l_join_n2; }
     u8 r_av = std_alloc_vec_Vec_grow_amortized_9634afabedddd7ee(a_1, 1ull);
     if (!r_av) { r_fu = 1u; r_vh = 1u; goto l_return_4x; }
-    r_29 = ld64(r_08_1);
+    r_29 = ld64(r_08);
     r_el = ld64(r_rq);
 l_join_n2:;
     u8 *r_fx_1 = ldp(a_1);
     st8(away(r_fx_1, r_el), 125u);
     stp(a_1, r_fx_1);
     st64(r_rq, (r_el + 1ull));
-    st64(r_08_1, r_29);
+    st64(r_08, r_29);
     r_fu = 0u;
     r_vh = 0u;
     goto l_return_4x;
 l_arm_dn:;
-    r_fu = r_yu.f1;
+    r_fu = r_vc.f1;
     r_vh = 1u;
 l_return_4x:;
     struct s_i8_i8 r_3j = (struct s_i8_i8){ 0 };
@@ -41594,618 +41965,6 @@ l_return_4x:;
     struct s_i8_i8 r_9n = r_3j;
     r_9n.f1 = r_fu;
     return r_9n;
-}
-
-/* capnp_show::show::json::Json::write_flat */
-static struct s_i8_i8 capnp_show_show_json_Json_write_flat(u8 *a_1, u8 *a_2, u8 a_3, u32 a_4)
-{
-    A(8) u8 slot_1[1024];
-    u8 *r_rv;
-    u64 r_qw;
-    u32 r_5k;
-    struct s_i8_i8 r_p2;
-    u64 r_7l;
-    u8 *r_rq;
-    u64 r_52;
-    u8 *r_08;
-    u64 r_0s;
-    u64 r_nq;
-    u64 r_xe;
-    u8 *r_fx;
-    u8 *r_2b;
-    u64 r_a4;
-    u8 r_e7_1;
-    struct s_i8_i8 r_yu;
-    u8 *r_ud_1;
-    u64 a_5j;
-    u8 r_qh;
-    u64 r_qd;
-    u8 *r_xw;
-    u64 r_38_2;
-    u8 *r_mu;
-    u64 r_xm;
-    u8 *r_62;
-    u64 r_zn;
-    u8 r_47_2;
-    u8 *r_ny;
-    u64 r_hc;
-    u8 *r_62_1;
-    u64 r_zn_1;
-    u8 *r_rq_1;
-    u64 r_52_2;
-    u8 *r_08_1;
-    u64 r_0s_1;
-    u64 r_nq_1;
-    u64 r_xe_1;
-    u8 *r_fx_1;
-    u8 *r_2b_2;
-    u64 r_pk;
-    struct s_i8_i8 r_z6_1;
-    u64 r_52_4;
-    u64 r_29;
-    u64 r_el;
-    u8 *r_rq_2;
-    u64 r_52_6;
-    u8 *r_08_2;
-    u64 r_wv;
-    u64 r_9w;
-    u64 r_wr;
-    u8 *r_fx_3;
-    u8 *r_2b_4;
-    u64 r_qz;
-    u8 *r_x9;
-    u64 r_tc;
-    u64 r_wl;
-    u8 *r_uz;
-    u64 r_eu;
-    u64 a_3q;
-    u64 r_pt;
-    u64 r_yb;
-    u8 *r_wy;
-    u64 r_2n;
-    u64 r_wj;
-    u8 *r_aq;
-    u64 r_9p;
-    u64 r_9e;
-    u8 *r_um_2;
-    u64 r_nb;
-    u64 r_ym;
-    u64 r_x4;
-    u8 *r_2b_6;
-    u64 r_81;
-    u8 r_2g;
-    u8 r_k2;
-    u8 r_we;
-    u64 r_p8;
-    u8 *r_o3;
-    u64 r_4m;
-    u8 *r_og;
-    u8 *r_rq_3;
-    u64 r_52_8;
-    u8 *r_08_3;
-    u64 r_bu;
-    u64 r_tk;
-    u64 r_5q_1;
-    u8 *r_fx_4;
-    u8 *r_2b_7;
-    u64 r_il;
-    u64 invariant_15;
-    u64 r_tz_6;
-    u64 r_gw;
-    u8 *r_1a;
-    u64 r_xg;
-    u64 r_h0;
-    u32 r_ya;
-    u8 *static_o7;
-    u64 i_k5;
-    u8 *r_yh;
-    u64 r_qi;
-    u64 r_q0;
-    u64 r_qh_1;
-    u8 *r_2b_8;
-    u8 *r_ed;
-    u64 r_4q;
-    u64 r_sj;
-    u64 r_5q_2;
-    u8 *r_2b_9;
-    u32 r_st;
-    u64 r_24_1;
-    u64 r_o8;
-    u64 r_v7;
-    struct s_i8_i8 r_zo_1;
-    u64 r_52_10;
-    u64 r_bu_1;
-    u64 r_tk_1;
-    u64 r_5q_3;
-    u8 *r_fx_5;
-    u8 *r_2b_10;
-    u8 *r_aq_1;
-    u64 r_9p_1;
-    u64 r_9e_1;
-    u8 *r_f0;
-    u64 r_tr;
-    u64 r_oe_2;
-    u64 r_x4_1;
-    u8 *r_2b_11;
-    u64 r_vl_1;
-    u8 r_k2_1;
-    u8 r_we_1;
-    struct s_i8_i8 r_xx;
-    r_rv = ldp((a_2 + 8));
-    r_qw = ld64((a_2 + 16));
-    r_5k = ld32((a_2 + 24));
-    if (!(u8)(ld8(away(a_1, 56ull)) & 1)) goto l_arm_71;
-    r_p2 = capnp_show_show_json_Json_write_place(a_1, ((u8 *)g_static_183), 6ull, ld64(a_2), r_5k);
-    if (!(r_p2.f0 == 0u)) goto l_arm_hf;
-l_arm_71:;
-    switch (a_3) {
-    case 0u: goto l_arm_dr;
-    case 2u: goto l_arm_h5;
-    case 1u: { r_p8 = 0ull; r_o3 = ((u8 *)g_static_294); r_4m = 8ull; r_og = ((u8 *)g_static_170); goto l_join_j5; }
-    case 3u: goto l_arm_qu;
-    case 4u: goto l_arm_qu_1;
-    case 7u: goto l_arm_qu_2;
-    case 5u: goto l_arm_qu_2;
-    case 6u: goto l_arm_qu_2;
-    default: goto l_noarm_e1;
-    }
-l_arm_hf:;
-    struct s_i8_i8 t_fj = (struct s_i8_i8){ 1u, 0u };
-    t_fj.f1 = r_p2.f1;
-    r_xx = t_fj;
-    goto l_return_bv;
-l_arm_dr:;
-    r_7l = (u64)a_4;
-    r_rq = away(a_1, 8ull);
-    r_52 = ld64(r_rq);
-    if (r_52 > 0x3ffffb9ull) { r_e7_1 = 0u; goto l_arm_n5; }
-    r_08 = away(a_1, 16ull);
-    u64 r_52_1 = ld64(r_08);
-    if (!((r_52_1 - r_52) < 7ull)) { r_0s = r_52_1; r_nq = r_52; goto l_join_me; }
-    u8 r_f5 = std_alloc_vec_Vec_grow_amortized_9634afabedddd7ee(a_1, 7ull);
-    if (!r_f5) { r_e7_1 = 1u; goto l_arm_n5; }
-    r_0s = ld64(r_08);
-    r_nq = ld64(r_rq);
-l_join_me:;
-    r_xe = (r_nq + 7ull);
-    r_fx = ldp(a_1);
-    r_2b = away(r_fx, r_nq);
-    if (((u64)(uptr)r_2b - (u64)(uptr)((u8 *)g_static_161)) < 7ull) { r_a4 = 0ull; goto l_join_7z; }
-    mv7(r_2b, ((u8 *)g_static_161));
-    goto l_arm_na;
-l_join_7z:;
-    st8((r_2b + (i64)(r_a4)), ld8((((u8 *)g_static_161) + (i64)(r_a4))));
-    u64 r_c4 = (r_a4 + 1ull);
-    if (!(r_c4 == 7ull)) { r_a4 = r_c4; goto l_join_7z; }
-l_arm_na:;
-    stp(a_1, r_fx);
-    st64(r_rq, r_xe);
-    st64(r_08, r_0s);
-    struct s_i8_i8 r_zo = capnp_show_show_text_Text_push_number(a_1, r_7l);
-    r_yu = r_zo;
-    goto l_capnp_v4;
-l_arm_n5:;
-    struct s_i8_i8 t_fj_1 = (struct s_i8_i8){ 1u, 0u };
-    t_fj_1.f1 = r_e7_1;
-    r_yu = t_fj_1;
-l_capnp_v4:;
-    if (!(r_yu.f0 == 0u)) goto l_arm_hf_1;
-    struct s_i8_i8 r_3d = capnp_show_show_text_Text_push(a_1, ((u8 *)g_static_151), 1ull);
-    r_xx = r_3d;
-    goto l_return_bv;
-l_arm_hf_1:;
-    struct s_i8_i8 t_fj_2 = (struct s_i8_i8){ 1u, 0u };
-    t_fj_2.f1 = r_yu.f1;
-    r_xx = t_fj_2;
-    goto l_return_bv;
-l_arm_h5:;
-    u64 a_f1 = umin64(r_qw, (u64)((u64)r_5k << 3ull));
-    r_ud_1 = away(r_rv, a_f1);
-    a_5j = umin64((r_qw - a_f1), (u64)a_4);
-    r_qh = (a_5j == 0ull);
-    if (r_qh) goto l_arm_xi;
-    r_qd = (a_5j + 0xffffffffffffffffull);
-    if (!(ld8(away(r_ud_1, r_qd)) == 0u)) goto l_arm_xi;
-    memset(slot_1, 0u, 24);
-    core_str_utf8_from_utf8(slot_1, r_ud_1, r_qd);
-    r_xw = ldp((slot_1 + 8));
-    r_38_2 = ld64((slot_1 + 16));
-    if (!(ld8(slot_1) == 0u)) goto l_arm_xi;
-    if (r_38_2 == 0ull) goto l_arm_4j;
-    r_mu = r_xw;
-    r_xm = r_38_2;
-l_arm_2s:;
-    r_62 = away(r_mu, 1ull);
-    r_zn = (r_xm + 0xffffffffffffffffull);
-    r_47_2 = ld8(r_mu);
-    if ((u8)((u8)(r_47_2 == 127u) | (u8)(r_47_2 < 9u))) goto l_arm_xi;
-    if (r_47_2 < 11u) goto l_capnp_ss;
-    if (r_47_2 < 13u) goto l_arm_xi;
-    if ((u8)((u8)(r_47_2 != 13u) & (u8)(r_47_2 < 32u))) goto l_arm_xi;
-l_capnp_ss:;
-    if (!(r_zn == 0ull)) { r_mu = r_62; r_xm = r_zn; goto l_arm_2s; }
-    if (r_38_2 == 1ull) goto l_arm_4j;
-    r_ny = r_xw;
-    r_hc = r_38_2;
-l_then_i5:;
-    r_62_1 = away(r_ny, 1ull);
-    r_zn_1 = (r_hc + 0xffffffffffffffffull);
-    if (!(ld8(r_ny) == 194u)) goto l_capnp_zf;
-    if (ld8(r_62_1) < 160u) goto l_arm_xi;
-l_capnp_zf:;
-    if (!(r_hc < 3ull)) { r_ny = r_62_1; r_hc = r_zn_1; goto l_then_i5; }
-l_arm_4j:;
-    r_rq_1 = away(a_1, 8ull);
-    r_52_2 = ld64(r_rq_1);
-    if (r_52_2 > 0x3ffffb9ull) { r_k2 = 0u; r_we = 1u; goto l_capnp_22; }
-    r_08_1 = away(a_1, 16ull);
-    u64 r_52_3 = ld64(r_08_1);
-    if (!((r_52_3 - r_52_2) < 7ull)) { r_0s_1 = r_52_3; r_nq_1 = r_52_2; goto l_join_me_1; }
-    u8 r_f5_1 = std_alloc_vec_Vec_grow_amortized_9634afabedddd7ee(a_1, 7ull);
-    if (!r_f5_1) { r_k2 = 1u; r_we = 1u; goto l_capnp_22; }
-    r_0s_1 = ld64(r_08_1);
-    r_nq_1 = ld64(r_rq_1);
-l_join_me_1:;
-    r_xe_1 = (r_nq_1 + 7ull);
-    r_fx_1 = ldp(a_1);
-    r_2b_2 = away(r_fx_1, r_nq_1);
-    if (((u64)(uptr)r_2b_2 - (u64)(uptr)((u8 *)g_static_162)) < 7ull) { r_pk = 0ull; goto l_join_1p; }
-    mv7(r_2b_2, ((u8 *)g_static_162));
-    goto l_arm_61;
-l_join_1p:;
-    st8((r_2b_2 + (i64)(r_pk)), ld8((((u8 *)g_static_162) + (i64)(r_pk))));
-    u64 r_c4_1 = (r_pk + 1ull);
-    if (!(r_c4_1 == 7ull)) { r_pk = r_c4_1; goto l_join_1p; }
-l_arm_61:;
-    stp(a_1, r_fx_1);
-    st64(r_rq_1, r_xe_1);
-    st64(r_08_1, r_0s_1);
-    r_z6_1 = capnp_show_show_text_Text_push_quoted(a_1, r_xw, r_38_2);
-    if (!(r_z6_1.f0 == 0u)) goto l_arm_21;
-    r_52_4 = ld64(r_rq_1);
-    if (r_52_4 > 0x3ffffbfull) { r_k2 = 0u; r_we = 1u; goto l_capnp_22; }
-    u64 r_52_5 = ld64(r_08_1);
-    if (!(r_52_5 == r_52_4)) { r_29 = r_52_5; r_el = r_52_4; goto l_join_n2; }
-    u8 r_av = std_alloc_vec_Vec_grow_amortized_9634afabedddd7ee(a_1, 1ull);
-    if (!r_av) { r_k2 = 1u; r_we = 1u; goto l_capnp_22; }
-    r_29 = ld64(r_08_1);
-    r_el = ld64(r_rq_1);
-l_join_n2:;
-    u8 *r_fx_2 = ldp(a_1);
-    st8(away(r_fx_2, r_el), 125u);
-    stp(a_1, r_fx_2);
-    st64(r_rq_1, (r_el + 1ull));
-    st64(r_08_1, r_29);
-    r_k2 = 0u;
-    r_we = 0u;
-    goto l_capnp_22;
-l_arm_21:;
-    r_k2 = r_z6_1.f1;
-    r_we = 1u;
-    goto l_capnp_22;
-l_arm_xi:;
-    r_rq_2 = away(a_1, 8ull);
-    r_52_6 = ld64(r_rq_2);
-    if (r_52_6 > 0x3ffffb7ull) { r_k2 = 0u; r_we = 1u; goto l_capnp_22; }
-    r_08_2 = away(a_1, 16ull);
-    u64 r_52_7 = ld64(r_08_2);
-    if (!((r_52_7 - r_52_6) < 9ull)) { r_wv = r_52_7; r_9w = r_52_6; goto l_join_k6; }
-    u8 r_xy = std_alloc_vec_Vec_grow_amortized_9634afabedddd7ee(a_1, 9ull);
-    if (!r_xy) { r_k2 = 1u; r_we = 1u; goto l_capnp_22; }
-    r_wv = ld64(r_08_2);
-    r_9w = ld64(r_rq_2);
-l_join_k6:;
-    r_wr = (r_9w + 9ull);
-    r_fx_3 = ldp(a_1);
-    r_2b_4 = away(r_fx_3, r_9w);
-    if (((u64)(uptr)r_2b_4 - (u64)(uptr)((u8 *)g_static_163)) < 9ull) { r_qz = 0ull; goto l_join_6w; }
-    mv9(r_2b_4, ((u8 *)g_static_163));
-    goto l_arm_um;
-l_join_6w:;
-    st8((r_2b_4 + (i64)(r_qz)), ld8((((u8 *)g_static_163) + (i64)(r_qz))));
-    u64 r_c4_2 = (r_qz + 1ull);
-    if (!(r_c4_2 == 9ull)) { r_qz = r_c4_2; goto l_join_6w; }
-l_arm_um:;
-    stp(a_1, r_fx_3);
-    st64(r_rq_2, r_wr);
-    st64(r_08_2, r_wv);
-    if (r_qh) { r_aq = r_fx_3; r_9p = r_wv; r_9e = r_wr; goto l_arm_06; }
-    r_x9 = r_fx_3;
-    r_tc = r_wv;
-    r_wl = r_wr;
-    r_uz = r_ud_1;
-    r_eu = a_5j;
-l_join_kl:;
-    a_3q = umin64(r_eu, 512ull);
-    memset(slot_1, 0u, 1024);
-    r_pt = 0ull;
-l_join_jf:;
-    u8 r_47_7 = ld8((r_uz + (i64)(r_pt)));
-    u8 *r_a7_4 = (slot_1 + (i64)((u64)(r_pt << 1ull)));
-    st8(r_a7_4, ld8((((u8 *)g_static_118) + (i64)((u64)(u8)((u32)r_47_7 >> 4u)))));
-    st8((r_a7_4 + 1), ld8((((u8 *)g_static_118) + (i64)((u64)(u8)(r_47_7 & 15u)))));
-    u64 r_c4_3 = (r_pt + 1ull);
-    if (!(r_c4_3 == a_3q)) { r_pt = r_c4_3; goto l_join_jf; }
-    r_yb = (u64)(a_3q << 1ull);
-    if ((r_wl > 0x3ffffc0ull) ? 1u : ((0x3ffffc0ull - r_wl) < r_yb)) { r_2g = 0u; goto l_arm_8g; }
-    if (!(r_yb > (r_tc - r_wl))) { r_wy = r_x9; r_2n = r_tc; r_wj = r_wl; goto l_arm_nw; }
-    u8 r_c4_4 = std_alloc_vec_Vec_grow_amortized_9634afabedddd7ee(a_1, r_yb);
-    if (!r_c4_4) { r_2g = 1u; goto l_arm_8g; }
-    r_wy = ldp(a_1);
-    r_2n = ld64(r_08_2);
-    r_wj = ld64(r_rq_2);
-l_arm_nw:;
-    u64 r_5q = (r_wj + r_yb);
-    memcpy_or_none(away(r_wy, r_wj), slot_1, r_yb);
-    stp(a_1, r_wy);
-    st64(r_rq_2, r_5q);
-    st64(r_08_2, r_2n);
-    u64 r_nr_1 = (r_eu - a_3q);
-    if (r_nr_1 == 0ull) { r_aq = r_wy; r_9p = r_2n; r_9e = r_5q; goto l_arm_06; }
-    u8 *r_1 = r_wy;
-    u64 r_2 = r_2n;
-    u64 r_3 = r_5q;
-    u8 *r_4 = away(r_uz, a_3q);
-    u64 r_5 = r_nr_1;
-    r_x9 = r_1;
-    r_tc = r_2;
-    r_wl = r_3;
-    r_uz = r_4;
-    r_eu = r_5;
-    goto l_join_kl;
-l_arm_06:;
-    if (r_9e > 0x3ffffbeull) { r_k2 = 0u; r_we = 1u; goto l_capnp_22; }
-    if (!((r_9p - r_9e) < 2ull)) { r_um_2 = r_aq; r_nb = r_9p; r_ym = r_9e; goto l_join_ye; }
-    u8 r_y4 = std_alloc_vec_Vec_grow_amortized_9634afabedddd7ee(a_1, 2ull);
-    if (!r_y4) { r_k2 = 1u; r_we = 1u; goto l_capnp_22; }
-    r_um_2 = ldp(a_1);
-    r_nb = ld64(r_08_2);
-    r_ym = ld64(r_rq_2);
-l_join_ye:;
-    r_x4 = (r_ym + 2ull);
-    r_2b_6 = away(r_um_2, r_ym);
-    if (((u64)(uptr)r_2b_6 - (u64)(uptr)((u8 *)g_static_159)) < 2ull) { r_81 = 0ull; goto l_join_b9; }
-    st16(r_2b_6, 32034u);
-    goto l_core_ga;
-l_join_b9:;
-    st8((r_2b_6 + (i64)(r_81)), ld8((((u8 *)g_static_159) + (i64)(r_81))));
-    u64 r_c4_5 = (r_81 + 1ull);
-    if (!(r_c4_5 == 2ull)) { r_81 = r_c4_5; goto l_join_b9; }
-l_core_ga:;
-    stp(a_1, r_um_2);
-    st64(r_rq_2, r_x4);
-    st64(r_08_2, r_nb);
-    r_k2 = 0u;
-    r_we = 0u;
-    goto l_capnp_22;
-l_arm_8g:;
-    r_k2 = r_2g;
-    r_we = 1u;
-l_capnp_22:;
-    struct s_i8_i8 r_3j = (struct s_i8_i8){ 0 };
-    r_3j.f0 = r_we;
-    struct s_i8_i8 r_9n = r_3j;
-    r_9n.f1 = r_k2;
-    r_xx = r_9n;
-    goto l_return_bv;
-l_arm_qu:;
-    r_p8 = 0ull;
-    r_o3 = ((u8 *)g_static_294);
-    r_4m = 7ull;
-    r_og = ((u8 *)g_static_171);
-    goto l_join_j5;
-l_arm_qu_1:;
-    r_p8 = 0ull;
-    r_o3 = ((u8 *)g_static_294);
-    r_4m = 7ull;
-    r_og = ((u8 *)g_static_172);
-    goto l_join_j5;
-l_arm_qu_2:;
-    r_p8 = 1ull;
-    r_o3 = ((u8 *)g_static_164);
-    r_4m = 7ull;
-    r_og = ((u8 *)g_static_173);
-l_join_j5:;
-    r_rq_3 = away(a_1, 8ull);
-    r_52_8 = ld64(r_rq_3);
-    if ((r_52_8 > 0x3ffffc0ull) ? 1u : ((0x3ffffc0ull - r_52_8) < r_4m)) { r_k2_1 = 0u; r_we_1 = 1u; goto l_capnp_22_1; }
-    r_08_3 = away(a_1, 16ull);
-    u64 r_52_9 = ld64(r_08_3);
-    if (!(r_4m > (r_52_9 - r_52_8))) { r_bu = r_52_9; r_tk = r_52_8; goto l_join_pq; }
-    u8 r_c4_6 = std_alloc_vec_Vec_grow_amortized_9634afabedddd7ee(a_1, r_4m);
-    if (!r_c4_6) { r_k2_1 = 1u; r_we_1 = 1u; goto l_capnp_22_1; }
-    r_bu = ld64(r_08_3);
-    r_tk = ld64(r_rq_3);
-l_join_pq:;
-    r_5q_1 = (r_tk + r_4m);
-    r_fx_4 = ldp(a_1);
-    r_2b_7 = away(r_fx_4, r_tk);
-    if (((u64)(uptr)r_2b_7 - (u64)(uptr)r_og) < r_4m) { r_il = 0ull; goto l_join_fh; }
-    memcpy_or_none(r_2b_7, r_og, r_4m);
-    goto l_capnp_pk;
-l_join_fh:;
-    st8((r_2b_7 + (i64)(r_il)), ld8((r_og + (i64)(r_il))));
-    u64 r_c4_7 = (r_il + 1ull);
-    if (!(r_c4_7 == r_4m)) { r_il = r_c4_7; goto l_join_fh; }
-l_capnp_pk:;
-    stp(a_1, r_fx_4);
-    st64(r_rq_3, r_5q_1);
-    st64(r_08_3, r_bu);
-    invariant_15 = (0x3ffffc0ull - r_p8);
-    if (a_4 == 0u) { r_aq_1 = r_fx_4; r_9p_1 = r_bu; r_9e_1 = r_5q_1; goto l_after_06; }
-    r_tz_6 = (u64)(uptr)r_o3;
-    r_gw = (u64)(r_qw >> 3ull);
-    r_1a = r_fx_4;
-    r_xg = r_bu;
-    r_h0 = r_5q_1;
-    r_ya = 0u;
-l_join_zg:;
-    u8 r_6t = (r_ya != 0u);
-    static_o7 = (r_6t ? ((u8 *)g_static_156) : ((u8 *)g_static_294));
-    i_k5 = (u64)r_6t;
-    if ((r_h0 > 0x3ffffc0ull) ? 1u : ((0x3ffffc0ull - r_h0) < i_k5)) { r_k2_1 = 0u; r_we_1 = 1u; goto l_capnp_22_1; }
-    if (!((r_xg - r_h0) < i_k5)) { r_yh = r_1a; r_qi = r_xg; r_q0 = r_h0; goto l_join_pw; }
-    u8 r_ku = std_alloc_vec_Vec_grow_amortized_9634afabedddd7ee(a_1, i_k5);
-    if (!r_ku) { r_k2_1 = 1u; r_we_1 = 1u; goto l_capnp_22_1; }
-    r_yh = ldp(a_1);
-    r_qi = ld64(r_08_3);
-    r_q0 = ld64(r_rq_3);
-l_join_pw:;
-    r_qh_1 = (r_q0 + i_k5);
-    r_2b_8 = away(r_yh, r_q0);
-    if (!(((u64)(uptr)r_2b_8 - (u64)(uptr)static_o7) < i_k5)) goto l_apart_p0;
-    st8(r_2b_8, ld8(static_o7));
-    goto l_arm_6f;
-l_apart_p0:;
-    memcpy_or_none(r_2b_8, static_o7, i_k5);
-l_arm_6f:;
-    stp(a_1, r_yh);
-    st64(r_rq_3, r_qh_1);
-    st64(r_08_3, r_qi);
-    if (r_qh_1 > invariant_15) { r_k2_1 = 0u; r_we_1 = 1u; goto l_capnp_22_1; }
-    if (!(r_p8 > (r_qi - r_qh_1))) { r_ed = r_yh; r_4q = r_qi; r_sj = r_qh_1; goto l_join_2h; }
-    u8 r_c4_8 = std_alloc_vec_Vec_grow_amortized_9634afabedddd7ee(a_1, r_p8);
-    if (!r_c4_8) { r_k2_1 = 1u; r_we_1 = 1u; goto l_capnp_22_1; }
-    r_ed = ldp(a_1);
-    r_4q = ld64(r_08_3);
-    r_sj = ld64(r_rq_3);
-l_join_2h:;
-    r_5q_2 = (r_sj + r_p8);
-    r_2b_9 = away(r_ed, r_sj);
-    if (!(((u64)(uptr)r_2b_9 - r_tz_6) < r_p8)) goto l_apart_0l;
-    st8(r_2b_9, ld8(r_o3));
-    goto l_arm_1a;
-l_apart_0l:;
-    memcpy_or_none(r_2b_9, r_o3, r_p8);
-l_arm_1a:;
-    stp(a_1, r_ed);
-    st64(r_rq_3, r_5q_2);
-    st64(r_08_3, r_4q);
-    switch (a_3) {
-    case 1u: goto l_arm_t6;
-    case 2u: goto l_arm_br;
-    case 3u: goto l_arm_tw;
-    case 4u: goto l_arm_fo;
-    case 0u: { r_st = r_ya; goto l_capnp_k6; }
-    case 5u: { r_st = r_ya; goto l_capnp_k6; }
-    case 6u: { r_st = r_ya; goto l_capnp_k6; }
-    case 7u: { r_st = r_ya; goto l_capnp_k6; }
-    default: goto l_noarm_e1_1;
-    }
-l_arm_t6:;
-    r_st = (u32)(r_ya >> 6u);
-    goto l_capnp_k6;
-l_arm_br:;
-    r_st = (u32)(r_ya >> 3u);
-    goto l_capnp_k6;
-l_arm_tw:;
-    r_st = (u32)(r_ya >> 2u);
-    goto l_capnp_k6;
-l_arm_fo:;
-    r_st = (u32)(r_ya >> 1u);
-    goto l_capnp_k6;
-l_noarm_e1_1:;
-    UNREACHABLE();
-l_capnp_k6:;
-    r_24_1 = (u64)uadd_sat32(r_st, r_5k);
-    if (!(r_gw > r_24_1)) { r_o8 = 0ull; goto l_capnp_z7; }
-    r_o8 = ld64((r_rv + (i64)((u64)(r_24_1 << 3ull))));
-l_capnp_z7:;
-    switch (a_3) {
-    case 1u: goto l_arm_od;
-    case 2u: goto l_arm_r9;
-    case 3u: goto l_arm_gq;
-    case 4u: goto l_arm_h3;
-    case 0u: { r_v7 = r_o8; goto l_capnp_3x; }
-    case 5u: { r_v7 = r_o8; goto l_capnp_3x; }
-    case 6u: { r_v7 = r_o8; goto l_capnp_3x; }
-    case 7u: { r_v7 = r_o8; goto l_capnp_3x; }
-    default: goto l_noarm_e1_2;
-    }
-l_arm_od:;
-    r_v7 = ((u64)(r_o8 >> ((u64)(r_ya & 63u) & 63u)) & 1ull);
-    goto l_capnp_3x;
-l_arm_r9:;
-    r_v7 = ((u64)(r_o8 >> ((u64)((u32)(r_ya << 3u) & 56u) & 63u)) & 255ull);
-    goto l_capnp_3x;
-l_arm_gq:;
-    r_v7 = ((u64)(r_o8 >> ((u64)((u32)(r_ya << 4u) & 48u) & 63u)) & 65535ull);
-    goto l_capnp_3x;
-l_arm_h3:;
-    r_v7 = ((u64)(r_o8 >> ((u64)((u32)(r_ya << 5u) & 32u) & 63u)) & 0xffffffffull);
-    goto l_capnp_3x;
-l_noarm_e1_2:;
-    UNREACHABLE();
-l_capnp_3x:;
-    r_zo_1 = capnp_show_show_text_Text_push_number(a_1, r_v7);
-    if (!(r_zo_1.f0 == 0u)) goto l_arm_21_1;
-    r_52_10 = ld64(r_rq_3);
-    if (r_52_10 > invariant_15) { r_k2_1 = 0u; r_we_1 = 1u; goto l_capnp_22_1; }
-    u64 r_52_11 = ld64(r_08_3);
-    if (!(r_p8 > (r_52_11 - r_52_10))) { r_bu_1 = r_52_11; r_tk_1 = r_52_10; goto l_join_pq_1; }
-    u8 r_c4_10 = std_alloc_vec_Vec_grow_amortized_9634afabedddd7ee(a_1, r_p8);
-    if (!r_c4_10) { r_k2_1 = 1u; r_we_1 = 1u; goto l_capnp_22_1; }
-    r_bu_1 = ld64(r_08_3);
-    r_tk_1 = ld64(r_rq_3);
-l_join_pq_1:;
-    r_5q_3 = (r_tk_1 + r_p8);
-    r_fx_5 = ldp(a_1);
-    r_2b_10 = away(r_fx_5, r_tk_1);
-    if (!(((u64)(uptr)r_2b_10 - r_tz_6) < r_p8)) goto l_apart_0l_1;
-    st8(r_2b_10, ld8(r_o3));
-    goto l_arm_71_1;
-l_apart_0l_1:;
-    memcpy_or_none(r_2b_10, r_o3, r_p8);
-    goto l_arm_71_1;
-l_arm_21_1:;
-    r_k2_1 = r_zo_1.f1;
-    r_we_1 = 1u;
-    goto l_capnp_22_1;
-l_arm_71_1:;
-    stp(a_1, r_fx_5);
-    st64(r_rq_3, r_5q_3);
-    st64(r_08_3, r_bu_1);
-    u32 r_7t = (r_ya + 1u);
-    if (r_7t == a_4) { r_aq_1 = r_fx_5; r_9p_1 = r_bu_1; r_9e_1 = r_5q_3; goto l_after_06; }
-    r_1a = r_fx_5;
-    r_xg = r_bu_1;
-    r_h0 = r_5q_3;
-    r_ya = r_7t;
-    goto l_join_zg;
-l_after_06:;
-    if (r_9e_1 > 0x3ffffbeull) { r_k2_1 = 0u; r_we_1 = 1u; goto l_capnp_22_1; }
-    if (!((r_9p_1 - r_9e_1) < 2ull)) { r_f0 = r_aq_1; r_tr = r_9p_1; r_oe_2 = r_9e_1; goto l_join_vi; }
-    u8 r_y4_1 = std_alloc_vec_Vec_grow_amortized_9634afabedddd7ee(a_1, 2ull);
-    if (!r_y4_1) { r_k2_1 = 1u; r_we_1 = 1u; goto l_capnp_22_1; }
-    r_f0 = ldp(a_1);
-    r_tr = ld64(r_08_3);
-    r_oe_2 = ld64(r_rq_3);
-l_join_vi:;
-    r_x4_1 = (r_oe_2 + 2ull);
-    r_2b_11 = away(r_f0, r_oe_2);
-    if (((u64)(uptr)r_2b_11 - (u64)(uptr)((u8 *)g_static_174)) < 2ull) { r_vl_1 = 0ull; goto l_join_l2; }
-    st16(r_2b_11, 32093u);
-    goto l_core_ga_1;
-l_join_l2:;
-    st8((r_2b_11 + (i64)(r_vl_1)), ld8((((u8 *)g_static_174) + (i64)(r_vl_1))));
-    u64 r_c4_11 = (r_vl_1 + 1ull);
-    if (!(r_c4_11 == 2ull)) { r_vl_1 = r_c4_11; goto l_join_l2; }
-l_core_ga_1:;
-    stp(a_1, r_f0);
-    st64(r_rq_3, r_x4_1);
-    st64(r_08_3, r_tr);
-    r_k2_1 = 0u;
-    r_we_1 = 0u;
-l_capnp_22_1:;
-    struct s_i8_i8 r_3j_1 = (struct s_i8_i8){ 0 };
-    r_3j_1.f0 = r_we_1;
-    struct s_i8_i8 r_9n_1 = r_3j_1;
-    r_9n_1.f1 = r_k2_1;
-    r_xx = r_9n_1;
-l_return_bv:;
-    return r_xx;
-l_noarm_e1:;
-    UNREACHABLE();
 }
 
 /* capnp_show::show::text::Text::push_quoted */
@@ -42216,30 +41975,25 @@ static struct s_i8_i8 capnp_show_show_text_Text_push_quoted(u8 *a_1, u8 *a_2, u6
     u8 *r_08;
     u64 r_08_1;
     u64 r_vr;
-    u8 *r_4n;
-    u64 r_ep;
-    u64 r_g8;
-    u8 *r_wc;
-    u64 r_zm;
-    u8 *r_ro;
-    u64 r_an;
-    u64 r_q0;
+    u8 *r_bk;
+    u64 r_pp;
+    u64 r_pa;
+    u8 *r_vh_1;
+    u64 r_f9;
+    u64 r_du;
+    u8 *r_y5_1;
     u8 *r_a6;
     u64 r_9p;
     u64 r_w9;
     u64 r_5q;
-    u8 *r_2b_1;
+    u8 *r_2b_2;
     u64 r_il;
-    u8 *r_dk;
     u8 *r_yq;
     u64 r_lh;
     u64 r_rq_1;
     u64 r_x4;
-    u8 *r_2b_2;
+    u8 *r_2b_3;
     u64 r_il_1;
-    u8 *r_yy;
-    u64 r_6s;
-    u64 r_9c;
     u8 *r_y5;
     u64 r_hx;
     u64 r_1o;
@@ -42249,7 +42003,7 @@ static struct s_i8_i8 capnp_show_show_text_Text_push_quoted(u8 *a_1, u8 *a_2, u6
     u64 r_9p_1;
     u64 r_w9_1;
     u64 r_5q_1;
-    u8 *r_2b_4;
+    u8 *r_2b_5;
     u64 r_il_2;
     u8 *r_sv;
     u64 r_s2;
@@ -42274,77 +42028,61 @@ l_join_wq:;
     st64(r_rq, r_7n);
     st64(r_08, r_08_1);
     if (a_3 == 0ull) { r_y5 = r_fx; r_hx = r_08_1; r_1o = r_7n; r_tl = 0ull; r_z3 = a_2; goto l_after_07; }
-    r_4n = r_fx;
-    r_ep = r_08_1;
-    r_g8 = r_7n;
-    r_wc = a_2;
-    r_zm = a_3;
-l_arm_m6_4:;
-    r_ro = r_wc;
-    r_an = 0ull;
-    r_q0 = r_zm;
-l_arm_a2:;
-    switch (ld8(r_ro)) {
-    case 34u: goto l_arm_07;
-    case 92u: goto l_arm_07;
-    case 9u: goto l_arm_07;
-    case 10u: goto l_arm_07;
-    case 13u: goto l_arm_07;
-    default: goto l_join_b4;
+    r_bk = r_fx;
+    r_pp = r_08_1;
+    r_pa = r_7n;
+    r_vh_1 = a_2;
+    r_f9 = a_3;
+l_join_qu:;
+    r_du = 0ull;
+l_join_wb:;
+    switch (ld8(away(r_vh_1, r_du))) {
+    case 34u: goto l_arm_m6;
+    case 92u: { r_y5_1 = ((u8 *)g_static_164); goto l_arm_07; }
+    case 9u: goto l_arm_m6_1;
+    case 10u: goto l_arm_m6_2;
+    case 13u: goto l_arm_m6_3;
+    default: goto l_after_94;
     }
-l_join_b4:;
-    u64 r_zn = (r_q0 + 0xffffffffffffffffull);
-    if (r_zn == 0ull) { r_y5 = r_4n; r_hx = r_ep; r_1o = r_g8; r_tl = r_zm; r_z3 = r_wc; goto l_after_07; }
-    u8 *r_1 = away(r_ro, 1ull);
-    u64 r_2 = (r_an + 1ull);
-    u64 r_3 = r_zn;
-    r_ro = r_1;
-    r_an = r_2;
-    r_q0 = r_3;
-    goto l_arm_a2;
+l_after_94:;
+    u64 r_36 = (r_du + 1ull);
+    if (r_36 == r_f9) { r_y5 = r_bk; r_hx = r_pp; r_1o = r_pa; r_tl = r_f9; r_z3 = r_vh_1; goto l_after_07; }
+    r_du = r_36;
+    goto l_join_wb;
+l_arm_m6_1:;
+    r_y5_1 = ((u8 *)g_static_165);
+    goto l_arm_07;
+l_arm_m6_2:;
+    r_y5_1 = ((u8 *)g_static_166);
+    goto l_arm_07;
+l_arm_m6_3:;
+    r_y5_1 = ((u8 *)g_static_167);
+    goto l_arm_07;
+l_arm_m6:;
+    r_y5_1 = ((u8 *)g_static_163);
 l_arm_07:;
-    if ((r_g8 > 0x3ffffc0ull) ? 1u : ((0x3ffffc0ull - r_g8) < r_an)) { r_fu = 0u; r_vh = 1u; goto l_return_4x; }
-    if (!(r_an > (r_ep - r_g8))) { r_a6 = r_4n; r_9p = r_ep; r_w9 = r_g8; goto l_join_wm; }
-    u8 r_c4 = std_alloc_vec_Vec_grow_amortized_9634afabedddd7ee(a_1, r_an);
+    if ((r_pa > 0x3ffffc0ull) ? 1u : ((0x3ffffc0ull - r_pa) < r_du)) { r_fu = 0u; r_vh = 1u; goto l_return_4x; }
+    if (!(r_du > (r_pp - r_pa))) { r_a6 = r_bk; r_9p = r_pp; r_w9 = r_pa; goto l_join_wm; }
+    u8 r_c4 = std_alloc_vec_Vec_grow_amortized_9634afabedddd7ee(a_1, r_du);
     if (!r_c4) { r_fu = 1u; r_vh = 1u; goto l_return_4x; }
     r_a6 = ldp(a_1);
     r_9p = ld64(r_08);
     r_w9 = ld64(r_rq);
 l_join_wm:;
-    r_5q = (r_w9 + r_an);
+    r_5q = (r_w9 + r_du);
     memset(r_rq, 0u, 16);
-    r_2b_1 = away(r_a6, r_w9);
-    if (((u64)(uptr)r_2b_1 - (u64)(uptr)r_wc) < r_an) { r_il = 0ull; goto l_join_fh; }
-    memmove_or_none(r_2b_1, r_wc, r_an);
-    goto l_arm_ap;
+    r_2b_2 = away(r_a6, r_w9);
+    if (((u64)(uptr)r_2b_2 - (u64)(uptr)r_vh_1) < r_du) { r_il = 0ull; goto l_join_fh; }
+    memmove_or_none(r_2b_2, r_vh_1, r_du);
+    goto l_arm_pd;
 l_join_fh:;
-    st8((r_2b_1 + (i64)(r_il)), ld8((r_wc + (i64)(r_il))));
+    st8((r_2b_2 + (i64)(r_il)), ld8((r_vh_1 + (i64)(r_il))));
     u64 r_36_1 = (r_il + 1ull);
-    if (!(r_36_1 == r_an)) { r_il = r_36_1; goto l_join_fh; }
-l_arm_ap:;
+    if (!(r_36_1 == r_du)) { r_il = r_36_1; goto l_join_fh; }
+l_arm_pd:;
     stp(a_1, r_a6);
     st64(r_rq, r_5q);
     st64(r_08, r_9p);
-    switch (ld8((r_wc + (i64)(r_an)))) {
-    case 34u: { r_dk = ((u8 *)g_static_165); goto l_arm_oa; }
-    case 92u: goto l_arm_m6;
-    case 9u: goto l_arm_m6_1;
-    case 10u: goto l_arm_m6_2;
-    case 13u: goto l_arm_m6_3;
-    default: { r_yy = r_a6; r_6s = r_9p; r_9c = r_5q; goto l_join_v1; }
-    }
-l_arm_m6:;
-    r_dk = ((u8 *)g_static_166);
-    goto l_arm_oa;
-l_arm_m6_1:;
-    r_dk = ((u8 *)g_static_167);
-    goto l_arm_oa;
-l_arm_m6_2:;
-    r_dk = ((u8 *)g_static_168);
-    goto l_arm_oa;
-l_arm_m6_3:;
-    r_dk = ((u8 *)g_static_169);
-l_arm_oa:;
     if (r_5q > 0x3ffffbeull) { r_fu = 0u; r_vh = 1u; goto l_return_4x; }
     if (!((r_9p - r_5q) < 2ull)) { r_yq = r_a6; r_lh = r_9p; r_rq_1 = r_5q; goto l_join_yc; }
     u8 r_y4 = std_alloc_vec_Vec_grow_amortized_9634afabedddd7ee(a_1, 2ull);
@@ -42354,32 +42092,28 @@ l_arm_oa:;
     r_rq_1 = ld64(r_rq);
 l_join_yc:;
     r_x4 = (r_rq_1 + 2ull);
-    r_2b_2 = away(r_yq, r_rq_1);
-    if (((u64)(uptr)r_2b_2 - (u64)(uptr)r_dk) < 2ull) { r_il_1 = 0ull; goto l_join_fh_1; }
-    st16(r_2b_2, ld16(r_dk));
-    goto l_capnp_ci;
+    r_2b_3 = away(r_yq, r_rq_1);
+    if (((u64)(uptr)r_2b_3 - (u64)(uptr)r_y5_1) < 2ull) { r_il_1 = 0ull; goto l_join_fh_1; }
+    st16(r_2b_3, ld16(r_y5_1));
+    goto l_arm_zo;
 l_join_fh_1:;
-    st8((r_2b_2 + (i64)(r_il_1)), ld8((r_dk + (i64)(r_il_1))));
+    st8((r_2b_3 + (i64)(r_il_1)), ld8((r_y5_1 + (i64)(r_il_1))));
     u64 r_c4_1 = (r_il_1 + 1ull);
     if (!(r_c4_1 == 2ull)) { r_il_1 = r_c4_1; goto l_join_fh_1; }
-l_capnp_ci:;
+l_arm_zo:;
     stp(a_1, r_yq);
     st64(r_rq, r_x4);
     st64(r_08, r_lh);
-    r_yy = r_yq;
-    r_6s = r_lh;
-    r_9c = r_x4;
-l_join_v1:;
-    u64 r_c4_2 = (r_an + 1ull);
-    u8 *r_2b_3 = away(r_wc, r_c4_2);
-    u64 r_t9_4 = (r_zm - r_c4_2);
-    if (r_t9_4 == 0ull) { r_y5 = r_yy; r_hx = r_6s; r_1o = r_9c; r_tl = 0ull; r_z3 = r_2b_3; goto l_after_07; }
-    r_4n = r_yy;
-    r_ep = r_6s;
-    r_g8 = r_9c;
-    r_wc = r_2b_3;
-    r_zm = r_t9_4;
-    goto l_arm_m6_4;
+    u64 r_c4_2 = (r_du + 1ull);
+    u8 *r_2b_4 = away(r_vh_1, r_c4_2);
+    u64 r_t9_4 = (r_f9 - r_c4_2);
+    if (r_t9_4 == 0ull) { r_y5 = r_yq; r_hx = r_lh; r_1o = r_x4; r_tl = 0ull; r_z3 = r_2b_4; goto l_after_07; }
+    r_bk = r_yq;
+    r_pp = r_lh;
+    r_pa = r_x4;
+    r_vh_1 = r_2b_4;
+    r_f9 = r_t9_4;
+    goto l_join_qu;
 l_after_07:;
     if ((r_1o > 0x3ffffc0ull) ? 1u : ((0x3ffffc0ull - r_1o) < r_tl)) { r_fu = 0u; r_vh = 1u; goto l_return_4x; }
     if (!(r_tl > (r_hx - r_1o))) { r_a6_1 = r_y5; r_9p_1 = r_hx; r_w9_1 = r_1o; goto l_join_wm_1; }
@@ -42391,12 +42125,12 @@ l_after_07:;
 l_join_wm_1:;
     r_5q_1 = (r_w9_1 + r_tl);
     memset(r_rq, 0u, 16);
-    r_2b_4 = away(r_a6_1, r_w9_1);
-    if (((u64)(uptr)r_2b_4 - (u64)(uptr)r_z3) < r_tl) { r_il_2 = 0ull; goto l_join_fh_2; }
-    memmove_or_none(r_2b_4, r_z3, r_tl);
+    r_2b_5 = away(r_a6_1, r_w9_1);
+    if (((u64)(uptr)r_2b_5 - (u64)(uptr)r_z3) < r_tl) { r_il_2 = 0ull; goto l_join_fh_2; }
+    memmove_or_none(r_2b_5, r_z3, r_tl);
     goto l_arm_or;
 l_join_fh_2:;
-    st8((r_2b_4 + (i64)(r_il_2)), ld8((r_z3 + (i64)(r_il_2))));
+    st8((r_2b_5 + (i64)(r_il_2)), ld8((r_z3 + (i64)(r_il_2))));
     u64 r_36_2 = (r_il_2 + 1ull);
     if (!(r_36_2 == r_tl)) { r_il_2 = r_36_2; goto l_join_fh_2; }
 l_arm_or:;
@@ -42438,6 +42172,8 @@ static struct s_i8_i8 capnp_show_show_json_json_struct_5ccc1be374b2e488(u8 *a_1,
     u32 r_5k;
     u32 r_5k_1;
     u32 r_m2;
+    u8 *r_ud;
+    u64 a_5j;
     u8 *r_rq_1;
     u64 r_52;
     u8 *r_08;
@@ -42447,8 +42183,6 @@ static struct s_i8_i8 capnp_show_show_json_json_struct_5ccc1be374b2e488(u8 *a_1,
     u8 *r_fx;
     u8 *r_2b;
     u64 r_yq;
-    u64 a_f1;
-    u64 a_5j;
     u8 *r_x9;
     u64 r_tc;
     u64 r_wl;
@@ -42457,9 +42191,9 @@ static struct s_i8_i8 capnp_show_show_json_json_struct_5ccc1be374b2e488(u8 *a_1,
     u64 a_3q;
     u64 r_pt;
     u64 r_yb;
-    u8 *r_xf;
-    u64 r_9q;
-    u64 r_ex;
+    u8 *r_wy;
+    u64 r_2n;
+    u64 r_wj;
     u8 *r_as;
     u64 r_y3;
     u64 r_9f;
@@ -42481,6 +42215,9 @@ static struct s_i8_i8 capnp_show_show_json_json_struct_5ccc1be374b2e488(u8 *a_1,
     r_5k_1 = ld32(away(a_1, 56ull));
     memset(slot_3, 0u, 64);
     r_m2 = (u32)a_2;
+    u64 a_f1 = umin64(r_qw_1, (u64)((u64)r_5k << 3ull));
+    r_ud = away(r_rv, a_f1);
+    a_5j = umin64((r_qw_1 - a_f1), (u64)(u32)(r_m2 << 3u));
     r_rq_1 = away(a_5, 8ull);
     r_52 = ld64(r_rq_1);
     if (r_52 > 0x3ffffb8ull) { r_9r = 0u; goto l_arm_f3; }
@@ -42497,22 +42234,20 @@ l_join_sq:;
     r_2b = away(r_fx, r_ju);
     if (((u64)(uptr)r_2b - (u64)(uptr)((u8 *)g_static_175)) < 8ull) { r_yq = 0ull; goto l_join_zk; }
     st64(r_2b, 0x223a226174616422ull);
-    goto l_arm_g1;
+    goto l_arm_zr;
 l_join_zk:;
     st8((r_2b + (i64)(r_yq)), ld8((((u8 *)g_static_175) + (i64)(r_yq))));
     u64 r_c4 = (r_yq + 1ull);
     if (!(r_c4 == 8ull)) { r_yq = r_c4; goto l_join_zk; }
-l_arm_g1:;
+l_arm_zr:;
     stp(a_5, r_fx);
     st64(r_rq_1, r_5q);
     st64(r_08, r_di);
-    a_f1 = umin64(r_qw_1, (u64)((u64)r_5k << 3ull));
-    a_5j = umin64((r_qw_1 - a_f1), (u64)(u32)(r_m2 << 3u));
     if (a_5j == 0ull) { r_as = r_fx; r_y3 = r_di; r_9f = r_5q; goto l_arm_e5; }
     r_x9 = r_fx;
     r_tc = r_di;
     r_wl = r_5q;
-    r_uz = away(r_rv, a_f1);
+    r_uz = r_ud;
     r_eu = a_5j;
 l_join_kl:;
     a_3q = umin64(r_eu, 512ull);
@@ -42527,22 +42262,22 @@ l_join_jf:;
     if (!(r_c4_1 == a_3q)) { r_pt = r_c4_1; goto l_join_jf; }
     r_yb = (u64)(a_3q << 1ull);
     if ((r_wl > 0x3ffffc0ull) ? 1u : ((0x3ffffc0ull - r_wl) < r_yb)) { r_r4 = 0u; goto l_arm_5s; }
-    if (!(r_yb > (r_tc - r_wl))) { r_xf = r_x9; r_9q = r_tc; r_ex = r_wl; goto l_arm_oi; }
+    if (!(r_yb > (r_tc - r_wl))) { r_wy = r_x9; r_2n = r_tc; r_wj = r_wl; goto l_arm_nw; }
     u8 r_c4_2 = std_alloc_vec_Vec_grow_amortized_9634afabedddd7ee(a_5, r_yb);
     if (!r_c4_2) { r_r4 = 1u; goto l_arm_5s; }
-    r_xf = ldp(a_5);
-    r_9q = ld64(r_08);
-    r_ex = ld64(r_rq_1);
-l_arm_oi:;
-    u64 r_5q_1 = (r_ex + r_yb);
-    memcpy_or_none(away(r_xf, r_ex), slot_1, r_yb);
-    stp(a_5, r_xf);
+    r_wy = ldp(a_5);
+    r_2n = ld64(r_08);
+    r_wj = ld64(r_rq_1);
+l_arm_nw:;
+    u64 r_5q_1 = (r_wj + r_yb);
+    memcpy_or_none(away(r_wy, r_wj), slot_1, r_yb);
+    stp(a_5, r_wy);
     st64(r_rq_1, r_5q_1);
-    st64(r_08, r_9q);
+    st64(r_08, r_2n);
     u64 r_nr_2 = (r_eu - a_3q);
-    if (r_nr_2 == 0ull) { r_as = r_xf; r_y3 = r_9q; r_9f = r_5q_1; goto l_arm_e5; }
-    u8 *r_1 = r_xf;
-    u64 r_2 = r_9q;
+    if (r_nr_2 == 0ull) { r_as = r_wy; r_y3 = r_2n; r_9f = r_5q_1; goto l_arm_e5; }
+    u8 *r_1 = r_wy;
+    u64 r_2 = r_2n;
     u64 r_3 = r_5q_1;
     u8 *r_4 = away(r_uz, a_3q);
     u64 r_5 = r_nr_2;
@@ -42618,19 +42353,21 @@ static struct s_i8_i8 capnp_show_show_json_json_pointers_5ccc1be374b2e488(u8 a_1
     u8 *r_fx;
     u8 *r_2b;
     u64 r_uf;
-    u64 t_xf;
-    u8 *static_ln;
+    struct s_i8_i8 r_ou;
     u8 *r_rq_2;
     u64 r_52_2;
     u8 *r_08_1;
-    u64 r_ie;
-    u64 r_3x;
-    u64 r_ru;
+    u64 r_c0;
+    u64 r_54;
+    u64 r_x4;
     u8 *r_fx_1;
     u8 *r_2b_1;
-    u64 r_es;
+    u64 r_a6;
+    struct s_i8_i8 r_tv_1;
+    u8 *r_rq_3;
+    u8 *r_08_2;
     u8 *r_h6;
-    u8 t_ej;
+    u8 i_ej;
     u8 *r_o8;
     u8 *r_p9;
     u8 *r_x5;
@@ -42642,19 +42379,21 @@ static struct s_i8_i8 capnp_show_show_json_json_pointers_5ccc1be374b2e488(u8 a_1
     u8 *r_6c;
     u32 r_ra;
     u8 *r_lg;
-    u32 r_cy;
+    u32 r_ci;
     u64 r_52_4;
     u64 r_qd;
     u64 r_cr;
     u64 r_q0;
     struct s_i8_i8 r_mr;
-    u64 r_dk;
-    u64 r_c0;
-    u64 r_54;
-    u64 r_x4;
+    u8 *r_rq_4;
+    u64 r_52_7;
+    u8 *r_08_3;
+    u64 r_c0_1;
+    u64 r_54_1;
+    u64 r_x4_1;
     u8 *r_fx_3;
     u8 *r_2b_3;
-    u64 r_vl;
+    u64 r_a6_1;
     u8 r_fu;
     u8 r_vh;
     r_eg = (u64)ld8(a_2);
@@ -42664,7 +42403,8 @@ static struct s_i8_i8 capnp_show_show_json_json_pointers_5ccc1be374b2e488(u8 a_1
     r_5k = ld32(away(a_2, 48ull));
     r_5k_1 = ld32(away(a_2, 56ull));
     memset(slot_4, 0u, 64);
-    if (!(u8)((u8)(a_3 != 0u) & (u8)(a_4 == 0u))) goto l_after_q2;
+    if (!(a_4 == 0u)) goto l_join_3j;
+    if (a_3 == 0u) goto l_join_2q;
     r_rq_1 = away(a_5, 8ull);
     r_52 = ld64(r_rq_1);
     if (r_52 > 0x3ffffb2ull) { r_fu = 0u; r_vh = 1u; goto l_return_4x; }
@@ -42693,37 +42433,49 @@ l_core_x2:;
     r_fu = 0u;
     r_vh = 0u;
     goto l_return_4x;
-l_after_q2:;
-    t_xf = (a_1 ? 8ull : 12ull);
-    static_ln = (a_1 ? ((u8 *)g_static_178) : ((u8 *)g_static_179));
+l_join_2q:;
+    r_ou = capnp_show_show_text_Text_push_array(a_5, a_1);
+    if (!(r_ou.f0 == 0u)) goto l_arm_dn;
     r_rq_2 = away(a_5, 8ull);
     r_52_2 = ld64(r_rq_2);
-    if ((r_52_2 > 0x3ffffc0ull) ? 1u : ((0x3ffffc0ull - r_52_2) < t_xf)) { r_fu = 0u; r_vh = 1u; goto l_return_4x; }
+    if (r_52_2 > 0x3ffffbeull) { r_fu = 0u; r_vh = 1u; goto l_return_4x; }
     r_08_1 = away(a_5, 16ull);
     u64 r_52_3 = ld64(r_08_1);
-    if (!(t_xf > (r_52_3 - r_52_2))) { r_ie = r_52_3; r_3x = r_52_2; goto l_join_gu; }
-    u8 r_k1 = std_alloc_vec_Vec_grow_amortized_9634afabedddd7ee(a_5, t_xf);
-    if (!r_k1) { r_fu = 1u; r_vh = 1u; goto l_return_4x; }
-    r_ie = ld64(r_08_1);
-    r_3x = ld64(r_rq_2);
-l_join_gu:;
-    r_ru = (r_3x + t_xf);
+    if (!((r_52_3 - r_52_2) < 2ull)) { r_c0 = r_52_3; r_54 = r_52_2; goto l_join_p3; }
+    u8 r_y4 = std_alloc_vec_Vec_grow_amortized_9634afabedddd7ee(a_5, 2ull);
+    if (!r_y4) { r_fu = 1u; r_vh = 1u; goto l_return_4x; }
+    r_c0 = ld64(r_08_1);
+    r_54 = ld64(r_rq_2);
+l_join_p3:;
+    r_x4 = (r_54 + 2ull);
     r_fx_1 = ldp(a_5);
-    r_2b_1 = away(r_fx_1, r_3x);
-    if (((u64)(uptr)r_2b_1 - (u64)(uptr)static_ln) < t_xf) { r_es = 0ull; goto l_join_fx; }
-    memcpy_or_none(r_2b_1, static_ln, t_xf);
-    goto l_capnp_86;
-l_join_fx:;
-    st8((r_2b_1 + (i64)(r_es)), ld8((static_ln + (i64)(r_es))));
-    u64 r_c4_1 = (r_es + 1ull);
-    if (!(r_c4_1 == t_xf)) { r_es = r_c4_1; goto l_join_fx; }
-l_capnp_86:;
+    r_2b_1 = away(r_fx_1, r_54);
+    if (((u64)(uptr)r_2b_1 - (u64)(uptr)((u8 *)g_static_170)) < 2ull) { r_a6 = 0ull; goto l_join_ht; }
+    st16(r_2b_1, 32093u);
+    goto l_core_x2_1;
+l_join_ht:;
+    st8((r_2b_1 + (i64)(r_a6)), ld8((((u8 *)g_static_170) + (i64)(r_a6))));
+    u64 r_c4_1 = (r_a6 + 1ull);
+    if (!(r_c4_1 == 2ull)) { r_a6 = r_c4_1; goto l_join_ht; }
+l_core_x2_1:;
     stp(a_5, r_fx_1);
-    st64(r_rq_2, r_ru);
-    st64(r_08_1, r_ie);
-    if (a_3 == 0u) { r_dk = r_ru; goto l_after_oa; }
+    st64(r_rq_2, r_x4);
+    st64(r_08_1, r_c0);
+    r_fu = 0u;
+    r_vh = 0u;
+    goto l_return_4x;
+l_arm_dn:;
+    r_fu = r_ou.f1;
+    r_vh = 1u;
+    goto l_return_4x;
+l_join_3j:;
+    r_tv_1 = capnp_show_show_text_Text_push_array(a_5, a_1);
+    if (!(r_tv_1.f0 == 0u)) goto l_arm_dn_1;
+    if (a_3 == 0u) goto l_after_xa;
+    r_rq_3 = away(a_5, 8ull);
+    r_08_2 = away(a_5, 16ull);
     r_h6 = away(a_5, 64ull);
-    t_ej = (u8)a_1;
+    i_ej = (u8)a_1;
     r_o8 = away(a_5, 88ull);
     r_p9 = (slot_1 + 1);
     r_x5 = (slot_1 + 8);
@@ -42735,30 +42487,35 @@ l_capnp_86:;
     r_6c = (slot_4 + 56);
     r_ra = (a_4 + 0xffffffffu);
     r_lg = away(a_5, 96ull);
-    r_cy = 0u;
-l_join_bv:;
-    if (r_cy == 0u) goto l_join_t7;
-    r_52_4 = ld64(r_rq_2);
+    r_ci = 0u;
+    goto l_join_fo;
+l_arm_dn_1:;
+    r_fu = r_tv_1.f1;
+    r_vh = 1u;
+    goto l_return_4x;
+l_join_fo:;
+    if (r_ci == 0u) goto l_arm_t7;
+    r_52_4 = ld64(r_rq_3);
     if (r_52_4 > 0x3ffffbfull) { r_fu = 0u; r_vh = 1u; goto l_return_4x; }
-    u64 r_52_5 = ld64(r_08_1);
+    u64 r_52_5 = ld64(r_08_2);
     if (!(r_52_5 == r_52_4)) { r_qd = r_52_5; r_cr = r_52_4; goto l_join_tk; }
     u8 r_av = std_alloc_vec_Vec_grow_amortized_9634afabedddd7ee(a_5, 1ull);
     if (!r_av) { r_fu = 1u; r_vh = 1u; goto l_return_4x; }
-    r_qd = ld64(r_08_1);
-    r_cr = ld64(r_rq_2);
+    r_qd = ld64(r_08_2);
+    r_cr = ld64(r_rq_3);
 l_join_tk:;
     u8 *r_fx_2 = ldp(a_5);
     st8(away(r_fx_2, r_cr), 44u);
     stp(a_5, r_fx_2);
-    st64(r_rq_2, (r_cr + 1ull));
-    st64(r_08_1, r_qd);
-l_join_t7:;
+    st64(r_rq_3, (r_cr + 1ull));
+    st64(r_08_2, r_qd);
+l_arm_t7:;
     memset(slot_1, 0u, 16);
-    if (ld8(r_h6) == 1u) goto l_capnp_9x;
+    if (ld8(r_h6) == 1u) goto l_capnp_gz;
     r_q0 = 0ull;
     goto l_arm_ed;
-l_capnp_9x:;
-    capnp_show_show_path_PathText_enter(slot_1, r_o8, t_ej, r_cy);
+l_capnp_gz:;
+    capnp_show_show_path_PathText_enter(slot_1, r_o8, i_ej, r_ci);
     if (ld8(slot_1) == 0u) { r_q0 = ld64(r_x5); goto l_arm_ed; }
     r_fu = ld8(r_p9);
     r_vh = 1u;
@@ -42768,48 +42525,49 @@ l_arm_ed:;
     mv16(r_89, slot_3);
     st64(slot_4, r_eg);
     st64(r_lk, r_qw);
-    st32(r_c4_2, uadd_sat32(r_cy, r_5k));
+    st32(r_c4_2, uadd_sat32(r_ci, r_5k));
     st32(r_bk, 0u);
     st32(r_6c, r_5k_1);
     r_mr = capnp_show_show_json_json_pointer_5ccc1be374b2e488(slot_4, r_ra, a_5);
-    if (!(r_mr.f0 == 0u)) goto l_arm_dn;
+    if (!(r_mr.f0 == 0u)) goto l_arm_dn_2;
     if (!(ld8(r_h6) == 1u)) goto l_capnp_0k;
     if (!(ld64(r_lg) > r_q0)) goto l_capnp_0k;
     st64(r_lg, r_q0);
 l_capnp_0k:;
-    u32 r_7t = (r_cy + 1u);
-    if (r_7t == a_3) goto l_after_mn;
-    r_cy = r_7t;
-    goto l_join_bv;
-l_arm_dn:;
+    u32 r_7t = (r_ci + 1u);
+    if (r_7t == a_3) goto l_after_xa;
+    r_ci = r_7t;
+    goto l_join_fo;
+l_arm_dn_2:;
     r_fu = r_mr.f1;
     r_vh = 1u;
     goto l_return_4x;
-l_after_mn:;
-    r_dk = ld64(r_rq_2);
-l_after_oa:;
-    if (r_dk > 0x3ffffbeull) { r_fu = 0u; r_vh = 1u; goto l_return_4x; }
-    u64 r_52_7 = ld64(r_08_1);
-    if (!((r_52_7 - r_dk) < 2ull)) { r_c0 = r_52_7; r_54 = r_dk; goto l_join_p3; }
-    u8 r_y4 = std_alloc_vec_Vec_grow_amortized_9634afabedddd7ee(a_5, 2ull);
-    if (!r_y4) { r_fu = 1u; r_vh = 1u; goto l_return_4x; }
-    r_c0 = ld64(r_08_1);
-    r_54 = ld64(r_rq_2);
-l_join_p3:;
-    r_x4 = (r_54 + 2ull);
+l_after_xa:;
+    r_rq_4 = away(a_5, 8ull);
+    r_52_7 = ld64(r_rq_4);
+    if (r_52_7 > 0x3ffffbeull) { r_fu = 0u; r_vh = 1u; goto l_return_4x; }
+    r_08_3 = away(a_5, 16ull);
+    u64 r_52_8 = ld64(r_08_3);
+    if (!((r_52_8 - r_52_7) < 2ull)) { r_c0_1 = r_52_8; r_54_1 = r_52_7; goto l_join_p3_1; }
+    u8 r_y4_1 = std_alloc_vec_Vec_grow_amortized_9634afabedddd7ee(a_5, 2ull);
+    if (!r_y4_1) { r_fu = 1u; r_vh = 1u; goto l_return_4x; }
+    r_c0_1 = ld64(r_08_3);
+    r_54_1 = ld64(r_rq_4);
+l_join_p3_1:;
+    r_x4_1 = (r_54_1 + 2ull);
     r_fx_3 = ldp(a_5);
-    r_2b_3 = away(r_fx_3, r_54);
-    if (((u64)(uptr)r_2b_3 - (u64)(uptr)((u8 *)g_static_174)) < 2ull) { r_vl = 0ull; goto l_join_l2; }
+    r_2b_3 = away(r_fx_3, r_54_1);
+    if (((u64)(uptr)r_2b_3 - (u64)(uptr)((u8 *)g_static_170)) < 2ull) { r_a6_1 = 0ull; goto l_join_ht_1; }
     st16(r_2b_3, 32093u);
-    goto l_core_x2_1;
-l_join_l2:;
-    st8((r_2b_3 + (i64)(r_vl)), ld8((((u8 *)g_static_174) + (i64)(r_vl))));
-    u64 r_c4_3 = (r_vl + 1ull);
-    if (!(r_c4_3 == 2ull)) { r_vl = r_c4_3; goto l_join_l2; }
-l_core_x2_1:;
+    goto l_core_x2_2;
+l_join_ht_1:;
+    st8((r_2b_3 + (i64)(r_a6_1)), ld8((((u8 *)g_static_170) + (i64)(r_a6_1))));
+    u64 r_c4_3 = (r_a6_1 + 1ull);
+    if (!(r_c4_3 == 2ull)) { r_a6_1 = r_c4_3; goto l_join_ht_1; }
+l_core_x2_2:;
     stp(a_5, r_fx_3);
-    st64(r_rq_2, r_x4);
-    st64(r_08_1, r_c0);
+    st64(r_rq_4, r_x4_1);
+    st64(r_08_3, r_c0_1);
     r_fu = 0u;
     r_vh = 0u;
 l_return_4x:;
@@ -42817,6 +42575,90 @@ l_return_4x:;
     r_3j.f0 = r_vh;
     struct s_i8_i8 r_9n = r_3j;
     r_9n.f1 = r_fu;
+    return r_9n;
+}
+
+/* capnp_show::show::text::Text::push_array */
+static struct s_i8_i8 capnp_show_show_text_Text_push_array(u8 *a_1, u8 a_2)
+{
+    u8 *r_rq;
+    u64 r_52;
+    u8 *r_08;
+    u64 r_di;
+    u64 r_ju;
+    u64 r_5q;
+    u8 *r_fx;
+    u8 *r_2b;
+    u64 r_a2;
+    u8 *r_08_1;
+    u64 r_yi;
+    u64 r_xi;
+    u64 r_4y;
+    u8 *r_fx_1;
+    u8 *r_2b_1;
+    u64 r_yu;
+    u8 r_fu;
+    u8 r_vh;
+    r_rq = away(a_1, 8ull);
+    r_52 = ld64(r_rq);
+    if (!a_2) goto l_join_m2;
+    if (r_52 > 0x3ffffb8ull) { r_fu = 1u; r_vh = 0u; goto l_return_4x; }
+    r_08 = away(a_1, 16ull);
+    u64 r_52_1 = ld64(r_08);
+    if (!((r_52_1 - r_52) < 8ull)) { r_di = r_52_1; r_ju = r_52; goto l_join_sq; }
+    u8 r_q2 = std_alloc_vec_Vec_grow_amortized_9634afabedddd7ee(a_1, 8ull);
+    if (!r_q2) { r_fu = 1u; r_vh = 1u; goto l_return_4x; }
+    r_di = ld64(r_08);
+    r_ju = ld64(r_rq);
+l_join_sq:;
+    r_5q = (r_ju + 8ull);
+    r_fx = ldp(a_1);
+    r_2b = away(r_fx, r_ju);
+    if (((u64)(uptr)r_2b - (u64)(uptr)((u8 *)g_static_178)) < 8ull) { r_a2 = 0ull; goto l_join_xj; }
+    st64(r_2b, 0x5b3a227473696c22ull);
+    goto l_core_x2;
+l_join_xj:;
+    st8((r_2b + (i64)(r_a2)), ld8((((u8 *)g_static_178) + (i64)(r_a2))));
+    u64 r_c4 = (r_a2 + 1ull);
+    if (!(r_c4 == 8ull)) { r_a2 = r_c4; goto l_join_xj; }
+l_core_x2:;
+    stp(a_1, r_fx);
+    st64(r_rq, r_5q);
+    st64(r_08, r_di);
+    r_fu = 0u;
+    r_vh = 0u;
+    goto l_return_4x;
+l_join_m2:;
+    if (r_52 > 0x3ffffb4ull) { r_fu = 1u; r_vh = 0u; goto l_return_4x; }
+    r_08_1 = away(a_1, 16ull);
+    u64 r_52_2 = ld64(r_08_1);
+    if (!((r_52_2 - r_52) < 12ull)) { r_yi = r_52_2; r_xi = r_52; goto l_join_4b; }
+    u8 r_42 = std_alloc_vec_Vec_grow_amortized_9634afabedddd7ee(a_1, 12ull);
+    if (!r_42) { r_fu = 1u; r_vh = 1u; goto l_return_4x; }
+    r_yi = ld64(r_08_1);
+    r_xi = ld64(r_rq);
+l_join_4b:;
+    r_4y = (r_xi + 12ull);
+    r_fx_1 = ldp(a_1);
+    r_2b_1 = away(r_fx_1, r_xi);
+    if (((u64)(uptr)r_2b_1 - (u64)(uptr)((u8 *)g_static_179)) < 12ull) { r_yu = 0ull; goto l_join_21; }
+    mv12(r_2b_1, ((u8 *)g_static_179));
+    goto l_core_x2_1;
+l_join_21:;
+    st8((r_2b_1 + (i64)(r_yu)), ld8((((u8 *)g_static_179) + (i64)(r_yu))));
+    u64 r_c4_1 = (r_yu + 1ull);
+    if (!(r_c4_1 == 12ull)) { r_yu = r_c4_1; goto l_join_21; }
+l_core_x2_1:;
+    stp(a_1, r_fx_1);
+    st64(r_rq, r_4y);
+    st64(r_08_1, r_yi);
+    r_fu = 0u;
+    r_vh = 0u;
+l_return_4x:;
+    struct s_i8_i8 r_3j = (struct s_i8_i8){ 0 };
+    r_3j.f0 = r_fu;
+    struct s_i8_i8 r_9n = r_3j;
+    r_9n.f1 = r_vh;
     return r_9n;
 }
 
@@ -42919,8 +42761,8 @@ l_arm_yi:;
     goto l_common_yj;
 }
 
-/* capnp_show::show::json::Json::write_sizes */
-static struct s_i8_i8 capnp_show_show_json_Json_write_sizes(u8 *a_1, u16 a_2, u16 a_3)
+/* capnp_show::show::text::Text::push_sizes */
+static struct s_i8_i8 capnp_show_show_text_Text_push_sizes(u8 *a_1, u16 a_2, u16 a_3)
 {
     u64 r_bi;
     u8 *r_rq;
@@ -43056,91 +42898,6 @@ l_return_4x:;
     return r_9n;
 }
 
-/* capnp_show::show::json::Json::write_count */
-static struct s_i8_i8 capnp_show_show_json_Json_write_count(u8 *a_1, u32 a_2)
-{
-    u64 r_7l;
-    u8 *r_rq;
-    u64 r_52;
-    u8 *r_08;
-    u64 r_di;
-    u64 r_ju;
-    u64 r_5q;
-    u8 *r_fx;
-    u8 *r_2b;
-    u64 r_71;
-    u8 r_e7;
-    struct s_i8_i8 r_yu;
-    u64 r_52_2;
-    u8 *r_08_1;
-    u64 r_29;
-    u64 r_el;
-    u8 r_fu;
-    u8 r_vh;
-    r_7l = (u64)a_2;
-    r_rq = away(a_1, 8ull);
-    r_52 = ld64(r_rq);
-    if (r_52 > 0x3ffffb8ull) { r_e7 = 0u; goto l_arm_n5; }
-    r_08 = away(a_1, 16ull);
-    u64 r_52_1 = ld64(r_08);
-    if (!((r_52_1 - r_52) < 8ull)) { r_di = r_52_1; r_ju = r_52; goto l_join_sq; }
-    u8 r_q2 = std_alloc_vec_Vec_grow_amortized_9634afabedddd7ee(a_1, 8ull);
-    if (!r_q2) { r_e7 = 1u; goto l_arm_n5; }
-    r_di = ld64(r_08);
-    r_ju = ld64(r_rq);
-l_join_sq:;
-    r_5q = (r_ju + 8ull);
-    r_fx = ldp(a_1);
-    r_2b = away(r_fx, r_ju);
-    if (((u64)(uptr)r_2b - (u64)(uptr)((u8 *)g_static_186)) < 8ull) { r_71 = 0ull; goto l_join_7l; }
-    st64(r_2b, 0x3a22746e756f6322ull);
-    goto l_arm_na;
-l_join_7l:;
-    st8((r_2b + (i64)(r_71)), ld8((((u8 *)g_static_186) + (i64)(r_71))));
-    u64 r_c4 = (r_71 + 1ull);
-    if (!(r_c4 == 8ull)) { r_71 = r_c4; goto l_join_7l; }
-l_arm_na:;
-    stp(a_1, r_fx);
-    st64(r_rq, r_5q);
-    st64(r_08, r_di);
-    struct s_i8_i8 r_zo = capnp_show_show_text_Text_push_number(a_1, r_7l);
-    r_yu = r_zo;
-    goto l_capnp_v4;
-l_arm_n5:;
-    struct s_i8_i8 t_fj = (struct s_i8_i8){ 1u, 0u };
-    t_fj.f1 = r_e7;
-    r_yu = t_fj;
-l_capnp_v4:;
-    if (!(r_yu.f0 == 0u)) goto l_arm_dn;
-    r_52_2 = ld64(r_rq);
-    if (r_52_2 > 0x3ffffbfull) { r_fu = 0u; r_vh = 1u; goto l_return_4x; }
-    r_08_1 = away(a_1, 16ull);
-    u64 r_52_3 = ld64(r_08_1);
-    if (!(r_52_3 == r_52_2)) { r_29 = r_52_3; r_el = r_52_2; goto l_join_n2; }
-    u8 r_av = std_alloc_vec_Vec_grow_amortized_9634afabedddd7ee(a_1, 1ull);
-    if (!r_av) { r_fu = 1u; r_vh = 1u; goto l_return_4x; }
-    r_29 = ld64(r_08_1);
-    r_el = ld64(r_rq);
-l_join_n2:;
-    u8 *r_fx_1 = ldp(a_1);
-    st8(away(r_fx_1, r_el), 125u);
-    stp(a_1, r_fx_1);
-    st64(r_rq, (r_el + 1ull));
-    st64(r_08_1, r_29);
-    r_fu = 0u;
-    r_vh = 0u;
-    goto l_return_4x;
-l_arm_dn:;
-    r_fu = r_yu.f1;
-    r_vh = 1u;
-l_return_4x:;
-    struct s_i8_i8 r_3j = (struct s_i8_i8){ 0 };
-    r_3j.f0 = r_vh;
-    struct s_i8_i8 r_9n = r_3j;
-    r_9n.f1 = r_fu;
-    return r_9n;
-}
-
 /* capnp_show::show::json::json_elements::<#5ccc1be374b2e488> */
 static struct s_i8_i8 capnp_show_show_json_json_elements_5ccc1be374b2e488(u8 *a_1, u16 a_2, u16 a_3, u32 a_4, u32 a_5, u8 *a_6)
 {
@@ -43153,48 +42910,31 @@ static struct s_i8_i8 capnp_show_show_json_json_elements_5ccc1be374b2e488(u8 *a_
     u32 r_5k;
     u32 r_5k_1;
     u8 *r_rq_1;
-    u64 r_52;
     u8 *r_08;
-    u64 r_4b;
-    u64 r_jh;
-    u64 r_sb;
-    u8 *r_fx;
-    u8 *r_2b;
-    u64 r_8g;
     u8 *r_h6;
     u8 *r_o8;
     u8 *r_p9;
     u8 *r_x5;
     u32 r_68;
-    u8 r_2p;
     u8 *r_x5_1;
     u8 *r_lk;
     u8 *r_89;
-    u8 *r_c4_1;
+    u8 *r_c4;
     u8 *r_bk;
     u8 *r_6c;
     u8 *r_yf;
     u8 *r_2g;
-    u8 *r_lg_1;
-    u64 r_cy;
-    u32 r_l6;
+    u8 *r_lg;
+    u32 r_ci;
+    u64 r_52;
     u64 r_qd;
     u64 r_cr;
-    u64 r_8g_1;
-    u64 pre_38;
-    u64 r_8m;
-    u64 r_eh;
+    u64 r_e4;
+    u64 r_52_2;
     u64 r_co;
     u64 r_q5;
     struct s_i8_i8 r_1u;
     u64 r_52_4;
-    u64 r_dk;
-    u64 r_c0;
-    u64 r_54;
-    u64 r_x4;
-    u8 *r_fx_3;
-    u8 *r_2b_3;
-    u64 r_vl;
     u8 r_fu;
     u8 r_vh;
     r_eg = (u64)ld8(a_1);
@@ -43204,104 +42944,78 @@ static struct s_i8_i8 capnp_show_show_json_json_elements_5ccc1be374b2e488(u8 *a_
     r_5k = ld32(away(a_1, 48ull));
     r_5k_1 = ld32(away(a_1, 56ull));
     memset(slot_4, 0u, 64);
+    if (a_4 == 0u) { r_fu = 0u; r_vh = 0u; goto l_return_4x; }
     r_rq_1 = away(a_6, 8ull);
-    r_52 = ld64(r_rq_1);
-    if (r_52 > 0x3ffffb5ull) { r_fu = 0u; r_vh = 1u; goto l_return_4x; }
     r_08 = away(a_6, 16ull);
-    u64 r_52_1 = ld64(r_08);
-    if (!((r_52_1 - r_52) < 11ull)) { r_4b = r_52_1; r_jh = r_52; goto l_join_12; }
-    u8 r_pt = std_alloc_vec_Vec_grow_amortized_9634afabedddd7ee(a_6, 11ull);
-    if (!r_pt) { r_fu = 1u; r_vh = 1u; goto l_return_4x; }
-    r_4b = ld64(r_08);
-    r_jh = ld64(r_rq_1);
-l_join_12:;
-    r_sb = (r_jh + 11ull);
-    r_fx = ldp(a_6);
-    r_2b = away(r_fx, r_jh);
-    if (((u64)(uptr)r_2b - (u64)(uptr)((u8 *)g_static_187)) < 11ull) { r_8g = 0ull; goto l_join_bv; }
-    mv11(r_2b, ((u8 *)g_static_187));
-    goto l_capnp_86;
-l_join_bv:;
-    st8((r_2b + (i64)(r_8g)), ld8((((u8 *)g_static_187) + (i64)(r_8g))));
-    u64 r_c4 = (r_8g + 1ull);
-    if (!(r_c4 == 11ull)) { r_8g = r_c4; goto l_join_bv; }
-l_capnp_86:;
-    stp(a_6, r_fx);
-    st64(r_rq_1, r_sb);
-    st64(r_08, r_4b);
-    if (a_4 == 0u) { r_dk = r_sb; goto l_after_oa; }
     r_h6 = away(a_6, 64ull);
     r_o8 = away(a_6, 88ull);
     r_p9 = (slot_1 + 1);
     r_x5 = (slot_1 + 8);
     r_68 = ((u32)a_3 + (u32)a_2);
-    r_2p = (r_68 == 0u);
     r_x5_1 = (slot_4 + 8);
     r_lk = (slot_4 + 24);
     r_89 = (slot_4 + 32);
-    r_c4_1 = (slot_4 + 48);
+    r_c4 = (slot_4 + 48);
     r_bk = (slot_4 + 52);
     r_6c = (slot_4 + 56);
     r_yf = away(a_6, 80ull);
     r_2g = away(a_6, 72ull);
-    r_lg_1 = away(a_6, 96ull);
-    r_cy = r_sb;
-    r_l6 = 0u;
-l_join_bv_1:;
-    if (r_l6 == 0u) { r_8g_1 = r_cy; goto l_join_t7; }
-    if (r_cy > 0x3ffffbfull) { r_fu = 0u; r_vh = 1u; goto l_return_4x; }
-    u64 r_52_2 = ld64(r_08);
-    if (!(r_52_2 == r_cy)) { r_qd = r_52_2; r_cr = r_cy; goto l_join_tk; }
+    r_lg = away(a_6, 96ull);
+    r_ci = 0u;
+l_join_fo:;
+    if (r_ci == 0u) goto l_arm_t7;
+    r_52 = ld64(r_rq_1);
+    if (r_52 > 0x3ffffbfull) { r_fu = 0u; r_vh = 1u; goto l_return_4x; }
+    u64 r_52_1 = ld64(r_08);
+    if (!(r_52_1 == r_52)) { r_qd = r_52_1; r_cr = r_52; goto l_join_tk; }
     u8 r_av = std_alloc_vec_Vec_grow_amortized_9634afabedddd7ee(a_6, 1ull);
     if (!r_av) { r_fu = 1u; r_vh = 1u; goto l_return_4x; }
     r_qd = ld64(r_08);
     r_cr = ld64(r_rq_1);
 l_join_tk:;
-    u64 r_7n = (r_cr + 1ull);
-    u8 *r_fx_1 = ldp(a_6);
-    st8(away(r_fx_1, r_cr), 44u);
-    stp(a_6, r_fx_1);
-    st64(r_rq_1, r_7n);
+    u8 *r_fx = ldp(a_6);
+    st8(away(r_fx, r_cr), 44u);
+    stp(a_6, r_fx);
+    st64(r_rq_1, (r_cr + 1ull));
     st64(r_08, r_qd);
-    r_8g_1 = r_7n;
-l_join_t7:;
+l_arm_t7:;
     memset(slot_1, 0u, 16);
     if (ld8(r_h6) == 1u) goto l_capnp_57;
-    r_8m = r_8g_1;
-    r_eh = 0ull;
-    goto l_arm_qd;
+    r_e4 = 0ull;
+    goto l_arm_74;
 l_capnp_57:;
-    capnp_show_show_path_PathText_enter(slot_1, r_o8, 1u, r_l6);
-    pre_38 = ld64(r_x5);
-    if (!(ld8(slot_1) == 0u)) { r_fu = ld8(r_p9); r_vh = 1u; goto l_return_4x; }
-    r_8m = ld64(r_rq_1);
-    r_eh = pre_38;
-l_arm_qd:;
-    if (r_8m > 0x3ffffbfull) { r_fu = 0u; r_vh = 1u; goto l_return_4x; }
+    capnp_show_show_path_PathText_enter(slot_1, r_o8, 1u, r_ci);
+    if (ld8(slot_1) == 0u) { r_e4 = ld64(r_x5); goto l_arm_74; }
+    r_fu = ld8(r_p9);
+    r_vh = 1u;
+    goto l_return_4x;
+l_arm_74:;
+    r_52_2 = ld64(r_rq_1);
+    if (r_52_2 > 0x3ffffbfull) { r_fu = 0u; r_vh = 1u; goto l_return_4x; }
     u64 r_52_3 = ld64(r_08);
-    if (!(r_52_3 == r_8m)) { r_co = r_52_3; r_q5 = r_8m; goto l_join_df; }
+    if (!(r_52_3 == r_52_2)) { r_co = r_52_3; r_q5 = r_52_2; goto l_join_df; }
     u8 r_av_1 = std_alloc_vec_Vec_grow_amortized_9634afabedddd7ee(a_6, 1ull);
     if (!r_av_1) { r_fu = 1u; r_vh = 1u; goto l_return_4x; }
     r_co = ld64(r_08);
     r_q5 = ld64(r_rq_1);
 l_join_df:;
-    u8 *r_fx_2 = ldp(a_6);
-    st8(away(r_fx_2, r_q5), 123u);
-    stp(a_6, r_fx_2);
+    u8 *r_fx_1 = ldp(a_6);
+    st8(away(r_fx_1, r_q5), 123u);
+    stp(a_6, r_fx_1);
     st64(r_rq_1, (r_q5 + 1ull));
     st64(r_08, r_co);
     st64(slot_4, r_eg);
     mv16(r_x5_1, slot_2);
     st64(r_lk, r_qw);
     mv16(r_89, slot_3);
-    st32(r_c4_1, (r_2p ? r_5k : ((struct s_i32_i1){ (u32)((u64)r_68 * r_l6), (u8)((u64)r_68 * r_l6 >> 32 != 0) }.f1 ? 0xffffffffu : uadd_sat32((r_l6 * r_68), r_5k))));
+    st32(r_c4, uadd_sat32((r_ci * r_68), r_5k));
     st32(r_bk, 0u);
     st32(r_6c, r_5k_1);
     r_1u = capnp_show_show_json_json_struct_5ccc1be374b2e488(slot_4, a_2, a_3, a_5, a_6);
     if (!(r_1u.f0 == 0u)) goto l_arm_dn;
     r_52_4 = ld64(r_rq_1);
-    if (!(ld8(r_h6) == 1u)) goto l_capnp_0k;
-    if (r_8m > ld64(r_yf)) goto l_arm_1s;
+    if (!(ld8(r_h6) == 1u)) goto l_capnp_ul;
+    if (r_52_2 > ld64(r_yf)) goto l_arm_1s;
     if (ld64(r_2g) < r_52_4) goto l_arm_bs;
     goto l_arm_1s;
 l_arm_dn:;
@@ -43309,45 +43023,123 @@ l_arm_dn:;
     r_vh = 1u;
     goto l_return_4x;
 l_arm_1s:;
-    if (!(ld64(r_lg_1) > r_eh)) goto l_capnp_0k;
-    st64(r_lg_1, r_eh);
-l_capnp_0k:;
-    u32 r_7t = (r_l6 + 1u);
-    if (r_7t == a_4) { r_dk = r_52_4; goto l_after_oa; }
-    r_cy = r_52_4;
-    r_l6 = r_7t;
-    goto l_join_bv_1;
+    if (!(ld64(r_lg) > r_e4)) goto l_capnp_ul;
+    st64(r_lg, r_e4);
+l_capnp_ul:;
+    u32 r_7t = (r_ci + 1u);
+    if (r_7t == a_4) { r_fu = 0u; r_vh = 0u; goto l_return_4x; }
+    r_ci = r_7t;
+    goto l_join_fo;
 l_arm_bs:;
-    st64(away(a_6, 112ull), r_8m);
+    st64(away(a_6, 112ull), r_52_2);
     r_fu = 2u;
     r_vh = 1u;
-    goto l_return_4x;
-l_after_oa:;
-    if (r_dk > 0x3ffffbeull) { r_fu = 0u; r_vh = 1u; goto l_return_4x; }
-    u64 r_52_8 = ld64(r_08);
-    if (!((r_52_8 - r_dk) < 2ull)) { r_c0 = r_52_8; r_54 = r_dk; goto l_join_p3; }
-    u8 r_y4 = std_alloc_vec_Vec_grow_amortized_9634afabedddd7ee(a_6, 2ull);
-    if (!r_y4) { r_fu = 1u; r_vh = 1u; goto l_return_4x; }
-    r_c0 = ld64(r_08);
-    r_54 = ld64(r_rq_1);
-l_join_p3:;
-    r_x4 = (r_54 + 2ull);
-    r_fx_3 = ldp(a_6);
-    r_2b_3 = away(r_fx_3, r_54);
-    if (((u64)(uptr)r_2b_3 - (u64)(uptr)((u8 *)g_static_174)) < 2ull) { r_vl = 0ull; goto l_join_l2; }
-    st16(r_2b_3, 32093u);
-    goto l_core_x2;
-l_join_l2:;
-    st8((r_2b_3 + (i64)(r_vl)), ld8((((u8 *)g_static_174) + (i64)(r_vl))));
-    u64 r_c4_2 = (r_vl + 1ull);
-    if (!(r_c4_2 == 2ull)) { r_vl = r_c4_2; goto l_join_l2; }
-l_core_x2:;
-    stp(a_6, r_fx_3);
-    st64(r_rq_1, r_x4);
-    st64(r_08, r_c0);
+l_return_4x:;
+    struct s_i8_i8 r_3j = (struct s_i8_i8){ 0 };
+    r_3j.f0 = r_vh;
+    struct s_i8_i8 r_9n = r_3j;
+    r_9n.f1 = r_fu;
+    return r_9n;
+}
+
+/* capnp_show::show::json::Json::write_refusal */
+static struct s_i8_i8 capnp_show_show_json_Json_write_refusal(u8 *a_1, u8 *a_2, u64 a_3)
+{
+    u8 *r_rq;
+    u64 r_52;
+    u8 *r_08;
+    u64 r_4b;
+    u64 r_jh;
+    u64 r_sb;
+    u8 *r_fx;
+    u8 *r_2b;
+    u64 r_8g;
+    u8 *r_4a;
+    u64 r_uv;
+    u64 r_0z;
+    u64 r_zx;
+    u8 *r_2b_1;
+    u64 r_31;
+    u8 *r_oq;
+    u64 r_1g;
+    u64 r_q8;
+    u64 r_x4;
+    u8 *r_2b_2;
+    u64 r_mp;
+    u8 r_fu;
+    u8 r_vh;
+    st8(away(a_1, 24ull), 0u);
+    r_rq = away(a_1, 8ull);
+    r_52 = ld64(r_rq);
+    if (r_52 > 0x3ffffb5ull) { r_fu = 0u; r_vh = 1u; goto l_capnp_4x; }
+    r_08 = away(a_1, 16ull);
+    u64 r_52_1 = ld64(r_08);
+    if (!((r_52_1 - r_52) < 11ull)) { r_4b = r_52_1; r_jh = r_52; goto l_join_12; }
+    u8 r_pt = std_alloc_vec_Vec_grow_amortized_9634afabedddd7ee(a_1, 11ull);
+    if (!r_pt) { r_fu = 1u; r_vh = 1u; goto l_capnp_4x; }
+    r_4b = ld64(r_08);
+    r_jh = ld64(r_rq);
+l_join_12:;
+    r_sb = (r_jh + 11ull);
+    r_fx = ldp(a_1);
+    r_2b = away(r_fx, r_jh);
+    if (((u64)(uptr)r_2b - (u64)(uptr)((u8 *)g_static_187)) < 11ull) { r_8g = 0ull; goto l_join_bv; }
+    mv11(r_2b, ((u8 *)g_static_187));
+    goto l_arm_cq;
+l_join_bv:;
+    st8((r_2b + (i64)(r_8g)), ld8((((u8 *)g_static_187) + (i64)(r_8g))));
+    u64 r_c4 = (r_8g + 1ull);
+    if (!(r_c4 == 11ull)) { r_8g = r_c4; goto l_join_bv; }
+l_arm_cq:;
+    stp(a_1, r_fx);
+    st64(r_rq, r_sb);
+    st64(r_08, r_4b);
+    if ((u8)((u8)(r_sb > 0x3ffffc0ull) | (u8)((0x3ffffb5ull - r_jh) < a_3))) { r_fu = 0u; r_vh = 1u; goto l_capnp_4x; }
+    if (!(a_3 > (r_4b - r_sb))) { r_4a = r_fx; r_uv = r_4b; r_0z = r_sb; goto l_join_xu; }
+    u8 r_7h = std_alloc_vec_Vec_grow_amortized_9634afabedddd7ee(a_1, a_3);
+    if (!r_7h) { r_fu = 1u; r_vh = 1u; goto l_capnp_4x; }
+    r_4a = ldp(a_1);
+    r_uv = ld64(r_08);
+    r_0z = ld64(r_rq);
+l_join_xu:;
+    r_zx = (r_0z + a_3);
+    memset(r_rq, 0u, 16);
+    r_2b_1 = away(r_4a, r_0z);
+    if (((u64)(uptr)r_2b_1 - (u64)(uptr)a_2) < a_3) { r_31 = 0ull; goto l_join_sz; }
+    memmove_or_none(r_2b_1, a_2, a_3);
+    goto l_arm_pd;
+l_join_sz:;
+    st8((r_2b_1 + (i64)(r_31)), ld8((a_2 + (i64)(r_31))));
+    u64 r_c4_1 = (r_31 + 1ull);
+    if (!(r_c4_1 == a_3)) { r_31 = r_c4_1; goto l_join_sz; }
+l_arm_pd:;
+    stp(a_1, r_4a);
+    st64(r_rq, r_zx);
+    st64(r_08, r_uv);
+    if (r_zx > 0x3ffffbeull) { r_fu = 0u; r_vh = 1u; goto l_capnp_4x; }
+    if (!((r_uv - r_zx) < 2ull)) { r_oq = r_4a; r_1g = r_uv; r_q8 = r_zx; goto l_join_7k; }
+    u8 r_y4 = std_alloc_vec_Vec_grow_amortized_9634afabedddd7ee(a_1, 2ull);
+    if (!r_y4) { r_fu = 1u; r_vh = 1u; goto l_capnp_4x; }
+    r_oq = ldp(a_1);
+    r_1g = ld64(r_08);
+    r_q8 = ld64(r_rq);
+l_join_7k:;
+    r_x4 = (r_q8 + 2ull);
+    r_2b_2 = away(r_oq, r_q8);
+    if (((u64)(uptr)r_2b_2 - (u64)(uptr)((u8 *)g_static_169)) < 2ull) { r_mp = 0ull; goto l_join_or; }
+    st16(r_2b_2, 32034u);
+    goto l_core_ga;
+l_join_or:;
+    st8((r_2b_2 + (i64)(r_mp)), ld8((((u8 *)g_static_169) + (i64)(r_mp))));
+    u64 r_c4_2 = (r_mp + 1ull);
+    if (!(r_c4_2 == 2ull)) { r_mp = r_c4_2; goto l_join_or; }
+l_core_ga:;
+    stp(a_1, r_oq);
+    st64(r_rq, r_x4);
+    st64(r_08, r_1g);
     r_fu = 0u;
     r_vh = 0u;
-l_return_4x:;
+l_capnp_4x:;
     struct s_i8_i8 r_3j = (struct s_i8_i8){ 0 };
     r_3j.f0 = r_vh;
     struct s_i8_i8 r_9n = r_3j;
@@ -45071,19 +44863,12 @@ static struct s_i8_i8 capnp_show_show_lines_Lines_write_bytes(u8 *a_1, u8 *a_2, 
     u64 r_jw;
     u8 *r_xw;
     u64 r_38_2;
-    u8 *r_mu;
-    u64 r_xm;
-    u8 *r_62;
-    u64 r_zn;
+    u8 r_wi;
+    u64 r_bb;
     u8 r_47_2;
-    u8 *r_ny;
-    u64 r_hc;
-    u8 *r_62_1;
-    u64 r_zn_1;
+    u8 r_17;
     u64 r_i2;
-    u64 r_lb;
-    u8 r_3y;
-    u64 r_9j;
+    u64 r_3y;
     u8 *r_i2_1;
     u64 r_52_2;
     u64 r_af_1;
@@ -45128,56 +44913,47 @@ l_join_p3:;
     r_2b = away(r_fx, r_54);
     if (((u64)(uptr)r_2b - (u64)(uptr)((u8 *)g_static_57)) < 2ull) { r_p7 = 0ull; goto l_join_3c; }
     st16(r_2b, 8250u);
-    goto l_arm_o0;
+    goto l_join_o0;
 l_join_3c:;
     st8((r_2b + (i64)(r_p7)), ld8((((u8 *)g_static_57) + (i64)(r_p7))));
     u64 r_c4 = (r_p7 + 1ull);
     if (!(r_c4 == 2ull)) { r_p7 = r_c4; goto l_join_3c; }
-l_arm_o0:;
+l_join_o0:;
     stp(a_1, r_fx);
     st64(r_rq, r_x4);
     st64(r_08, r_c0);
     r_jw = (a_3 + 0xffffffffffffffffull);
-    if (!(ld8(away(a_2, r_jw)) == 0u)) goto l_join_t6;
+    if (!(ld8((a_2 + (i64)(r_jw))) == 0u)) goto l_join_t6;
     memset(slot_1, 0u, 24);
     core_str_utf8_from_utf8(slot_1, a_2, r_jw);
     r_xw = ldp((slot_1 + 8));
     r_38_2 = ld64((slot_1 + 16));
     if (!(ld8(slot_1) == 0u)) goto l_join_t6;
-    if (r_38_2 == 0ull) { r_3y = 0u; r_9j = 0ull; goto l_capnp_i2; }
-    r_mu = r_xw;
-    r_xm = r_38_2;
-l_arm_2s:;
-    r_62 = away(r_mu, 1ull);
-    r_zn = (r_xm + 0xffffffffffffffffull);
-    r_47_2 = ld8(r_mu);
-    if ((u8)((u8)(r_47_2 == 127u) | (u8)(r_47_2 < 9u))) goto l_join_t6;
-    if (r_47_2 < 11u) goto l_capnp_ss;
-    if (r_47_2 < 13u) goto l_join_t6;
-    if ((u8)((u8)(r_47_2 != 13u) & (u8)(r_47_2 < 32u))) goto l_join_t6;
-l_capnp_ss:;
-    if (!(r_zn == 0ull)) { r_mu = r_62; r_xm = r_zn; goto l_arm_2s; }
-    if (r_38_2 == 1ull) { r_3y = 0u; r_9j = 1ull; goto l_capnp_i2; }
-    r_ny = r_xw;
-    r_hc = r_38_2;
-l_then_i5:;
-    r_62_1 = away(r_ny, 1ull);
-    r_zn_1 = (r_hc + 0xffffffffffffffffull);
-    if (!(ld8(r_ny) == 194u)) goto l_capnp_zf;
-    if (ld8(r_62_1) < 160u) goto l_join_t6;
-l_capnp_zf:;
-    if (!(r_hc < 3ull)) { r_ny = r_62_1; r_hc = r_zn_1; goto l_then_i5; }
-    if (r_38_2 < 1025ull) { r_3y = 0u; r_9j = r_38_2; goto l_capnp_i2; }
+    if (r_jw == 0ull) goto l_arm_h9;
+    r_wi = 0u;
+    r_bb = 0ull;
+    goto l_join_d6;
+l_loop_2r:;
+    u64 r_36 = (r_bb + 1ull);
+    if (r_36 == r_jw) goto l_arm_h9;
+    r_wi = r_47_2;
+    r_bb = r_36;
+l_join_d6:;
+    r_47_2 = ld8(away(a_2, r_bb));
+    if (!(r_47_2 < 32u)) { r_17 = 0u; goto l_capnp_fz; }
+    r_17 = (u8)((u8)(r_47_2 != 13u) & (u8)((u8)(r_47_2 + 245u) < 254u));
+l_capnp_fz:;
+    if ((u8)((u8)(u8)((u8)(r_wi == 194u) & (u8)(r_47_2 < 160u)) | (u8)(u8)((u8)(r_47_2 == 127u) | (u8)r_17))) goto l_join_t6;
+    goto l_loop_2r;
+l_arm_h9:;
+    if (r_38_2 < 1025ull) { r_3y = r_38_2; goto l_capnp_i2; }
     r_i2 = 1024ull;
 l_then_pb:;
-    if (!((i8)ld8((r_xw + (i64)(r_i2))) < (i8)192u)) { r_lb = r_i2; goto l_capnp_fy; }
+    if (!((i8)ld8((r_xw + (i64)(r_i2))) < (i8)192u)) { r_3y = r_i2; goto l_capnp_i2; }
     u64 r_0f = (r_i2 + 0xffffffffffffffffull);
-    if (r_0f == 0ull) { r_lb = 0ull; goto l_capnp_fy; }
+    if (r_0f == 0ull) { r_3y = 0ull; goto l_capnp_i2; }
     r_i2 = r_0f;
     goto l_then_pb;
-l_capnp_fy:;
-    r_3y = (r_lb < r_38_2);
-    r_9j = r_lb;
 l_capnp_i2:;
     r_i2_1 = away(a_1, 81ull);
     if (!(u8)(ld8(r_i2_1) & 1)) goto l_arm_hb;
@@ -45205,9 +44981,9 @@ l_core_aw:;
     st64(r_rq, r_pk);
     st64(r_08, r_af_1);
 l_arm_hb:;
-    r_z6 = capnp_show_show_text_Text_push_quoted(a_1, r_xw, r_9j);
+    r_z6 = capnp_show_show_text_Text_push_quoted(a_1, r_xw, r_3y);
     if (!(r_z6.f0 == 0u)) goto l_arm_dn;
-    if (!(u8)(ld8(r_i2_1) & 1)) goto l_arm_3t;
+    if (!(u8)(ld8(r_i2_1) & 1)) goto l_arm_uh;
     r_52_4 = ld64(r_rq);
     if (r_52_4 > 0x3ffffbcull) { r_il = 0u; r_6i = 1u; goto l_return_x8; }
     u64 r_52_5 = ld64(r_08);
@@ -45231,13 +45007,13 @@ l_core_aw_1:;
     stp(a_1, r_fx_2);
     st64(r_rq, r_5b);
     st64(r_08, r_y1);
-    goto l_arm_3t;
+    goto l_arm_uh;
 l_arm_dn:;
     r_il = r_z6.f1;
     r_6i = 1u;
     goto l_return_x8;
-l_arm_3t:;
-    if (!r_3y) { r_il = 0u; r_6i = 0u; goto l_return_x8; }
+l_arm_uh:;
+    if (!(r_3y < r_38_2)) { r_il = 0u; r_6i = 0u; goto l_return_x8; }
     struct s_i8_i8 r_pn = capnp_show_show_lines_Lines_write_dots(a_1);
     u8 r_kp_1 = r_pn.f0;
     r_il = ((u8)(r_kp_1 & 1) ? r_pn.f1 : 0u);
@@ -45251,22 +45027,22 @@ l_join_kl:;
     memset(slot_1, 0u, 1024);
     r_pt = 0ull;
 l_join_jf:;
-    u8 r_47_8 = ld8((r_x9 + (i64)(r_pt)));
+    u8 r_47_6 = ld8((r_x9 + (i64)(r_pt)));
     u8 *r_a7_5 = (slot_1 + (i64)((u64)(r_pt << 1ull)));
-    st8(r_a7_5, ld8((((u8 *)g_static_118) + (i64)((u64)(u8)((u32)r_47_8 >> 4u)))));
-    st8((r_a7_5 + 1), ld8((((u8 *)g_static_118) + (i64)((u64)(u8)(r_47_8 & 15u)))));
+    st8(r_a7_5, ld8((((u8 *)g_static_118) + (i64)((u64)(u8)((u32)r_47_6 >> 4u)))));
+    st8((r_a7_5 + 1), ld8((((u8 *)g_static_118) + (i64)((u64)(u8)(r_47_6 & 15u)))));
     u64 r_c4_3 = (r_pt + 1ull);
     if (!(r_c4_3 == a_3q)) { r_pt = r_c4_3; goto l_join_jf; }
     r_yb = (u64)(a_3q << 1ull);
     r_52_6 = ld64(r_rq);
-    if ((r_52_6 > 0x3ffffc0ull) ? 1u : ((0x3ffffc0ull - r_52_6) < r_yb)) { r_ww = 0u; goto l_arm_2s_1; }
+    if ((r_52_6 > 0x3ffffc0ull) ? 1u : ((0x3ffffc0ull - r_52_6) < r_yb)) { r_ww = 0u; goto l_arm_2s; }
     u64 r_52_7 = ld64(r_08);
-    if (!(r_yb > (r_52_7 - r_52_6))) { r_kp_2 = r_52_7; r_ai = r_52_6; goto l_arm_o0_1; }
+    if (!(r_yb > (r_52_7 - r_52_6))) { r_kp_2 = r_52_7; r_ai = r_52_6; goto l_arm_o0; }
     u8 r_c4_4 = std_alloc_vec_Vec_grow_amortized_9634afabedddd7ee(a_1, r_yb);
-    if (!r_c4_4) { r_ww = 1u; goto l_arm_2s_1; }
+    if (!r_c4_4) { r_ww = 1u; goto l_arm_2s; }
     r_kp_2 = ld64(r_08);
     r_ai = ld64(r_rq);
-l_arm_o0_1:;
+l_arm_o0:;
     u8 *r_fx_3 = ldp(a_1);
     memcpy_or_none(away(r_fx_3, r_ai), slot_1, r_yb);
     stp(a_1, r_fx_3);
@@ -45278,7 +45054,7 @@ l_arm_o0_1:;
     r_il = 0u;
     r_6i = 0u;
     goto l_return_x8;
-l_arm_2s_1:;
+l_arm_2s:;
     r_il = r_ww;
     r_6i = 1u;
     goto l_return_x8;
@@ -54086,7 +53862,6 @@ l_arm_9w:;
     r_eg_1 = (u64)ld8((slot_12 + 8));
     t_38 = ld64((slot_12 + 16));
     t_z4 = ld32((slot_12 + 24));
-    memset(slot_1, 0u, 32);
     r_yz_1 = ld64(a_4);
     if (r_yz_1 == 0ull) { r_r6 = 0ull; goto l_capnp_t3; }
     r_xw_8 = ldp(away(a_4, 32ull));
@@ -54105,14 +53880,15 @@ l_capnp_jc_1:;
     r_9u_1 = r_36_1;
     goto l_join_y7_1;
 l_capnp_t3:;
-    stp(slot_2, a_4);
-    st32((slot_2 + 8), t_z4);
-    st32((slot_2 + 12), 0u);
-    st64((slot_2 + 16), r_r6);
-    st64(slot_3, r_eg_1);
-    st64((slot_3 + 8), t_38);
-    st64((slot_3 + 16), 0ull);
-    capnp_messages_messages_message_fault_canonical_fault__490a0445(slot_1, slot_2, slot_3);
+    stp(slot_3, a_4);
+    st32((slot_3 + 8), t_z4);
+    st32((slot_3 + 12), 0u);
+    st64((slot_3 + 16), r_r6);
+    memset(slot_1, 0u, 32);
+    st64(slot_2, r_eg_1);
+    st64((slot_2 + 8), t_38);
+    st64((slot_2 + 16), 0ull);
+    capnp_messages_messages_message_fault_canonical_fault__490a0445(slot_1, slot_3, slot_2);
     r_r5_5 = ld8((slot_1 + 8));
     t_uq = ld32((slot_1 + 12));
     r_38_12 = ld64((slot_1 + 16));
@@ -54573,7 +54349,7 @@ l_arm_91:;
     st64(slot_18, (u64)ld8((slot_12 + 8)));
     st64((slot_18 + 8), ld64((slot_12 + 16)));
     st32((slot_18 + 16), ld32((slot_12 + 24)));
-    capnp_messages_messages_validation_validate_of_a3cb57cd4b1504b3(slot_17, a_4, slot_18);
+    capnp_streams_streams_parts_validate_a3cb57cd4b1504b3(slot_17, a_4, slot_18);
     r_x5_18 = (slot_17 + 8);
     if (!(ld8(slot_17) == 0u)) goto l_arm_cc_2;
     r_z4_2 = ld32(r_x5_18);
@@ -57437,7 +57213,6 @@ l_arm_9w:;
     r_eg_1 = (u64)ld8((slot_13 + 8));
     t_38 = ld64((slot_13 + 16));
     t_z4 = ld32((slot_13 + 24));
-    memset(slot_1, 0u, 32);
     r_yz_1 = ld64(a_4);
     if (r_yz_1 == 0ull) { r_r6 = 0ull; goto l_capnp_t3; }
     r_xw_7 = ldp(away(a_4, 32ull));
@@ -57456,14 +57231,15 @@ l_capnp_jc_1:;
     r_9u_1 = r_36_1;
     goto l_join_y7_1;
 l_capnp_t3:;
-    stp(slot_2, a_4);
-    st32((slot_2 + 8), t_z4);
-    st32((slot_2 + 12), 0u);
-    st64((slot_2 + 16), r_r6);
-    st64(slot_3, r_eg_1);
-    st64((slot_3 + 8), t_38);
-    st64((slot_3 + 16), 0ull);
-    capnp_messages_messages_message_fault_canonical_fault__490a0445(slot_1, slot_2, slot_3);
+    stp(slot_3, a_4);
+    st32((slot_3 + 8), t_z4);
+    st32((slot_3 + 12), 0u);
+    st64((slot_3 + 16), r_r6);
+    memset(slot_1, 0u, 32);
+    st64(slot_2, r_eg_1);
+    st64((slot_2 + 8), t_38);
+    st64((slot_2 + 16), 0ull);
+    capnp_messages_messages_message_fault_canonical_fault__490a0445(slot_1, slot_3, slot_2);
     r_r5_5 = ld8((slot_1 + 8));
     t_uq = ld32((slot_1 + 12));
     r_38_12 = ld64((slot_1 + 16));
@@ -57601,7 +57377,7 @@ l_arm_91:;
     st64(slot_19, (u64)ld8((slot_13 + 8)));
     st64((slot_19 + 8), ld64((slot_13 + 16)));
     st32((slot_19 + 16), ld32((slot_13 + 24)));
-    capnp_messages_messages_validation_validate_of_a3cb57cd4b1504b3(slot_18, a_4, slot_19);
+    capnp_streams_streams_parts_validate_a3cb57cd4b1504b3(slot_18, a_4, slot_19);
     r_x5_16 = (slot_18 + 8);
     if (!(ld8(slot_18) == 0u)) goto l_arm_cc_2;
     r_38_17 = ld64((slot_18 + 24));
@@ -61522,7 +61298,6 @@ l_arm_9w:;
     r_eg_1 = (u64)ld8((slot_12 + 8));
     t_38 = ld64((slot_12 + 16));
     t_z4 = ld32((slot_12 + 24));
-    memset(slot_1, 0u, 32);
     r_yz_1 = ld64(a_4);
     if (r_yz_1 == 0ull) { r_r6 = 0ull; goto l_capnp_t3; }
     r_xw_8 = ldp(away(a_4, 32ull));
@@ -61541,14 +61316,15 @@ l_capnp_jc_1:;
     r_9u_1 = r_36_1;
     goto l_join_y7_1;
 l_capnp_t3:;
-    stp(slot_2, a_4);
-    st32((slot_2 + 8), t_z4);
-    st32((slot_2 + 12), 0u);
-    st64((slot_2 + 16), r_r6);
-    st64(slot_3, r_eg_1);
-    st64((slot_3 + 8), t_38);
-    st64((slot_3 + 16), 0ull);
-    capnp_messages_messages_message_fault_canonical_fault__490a0445(slot_1, slot_2, slot_3);
+    stp(slot_3, a_4);
+    st32((slot_3 + 8), t_z4);
+    st32((slot_3 + 12), 0u);
+    st64((slot_3 + 16), r_r6);
+    memset(slot_1, 0u, 32);
+    st64(slot_2, r_eg_1);
+    st64((slot_2 + 8), t_38);
+    st64((slot_2 + 16), 0ull);
+    capnp_messages_messages_message_fault_canonical_fault__490a0445(slot_1, slot_3, slot_2);
     r_r5_5 = ld8((slot_1 + 8));
     t_uq = ld32((slot_1 + 12));
     r_38_12 = ld64((slot_1 + 16));
@@ -61913,7 +61689,7 @@ l_arm_91:;
     st64(slot_18, (u64)ld8((slot_12 + 8)));
     st64((slot_18 + 8), ld64((slot_12 + 16)));
     st32((slot_18 + 16), ld32((slot_12 + 24)));
-    capnp_messages_messages_validation_validate_of_a3cb57cd4b1504b3(slot_17, a_4, slot_18);
+    capnp_streams_streams_parts_validate_a3cb57cd4b1504b3(slot_17, a_4, slot_18);
     r_x5_17 = (slot_17 + 8);
     if (!(ld8(slot_17) == 0u)) goto l_arm_cc_2;
     r_z4_2 = ld32(r_x5_17);
@@ -67403,9 +67179,9 @@ l_join_st:;
     if ((u8)(ld8(r_su) & 1)) { r_fk = 1u; goto l_return_ri; }
     r_47 = ld8(away(a_2, r_6o));
     switch (r_47) {
-    case 92u: { r_7u = ((u8 *)g_static_166); r_j3 = 2ull; goto l_join_c8; }
-    case 10u: { r_7u_1 = ((u8 *)g_static_168); r_j3_1 = 2ull; goto l_join_c8_1; }
-    case 13u: { r_7u_2 = ((u8 *)g_static_169); r_j3_2 = 2ull; goto l_join_c8_2; }
+    case 92u: { r_7u = ((u8 *)g_static_164); r_j3 = 2ull; goto l_join_c8; }
+    case 10u: { r_7u_1 = ((u8 *)g_static_166); r_j3_1 = 2ull; goto l_join_c8_1; }
+    case 13u: { r_7u_2 = ((u8 *)g_static_167); r_j3_2 = 2ull; goto l_join_c8_2; }
     default: goto l_default_wn;
     }
 l_join_c8:;
@@ -70652,7 +70428,6 @@ l_arm_9w:;
     r_eg_1 = (u64)ld8((slot_12 + 8));
     t_38 = ld64((slot_12 + 16));
     t_z4 = ld32((slot_12 + 24));
-    memset(slot_1, 0u, 32);
     r_yz_1 = ld64(a_4);
     if (r_yz_1 == 0ull) { r_r6 = 0ull; goto l_capnp_t3; }
     r_xw_8 = ldp(away(a_4, 32ull));
@@ -70671,14 +70446,15 @@ l_capnp_jc_1:;
     r_9u_1 = r_36_1;
     goto l_join_y7_1;
 l_capnp_t3:;
-    stp(slot_2, a_4);
-    st32((slot_2 + 8), t_z4);
-    st32((slot_2 + 12), 0u);
-    st64((slot_2 + 16), r_r6);
-    st64(slot_3, r_eg_1);
-    st64((slot_3 + 8), t_38);
-    st64((slot_3 + 16), 0ull);
-    capnp_messages_messages_message_fault_canonical_fault__490a0445(slot_1, slot_2, slot_3);
+    stp(slot_3, a_4);
+    st32((slot_3 + 8), t_z4);
+    st32((slot_3 + 12), 0u);
+    st64((slot_3 + 16), r_r6);
+    memset(slot_1, 0u, 32);
+    st64(slot_2, r_eg_1);
+    st64((slot_2 + 8), t_38);
+    st64((slot_2 + 16), 0ull);
+    capnp_messages_messages_message_fault_canonical_fault__490a0445(slot_1, slot_3, slot_2);
     r_r5_5 = ld8((slot_1 + 8));
     t_uq = ld32((slot_1 + 12));
     r_38_12 = ld64((slot_1 + 16));
@@ -70885,7 +70661,7 @@ l_arm_91:;
     st64(slot_18, (u64)ld8((slot_12 + 8)));
     st64((slot_18 + 8), ld64((slot_12 + 16)));
     st32((slot_18 + 16), ld32((slot_12 + 24)));
-    capnp_messages_messages_validation_validate_of_a3cb57cd4b1504b3(slot_17, a_4, slot_18);
+    capnp_streams_streams_parts_validate_a3cb57cd4b1504b3(slot_17, a_4, slot_18);
     r_x5_17 = (slot_17 + 8);
     if (!(ld8(slot_17) == 0u)) goto l_arm_cc_2;
     r_z4_2 = ld32(r_x5_17);
@@ -74056,7 +73832,6 @@ l_arm_9w:;
     r_eg_1 = (u64)ld8((slot_12 + 8));
     t_38 = ld64((slot_12 + 16));
     t_z4 = ld32((slot_12 + 24));
-    memset(slot_1, 0u, 32);
     r_yz_1 = ld64(a_4);
     if (r_yz_1 == 0ull) { r_r6 = 0ull; goto l_capnp_t3; }
     r_xw_8 = ldp(away(a_4, 32ull));
@@ -74075,14 +73850,15 @@ l_capnp_jc_1:;
     r_9u_1 = r_36_1;
     goto l_join_y7_1;
 l_capnp_t3:;
-    stp(slot_2, a_4);
-    st32((slot_2 + 8), t_z4);
-    st32((slot_2 + 12), 0u);
-    st64((slot_2 + 16), r_r6);
-    st64(slot_3, r_eg_1);
-    st64((slot_3 + 8), t_38);
-    st64((slot_3 + 16), 0ull);
-    capnp_messages_messages_message_fault_canonical_fault__490a0445(slot_1, slot_2, slot_3);
+    stp(slot_3, a_4);
+    st32((slot_3 + 8), t_z4);
+    st32((slot_3 + 12), 0u);
+    st64((slot_3 + 16), r_r6);
+    memset(slot_1, 0u, 32);
+    st64(slot_2, r_eg_1);
+    st64((slot_2 + 8), t_38);
+    st64((slot_2 + 16), 0ull);
+    capnp_messages_messages_message_fault_canonical_fault__490a0445(slot_1, slot_3, slot_2);
     r_r5_5 = ld8((slot_1 + 8));
     t_uq = ld32((slot_1 + 12));
     r_38_12 = ld64((slot_1 + 16));
@@ -74537,7 +74313,7 @@ l_arm_91:;
     st64(slot_18, (u64)ld8((slot_12 + 8)));
     st64((slot_18 + 8), ld64((slot_12 + 16)));
     st32((slot_18 + 16), ld32((slot_12 + 24)));
-    capnp_messages_messages_validation_validate_of_a3cb57cd4b1504b3(slot_17, a_4, slot_18);
+    capnp_streams_streams_parts_validate_a3cb57cd4b1504b3(slot_17, a_4, slot_18);
     r_x5_25 = (slot_17 + 8);
     if (!(ld8(slot_17) == 0u)) goto l_arm_cc_2;
     r_z4_2 = ld32(r_x5_25);
@@ -79633,7 +79409,6 @@ l_arm_9w:;
     r_eg_1 = (u64)ld8((slot_12 + 8));
     t_38 = ld64((slot_12 + 16));
     t_z4 = ld32((slot_12 + 24));
-    memset(slot_1, 0u, 32);
     r_yz_1 = ld64(a_4);
     if (r_yz_1 == 0ull) { r_r6 = 0ull; goto l_capnp_t3; }
     r_xw_8 = ldp(away(a_4, 32ull));
@@ -79652,14 +79427,15 @@ l_capnp_jc_1:;
     r_9u_1 = r_36_1;
     goto l_join_y7_1;
 l_capnp_t3:;
-    stp(slot_2, a_4);
-    st32((slot_2 + 8), t_z4);
-    st32((slot_2 + 12), 0u);
-    st64((slot_2 + 16), r_r6);
-    st64(slot_3, r_eg_1);
-    st64((slot_3 + 8), t_38);
-    st64((slot_3 + 16), 0ull);
-    capnp_messages_messages_message_fault_canonical_fault__490a0445(slot_1, slot_2, slot_3);
+    stp(slot_3, a_4);
+    st32((slot_3 + 8), t_z4);
+    st32((slot_3 + 12), 0u);
+    st64((slot_3 + 16), r_r6);
+    memset(slot_1, 0u, 32);
+    st64(slot_2, r_eg_1);
+    st64((slot_2 + 8), t_38);
+    st64((slot_2 + 16), 0ull);
+    capnp_messages_messages_message_fault_canonical_fault__490a0445(slot_1, slot_3, slot_2);
     r_r5_5 = ld8((slot_1 + 8));
     t_uq = ld32((slot_1 + 12));
     r_38_12 = ld64((slot_1 + 16));
@@ -79866,7 +79642,7 @@ l_arm_91:;
     st64(slot_18, (u64)ld8((slot_12 + 8)));
     st64((slot_18 + 8), ld64((slot_12 + 16)));
     st32((slot_18 + 16), ld32((slot_12 + 24)));
-    capnp_messages_messages_validation_validate_of_a3cb57cd4b1504b3(slot_17, a_4, slot_18);
+    capnp_streams_streams_parts_validate_a3cb57cd4b1504b3(slot_17, a_4, slot_18);
     r_x5_17 = (slot_17 + 8);
     if (!(ld8(slot_17) == 0u)) goto l_arm_cc_2;
     r_z4_2 = ld32(r_x5_17);
@@ -85586,9 +85362,9 @@ l_join_st:;
     if ((u8)(ld8(r_bo) & 1)) { r_fk = 1u; goto l_return_ri; }
     r_47 = ld8(away(a_2, r_6o));
     switch (r_47) {
-    case 92u: { r_zg = ((u8 *)g_static_166); r_l7 = 2ull; goto l_join_r4; }
-    case 10u: { r_zg_1 = ((u8 *)g_static_168); r_l7_1 = 2ull; goto l_join_r4_1; }
-    case 13u: { r_zg_2 = ((u8 *)g_static_169); r_l7_2 = 2ull; goto l_join_r4_2; }
+    case 92u: { r_zg = ((u8 *)g_static_164); r_l7 = 2ull; goto l_join_r4; }
+    case 10u: { r_zg_1 = ((u8 *)g_static_166); r_l7_1 = 2ull; goto l_join_r4_1; }
+    case 13u: { r_zg_2 = ((u8 *)g_static_167); r_l7_2 = 2ull; goto l_join_r4_2; }
     default: goto l_default_wn;
     }
 l_join_r4:;
@@ -88469,7 +88245,6 @@ l_arm_9w:;
     r_eg_1 = (u64)ld8((slot_12 + 8));
     t_38 = ld64((slot_12 + 16));
     t_z4 = ld32((slot_12 + 24));
-    memset(slot_1, 0u, 32);
     r_yz_1 = ld64(a_4);
     if (r_yz_1 == 0ull) { r_r6 = 0ull; goto l_capnp_t3; }
     r_xw_8 = ldp(away(a_4, 32ull));
@@ -88488,14 +88263,15 @@ l_capnp_jc_1:;
     r_9u_1 = r_36_1;
     goto l_join_y7_1;
 l_capnp_t3:;
-    stp(slot_2, a_4);
-    st32((slot_2 + 8), t_z4);
-    st32((slot_2 + 12), 0u);
-    st64((slot_2 + 16), r_r6);
-    st64(slot_3, r_eg_1);
-    st64((slot_3 + 8), t_38);
-    st64((slot_3 + 16), 0ull);
-    capnp_messages_messages_message_fault_canonical_fault__490a0445(slot_1, slot_2, slot_3);
+    stp(slot_3, a_4);
+    st32((slot_3 + 8), t_z4);
+    st32((slot_3 + 12), 0u);
+    st64((slot_3 + 16), r_r6);
+    memset(slot_1, 0u, 32);
+    st64(slot_2, r_eg_1);
+    st64((slot_2 + 8), t_38);
+    st64((slot_2 + 16), 0ull);
+    capnp_messages_messages_message_fault_canonical_fault__490a0445(slot_1, slot_3, slot_2);
     r_r5_5 = ld8((slot_1 + 8));
     t_uq = ld32((slot_1 + 12));
     r_38_12 = ld64((slot_1 + 16));
@@ -88702,7 +88478,7 @@ l_arm_91:;
     st64(slot_18, (u64)ld8((slot_12 + 8)));
     st64((slot_18 + 8), ld64((slot_12 + 16)));
     st32((slot_18 + 16), ld32((slot_12 + 24)));
-    capnp_messages_messages_validation_validate_of_a3cb57cd4b1504b3(slot_17, a_4, slot_18);
+    capnp_streams_streams_parts_validate_a3cb57cd4b1504b3(slot_17, a_4, slot_18);
     r_x5_17 = (slot_17 + 8);
     if (!(ld8(slot_17) == 0u)) goto l_arm_cc_2;
     r_z4_2 = ld32(r_x5_17);
@@ -91668,7 +91444,6 @@ l_arm_9w:;
     r_eg_1 = (u64)ld8((slot_12 + 8));
     t_38 = ld64((slot_12 + 16));
     t_z4 = ld32((slot_12 + 24));
-    memset(slot_1, 0u, 32);
     r_yz_1 = ld64(a_4);
     if (r_yz_1 == 0ull) { r_r6 = 0ull; goto l_capnp_t3; }
     r_xw_8 = ldp(away(a_4, 32ull));
@@ -91687,14 +91462,15 @@ l_capnp_jc_1:;
     r_9u_1 = r_36_1;
     goto l_join_y7_1;
 l_capnp_t3:;
-    stp(slot_2, a_4);
-    st32((slot_2 + 8), t_z4);
-    st32((slot_2 + 12), 0u);
-    st64((slot_2 + 16), r_r6);
-    st64(slot_3, r_eg_1);
-    st64((slot_3 + 8), t_38);
-    st64((slot_3 + 16), 0ull);
-    capnp_messages_messages_message_fault_canonical_fault__490a0445(slot_1, slot_2, slot_3);
+    stp(slot_3, a_4);
+    st32((slot_3 + 8), t_z4);
+    st32((slot_3 + 12), 0u);
+    st64((slot_3 + 16), r_r6);
+    memset(slot_1, 0u, 32);
+    st64(slot_2, r_eg_1);
+    st64((slot_2 + 8), t_38);
+    st64((slot_2 + 16), 0ull);
+    capnp_messages_messages_message_fault_canonical_fault__490a0445(slot_1, slot_3, slot_2);
     r_r5_5 = ld8((slot_1 + 8));
     t_uq = ld32((slot_1 + 12));
     r_38_12 = ld64((slot_1 + 16));
@@ -91963,7 +91739,7 @@ l_arm_91:;
     st64(slot_18, (u64)ld8((slot_12 + 8)));
     st64((slot_18 + 8), ld64((slot_12 + 16)));
     st32((slot_18 + 16), ld32((slot_12 + 24)));
-    capnp_messages_messages_validation_validate_of_a3cb57cd4b1504b3(slot_17, a_4, slot_18);
+    capnp_streams_streams_parts_validate_a3cb57cd4b1504b3(slot_17, a_4, slot_18);
     r_x5_17 = (slot_17 + 8);
     if (!(ld8(slot_17) == 0u)) goto l_arm_cc_2;
     r_z4_2 = ld32(r_x5_17);
@@ -96774,7 +96550,6 @@ l_arm_9w:;
     r_eg_1 = (u64)ld8((slot_12 + 8));
     t_38 = ld64((slot_12 + 16));
     t_z4 = ld32((slot_12 + 24));
-    memset(slot_1, 0u, 32);
     r_yz_1 = ld64(a_4);
     if (r_yz_1 == 0ull) { r_r6 = 0ull; goto l_capnp_t3; }
     r_xw_8 = ldp(away(a_4, 32ull));
@@ -96793,14 +96568,15 @@ l_capnp_jc_1:;
     r_9u_1 = r_36_1;
     goto l_join_y7_1;
 l_capnp_t3:;
-    stp(slot_2, a_4);
-    st32((slot_2 + 8), t_z4);
-    st32((slot_2 + 12), 0u);
-    st64((slot_2 + 16), r_r6);
-    st64(slot_3, r_eg_1);
-    st64((slot_3 + 8), t_38);
-    st64((slot_3 + 16), 0ull);
-    capnp_messages_messages_message_fault_canonical_fault__490a0445(slot_1, slot_2, slot_3);
+    stp(slot_3, a_4);
+    st32((slot_3 + 8), t_z4);
+    st32((slot_3 + 12), 0u);
+    st64((slot_3 + 16), r_r6);
+    memset(slot_1, 0u, 32);
+    st64(slot_2, r_eg_1);
+    st64((slot_2 + 8), t_38);
+    st64((slot_2 + 16), 0ull);
+    capnp_messages_messages_message_fault_canonical_fault__490a0445(slot_1, slot_3, slot_2);
     r_r5_5 = ld8((slot_1 + 8));
     t_uq = ld32((slot_1 + 12));
     r_38_12 = ld64((slot_1 + 16));
@@ -97007,7 +96783,7 @@ l_arm_91:;
     st64(slot_18, (u64)ld8((slot_12 + 8)));
     st64((slot_18 + 8), ld64((slot_12 + 16)));
     st32((slot_18 + 16), ld32((slot_12 + 24)));
-    capnp_messages_messages_validation_validate_of_a3cb57cd4b1504b3(slot_17, a_4, slot_18);
+    capnp_streams_streams_parts_validate_a3cb57cd4b1504b3(slot_17, a_4, slot_18);
     r_x5_17 = (slot_17 + 8);
     if (!(ld8(slot_17) == 0u)) goto l_arm_cc_2;
     r_z4_2 = ld32(r_x5_17);
@@ -102725,7 +102501,6 @@ l_arm_9w:;
     r_eg_1 = (u64)ld8((slot_12 + 8));
     t_38 = ld64((slot_12 + 16));
     t_z4 = ld32((slot_12 + 24));
-    memset(slot_1, 0u, 32);
     r_yz_1 = ld64(a_4);
     if (r_yz_1 == 0ull) { r_r6 = 0ull; goto l_capnp_t3; }
     r_xw_8 = ldp(away(a_4, 32ull));
@@ -102744,14 +102519,15 @@ l_capnp_jc_1:;
     r_9u_1 = r_36_1;
     goto l_join_y7_1;
 l_capnp_t3:;
-    stp(slot_2, a_4);
-    st32((slot_2 + 8), t_z4);
-    st32((slot_2 + 12), 0u);
-    st64((slot_2 + 16), r_r6);
-    st64(slot_3, r_eg_1);
-    st64((slot_3 + 8), t_38);
-    st64((slot_3 + 16), 0ull);
-    capnp_messages_messages_message_fault_canonical_fault__490a0445(slot_1, slot_2, slot_3);
+    stp(slot_3, a_4);
+    st32((slot_3 + 8), t_z4);
+    st32((slot_3 + 12), 0u);
+    st64((slot_3 + 16), r_r6);
+    memset(slot_1, 0u, 32);
+    st64(slot_2, r_eg_1);
+    st64((slot_2 + 8), t_38);
+    st64((slot_2 + 16), 0ull);
+    capnp_messages_messages_message_fault_canonical_fault__490a0445(slot_1, slot_3, slot_2);
     r_r5_5 = ld8((slot_1 + 8));
     t_uq = ld32((slot_1 + 12));
     r_38_12 = ld64((slot_1 + 16));
@@ -103291,7 +103067,7 @@ l_arm_91:;
     st64(slot_18, (u64)ld8((slot_12 + 8)));
     st64((slot_18 + 8), ld64((slot_12 + 16)));
     st32((slot_18 + 16), ld32((slot_12 + 24)));
-    capnp_messages_messages_validation_validate_of_a3cb57cd4b1504b3(slot_17, a_4, slot_18);
+    capnp_streams_streams_parts_validate_a3cb57cd4b1504b3(slot_17, a_4, slot_18);
     r_x5_25 = (slot_17 + 8);
     if (!(ld8(slot_17) == 0u)) goto l_arm_cc_2;
     r_z4_2 = ld32(r_x5_25);
@@ -108605,7 +108381,6 @@ l_arm_9w:;
     r_eg_1 = (u64)ld8((slot_12 + 8));
     t_38 = ld64((slot_12 + 16));
     t_z4 = ld32((slot_12 + 24));
-    memset(slot_1, 0u, 32);
     r_yz_1 = ld64(a_4);
     if (r_yz_1 == 0ull) { r_r6 = 0ull; goto l_capnp_t3; }
     r_xw_8 = ldp(away(a_4, 32ull));
@@ -108624,14 +108399,15 @@ l_capnp_jc_1:;
     r_9u_1 = r_36_1;
     goto l_join_y7_1;
 l_capnp_t3:;
-    stp(slot_2, a_4);
-    st32((slot_2 + 8), t_z4);
-    st32((slot_2 + 12), 0u);
-    st64((slot_2 + 16), r_r6);
-    st64(slot_3, r_eg_1);
-    st64((slot_3 + 8), t_38);
-    st64((slot_3 + 16), 0ull);
-    capnp_messages_messages_message_fault_canonical_fault__490a0445(slot_1, slot_2, slot_3);
+    stp(slot_3, a_4);
+    st32((slot_3 + 8), t_z4);
+    st32((slot_3 + 12), 0u);
+    st64((slot_3 + 16), r_r6);
+    memset(slot_1, 0u, 32);
+    st64(slot_2, r_eg_1);
+    st64((slot_2 + 8), t_38);
+    st64((slot_2 + 16), 0ull);
+    capnp_messages_messages_message_fault_canonical_fault__490a0445(slot_1, slot_3, slot_2);
     r_r5_5 = ld8((slot_1 + 8));
     t_uq = ld32((slot_1 + 12));
     r_38_12 = ld64((slot_1 + 16));
@@ -108838,7 +108614,7 @@ l_arm_91:;
     st64(slot_18, (u64)ld8((slot_12 + 8)));
     st64((slot_18 + 8), ld64((slot_12 + 16)));
     st32((slot_18 + 16), ld32((slot_12 + 24)));
-    capnp_messages_messages_validation_validate_of_a3cb57cd4b1504b3(slot_17, a_4, slot_18);
+    capnp_streams_streams_parts_validate_a3cb57cd4b1504b3(slot_17, a_4, slot_18);
     r_x5_17 = (slot_17 + 8);
     if (!(ld8(slot_17) == 0u)) goto l_arm_cc_2;
     r_z4_2 = ld32(r_x5_17);
@@ -113708,7 +113484,7 @@ static void capnp_streams_streams_diffs_Reading_read_9beef8d0a0f2032f(u8 *a_1, u
     st32(t_zd, t_5k);
     memset(slot_3, 0u, 40);
     memset(slot_4, 0u, 48);
-    capnp_messages_messages_validation_validate_of_a3cb57cd4b1504b3(slot_4, r_rq_1, slot_1);
+    capnp_streams_streams_parts_validate_a3cb57cd4b1504b3(slot_4, r_rq_1, slot_1);
     r_uz_1 = ld8(slot_4);
     if (!(r_uz_1 == 0u)) goto l_arm_gy;
     r_na = 0ull;
@@ -114653,7 +114429,7 @@ static void capnp_streams_streams_diffs_Reading_read_0bcef64f5cfb0ddf(u8 *a_1, u
     st32(t_zd, t_5k);
     memset(slot_3, 0u, 40);
     memset(slot_4, 0u, 48);
-    capnp_messages_messages_validation_validate_of_a3cb57cd4b1504b3(slot_4, r_rq_1, slot_1);
+    capnp_streams_streams_parts_validate_a3cb57cd4b1504b3(slot_4, r_rq_1, slot_1);
     r_uz_1 = ld8(slot_4);
     if (!(r_uz_1 == 0u)) goto l_arm_gy;
     r_na = 0ull;
@@ -114784,7 +114560,7 @@ static void capnp_streams_streams_diffs_Reading_read_flat_9beef8d0a0f2032f(u8 *a
     st32(t_zd, t_5k);
     memset(slot_3, 0u, 40);
     memset(slot_4, 0u, 48);
-    capnp_messages_messages_validation_validate_of_a3cb57cd4b1504b3(slot_4, r_rq_1, slot_1);
+    capnp_streams_streams_parts_validate_a3cb57cd4b1504b3(slot_4, r_rq_1, slot_1);
     r_uz_1 = ld8(slot_4);
     if (!(r_uz_1 == 0u)) goto l_arm_gy;
     r_na = 0ull;
@@ -114915,7 +114691,7 @@ static void capnp_streams_streams_diffs_Reading_read_3398bd899db48580(u8 *a_1, u
     st32(t_zd, t_5k);
     memset(slot_3, 0u, 40);
     memset(slot_4, 0u, 48);
-    capnp_messages_messages_validation_validate_of_a3cb57cd4b1504b3(slot_4, r_rq_1, slot_1);
+    capnp_streams_streams_parts_validate_a3cb57cd4b1504b3(slot_4, r_rq_1, slot_1);
     r_uz_1 = ld8(slot_4);
     if (!(r_uz_1 == 0u)) goto l_arm_gy;
     r_na = 0ull;
@@ -115051,7 +114827,7 @@ static void capnp_streams_streams_diffs_Reading_read_e1f45683495818e5(u8 *a_1, u
     st32(t_zd, t_5k);
     memset(slot_3, 0u, 40);
     memset(slot_4, 0u, 48);
-    capnp_messages_messages_validation_validate_of_a3cb57cd4b1504b3(slot_4, r_rq_1, slot_1);
+    capnp_streams_streams_parts_validate_a3cb57cd4b1504b3(slot_4, r_rq_1, slot_1);
     r_uz_1 = ld8(slot_4);
     if (!(r_uz_1 == 0u)) goto l_arm_gy;
     r_na = 0ull;
@@ -115182,7 +114958,7 @@ static void capnp_streams_streams_diffs_Reading_read_flat_3398bd899db48580(u8 *a
     st32(t_zd, t_5k);
     memset(slot_3, 0u, 40);
     memset(slot_4, 0u, 48);
-    capnp_messages_messages_validation_validate_of_a3cb57cd4b1504b3(slot_4, r_rq_1, slot_1);
+    capnp_streams_streams_parts_validate_a3cb57cd4b1504b3(slot_4, r_rq_1, slot_1);
     r_uz_1 = ld8(slot_4);
     if (!(r_uz_1 == 0u)) goto l_arm_gy;
     r_na = 0ull;

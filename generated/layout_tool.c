@@ -395,9 +395,9 @@ static const u8 g_static_71[14] = "MessageTooLong";
 static const u8 g_static_72[9] = "Truncated";
 static const u8 g_static_73[10] = "ReadFailed";
 static const u8 g_static_74[11] = "WriteFailed";
-static const u64 switch_table_capnp_pointers_pointers_sizes_add_object__d0ffe7b3[8] = { 0u, 1u, 8u, 16u, 32u, 64u, 0u, 0u };
+static const u64 switch_table_capnp_objects_pointers_sizes_add_object_7_ce50ad0a[8] = { 0u, 1u, 8u, 16u, 32u, 64u, 0u, 0u };
 static const u64 switch_table_capnp_copies_copy_copy_object_789b5ce0078f2be2[7] = { 0u, 1u, 8u, 16u, 32u, 64u, 0u };
-static const u64 switch_table_capnp_pointers_pointers_canonical_test_li_58523f26[6] = { 0u, 1u, 8u, 16u, 32u, 64u };
+static const u64 switch_table_capnp_objects_pointers_canonical_test_lis_2e4582d4[6] = { 0u, 1u, 8u, 16u, 32u, 64u };
 static const struct place switch_table_capnp_layout_tool_engine_refuse_05c50f83f81b9c23[35] = { PLACE(g_static_34), PLACE(g_static_35), PLACE(g_static_36), PLACE(g_static_37), PLACE(g_static_38), PLACE(g_static_39), PLACE(g_static_40), PLACE(g_static_41), PLACE(g_static_42), PLACE(g_static_43), PLACE(g_static_44), PLACE(g_static_45), PLACE(g_static_46), PLACE(g_static_47), PLACE(g_static_48), PLACE(g_static_49), PLACE(g_static_50), PLACE(g_static_51), PLACE(g_static_52), PLACE(g_static_53), PLACE(g_static_54), PLACE(g_static_55), PLACE(g_static_56), PLACE(g_static_57), PLACE(g_static_58), PLACE(g_static_59), PLACE(g_static_60), PLACE(g_static_61), PLACE(g_static_62), PLACE(g_static_63), PLACE(g_static_64), PLACE(g_static_65), PLACE(g_static_66), PLACE(g_static_67), PLACE(g_static_68) };
 static const u64 switch_table_capnp_layout_tool_engine_refuse_05c50f83f_f7ef1662[35] = { 16u, 44u, 34u, 33u, 47u, 25u, 48u, 53u, 38u, 38u, 47u, 50u, 16u, 25u, 56u, 56u, 46u, 68u, 49u, 56u, 49u, 60u, 36u, 33u, 41u, 24u, 40u, 15u, 20u, 11u, 17u, 28u, 24u, 20u, 18u };
 static const struct place switch_table_capnp_layout_tool_engine_refuse_05c50f83f_52234d96[7] = { PLACE(g_static_69), PLACE(g_static_70), PLACE(g_static_71), PLACE(g_static_72), PLACE(g_static_73), PLACE(g_static_74), PLACE(g_static_34) };
@@ -416,14 +416,14 @@ static u8 core_fmt_formatter_Formatter_write_raw_bf264aed5fa78656(u8 *a_1, u8 *a
 static NEVER COLD u8 std_alloc_vec_Vec_grow_amortized_5400d4f5161e8cc6(u8 *a_1);
 static NEVER COLD u8 std_alloc_vec_Vec_grow_amortized_8cb459f74eb976cc(u8 *a_1);
 static NEVER void capnp_objects_source_follow_far_70170357b7303457(u8 *a_1, u8 *a_2, u64 a_3, u8 *a_4);
-static struct s_i8_i32 capnp_pointers_pointers_canonical_test_children_701703_62c5c8fc(u8 *a_1, u32 a_2, u32 a_3, u32 a_4, u32 a_5, u8 *a_6);
-static NEVER struct s_i8_i32 capnp_pointers_pointers_canonical_test_list_70170357b7303457(u8 *a_1, u32 a_2, u64 a_3, u32 a_4, u32 a_5, u8 *a_6);
-static struct s_i8_i32 capnp_pointers_pointers_canonical_test_rows_70170357b7303457(u8 *a_1, u32 a_2, u16 a_3, u16 a_4, u32 a_5, u32 a_6, u8 *a_7);
+static struct s_i8_i32 capnp_objects_pointers_canonical_test_children_70170357b7303457(u8 *a_1, u32 a_2, u32 a_3, u32 a_4, u32 a_5, u8 *a_6);
+static NEVER struct s_i8_i32 capnp_objects_pointers_canonical_test_list_70170357b7303457(u8 *a_1, u32 a_2, u64 a_3, u32 a_4, u32 a_5, u8 *a_6);
+static struct s_i8_i32 capnp_objects_pointers_canonical_test_rows_70170357b7303457(u8 *a_1, u32 a_2, u16 a_3, u16 a_4, u32 a_5, u32 a_6, u8 *a_7);
 static NEVER COLD void std_io_buffered_BufWriter_write_cold_89ca6214804c96d4(u8 *a_1, u8 *a_2, u8 *a_3, u64 a_4);
 static void std_io_buffered_BufWriter_flush_buf_89ca6214804c96d4(u8 *a_1, u8 *a_2);
-static NEVER u8 capnp_pointers_pointers_sizes_add_object_70170357b7303457(u8 *a_1, u32 a_2, u32 a_3, u8 *a_4);
+static NEVER u8 capnp_objects_pointers_sizes_add_object_70170357b7303457(u8 *a_1, u32 a_2, u32 a_3, u8 *a_4);
 static NEVER void capnp_objects_source_Source_measure_object_70170357b7303457(u8 *a_1, u8 *a_2, u8 *a_3, u32 a_4, u8 *a_5);
-static NEVER u8 capnp_pointers_pointers_sizes_add_pointers_70170357b7303457(u8 *a_1, u32 a_2, u32 a_3, u32 a_4, u8 *a_5);
+static NEVER u8 capnp_objects_pointers_sizes_add_pointers_70170357b7303457(u8 *a_1, u32 a_2, u32 a_3, u32 a_4, u8 *a_5);
 static u8 capnp_messages_text_write_number_05c50f83f81b9c23(u8 *a_1, u64 a_2);
 static u8 capnp_layout_tool_frames_write_number_05c50f83f81b9c23(u8 *a_1, u32 a_2);
 static u8 capnp_layout_tool_writing_write_digits_05c50f83f81b9c23(u8 *a_1, u8 *a_2, u64 a_3);
@@ -454,9 +454,9 @@ static NEVER COLD u8 std_alloc_vec_Vec_grow_amortized_0e5e43add44bc681(u8 *a_1);
 static NEVER void capnp_arena_arena_builder_arena_impl_give_back_others__160dce61(u8 *a_1, u8 *a_2);
 static NEVER void core_slice_edits_mirror_e0f4f6844e27f7b4(u8 *a_1, u8 *a_2, u64 a_3);
 static NEVER void capnp_objects_source_follow_far_1e87a151ef20e12e(u8 *a_1, u8 *a_2, u64 a_3, u8 *a_4);
-static struct s_i8_i32 capnp_pointers_pointers_canonical_test_children_1e87a1_c3c6e6a7(u8 *a_1, u32 a_2, u32 a_3, u32 a_4, u32 a_5, u8 *a_6);
-static NEVER struct s_i8_i32 capnp_pointers_pointers_canonical_test_list_1e87a151ef20e12e(u8 *a_1, u32 a_2, u64 a_3, u32 a_4, u32 a_5, u8 *a_6);
-static struct s_i8_i32 capnp_pointers_pointers_canonical_test_rows_1e87a151ef20e12e(u8 *a_1, u32 a_2, u16 a_3, u16 a_4, u32 a_5, u32 a_6, u8 *a_7);
+static struct s_i8_i32 capnp_objects_pointers_canonical_test_children_1e87a151ef20e12e(u8 *a_1, u32 a_2, u32 a_3, u32 a_4, u32 a_5, u8 *a_6);
+static NEVER struct s_i8_i32 capnp_objects_pointers_canonical_test_list_1e87a151ef20e12e(u8 *a_1, u32 a_2, u64 a_3, u32 a_4, u32 a_5, u8 *a_6);
+static struct s_i8_i32 capnp_objects_pointers_canonical_test_rows_1e87a151ef20e12e(u8 *a_1, u32 a_2, u16 a_3, u16 a_4, u32 a_5, u32 a_6, u8 *a_7);
 static u8 capnp_layout_tool_engine_refuse_05c50f83f81b9c23(u8 *a_1, u8 *a_2);
 static u8 layout_tool_complain(u8 *a_1, u64 a_2);
 
@@ -1451,8 +1451,8 @@ l_join_s8:;
     goto l_common_68;
 }
 
-/* capnp_pointers::pointers::canonical::test_children::<#70170357b7303457> */
-static struct s_i8_i32 capnp_pointers_pointers_canonical_test_children_701703_62c5c8fc(u8 *a_1, u32 a_2, u32 a_3, u32 a_4, u32 a_5, u8 *a_6)
+/* capnp_objects::pointers::canonical::test_children::<#70170357b7303457> */
+static struct s_i8_i32 capnp_objects_pointers_canonical_test_children_70170357b7303457(u8 *a_1, u32 a_2, u32 a_3, u32 a_4, u32 a_5, u8 *a_6)
 {
     u8 *r_xz;
     u8 *r_xm;
@@ -1627,14 +1627,14 @@ l_join_p3:;
     r_w0 = (r_l6 + r_az);
     r_w0_1 = (r_w0 + r_12);
     r_ts_2 = (r_y6 == 0ull);
-    if (!r_ts_2) goto l_join_os;
+    if (!r_ts_2) goto l_join_ga;
     struct s_i8_i32 t_ph = (struct s_i8_i32){ 0u, 0u };
     t_ph.f1 = r_w0_1;
     r_d4 = t_ph;
     goto l_capnp_o7;
-l_join_os:;
-    struct s_i8_i32 r_p5 = capnp_pointers_pointers_canonical_test_children_701703_62c5c8fc(a_1, r_w0, r_12, r_y0, r_w0_1, a_6);
-    r_d4 = r_p5;
+l_join_ga:;
+    struct s_i8_i32 r_ux = capnp_objects_pointers_canonical_test_children_70170357b7303457(a_1, r_w0, r_12, r_y0, r_w0_1, a_6);
+    r_d4 = r_ux;
 l_capnp_o7:;
     r_xo = r_d4.f1;
     if (!(r_d4.f0 == 0u)) { r_tu = 0u; r_di = 1u; goto l_capnp_cm; }
@@ -1676,7 +1676,7 @@ l_capnp_cm:;
     goto l_capnp_7u;
 l_arm_ui:;
     r_ep_1 = (u64)(r_qw_1 >> 32ull);
-    if (!((u8)((u8)((u8)r_ep_1 & 7u) + 255u) < 5u)) goto l_join_t5;
+    if (!((u8)((u8)((u8)r_ep_1 & 7u) + 255u) < 5u)) goto l_join_ls;
     r_ij = (u64)(r_qw_1 >> 35ull);
     r_c6 = (u64)(((ld64(away(away(((u8 *)switch_table_main_17), 8 * (r_ep_1 & 7ull)), 0xfffffffffffffff8ull)) * r_ij) + 63ull) >> 6ull);
     t_0c_1 = (ld8(a_1) == 0u);
@@ -1746,9 +1746,9 @@ l_capnp_cm_1:;
     r_i6_1.f1 = r_tu_1;
     r_cp = r_i6_1;
     goto l_capnp_7u;
-l_join_t5:;
-    struct s_i8_i32 r_1d = capnp_pointers_pointers_canonical_test_list_70170357b7303457(a_1, r_7m, r_qw_1, a_4, r_l6, a_6);
-    r_cp = r_1d;
+l_join_ls:;
+    struct s_i8_i32 r_c4_2 = capnp_objects_pointers_canonical_test_list_70170357b7303457(a_1, r_7m, r_qw_1, a_4, r_l6, a_6);
+    r_cp = r_c4_2;
 l_capnp_7u:;
     if (r_cp.f0 == 0u) { r_kr = r_cp.f1; goto l_loop_2y; }
     r_us = 0u;
@@ -1771,8 +1771,8 @@ l_return_pr:;
     return r_i6_2;
 }
 
-/* capnp_pointers::pointers::canonical::test_list::<#70170357b7303457> */
-static NEVER struct s_i8_i32 capnp_pointers_pointers_canonical_test_list_70170357b7303457(u8 *a_1, u32 a_2, u64 a_3, u32 a_4, u32 a_5, u8 *a_6)
+/* capnp_objects::pointers::canonical::test_list::<#70170357b7303457> */
+static NEVER struct s_i8_i32 capnp_objects_pointers_canonical_test_list_70170357b7303457(u8 *a_1, u32 a_2, u64 a_3, u32 a_4, u32 a_5, u8 *a_6)
 {
     A(8) u8 slot_1[56];
     u8 *r_xz;
@@ -2046,7 +2046,7 @@ l_capnp_f9:;
     r_ru = 34u;
     goto l_arm_ud;
 l_arm_s2:;
-    if (r_nz == a_5) goto l_arm_76;
+    if (r_nz == a_5) goto l_arm_6t;
     goto l_then_um;
 l_then_s2:;
     if (r_nz == a_2) goto l_arm_um;
@@ -2055,7 +2055,7 @@ l_join_s2:;
     if (r_nz == a_5) goto l_arm_um;
     goto l_then_um;
 l_capnp_s2:;
-    if (r_nz == a_5) goto l_arm_1s;
+    if (r_nz == a_5) goto l_arm_gg_2;
     goto l_then_um;
 l_arm_ud:;
     u8 or_i7 = (u8)((u8)((a_3 & 3ull) == 1ull) & (u8)(r_ru == 26u));
@@ -2076,9 +2076,9 @@ l_then_um:;
     r_us = 0u;
     r_1x = 1u;
     goto l_return_pr;
-l_arm_76:;
+l_arm_6t:;
     r_xz_3 = away(a_6, 24ull);
-    u64 r_1q = (ld64((((u8 *)switch_table_capnp_pointers_pointers_canonical_test_li_58523f26) + (i64)(8 * (u64)r_xq))) * r_ij);
+    u64 r_1q = (ld64((((u8 *)switch_table_capnp_objects_pointers_canonical_test_lis_2e4582d4) + (i64)(8 * (u64)r_xq))) * r_ij);
     r_eh_1 = (a_5 + (u32)(u64)(r_1q >> 6ull));
     r_4i = (r_1q & 63ull);
     if (r_4i == 0ull) { r_us = r_eh_1; r_1x = 0u; goto l_return_pr; }
@@ -2091,10 +2091,10 @@ l_arm_76:;
     r_us = 0u;
     r_1x = 1u;
     goto l_return_pr;
-l_arm_1s:;
-    struct s_i8_i32 r_nd = capnp_pointers_pointers_canonical_test_children_701703_62c5c8fc(a_1, a_5, r_12_2, (a_4 + 0xffffffffu), (a_5 + r_12_2), a_6);
-    r_us = r_nd.f1;
-    r_1x = r_nd.f0;
+l_arm_gg_2:;
+    struct s_i8_i32 r_34 = capnp_objects_pointers_canonical_test_children_70170357b7303457(a_1, a_5, r_12_2, (a_4 + 0xffffffffu), (a_5 + r_12_2), a_6);
+    r_us = r_34.f1;
+    r_1x = r_34.f0;
     goto l_return_pr;
 l_arm_bb:;
     r_y0_1 = (a_4 + 0xffffffffu);
@@ -2111,9 +2111,9 @@ l_arm_bb:;
     goto l_return_pr;
 l_join_1x:;
     if (r_68_1 == 0u) { r_us = r_ll; r_1x = 0u; goto l_return_pr; }
-    struct s_i8_i32 r_mh = capnp_pointers_pointers_canonical_test_rows_70170357b7303457(a_1, r_ll, t_xg, r_py, t_c8, r_y0_1, a_6);
-    r_us = r_mh.f1;
-    r_1x = r_mh.f0;
+    struct s_i8_i32 r_ki = capnp_objects_pointers_canonical_test_rows_70170357b7303457(a_1, r_ll, t_xg, r_py, t_c8, r_y0_1, a_6);
+    r_us = r_ki.f1;
+    r_1x = r_ki.f0;
     goto l_return_pr;
 l_arm_um:;
     u64 r_qw_5 = ld64(r_xz);
@@ -2132,8 +2132,8 @@ l_return_pr:;
     return r_i6;
 }
 
-/* capnp_pointers::pointers::canonical::test_rows::<#70170357b7303457> */
-static struct s_i8_i32 capnp_pointers_pointers_canonical_test_rows_70170357b7303457(u8 *a_1, u32 a_2, u16 a_3, u16 a_4, u32 a_5, u32 a_6, u8 *a_7)
+/* capnp_objects::pointers::canonical::test_rows::<#70170357b7303457> */
+static struct s_i8_i32 capnp_objects_pointers_canonical_test_rows_70170357b7303457(u8 *a_1, u32 a_2, u16 a_3, u16 a_4, u32 a_5, u32 a_6, u8 *a_7)
 {
     u32 r_m2;
     u32 r_m2_1;
@@ -2184,14 +2184,14 @@ static struct s_i8_i32 capnp_pointers_pointers_canonical_test_rows_70170357b7303
 l_join_l2:;
     r_kq_1 = ((r_68 * (u32)indvars_lg) + a_2);
     r_w0 = (r_kq_1 + r_m2);
-    if (!r_kh_1) goto l_join_ew;
+    if (!r_kh_1) goto l_join_jy;
     struct s_i8_i32 t_ph = (struct s_i8_i32){ 0u, 0u };
     t_ph.f1 = r_23;
     r_ff = t_ph;
     goto l_capnp_28;
-l_join_ew:;
-    struct s_i8_i32 r_my = capnp_pointers_pointers_canonical_test_children_701703_62c5c8fc(a_1, r_w0, r_m2_1, a_6, r_23, a_7);
-    r_ff = r_my;
+l_join_jy:;
+    struct s_i8_i32 r_3z = capnp_objects_pointers_canonical_test_children_70170357b7303457(a_1, r_w0, r_m2_1, a_6, r_23, a_7);
+    r_ff = r_3z;
 l_capnp_28:;
     r_xo = r_ff.f1;
     if (!(r_ff.f0 == 0u)) { r_us = 0u; r_1x = 1u; goto l_return_pr; }
@@ -2638,8 +2638,8 @@ l_std_4l:;
     return;
 }
 
-/* capnp_pointers::pointers::sizes::add_object::<#70170357b7303457> */
-static NEVER u8 capnp_pointers_pointers_sizes_add_object_70170357b7303457(u8 *a_1, u32 a_2, u32 a_3, u8 *a_4)
+/* capnp_objects::pointers::sizes::add_object::<#70170357b7303457> */
+static NEVER u8 capnp_objects_pointers_sizes_add_object_70170357b7303457(u8 *a_1, u32 a_2, u32 a_3, u8 *a_4)
 {
     A(8) u8 slot_1[64];
     A(8) u8 slot_2[56];
@@ -2726,14 +2726,14 @@ static NEVER u8 capnp_pointers_pointers_sizes_add_object_70170357b7303457(u8 *a_
     switch (r_r5) {
     case 0u: { r_8m = 0ull; goto l_capnp_my; }
     case 1u: { r_8m = 0ull; goto l_capnp_my; }
-    case 3u: goto l_arm_cp;
+    case 3u: goto l_arm_o8;
     case 2u: goto l_arm_1x;
     case 4u: goto l_arm_nl;
     case 5u: goto l_arm_kb;
     default: goto l_noarm_e1;
     }
-l_arm_cp:;
-    r_8m = (u64)(((ld64((((u8 *)switch_table_capnp_pointers_pointers_sizes_add_object__d0ffe7b3) + (i64)(8 * (u64)(r_z4 & 255u)))) * (u64)r_uq) + 63ull) >> 6ull);
+l_arm_o8:;
+    r_8m = (u64)(((ld64((((u8 *)switch_table_capnp_objects_pointers_sizes_add_object_7_ce50ad0a) + (i64)(8 * (u64)(r_z4 & 255u)))) * (u64)r_uq) + 63ull) >> 6ull);
     goto l_capnp_my;
 l_arm_1x:;
     r_8m = (u64)((u32)(r_z4 >> 16u) + (r_z4 & 65535u));
@@ -2846,8 +2846,8 @@ l_join_x4:;
     switch ((u8)((u8)r_qw & 3u)) {
     case 0u: goto l_arm_vb;
     case 1u: goto l_arm_ui;
-    case 2u: goto l_after_m8;
-    case 3u: goto l_after_m8;
+    case 2u: goto l_after_j5;
+    case 3u: goto l_after_j5;
     default: goto l_default_e1;
     }
 l_arm_vb:;
@@ -2898,20 +2898,20 @@ l_arm_h4:;
 l_arm_dt:;
     st64(a_4, (r_yz_1 + r_es_3));
     if (r_y6 == 0ull) goto l_loop_aa;
-    goto l_join_pd;
+    goto l_join_z3;
 l_arm_0l:;
     st32(r_08_3, 27u);
     st32(r_m3_3, 0u);
     st64(r_xz_4, 0xffffffffffffffffull);
     r_fk = 1u;
     goto l_return_ri;
-l_join_pd:;
-    u8 r_xs = capnp_pointers_pointers_sizes_add_pointers_70170357b7303457(slot_1, (r_6l + r_az_4), r_12, r_53, a_4);
-    r_hf = r_xs;
+l_join_z3:;
+    u8 r_u5 = capnp_objects_pointers_sizes_add_pointers_70170357b7303457(slot_1, (r_6l + r_az_4), r_12, r_53, a_4);
+    r_hf = r_u5;
     goto l_capnp_5o;
 l_arm_ui:;
     r_ep_1 = (u64)(r_qw >> 32ull);
-    if (!((u8)((u8)((u8)r_ep_1 & 7u) + 255u) < 5u)) goto l_after_m8;
+    if (!((u8)((u8)((u8)r_ep_1 & 7u) + 255u) < 5u)) goto l_after_j5;
     r_c6_1 = (u64)(((ld64(away(away(((u8 *)switch_table_main_17), 8 * (r_ep_1 & 7ull)), 0xfffffffffffffff8ull)) * (u64)(r_qw >> 35ull)) + 63ull) >> 6ull);
     if (r_n1) { r_dq_1 = 25u; goto l_arm_h4_1; }
     if (!t_0c_1) goto l_join_bd_1;
@@ -2952,9 +2952,9 @@ l_arm_h4_1:;
     st64(r_xz_4, 0ull);
     r_fk = 1u;
     goto l_return_ri;
-l_after_m8:;
-    u8 r_sl = capnp_pointers_pointers_sizes_add_object_70170357b7303457(slot_1, r_sr, r_e3, a_4);
-    r_hf = r_sl;
+l_after_j5:;
+    u8 r_tx = capnp_objects_pointers_sizes_add_object_70170357b7303457(slot_1, r_sr, r_e3, a_4);
+    r_hf = r_tx;
     goto l_capnp_5o;
 l_default_e1:;
     UNREACHABLE();
@@ -3271,8 +3271,8 @@ l_capnp_6f:;
     return;
 }
 
-/* capnp_pointers::pointers::sizes::add_pointers::<#70170357b7303457> */
-static NEVER u8 capnp_pointers_pointers_sizes_add_pointers_70170357b7303457(u8 *a_1, u32 a_2, u32 a_3, u32 a_4, u8 *a_5)
+/* capnp_objects::pointers::sizes::add_pointers::<#70170357b7303457> */
+static NEVER u8 capnp_objects_pointers_sizes_add_pointers_70170357b7303457(u8 *a_1, u32 a_2, u32 a_3, u32 a_4, u8 *a_5)
 {
     u8 *r_su;
     u8 *r_xm;
@@ -3344,8 +3344,8 @@ l_join_5y:;
     switch ((u8)((u8)r_qw_1 & 3u)) {
     case 0u: goto l_arm_vb;
     case 1u: goto l_arm_ui;
-    case 2u: goto l_after_5m;
-    case 3u: goto l_after_5m;
+    case 2u: goto l_after_zg;
+    case 3u: goto l_after_zg;
     default: goto l_default_e1;
     }
 l_arm_vb:;
@@ -3390,12 +3390,12 @@ l_arm_up:;
     if (r_yz > (r_es_1 ^ 0xffffffffffffffffull)) { sink_qh = 27u; sink_dw = 0xffffffffffffffffull; goto l_capnp_y7; }
     st64(a_5, (r_yz + r_es_1));
     if (r_y6 == 0ull) goto l_loop_da;
-    u8 r_w8 = capnp_pointers_pointers_sizes_add_pointers_70170357b7303457(a_1, (r_6l + r_az), r_12, r_ra, a_5);
-    r_t4 = r_w8;
+    u8 r_oc = capnp_objects_pointers_sizes_add_pointers_70170357b7303457(a_1, (r_6l + r_az), r_12, r_ra, a_5);
+    r_t4 = r_oc;
     goto l_capnp_qq;
 l_arm_ui:;
     r_ep_1 = (u64)(r_qw_1 >> 32ull);
-    if (!((u8)((u8)((u8)r_ep_1 & 7u) + 255u) < 5u)) goto l_after_5m;
+    if (!((u8)((u8)((u8)r_ep_1 & 7u) + 255u) < 5u)) goto l_after_zg;
     r_c6 = (u64)(((ld64(away(away(((u8 *)switch_table_main_17), 8 * (r_ep_1 & 7ull)), 0xfffffffffffffff8ull)) * (u64)(r_qw_1 >> 35ull)) + 63ull) >> 6ull);
     if (r_30) { sink_qh = 25u; sink_dw = 0ull; goto l_capnp_y7; }
     t_0c = (ld8(a_1) == 0u);
@@ -3426,9 +3426,9 @@ l_arm_8q:;
     if (r_yz_1 > (r_c6 ^ 0xffffffffffffffffull)) { sink_qh = 27u; sink_dw = 0xffffffffffffffffull; goto l_capnp_y7; }
     st64(a_5, (r_yz_1 + r_c6));
     goto l_loop_da;
-l_after_5m:;
-    u8 r_bd = capnp_pointers_pointers_sizes_add_object_70170357b7303457(a_1, r_7m, a_4, a_5);
-    r_t4 = r_bd;
+l_after_zg:;
+    u8 r_z8 = capnp_objects_pointers_sizes_add_object_70170357b7303457(a_1, r_7m, a_4, a_5);
+    r_t4 = r_z8;
     goto l_capnp_qq;
 l_default_e1:;
     UNREACHABLE();
@@ -4065,10 +4065,10 @@ l_join_qu:;
     r_iu = 0ull;
     goto l_join_9n;
 l_loop_7z:;
-    if (r_2l == 0ull) goto l_arm_72;
+    if (r_2l == 0ull) goto l_arm_jj;
     if (ld64(away(r_5a, 8ull)) < 0x800000000ull) { u8 *r_1 = away(r_5a, 24ull); u64 r_2 = (r_2l + 0xffffffffffffffffull); r_5a = r_1; r_2l = r_2; goto l_loop_7z; }
     goto l_join_qu;
-l_arm_72:;
+l_arm_jj:;
     if (!(r_qw_2 == 0ull)) { r_r9 = 0ull; r_gj = 0ull; goto l_arm_pg; }
     stp(slot_8, r_mb);
     st64((slot_8 + 8), r_qw_2);
@@ -4515,8 +4515,9 @@ l_join_9n:;
 l_core_jc_1:;
     u64 r_36_1 = (r_iu + 1ull);
     if (!(r_36_1 == r_qw_2)) { r_iu = r_36_1; goto l_join_9n; }
-    if (r_qw_3 == 0ull) { r_o4 = 27u; r_hd = r_qw_1; r_67 = r_rv; r_vb = r_qw; r_4x = r_tp; r_8d = 0xffffffffffffffffull; r_po = 0u; goto l_arm_uu; }
+    if (r_qw_3 == 0ull) goto l_capnp_5s;
     rattle_dealloc(r_mb);
+l_capnp_5s:;
     r_o4 = 27u;
     r_hd = r_qw_1;
     r_67 = r_rv;
@@ -9252,8 +9253,8 @@ l_join_s8:;
     goto l_common_68;
 }
 
-/* capnp_pointers::pointers::canonical::test_children::<#1e87a151ef20e12e> */
-static struct s_i8_i32 capnp_pointers_pointers_canonical_test_children_1e87a1_c3c6e6a7(u8 *a_1, u32 a_2, u32 a_3, u32 a_4, u32 a_5, u8 *a_6)
+/* capnp_objects::pointers::canonical::test_children::<#1e87a151ef20e12e> */
+static struct s_i8_i32 capnp_objects_pointers_canonical_test_children_1e87a151ef20e12e(u8 *a_1, u32 a_2, u32 a_3, u32 a_4, u32 a_5, u8 *a_6)
 {
     u8 *r_xz;
     u8 *r_xm;
@@ -9428,14 +9429,14 @@ l_join_p3:;
     r_w0 = (r_l6 + r_az);
     r_w0_1 = (r_w0 + r_12);
     r_ts_2 = (r_y6 == 0ull);
-    if (!r_ts_2) goto l_join_5r;
+    if (!r_ts_2) goto l_join_gc;
     struct s_i8_i32 t_ph = (struct s_i8_i32){ 0u, 0u };
     t_ph.f1 = r_w0_1;
     r_d4 = t_ph;
     goto l_capnp_o7;
-l_join_5r:;
-    struct s_i8_i32 r_e9_1 = capnp_pointers_pointers_canonical_test_children_1e87a1_c3c6e6a7(a_1, r_w0, r_12, r_y0, r_w0_1, a_6);
-    r_d4 = r_e9_1;
+l_join_gc:;
+    struct s_i8_i32 r_iq = capnp_objects_pointers_canonical_test_children_1e87a151ef20e12e(a_1, r_w0, r_12, r_y0, r_w0_1, a_6);
+    r_d4 = r_iq;
 l_capnp_o7:;
     r_xo = r_d4.f1;
     if (!(r_d4.f0 == 0u)) { r_tu = 0u; r_di = 1u; goto l_capnp_cm; }
@@ -9477,7 +9478,7 @@ l_capnp_cm:;
     goto l_capnp_7u;
 l_arm_ui:;
     r_ep_1 = (u64)(r_qw_1 >> 32ull);
-    if (!((u8)((u8)((u8)r_ep_1 & 7u) + 255u) < 5u)) goto l_join_p8;
+    if (!((u8)((u8)((u8)r_ep_1 & 7u) + 255u) < 5u)) goto l_join_y4;
     r_ij = (u64)(r_qw_1 >> 35ull);
     r_c6 = (u64)(((ld64(away(away(((u8 *)switch_table_main_17), 8 * (r_ep_1 & 7ull)), 0xfffffffffffffff8ull)) * r_ij) + 63ull) >> 6ull);
     t_0c_1 = (ld8(a_1) == 0u);
@@ -9547,9 +9548,9 @@ l_capnp_cm_1:;
     r_i6_1.f1 = r_tu_1;
     r_cp = r_i6_1;
     goto l_capnp_7u;
-l_join_p8:;
-    struct s_i8_i32 r_r7 = capnp_pointers_pointers_canonical_test_list_1e87a151ef20e12e(a_1, r_7m, r_qw_1, a_4, r_l6, a_6);
-    r_cp = r_r7;
+l_join_y4:;
+    struct s_i8_i32 r_ct = capnp_objects_pointers_canonical_test_list_1e87a151ef20e12e(a_1, r_7m, r_qw_1, a_4, r_l6, a_6);
+    r_cp = r_ct;
 l_capnp_7u:;
     if (r_cp.f0 == 0u) { r_kr = r_cp.f1; goto l_loop_2y; }
     r_us = 0u;
@@ -9572,8 +9573,8 @@ l_return_pr:;
     return r_i6_2;
 }
 
-/* capnp_pointers::pointers::canonical::test_list::<#1e87a151ef20e12e> */
-static NEVER struct s_i8_i32 capnp_pointers_pointers_canonical_test_list_1e87a151ef20e12e(u8 *a_1, u32 a_2, u64 a_3, u32 a_4, u32 a_5, u8 *a_6)
+/* capnp_objects::pointers::canonical::test_list::<#1e87a151ef20e12e> */
+static NEVER struct s_i8_i32 capnp_objects_pointers_canonical_test_list_1e87a151ef20e12e(u8 *a_1, u32 a_2, u64 a_3, u32 a_4, u32 a_5, u8 *a_6)
 {
     A(8) u8 slot_1[56];
     u8 *r_xz;
@@ -9847,7 +9848,7 @@ l_capnp_f9:;
     r_ru = 34u;
     goto l_arm_ud;
 l_arm_s2:;
-    if (r_nz == a_5) goto l_arm_76;
+    if (r_nz == a_5) goto l_arm_6t;
     goto l_then_um;
 l_then_s2:;
     if (r_nz == a_2) goto l_arm_um;
@@ -9856,7 +9857,7 @@ l_join_s2:;
     if (r_nz == a_5) goto l_arm_um;
     goto l_then_um;
 l_capnp_s2:;
-    if (r_nz == a_5) goto l_arm_fy;
+    if (r_nz == a_5) goto l_arm_sj;
     goto l_then_um;
 l_arm_ud:;
     u8 or_i7 = (u8)((u8)((a_3 & 3ull) == 1ull) & (u8)(r_ru == 26u));
@@ -9877,9 +9878,9 @@ l_then_um:;
     r_us = 0u;
     r_1x = 1u;
     goto l_return_pr;
-l_arm_76:;
+l_arm_6t:;
     r_xz_3 = away(a_6, 24ull);
-    u64 r_1q = (ld64((((u8 *)switch_table_capnp_pointers_pointers_canonical_test_li_58523f26) + (i64)(8 * (u64)r_xq))) * r_ij);
+    u64 r_1q = (ld64((((u8 *)switch_table_capnp_objects_pointers_canonical_test_lis_2e4582d4) + (i64)(8 * (u64)r_xq))) * r_ij);
     r_eh_1 = (a_5 + (u32)(u64)(r_1q >> 6ull));
     r_4i = (r_1q & 63ull);
     if (r_4i == 0ull) { r_us = r_eh_1; r_1x = 0u; goto l_return_pr; }
@@ -9892,10 +9893,10 @@ l_arm_76:;
     r_us = 0u;
     r_1x = 1u;
     goto l_return_pr;
-l_arm_fy:;
-    struct s_i8_i32 r_0z = capnp_pointers_pointers_canonical_test_children_1e87a1_c3c6e6a7(a_1, a_5, r_12_2, (a_4 + 0xffffffffu), (a_5 + r_12_2), a_6);
-    r_us = r_0z.f1;
-    r_1x = r_0z.f0;
+l_arm_sj:;
+    struct s_i8_i32 r_z9 = capnp_objects_pointers_canonical_test_children_1e87a151ef20e12e(a_1, a_5, r_12_2, (a_4 + 0xffffffffu), (a_5 + r_12_2), a_6);
+    r_us = r_z9.f1;
+    r_1x = r_z9.f0;
     goto l_return_pr;
 l_arm_bb:;
     r_y0_1 = (a_4 + 0xffffffffu);
@@ -9912,9 +9913,9 @@ l_arm_bb:;
     goto l_return_pr;
 l_join_1x:;
     if (r_68_1 == 0u) { r_us = r_ll; r_1x = 0u; goto l_return_pr; }
-    struct s_i8_i32 r_fj = capnp_pointers_pointers_canonical_test_rows_1e87a151ef20e12e(a_1, r_ll, t_xg, r_py, t_c8, r_y0_1, a_6);
-    r_us = r_fj.f1;
-    r_1x = r_fj.f0;
+    struct s_i8_i32 r_qx = capnp_objects_pointers_canonical_test_rows_1e87a151ef20e12e(a_1, r_ll, t_xg, r_py, t_c8, r_y0_1, a_6);
+    r_us = r_qx.f1;
+    r_1x = r_qx.f0;
     goto l_return_pr;
 l_arm_um:;
     u64 r_qw_5 = ld64(r_xz);
@@ -9933,8 +9934,8 @@ l_return_pr:;
     return r_i6;
 }
 
-/* capnp_pointers::pointers::canonical::test_rows::<#1e87a151ef20e12e> */
-static struct s_i8_i32 capnp_pointers_pointers_canonical_test_rows_1e87a151ef20e12e(u8 *a_1, u32 a_2, u16 a_3, u16 a_4, u32 a_5, u32 a_6, u8 *a_7)
+/* capnp_objects::pointers::canonical::test_rows::<#1e87a151ef20e12e> */
+static struct s_i8_i32 capnp_objects_pointers_canonical_test_rows_1e87a151ef20e12e(u8 *a_1, u32 a_2, u16 a_3, u16 a_4, u32 a_5, u32 a_6, u8 *a_7)
 {
     u32 r_m2;
     u32 r_m2_1;
@@ -9985,14 +9986,14 @@ static struct s_i8_i32 capnp_pointers_pointers_canonical_test_rows_1e87a151ef20e
 l_join_l2:;
     r_kq_1 = ((r_68 * (u32)indvars_lg) + a_2);
     r_w0 = (r_kq_1 + r_m2);
-    if (!r_kh_1) goto l_join_0e;
+    if (!r_kh_1) goto l_join_hy;
     struct s_i8_i32 t_ph = (struct s_i8_i32){ 0u, 0u };
     t_ph.f1 = r_23;
     r_ff = t_ph;
     goto l_capnp_28;
-l_join_0e:;
-    struct s_i8_i32 r_vw = capnp_pointers_pointers_canonical_test_children_1e87a1_c3c6e6a7(a_1, r_w0, r_m2_1, a_6, r_23, a_7);
-    r_ff = r_vw;
+l_join_hy:;
+    struct s_i8_i32 r_sy = capnp_objects_pointers_canonical_test_children_1e87a151ef20e12e(a_1, r_w0, r_m2_1, a_6, r_23, a_7);
+    r_ff = r_sy;
 l_capnp_28:;
     r_xo = r_ff.f1;
     if (!(r_ff.f0 == 0u)) { r_us = 0u; r_1x = 1u; goto l_return_pr; }
@@ -10587,7 +10588,7 @@ int main(int count, char **words)
     u64 r_es;
     u64 r_ij;
     u64 r_c6;
-    u64 r_m6_1;
+    u64 r_m6_2;
     u64 r_nb_1;
     u64 r_qs_1;
     u32 r_ff_2;
@@ -10633,33 +10634,41 @@ int main(int count, char **words)
     u8 r_jh_1;
     u8 *r_5a_1;
     u64 r_2l_1;
-    u8 *t_6c_1;
+    u8 r_ts_67;
     u64 r_r9_1;
     u64 r_gj_1;
-    u64 r_kh_1;
+    u64 r_sw;
     u8 *r_x5_35;
     u8 *r_zd_31;
+    u8 *t_6c_1;
     u64 r_52_21;
     u64 r_oe;
     u8 *r_zd_33;
     u8 *r_zo_1;
     u8 *r_lk_6;
-    u8 trunc_mp;
-    u32 r_ix_6;
+    u32 r_rh;
+    u8 r_ix_6;
     u32 r_fs_1;
-    u64 r_sk;
-    u8 *r_xw_19;
-    u64 r_38_40;
-    u64 r_38_41;
+    u32 r_sk;
+    u64 r_ve;
+    u64 r_bk_4;
+    u32 r_pp_1;
+    u32 r_pa_1;
+    u8 r_vh;
+    u8 *r_f9;
+    u64 r_jl;
+    u64 r_jc_1;
     u64 r_iu_11;
     u8 *r_a7_34;
-    u32 r_bk_3;
-    u64 r_iu_12;
-    u8 *r_a7_35;
-    u32 r_4g_1;
+    u64 r_4g_1;
+    u32 r_uk;
+    u32 r_o2_1;
+    u8 r_zu;
+    u8 *r_lg_1;
+    u64 r_8u_4;
     u64 r_iu_10;
-    u8 *r_a7_36;
-    u64 r_a7_37;
+    u8 *r_a7_35;
+    u64 r_a7_36;
     u8 *r_x5_38;
     u8 *r_7u_2;
     u64 r_j3_2;
@@ -10704,18 +10713,18 @@ int main(int count, char **words)
     u64 r_il_5;
     u64 r_fe_3;
     u8 r_bk_5;
-    u64 r_iu_13;
-    u8 *r_a7_46;
+    u64 r_iu_12;
+    u8 *r_a7_45;
     u64 r_74;
     u32 r_y0;
     u64 r_0o_1;
     u8 r_g6_2;
-    u64 r_iu_14;
-    u8 *r_a7_47;
+    u64 r_iu_13;
+    u8 *r_a7_46;
     u8 r_s6_1;
     u8 r_jh_3;
-    u64 r_iu_15;
-    u8 *r_a7_48;
+    u64 r_iu_14;
+    u8 *r_a7_47;
     u8 *r_x5_47;
     u64 r_52_33;
     u64 t_nb;
@@ -10750,8 +10759,8 @@ int main(int count, char **words)
     u8 r_g6_3;
     u8 r_s6_2;
     u8 r_z5_1;
-    u64 r_iu_16;
-    u8 *r_a7_55;
+    u64 r_iu_15;
+    u8 *r_a7_54;
     u64 r_38_48;
     u64 r_38_49;
     u64 r_38_50;
@@ -10759,7 +10768,7 @@ int main(int count, char **words)
     u8 *t_f6;
     u64 r_eb;
     u64 r_i4;
-    u64 r_5q_15;
+    u64 r_gz;
     u8 *r_lk_11;
     u8 *r_s3_1;
     u8 *t_6c_2;
@@ -10769,24 +10778,24 @@ int main(int count, char **words)
     u64 r_24_6;
     u8 *r_2b_22;
     u8 *r_x5_59;
-    u8 *r_zd_57;
+    u8 *r_zd_56;
     u8 *r_lk_12;
     u8 *r_89_10;
     u8 *r_gs_4;
     u8 *r_a8_8;
-    u64 r_qw_27;
+    u64 r_qw_26;
     u64 r_ep_2;
     u64 r_y6_1;
     u64 r_q7_3;
     u64 r_lc_6;
-    u64 r_m6_2;
+    u64 r_m6_3;
     u64 r_i9;
     u32 r_12_4;
     u32 r_az_1;
     u32 r_qt;
     u32 r_ff_3;
     u32 r_68_2;
-    u8 r_ts_108;
+    u8 r_ts_106;
     struct s_i8_i32 r_d4;
     u32 r_xo;
     u32 r_68_3;
@@ -10794,7 +10803,7 @@ int main(int count, char **words)
     u8 r_di;
     u64 r_ij_1;
     u64 r_c6_2;
-    u64 r_m6_3;
+    u64 r_m6_4;
     u64 r_i9_1;
     u32 narrow_j8;
     u32 r_12_5;
@@ -10832,24 +10841,24 @@ int main(int count, char **words)
     u32 r_h7;
     u8 r_g6_4;
     u8 r_s6_3;
-    u8 r_sw;
+    u8 r_sw_1;
     u8 r_4g;
     u8 r_2g;
     u8 r_r5_15;
     u8 *r_xw_23;
-    u8 r_sw_1;
+    u8 r_sw_2;
     u8 spec_8q;
     u64 r_38_56;
     u64 r_38_57;
     u8 r_bk_7;
+    u64 r_iu_16;
+    u8 *r_a7_62;
+    u8 r_jx;
     u64 r_iu_17;
     u8 *r_a7_63;
-    u8 r_jx;
+    u8 r_2c_4;
     u64 r_iu_18;
     u8 *r_a7_64;
-    u8 r_2c_4;
-    u64 r_iu_19;
-    u8 *r_a7_65;
     u8 r_sv;
     u8 *r_ix_7;
     u8 *r_s4_1;
@@ -11743,7 +11752,7 @@ l_capnp_nn:;
     switch (r_ml) {
     case 0u: goto l_arm_oq;
     case 1u: goto l_arm_hk;
-    case 2u: goto l_arm_q6;
+    case 2u: goto l_arm_5b;
     case 3u: goto l_arm_8y;
     case 4u: goto l_arm_xs;
     case 5u: goto l_arm_oq_1;
@@ -11882,14 +11891,14 @@ l_join_4w:;
     r_ff_1 = (r_az + 1u);
     r_68 = (r_ff_1 + r_12_1);
     r_ts_55 = (r_y6 == 0ull);
-    if (!r_ts_55) goto l_join_ab;
+    if (!r_ts_55) goto l_join_q3;
     struct s_i8_i32 t_ph = (struct s_i8_i32){ 0u, 0u };
     t_ph.f1 = r_68;
     r_b5_1 = t_ph;
     goto l_capnp_0j;
-l_join_ab:;
-    struct s_i8_i32 r_cg_1 = capnp_pointers_pointers_canonical_test_children_701703_62c5c8fc(slot_3, r_ff_1, r_12_1, (r_ax + 0xffffffffu), r_68, slot_2);
-    r_b5_1 = r_cg_1;
+l_join_q3:;
+    struct s_i8_i32 r_m6_1 = capnp_objects_pointers_canonical_test_children_70170357b7303457(slot_3, r_ff_1, r_12_1, (r_ax + 0xffffffffu), r_68, slot_2);
+    r_b5_1 = r_m6_1;
 l_capnp_0j:;
     if (!(r_b5_1.f0 == 0u)) { r_gy = 1u; goto l_arm_s8; }
     if (r_az == 0u) goto l_join_vo;
@@ -11912,13 +11921,13 @@ l_then_bv:;
     st8((slot_2 + 44), 9u);
     goto l_arm_od;
 l_arm_st:;
-    if (!((u8)((u8)((u8)r_ep_1 & 7u) + 255u) < 5u)) goto l_capnp_98;
+    if (!((u8)((u8)((u8)r_ep_1 & 7u) + 255u) < 5u)) goto l_capnp_vn;
     r_ij = (u64)(r_qw_12 >> 35ull);
     r_c6 = (u64)(((ld64(away(away(((u8 *)switch_table_main_17), 8 * (r_ep_1 & 7ull)), 0xfffffffffffffff8ull)) * r_ij) + 63ull) >> 6ull);
-    r_m6_1 = ((u64)(r_qw_12 >> 2ull) & 0x3fffffffull);
+    r_m6_2 = ((u64)(r_qw_12 >> 2ull) & 0x3fffffffull);
     r_nb_1 = (r_gw & 0xffffffffull);
-    if (!(r_m6_1 < 0x20000000ull)) goto l_else_j9_1;
-    if (r_m6_1 < r_nb_1) { r_qs_1 = (r_m6_1 + 1ull); goto l_arm_xd_1; }
+    if (!(r_m6_2 < 0x20000000ull)) goto l_else_j9_1;
+    if (r_m6_2 < r_nb_1) { r_qs_1 = (r_m6_2 + 1ull); goto l_arm_xd_1; }
     t_n1 = 0u;
     r_r3_1 = 0u;
     r_so = 23u;
@@ -11926,7 +11935,7 @@ l_arm_st:;
     r_qk = 0ull;
     goto l_capnp_6w;
 l_else_j9_1:;
-    if (r_m6_1 == 0x3fffffffull) { r_qs_1 = 0ull; goto l_arm_xd_1; }
+    if (r_m6_2 == 0x3fffffffull) { r_qs_1 = 0ull; goto l_arm_xd_1; }
     t_n1 = 0u;
     r_r3_1 = 0u;
     r_so = 23u;
@@ -11951,9 +11960,9 @@ l_join_cw:;
     st32(r_a8_2, r_ff_2);
     st8((slot_2 + 44), 7u);
     goto l_arm_od;
-l_capnp_98:;
-    struct s_i8_i32 r_46_1 = capnp_pointers_pointers_canonical_test_list_70170357b7303457(slot_3, 0u, r_qw_12, r_ax, 1u, slot_2);
-    u8 t_5h = r_46_1.f0;
+l_capnp_vn:;
+    struct s_i8_i32 r_l9 = capnp_objects_pointers_canonical_test_list_70170357b7303457(slot_3, 0u, r_qw_12, r_ax, 1u, slot_2);
+    u8 t_5h = r_l9.f0;
     if (t_5h == 0u) { t_n1 = 1u; r_r3_1 = 1u; r_so = 0u; r_j6 = 0u; r_qk = 0ull; goto l_capnp_6w; }
     r_gy = t_5h;
     goto l_arm_s8;
@@ -12101,48 +12110,62 @@ l_capnp_td:;
     stp((slot_10 + 8), slot_1);
     memset((slot_10 + 16), 0u, 16);
     goto l_capnp_oa;
-l_arm_q6:;
+l_arm_5b:;
     memset(slot_5, 0u, 24);
     if (r_jc < 0x100000000ull) { r_5a_1 = r_69; r_2l_1 = r_jc; goto l_loop_7z_1; }
 l_join_qu_2:;
     r_iu_10 = 0ull;
     goto l_join_9n_10;
 l_loop_7z_1:;
-    if (r_2l_1 == 0ull) goto l_arm_by;
+    if (r_2l_1 == 0ull) goto l_arm_jj;
     if (ld64(away(r_5a_1, 8ull)) < 0x800000000ull) { u8 *r_13 = away(r_5a_1, 24ull); u64 r_14 = (r_2l_1 + 0xffffffffffffffffull); r_5a_1 = r_13; r_2l_1 = r_14; goto l_loop_7z_1; }
     goto l_join_qu_2;
-l_arm_by:;
-    t_6c_1 = (slot_4 + 56);
-    st64(t_6c_1, 0ull);
-    if (r_jc == 0ull) { r_4g_1 = 12u; goto l_std_at_3; }
+l_arm_jj:;
+    r_ts_67 = (r_jc == 0ull);
+    if (r_ts_67) { r_sw = 0ull; goto l_capnp_4o; }
     r_r9_1 = 0ull;
     r_gj_1 = 0ull;
 l_arm_pg_1:;
-    r_kh_1 = ((u64)(ld64(away(away(r_69, (r_gj_1 * 24ull)), 8ull)) >> 3ull) + r_r9_1);
+    u64 r_kh_1 = ((u64)(ld64(away(away(r_69, (r_gj_1 * 24ull)), 8ull)) >> 3ull) + r_r9_1);
     u64 r_c4_10 = (r_gj_1 + 1ull);
-    if (!(r_c4_10 == r_jc)) { r_r9_1 = r_kh_1; r_gj_1 = r_c4_10; goto l_arm_pg_1; }
-    stp(slot_3, r_69);
-    r_x5_35 = (slot_3 + 8);
+    if (r_c4_10 == r_jc) { r_sw = r_kh_1; goto l_capnp_4o; }
+    r_r9_1 = r_kh_1;
+    r_gj_1 = r_c4_10;
+    goto l_arm_pg_1;
+l_capnp_4o:;
+    stp(slot_4, r_69);
+    r_x5_35 = (slot_4 + 8);
     st64(r_x5_35, r_jc);
-    r_zd_31 = (slot_3 + 16);
+    r_zd_31 = (slot_4 + 16);
     st64(r_zd_31, r_6q_1);
-    st32((slot_3 + 24), r_ax);
-    st32((slot_3 + 28), 0u);
-    st64((slot_3 + 32), r_kh_1);
+    st32((slot_4 + 24), r_ax);
+    st32((slot_4 + 28), 0u);
+    st64((slot_4 + 32), r_sw);
+    t_6c_1 = (slot_3 + 56);
+    st64(t_6c_1, 0ull);
+    if (!r_ts_67) goto l_arm_a8;
+    r_4g_1 = 0ull;
+    r_uk = 0u;
+    r_o2_1 = 12u;
+    r_zu = 1u;
+    r_lg_1 = r_69;
+    r_8u_4 = r_6q_1;
+    goto l_std_at_3;
+l_arm_a8:;
     r_52_21 = ld64(away(r_69, 8ull));
-    if (r_52_21 < 8ull) { r_bk_3 = 23u; goto l_arm_qu_1; }
+    if (r_52_21 < 8ull) { r_rh = 23u; goto l_capnp_nb; }
     if (!(r_td == 1u)) { r_oe = r_gk_2; goto l_arm_gr; }
-    if (r_gk_2 == 0ull) { r_bk_3 = 30u; goto l_arm_qu_1; }
+    if (r_gk_2 == 0ull) { r_rh = 30u; goto l_capnp_nb; }
     r_oe = (r_gk_2 + 0xffffffffffffffffull);
 l_arm_gr:;
     u8 *r_lz_8 = ldp(r_69);
-    st64(slot_4, 0ull);
-    st64((slot_4 + 8), (u64)(uptr)slot_3);
-    memset((slot_4 + 16), 0u, 16);
-    stp((slot_4 + 32), r_lz_8);
-    st64((slot_4 + 40), (r_52_21 & 0xfffffffffffffff8ull));
-    st32((slot_4 + 48), 0u);
-    st32((slot_4 + 52), 0u);
+    st64(slot_3, 0ull);
+    st64((slot_3 + 8), (u64)(uptr)slot_4);
+    memset((slot_3 + 16), 0u, 16);
+    stp((slot_3 + 32), r_lz_8);
+    st64((slot_3 + 40), (r_52_21 & 0xfffffffffffffff8ull));
+    st32((slot_3 + 48), 0u);
+    st32((slot_3 + 52), 0u);
     st32(t_6c_1, r_ax);
     r_zd_33 = (slot_2 + 16);
     memset(slot_2, 0u, 16);
@@ -12154,70 +12177,72 @@ l_arm_gr:;
     st64((slot_2 + 32), r_u2);
     st64((slot_2 + 40), r_oe);
     st64((slot_2 + 48), 0ull);
-    u8 r_4b = capnp_pointers_pointers_sizes_add_object_70170357b7303457(slot_4, 0u, r_ax, slot_2);
-    trunc_mp = (u8)(r_4b & 1);
-    if (trunc_mp) goto l_arm_t6;
-    r_ix_6 = ld32(slot_2);
-    r_fs_1 = ld32((slot_2 + 4));
-    r_sk = ld64((slot_2 + 8));
+    u8 r_ew = capnp_objects_pointers_sizes_add_object_70170357b7303457(slot_3, 0u, r_ax, slot_2);
+    if ((u8)(r_ew & 1)) goto l_arm_t6;
+    r_ix_6 = 0u;
+    r_fs_1 = ld32(slot_2);
+    r_sk = ld32((slot_2 + 4));
+    r_ve = ld64((slot_2 + 8));
     goto l_capnp_wf;
 l_arm_t6:;
-    r_ix_6 = (u32)ld8(r_zd_33);
-    r_fs_1 = ld32(r_zo_1);
-    r_sk = ld64(r_lk_6);
+    r_ix_6 = 1u;
+    r_fs_1 = (u32)ld8(r_zd_33);
+    r_sk = ld32(r_zo_1);
+    r_ve = ld64(r_lk_6);
+    goto l_capnp_wf;
+l_capnp_nb:;
+    r_bk_4 = 0ull;
+    r_pp_1 = 0u;
+    r_pa_1 = r_rh;
+    r_vh = 1u;
+    r_f9 = r_69;
+    r_jl = r_jc;
+    r_jc_1 = r_6q_1;
+    goto l_join_qu_3;
 l_capnp_wf:;
-    r_xw_19 = ldp(slot_3);
-    r_38_40 = ld64(r_x5_35);
-    r_38_41 = ld64(r_zd_31);
-    if (r_38_40 == 0ull) goto l_std_at_4;
+    u8 *r_xw_19 = ldp(slot_4);
+    u64 r_38_40 = ld64(r_x5_35);
+    u64 r_38_41 = ld64(r_zd_31);
+    if (r_38_40 == 0ull) { r_4g_1 = r_ve; r_uk = r_sk; r_o2_1 = r_fs_1; r_zu = r_ix_6; r_lg_1 = r_xw_19; r_8u_4 = r_38_41; goto l_std_at_3; }
+    r_bk_4 = r_ve;
+    r_pp_1 = r_sk;
+    r_pa_1 = r_fs_1;
+    r_vh = r_ix_6;
+    r_f9 = r_xw_19;
+    r_jl = r_38_40;
+    r_jc_1 = r_38_41;
+l_join_qu_3:;
     r_iu_11 = 0ull;
 l_join_9n_11:;
-    r_a7_34 = (r_xw_19 + (i64)((r_iu_11 * 24ull)));
+    r_a7_34 = (r_f9 + (i64)((r_iu_11 * 24ull)));
     if (ld64((r_a7_34 + 16)) == 0ull) goto l_core_jc_9;
     rattle_dealloc(ldp(r_a7_34));
 l_core_jc_9:;
     u64 r_36_17 = (r_iu_11 + 1ull);
-    if (!(r_36_17 == r_38_40)) { r_iu_11 = r_36_17; goto l_join_9n_11; }
-l_std_at_4:;
-    if (r_38_41 == 0ull) goto l_capnp_hk;
-    rattle_dealloc(r_xw_19);
-    goto l_capnp_hk;
-l_arm_qu_1:;
-    r_iu_12 = 0ull;
-l_join_9n_12:;
-    r_a7_35 = (r_69 + (i64)((r_iu_12 * 24ull)));
+    if (r_36_17 == r_jl) { r_4g_1 = r_bk_4; r_uk = r_pp_1; r_o2_1 = r_pa_1; r_zu = r_vh; r_lg_1 = r_f9; r_8u_4 = r_jc_1; goto l_std_at_3; }
+    r_iu_11 = r_36_17;
+    goto l_join_9n_11;
+l_std_at_3:;
+    if (r_8u_4 == 0ull) goto l_capnp_ou;
+    rattle_dealloc(r_lg_1);
+    goto l_capnp_ou;
+l_join_9n_10:;
+    r_a7_35 = (r_69 + (i64)((r_iu_10 * 24ull)));
     if (ld64((r_a7_35 + 16)) == 0ull) goto l_core_jc_10;
     rattle_dealloc(ldp(r_a7_35));
 l_core_jc_10:;
-    u64 r_36_18 = (r_iu_12 + 1ull);
-    if (r_36_18 == r_jc) { r_4g_1 = r_bk_3; goto l_std_at_3; }
-    r_iu_12 = r_36_18;
-    goto l_join_9n_12;
-l_std_at_3:;
-    if (r_6q_1 == 0ull) goto l_capnp_i0_1;
+    u64 r_36_18 = (r_iu_10 + 1ull);
+    if (!(r_36_18 == r_jc)) { r_iu_10 = r_36_18; goto l_join_9n_10; }
+    if (r_6q_1 == 0ull) goto l_capnp_5s_1;
     rattle_dealloc(r_69);
-    goto l_capnp_i0_1;
-l_join_9n_10:;
-    r_a7_36 = (r_69 + (i64)((r_iu_10 * 24ull)));
-    if (ld64((r_a7_36 + 16)) == 0ull) goto l_core_jc_11;
-    rattle_dealloc(ldp(r_a7_36));
-l_core_jc_11:;
-    u64 r_36_19 = (r_iu_10 + 1ull);
-    if (!(r_36_19 == r_jc)) { r_iu_10 = r_36_19; goto l_join_9n_10; }
-    if (r_6q_1 == 0ull) { r_o4 = 27u; r_hd = 0xffffffffffffffffull; r_67 = 0u; goto l_arm_uu; }
-    rattle_dealloc(r_69);
+l_capnp_5s_1:;
     r_o4 = 27u;
     r_hd = 0xffffffffffffffffull;
     r_67 = 0u;
     goto l_arm_uu;
-l_capnp_i0_1:;
-    r_o4 = r_4g_1;
-    r_hd = 0ull;
-    r_67 = 0u;
-    goto l_arm_uu;
-l_capnp_hk:;
-    if (trunc_mp) { r_o4 = r_ix_6; r_hd = r_sk; r_67 = r_fs_1; goto l_arm_uu; }
-    r_a7_37 = ((u64)((u64)r_fs_1 << 32ull) | (u64)r_ix_6);
+l_capnp_ou:;
+    if (!(r_zu == 0u)) { r_o4 = r_o2_1; r_hd = r_4g_1; r_67 = r_uk; goto l_arm_uu; }
+    r_a7_36 = ((u64)((u64)r_uk << 32ull) | (u64)r_o2_1);
     r_x5_38 = (slot_2 + 8);
     r_7u_2 = ((u8 *)g_static_26);
     r_j3_2 = 6ull;
@@ -12232,8 +12257,8 @@ l_join_c8_2:;
     goto l_arm_2v_2;
 l_join_fh_2:;
     st8((r_2b_9 + (i64)(r_il_2)), ld8((r_7u_2 + (i64)(r_il_2))));
-    u64 r_36_20 = (r_il_2 + 1ull);
-    if (!(r_36_20 == r_j3_2)) { r_il_2 = r_36_20; goto l_join_fh_2; }
+    u64 r_36_19 = (r_il_2 + 1ull);
+    if (!(r_36_19 == r_j3_2)) { r_il_2 = r_36_19; goto l_join_fh_2; }
 l_arm_2v_2:;
     st64(r_zd_14, r_5q_7);
     r_4j = r_j3_2;
@@ -12246,7 +12271,7 @@ l_std_my_2:;
 l_arm_8s:;
     u64 r_t9_10 = (r_j3_2 - r_4j);
     if (!(r_t9_10 == 0ull)) { u8 *r_16 = away(r_7u_2, r_4j); u64 r_17 = r_t9_10; r_7u_2 = r_16; r_j3_2 = r_17; goto l_join_c8_2; }
-    u8 r_y5 = capnp_messages_text_write_number_05c50f83f81b9c23(slot_17, r_a7_37);
+    u8 r_y5 = capnp_messages_text_write_number_05c50f83f81b9c23(slot_17, r_a7_36);
     if ((u8)(r_y5 & 1)) { r_jh_2 = 3u; goto l_capnp_td_1; }
     goto l_arm_qn;
 l_arm_un:;
@@ -12268,8 +12293,8 @@ l_join_c8_3:;
     goto l_arm_2v_3;
 l_join_fh_3:;
     st8((r_2b_11 + (i64)(r_il_3)), ld8((r_7u_3 + (i64)(r_il_3))));
-    u64 r_36_21 = (r_il_3 + 1ull);
-    if (!(r_36_21 == r_j3_3)) { r_il_3 = r_36_21; goto l_join_fh_3; }
+    u64 r_36_20 = (r_il_3 + 1ull);
+    if (!(r_36_20 == r_j3_3)) { r_il_3 = r_36_20; goto l_join_fh_3; }
 l_arm_2v_3:;
     st64(r_zd_14, r_5q_8);
     r_4j_1 = r_j3_3;
@@ -12282,7 +12307,7 @@ l_std_my_3:;
 l_arm_8s_1:;
     u64 r_t9_13 = (r_j3_3 - r_4j_1);
     if (!(r_t9_13 == 0ull)) { u8 *r_18 = away(r_7u_3, r_4j_1); u64 r_19 = r_t9_13; r_7u_3 = r_18; r_j3_3 = r_19; goto l_join_c8_3; }
-    u8 r_y5_1 = capnp_messages_text_write_number_05c50f83f81b9c23(slot_17, (r_sk & 0xffffffffull));
+    u8 r_y5_1 = capnp_messages_text_write_number_05c50f83f81b9c23(slot_17, (r_4g_1 & 0xffffffffull));
     if ((u8)(r_y5_1 & 1)) { r_jh_2 = 3u; goto l_capnp_td_1; }
     goto l_arm_qn_1;
 l_arm_un_1:;
@@ -12304,8 +12329,8 @@ l_join_c8_4:;
     goto l_arm_2v_4;
 l_join_fh_4:;
     st8((r_2b_13 + (i64)(r_il_4)), ld8((r_7u_4 + (i64)(r_il_4))));
-    u64 r_36_22 = (r_il_4 + 1ull);
-    if (!(r_36_22 == r_j3_4)) { r_il_4 = r_36_22; goto l_join_fh_4; }
+    u64 r_36_21 = (r_il_4 + 1ull);
+    if (!(r_36_21 == r_j3_4)) { r_il_4 = r_36_21; goto l_join_fh_4; }
 l_arm_2v_4:;
     st64(r_zd_14, r_5q_9);
     r_fe_2 = r_j3_4;
@@ -12369,10 +12394,10 @@ l_capnp_ti:;
     if ((u8)(r_wl & 1)) { r_bk_5 = 3u; goto l_capnp_qu; }
     goto l_loop_51;
 l_arm_ig:;
-    if (!((r_12_3 & 1u) == 0u)) goto l_join_qu_3;
+    if (!((r_12_3 & 1u) == 0u)) goto l_join_qu_4;
     u8 r_2a = capnp_layout_tool_frames_write_number_05c50f83f81b9c23(slot_17, 0u);
     if ((u8)(r_2a & 1)) { r_bk_5 = 3u; goto l_capnp_qu; }
-l_join_qu_3:;
+l_join_qu_4:;
     indvars_3k = 0ull;
     goto l_join_53;
 l_loop_vv:;
@@ -12403,8 +12428,8 @@ l_join_c8_5:;
     goto l_arm_2v_5;
 l_join_fh_5:;
     st8((r_2b_17 + (i64)(r_il_5)), ld8((r_7u_5 + (i64)(r_il_5))));
-    u64 r_36_23 = (r_il_5 + 1ull);
-    if (!(r_36_23 == r_j3_5)) { r_il_5 = r_36_23; goto l_join_fh_5; }
+    u64 r_36_22 = (r_il_5 + 1ull);
+    if (!(r_36_22 == r_j3_5)) { r_il_5 = r_36_22; goto l_join_fh_5; }
 l_arm_2v_5:;
     st64(r_zd_14, r_5q_10);
     r_fe_3 = r_j3_5;
@@ -12426,14 +12451,14 @@ l_arm_un_3:;
     st8(r_89_1, 1u);
     r_bk_5 = 3u;
 l_capnp_qu:;
-    r_iu_13 = 0ull;
-l_join_9n_13:;
-    r_a7_46 = (r_69 + (i64)((r_iu_13 * 24ull)));
-    if (ld64((r_a7_46 + 16)) == 0ull) goto l_core_jc_12;
-    rattle_dealloc(ldp(r_a7_46));
-l_core_jc_12:;
-    u64 r_36_24 = (r_iu_13 + 1ull);
-    if (!(r_36_24 == r_jc)) { r_iu_13 = r_36_24; goto l_join_9n_13; }
+    r_iu_12 = 0ull;
+l_join_9n_12:;
+    r_a7_45 = (r_69 + (i64)((r_iu_12 * 24ull)));
+    if (ld64((r_a7_45 + 16)) == 0ull) goto l_core_jc_11;
+    rattle_dealloc(ldp(r_a7_45));
+l_core_jc_11:;
+    u64 r_36_23 = (r_iu_12 + 1ull);
+    if (!(r_36_23 == r_jc)) { r_iu_12 = r_36_23; goto l_join_9n_12; }
     if (r_6q_1 == 0ull) { r_jh_3 = r_bk_5; goto l_capnp_td_2; }
     r_s6_1 = r_bk_5;
     goto l_return_f3;
@@ -12444,14 +12469,14 @@ l_arm_1h:;
     st64((slot_3 + 16), r_0o_1);
     r_g6_2 = capnp_layout_tool_engine_refuse_05c50f83f81b9c23(slot_17, slot_3);
     if (r_jc == 0ull) goto l_std_d0;
-    r_iu_14 = 0ull;
-l_join_9n_14:;
-    r_a7_47 = (r_69 + (i64)((r_iu_14 * 24ull)));
-    if (ld64((r_a7_47 + 16)) == 0ull) goto l_core_jc_13;
-    rattle_dealloc(ldp(r_a7_47));
-l_core_jc_13:;
-    u64 r_36_25 = (r_iu_14 + 1ull);
-    if (!(r_36_25 == r_jc)) { r_iu_14 = r_36_25; goto l_join_9n_14; }
+    r_iu_13 = 0ull;
+l_join_9n_13:;
+    r_a7_46 = (r_69 + (i64)((r_iu_13 * 24ull)));
+    if (ld64((r_a7_46 + 16)) == 0ull) goto l_core_jc_12;
+    rattle_dealloc(ldp(r_a7_46));
+l_core_jc_12:;
+    u64 r_36_24 = (r_iu_13 + 1ull);
+    if (!(r_36_24 == r_jc)) { r_iu_13 = r_36_24; goto l_join_9n_13; }
 l_std_d0:;
     if (r_6q_1 == 0ull) { r_jh_3 = r_g6_2; goto l_capnp_td_2; }
     r_s6_1 = r_g6_2;
@@ -12468,15 +12493,15 @@ l_arm_xs:;
     stp(slot_3, r_69);
     st64((slot_3 + 8), r_jc);
     st64((slot_3 + 16), r_6q_1);
-    if (r_jc > 1ull) { r_iu_15 = 0ull; goto l_join_9n_15; }
+    if (r_jc > 1ull) { r_iu_14 = 0ull; goto l_join_9n_14; }
     goto l_join_ay;
-l_join_9n_15:;
-    r_a7_48 = (r_69 + (i64)((r_iu_15 * 24ull)));
-    if (ld64((r_a7_48 + 16)) == 0ull) goto l_core_jc_14;
-    rattle_dealloc(ldp(r_a7_48));
-l_core_jc_14:;
-    u64 r_36_26 = (r_iu_15 + 1ull);
-    if (!(r_36_26 == r_jc)) { r_iu_15 = r_36_26; goto l_join_9n_15; }
+l_join_9n_14:;
+    r_a7_47 = (r_69 + (i64)((r_iu_14 * 24ull)));
+    if (ld64((r_a7_47 + 16)) == 0ull) goto l_core_jc_13;
+    rattle_dealloc(ldp(r_a7_47));
+l_core_jc_13:;
+    u64 r_36_25 = (r_iu_14 + 1ull);
+    if (!(r_36_25 == r_jc)) { r_iu_14 = r_36_25; goto l_join_9n_14; }
     if (r_6q_1 == 0ull) { r_z5_1 = 2u; goto l_capnp_f7_1; }
     r_s6_2 = 2u;
     goto l_return_f3_1;
@@ -12506,10 +12531,10 @@ l_join_6x:;
     goto l_capnp_zc;
 l_join_rl:;
     u64 r_5q_11 = (r_l5 + (u64)ld32((r_xw_20 + (i64)((u64)(r_rx << 2ull)))));
-    u64 r_36_27 = (r_rx + 1ull);
-    if (r_36_27 == r_we) { r_2z = r_5q_11; goto l_capnp_zc; }
+    u64 r_36_26 = (r_rx + 1ull);
+    if (r_36_26 == r_we) { r_2z = r_5q_11; goto l_capnp_zc; }
     r_l5 = r_5q_11;
-    r_rx = r_36_27;
+    r_rx = r_36_26;
     goto l_join_rl;
 l_capnp_zc:;
     r_j7 = (r_52_34 - r_2z);
@@ -12521,10 +12546,10 @@ l_join_hb:;
     r_rx_1 = r_a0_1;
 l_join_rl_1:;
     u64 r_5q_12 = (r_l5_1 + (u64)ld32((r_xw_20 + (i64)((u64)(r_rx_1 << 2ull)))));
-    u64 r_36_28 = (r_rx_1 + 1ull);
-    if (r_36_28 == indvars_rl) { r_6u = r_5q_12; goto l_capnp_mx; }
+    u64 r_36_27 = (r_rx_1 + 1ull);
+    if (r_36_27 == indvars_rl) { r_6u = r_5q_12; goto l_capnp_mx; }
     r_l5_1 = r_5q_12;
-    r_rx_1 = r_36_28;
+    r_rx_1 = r_36_27;
     goto l_join_rl_1;
 l_capnp_mx:;
     r_j7 = (r_6u + r_52_35);
@@ -12547,8 +12572,8 @@ l_join_c8_6:;
     goto l_arm_2v_6;
 l_join_fh_6:;
     st8((r_2b_20 + (i64)(r_il_6)), ld8((r_7u_6 + (i64)(r_il_6))));
-    u64 r_36_29 = (r_il_6 + 1ull);
-    if (!(r_36_29 == r_j3_6)) { r_il_6 = r_36_29; goto l_join_fh_6; }
+    u64 r_36_28 = (r_il_6 + 1ull);
+    if (!(r_36_28 == r_j3_6)) { r_il_6 = r_36_28; goto l_join_fh_6; }
 l_arm_2v_6:;
     st64(r_zd_14, r_5q_14);
     r_4j_2 = r_j3_6;
@@ -12620,19 +12645,20 @@ l_arm_os:;
     stp(slot_6, r_69);
     st64((slot_6 + 8), r_jc);
     st64((slot_6 + 16), r_6q_1);
-    if (r_jc > 1ull) { r_iu_16 = 0ull; goto l_join_9n_16; }
-    goto l_join_27;
-l_join_9n_16:;
-    r_a7_55 = (r_69 + (i64)((r_iu_16 * 24ull)));
-    if (ld64((r_a7_55 + 16)) == 0ull) goto l_core_jc_15;
-    rattle_dealloc(ldp(r_a7_55));
-l_core_jc_15:;
-    u64 r_36_30 = (r_iu_16 + 1ull);
-    if (!(r_36_30 == r_jc)) { r_iu_16 = r_36_30; goto l_join_9n_16; }
-    if (r_6q_1 == 0ull) { r_sw = 2u; goto l_capnp_54; }
+    if (r_jc > 1ull) { r_iu_15 = 0ull; goto l_join_9n_15; }
+    goto l_join_s9;
+l_join_9n_15:;
+    r_a7_54 = (r_69 + (i64)((r_iu_15 * 24ull)));
+    if (ld64((r_a7_54 + 16)) == 0ull) goto l_core_jc_14;
+    rattle_dealloc(ldp(r_a7_54));
+l_core_jc_14:;
+    u64 r_36_29 = (r_iu_15 + 1ull);
+    if (!(r_36_29 == r_jc)) { r_iu_15 = r_36_29; goto l_join_9n_15; }
+    if (r_6q_1 == 0ull) { r_sw_1 = 2u; goto l_capnp_54; }
     r_s6_3 = 2u;
     goto l_capnp_f3_1;
-l_join_27:;
+l_join_s9:;
+    memset(slot_4, 0u, 192);
     memset(slot_5, 0u, 184);
     capnp_layout_tool_framed_frame_in(slot_5, slot_6);
     r_38_48 = ld64((slot_5 + 8));
@@ -12641,12 +12667,17 @@ l_join_27:;
     if (!(ld8(slot_5) == 0u)) goto l_capnp_65;
     r_89_8 = (slot_5 + 32);
     t_f6 = ((u8 *)(uptr)r_38_49);
-    if (!(r_38_48 == 0ull)) { r_eb = 0ull; r_i4 = 0ull; goto l_join_uz; }
-    goto l_arm_cb;
+    if (r_38_48 == 0ull) { r_gz = 0ull; goto l_capnp_a5; }
+    r_eb = 0ull;
+    r_i4 = 0ull;
 l_join_uz:;
-    r_5q_15 = (r_eb + (u64)ld32((t_f6 + (i64)(((u64)(r_i4 << 2ull) & 0x3fffffffcull)))));
-    u64 r_36_31 = (r_i4 + 1ull);
-    if (!(r_36_31 == r_38_48)) { r_eb = r_5q_15; r_i4 = r_36_31; goto l_join_uz; }
+    u64 r_5q_15 = (r_eb + (u64)ld32((t_f6 + (i64)(((u64)(r_i4 << 2ull) & 0x3fffffffcull)))));
+    u64 r_36_30 = (r_i4 + 1ull);
+    if (r_36_30 == r_38_48) { r_gz = r_5q_15; goto l_capnp_a5; }
+    r_eb = r_5q_15;
+    r_i4 = r_36_30;
+    goto l_join_uz;
+l_capnp_a5:;
     st64(slot_4, r_38_48);
     stp((slot_4 + 8), t_f6);
     st64((slot_4 + 16), r_38_50);
@@ -12655,7 +12686,7 @@ l_join_uz:;
     st32((slot_4 + 176), r_ax);
     st32((slot_4 + 180), 0u);
     r_s3_1 = (slot_4 + 184);
-    st64(r_s3_1, r_5q_15);
+    st64(r_s3_1, r_gz);
     t_6c_2 = (slot_3 + 56);
     st64(t_6c_2, 0ull);
     if (!(r_38_48 == 1ull)) goto l_arm_cb;
@@ -12679,8 +12710,8 @@ l_arm_kr:;
     st64(slot_2, r_u2);
     r_x5_59 = (slot_2 + 8);
     st64(r_x5_59, r_lt);
-    r_zd_57 = (slot_2 + 16);
-    st64(r_zd_57, 0ull);
+    r_zd_56 = (slot_2 + 16);
+    st64(r_zd_56, 0ull);
     r_lk_12 = (slot_2 + 24);
     st64(r_lk_12, 1ull);
     r_89_10 = (slot_2 + 32);
@@ -12689,24 +12720,24 @@ l_arm_kr:;
     st32(r_gs_4, 0u);
     r_a8_8 = (slot_2 + 40);
     st64(r_a8_8, 0ull);
-    r_qw_27 = ld64(r_2b_22);
-    if ((r_qw_27 & 2ull) == 0ull) goto l_join_4p_1;
+    r_qw_26 = ld64(r_2b_22);
+    if ((r_qw_26 & 2ull) == 0ull) goto l_join_4p_1;
     goto l_arm_cb;
 l_join_4p_1:;
-    if (r_qw_27 == 0ull) { r_r4_1 = 1ull; goto l_arm_5s_2; }
-    r_ep_2 = (u64)(r_qw_27 >> 32ull);
-    if (!((r_qw_27 & 1ull) == 0ull)) goto l_arm_st_1;
-    r_y6_1 = (u64)(r_qw_27 >> 48ull);
+    if (r_qw_26 == 0ull) { r_r4_1 = 1ull; goto l_arm_5s_2; }
+    r_ep_2 = (u64)(r_qw_26 >> 32ull);
+    if (!((r_qw_26 & 1ull) == 0ull)) goto l_arm_st_1;
+    r_y6_1 = (u64)(r_qw_26 >> 48ull);
     r_q7_3 = (r_ep_2 & 65535ull);
     r_lc_6 = (r_q7_3 + r_y6_1);
-    st64(r_zd_57, 1ull);
-    r_m6_2 = ((u64)(r_qw_27 >> 2ull) & 0x3fffffffull);
-    if (!(r_m6_2 < 0x20000000ull)) goto l_else_jl;
-    if (r_m6_2 < r_24_6) { r_i9 = (r_m6_2 + 1ull); goto l_arm_td_1; }
+    st64(r_zd_56, 1ull);
+    r_m6_3 = ((u64)(r_qw_26 >> 2ull) & 0x3fffffffull);
+    if (!(r_m6_3 < 0x20000000ull)) goto l_else_jl;
+    if (r_m6_3 < r_24_6) { r_i9 = (r_m6_3 + 1ull); goto l_arm_td_1; }
     r_qt = 23u;
     goto l_arm_nd;
 l_else_jl:;
-    if (r_m6_2 == 0x3fffffffull) { r_i9 = 0ull; goto l_arm_td_1; }
+    if (r_m6_3 == 0x3fffffffull) { r_i9 = 0ull; goto l_arm_td_1; }
     r_qt = 23u;
     goto l_arm_nd;
 l_arm_td_1:;
@@ -12748,15 +12779,15 @@ l_join_4n_1:;
 l_join_4w_1:;
     r_ff_3 = (r_az_1 + 1u);
     r_68_2 = (r_ff_3 + r_12_4);
-    r_ts_108 = (r_y6_1 == 0ull);
-    if (!r_ts_108) goto l_join_if;
+    r_ts_106 = (r_y6_1 == 0ull);
+    if (!r_ts_106) goto l_join_1h;
     struct s_i8_i32 t_ph_1 = (struct s_i8_i32){ 0u, 0u };
     t_ph_1.f1 = r_68_2;
     r_d4 = t_ph_1;
     goto l_capnp_o7;
-l_join_if:;
-    struct s_i8_i32 r_ec = capnp_pointers_pointers_canonical_test_children_1e87a1_c3c6e6a7(slot_3, r_ff_3, r_12_4, (r_ax + 0xffffffffu), r_68_2, slot_2);
-    r_d4 = r_ec;
+l_join_1h:;
+    struct s_i8_i32 r_4o = capnp_objects_pointers_canonical_test_children_1e87a151ef20e12e(slot_3, r_ff_3, r_12_4, (r_ax + 0xffffffffu), r_68_2, slot_2);
+    r_d4 = r_4o;
 l_capnp_o7:;
     r_xo = r_d4.f1;
     if (!(r_d4.f0 == 0u)) { r_tu = 0u; r_di = 1u; goto l_capnp_cm; }
@@ -12770,7 +12801,7 @@ l_capnp_o7:;
     r_di = 1u;
     goto l_capnp_cm;
 l_join_vo_1:;
-    if (r_ts_108) { r_tu = r_xo; r_di = 0u; goto l_capnp_cm; }
+    if (r_ts_106) { r_tu = r_xo; r_di = 0u; goto l_capnp_cm; }
     r_68_3 = (r_az_1 + r_12_4);
     if (!(r_y4 > r_68_3)) goto l_then_bv_1;
     if (!(ld64((r_2b_22 + (i64)((u64)(u32)(r_68_3 << 3u)))) == 0ull)) { r_tu = r_xo; r_di = 0u; goto l_capnp_cm; }
@@ -12789,16 +12820,16 @@ l_capnp_cm:;
     r_uq_3 = r_i6;
     goto l_capnp_gz;
 l_arm_st_1:;
-    if (!((u8)((u8)((u8)r_ep_2 & 7u) + 255u) < 5u)) goto l_join_6u;
-    r_ij_1 = (u64)(r_qw_27 >> 35ull);
+    if (!((u8)((u8)((u8)r_ep_2 & 7u) + 255u) < 5u)) goto l_join_iq;
+    r_ij_1 = (u64)(r_qw_26 >> 35ull);
     r_c6_2 = (u64)(((ld64(away(away(((u8 *)switch_table_main_17), 8 * (r_ep_2 & 7ull)), 0xfffffffffffffff8ull)) * r_ij_1) + 63ull) >> 6ull);
-    r_m6_3 = ((u64)(r_qw_27 >> 2ull) & 0x3fffffffull);
-    if (!(r_m6_3 < 0x20000000ull)) goto l_else_jl_1;
-    if (r_m6_3 < r_24_6) { r_i9_1 = (r_m6_3 + 1ull); goto l_arm_td_2; }
+    r_m6_4 = ((u64)(r_qw_26 >> 2ull) & 0x3fffffffull);
+    if (!(r_m6_4 < 0x20000000ull)) goto l_else_jl_1;
+    if (r_m6_4 < r_24_6) { r_i9_1 = (r_m6_4 + 1ull); goto l_arm_td_2; }
     narrow_j8 = 23u;
     goto l_arm_ka;
 l_else_jl_1:;
-    if (r_m6_3 == 0x3fffffffull) { r_i9_1 = 0ull; goto l_arm_td_2; }
+    if (r_m6_4 == 0x3fffffffull) { r_i9_1 = 0ull; goto l_arm_td_2; }
     narrow_j8 = 23u;
     goto l_arm_ka;
 l_arm_td_2:;
@@ -12842,9 +12873,9 @@ l_capnp_cm_1:;
     r_i6_1.f1 = r_tu_1;
     r_uq_3 = r_i6_1;
     goto l_capnp_gz;
-l_join_6u:;
-    struct s_i8_i32 r_yv = capnp_pointers_pointers_canonical_test_list_1e87a151ef20e12e(slot_3, 0u, r_qw_27, r_ax, 1u, slot_2);
-    r_uq_3 = r_yv;
+l_join_iq:;
+    struct s_i8_i32 r_od = capnp_objects_pointers_canonical_test_list_1e87a151ef20e12e(slot_3, 0u, r_qw_26, r_ax, 1u, slot_2);
+    r_uq_3 = r_od;
 l_capnp_gz:;
     r_5h_2 = r_uq_3.f0;
     if (!(r_5h_2 == 0u)) goto l_arm_s8_1;
@@ -12892,8 +12923,8 @@ l_join_c8_7:;
     goto l_arm_2v_7;
 l_join_fh_7:;
     st8((r_2b_23 + (i64)(r_il_7)), ld8((r_7u_7 + (i64)(r_il_7))));
-    u64 r_36_32 = (r_il_7 + 1ull);
-    if (!(r_36_32 == r_j3_7)) { r_il_7 = r_36_32; goto l_join_fh_7; }
+    u64 r_36_31 = (r_il_7 + 1ull);
+    if (!(r_36_31 == r_j3_7)) { r_il_7 = r_36_31; goto l_join_fh_7; }
 l_arm_2v_7:;
     st64(r_zd_14, r_5q_16);
     r_fe_4 = r_j3_7;
@@ -12926,8 +12957,8 @@ l_join_c8_8:;
     goto l_arm_2v_8;
 l_join_fh_8:;
     st8((r_2b_25 + (i64)(r_il_8)), ld8((r_7u_8 + (i64)(r_il_8))));
-    u64 r_36_33 = (r_il_8 + 1ull);
-    if (!(r_36_33 == r_j3_8)) { r_il_8 = r_36_33; goto l_join_fh_8; }
+    u64 r_36_32 = (r_il_8 + 1ull);
+    if (!(r_36_32 == r_j3_8)) { r_il_8 = r_36_32; goto l_join_fh_8; }
 l_arm_2v_8:;
     st64(r_zd_14, r_5q_17);
     r_fe_5 = r_j3_8;
@@ -12953,7 +12984,7 @@ l_capnp_2x_1:;
     if (ld64((r_69 + 16)) == 0ull) goto l_std_2k_1;
     rattle_dealloc(ldp(r_69));
 l_std_2k_1:;
-    if (r_6q_1 == 0ull) { r_sw = r_2c_3; goto l_capnp_54; }
+    if (r_6q_1 == 0ull) { r_sw_1 = r_2c_3; goto l_capnp_54; }
     r_s6_3 = r_2c_3;
     goto l_capnp_f3_1;
 l_arm_e3:;
@@ -12966,13 +12997,13 @@ l_arm_e3:;
     if (ld64((r_69 + 16)) == 0ull) goto l_std_2k_2;
     rattle_dealloc(ldp(r_69));
 l_std_2k_2:;
-    if (r_6q_1 == 0ull) { r_sw = r_g6_4; goto l_capnp_54; }
+    if (r_6q_1 == 0ull) { r_sw_1 = r_g6_4; goto l_capnp_54; }
     r_s6_3 = r_g6_4;
 l_capnp_f3_1:;
     rattle_dealloc(r_69);
-    r_sw = r_s6_3;
+    r_sw_1 = r_s6_3;
 l_capnp_54:;
-    st8(slot_10, r_sw);
+    st8(slot_10, r_sw_1);
     stp((slot_10 + 8), slot_1);
     memset((slot_10 + 16), 0u, 16);
     goto l_capnp_oa;
@@ -12984,18 +13015,18 @@ l_arm_q0:;
     u8 r_g6_5 = capnp_layout_tool_engine_refuse_05c50f83f81b9c23(slot_17, slot_15);
     r_2g = r_g6_5;
 l_capnp_8g:;
-    r_sw_1 = r_2g;
+    r_sw_2 = r_2g;
     goto l_capnp_kf;
 l_capnp_oa:;
     r_r5_15 = ld8(slot_10);
     r_xw_23 = ldp((slot_10 + 8));
-    if (ld64((slot_10 + 24)) == 0ull) { r_sw_1 = r_r5_15; goto l_capnp_kf; }
+    if (ld64((slot_10 + 24)) == 0ull) { r_sw_2 = r_r5_15; goto l_capnp_kf; }
     rattle_dealloc(r_xw_23);
-    r_sw_1 = r_r5_15;
+    r_sw_2 = r_r5_15;
 l_capnp_kf:;
     memset(slot_2, 0u, 96);
     std_io_buffered_BufWriter_flush_buf_89ca6214804c96d4(slot_2, slot_17);
-    spec_8q = ((ld8(slot_2) == 0u) ? r_sw_1 : 3u);
+    spec_8q = ((ld8(slot_2) == 0u) ? r_sw_2 : 3u);
     mv32(slot_2, slot_17);
     std_io_buffered_BufWriter_flush_buf_89ca6214804c96d4(slot_3, slot_2);
     if (ld64((slot_2 + 24)) == 0ull) goto l_std_ws;
@@ -13009,22 +13040,22 @@ l_std_ws:;
 l_arm_p7:;
     u8 r_15_1 = layout_tool_complain(((u8 *)g_static_1), 13ull);
     r_bk_7 = r_15_1;
-    goto l_join_qu_4;
+    goto l_join_qu_5;
 l_arm_gu:;
     u8 r_15_2 = layout_tool_complain(((u8 *)g_static_1), 13ull);
     if (r_0o == 0ull) { r_jx = r_15_2; goto l_std_we_1; }
     r_bk_7 = r_15_2;
-l_join_qu_4:;
-    r_iu_17 = 0ull;
-l_join_9n_17:;
-    r_a7_63 = (r_xw_9 + (i64)((r_iu_17 * 24ull)));
-    if (ld64((r_a7_63 + 16)) == 0ull) goto l_core_jc_16;
-    rattle_dealloc(ldp(r_a7_63));
-l_core_jc_16:;
-    u64 r_36_34 = (r_iu_17 + 1ull);
-    if (r_36_34 == r_0o) { r_jx = r_bk_7; goto l_std_we_1; }
-    r_iu_17 = r_36_34;
-    goto l_join_9n_17;
+l_join_qu_5:;
+    r_iu_16 = 0ull;
+l_join_9n_16:;
+    r_a7_62 = (r_xw_9 + (i64)((r_iu_16 * 24ull)));
+    if (ld64((r_a7_62 + 16)) == 0ull) goto l_core_jc_15;
+    rattle_dealloc(ldp(r_a7_62));
+l_core_jc_15:;
+    u64 r_36_33 = (r_iu_16 + 1ull);
+    if (r_36_33 == r_0o) { r_jx = r_bk_7; goto l_std_we_1; }
+    r_iu_16 = r_36_33;
+    goto l_join_9n_16;
 l_std_we_1:;
     if (r_38_14 == 0ull) { r_sv = r_jx; goto l_arm_4z; }
     rattle_dealloc(r_xw_9);
@@ -13035,19 +13066,19 @@ l_arm_zv:;
     case 0u: { r_2c_4 = spec_8q; goto l_join_2x_1; }
     case 1u: { r_2c_4 = spec_8q; goto l_join_2x_1; }
     case 2u: goto l_arm_lo;
-    case 3u: goto l_arm_qu_2;
+    case 3u: goto l_arm_qu_1;
     default: goto l_noarm_e1;
     }
 l_arm_jg:;
     if (r_0o == 0ull) goto l_std_we_2;
-    r_iu_18 = 0ull;
-l_join_9n_18:;
-    r_a7_64 = (r_xw_9 + (i64)((r_iu_18 * 24ull)));
-    if (ld64((r_a7_64 + 16)) == 0ull) goto l_core_jc_17;
-    rattle_dealloc(ldp(r_a7_64));
-l_core_jc_17:;
-    u64 r_36_35 = (r_iu_18 + 1ull);
-    if (!(r_36_35 == r_0o)) { r_iu_18 = r_36_35; goto l_join_9n_18; }
+    r_iu_17 = 0ull;
+l_join_9n_17:;
+    r_a7_63 = (r_xw_9 + (i64)((r_iu_17 * 24ull)));
+    if (ld64((r_a7_63 + 16)) == 0ull) goto l_core_jc_16;
+    rattle_dealloc(ldp(r_a7_63));
+l_core_jc_16:;
+    u64 r_36_34 = (r_iu_17 + 1ull);
+    if (!(r_36_34 == r_0o)) { r_iu_17 = r_36_34; goto l_join_9n_17; }
 l_std_we_2:;
     if (r_38_14 == 0ull) goto l_arm_ef;
     rattle_dealloc(r_xw_9);
@@ -13056,18 +13087,18 @@ l_arm_lo:;
     u8 r_80 = layout_tool_complain(((u8 *)g_static_3), 9ull);
     r_2c_4 = r_80;
     goto l_join_2x_1;
-l_arm_qu_2:;
+l_arm_qu_1:;
     r_2c_4 = 2u;
 l_join_2x_1:;
     if (r_0o == 0ull) goto l_std_we_3;
-    r_iu_19 = 0ull;
-l_join_9n_19:;
-    r_a7_65 = (r_xw_9 + (i64)((r_iu_19 * 24ull)));
-    if (ld64((r_a7_65 + 16)) == 0ull) goto l_core_jc_18;
-    rattle_dealloc(ldp(r_a7_65));
-l_core_jc_18:;
-    u64 r_36_36 = (r_iu_19 + 1ull);
-    if (!(r_36_36 == r_0o)) { r_iu_19 = r_36_36; goto l_join_9n_19; }
+    r_iu_18 = 0ull;
+l_join_9n_18:;
+    r_a7_64 = (r_xw_9 + (i64)((r_iu_18 * 24ull)));
+    if (ld64((r_a7_64 + 16)) == 0ull) goto l_core_jc_17;
+    rattle_dealloc(ldp(r_a7_64));
+l_core_jc_17:;
+    u64 r_36_35 = (r_iu_18 + 1ull);
+    if (!(r_36_35 == r_0o)) { r_iu_18 = r_36_35; goto l_join_9n_18; }
 l_std_we_3:;
     if (r_38_14 == 0ull) { r_sv = r_2c_4; goto l_arm_4z; }
     rattle_dealloc(r_xw_9);
