@@ -44,5 +44,5 @@ server.listen(0, '127.0.0.1', () => {
   const words = ['--headless', '--no-sandbox', '--disable-gpu', '--disable-dev-shm-usage', `--user-data-dir=${profile}`, page];
   browser = spawn(process.argv[2], words, { stdio: 'ignore' });
   browser.on('error', (error) => done(`${error}\n0 passed, 1 failed`));
-  browser.on('exit', () => rmSync(profile, { recursive: true, force: true, maxRetries: 5 }));
+  browser.on('exit', () => rmSync(profile, { recursive: true, force: true, maxRetries: 20 }));
 });

@@ -353,7 +353,7 @@ try {
   const ended = new Promise((done) => chrome.on('exit', done));
   chrome.kill();
   await ended;
-  rmSync(folder, { recursive: true, force: true, maxRetries: 5 });
+  rmSync(folder, { recursive: true, force: true, maxRetries: 20 });
 }
 console.log(`${passed} passed, ${failed} failed`);
 process.exit(failed || !passed ? 1 : 0);
