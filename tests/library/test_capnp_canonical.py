@@ -375,7 +375,7 @@ class Calls(unittest.TestCase):
 class Packed(unittest.TestCase):
     """The packed bytes of packed.txt, and cases that this file can't express."""
 
-    def test_rows(self):
+    def test_elements(self):
         rows = [line.split() for line in PACKED.read_text().splitlines() if not line.startswith('#')]
         self.assertEqual(len(rows), 22)
         for name, digits, wanted in rows:
@@ -503,7 +503,7 @@ class FramesOfFiles(unittest.TestCase):
 class PackedFrames(unittest.TestCase):
     """The packed streams of streams.txt, and cases that this file can't express."""
 
-    def test_rows(self):
+    def test_elements(self):
         rows = [line.split() for line in STREAMS.read_text().splitlines() if not line.startswith('#')]
         self.assertEqual(len(rows), 18)
         for name, packed, wanted, end in rows:

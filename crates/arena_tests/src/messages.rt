@@ -76,7 +76,10 @@ fn count_packed(alloc: Global, packed: &[u8]) -> Result<(u64, bool), Fail> {
         let _message = message?;
         count = count.saturating_add(1);
     }
-    let whole = messages.into_input().finish().map_err(|_| "failed")?;
+    let whole = messages
+        .into_input()
+        .is_whole_at_end()
+        .map_err(|_| "failed")?;
     Ok((count, whole))
 }
 

@@ -138,7 +138,7 @@ pub fn canonical_copy_in_room<A: BuilderArena, S: ReaderSegments + Drop>(
     let source = ReaderArenaImpl::new(segments, limits);
     let mut lim = ReadLimiter::new(limits.traversal_limit_in_words);
     let root = read_root(&source, &mut lim)?;
-    let from = PointerReader::of_pointer(root);
+    let from = PointerReader::from_pointer(root);
     PointerBuilder::get_root(arena).copy_from(from, &mut lim, true)
 }
 
@@ -322,7 +322,7 @@ pub fn canonical_test_at<S: ReaderSegments>(
         (levels arena.now.nesting_limit) place.segment place.word) head.old
         >>> λ v. answer (head_found v)) lim.old ≡ (head_moved result head.new, lim.new) }
 {
-    PointerReader::of_pointer(pointer_at(arena, place)).is_canonical(lim, head)
+    PointerReader::from_pointer(pointer_at(arena, place)).is_canonical(lim, head)
 }
 
 /// Makes the canonical copy of the value that the pointer at `place` leads to, with memory from
@@ -415,7 +415,7 @@ pub fn canonical_copy_at_in_room<A: BuilderArena, S: ReaderSegments>(
         (levels source.now.nesting_limit) place.segment place.word))
         (copy_call canonical (call_at 0 0 (A.view arena.old) (A.view arena.new)) lim.old lim.new)) }
 {
-    let from = PointerReader::of_pointer(pointer_at(source, place));
+    let from = PointerReader::from_pointer(pointer_at(source, place));
     PointerBuilder::get_root(arena).copy_from(from, lim, true)
 }
 

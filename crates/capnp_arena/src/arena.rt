@@ -16,7 +16,7 @@ mod row;
 mod rows;
 mod scratch_allocator;
 
-pub use allocator::{Allocator, Segment, keep_in};
+pub use allocator::{Allocator, Segment, push_or_count_refusal};
 pub use builder_arena_impl::BuilderArenaImpl;
 pub use capnp_arena_traits::arena::{
     BuilderArena, ReaderArena, SegmentId, WordPlace, copy_words, set_word, zero_words,

@@ -25,7 +25,7 @@ ghost use Rattle.capnp_builders.specs.Found.{list_given};
 ghost use Rattle.capnp_builders.specs.Held.{HasList, HasStruct, Holder, MakesChild, ReplacesField, SetsField, call_in, element_of, pointer_to};
 ghost use Rattle.capnp_builders.specs.Places.{IsAligned, IsListOf, IsStructOf, WritesField, element_place, field, number_field};
 
-use crate::builders::found::look_for_list;
+use crate::builders::found::find_list;
 use crate::builders::{NO_SECTIONS, list_builder};
 use capnp_arena_traits::arena::BuilderArena;
 use capnp_contents::{bytes, initializing, numbers};
@@ -304,7 +304,7 @@ pub fn get_list<A: BuilderArena>(
         → IfOk result (IsListPlace (A.view arena.now).words) }
     ensures named { IfErr result (λ k. is_unfound k ≡ true) }
 {
-    look_for_list(arena, place.segment, place.pointers_at + index as u32, size)
+    find_list(arena, place.segment, place.pointers_at + index as u32, size)
 }
 
 /// Writes element `index` of a list of numbers that are as wide as `T`. Precondition: `index` is

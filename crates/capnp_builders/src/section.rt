@@ -11,7 +11,7 @@ ghost use Rattle.capnp_copies.specs.Originals.{kept_count};
 
 use capnp_arena_traits::arena::{BuilderArena, WordPlace, set_word};
 use capnp_copies::copy::put_words;
-use capnp_words::words::{part, used_words_in};
+use capnp_words::words::{used_words_in, word_range};
 
 /// The number of words that a copy keeps of a data section: in plain form all, the last one filled
 /// up with zeros; in canonical form those up to the last one that isn't zero.
@@ -23,14 +23,14 @@ pub(crate) fn kept_words(bytes: &[u8], bits: u32, canonicalize: bool) -> usize
         return (bits as usize + 63) / 64;
     }
     let whole = bits as usize / 64;
-    if last_word(bytes, bits) != 0 {
+    if last_partial_word(bytes, bits) != 0 {
         return whole + 1;
     }
     used_words_in(bytes, 0, whole)
 }
 
 /// Writes the first `kept` words of a data section over the words from `to` on.
-pub(crate) fn put_section<A: BuilderArena>(
+pub(crate) fn write_section<A: BuilderArena>(
     arena: &mut A,
     to: WordPlace,
     bytes: &[u8],
@@ -50,15 +50,15 @@ pub(crate) fn put_section<A: BuilderArena>(
     let whole = bits / 64;
     let kept = u32::from(kept);
     if kept <= whole {
-        put_words(arena, id, at, part(bytes, 0, kept as usize));
+        put_words(arena, id, at, word_range(bytes, 0, kept as usize));
         return;
     }
-    put_words(arena, id, at, part(bytes, 0, whole as usize));
-    set_word(arena, id, at + whole, last_word(bytes, bits));
+    put_words(arena, id, at, word_range(bytes, 0, whole as usize));
+    set_word(arena, id, at + whole, last_partial_word(bytes, bits));
 }
 
 /// The bits after the last whole word of a data section, as a number; 0 if there are none.
-fn last_word(bytes: &[u8], bits: u32) -> u64
+fn last_partial_word(bytes: &[u8], bits: u32) -> u64
     requires long { length bytes.now ≡ bytes_for bits }
     ensures { result ≡ from_digits 256 (drop (8 * (bits / 64)) bytes.now) % 2 ^ (bits % 64) }
 {

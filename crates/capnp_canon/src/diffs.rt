@@ -3,10 +3,9 @@
 ghost use Rattle.std.specs.Prelude.{◌≡◌, false};
 
 use crate::BUFFER;
-use crate::inputs::{Unanswered, not_opened, pass_on, refuse};
+use crate::inputs::{Unanswered, flush, report_refusal, report_unopened};
 use crate::texts::NO_MEMORY;
-use capnp_packing::buffered::{BufferedInput, BufferedOutput};
-use capnp_streams::devices::BufReaderInput;
+use capnp_packing::buffered::{BufReaderInput, BufferedInput, BufferedOutput};
 use capnp_streams::looks::InputForm;
 use capnp_streams::seen::{DeviceLog, Logged};
 use capnp_streams::streams::{self, DiffFault, DiffTask, Side};
@@ -38,7 +37,7 @@ pub fn compare_files<W: BufferedOutput>(
     }
     match File::open(rt, left) {
         Ok(file) => compare_with(rt, task, names, file, output),
-        Err(error) => not_opened(rt, left, &error, output),
+        Err(error) => report_unopened(rt, left, &error, output),
     }
 }
 
@@ -57,7 +56,7 @@ fn compare_with<L: Read + Drop, W: BufferedOutput>(
     }
     match File::open(rt, names.right) {
         Ok(file) => compare_readers(rt, task, names, left, file, output),
-        Err(error) => not_opened(rt, names.right, &error, output),
+        Err(error) => report_unopened(rt, names.right, &error, output),
     }
 }
 
@@ -85,14 +84,14 @@ fn compare_readers<L: Read + Drop, R: Read + Drop, W: BufferedOutput>(
         Err(DiffFault::WriteFailed) => return Err(Unanswered::WriteFailed),
         Err(fault) => fault,
     };
-    pass_on(output)?;
+    flush(output)?;
     let form = task.input_form();
     match fault {
         DiffFault::Refused(Side::Left, stop) => {
-            refuse(rt, form, Some(names.left), stop, &left_seen);
+            report_refusal(rt, form, Some(names.left), stop, &left_seen);
         }
         DiffFault::Refused(Side::Right, stop) => {
-            refuse(rt, form, Some(names.right), stop, &right_seen);
+            report_refusal(rt, form, Some(names.right), stop, &right_seen);
         }
         DiffFault::TooLong(number) => {
             let _ = eprintln!(rt; "capnp_canon: message {number}: too long to compare");

@@ -8,9 +8,9 @@ use crate::lists::verify_all;
 use crate::texts::NO_MEMORY;
 use capnp_framing::devices::Output;
 use capnp_framing::framing::FrameError;
-use capnp_packing::buffered::{BufferedInput, BufferedOutput};
+use capnp_packing::buffered::{BufReaderInput, BufferedInput, BufferedOutput};
 use capnp_refusals::refusals::RefusedPointer;
-use capnp_streams::devices::{BufReaderInput, NamedLines, NumberedLines};
+use capnp_streams::devices::{NamedLines, NumberedLines};
 use capnp_streams::looks::{InputForm, guess_of};
 use capnp_streams::seen::{DeviceLog, Logged};
 use capnp_streams::streams::{self, Command, ShowTask, Stop, StreamError, Summary, Task};
@@ -67,7 +67,7 @@ pub fn answer_all<W: BufferedOutput>(
         return digest_all(rt, task, files, output);
     }
     let are_named = !matches!(task.command, Command::Canon(_));
-    each_file(rt, Job::Answer(task), are_named, files, output)
+    for_each_file(rt, Job::Answer(task), are_named, files, output)
 }
 
 /// Shows each message of each file in turn, or of standard input if there are no files. Returns
@@ -80,12 +80,12 @@ pub fn show_all<W: BufferedOutput>(
     files: &[String],
     output: &mut W,
 ) -> Result<bool, Unanswered> {
-    each_file(rt, Job::Show(task), !task.json, files, output)
+    for_each_file(rt, Job::Show(task), !task.json, files, output)
 }
 
 /// Does `job` with each message of each file in turn, or of standard input if there are no files.
 /// If `are_named` is set and there are several files, each line begins with the file's name.
-fn each_file<W: BufferedOutput>(
+fn for_each_file<W: BufferedOutput>(
     rt: &HostRuntime,
     job: Job,
     are_named: bool,
@@ -149,19 +149,19 @@ pub fn answer_file<W: BufferedOutput>(
     }
     match File::open(rt, name) {
         Ok(file) => answer(rt, job, Some(name), file, output),
-        Err(error) => not_opened(rt, name, &error, output),
+        Err(error) => report_unopened(rt, name, &error, output),
     }
 }
 
 /// Reports that the file `name` can't be opened, and why, after the answers so far.
-pub fn not_opened<W: BufferedOutput>(
+pub fn report_unopened<W: BufferedOutput>(
     rt: &HostRuntime,
     name: &str,
     error: &io::Error,
     output: &mut W,
 ) -> Result<bool, Unanswered> {
-    pass_on(output)?;
-    let _ = match said(rt.alloc(), error) {
+    flush(output)?;
+    let _ = match error_text(rt.alloc(), error) {
         Ok(why) => eprintln!(rt; "capnp_canon: {name}: {why}"),
         Err(AllocError) => eprintln!(rt; "capnp_canon: {name}: {error}"),
     };
@@ -169,8 +169,8 @@ pub fn not_opened<W: BufferedOutput>(
 }
 
 /// Flushes the output.
-pub fn pass_on<W: BufferedOutput>(output: &mut W) -> Result<(), Unanswered> {
-    match output.pass_on() {
+pub fn flush<W: BufferedOutput>(output: &mut W) -> Result<(), Unanswered> {
+    match output.flush() {
         Ok(()) => Ok(()),
         Err(_) => Err(Unanswered::WriteFailed),
     }
@@ -187,7 +187,7 @@ fn answer<R: Read + Drop, W: BufferedOutput>(
 ) -> Result<bool, Unanswered> {
     if job.input_form() == InputForm::RawWords {
         // Raw words are read to the end of the input first, which may take a while.
-        pass_on(output)?;
+        flush(output)?;
     }
     if output.failed() {
         return Err(Unanswered::WriteFailed);
@@ -195,7 +195,7 @@ fn answer<R: Read + Drop, W: BufferedOutput>(
     let seen = DeviceLog::new();
     let reader = Logged::new(reader, &seen);
     let Ok(reader) = BufReader::with_capacity(rt.alloc(), BUFFER, reader) else {
-        pass_on(output)?;
+        flush(output)?;
         let _ = rt.eprintln(NO_MEMORY);
         return Err(Unanswered::Said);
     };
@@ -205,8 +205,8 @@ fn answer<R: Read + Drop, W: BufferedOutput>(
             if matches!(stop.fault, StreamError::Frame(FrameError::WriteFailed)) {
                 return Err(Unanswered::WriteFailed);
             }
-            pass_on(output)?;
-            refuse(rt, job.input_form(), name, stop, &seen);
+            flush(output)?;
+            report_refusal(rt, job.input_form(), name, stop, &seen);
             Err(Unanswered::Said)
         }
     }
@@ -228,18 +228,22 @@ fn run<R: BufferedInput + Drop, W: BufferedOutput>(
         Job::Answer(task) => match task.input_form() {
             InputForm::Frames => streams::run(alloc, task, &mut input, output),
             InputForm::PackedFrames => streams::run_packed(alloc, task, input, output),
-            InputForm::RawWords => only(streams::run_flat(alloc, task, &mut input, output)),
+            InputForm::RawWords => summary_of_one(streams::run_flat(
+                alloc, task, &mut input, output,
+            )),
         },
         Job::Show(task) => match task.input_form() {
             InputForm::Frames => streams::run_show(alloc, task, &mut input, output),
             InputForm::PackedFrames => streams::run_show_packed(alloc, task, input, output),
-            InputForm::RawWords => only(streams::run_show_flat(alloc, task, &mut input, output)),
+            InputForm::RawWords => summary_of_one(streams::run_show_flat(
+                alloc, task, &mut input, output,
+            )),
         },
     }
 }
 
 /// The result of a run over one message, after its answer.
-fn only(answered: Result<bool, StreamError>) -> Result<Summary, Stop> {
+fn summary_of_one(answered: Result<bool, StreamError>) -> Result<Summary, Stop> {
     match answered {
         Ok(holds) => Ok(Summary {
             messages: 1,
@@ -257,7 +261,13 @@ fn only(answered: Result<bool, StreamError>) -> Result<Summary, Stop> {
 /// Reports which message is refused, counted from 1, at which byte of the input it begins, why it
 /// is refused, and at which of its pointers, if it is at one. If this is the first message, and the
 /// input doesn't look like what `form` says, also reports what the input looks like.
-pub fn refuse(rt: &HostRuntime, form: InputForm, name: Option<&str>, stop: Stop, seen: &DeviceLog) {
+pub fn report_refusal(
+    rt: &HostRuntime,
+    form: InputForm,
+    name: Option<&str>,
+    stop: Stop,
+    seen: &DeviceLog,
+) {
     let (name, colon) = match name {
         Some(name) => (name, ": "),
         None => ("", ""),
@@ -274,7 +284,7 @@ pub fn refuse(rt: &HostRuntime, form: InputForm, name: Option<&str>, stop: Stop,
                 "capnp_canon: {name}{colon}message {number} at byte {byte}: refused {reason} at segment {segment}, word {word}"
             ),
         },
-        Some(error) => match said(rt.alloc(), &error) {
+        Some(error) => match error_text(rt.alloc(), &error) {
             Ok(why) => {
                 eprintln!(rt;
                     "capnp_canon: {name}{colon}message {number} at byte {byte}: refused {reason}: {why}"
@@ -287,9 +297,9 @@ pub fn refuse(rt: &HostRuntime, form: InputForm, name: Option<&str>, stop: Stop,
             }
         },
     };
-    let front = seen.front();
+    let front = seen.first_bytes();
     if stop.answered == 0 {
-        if let Some(looks) = guess_of(form, stop.fault, front.first(), front.given()) {
+        if let Some(looks) = guess_of(form, stop.fault, front.first(), front.total()) {
             let _ = eprintln!(rt;
                 "capnp_canon: {name}{colon}the input looks like {}",
                 looks.text()
@@ -299,7 +309,7 @@ pub fn refuse(rt: &HostRuntime, form: InputForm, name: Option<&str>, stop: Stop,
 }
 
 /// Returns the system's text for `error`, without the error's number.
-pub fn said(alloc: Global, error: &io::Error) -> Result<String, AllocError> {
+pub fn error_text(alloc: Global, error: &io::Error) -> Result<String, AllocError> {
     let text = format!(in alloc; "{error}")?;
     match text.as_str().split_once(" (os error ") {
         Some((front, _)) => String::from_str(alloc, front),

@@ -1,7 +1,7 @@
 //! Verifies lists that `digest` has written: whether the messages that they name still have the
 //! digests that they state.
 
-use crate::inputs::{Job, Unanswered, answer_file, pass_on, said};
+use crate::inputs::{Job, Unanswered, answer_file, error_text, flush};
 use crate::texts::{NO_MEMORY, NO_UTF8};
 use capnp_framing::devices::{DeviceFault, MemoryOutput, Output, write_all};
 use capnp_packing::buffered::BufferedOutput;
@@ -59,7 +59,7 @@ pub fn verify_all<W: BufferedOutput>(
         verify(rt, task, list.as_str(), output, &mut found)?;
     }
     if 0 < found.failed {
-        pass_on(output)?;
+        flush(output)?;
         let _ = match found.failed {
             1 => rt.eprintln("capnp_canon: 1 listed message is missing or differs"),
             n => eprintln!(rt; "capnp_canon: {n} listed messages are missing or differ"),
@@ -81,8 +81,8 @@ fn verify<W: BufferedOutput>(
 ) -> Result<(), Unanswered> {
     let mut bytes = Vec::new(rt.alloc());
     if let Err(error) = read_list(rt, name, &mut bytes) {
-        pass_on(output)?;
-        let _ = match said(rt.alloc(), &error) {
+        flush(output)?;
+        let _ = match error_text(rt.alloc(), &error) {
             Ok(why) => eprintln!(rt; "capnp_canon: {name}: {why}"),
             Err(AllocError) => eprintln!(rt; "capnp_canon: {name}: {error}"),
         };
@@ -90,7 +90,7 @@ fn verify<W: BufferedOutput>(
         return Ok(());
     }
     let Ok(text) = str::from_utf8(bytes.as_slice()) else {
-        pass_on(output)?;
+        flush(output)?;
         let _ = eprintln!(rt; "capnp_canon: {name}: {NO_UTF8}");
         found.is_unread = true;
         return Ok(());
@@ -98,7 +98,7 @@ fn verify<W: BufferedOutput>(
     match verify_lines(rt, task, name, text, output, found) {
         Ok(done) => done,
         Err(AllocError) => {
-            pass_on(output)?;
+            flush(output)?;
             let _ = rt.eprintln(NO_MEMORY);
             Err(Unanswered::Said)
         }
@@ -135,7 +135,7 @@ fn verify_lines<W: BufferedOutput>(
         if line.is_empty() {
             continue;
         }
-        let Some(entry) = entry_of(rt.alloc(), line)? else {
+        let Some(entry) = parse_entry(rt.alloc(), line)? else {
             if others == 0 {
                 first = number;
             }
@@ -155,15 +155,15 @@ fn verify_lines<W: BufferedOutput>(
             Some(read) => has_digest(read.bytes(), &entry),
             None => false,
         };
-        if tell_verified(task, output, &entry, holds, found).is_err() {
+        if report_verified(task, output, &entry, holds, found).is_err() {
             return Ok(Err(Unanswered::WriteFailed));
         }
     }
     if 0 < others || entries == 0 {
-        if let Err(unanswered) = pass_on(output) {
+        if let Err(unanswered) = flush(output) {
             return Ok(Err(unanswered));
         }
-        tell_others(rt, list, first, others);
+        report_other_lines(rt, list, first, others);
         found.is_unread |= 0 < others;
         found.is_empty |= others == 0;
     }
@@ -171,7 +171,7 @@ fn verify_lines<W: BufferedOutput>(
 }
 
 /// Reports that lines of a list aren't those of `digest`, or that none is.
-fn tell_others(rt: &HostRuntime, list: &str, first: u64, others: u64) {
+fn report_other_lines(rt: &HostRuntime, list: &str, first: u64, others: u64) {
     let _ = match others {
         0 => eprintln!(rt; "capnp_canon: {list}: no line names a message"),
         1 => eprintln!(rt; "capnp_canon: {list}: line {first} is not as `digest` writes it"),
@@ -193,7 +193,7 @@ fn digests_of<W: BufferedOutput>(
     output: &mut W,
     found: &mut Verified,
 ) -> Result<MemoryOutput, Unanswered> {
-    pass_on(output)?;
+    flush(output)?;
     let mut digests = MemoryOutput::new(rt.alloc());
     match answer_file(rt, Job::Answer(task), name, &mut digests) {
         Ok(_) => {}
@@ -223,7 +223,7 @@ fn has_digest(digests: &[u8], entry: &Entry<'_>) -> bool {
 
 /// Counts an entry whose message hasn't the digest, and writes the line about the entry; if the
 /// task is quiet, only if its message hasn't the digest.
-fn tell_verified<W: BufferedOutput>(
+fn report_verified<W: BufferedOutput>(
     task: Task,
     output: &mut W,
     entry: &Entry<'_>,
@@ -259,7 +259,7 @@ fn write_verified<W: BufferedOutput>(
 }
 
 /// Returns what the line says; `None` if it isn't as `digest` writes it.
-fn entry_of(alloc: Global, line: &str) -> Result<Option<Entry<'_>>, AllocError> {
+fn parse_entry(alloc: Global, line: &str) -> Result<Option<Entry<'_>>, AllocError> {
     let (is_escaped, rest) = match line.strip_prefix('\\') {
         Some(rest) => (true, rest),
         None => (false, line),
@@ -267,11 +267,12 @@ fn entry_of(alloc: Global, line: &str) -> Result<Option<Entry<'_>>, AllocError> 
     let Some((front, number)) = rest.rsplit_once(':') else {
         return Ok(None);
     };
-    let (Some((digits, name)), Some(number)) = (parted(front), number_of(number)) else {
+    let (Some((digits, name)), Some(number)) = (split_digest_and_name(front), parse_number(number))
+    else {
         return Ok(None);
     };
     let name = if is_escaped {
-        unescaped(alloc, name)?
+        unescape(alloc, name)?
     } else {
         String::from_str(alloc, name)?
     };
@@ -284,7 +285,7 @@ fn entry_of(alloc: Global, line: &str) -> Result<Option<Entry<'_>>, AllocError> 
 
 /// Returns the hex digits and the name in `front`, which are parted by two spaces, or by a space
 /// and a `*`.
-fn parted(front: &str) -> Option<(&str, &str)> {
+fn split_digest_and_name(front: &str) -> Option<(&str, &str)> {
     let (digits, rest) = front.split_at_checked(DIGITS)?;
     if !digits
         .as_bytes()
@@ -302,7 +303,7 @@ fn parted(front: &str) -> Option<(&str, &str)> {
 
 /// Returns the number that `text` states in decimal digits; `None` if there are other characters, a
 /// leading 0, or too many digits.
-fn number_of(text: &str) -> Option<u64> {
+fn parse_number(text: &str) -> Option<u64> {
     if text.starts_with('0') || !text.as_bytes().iter().all(|byte| byte.is_ascii_digit()) {
         return None;
     }
@@ -310,7 +311,7 @@ fn number_of(text: &str) -> Option<u64> {
 }
 
 /// Returns `name` without the escapes of `sha256sum`.
-fn unescaped(alloc: Global, name: &str) -> Result<String, AllocError> {
+fn unescape(alloc: Global, name: &str) -> Result<String, AllocError> {
     let mut plain = String::new(alloc);
     let mut is_escaped = false;
     for letter in name.chars() {

@@ -9,15 +9,15 @@ mod inputs;
 mod lists;
 mod texts;
 
-use capnp_packing::buffered::BufferedOutput;
+use capnp_packing::buffered::{BufWriterOutput, BufferedOutput};
 use capnp_packing::packing::PackingOutput;
-use capnp_streams::devices::{BoundedOutput, BufWriterOutput, NoOutput};
+use capnp_streams::devices::{BoundedOutput, NoOutput};
 use capnp_streams::seen::{DeviceLog, Logged};
 use capnp_streams::streams::{
     self, ArgumentFault, DiffTask, Request, ShowTask, Task, WrongArgument,
 };
 use diffs::compare_files;
-use inputs::{Unanswered, answer_all, said, show_all};
+use inputs::{Unanswered, answer_all, error_text, show_all};
 use std::alloc::AllocError;
 use std::env;
 use std::io::{self, BufWriter};
@@ -44,8 +44,8 @@ fn answer(rt: &HostRuntime) -> Result<ExitCode, AllocError> {
     let args = args.as_slice();
     match streams::parse_args(args) {
         Err(wrong) => Ok(usage_error(rt, args, wrong)),
-        Ok(Request::Help) => Ok(say(rt, HELP)),
-        Ok(Request::Version) => Ok(say(rt, VERSION)),
+        Ok(Request::Help) => Ok(print_text(rt, HELP)),
+        Ok(Request::Version) => Ok(print_text(rt, VERSION)),
         Ok(Request::Run(task)) => {
             let files = streams::named_files(rt.alloc(), args)?;
             Ok(run(rt, task, files.as_slice()))
@@ -162,7 +162,7 @@ fn run_to<W: BufferedOutput>(
     seen: &DeviceLog,
 ) -> ExitCode {
     let ended = answer_all(rt, task, files, output);
-    ended_with(rt, ended, output, seen)
+    flush_and_exit(rt, ended, output, seen)
 }
 
 /// Shows the messages of `files`, or of standard input if there are no files, on standard output,
@@ -179,11 +179,11 @@ fn show(rt: &HostRuntime, task: ShowTask, files: &[String]) -> ExitCode {
     };
     let mut output = BoundedOutput::new(BufWriterOutput::new(writer), most);
     let ended = show_all(rt, task, files, &mut output);
-    if output.is_full() && output.pass_on().is_ok() {
+    if output.is_full() && output.flush().is_ok() {
         let _ = eprintln!(rt; "capnp_canon: the output is cut at {most} bytes");
         return ExitCode::from(2);
     }
-    ended_with(rt, ended, &mut output, &seen)
+    flush_and_exit(rt, ended, &mut output, &seen)
 }
 
 /// Compares the messages of two files, and writes to standard output in what they differ. Returns
@@ -201,22 +201,22 @@ fn diff(rt: &HostRuntime, task: DiffTask, files: &[String]) -> ExitCode {
     };
     if task.quiet {
         let ended = compare_files(rt, task, left, right, &mut NoOutput);
-        return ended_with(rt, ended, &mut NoOutput, &seen);
+        return flush_and_exit(rt, ended, &mut NoOutput, &seen);
     }
     let mut output = BufWriterOutput::new(writer);
     let ended = compare_files(rt, task, left, right, &mut output);
-    ended_with(rt, ended, &mut output, &seen)
+    flush_and_exit(rt, ended, &mut output, &seen)
 }
 
 /// Flushes `output`, and returns the exit status of a program that has `ended` so. If `output`
 /// fails, reports this failure.
-fn ended_with<W: BufferedOutput>(
+fn flush_and_exit<W: BufferedOutput>(
     rt: &HostRuntime,
     ended: Result<bool, Unanswered>,
     output: &mut W,
     seen: &DeviceLog,
 ) -> ExitCode {
-    if output.pass_on().is_err() {
+    if output.flush().is_err() {
         return write_failed(rt, seen.fault());
     }
     match ended {
@@ -234,7 +234,7 @@ fn write_failed(rt: &HostRuntime, fault: Option<io::Error>) -> ExitCode {
         return print_error(rt, WRITE_ERROR);
     };
     if error.kind() != io::ErrorKind::BrokenPipe {
-        let _ = match said(rt.alloc(), &error) {
+        let _ = match error_text(rt.alloc(), &error) {
             Ok(why) => eprintln!(rt; "{WRITE_ERROR}: {why}"),
             Err(AllocError) => eprintln!(rt; "{WRITE_ERROR}: {error}"),
         };
@@ -243,7 +243,7 @@ fn write_failed(rt: &HostRuntime, fault: Option<io::Error>) -> ExitCode {
 }
 
 /// Writes `text` to standard output, and returns the program's exit status.
-fn say(rt: &HostRuntime, text: &str) -> ExitCode {
+fn print_text(rt: &HostRuntime, text: &str) -> ExitCode {
     match rt.println(text) {
         Ok(()) => ExitCode::SUCCESS,
         Err(error) => write_failed(rt, Some(error)),

@@ -12,7 +12,7 @@ use crate::refusal::Refusal;
 use crate::segments::LentSegments;
 use crate::words::message_of;
 use capnp_arena::arena::ReaderSegments;
-use capnp_walks::walks::{WalkedObject, walk_of};
+use capnp_walks::walks::{WalkedObject, walk_message};
 
 /// Lists the objects of the message in `segments` in `objects`, and stores their number in `count`.
 fn walk<S: ReaderSegments + Drop>(
@@ -25,7 +25,7 @@ fn walk<S: ReaderSegments + Drop>(
     ensures { (objects.new, count.new, result) ≡ c_walk (walk_message
         (message (S.segments segments)) (limits_of limits.nesting limits.words)) objects.old }
 {
-    let walked = walk_of(segments, limits.options(), objects);
+    let walked = walk_message(segments, limits.options(), objects);
     let found = walked.count as usize;
     *count = found;
     match walked.refused {

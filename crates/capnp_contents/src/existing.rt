@@ -13,7 +13,7 @@ ghost use Rattle.capnp_making.specs.Stored.{IsStored};
 ghost use Rattle.capnp_contents.specs.Existing.{AreBytesInside, capability_of, capability_in, listed, landing_in, is_unfound, plain_misfit, structs_misfit, unless, plain_list, struct_list, data_in, text_in, AreInside, FindsAt, FindsListAt, FindsStructAt, bytes_in, ends_in_zero};
 
 use capnp_arena_traits::arena::BuilderArena;
-use capnp_making::landing::{PointerTarget, landing_of, length_of, word_of};
+use capnp_making::landing::{PointerTarget, follow_word, pointer_word, segment_length};
 use capnp_words::error::ErrorKind;
 use capnp_words::wire_pointer::{
     ElementSize, StructSize, WirePointer, WirePointerKind, data_bits_per_element,
@@ -71,7 +71,7 @@ pub fn get_capability<A: BuilderArena>(arena: &A, id: u32, at: u32) -> Result<u3
     ensures found { (t : Tree) → IsStored (A.view arena.now).words id at t
         → result ≡ capability_in (target (A.view arena.now).words id at) t }
 {
-    let word = word_of(arena, id, at);
+    let word = pointer_word(arena, id, at);
     if word.is_null() {
         return Err(ErrorKind::MessageContainsNullCapabilityPointer);
     }
@@ -87,7 +87,7 @@ pub fn get_capability<A: BuilderArena>(arena: &A, id: u32, at: u32) -> Result<u3
 pub fn get_struct<A: BuilderArena>(arena: &A, id: u32, at: u32) -> Option<ExistingStruct>
     ensures { FindsStructAt (A.view arena.now).words id at result }
 {
-    let word = word_of(arena, id, at);
+    let word = pointer_word(arena, id, at);
     if word.is_null() {
         return None;
     }
@@ -115,12 +115,12 @@ fn struct_of<A: BuilderArena>(
     requires some { word.0 ≢ 0 }
     ensures { FindsStructAt (A.view arena.now).words id at result }
 {
-    match landing_of(arena, id, at, word) {
+    match follow_word(arena, id, at, word) {
         Some(landing) => {
             let size = landing.word.struct_size();
             let end = u64::from(landing.start) + u64::from(size.total());
             if landing.word.kind() == WirePointerKind::Struct
-                && end <= u64::from(length_of(arena, landing.segment))
+                && end <= u64::from(segment_length(arena, landing.segment))
             {
                 Some(ExistingStruct {
                     segment: landing.segment,
@@ -195,11 +195,11 @@ fn follow_list<A: BuilderArena>(
 ) -> Result<Option<PointerTarget>, ErrorKind>
     ensures { FindsAt (A.view arena.now).words id at landing_in (listed result) }
 {
-    let word = word_of(arena, id, at);
+    let word = pointer_word(arena, id, at);
     if word.is_null() {
         return Ok(None);
     }
-    match landing_of(arena, id, at, word) {
+    match follow_word(arena, id, at, word) {
         Some(landing) => {
             if landing.word.kind() == WirePointerKind::List {
                 Ok(Some(landing))
@@ -257,7 +257,7 @@ fn struct_list_at<A: BuilderArena>(
     match tag_at(arena, landing) {
         Some(tag) => {
             let size = tag.struct_size();
-            match misfit_of_structs(expected, size) {
+            match struct_list_mismatch(expected, size) {
                 Some(k) => Err(k),
                 None => Ok(Some(ExistingList {
                     segment: landing.segment,
@@ -295,7 +295,7 @@ fn tag_at<A: BuilderArena>(arena: &A, landing: PointerTarget) -> Option<WirePoin
 
 /// Returns why structs of size `size` can't be read as elements of size `expected`; `None` if they
 /// can.
-fn misfit_of_structs(expected: ElementSize, size: StructSize) -> Option<ErrorKind>
+fn struct_list_mismatch(expected: ElementSize, size: StructSize) -> Option<ErrorKind>
     ensures found { result ≡ structs_misfit expected size.data_words size.pointers }
     ensures named { IfSome result (λ k. is_unfound k ≡ true) }
 {
@@ -353,7 +353,7 @@ pub fn get_text<A: BuilderArena>(
 {
     match get_data(arena, id, at)? {
         Some(bytes) => {
-            if !is_terminated(arena, bytes) {
+            if !is_nul_terminated(arena, bytes) {
                 return Err(ErrorKind::TextBlobMissingNULTerminator);
             }
             Ok(Some(ExistingBytes {
@@ -380,7 +380,7 @@ pub fn are_inside<A: BuilderArena>(arena: &A, bytes: ExistingBytes) -> bool
 }
 
 /// Whether there is at least one byte at `bytes`, and the last one is 0.
-fn is_terminated<A: BuilderArena>(arena: &A, bytes: ExistingBytes) -> bool
+fn is_nul_terminated<A: BuilderArena>(arena: &A, bytes: ExistingBytes) -> bool
     ensures some { IsTrue result → 0 < bytes.length }
     ensures ends { AreInside (A.view arena.now).words bytes
         → result ≡ ends_in_zero

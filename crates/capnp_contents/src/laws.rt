@@ -33,7 +33,7 @@ pub fn others_stay()
 
 /// Two calls that put a value at the same place have the effect of one call that puts the second
 /// value there.
-pub fn last_stands()
+pub fn last_put_wins()
     ensures { (S R Q : Segments) (u q : ℕ) (y z : Tree)
         → Puts S R u q y → Puts R Q u q z → Puts S Q u q z }
 {}

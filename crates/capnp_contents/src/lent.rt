@@ -16,7 +16,7 @@ use capnp_words::wire_pointer::ElementSize;
 
 /// Lends the bytes of segment `id` from position `from` on, up to position `end`, which isn't
 /// included. The other bytes stay unchanged.
-fn part_of<A: BuilderArena>(arena: &mut A, id: u32, from: usize, end: usize) -> &mut [u8]
+fn bytes_between_mut<A: BuilderArena>(arena: &mut A, id: u32, from: usize, end: usize) -> &mut [u8]
     requires there { id < length (A.segments arena.old) }
     requires order { from ≤ end }
     requires inside { end ≤ length (slice_index_or (A.segments arena.old) id []) }
@@ -48,7 +48,7 @@ pub fn bytes_mut<A: BuilderArena>(arena: &mut A, bytes: ExistingBytes) -> &mut [
 {
     let from = 8 * bytes.start as usize;
     let end = from + bytes.length as usize;
-    part_of(arena, bytes.segment, from, end)
+    bytes_between_mut(arena, bytes.segment, from, end)
 }
 
 /// Makes the pointer at `at` of segment `id` lead to new data of `size` zero bytes, and lends these

@@ -13,7 +13,7 @@ ghost use Rattle.capnp_words.specs.declared.wire_pointer.ElementSize.TheVariants
 use crate::existing::{self, ExistingList};
 use crate::number_lists::widen_numbers;
 use crate::remaking::{ElementRows, widen_rows};
-use crate::widening::{greater_size, is_wide};
+use crate::widening::{greater_size, is_wide_enough};
 use capnp_arena_traits::arena::BuilderArena;
 use capnp_words::error::ErrorKind;
 use capnp_words::wire_pointer::{ElementSize, StructSize};
@@ -52,7 +52,7 @@ pub fn get_struct_list<A: BuilderArena>(
 {
     match existing::get_list(arena, id, at, ElementSize::Void)? {
         Some(old) => {
-            if is_wide_list(old, size) {
+            if is_wide_enough_list(old, size) {
                 return Ok(Some(old));
             }
             let list = widen_list(arena, id, at, old, size)?;
@@ -63,13 +63,13 @@ pub fn get_struct_list<A: BuilderArena>(
 }
 
 /// Whether `list` is a list of structs whose sections are at least as large as those of `wanted`.
-fn is_wide_list(list: ExistingList, wanted: StructSize) -> bool
+fn is_wide_enough_list(list: ExistingList, wanted: StructSize) -> bool
     ensures { IsTrue result
         ↔ ((list.size ≡ InlineComposite)
         × (wanted.data_words ≤ list.struct_size.data_words)
         × (wanted.pointers ≤ list.struct_size.pointers)) }
 {
-    list.size == ElementSize::InlineComposite && is_wide(list.struct_size, wanted)
+    list.size == ElementSize::InlineComposite && is_wide_enough(list.struct_size, wanted)
 }
 
 /// Turns the list `old`, to which the pointer at `at` of segment `id` leads, into a list of structs

@@ -24,7 +24,7 @@ ghost use Rattle.capnp_contents.specs.Pointed.{HasPlainPads, PointsTo};
 ghost use Rattle.capnp_contents.specs.Rooms.{HasPadRoom, TakesPad};
 
 use capnp_arena_traits::arena::{BuilderArena, WordPlace, set_word};
-use capnp_making::landing::{length_of, word_of};
+use capnp_making::landing::{pointer_word, segment_length};
 use capnp_making::making::{Shape, pointer_to};
 use capnp_making::zeroing::zero_pads;
 use capnp_words::error::ErrorKind;
@@ -37,7 +37,7 @@ use capnp_words::wire_pointer::{WirePointer, WirePointerKind};
 /// Refuses only if the arena refuses two words for a landing pad. A refusal changes no word; if it
 /// is `AllocationFailed`, the allocator has counted it.
 #[inline(always)]
-pub fn move_pointer<A: BuilderArena>(
+pub fn transfer_pointer<A: BuilderArena>(
     arena: &mut A,
     from: WordPlace,
     to: WordPlace,
@@ -57,7 +57,7 @@ pub fn move_pointer<A: BuilderArena>(
         → MovesApart result (A.view arena.old) (A.view arena.new) from.segment
         (row_of_moves from to 1) }
 {
-    let word = word_of(arena, from.segment, from.at);
+    let word = pointer_word(arena, from.segment, from.at);
     if word.is_null() {
         return Ok(());
     }
@@ -65,13 +65,13 @@ pub fn move_pointer<A: BuilderArena>(
         set_word(arena, to.segment, to.at, word.0);
         return Ok(());
     }
-    match word.target(from.at, length_of(arena, from.segment)) {
+    match word.target(from.at, segment_length(arena, from.segment)) {
         Some(start) => {
             let object = WordPlace {
                 segment: from.segment,
                 at: start,
             };
-            point_to(arena, shape_of(word), object, to)
+            set_pointer_to(arena, shape_of(word), object, to)
         }
         None => Ok(()),
     }
@@ -93,7 +93,7 @@ fn shape_of(word: WirePointer) -> Shape
 /// Makes the pointer at `to` lead to the object that starts at `object` and has the kind and the
 /// size `shape`.
 #[inline(always)]
-fn point_to<A: BuilderArena>(
+fn set_pointer_to<A: BuilderArena>(
     arena: &mut A,
     shape: Shape,
     object: WordPlace,
@@ -195,7 +195,7 @@ fn tag_of(shape: Shape) -> WirePointer
 /// Refuses only if the arena refuses two words for a landing pad. The pointers before the refused
 /// one, and their landing pads, are then already written.
 #[inline(always)]
-pub fn move_row<A: BuilderArena>(
+pub fn transfer_row<A: BuilderArena>(
     arena: &mut A,
     from: WordPlace,
     to: WordPlace,
@@ -206,17 +206,17 @@ pub fn move_row<A: BuilderArena>(
         (call_at from.segment from.at (A.view arena.old) (A.view arena.new)) to count }
 {
     if from.segment == to.segment {
-        move_each(arena, from, to, count)
+        transfer_each(arena, from, to, count)
     } else {
-        move_row_apart(arena, from, to, count)
+        transfer_row_across(arena, from, to, count)
     }
 }
 
-/// Does what `move_row` does, if `to` is in another segment than `from`. Not inlined, because this
+/// Does what `transfer_row` does, if `to` is in another segment than `from`. Not inlined, because this
 /// is rare: most objects stay in their segment.
 #[cold]
 #[inline(never)]
-fn move_row_apart<A: BuilderArena>(
+fn transfer_row_across<A: BuilderArena>(
     arena: &mut A,
     from: WordPlace,
     to: WordPlace,
@@ -226,13 +226,13 @@ fn move_row_apart<A: BuilderArena>(
     ensures { MovesRow result
         (call_at from.segment from.at (A.view arena.old) (A.view arena.new)) to count }
 {
-    move_each(arena, from, to, count)
+    transfer_each(arena, from, to, count)
 }
 
-/// Does what `move_row` does, one pointer after the other. Inlined once for moves within a segment,
+/// Does what `transfer_row` does, one pointer after the other. Inlined once for moves within a segment,
 /// in which no pointer becomes far, and once for moves into another segment.
 #[inline(always)]
-fn move_each<A: BuilderArena>(
+fn transfer_each<A: BuilderArena>(
     arena: &mut A,
     from: WordPlace,
     to: WordPlace,
@@ -251,34 +251,34 @@ fn move_each<A: BuilderArena>(
             segment: to.segment,
             at: to.at + i,
         };
-        move_pointer(arena, source, place)?;
+        transfer_pointer(arena, source, place)?;
     }
     Ok(())
 }
 
-/// Zeroes the landing pads that `move_row` wrote when it moved `count` pointers from `from` to
+/// Zeroes the landing pads that `transfer_row` wrote when it moved `count` pointers from `from` to
 /// `to`.
 #[cold]
 #[inline(never)]
-pub fn unmove_row<A: BuilderArena>(arena: &mut A, from: WordPlace, to: WordPlace, count: u32)
+pub fn zero_pads_of_row<A: BuilderArena>(arena: &mut A, from: WordPlace, to: WordPlace, count: u32)
     requires { AreBothInside (A.view arena.old).words from to count }
     ensures { TakesBack (A.view arena.old) (A.view arena.new) (row_of_moves from to count) }
 {
     for i in 0..count {
-        unmove_pointer(arena, from.segment, from.at + i, to.segment, to.at + i);
+        zero_pads_of_pointer(arena, from.segment, from.at + i, to.segment, to.at + i);
     }
 }
 
-/// Zeroes the landing pads that `move_pointer` wrote when it moved the pointer at `at` of segment
-/// `id` to `to_at` of segment `to_id`. If `move_pointer` copied the pointer unchanged, the pads
+/// Zeroes the landing pads that `transfer_pointer` wrote when it moved the pointer at `at` of segment
+/// `id` to `to_at` of segment `to_id`. If `transfer_pointer` copied the pointer unchanged, the pads
 /// belong to the old pointer, and stay.
-fn unmove_pointer<A: BuilderArena>(arena: &mut A, id: u32, at: u32, to_id: u32, to_at: u32)
+fn zero_pads_of_pointer<A: BuilderArena>(arena: &mut A, id: u32, at: u32, to_id: u32, to_at: u32)
     ensures { TakesBack (A.view arena.old) (A.view arena.new)
         (row_of_moves (record { segment = id; at = at }) (record { segment = to_id; at = to_at })
         1) }
 {
-    if word_of(arena, id, at).kind() != WirePointerKind::Far {
-        let word = word_of(arena, to_id, to_at);
+    if pointer_word(arena, id, at).kind() != WirePointerKind::Far {
+        let word = pointer_word(arena, to_id, to_at);
         zero_pads(arena, word);
     }
 }
@@ -299,7 +299,7 @@ pub struct PointerRows {
 ///
 /// Refuses only if the arena refuses two words for a landing pad. The pointers before the refused
 /// one, and their landing pads, are then already written.
-pub fn move_rows<A: BuilderArena>(
+pub fn transfer_rows<A: BuilderArena>(
     arena: &mut A,
     from: PointerRows,
     to: PointerRows,
@@ -326,16 +326,16 @@ pub fn move_rows<A: BuilderArena>(
             segment: to.segment,
             at: place,
         };
-        move_row(arena, old, new, pointers)?;
+        transfer_row(arena, old, new, pointers)?;
         source += from.step;
         place += to.step;
     }
     Ok(())
 }
 
-/// Zeroes the landing pads that `move_rows` wrote when it moved the pointers of `count` rows,
+/// Zeroes the landing pads that `transfer_rows` wrote when it moved the pointers of `count` rows,
 /// `pointers` pointers in each row.
-pub fn unmove_rows<A: BuilderArena>(
+pub fn zero_pads_of_rows<A: BuilderArena>(
     arena: &mut A,
     from: PointerRows,
     to: PointerRows,
@@ -357,7 +357,7 @@ pub fn unmove_rows<A: BuilderArena>(
             segment: to.segment,
             at: place,
         };
-        unmove_row(arena, old, new, pointers);
+        zero_pads_of_row(arena, old, new, pointers);
         source += from.step;
         place += to.step;
     }

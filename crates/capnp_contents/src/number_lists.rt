@@ -13,12 +13,12 @@ ghost use Rattle.capnp_contents.specs.Rooms.{GrowsByAtMost};
 ghost use Rattle.capnp_contents.specs.RowsRemade.{AreNumbersCopied, IsList, MakesListAnew, MakesListOfStructs, NumbersInside};
 
 use crate::existing::ExistingList;
-use crate::remaking::begin_list;
+use crate::remaking::allocate_struct_list;
 use crate::widening::point_to_object;
 use capnp_arena_traits::arena::{BuilderArena, WordPlace, set_word};
-use capnp_making::landing::{length_of, word_of};
+use capnp_making::landing::{pointer_word, segment_length};
 use capnp_making::making::Shape;
-use capnp_making::zeroing::{zero_pads, zero_part};
+use capnp_making::zeroing::{zero_if_inside, zero_pads};
 use capnp_words::error::ErrorKind;
 use capnp_words::wire_pointer::{ElementSize, StructSize, data_bits_per_element};
 
@@ -45,7 +45,7 @@ pub(crate) fn widen_numbers<A: BuilderArena>(
     if !are_numbers_inside(arena, old) {
         return Err(ErrorKind::MessageContainsOutOfBoundsPointer);
     }
-    remake_numbers(arena, id, at, old, size)
+    widen_numbers_inside(arena, id, at, old, size)
 }
 
 /// Whether the words of a list of numbers are inside their segment.
@@ -53,7 +53,7 @@ fn are_numbers_inside<A: BuilderArena>(arena: &A, list: ExistingList) -> bool
     ensures { IsTrue result ↔ NumbersInside (A.view arena.now).words list }
 {
     let end = u64::from(list.start) + words_of_numbers(list);
-    end <= u64::from(length_of(arena, list.segment))
+    end <= u64::from(segment_length(arena, list.segment))
 }
 
 /// The number of words of a list of numbers.
@@ -66,7 +66,7 @@ fn words_of_numbers(list: ExistingList) -> u64
 
 /// Turns the list of numbers `old`, which the pointer at `at` of segment `id` leads to, into a list
 /// of structs. Precondition: the words of `old` are inside their segment.
-fn remake_numbers<A: BuilderArena>(
+fn widen_numbers_inside<A: BuilderArena>(
     arena: &mut A,
     id: u32,
     at: u32,
@@ -88,8 +88,8 @@ fn remake_numbers<A: BuilderArena>(
     ensures grows { Grows (A.view arena.old).words (A.view arena.new).words }
     ensures fits { HasRoom (A.view arena.old) id (structs_words old.count size) → IsOk result }
 {
-    let pointer = word_of(arena, id, at);
-    let room = begin_list(arena, id, old.count, size)?;
+    let pointer = pointer_word(arena, id, at);
+    let room = allocate_struct_list(arena, id, old.count, size)?;
     let first = WordPlace {
         segment: room.segment,
         at: room.at + room.pads + 1,
@@ -97,7 +97,7 @@ fn remake_numbers<A: BuilderArena>(
     copy_numbers(arena, old, first, size.total());
     let shape = Shape::List(ElementSize::InlineComposite, old.count * size.total());
     point_to_object(arena, id, at, room, shape);
-    zero_part(arena, old.segment, old.start, words_of_numbers(old));
+    zero_if_inside(arena, old.segment, old.start, words_of_numbers(old));
     zero_pads(arena, pointer);
     Ok(ExistingList {
         segment: first.segment,
@@ -140,7 +140,7 @@ fn number_at<A: BuilderArena>(arena: &A, list: ExistingList, index: u32) -> u64
 {
     let bits = data_bits_per_element(list.size);
     let first = u64::from(bits) * u64::from(index);
-    let word = word_of(arena, list.segment, list.start + (first / 64) as u32);
+    let word = pointer_word(arena, list.segment, list.start + (first / 64) as u32);
     let low = word.0 >> (first % 64);
     if bits < 64 {
         low & ((1 << bits) - 1)

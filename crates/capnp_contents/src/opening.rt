@@ -16,9 +16,9 @@ ghost use Rattle.capnp_contents.specs.Widened.{IsAtLeast};
 
 use crate::existing::{self, ExistingList, ExistingStruct};
 use crate::lists::get_struct_list;
-use crate::widening::{is_wide, widen_known};
+use crate::widening::{is_wide_enough, widen_existing};
 use capnp_arena_traits::arena::{BuilderArena, WordPlace};
-use capnp_making::landing::word_of;
+use capnp_making::landing::pointer_word;
 use capnp_making::making::make_struct;
 use capnp_words::error::ErrorKind;
 use capnp_words::wire_pointer::StructSize;
@@ -60,7 +60,7 @@ pub fn open_struct<A: BuilderArena>(
 {
     match existing::get_struct(arena, id, at) {
         Some(old) => {
-            if is_wide(old.size, size) {
+            if is_wide_enough(old.size, size) {
                 return Ok(old);
             }
             let start = WordPlace {
@@ -70,7 +70,7 @@ pub fn open_struct<A: BuilderArena>(
             open_narrow_struct(arena, WordPlace { segment: id, at }, start, old.size, size)
         }
         None => {
-            if !word_of(arena, id, at).is_null() {
+            if !pointer_word(arena, id, at).is_null() {
                 return Err(ErrorKind::MessageContainsNonStructPointerWhereStructPointerWasExpected);
             }
             new_struct(arena, id, at, size)
@@ -111,7 +111,7 @@ fn new_struct<A: BuilderArena>(
     })
 }
 
-/// Widens the struct at `start`, to which the pointer at `place` leads, like `widen_known`.
+/// Widens the struct at `start`, to which the pointer at `place` leads, like `widen_existing`.
 /// `narrow` is the struct's old sections; at least one of them is smaller than in `size`. Takes
 /// `start` and `narrow` instead of an `ExistingStruct`, so that they are passed in registers.
 #[inline(never)]
@@ -146,7 +146,7 @@ fn open_narrow_struct<A: BuilderArena>(
         start: start.at,
         size: narrow,
     };
-    widen_known(arena, place.segment, place.at, old, size)
+    widen_existing(arena, place.segment, place.at, old, size)
 }
 
 /// Returns the list that the pointer at `at` of segment `id` leads to, as a list of structs with

@@ -13,12 +13,12 @@ ghost use Rattle.capnp_making.specs.Makes.{call_at};
 ghost use Rattle.capnp_arena_traits.specs.declared.arena.WordPlace.{WordPlace};
 
 use crate::existing::ExistingList;
-use crate::moving::{PointerRows, move_rows, unmove_rows};
+use crate::moving::{PointerRows, transfer_rows, zero_pads_of_rows};
 use crate::widening::{Allocation, allocate_object, copy_words, point_to_object};
 use capnp_arena_traits::arena::{BuilderArena, WordPlace, set_word};
-use capnp_making::landing::{length_of, word_of};
+use capnp_making::landing::{pointer_word, segment_length};
 use capnp_making::making::Shape;
-use capnp_making::zeroing::{zero_pads, zero_part};
+use capnp_making::zeroing::{zero_if_inside, zero_pads};
 use capnp_words::error::ErrorKind;
 use capnp_words::wire_pointer::{ElementSize, StructSize, WirePointer};
 
@@ -79,7 +79,7 @@ fn copy_rows<A: BuilderArena>(
 /// Allocates words for a list of `count` structs of `size`, and writes the list's tag. The words
 /// are in segment `id` if they fit there, otherwise after a word for a landing pad, in any segment
 /// in which the arena finds or makes room.
-pub(crate) fn begin_list<A: BuilderArena>(
+pub(crate) fn allocate_struct_list<A: BuilderArena>(
     arena: &mut A,
     id: u32,
     count: u32,
@@ -107,7 +107,7 @@ pub(crate) fn begin_list<A: BuilderArena>(
 ///
 /// Refuses only if the arena refuses two words for a landing pad. After a refusal, the landing pads
 /// that were written for these pointers are zero again.
-fn fill_rows<A: BuilderArena>(
+fn move_elements<A: BuilderArena>(
     arena: &mut A,
     old: ElementRows,
     first: WordPlace,
@@ -167,10 +167,10 @@ fn fill_rows<A: BuilderArena>(
         at: first.at + u32::from(size.data_words),
         step: structs.step,
     };
-    match move_rows(arena, from, to, pointers, old.count) {
+    match transfer_rows(arena, from, to, pointers, old.count) {
         Ok(()) => Ok(()),
         Err(k) => {
-            unmove_rows(arena, from, to, pointers, old.count);
+            zero_pads_of_rows(arena, from, to, pointers, old.count);
             Err(k)
         }
     }
@@ -198,7 +198,7 @@ pub(crate) fn widen_rows<A: BuilderArena>(
     if !are_inside(arena, old) {
         return Err(ErrorKind::MessageContainsOutOfBoundsPointer);
     }
-    remake_rows(arena, id, at, old, size)
+    widen_rows_inside(arena, id, at, old, size)
 }
 
 /// Whether the words of `rows` are inside their segment.
@@ -207,12 +207,12 @@ fn are_inside<A: BuilderArena>(arena: &A, rows: ElementRows) -> bool
 {
     let words = u64::from(rows.count) * u64::from(rows.size.total());
     let end = u64::from(rows.at) + (u64::from(rows.tag) + words);
-    end <= u64::from(length_of(arena, rows.segment))
+    end <= u64::from(segment_length(arena, rows.segment))
 }
 
 /// Makes a list of structs from the elements of `old`, like `widen_rows`. Precondition: the words
 /// of `old` are inside their segment.
-fn remake_rows<A: BuilderArena>(
+fn widen_rows_inside<A: BuilderArena>(
     arena: &mut A,
     id: u32,
     at: u32,
@@ -232,21 +232,21 @@ fn remake_rows<A: BuilderArena>(
         → HasRoomAndPads (A.view arena.old) id (structs_words old.count size) old.segment
         (near_pointers (A.view arena.old).words (element_moves old to size)) → IsOk result }
 {
-    let pointer = word_of(arena, id, at);
+    let pointer = pointer_word(arena, id, at);
     let words = old.count * size.total();
-    let room = begin_list(arena, id, old.count, size)?;
+    let room = allocate_struct_list(arena, id, old.count, size)?;
     let tag = room.at + room.pads;
     let first = WordPlace {
         segment: room.segment,
         at: tag + 1,
     };
-    match fill_rows(arena, old, first, size) {
+    match move_elements(arena, old, first, size) {
         Ok(()) => {
             let shape = Shape::List(ElementSize::InlineComposite, words);
             point_to_object(arena, id, at, room, shape);
             let step = u64::from(old.size.total());
             let length = u64::from(old.tag) + u64::from(old.count) * step;
-            zero_part(arena, old.segment, old.at, length);
+            zero_if_inside(arena, old.segment, old.at, length);
             zero_pads(arena, pointer);
             Ok(ExistingList {
                 segment: first.segment,
@@ -257,7 +257,7 @@ fn remake_rows<A: BuilderArena>(
             })
         }
         Err(k) => {
-            zero_part(arena, room.segment, tag, 1 + u64::from(words));
+            zero_if_inside(arena, room.segment, tag, 1 + u64::from(words));
             Err(k)
         }
     }

@@ -20,11 +20,11 @@ ghost use Rattle.capnp_contents.specs.Rooms.{GrowsByAtMost, HasPadRoom, HasRoomA
 ghost use Rattle.capnp_contents.specs.Widened.{IsStruct, widened};
 
 use crate::existing::ExistingStruct;
-use crate::moving::{move_row, unmove_row};
+use crate::moving::{transfer_row, zero_pads_of_row};
 use capnp_arena_traits::arena::{BuilderArena, WordPlace, set_word};
-use capnp_making::landing::word_of;
+use capnp_making::landing::pointer_word;
 use capnp_making::making::{Shape, pointer_to};
-use capnp_making::zeroing::{zero_pads, zero_part};
+use capnp_making::zeroing::{zero_if_inside, zero_pads};
 use capnp_words::error::ErrorKind;
 use capnp_words::wire_pointer::{StructSize, WirePointer};
 
@@ -82,16 +82,16 @@ pub(crate) fn copy_words<A: BuilderArena>(arena: &mut A, from: WordPlace, to: Wo
     ensures { CopiesWords (A.view arena.old) (A.view arena.new) from to count }
 {
     if count == 1 {
-        let word = word_of(arena, from.segment, from.at);
+        let word = pointer_word(arena, from.segment, from.at);
         set_word(arena, to.segment, to.at, word.0);
     } else {
-        copy_many(arena, from, to, count);
+        copy_words_at_once(arena, from, to, count);
     }
 }
 
 /// Copies the `count` words from `from` on over those from `to` on, by one call of the arena.
 #[inline(never)]
-fn copy_many<A: BuilderArena>(arena: &mut A, from: WordPlace, to: WordPlace, count: u32)
+fn copy_words_at_once<A: BuilderArena>(arena: &mut A, from: WordPlace, to: WordPlace, count: u32)
     requires { AreBothInside (A.view arena.old).words from to count }
     ensures { CopiesWords (A.view arena.old) (A.view arena.new) from to count }
 {
@@ -136,7 +136,7 @@ pub(crate) fn point_to_object<A: BuilderArena>(
 ///
 /// Refusals: the arena's `AllocationFailed` or `MessageTooLarge`, for the new words or for a
 /// landing pad. After a refusal the old struct is unchanged.
-pub(crate) fn widen_known<A: BuilderArena>(
+pub(crate) fn widen_existing<A: BuilderArena>(
     arena: &mut A,
     id: u32,
     at: u32,
@@ -187,7 +187,7 @@ fn greater(a: u16, b: u16) -> u16
 }
 
 /// Whether both sections of `size` are at least as large as those of `wanted`.
-pub(crate) fn is_wide(size: StructSize, wanted: StructSize) -> bool
+pub(crate) fn is_wide_enough(size: StructSize, wanted: StructSize) -> bool
     ensures { IsTrue result
         ↔ ((wanted.data_words ≤ size.data_words) × (wanted.pointers ≤ size.pointers)) }
 {
@@ -196,7 +196,7 @@ pub(crate) fn is_wide(size: StructSize, wanted: StructSize) -> bool
 
 /// Where the data section of a struct starts.
 #[inline(always)]
-fn data_of(e: ExistingStruct) -> WordPlace
+fn data_place(e: ExistingStruct) -> WordPlace
     ensures { result ≡ record { segment = e.segment; at = e.start } }
 {
     WordPlace {
@@ -207,7 +207,7 @@ fn data_of(e: ExistingStruct) -> WordPlace
 
 /// Where the pointers of a struct start.
 #[inline(always)]
-fn pointers_of(e: ExistingStruct) -> WordPlace
+fn pointers_place(e: ExistingStruct) -> WordPlace
     requires { e.start + e.size.data_words < 2 ^ 32 }
     ensures { result ≡ record { segment = e.segment; at = e.start + e.size.data_words } }
 {
@@ -245,7 +245,7 @@ fn widen_struct<A: BuilderArena>(
         (record { segment = old.segment; at = old.start + old.size.data_words }) to
         old.size.pointers)) → IsOk result }
 {
-    let pointer = word_of(arena, id, at);
+    let pointer = pointer_word(arena, id, at);
     let room = allocate_object(arena, id, size.total())?;
     let made = ExistingStruct {
         segment: room.segment,
@@ -254,23 +254,23 @@ fn widen_struct<A: BuilderArena>(
     };
     copy_words(
         arena,
-        data_of(old),
-        data_of(made),
+        data_place(old),
+        data_place(made),
         u32::from(old.size.data_words),
     );
-    let from = pointers_of(old);
-    let to = pointers_of(made);
+    let from = pointers_place(old);
+    let to = pointers_place(made);
     let count = u32::from(old.size.pointers);
-    match move_row(arena, from, to, count) {
+    match transfer_row(arena, from, to, count) {
         Ok(()) => {
             point_to_object(arena, id, at, room, Shape::Struct(size));
-            zero_part(arena, old.segment, old.start, u64::from(old.size.total()));
+            zero_if_inside(arena, old.segment, old.start, u64::from(old.size.total()));
             zero_pads(arena, pointer);
             Ok(made)
         }
         Err(k) => {
-            unmove_row(arena, from, to, count);
-            zero_part(arena, made.segment, made.start, u64::from(size.total()));
+            zero_pads_of_row(arena, from, to, count);
+            zero_if_inside(arena, made.segment, made.start, u64::from(size.total()));
             Err(k)
         }
     }

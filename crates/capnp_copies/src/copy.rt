@@ -33,15 +33,15 @@ use capnp_objects::object::Object;
 use capnp_objects::pointers::Pointer;
 use capnp_words::error::ErrorKind;
 use capnp_words::read_limiter::ReadLimiter;
-use capnp_words::wire_pointer::{WirePointer, flat_words};
-use capnp_words::words::part;
+use capnp_words::wire_pointer::{WirePointer, words_for_elements};
+use capnp_words::words::word_range;
 pub use children::copy_children;
 pub use elements::put_words;
-pub use flat::copy_flat;
-pub use lists::{copy_pointers, copy_structs};
+pub use flat::copy_primitive_list;
+pub use lists::{copy_pointer_list, copy_struct_list};
 use places::pointer_inside;
 pub use places::{place_past, pointer_past};
-pub use refusals::clear_refused;
+pub use refusals::clear_if_refused;
 pub use structs::copy_struct;
 
 /// Copies the value of `from` to the null pointer at `to`, in canonical form if `canonicalize`,
@@ -91,7 +91,7 @@ pub fn copy_in_form<A: BuilderArena, B: ReaderArena>(
         (copy_call_to to (A.view arena.old) (A.view arena.new) lim.old lim.new) }
 {
     let copied = copy_object(arena, to.place, from, lim, to.form);
-    clear_refused(arena, to.place, copied)
+    clear_if_refused(arena, to.place, copied)
 }
 
 /// Like `copy_in_form`, but doesn't clear anything after a refusal: the objects that were made
@@ -121,17 +121,17 @@ fn copy_object<A: BuilderArena, B: ReaderArena>(
             structs::copy_struct(arena, destination, inner, size, lim)
         }
         Object::Flat { start, size, count } => {
-            let words = flat_words(size, count);
-            let elements = part(start.bytes, start.at as usize, words as usize);
-            flat::copy_flat(arena, to, size, count, elements)
+            let words = words_for_elements(size, count);
+            let elements = word_range(start.bytes, start.at as usize, words as usize);
+            flat::copy_primitive_list(arena, to, size, count, elements)
         }
         Object::Pointers { start, count } => {
             let inner = pointer_inside(from, start);
-            lists::copy_pointers(arena, destination, inner, count, lim)
+            lists::copy_pointer_list(arena, destination, inner, count, lim)
         }
         Object::Structs { start, size, count } => {
             let inner = pointer_inside(from, start);
-            lists::copy_structs(arena, destination, inner, StructList { size, count }, lim)
+            lists::copy_struct_list(arena, destination, inner, StructList { size, count }, lim)
         }
     }
 }

@@ -51,9 +51,9 @@ pub(crate) fn least_widths(bytes: &[u8], start: u32, count: u32, size: StructSiz
     if size.total() > 0 {
         let mut at = start as usize;
         for i in 0..count {
-            least_data = widened(bytes, at, data_words, least_data);
+            least_data = max_used_words(bytes, at, data_words, least_data);
             at += usize::from(data_words);
-            least_pointers = widened(bytes, at, pointers, least_pointers);
+            least_pointers = max_used_words(bytes, at, pointers, least_pointers);
             at += usize::from(pointers);
         }
     }
@@ -66,7 +66,7 @@ pub(crate) fn least_widths(bytes: &[u8], start: u32, count: u32, size: StructSiz
 /// Returns the greater one of `least` and the number of words up to the last one that isn't zero,
 /// of the `n` words from word `at` of `bytes` on. Reads only the words after the first `least`.
 #[tactic(auto, using(crate::proofs::Scanning::used_section))]
-fn widened(bytes: &[u8], at: usize, n: u16, least: u16) -> u16
+fn max_used_words(bytes: &[u8], at: usize, n: u16, least: u16) -> u16
     requires inside { 8 * (at + n) ≤ length bytes.now }
     requires whole { length bytes.now ≡ 8 * length (words_of bytes.now) }
     requires within { least ≤ n }

@@ -14,7 +14,7 @@ mod pointer;
 mod tasks;
 
 use self::filling::change_struct;
-use self::path::{PathEnd, find, has_words};
+use self::path::{PathEnd, follow_path, has_words};
 use self::pointer::edit_pointer;
 use self::tasks::{Task, task_of};
 use capnp_arena::arena::{BuilderArena, ReaderArenaImpl, SegmentArray};
@@ -142,7 +142,7 @@ pub fn apply<A: BuilderArena>(arena: &mut A, edit: &Edit<'_>) -> Result<(), Erro
     if !has_words(&*arena, 0, 1) {
         return Err(ErrorKind::NoSuchPlace);
     }
-    let Some(end) = find(&*arena, edit.path) else {
+    let Some(end) = follow_path(&*arena, edit.path) else {
         return Err(ErrorKind::NoSuchPlace);
     };
     let Some(task) = task_of(edit.op) else {

@@ -2,6 +2,7 @@ pub mod Bare
 pub mod Devices
 pub mod Flat
 pub mod Frames
+pub mod Limits
 pub mod Memory
 pub mod Names
 pub mod Prefix

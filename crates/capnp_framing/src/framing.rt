@@ -3,6 +3,7 @@
 
 mod flat;
 mod frame_error;
+mod limits;
 mod owned_segments;
 mod prefix;
 mod reading;
@@ -11,6 +12,7 @@ mod writing;
 
 pub use flat::{FrameSegments, read_from_flat_slice};
 pub use frame_error::FrameError;
+pub use limits::most_words;
 pub use owned_segments::OwnedSegments;
 pub use prefix::size_from_prefix;
 pub use reading::{read, read_into, read_into_with};

@@ -38,7 +38,7 @@ pub fn frame_is_read()
 /// If a segment has at most `most` words, the bytes of these words, without a frame, are read as a
 /// message with this one segment. Whole words are never refused for their contents, if there are at
 /// most `most`, and no more than a segment can have.
-pub fn bare_words()
+pub fn raw_words_are_read()
     ensures same { (ws : List ℕ) (most : ℕ) → AreSegmentWords ws → length ws ≤ most_bare most
         → AreBareWords (bytes_of_words ws) most × (message (bytes_of_words ws ∷ []) ≡ ws ∷ []) }
     ensures read { (bytes : List ℕ) (most : ℕ) (e : FrameError) → AreBareWords bytes most

@@ -14,6 +14,8 @@ mod size;
 mod writing;
 
 pub use args::{Args, parse_args};
-pub use capnp_messages::text::{parse_budget, parse_nesting, write_number, write_size};
+pub use capnp_messages::text::{
+    parse_nesting_limit, parse_traversal_limit, write_number, write_size,
+};
 pub use engine::{Outcome, run, run_with};
 pub use refusal::Refusal;

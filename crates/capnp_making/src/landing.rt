@@ -23,7 +23,7 @@ pub struct PointerTarget {
 }
 
 /// The number of words of segment `id`; 0 if there is no such segment.
-pub fn length_of<A: BuilderArena>(arena: &A, id: u32) -> u32
+pub fn segment_length<A: BuilderArena>(arena: &A, id: u32) -> u32
     ensures { result ≡ length (segment (A.view arena.now).words id) }
 {
     match arena.get_segment(id) {
@@ -33,7 +33,7 @@ pub fn length_of<A: BuilderArena>(arena: &A, id: u32) -> u32
 }
 
 /// The pointer word at `at` of segment `id`; zero if there is no such word.
-pub fn word_of<A: BuilderArena>(arena: &A, id: u32, at: u32) -> WirePointer
+pub fn pointer_word<A: BuilderArena>(arena: &A, id: u32, at: u32) -> WirePointer
     ensures { result.0 ≡ word_at (A.view arena.now).words id at }
 {
     match arena.get_segment(id) {
@@ -58,13 +58,13 @@ pub(crate) fn follow<A: BuilderArena>(arena: &A, id: u32, at: u32) -> Option<Poi
     ensures { (a : Target) → leads (A.view arena.now).words id at ≡ Some a
         → option_map target_of result ≡ Some a }
 {
-    landing_of(arena, id, at, word_of(arena, id, at))
+    follow_word(arena, id, at, pointer_word(arena, id, at))
 }
 
 /// Where the pointer at `at` of segment `id` leads. The result has no meaning if the pointer is
 /// null or leads out of the message. Precondition: `word` is the pointer's word.
 #[inline(always)]
-pub fn landing_of<A: BuilderArena>(
+pub fn follow_word<A: BuilderArena>(
     arena: &A,
     id: u32,
     at: u32,
@@ -93,7 +93,7 @@ fn follow_near<A: BuilderArena>(
 ) -> Option<PointerTarget>
     ensures { option_map target_of result ≡ near (A.view arena.now).words id at word.0 pads }
 {
-    match word.target(at, length_of(arena, id)) {
+    match word.target(at, segment_length(arena, id)) {
         Some(start) => Some(PointerTarget {
             word,
             segment: id,
@@ -114,9 +114,9 @@ fn follow_far<A: BuilderArena>(arena: &A, word: WirePointer) -> Option<PointerTa
 {
     let id = word.far_segment_id();
     let at = word.far_position_in_segment();
-    let pad = word_of(arena, id, at);
+    let pad = pointer_word(arena, id, at);
     if word.is_double_far() {
-        let tag = word_of(arena, id, at + 1);
+        let tag = pointer_word(arena, id, at + 1);
         Some(PointerTarget {
             word: tag,
             segment: pad.far_segment_id(),

@@ -66,7 +66,7 @@ pub fn pointer_to(shape: Shape, position: u32, target: u32) -> WirePointer
 /// a landing pad. A refusal changes nothing, except that `AllocationFailed` adds 1 to the
 /// allocator's `refused`.
 #[inline(always)]
-fn put_object<A: BuilderArena>(
+fn make_object<A: BuilderArena>(
     arena: &mut A,
     id: u32,
     at: u32,
@@ -100,7 +100,7 @@ fn put_object<A: BuilderArena>(
                 at: start,
             })
         }
-        None => put_far(arena, id, at, shape, amount),
+        None => make_far_object(arena, id, at, shape, amount),
     }
 }
 
@@ -111,7 +111,7 @@ fn put_object<A: BuilderArena>(
 /// a landing pad. A refusal changes nothing, except that `AllocationFailed` adds 1 to the
 /// allocator's `refused`.
 #[inline(always)]
-fn put_far<A: BuilderArena>(
+fn make_far_object<A: BuilderArena>(
     arena: &mut A,
     id: u32,
     at: u32,
@@ -187,7 +187,7 @@ pub fn make_struct<A: BuilderArena>(
         set_word(arena, id, at, WirePointer::empty_struct().0);
         return Ok(WordPlace { segment: id, at });
     }
-    put_object(arena, id, at, Shape::Struct(size), words)
+    make_object(arena, id, at, Shape::Struct(size), words)
 }
 
 /// Makes a list of `count` elements that aren't structs, all zero or null, and makes the pointer at
@@ -223,7 +223,7 @@ pub fn make_list<A: BuilderArena>(
     ensures refused { OnErr result ((A.view arena.new).words ≡ (A.view arena.old).words) }
 {
     let words = words_of_list(size, count);
-    put_object(arena, id, at, Shape::List(size, count), words)
+    make_object(arena, id, at, Shape::List(size, count), words)
 }
 
 /// The number of words of a list of `count` elements that aren't structs.
@@ -274,7 +274,7 @@ pub fn make_struct_list<A: BuilderArena>(
 {
     let words = count * size.total();
     let shape = Shape::List(ElementSize::InlineComposite, words);
-    let start = put_object(arena, id, at, shape, 1 + words)?;
+    let start = make_object(arena, id, at, shape, 1 + words)?;
     let tag = WirePointer::new_tag(count, size);
     set_word(arena, start.segment, start.at, tag.0);
     Ok(start)

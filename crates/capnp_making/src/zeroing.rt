@@ -11,7 +11,7 @@ ghost use Rattle.capnp_format.specs.Path.{extent};
 ghost use Rattle.capnp_making.specs.Landings.{target_of};
 ghost use Rattle.capnp_making.specs.Zeroed.{IsZeroed, IsPruned, Zeroes, ZeroesPads, IsApart, IsObjectApart, AreApart, AreApartElements, IsStructListApart, element_extents, struct_list_cover};
 
-use crate::landing::{PointerTarget, follow, length_of, word_of};
+use crate::landing::{PointerTarget, follow, pointer_word, segment_length};
 use capnp_arena_traits::arena::{BuilderArena, set_word, zero_words};
 use capnp_words::wire_pointer::{
     ElementSize, StructSize, WirePointer, WirePointerKind, data_bits_per_element,
@@ -19,7 +19,7 @@ use capnp_words::wire_pointer::{
 
 /// Zeroes the `n` words of segment `id` from `start` on. Changes nothing unless all of them are
 /// inside the segment.
-pub fn zero_part<A: BuilderArena>(arena: &mut A, id: u32, start: u32, n: u64)
+pub fn zero_if_inside<A: BuilderArena>(arena: &mut A, id: u32, start: u32, n: u64)
     requires { n < 2 ^ 63 }
     ensures zeroed { start + n ≤ length (segment (A.view arena.old).words id)
         → IsZeroed (A.view arena.old).words (A.view arena.new).words (row id start n ∷ []) }
@@ -28,18 +28,18 @@ pub fn zero_part<A: BuilderArena>(arena: &mut A, id: u32, start: u32, n: u64)
     ensures pruned { IsPruned (A.view arena.old).words (A.view arena.new).words }
     ensures limits { KeepsLimits (A.view arena.old) (A.view arena.new) }
 {
-    if holds_some(arena, id, start, n) {
+    if is_nonempty_inside(arena, id, start, n) {
         zero_words(arena, id, start, n as u32);
     }
 }
 
 /// Whether the `n` words from `start` on are inside segment `id`, and `n` isn't 0.
-fn holds_some<A: BuilderArena>(arena: &A, id: u32, start: u32, n: u64) -> bool
+fn is_nonempty_inside<A: BuilderArena>(arena: &A, id: u32, start: u32, n: u64) -> bool
     requires { n < 2 ^ 63 }
     ensures { IsTrue result
         ↔ ((0 < n) × (start + n ≤ length (segment (A.view arena.now).words id))) }
 {
-    n > 0 && u64::from(start) + n <= u64::from(length_of(arena, id))
+    n > 0 && u64::from(start) + n <= u64::from(segment_length(arena, id))
 }
 
 /// Zeroes the landing pads of `word`, if it is a far pointer. Changes nothing if the pads aren't
@@ -61,7 +61,7 @@ fn zero_far_pads<A: BuilderArena>(arena: &mut A, word: WirePointer)
     ensures { ZeroesPads (A.view arena.old) (A.view arena.new) word.0 }
 {
     let words = if word.is_double_far() { 2 } else { 1 };
-    zero_part(
+    zero_if_inside(
         arena,
         word.far_segment_id(),
         word.far_position_in_segment(),
@@ -89,7 +89,7 @@ pub fn zero_object<A: BuilderArena>(arena: &mut A, id: u32, at: u32)
     set_word(arena, id, at, 0);
     match landing {
         Some(landing) => {
-            zero_landed(arena, landing);
+            zero_target(arena, landing);
             zero_pads(arena, word);
         }
         None => {}
@@ -101,7 +101,7 @@ pub fn zero_object<A: BuilderArena>(arena: &mut A, id: u32, at: u32)
 #[cycle(zeroing)]
 #[cold]
 #[inline(never)]
-fn zero_landed<A: BuilderArena>(arena: &mut A, landing: PointerTarget)
+fn zero_target<A: BuilderArena>(arena: &mut A, landing: PointerTarget)
     ensures { Zeroes (A.view arena.old) (A.view arena.new)
         (IsObjectApart (A.view arena.old).words (target_of landing))
         (object_cover (A.view arena.old).words (target_of landing)) }
@@ -117,11 +117,11 @@ fn zero_landed<A: BuilderArena>(arena: &mut A, landing: PointerTarget)
         WirePointerKind::List => {
             let count = word.list_element_count();
             match word.list_element_size() {
-                ElementSize::InlineComposite => zero_structs(arena, id, start),
+                ElementSize::InlineComposite => zero_struct_list(arena, id, start),
                 ElementSize::Pointer => zero_pointers(arena, id, start, count),
                 size => {
                     let bits = u64::from(data_bits_per_element(size)) * u64::from(count);
-                    zero_part(arena, id, start, bits.div_ceil(64));
+                    zero_if_inside(arena, id, start, bits.div_ceil(64));
                 }
             }
         }
@@ -142,9 +142,9 @@ fn zero_struct<A: BuilderArena>(arena: &mut A, id: u32, start: u32, size: Struct
         ∷ cover_all (A.view arena.old).words id (start + size.data_words) ts) }
 {
     let pointers = u64::from(start) + u64::from(size.data_words);
-    if pointers + u64::from(size.pointers) <= u64::from(length_of(arena, id)) {
+    if pointers + u64::from(size.pointers) <= u64::from(segment_length(arena, id)) {
         zero_pointers(arena, id, pointers as u32, u32::from(size.pointers));
-        zero_part(arena, id, start, u64::from(size.total()));
+        zero_if_inside(arena, id, start, u64::from(size.total()));
     }
 }
 
@@ -160,7 +160,7 @@ fn zero_pointers<A: BuilderArena>(arena: &mut A, id: u32, start: u32, count: u32
         × AreApart (A.view arena.old).words id start ts)
         (λ (ts : Trees). row id start count ∷ cover_all (A.view arena.old).words id start ts) }
 {
-    if u64::from(start) + u64::from(count) <= u64::from(length_of(arena, id)) {
+    if u64::from(start) + u64::from(count) <= u64::from(segment_length(arena, id)) {
         for i in 0..count {
             zero_object(arena, id, start + i);
         }
@@ -171,18 +171,18 @@ fn zero_pointers<A: BuilderArena>(arena: &mut A, id: u32, start: u32, count: u32
 /// its pointers lead to values, and no word is used twice. Otherwise may zero any words, but writes
 /// only zeros.
 #[cycle(zeroing)]
-fn zero_structs<A: BuilderArena>(arena: &mut A, id: u32, start: u32)
+fn zero_struct_list<A: BuilderArena>(arena: &mut A, id: u32, start: u32)
     ensures { Zeroes (A.view arena.old) (A.view arena.new)
         (IsStructListApart (A.view arena.old).words id start)
         (struct_list_cover (A.view arena.old).words id start) }
 {
-    let tag = word_of(arena, id, start);
+    let tag = pointer_word(arena, id, start);
     let count = tag.inline_composite_list_element_count();
     let size = tag.struct_size();
     let words = 1 + u64::from(count) * u64::from(size.total());
-    if u64::from(start) + words <= u64::from(length_of(arena, id)) {
+    if u64::from(start) + words <= u64::from(segment_length(arena, id)) {
         zero_elements(arena, id, start + 1, size, count);
-        zero_part(arena, id, start, words);
+        zero_if_inside(arena, id, start, words);
     }
 }
 

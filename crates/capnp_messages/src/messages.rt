@@ -1,7 +1,7 @@
 //! Makes canonical copies and digests of whole messages, tests whether messages are in canonical
 //! form, and measures them (encoding specification, "Canonicalization").
 
-mod as_it_stands;
+mod already_canonical;
 mod canonical_copy;
 mod canonical_error;
 mod canonical_message;
@@ -20,7 +20,7 @@ mod whole;
 mod whole_digest;
 mod writing;
 
-pub use as_it_stands::canonical_segment;
+pub use already_canonical::canonical_segment;
 pub use canonical_copy::canonicalize_pointer;
 pub use canonical_error::CanonicalError;
 pub use canonical_message::is_canonical_message;

@@ -9,7 +9,7 @@ use capnp_objects::pointers::{Extent, MessageSize};
 
 /// Parses a nesting limit: an `i32` in decimal digits with an optional `-`. Returns `None` for any
 /// other text, also for one with a `+`.
-pub fn parse_nesting(text: &str) -> Option<i32>
+pub fn parse_nesting_limit(text: &str) -> Option<i32>
     ensures read { IfSome result (λ n. IsNesting text.now n) }
     ensures none { IsNone result → (n : ℤ) → IsNesting text.now n → ⊥ }
 {
@@ -22,7 +22,7 @@ pub fn parse_nesting(text: &str) -> Option<i32>
 
 /// Parses a traversal limit: a `u64` in decimal digits, or `none` for no limit. Returns `None` for
 /// any other text, also for one with a `+`.
-pub fn parse_budget(text: &str) -> Option<Option<usize>>
+pub fn parse_traversal_limit(text: &str) -> Option<Option<usize>>
     ensures read { IfSome result (λ n. IsBudget text.now n) }
     ensures none { IsNone result → (n : Option ℕ) → IsBudget text.now n → ⊥ }
 {

@@ -4,6 +4,7 @@
 #![tactic(auto)]
 
 pub mod laws;
+pub mod nesting;
 pub mod object;
 pub mod pointers;
 pub mod source;

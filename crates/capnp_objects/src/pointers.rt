@@ -18,7 +18,7 @@ mod walk;
 
 use crate::object::Place;
 use crate::source::Source;
-pub use canonical::ends_used;
+pub use canonical::is_last_word_used;
 pub use canonical_fault::{CanonicalFault, CanonicalFaultReason};
 use capnp_arena_traits::arena::ReaderArena;
 use capnp_words::error::ErrorKind;

@@ -4,7 +4,6 @@
 ghost use Rattle.std.specs.Prelude.{◌≡◌, ◌<◌, ◌≤◌, ◌+◌, ◌↔◌, IfOk, IsOk, IfErr, length};
 ghost use Rattle.capnp_format.specs.Word.{kind, element_size};
 ghost use Rattle.capnp_words.specs.Meter.{counted_once};
-ghost use Rattle.capnp_objects.specs.Source.{levels};
 ghost use Rattle.capnp_format.specs.Bytes.{message};
 ghost use Rattle.capnp_objects.specs.declared.object.Purpose.{Purpose};
 ghost use Rattle.capnp_objects.specs.declared.object.Purpose.TheVariants.{Value, Size};
@@ -23,6 +22,7 @@ mod landing;
 mod measure;
 mod types;
 
+use crate::nesting::levels_left;
 use crate::object::{Object, Place, PointerWord, Purpose};
 use capnp_arena_traits::arena::ReaderArena;
 use capnp_words::error::ErrorKind;
@@ -88,12 +88,12 @@ impl<'a, A: ReaderArena> Source<'a, A> {
         ensures refused { IfErr result (NotRead Value
             (reading_at A.ReaderArena self.entry place.entry nesting_limit) lim.old lim.new) }
     {
-        self.read_place(Purpose::Value, place, nesting_limit, lim)
+        self.read_for_purpose(Purpose::Value, place, nesting_limit, lim)
     }
 
     // Reads the object that the pointer at a place leads to, for its value or only for its size.
     #[inline(always)]
-    fn read_place(
+    fn read_for_purpose(
         self,
         purpose: Purpose,
         place: Place<'a>,
@@ -108,7 +108,7 @@ impl<'a, A: ReaderArena> Source<'a, A> {
         if word.is_null() {
             return Ok(Object::Null);
         }
-        let depth = depth_of(nesting_limit);
+        let depth = levels_left(nesting_limit);
         if !has_level(purpose, depth) {
             return Err(ErrorKind::MessageIsTooDeeplyNested);
         }
@@ -150,7 +150,7 @@ impl<'a, A: ReaderArena> Source<'a, A> {
     /// `pointer` is itself a pointer to such a list, not a far pointer; the list claims `words`
     /// words.
     #[inline(always)]
-    pub fn read_near_flat(
+    pub fn read_near_primitive_list(
         self,
         pointer: PointerWord<'a>,
         words: u32,
@@ -189,14 +189,14 @@ impl<'a, A: ReaderArena> Source<'a, A> {
         let entrance = Entrance {
             source: self,
             found,
-            depth: depth_of(pointer.nesting_limit),
+            depth: levels_left(pointer.nesting_limit),
         };
-        entrance.claim(words, lim)?;
+        entrance.charge_claim(words, lim)?;
         Ok(found.start.at)
     }
 
     // Counts a pointer as followed, if the source is an arena that charges.
-    fn count(self, lim: &mut ReadLimiter)
+    fn count_pointer(self, lim: &mut ReadLimiter)
         ensures { lim.new ≡ counted_once (source_start A.ReaderArena self.entry).charging lim.old }
     {
         match self {
@@ -221,7 +221,7 @@ impl<'a, A: ReaderArena> Source<'a, A> {
     }
 
     // Charges the number of a list's elements if these have no width, unless for the size.
-    fn charge_count(
+    fn charge_elements(
         self,
         purpose: Purpose,
         width: u32,
@@ -250,7 +250,7 @@ impl<'a, A: ReaderArena> Source<'a, A> {
         ensures computed { follow (pointer_at A.ReaderArena self.entry pointer.entry) lim.old
             ≡ (found_result result, lim.new) }
     {
-        self.count(lim);
+        self.count_pointer(lim);
         let PointerWord { place, word, .. } = pointer;
         if word.kind() == WirePointerKind::Far {
             return match self {
@@ -328,7 +328,7 @@ fn landing_pad<'a, A: ReaderArena>(
     let id = far.far_segment_id();
     let bytes = arena.get_segment(id)?;
     let at = far.far_position_in_segment();
-    let words = pad_words(far);
+    let words = landing_pad_words(far);
     if (at + words) as usize > bytes.len() / 8 {
         return Err(ErrorKind::MessageContainsOutOfBoundsPointer);
     }
@@ -341,7 +341,7 @@ fn landing_pad<'a, A: ReaderArena>(
 }
 
 // The number of words of the landing pad of a far pointer.
-fn pad_words(far: WirePointer) -> u32
+fn landing_pad_words(far: WirePointer) -> u32
     ensures { result ≡ 1 + is_double far.0 }
 {
     if far.is_double_far() { 2 } else { 1 }
@@ -355,11 +355,4 @@ fn has_level(purpose: Purpose, depth: u32) -> bool
         Purpose::Value => true,
         Purpose::Size => depth > 0,
     }
-}
-
-// The number of levels that a nesting limit leaves.
-fn depth_of(nesting_limit: i32) -> u32
-    ensures { result ≡ levels nesting_limit }
-{
-    nesting_limit.max(0) as u32
 }

@@ -4,7 +4,10 @@
 ghost use Rattle.std.specs.Prelude.{◌≡◌, ◌⊎◌, false, true, ℕ, IsTrue, OnOk, OnErr};
 ghost use Rattle.std.specs.Io.KnownBytes.{Keeps};
 
+mod standard;
+
 use capnp_framing::devices::{DeviceFault, Input, MemoryOutput, Output};
+pub use standard::{BufReaderInput, BufWriterOutput};
 
 /// An input that reads ahead.
 pub trait BufferedInput: Input {
@@ -23,7 +26,7 @@ pub trait BufferedOutput: Output {
     ghost kept: { Self → ℕ };
 
     /// Flushes all bytes that the output has taken.
-    fn pass_on(&mut self) -> Result<(), DeviceFault>
+    fn flush(&mut self) -> Result<(), DeviceFault>
         ensures bytes { Keeps (Self.contents self.old) (Self.contents self.new) }
         ensures none { OnOk result (kept self.new ≡ 0) }
         ensures works { OnOk result (Self.has_failed self.new ≡ Self.has_failed self.old) }
@@ -33,13 +36,13 @@ pub trait BufferedOutput: Output {
 impl BufferedOutput for MemoryOutput {
     ghost kept = { λ _. 0 };
 
-    fn pass_on(&mut self) -> Result<(), DeviceFault> {
+    fn flush(&mut self) -> Result<(), DeviceFault> {
         Ok(())
     }
 }
 
 /// Flushes the output, unless `is_ahead` of the input is `true`.
-pub fn pass_on_before_waiting<R: BufferedInput, W: BufferedOutput>(
+pub fn flush_before_waiting<R: BufferedInput, W: BufferedOutput>(
     input: &R,
     output: &mut W,
 ) -> Result<(), DeviceFault>
@@ -52,5 +55,5 @@ pub fn pass_on_before_waiting<R: BufferedInput, W: BufferedOutput>(
     if input.is_ahead() {
         return Ok(());
     }
-    output.pass_on()
+    output.flush()
 }

@@ -90,7 +90,7 @@ impl<'a, A: ReaderArena> PointerReader<'a, A> {
         ensures place { (result.place.segment ≡ 0) × (result.place.at ≡ 0) }
         ensures nesting { result.nesting_limit ≡ i32.MAX }
     {
-        Self::of_pointer(Pointer::new_default())
+        Self::from_pointer(Pointer::new_default())
     }
 
     /// Returns the root pointer of a message, word 0 of segment 0 (encoding specification,
@@ -116,7 +116,7 @@ impl<'a, A: ReaderArena> PointerReader<'a, A> {
             → Means (message (A.segments arena.now)) (levels (A.nesting arena.now)) 0 0 t c
             → IfOk result (λ r. HasValue (read_by A.ReaderArena r) t) }
     {
-        Ok(Self::of_pointer(Pointer::get_root_from_arena(arena, lim)?))
+        Ok(Self::from_pointer(Pointer::get_root_from_arena(arena, lim)?))
     }
 
     /// Returns a reader of the pointer at `place` of `arena`. Precondition: `place` is inside a
@@ -127,7 +127,7 @@ impl<'a, A: ReaderArena> PointerReader<'a, A> {
         ensures place { (result.place.segment ≡ place.segment) × (result.place.at ≡ place.word) }
         ensures nesting { result.nesting_limit ≡ nesting_limit }
     {
-        Self::of_pointer(Pointer::at(arena, place, nesting_limit))
+        Self::from_pointer(Pointer::at(arena, place, nesting_limit))
     }
 
     /// Returns a reader of the pointer in the first word of `bytes`, a field's default value.
@@ -185,7 +185,7 @@ impl<'a, A: ReaderArena> PointerReader<'a, A> {
 
     /// Returns a reader of `pointer`.
     #[inline(always)]
-    pub fn of_pointer(pointer: Pointer<'a, A>) -> Self
+    pub fn from_pointer(pointer: Pointer<'a, A>) -> Self
         ensures source { result.source ≡ pointer.entry.source }
         ensures place { result.place ≡ pointer.entry.place }
         ensures nesting { result.nesting_limit ≡ pointer.entry.nesting_limit }
@@ -206,7 +206,7 @@ impl<'a, A: ReaderArena> PointerReader<'a, A> {
 
     // The pointer of a default, in place of this one, which is null.
     #[inline(never)]
-    fn default_of(self, expected: Expected, bytes: &'a [u8]) -> Result<Self, ErrorKind>
+    fn default_pointer(self, expected: Expected, bytes: &'a [u8]) -> Result<Self, ErrorKind>
         requires null { word_of (read_by A.ReaderArena self) ≡ 0 }
         requires small { length bytes.now / 8 < 2 ^ 32 }
         ensures { let default = Some bytes.entry in IsRead A.ReaderArena
@@ -222,7 +222,7 @@ impl<'a, A: ReaderArena> PointerReader<'a, A> {
         if !from.is_null() {
             return Ok(from);
         }
-        match name_of_null_default(expected) {
+        match null_default_error(expected) {
             Some(kind) => Err(kind),
             None => Ok(from),
         }
@@ -240,7 +240,7 @@ impl<'a, A: ReaderArena> PointerReader<'a, A> {
             None => Ok(self),
             Some(bytes) => {
                 if self.is_null() {
-                    self.default_of(expected, bytes)
+                    self.default_pointer(expected, bytes)
                 } else {
                     Ok(self)
                 }
@@ -250,7 +250,7 @@ impl<'a, A: ReaderArena> PointerReader<'a, A> {
 
     // The pointer that a call reads, and what it leads to.
     #[inline(always)]
-    fn expect(
+    fn read_as_expected(
         self,
         expected: Expected,
         lim: &mut ReadLimiter,
@@ -330,7 +330,7 @@ impl<'a, A: ReaderArena> PointerReader<'a, A> {
             → IsStructOrNull t → MeansThere place t c → Affords place.charging lim.old c
             → IsOk result }
     {
-        let found = self.expect(Expected::Struct, lim, default)?;
+        let found = self.read_as_expected(Expected::Struct, lim, default)?;
         let (from, object) = found;
         match from.target_of(object) {
             Target::Struct(found) => Ok(found),
@@ -391,7 +391,7 @@ impl<'a, A: ReaderArena> PointerReader<'a, A> {
             → Affords place.charging lim.old c → IsOk result }
     {
         let expected = Expected::List(expected_element_size);
-        let found = self.expect(expected, lim, default)?;
+        let found = self.read_as_expected(expected, lim, default)?;
         let (from, object) = found;
         match from.target_of(object) {
             Target::List(found) => Ok(found),
@@ -443,11 +443,11 @@ impl<'a, A: ReaderArena> PointerReader<'a, A> {
             → AreWords place.segments → IsText t → MeansThere place t c
             → Affords place.charging lim.old c → IsOk result }
     {
-        let found = self.expect(Expected::Text, lim, default)?;
+        let found = self.read_as_expected(Expected::Text, lim, default)?;
         match found.1 {
             Object::Flat { start, count, .. } => {
                 let bytes = bytes_at(start, count - 1);
-                are_bytes(bytes);
+                bytes_are_below_256(bytes);
                 Ok(bytes)
             }
             _ => Ok(&[]),
@@ -489,11 +489,11 @@ impl<'a, A: ReaderArena> PointerReader<'a, A> {
             → IsBytes t → MeansThere place t c → Affords place.charging lim.old c
             → IsOk result }
     {
-        let found = self.expect(Expected::Data, lim, default)?;
+        let found = self.read_as_expected(Expected::Data, lim, default)?;
         match found.1 {
             Object::Flat { start, count, .. } => {
                 let bytes = bytes_at(start, count);
-                are_bytes(bytes);
+                bytes_are_below_256(bytes);
                 Ok(bytes)
             }
             _ => Ok(&[]),
@@ -580,13 +580,13 @@ impl<'a, A: ReaderArena> PointerReader<'a, A> {
         match object {
             Object::Null => Target::Null,
             Object::Capability(index) => Target::Cap(index),
-            Object::Struct { start, size } => Target::Struct(StructReader::of_words(
+            Object::Struct { start, size } => Target::Struct(StructReader::starting_at(
                 self.source,
                 start,
                 size,
                 self.nesting_limit - 1,
             )),
-            Object::Flat { start, size, count } => Target::List(ListReader::of_words(
+            Object::Flat { start, size, count } => Target::List(ListReader::starting_at(
                 self.source,
                 start,
                 size,
@@ -594,7 +594,7 @@ impl<'a, A: ReaderArena> PointerReader<'a, A> {
                 count,
                 self.nesting_limit - 1,
             )),
-            Object::Pointers { start, count } => Target::List(ListReader::of_words(
+            Object::Pointers { start, count } => Target::List(ListReader::starting_at(
                 self.source,
                 start,
                 ElementSize::Pointer,
@@ -602,7 +602,7 @@ impl<'a, A: ReaderArena> PointerReader<'a, A> {
                 count,
                 self.nesting_limit - 1,
             )),
-            Object::Structs { start, size, count } => Target::List(ListReader::of_words(
+            Object::Structs { start, size, count } => Target::List(ListReader::starting_at(
                 self.source,
                 start,
                 ElementSize::InlineComposite,
@@ -625,12 +625,12 @@ fn bytes_at<'a>(start: Place<'a>, count: u32) -> &'a [u8]
 
 // Each byte is below 256. Does nothing; its contract is that fact.
 #[inline(always)]
-fn are_bytes(bytes: &[u8])
+fn bytes_are_below_256(bytes: &[u8])
     ensures { (i : ℕ) → slice_index bytes.now i < 256 }
 {}
 
 // The refusal of a default whose pointer is null; for a struct and a list, it is like no default.
-fn name_of_null_default(expected: Expected) -> Option<ErrorKind>
+fn null_default_error(expected: Expected) -> Option<ErrorKind>
     ensures { result ≡ (expectation expected).null_default }
 {
     match expected {

@@ -5,6 +5,7 @@ use Rattle.std.proofs.Common.{refl, sym, ◌∙◌, subst}
 use Rattle.std.proofs.lemmas.List.Elements.{All-head, All-tail}
 use Rattle.std.specs.Io.KnownBytes.{Consumes, Keeps}
 use Rattle.capnp_format.specs.Segments.{Segments}
+use Rattle.capnp_framing.specs.Limits.{most_words}
 use Rattle.capnp_framing.specs.Flat.{BeginsWithFrame}
 use Rattle.capnp_framing.specs.Reading.{NoFrame}
 use Rattle.capnp_framing.specs.Writing.{Writes}
@@ -15,7 +16,7 @@ use Rattle.capnp_words.specs.declared.error.ErrorKind.{ErrorKind}
 use Rattle.capnp_messages.proofs.FramesLemmas.{no_bytes_begin}
 use Rattle.capnp_streams.specs.Asked.{HasAskedAnswer, RefusesAsked}
 use Rattle.capnp_streams.specs.Streams.{AnswerIs, Answers, AreDone, AreFrames, CanBeAnswered, EndsAfter, IsOfDevices}
-use Rattle.capnp_streams.specs.Streams.{Question, Stage, StopsAt, most_words}
+use Rattle.capnp_streams.specs.Streams.{Question, Stage, StopsAt}
 use Rattle.capnp_framing.specs.declared.framing.frame_error.FrameError.{FrameError}
 use Rattle.capnp_framing.specs.declared.framing.frame_error.FrameError.TheVariants.{WriteFailed}
 use Rattle.capnp_streams.specs.declared.streams.fault.StreamError.{StreamError}

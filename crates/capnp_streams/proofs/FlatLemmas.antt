@@ -2,13 +2,14 @@
 use Rattle.std.proofs.Common.{◌≡◌, ◌⊎◌, inl, inr, ℕ, List, [], ◌∷◌, Bool, Option, Some, None, IfSome, IsSomeAnd, refl, sym, ap, subst}
 use Rattle.std.specs.Io.KnownBytes.{Appends, Consumes, IsAtEnd}
 use Rattle.capnp_format.specs.Bytes.{message}
+use Rattle.capnp_framing.specs.Limits.{most_words}
 use Rattle.capnp_framing.proofs.BareLemmas.{all_so, bare_words_are_read}
 use Rattle.capnp_framing.specs.Bare.{AreBareWords}
 use Rattle.capnp_framing.specs.declared.framing.frame_error.FrameError.TheVariants.{WriteFailed}
 use Rattle.capnp_streams.proofs.AskedLemmas.{asked_refused}
 use Rattle.capnp_streams.specs.Asked.{RefusesAsked, pointer_asked}
 use Rattle.capnp_streams.specs.Flat.{CanFlatBeAnswered, IsFlatDone, StopsFlat}
-use Rattle.capnp_streams.specs.Streams.{AnswerIs, IsOfDevices, RefusesBy, most_words, with_pointer}
+use Rattle.capnp_streams.specs.Streams.{AnswerIs, IsOfDevices, RefusesBy, with_pointer}
 use Rattle.capnp_streams.specs.declared.streams.fault.StreamError.{StreamError}
 use Rattle.capnp_streams.specs.declared.streams.fault.StreamError.TheVariants.{Frame, Layout, TooManyMessages}
 use Rattle.capnp_streams.specs.declared.streams.task.Task.{Task}

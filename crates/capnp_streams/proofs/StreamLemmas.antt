@@ -5,12 +5,13 @@ use Rattle.std.proofs.lemmas.List.{length-replicate}
 use Rattle.std.specs.Prelude.{replicate}
 use Rattle.std.specs.Io.KnownBytes.{Appends, Consumes, IsAtEnd, Keeps}
 use Rattle.capnp_format.specs.Segments.{Segments}
+use Rattle.capnp_framing.specs.Limits.{most_words}
 use Rattle.capnp_framing.specs.Flat.{BeginsWithFrame}
 use Rattle.capnp_framing.specs.Frames.{IsFrameOf, frame, padding_size}
 use Rattle.capnp_framing.specs.Reading.{total}
 use Rattle.capnp_framing.proofs.ReadingLemmas.{consumes_both, length-frame_with}
 use Rattle.capnp_framing.proofs.WritingLemmas.{appends_both}
-use Rattle.capnp_streams.specs.Streams.{AnswerIs, AreAnswered, AreDone, AreFrames, Stage, most_words}
+use Rattle.capnp_streams.specs.Streams.{AnswerIs, AreAnswered, AreDone, AreFrames, Stage}
 use Rattle.capnp_streams.specs.declared.streams.runs.Summary.{Summary}
 use Rattle.capnp_streams.specs.declared.streams.task.Task.{Task}
 use Rattle.capnp_packing.proofs.PackingLemmas.{kept_appends}

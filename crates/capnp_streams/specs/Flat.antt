@@ -3,12 +3,13 @@
 use Rattle.std.specs.Prelude.{◌≡◌, ◌⊎◌, ℕ, List, [], ◌∷◌, Bool, true, Option, IfSome}
 use Rattle.std.specs.Io.KnownBytes.{Appends, Consumes, IsAtEnd}
 use Rattle.capnp_format.specs.Bytes.{message}
+use Rattle.capnp_framing.specs.Limits.{most_words}
 use Rattle.capnp_framing.specs.Bare.{AreBareWords, HasTakenBare, NoBareWords}
 use Rattle.capnp_framing.specs.declared.devices.Input.{Ghosts}
 use Rattle.capnp_framing.specs.declared.framing.frame_error.FrameError.TheVariants.{AllocationFailed as NoMemory}
 use Rattle.capnp_framing.specs.declared.framing.frame_error.FrameError.TheVariants.{ReadFailed}
 use Rattle.capnp_streams.specs.Asked.{HasAskedAnswer, RefusesAsked, pointer_asked}
-use Rattle.capnp_streams.specs.Streams.{AnswerIs, Stage, most_words}
+use Rattle.capnp_streams.specs.Streams.{AnswerIs, Stage}
 use Rattle.capnp_streams.specs.declared.streams.fault.StreamError.{StreamError}
 use Rattle.capnp_streams.specs.declared.streams.fault.StreamError.TheVariants.{Frame, Layout, TooManyMessages}
 use Rattle.capnp_streams.specs.declared.streams.task.Task.{Task}

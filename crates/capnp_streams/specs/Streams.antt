@@ -1,6 +1,6 @@
 -- The messages of a stream, one frame after the other, and what a task answers to them.
 use Rattle.std.specs.Prelude.{◌≡◌, ◌⊎◌, ℕ, ◌-◌, ◌^◌, ◌≤◌, min, List, [], ◌∷◌, ◌++◌, All, length, codes, ⊤}
-use Rattle.std.specs.Prelude.{Bool, true, false, ◌&&◌, Option, None, IsSome, IfSome, unwrap_or, Result, OnOk, IfOk, IfErr}
+use Rattle.std.specs.Prelude.{Bool, true, false, ◌&&◌, Option, None, IsSome, IfSome, Result, OnOk, IfOk, IfErr}
 use Rattle.std.specs.Option.{option_map_or}
 use Rattle.std.specs.Fmt.{decimal}
 use Rattle.std.specs.Io.KnownBytes.{Appends, Consumes, IsAtEnd, Keeps}
@@ -12,8 +12,8 @@ use Rattle.capnp_format.specs.Canonical.{encoding, trim}
 use Rattle.capnp_format.specs.Segments.{Segments}
 use Rattle.capnp_format.specs.Tree.{Tree}
 use Rattle.capnp_arena_traits.specs.Allocations.{max_segment_words}
-use Rattle.capnp_arena.specs.declared.arena.reader_arena_impl.ReaderOptions.{ReaderOptions}
 use Rattle.capnp_framing.specs.Frames.{IsFrameOf, bytes_of_words}
+use Rattle.capnp_framing.specs.Limits.{most_words}
 use Rattle.capnp_framing.specs.Memory.{frame_refusals}
 use Rattle.capnp_framing.specs.Names.{frame_error_name}
 use Rattle.capnp_framing.specs.Reading.{NoFrame, total}
@@ -54,10 +54,6 @@ fault_name TooManyMessages = codes "TooManyMessages"
 abbrev pub fault_pointer : StreamError → Option RefusedPointer
 fault_pointer (Layout k p) = p
 fault_pointer f = None
-
--- How many words a message may have whose frame is read: those of the traversal limit.
-abbrev pub most_words : ReaderOptions → ℕ
-most_words limits = unwrap_or limits.traversal_limit_in_words (2 ^ 64 - 1)
 
 -- The line about a message that isn't canonical: why, and at which word.
 unfoldable pub no_text : List ℕ

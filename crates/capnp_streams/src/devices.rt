@@ -1,131 +1,11 @@
-//! An input that reads ahead from a reader; an output that buffers bytes for a writer; an output
-//! that drops all bytes; one that takes no more than a number of bytes; and outputs that put a name
-//! before each line, or a name and a number at its end.
-ghost use Rattle.std.specs.Prelude.{◌≡◌, ◌<◌, ◌≤◌, ◌^◌, ◌-◌, ◌+◌, ◌||◌, length, false, true, None, Some, IfOk, IsErr, OnErr, OnOk};
-ghost use Rattle.std.specs.Io.Buffered.{reader_buffer, reader_remaining, writer_buffer, writer_contents};
-ghost use Rattle.capnp_format.specs.Segments.{Segments};
-ghost use Rattle.capnp_framing.specs.Devices.{ReadGives, WriteTakes};
-ghost use Rattle.capnp_framing.specs.Flat.{BeginsWithFrame};
+//! An output that drops all bytes; one that takes no more than a number of bytes; and outputs that
+//! put a name before each line, or a name and a number at its end.
+ghost use Rattle.std.specs.Prelude.{◌≡◌, ◌<◌, ◌≤◌, ◌-◌, ◌+◌, ◌||◌, length, false, true, None, Some, IfOk, OnErr, OnOk};
+ghost use Rattle.capnp_framing.specs.Devices.{WriteTakes};
 
-use capnp_framing::devices::{DeviceFault, Input, Output, write_all};
-use capnp_framing::framing::read_from_flat_slice;
+use capnp_framing::devices::{DeviceFault, Output, write_all};
 use capnp_messages::text::write_number;
-use capnp_packing::buffered::{BufferedInput, BufferedOutput};
-use std::io::{BufReader, BufWriter, Read, Write};
-
-/// An input that reads ahead from a reader. After the reader has failed once, each read of the
-/// input fails without reading from the reader.
-#[derive(Drop)]
-pub struct BufReaderInput<R> {
-    reader: BufReader<R>,
-    failed: bool,
-}
-
-impl<R: Read> BufReaderInput<R> {
-    /// Makes an input that reads from `reader`, and that hasn't failed yet.
-    pub fn new(reader: BufReader<R>) -> Self
-        ensures reader { result.reader ≡ reader }
-        ensures works { result.failed ≡ false }
-    {
-        BufReaderInput {
-            reader,
-            failed: false,
-        }
-    }
-}
-
-impl<R: Read> Input for BufReaderInput<R> {
-    ghost remaining = { λ r. reader_remaining R.remaining r.reader };
-
-    ghost has_failed = { λ r. r.failed };
-
-    ghost ends_whole = { λ _. Some true };
-
-    fn read(&mut self, to: &mut [u8]) -> Result<usize, DeviceFault>
-        ensures gives { ReadGives ⟦<Self as Input>⟧ result self.old self.new to.new }
-        ensures stops { self.old.failed ≡ true
-            → IsErr result × (self.new.reader ≡ self.old.reader) }
-    {
-        if self.failed {
-            return Err(DeviceFault);
-        }
-        match self.reader.read(to) {
-            Ok(n) => Ok(n),
-            Err(_) => {
-                self.failed = true;
-                Err(DeviceFault)
-            }
-        }
-    }
-
-    fn failed(&self) -> bool {
-        self.failed
-    }
-}
-
-impl<R: Read> BufferedInput for BufReaderInput<R> {
-    // The buffer holds the whole next frame.
-    ghost has_enough = { λ r. (S : Segments) × BeginsWithFrame (reader_buffer r.reader) (2 ^ 64 - 1) S };
-
-    fn is_ahead(&self) -> bool {
-        matches!(
-            read_from_flat_slice(self.reader.buffer(), u64::MAX),
-            Ok(Some(_))
-        )
-    }
-}
-
-/// An output that buffers bytes for a writer, and flushes them to the writer later.
-#[derive(Drop)]
-pub struct BufWriterOutput<W: Write + Drop> {
-    writer: BufWriter<W>,
-    failed: bool,
-}
-
-impl<W: Write + Drop> BufWriterOutput<W> {
-    /// Makes an output that writes to `writer`, and that hasn't failed yet.
-    pub fn new(writer: BufWriter<W>) -> Self
-        ensures writer { result.writer ≡ writer }
-        ensures works { result.failed ≡ false }
-    {
-        BufWriterOutput {
-            writer,
-            failed: false,
-        }
-    }
-}
-
-impl<W: Write + Drop> Output for BufWriterOutput<W> {
-    ghost contents = { λ w. writer_contents W.contents w.writer };
-
-    ghost has_failed = { λ w. w.failed };
-
-    fn write(&mut self, from: &[u8]) -> Result<usize, DeviceFault> {
-        match self.writer.write(from) {
-            Ok(n) if 0 < n || from.is_empty() => Ok(n),
-            _ => {
-                self.failed = true;
-                Err(DeviceFault)
-            }
-        }
-    }
-
-    fn failed(&self) -> bool {
-        self.failed
-    }
-}
-
-impl<W: Write + Drop> BufferedOutput for BufWriterOutput<W> {
-    ghost kept = { λ w. length (writer_buffer w.writer) };
-
-    fn pass_on(&mut self) -> Result<(), DeviceFault> {
-        if self.writer.flush().is_err() {
-            self.failed = true;
-            return Err(DeviceFault);
-        }
-        Ok(())
-    }
-}
+use capnp_packing::buffered::BufferedOutput;
 
 /// An output that drops all bytes.
 #[derive(Clone, Copy)]
@@ -148,7 +28,7 @@ impl Output for NoOutput {
 impl BufferedOutput for NoOutput {
     ghost kept = { λ _. 0 };
 
-    fn pass_on(&mut self) -> Result<(), DeviceFault> {
+    fn flush(&mut self) -> Result<(), DeviceFault> {
         Ok(())
     }
 }
@@ -215,8 +95,8 @@ impl<W: Output> Output for BoundedOutput<W> {
 impl<W: BufferedOutput> BufferedOutput for BoundedOutput<W> {
     ghost kept = { λ b. W.kept b.output };
 
-    fn pass_on(&mut self) -> Result<(), DeviceFault> {
-        self.output.pass_on()
+    fn flush(&mut self) -> Result<(), DeviceFault> {
+        self.output.flush()
     }
 }
 
@@ -305,8 +185,8 @@ impl<W: Output> Output for NamedLines<'_, '_, W> {
 impl<W: BufferedOutput> BufferedOutput for NamedLines<'_, '_, W> {
     ghost kept = { λ n. W.kept n.output.now };
 
-    fn pass_on(&mut self) -> Result<(), DeviceFault> {
-        if self.output.pass_on().is_err() {
+    fn flush(&mut self) -> Result<(), DeviceFault> {
+        if self.output.flush().is_err() {
             self.failed = true;
             return Err(DeviceFault);
         }
@@ -460,8 +340,8 @@ impl<W: Output> Output for NumberedLines<'_, '_, W> {
 impl<W: BufferedOutput> BufferedOutput for NumberedLines<'_, '_, W> {
     ghost kept = { λ n. W.kept n.output.now };
 
-    fn pass_on(&mut self) -> Result<(), DeviceFault> {
-        if self.output.pass_on().is_err() {
+    fn flush(&mut self) -> Result<(), DeviceFault> {
+        if self.output.flush().is_err() {
             self.failed = true;
             return Err(DeviceFault);
         }

@@ -99,10 +99,10 @@ impl ShowTask {
 /// what it is read as, or like nothing known. `first` has the first bytes of the input; the input
 /// has at least `given` bytes.
 pub fn guess_of(form: InputForm, fault: StreamError, first: &[u8], given: u64) -> Option<Guess> {
-    if is_of_devices(fault) {
+    if is_device_fault(fault) {
         return None;
     }
-    let known = by_bytes(first);
+    let known = guess_by_signature(first);
     if known.is_some() {
         return known;
     }
@@ -118,7 +118,7 @@ pub fn guess_of(form: InputForm, fault: StreamError, first: &[u8], given: u64) -
 
 /// Whether `fault` says nothing about the input: memory ran out, a device failed, or there are too
 /// many messages.
-fn is_of_devices(fault: StreamError) -> bool {
+fn is_device_fault(fault: StreamError) -> bool {
     match fault {
         StreamError::Frame(error) => matches!(
             error,
@@ -131,7 +131,7 @@ fn is_of_devices(fault: StreamError) -> bool {
 
 /// Returns the kind of an input that begins with `first`, if it is a compressed file, an archive or
 /// text, which no task reads.
-fn by_bytes(first: &[u8]) -> Option<Guess> {
+fn guess_by_signature(first: &[u8]) -> Option<Guess> {
     match first {
         [0x1f, 0x8b, ..] => Some(Guess::Gzip),
         [0x28, 0xb5, 0x2f, 0xfd, ..] => Some(Guess::Zstd),
@@ -215,10 +215,10 @@ fn unpack(first: &[u8], unpacked: &mut [u8; 32]) -> usize
 /// it leads to a struct in the first segment, or to a landing pad in one of several segments; or it
 /// is null and the first segment's only word.
 fn begins_with_frame(bytes: &[u8]) -> bool {
-    let Some((segments, words)) = table_of(bytes) else {
+    let Some((segments, words)) = read_frame_table(bytes) else {
         return false;
     };
-    let Some(root) = root_of(bytes, segments) else {
+    let Some(root) = root_word(bytes, segments) else {
         return false;
     };
     let pointer = WirePointer(root);
@@ -239,13 +239,13 @@ fn may_begin_frame(bytes: &[u8]) -> bool {
             return false;
         }
     }
-    let Some((segments, words)) = table_of(bytes) else {
+    let Some((segments, words)) = read_frame_table(bytes) else {
         return true;
     };
     if words == 0 {
         return false;
     }
-    let Some(root) = root_of(bytes, segments) else {
+    let Some(root) = root_word(bytes, segments) else {
         return true;
     };
     let pointer = WirePointer(root);
@@ -259,7 +259,7 @@ fn may_begin_frame(bytes: &[u8]) -> bool {
 
 /// Reads `bytes` as the start of a frame's table: returns the number of segments and the number of
 /// words in the first segment. Returns `None` if there are fewer than 8 bytes.
-fn table_of(bytes: &[u8]) -> Option<(u64, u64)>
+fn read_frame_table(bytes: &[u8]) -> Option<(u64, u64)>
     ensures { IfSome result (λ table. table.0 < 2 ^ 33) }
 {
     let numbers = word(bytes, 0)?;
@@ -268,7 +268,7 @@ fn table_of(bytes: &[u8]) -> Option<(u64, u64)>
 
 /// The first word after a frame's table for `segments` segments, if `bytes` have this whole word.
 /// The table holds the number of segments and the size of each segment, two numbers in each word.
-fn root_of(bytes: &[u8], segments: u64) -> Option<u64>
+fn root_word(bytes: &[u8], segments: u64) -> Option<u64>
     requires { segments < 2 ^ 33 }
 {
     word(bytes, segments / 2 + 1)

@@ -38,12 +38,12 @@ impl FirstBytes {
     }
 
     /// The number of all bytes read, at most `u64::MAX`.
-    pub fn given(&self) -> u64 {
+    pub fn total(&self) -> u64 {
         self.given
     }
 
     /// Returns the `FirstBytes` after `more` has been read, too.
-    fn with(self, more: &[u8]) -> Self {
+    fn with_bytes(self, more: &[u8]) -> Self {
         let kept = self.kept();
         let count = more.len().min(KEPT - kept);
         let mut first = self.first;
@@ -73,7 +73,7 @@ impl DeviceLog {
     }
 
     /// Returns the first bytes read, and the number of all bytes read.
-    pub fn front(&self) -> FirstBytes {
+    pub fn first_bytes(&self) -> FirstBytes {
         self.front.get()
     }
 
@@ -84,7 +84,7 @@ impl DeviceLog {
 
     /// Adds bytes that were read to what is known.
     fn read(&self, bytes: &[u8]) {
-        self.front.set(self.front.get().with(bytes));
+        self.front.set(self.front.get().with_bytes(bytes));
     }
 
     /// Notes why the device failed.

@@ -37,7 +37,7 @@ pub struct WalkedMessage {
 /// `result.count` is the number of entries that the array needs. Entries of `objects` after the
 /// last object are unchanged. If `limits` has a traversal limit, `result.count` is at most that
 /// limit.
-pub fn walk_of<S: ReaderSegments + Drop>(
+pub fn walk_message<S: ReaderSegments + Drop>(
     segments: S,
     limits: ReaderOptions,
     objects: &mut [WalkedObject],

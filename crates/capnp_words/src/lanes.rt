@@ -28,7 +28,7 @@ fn is_word_zero(bytes: &[u8], at: usize) -> bool
 
 /// Whether all bytes are zero, tested one by one.
 #[inline(always)]
-fn are_zero(bytes: &[u8]) -> bool
+fn is_zero_by_bytes(bytes: &[u8]) -> bool
     ensures { IsTrue result ↔ All (λ byte. byte ≡ 0) bytes.now }
 {
     bytes.iter().all(|byte| *byte == 0)
@@ -36,7 +36,7 @@ fn are_zero(bytes: &[u8]) -> bool
 
 /// Whether all bytes are zero, tested by words, and then by bytes.
 #[inline(always)]
-fn is_rest_zero(bytes: &[u8]) -> bool
+fn is_zero_by_words(bytes: &[u8]) -> bool
     ensures { IsTrue result ↔ All (λ byte. byte ≡ 0) bytes.now }
 {
     let mut at = 0;
@@ -46,7 +46,7 @@ fn is_rest_zero(bytes: &[u8]) -> bool
         }
         at += 8;
     }
-    are_zero(&bytes[at..])
+    is_zero_by_bytes(&bytes[at..])
 }
 
 /// Whether all bytes are zero; `true` if `bytes` is empty.
@@ -60,13 +60,13 @@ pub fn is_zero(bytes: &[u8]) -> bool
         }
         at += 64;
     }
-    is_rest_zero(&bytes[at..])
+    is_zero_by_words(&bytes[at..])
 }
 
 /// Of the first `end` words, the number up to and including the last one that isn't zero; 0 if all
 /// are zero.
 #[inline(always)]
-fn used_before(bytes: &[u8], end: usize) -> usize
+fn used_words_before(bytes: &[u8], end: usize) -> usize
     requires { 8 * end ≤ length bytes.now }
     ensures value { result ≡ used_words (take end (words_of bytes.now)) }
     ensures within { result ≤ end }
@@ -84,7 +84,7 @@ fn used_before(bytes: &[u8], end: usize) -> usize
 /// Returns a number of words after which all words of `bytes` are zero, but not always the
 /// smallest. Tests 64 bytes at a time, from the end.
 #[inline(never)]
-fn end_of_blocks(bytes: &[u8]) -> usize
+fn used_words_bound(bytes: &[u8]) -> usize
     ensures used { used_words (words_of bytes.now) ≡ used_words (take result (words_of bytes.now)) }
     ensures within { 8 * result ≤ length bytes.now }
 {
@@ -100,7 +100,7 @@ fn end_of_blocks(bytes: &[u8]) -> usize
 
 /// The number of words up to and including the last one that isn't zero. If the last word of
 /// `bytes` isn't zero, reads only this word. Precondition: there is at least one word.
-fn used_of_many(bytes: &[u8]) -> usize
+fn used_words_of_many(bytes: &[u8]) -> usize
     requires { 8 ≤ length bytes.now }
     ensures { result ≡ used_words (words_of bytes.now) }
 {
@@ -108,20 +108,20 @@ fn used_of_many(bytes: &[u8]) -> usize
     if word_at(bytes, words - 1) != 0 {
         return words;
     }
-    used_before(bytes, end_of_blocks(bytes))
+    used_words_before(bytes, used_words_bound(bytes))
 }
 
 /// The number of words up to and including the last one that isn't zero. If there are fewer than 32
 /// words, tests them one by one, because that is fastest then.
 #[inline(always)]
-fn used(bytes: &[u8]) -> usize
+fn used_words(bytes: &[u8]) -> usize
     ensures { result ≡ used_words (words_of bytes.now) }
 {
     let words = bytes.len() / 8;
     if words < 32 {
-        used_before(bytes, words)
+        used_words_before(bytes, words)
     } else {
-        used_of_many(bytes)
+        used_words_of_many(bytes)
     }
 }
 
@@ -131,7 +131,7 @@ pub fn trailing_zero_words(bytes: &[u8]) -> usize
     requires { length bytes.now % 8 ≡ 0 }
     ensures { result + used_words (words_of bytes.now) ≡ length (words_of bytes.now) }
 {
-    bytes.len() / 8 - used(bytes)
+    bytes.len() / 8 - used_words(bytes)
 }
 
 /// Zeroes all bytes: 8 bytes or more with two vectors that may overlap, fewer than 8 one by one.

@@ -53,7 +53,7 @@ pub fn data_bits_per_element(size: ElementSize) -> BitCount32
 /// The number of words that `count` elements take together ("Lists"): the fewest that hold their
 /// bits; 0 for pointers and structs.
 #[inline]
-pub fn flat_words(size: ElementSize, count: ElementCount32) -> WordCount32
+pub fn words_for_elements(size: ElementSize, count: ElementCount32) -> WordCount32
     requires { count < 2 ^ 29 }
     ensures { result ≡ words_for (size_number size) count }
 {
@@ -63,7 +63,7 @@ pub fn flat_words(size: ElementSize, count: ElementCount32) -> WordCount32
 /// Whether each element of the list that `word` describes is one bit, or 1, 2, 4 or 8 bytes of
 /// data: neither void, nor a pointer, nor a struct.
 #[inline]
-pub fn is_of_bits(word: WirePointer) -> bool
+pub fn is_primitive_list(word: WirePointer) -> bool
     ensures { IsTrue result ↔ (0 < element_size word.0) × (element_size word.0 ≤ 5) }
 {
     !matches!(
@@ -155,8 +155,8 @@ impl WirePointer {
         ensures word { DescribesStruct result.0 (offset_field offset) size }
         ensures offset_of { signed (offset_bits result.0) ≡ offset }
     {
-        let low = u64::from(bits_of_offset(offset)) << 2;
-        WirePointer(low | upper_of_struct(size) << 32)
+        let low = u64::from(offset_bits(offset)) << 2;
+        WirePointer(low | struct_upper_half(size) << 32)
     }
 
     /// Makes the tag of a list of `count` structs, each of size `size` ("Lists"). Precondition:
@@ -165,7 +165,7 @@ impl WirePointer {
         requires { count < 2 ^ 30 }
         ensures { DescribesStruct result.0 count size }
     {
-        WirePointer(u64::from(count) << 2 | upper_of_struct(size) << 32)
+        WirePointer(u64::from(count) << 2 | struct_upper_half(size) << 32)
     }
 
     /// Makes a pointer to a list that starts `offset` words after the pointer's end ("Lists").
@@ -177,7 +177,7 @@ impl WirePointer {
         requires few { count < 2 ^ 29 }
         ensures { DescribesList result.0 offset (size_number size) count }
     {
-        let low = u64::from(bits_of_offset(offset)) << 2 | 1;
+        let low = u64::from(offset_bits(offset)) << 2 | 1;
         let upper = u64::from(count) << 3 | size_code(size);
         WirePointer(low | upper << 32)
     }
@@ -383,17 +383,17 @@ impl WirePointer {
     pub fn far_segment_id(self) -> u32
         ensures { result ≡ upper_half self.0 }
     {
-        self.upper()
+        self.upper_half()
     }
 
     /// A capability's index in the message's capability table.
     pub fn cap_index(self) -> u32
         ensures { result ≡ upper_half self.0 }
     {
-        self.upper()
+        self.upper_half()
     }
 
-    fn upper(self) -> u32
+    fn upper_half(self) -> u32
         ensures { result ≡ upper_half self.0 }
     {
         (self.0 >> 32) as u32
@@ -413,7 +413,7 @@ pub fn offset_between(position: WordCount32, target: WordCount32) -> i32
 }
 
 // The 30 bits of an offset.
-fn bits_of_offset(offset: i32) -> u32
+fn offset_bits(offset: i32) -> u32
     requires { IsOffset offset }
     ensures bits { result ≡ offset_field offset }
     ensures small { result < 2 ^ 30 }
@@ -423,7 +423,7 @@ fn bits_of_offset(offset: i32) -> u32
 }
 
 // The upper half of a struct's word.
-fn upper_of_struct(size: StructSize) -> u64
+fn struct_upper_half(size: StructSize) -> u64
     ensures value { result ≡ size.data_words + 2 ^ 16 * size.pointers }
     ensures small { result < 2 ^ 32 }
 {

@@ -62,7 +62,7 @@ pub fn zero_words(bytes: &mut [u8], at: usize, n: usize)
 }
 
 /// The number of words up to and including the last one that isn't zero; 0 if all are zero.
-pub fn used(bytes: &[u8]) -> usize
+pub fn used_words(bytes: &[u8]) -> usize
     ensures value { result ≡ used_words (words_of bytes.now) }
     ensures within { result ≤ length bytes.now / 8 }
 {
@@ -72,7 +72,7 @@ pub fn used(bytes: &[u8]) -> usize
 
 /// The `n` words from position `at` on.
 #[tactic(auto, using(capnp_format::proofs::WordsOf::part_words))]
-pub fn part(bytes: &[u8], at: usize, n: usize) -> &[u8]
+pub fn word_range(bytes: &[u8], at: usize, n: usize) -> &[u8]
     requires { 8 * (at + n) ≤ length bytes.now }
     ensures words { words_of result.now ≡ take n (drop at (words_of bytes.now)) }
     ensures length { length result.now ≡ 8 * n }
@@ -96,7 +96,7 @@ pub fn used_words_in(bytes: &[u8], at: usize, n: usize) -> usize
     ensures value { result ≡ used_words (take n (drop at (words_of bytes.now))) }
     ensures within { result ≤ n }
 {
-    used(part(bytes, at, n))
+    used_words(word_range(bytes, at, n))
 }
 
 /// Copies `n` words from position `from` to position `to`; the two ranges may overlap.

@@ -2,7 +2,7 @@
 
 use crate::building as templates;
 use crate::copying::{write_copy, write_list_copy};
-use crate::fields::{is_in_data, skip, type_of};
+use crate::fields::{is_in_data, push_skip_comment, type_of};
 use crate::getters::{
     write_enum_getter, write_has, write_list_getter, write_number_getter, write_opening,
     write_structs_opening, write_which,
@@ -75,19 +75,19 @@ impl<'m> Builders<'m> {
         values.put("what", if it.is_group { "the group" } else { "a struct" });
         put_sections(it, &mut values);
         if !it.is_group {
-            self.sizes.fill(templates::SIZE_DEFINITION, &values);
-            module.fill(templates::ROOT, &values);
+            self.sizes.push_filled(templates::SIZE_DEFINITION, &values);
+            module.push_filled(templates::ROOT, &values);
         }
         self.write_calls(&mut module, node, it);
         let methods = module.take_body();
         self.note_size(&mut module, self.owner(node), &methods);
         if !it.is_group {
-            module.fill(templates::SIZE, &values);
+            module.push_filled(templates::SIZE, &values);
         }
-        module.fill(templates::BUILDER, &values);
+        module.push_filled(templates::BUILDER, &values);
         module.push_impl("impl Builder {\n", &methods);
         if !it.is_group {
-            module.fill(templates::BUILDERS, &values);
+            module.push_filled(templates::BUILDERS, &values);
         }
         self.output.finish(&mut module, node.full.as_str());
     }
@@ -122,7 +122,7 @@ impl<'m> Builders<'m> {
         for field in it.fields.iter() {
             let mut name = Text::new(self.alloc);
             name.push(field.snake.as_str());
-            names.take(self.alloc, BUILDER_WORDS, &mut name);
+            names.push_unique(self.alloc, BUILDER_WORDS, &mut name);
             let mut values = Values::new(self.alloc);
             values.put("full", node.full.as_str());
             values.put("owner", owner);
@@ -157,7 +157,7 @@ impl<'m> Builders<'m> {
         values.put("module", node.module.as_str());
         values.put_text("type", type_of(self.alloc, node));
         put_arms(self.alloc, names, &mut values);
-        module.fill(templates::NUMBER, &values);
+        module.push_filled(templates::NUMBER, &values);
         self.output.finish(&mut module, node.full.as_str());
     }
 
@@ -168,12 +168,12 @@ impl<'m> Builders<'m> {
             FieldKind::Slot(slot) => {
                 let why = self.unwritable(slot);
                 if !why.is_empty() {
-                    skip(module, why, values);
+                    push_skip_comment(module, why, values);
                 } else {
                     self.write_slot(module, field, slot, values);
                 }
             }
-            FieldKind::Unknown => skip(module, "its type is unknown", values),
+            FieldKind::Unknown => push_skip_comment(module, "its type is unknown", values),
         }
     }
 
@@ -196,7 +196,7 @@ impl<'m> Builders<'m> {
     // Writes the calls of a group: one returns its builder, and one makes its fields zero before that.
     fn write_group_calls(&mut self, module: &mut Module, id: u64, values: &mut Values) {
         let Some(node) = self.output.node(id) else {
-            skip(module, "its group is unknown", values);
+            push_skip_comment(module, "its group is unknown", values);
             return;
         };
         module.put_path(node.module.as_str(), values);
@@ -361,12 +361,12 @@ fn put_arms(alloc: Global, names: &[String], values: &mut Values) {
     let mut arms = Text::new(alloc);
     for (i, name) in names.iter().enumerate() {
         let mut variant = capitalized(alloc, name.as_str());
-        taken.take(alloc, VARIANT_WORDS, &mut variant);
+        taken.push_unique(alloc, VARIANT_WORDS, &mut variant);
         let mut row = Values::new(alloc);
         row.put_text("variant", variant);
         row.put("type", values.get("type"));
         row.put_number("number", i as u64);
-        arms.fill("        ~type~::~variant~ => ~number~,\n", &row);
+        arms.push_filled("        ~type~::~variant~ => ~number~,\n", &row);
     }
     values.put_text("arms", arms);
 }

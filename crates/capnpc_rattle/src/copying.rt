@@ -81,17 +81,17 @@ fn write_copier(module: &mut Module, values: &mut Values) {
     );
     values.put("end", " -> Result<(), ErrorKind>");
     module.begin();
-    module.fill(templates::COPY_ABOUT, values);
-    module.sign_builder(values.get("params"), values);
-    module.fill(templates::THERE, values);
-    module.fill(templates::COPY_FITS, values);
+    module.push_filled(templates::COPY_ABOUT, values);
+    module.push_builder_signature(values.get("params"), values);
+    module.push_filled(templates::THERE, values);
+    module.push_filled(templates::COPY_FITS, values);
     module.body.push(templates::GROWS);
     if is_member(values) {
-        module.fill(templates::COPY_MEMBER, values);
+        module.push_filled(templates::COPY_MEMBER, values);
     } else {
-        module.fill(templates::COPY, values);
+        module.push_filled(templates::COPY, values);
     }
     begin_body(module, values);
     values.put_filled("args", "arena, self.place, ~tag_arg~~index~, ~source~, lim");
-    module.call("", values.get("call"), values.get("args"), "\n    }\n");
+    module.push_call("", values.get("call"), values.get("args"), "\n    }\n");
 }

@@ -10,7 +10,7 @@ use std::alloc::Global;
 pub fn name_definitions(nodes: &mut Vec<Node>, noted: &mut Noted) {
     let mut taken = Names::new(noted.alloc());
     for node in nodes.iter() {
-        take_own(noted.alloc(), node, &mut taken);
+        reserve_own_names(noted.alloc(), node, &mut taken);
     }
     for node in nodes.iter_mut() {
         name_struct(node, &mut taken, noted);
@@ -20,23 +20,23 @@ pub fn name_definitions(nodes: &mut Vec<Node>, noted: &mut Noted) {
 
 // Takes the names of the definitions of a declaration itself: of a struct, its sections; of an enum
 // and of a union, the numbers.
-fn take_own(alloc: Global, node: &Node, taken: &mut Names) {
+fn reserve_own_names(alloc: Global, node: &Node, taken: &mut Names) {
     match &node.kind {
         NodeKind::Struct(it) => {
             if !it.is_group {
-                take_name(alloc, node.module.as_str(), "_size", taken);
+                reserve_name(alloc, node.module.as_str(), "_size", taken);
             }
             if it.members > 0 {
-                take_name(alloc, it.which.as_str(), "_number", taken);
+                reserve_name(alloc, it.which.as_str(), "_number", taken);
             }
         }
-        NodeKind::Enum(_) => take_name(alloc, node.module.as_str(), "_number", taken),
+        NodeKind::Enum(_) => reserve_name(alloc, node.module.as_str(), "_number", taken),
         NodeKind::File | NodeKind::Other(_) => {}
     }
 }
 
 // Takes the name that begins with `start` and ends with `end`.
-fn take_name(alloc: Global, start: &str, end: &str, taken: &mut Names) {
+fn reserve_name(alloc: Global, start: &str, end: &str, taken: &mut Names) {
     let mut name = Text::new(alloc);
     name.push(start);
     name.push(end);
@@ -48,7 +48,7 @@ fn name_struct(node: &mut Node, taken: &mut Names, noted: &mut Noted) {
     if let NodeKind::Struct(it) = &mut node.kind {
         name_fields(node.snake.as_str(), &mut it.fields, taken, noted);
         if it.members > 0 {
-            it.tag = definition(node.snake.as_str(), "_tag", taken, noted);
+            it.tag = unique_definition_name(node.snake.as_str(), "_tag", taken, noted);
         }
     }
 }
@@ -71,20 +71,20 @@ fn name_field(
     noted: &mut Noted,
 ) {
     let mut name = snake_case(noted.alloc(), field.name.as_str());
-    names.take(noted.alloc(), &[], &mut name);
+    names.push_unique(noted.alloc(), &[], &mut name);
     let mut end = Text::new(noted.alloc());
     end.push("_");
     end.append(&name);
-    field.snake = noted.whole(name);
+    field.snake = noted.string_or_note(name);
     let (has_spec, has_default) = match &field.kind {
         FieldKind::Slot(slot) => (has_value(slot), matches!(slot.default, Default::Words(_))),
         _ => (false, false),
     };
     if has_spec {
-        field.spec = definition(node, end.as_str(), taken, noted);
+        field.spec = unique_definition_name(node, end.as_str(), taken, noted);
     }
     if has_default {
-        let default = definition(field.spec.as_str(), "_default", taken, noted);
+        let default = unique_definition_name(field.spec.as_str(), "_default", taken, noted);
         field.default_spec = default;
     }
 }
@@ -95,10 +95,10 @@ fn has_value(slot: &Slot) -> bool {
 }
 
 // Returns the name of a definition that no other has: `start`, `end`, and as many `_` as that takes.
-fn definition(start: &str, end: &str, taken: &mut Names, noted: &mut Noted) -> String {
+fn unique_definition_name(start: &str, end: &str, taken: &mut Names, noted: &mut Noted) -> String {
     let mut name = Text::new(noted.alloc());
     name.push(start);
     name.push(end);
-    taken.take(noted.alloc(), SPEC_WORDS, &mut name);
-    noted.whole(name)
+    taken.push_unique(noted.alloc(), SPEC_WORDS, &mut name);
+    noted.string_or_note(name)
 }

@@ -13,22 +13,22 @@ pub fn is_in_data(of: Type) -> bool {
 
 /// Writes the comment of a call.
 pub fn begin_comment(module: &mut Module, ordinal: Option<u16>, values: &Values) {
-    module.body.fill("    /// ~name~ ", values);
+    module.body.push_filled("    /// ~name~ ", values);
     if let Some(ordinal) = ordinal {
         module.body.push("@");
         module.body.push_number(u64::from(ordinal));
         module.body.push(" ");
     }
-    module.body.fill(":~of~\n", values);
+    module.body.push_filled(":~of~\n", values);
 }
 
 /// Writes a comment in place of a call.
-pub fn skip(module: &mut Module, why: &str, values: &mut Values) {
+pub fn push_skip_comment(module: &mut Module, why: &str, values: &mut Values) {
     values.put("why", why);
     module.begin();
     module
         .body
-        .fill("    // ~name~ isn't written: ~why~.\n", values);
+        .push_filled("    // ~name~ isn't written: ~why~.\n", values);
 }
 
 /// The element size of a list.

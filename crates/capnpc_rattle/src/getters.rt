@@ -12,9 +12,9 @@ fn begin_getter(module: &mut Module, about: &str, start: &str, values: &mut Valu
     values.put_filled("end", " -> ~gives~");
     values.put("reads", templates::READS);
     module.begin();
-    module.fill(about, values);
-    module.sign_builder("self, arena: &A", values);
-    module.fill(templates::HERE, values);
+    module.push_filled(about, values);
+    module.push_builder_signature("self, arena: &A", values);
+    module.push_filled(templates::HERE, values);
 }
 
 /// Writes the call that returns a number or a bit.
@@ -35,7 +35,7 @@ pub fn write_number_getter(module: &mut Module, slot: &Slot, values: &mut Values
     } else {
         templates::GET_UNSIGNED
     };
-    module.fill(template, values);
+    module.push_filled(template, values);
 }
 
 /// Writes the call that returns an enum, which is `name` of the module `of`.
@@ -56,7 +56,7 @@ pub fn write_enum_getter(
         "pub fn get_~snake~<A: BuilderArena>",
         values,
     );
-    module.fill(templates::GET_ENUM, values);
+    module.push_filled(templates::GET_ENUM, values);
 }
 
 /// Writes the call that says which member of a union is set. `which` is the module of the readers
@@ -75,7 +75,7 @@ pub fn write_which(module: &mut Module, which: &str, values: &mut Values) {
         "pub fn which<A: BuilderArena>",
         values,
     );
-    module.fill(templates::GET_ENUM, values);
+    module.push_filled(templates::GET_ENUM, values);
 }
 
 /// Writes the call that opens a struct.
@@ -86,7 +86,7 @@ pub fn write_opening(module: &mut Module, values: &mut Values) {
         " -> Result<~path~Builder, ErrorKind>",
         values,
     );
-    module.fill(templates::OPEN_STRUCT, values);
+    module.push_filled(templates::OPEN_STRUCT, values);
     end_opening(module, "opening::get_struct", values);
 }
 
@@ -98,7 +98,7 @@ pub fn write_structs_opening(module: &mut Module, values: &mut Values) {
         " -> Result<~path~Builders, ErrorKind>",
         values,
     );
-    module.fill(templates::OPEN_STRUCTS, values);
+    module.push_filled(templates::OPEN_STRUCTS, values);
     end_opening(module, "opening::get_struct_list", values);
 }
 
@@ -107,17 +107,17 @@ fn begin_opening(module: &mut Module, about: &str, end: &str, values: &mut Value
     values.put_filled("start", "pub fn get_~snake~<A: BuilderArena>");
     values.put_filled("end", end);
     module.begin();
-    module.fill(about, values);
-    module.sign_builder("self, arena: &mut A", values);
-    module.fill(templates::THERE, values);
+    module.push_filled(about, values);
+    module.push_builder_signature("self, arena: &mut A", values);
+    module.push_filled(templates::THERE, values);
 }
 
 // Ends such a call with its body: a call of `function`.
 fn end_opening(module: &mut Module, function: &str, values: &mut Values) {
     module.body.push("    {\n");
     values.put_filled("args", "arena, self.place, ~index~, ~path~SIZE");
-    module.call("match ", function, values.get("args"), " {\n");
-    module.fill(templates::BUILT, values);
+    module.push_call("match ", function, values.get("args"), " {\n");
+    module.push_filled(templates::BUILT, values);
 }
 
 /// Writes the call that returns a list whose elements aren't structs.
@@ -129,7 +129,7 @@ pub fn write_list_getter(module: &mut Module, values: &mut Values) {
         "pub fn get_~snake~<A: BuilderArena>",
         values,
     );
-    module.fill(templates::OPEN_LIST, values);
+    module.push_filled(templates::OPEN_LIST, values);
 }
 
 /// Writes the call that says whether a pointer is set.
@@ -141,7 +141,7 @@ pub fn write_has(module: &mut Module, values: &mut Values) {
         "pub fn has_~snake~<A: BuilderArena>",
         values,
     );
-    module.fill(templates::HAS, values);
+    module.push_filled(templates::HAS, values);
 }
 
 // Puts what reads a number.

@@ -46,7 +46,7 @@ use std::{fs, io};
 const MAX_WORDS: u64 = 1 << 28;
 
 /// Reads the request that standard input has.
-fn requested(rt: &(impl Input + AllocGlobal)) -> Result<Request> {
+fn read_standard_input(rt: &(impl Input + AllocGlobal)) -> Result<Request> {
     let mut input = ReaderInput::new(rt.reader());
     let Some(segments) = read(rt.alloc(), &mut input, MAX_WORDS)? else {
         return Err(anyhow!("no request: run `capnp compile -o./capnpc-rattle SCHEMA.capnp`"));
@@ -54,11 +54,15 @@ fn requested(rt: &(impl Input + AllocGlobal)) -> Result<Request> {
     // the compiler is trusted, so the traversal isn't limited
     let mut limiter = ReadLimiter::new(None);
     let arena = ReaderArenaImpl::new(segments, ReaderOptions::default());
-    request_in(rt.alloc(), &arena, &mut limiter)
+    read_named_request(rt.alloc(), &arena, &mut limiter)
 }
 
 /// Reads the request that a message is, and names the modules and the definitions.
-fn request_in<A: ReaderArena>(alloc: Global, arena: &A, lim: &mut ReadLimiter) -> Result<Request> {
+fn read_named_request<A: ReaderArena>(
+    alloc: Global,
+    arena: &A,
+    lim: &mut ReadLimiter,
+) -> Result<Request> {
     let root = code_generator_request::Reader::root(arena, lim)?;
     let mut noted = Noted::new(alloc);
     let mut request = read_request(root, lim, &mut noted);
@@ -81,14 +85,14 @@ fn stem(file: &str) -> &str {
 }
 
 /// Returns the files of the crate of readers.
-fn readers_of(alloc: Global, request: &Request) -> Result<Vec<File>, AllocError> {
+fn write_readers(alloc: Global, request: &Request) -> Result<Vec<File>, AllocError> {
     let stem = stem(request.file.as_str());
     let name = crate_name(alloc, stem, "_reading")?;
     Readers::new(alloc, name.as_str(), request.nodes.as_slice()).write(stem)
 }
 
 /// Returns the files of the crate of builders.
-fn builders_of(alloc: Global, request: &Request) -> Result<Vec<File>, AllocError> {
+fn write_builders(alloc: Global, request: &Request) -> Result<Vec<File>, AllocError> {
     let stem = stem(request.file.as_str());
     let name = crate_name(alloc, stem, "_building")?;
     let reading = crate_name(alloc, stem, "_reading")?;
@@ -100,7 +104,7 @@ fn builders_of(alloc: Global, request: &Request) -> Result<Vec<File>, AllocError
 fn crate_name(alloc: Global, stem: &str, end: &str) -> Result<String, AllocError> {
     let mut name = snake_case(alloc, stem);
     name.push(end);
-    name.whole()
+    name.into_string()
 }
 
 /// Writes a file, and makes its folder.
@@ -121,9 +125,9 @@ fn write_files<R: Files>(rt: &R, files: &[File]) -> io::Result<()> {
 }
 
 fn main(rt: HostRuntime) -> Result<()> {
-    let request = requested(&rt)?;
-    let readers = readers_of(rt.alloc(), &request)?;
-    let builders = builders_of(rt.alloc(), &request)?;
+    let request = read_standard_input(&rt)?;
+    let readers = write_readers(rt.alloc(), &request)?;
+    let builders = write_builders(rt.alloc(), &request)?;
     write_files(&rt, readers.as_slice())?;
     write_files(&rt, builders.as_slice())?;
     Ok(())

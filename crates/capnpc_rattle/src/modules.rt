@@ -20,7 +20,7 @@ pub fn name_modules(nodes: &mut Vec<Node>, noted: &mut Noted) {
 // Names the module of a declaration.
 fn name_module(node: &mut Node, taken: &mut Names, noted: &mut Noted) {
     if matches!(node.kind, NodeKind::Struct(_) | NodeKind::Enum(_)) {
-        node.module = free_name(node.snake.as_str(), "", taken, noted);
+        node.module = unique_module_name(node.snake.as_str(), "", taken, noted);
     }
 }
 
@@ -28,16 +28,16 @@ fn name_module(node: &mut Node, taken: &mut Names, noted: &mut Noted) {
 fn name_which(node: &mut Node, taken: &mut Names, noted: &mut Noted) {
     if let NodeKind::Struct(it) = &mut node.kind {
         if it.members > 0 {
-            it.which = free_name(node.snake.as_str(), "_which", taken, noted);
+            it.which = unique_module_name(node.snake.as_str(), "_which", taken, noted);
         }
     }
 }
 
 // Returns the name of a module that no other has: `start`, `end`, and as many `_` as that takes.
-fn free_name(start: &str, end: &str, taken: &mut Names, noted: &mut Noted) -> String {
+fn unique_module_name(start: &str, end: &str, taken: &mut Names, noted: &mut Noted) -> String {
     let mut name = Text::new(noted.alloc());
     name.push(start);
     name.push(end);
-    taken.take(noted.alloc(), MODULE_WORDS, &mut name);
-    noted.whole(name)
+    taken.push_unique(noted.alloc(), MODULE_WORDS, &mut name);
+    noted.string_or_note(name)
 }

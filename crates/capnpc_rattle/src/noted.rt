@@ -51,7 +51,7 @@ impl Noted {
     }
 
     /// Returns what was read; `None` if that was refused.
-    pub fn got<T: Drop>(&mut self, read: Result<T, ErrorKind>) -> Option<T> {
+    pub fn ok_or_note<T: Drop>(&mut self, read: Result<T, ErrorKind>) -> Option<T> {
         match read {
             Ok(value) => Some(value),
             Err(refusal) => {
@@ -62,7 +62,7 @@ impl Noted {
     }
 
     /// Returns the bytes that were read; none if that was refused.
-    pub fn bytes<'a>(&mut self, read: Result<&'a [u8], ErrorKind>) -> &'a [u8] {
+    pub fn bytes_or_note<'a>(&mut self, read: Result<&'a [u8], ErrorKind>) -> &'a [u8] {
         match read {
             Ok(bytes) => bytes,
             Err(refusal) => {
@@ -73,8 +73,8 @@ impl Noted {
     }
 
     /// Returns the text that was read; an empty one if that was refused.
-    pub fn text<'a>(&mut self, read: Result<&'a [u8], ErrorKind>) -> &'a str {
-        match str::from_utf8(self.bytes(read)) {
+    pub fn text_or_note<'a>(&mut self, read: Result<&'a [u8], ErrorKind>) -> &'a str {
+        match str::from_utf8(self.bytes_or_note(read)) {
             Ok(text) => text,
             Err(_) => {
                 self.has_bad_text = true;
@@ -84,21 +84,21 @@ impl Noted {
     }
 
     /// Returns a copy of a text.
-    pub fn copy(&mut self, text: &str) -> String {
+    pub fn copy_text(&mut self, text: &str) -> String {
         let mut copied = Text::new(self.alloc);
         copied.push(text);
-        self.whole(copied)
+        self.string_or_note(copied)
     }
 
     /// Returns a name in snake case.
-    pub fn snake(&mut self, name: &str) -> String {
+    pub fn snake_case(&mut self, name: &str) -> String {
         let snake = snake_case(self.alloc, name);
-        self.whole(snake)
+        self.string_or_note(snake)
     }
 
     /// Returns a text; an empty one if memory was lacking for a part of it.
-    pub fn whole(&mut self, text: Text) -> String {
-        match text.whole() {
+    pub fn string_or_note(&mut self, text: Text) -> String {
+        match text.into_string() {
             Ok(text) => text,
             Err(AllocError) => {
                 self.has_failed = true;

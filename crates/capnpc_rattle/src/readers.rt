@@ -1,7 +1,9 @@
 //! Generates readers.
 ghost use Rattle.std.specs.Prelude.{◌≤◌};
 
-use crate::fields::{begin_comment, element_size, is_in_data, list_kind, skip, type_of};
+use crate::fields::{
+    begin_comment, element_size, is_in_data, list_kind, push_skip_comment, type_of,
+};
 use crate::imports::Kind;
 use crate::model::{Base, Default, Field, FieldKind, Node, NodeKind, Slot, Struct, Type};
 use crate::names::{VARIANT_WORDS, capitalized};
@@ -55,7 +57,7 @@ impl<'m> Readers<'m> {
     // Adds a definition: `values` has its name, `spec`, what it is about, its type, and its value.
     fn define(&mut self, module: &mut Module, template: &str, values: &Values) {
         module.specs.add(self.alloc, values.get("spec"));
-        self.definitions.fill(template, values);
+        self.definitions.push_filled(template, values);
     }
 
     // Writes the module of a struct or a group, and that of its union.
@@ -71,15 +73,15 @@ impl<'m> Readers<'m> {
             self.write_which(&mut module, node, it);
         }
         let methods = module.take_body();
-        module.body.fill(templates::READER, &values);
+        module.body.push_filled(templates::READER, &values);
         module.push_impl("impl<'a, A: ReaderArena> Reader<'a, A> {\n", &methods);
         if !it.is_group {
-            module.body.fill(templates::READERS, &values);
+            module.body.push_filled(templates::READERS, &values);
         }
         self.output.finish(&mut module, node.full.as_str());
         if it.members > 0 {
             values.put_filled("about", "Which member of ~full~ is set");
-            let members = members(self.alloc, it);
+            let members = member_names(self.alloc, it);
             self.output.note(members.has_failed());
             self.write_names(
                 it.which.as_str(),
@@ -109,7 +111,10 @@ impl<'m> Readers<'m> {
         values.put("spec", it.tag.as_str());
         values.put_filled("about", "Which member of ~full~ is set.");
         values.put("type", "ℕ");
-        values.put_text("value", bits_in(self.alloc, it.tag_offset, 16));
+        values.put_text(
+            "value",
+            field_bits_definition(self.alloc, it.tag_offset, 16),
+        );
         values.put_number("index", u64::from(it.tag_offset));
         values.put_number("count", u64::from(it.members));
         values.put_filled("read", "value::get_number(&self.reader, ~index~)");
@@ -117,7 +122,7 @@ impl<'m> Readers<'m> {
         module.begin();
         module.body.push("    /// Returns which member is set.\n");
         values.put("call", "which");
-        write_named(self.alloc, module, it.which.as_str(), "Which", &mut values);
+        write_enum_getter_named(self.alloc, module, it.which.as_str(), "Which", &mut values);
     }
 
     // Writes the module of an enum.
@@ -145,9 +150,9 @@ impl<'m> Readers<'m> {
         values.put("crate", self.output.name());
         values.put_number("count", names.len() as u64);
         put_variants(self.alloc, names, &mut values);
-        module.body.fill(templates::NAMES, &values);
+        module.body.push_filled(templates::NAMES, &values);
         let mut text = Text::new(self.alloc);
-        text.fill(templates::NUMBERS, &values);
+        text.push_filled(templates::NUMBERS, &values);
         self.output.add_numbers(name, text);
         self.output.finish(&mut module, about);
     }
@@ -159,28 +164,28 @@ impl<'m> Readers<'m> {
             FieldKind::Slot(slot) => {
                 let why = self.unreadable(slot);
                 if !why.is_empty() {
-                    skip(module, why, values);
+                    push_skip_comment(module, why, values);
                 } else if slot.of.lists > 0 || slot.of.base != Base::Void {
                     self.write_slot(module, field, slot, values);
                 }
             }
-            FieldKind::Unknown => skip(module, "its type is unknown", values),
+            FieldKind::Unknown => push_skip_comment(module, "its type is unknown", values),
         }
     }
 
     // Writes the getter of a group.
     fn write_group(&mut self, module: &mut Module, id: u64, values: &mut Values) {
         let Some(node) = self.output.node(id) else {
-            skip(module, "its group is unknown", values);
+            push_skip_comment(module, "its group is unknown", values);
             return;
         };
         module.begin();
-        module.body.fill("    /// ~name~ :group\n", values);
+        module.body.push_filled("    /// ~name~ :group\n", values);
         module.put_path(node.module.as_str(), values);
         values.put_filled("call", "get_~snake~");
         values.put_filled("gives", "~path~Reader<'a, A>");
-        module.sign(false, values);
-        module.body.fill(templates::GROUP, values);
+        module.push_signature(false, values);
+        module.body.push_filled(templates::GROUP, values);
     }
 
     // Why a field has no getter; empty if it has one.
@@ -242,10 +247,10 @@ impl<'m> Readers<'m> {
         default.put("name", values.get("name"));
         default.put("spec", spec);
         default.put_filled("about", "The default value of ~full~.~name~, as a message");
-        default.put_text("value", numbers_of(self.alloc, words));
+        default.put_text("value", list_of_bytes(self.alloc, words));
         self.define(module, templates::DEFAULT, &default);
         values.put("default", spec);
-        values.put_text("literal", literal_of(self.alloc, words));
+        values.put_text("literal", byte_string_literal(self.alloc, words));
     }
 
     // Writes the getter of a number, a bit or an enum, from its name on.
@@ -256,7 +261,7 @@ impl<'m> Readers<'m> {
                     values.put_number("count", names.len() as u64);
                 }
                 let name = type_of(self.alloc, node);
-                write_named(
+                write_enum_getter_named(
                     self.alloc,
                     module,
                     node.module.as_str(),
@@ -267,8 +272,10 @@ impl<'m> Readers<'m> {
             return;
         }
         values.put("gives", of.base.rust_type().unwrap_or("()"));
-        module.sign(false, values);
-        module.body.fill(number_template(of.base), values);
+        module.push_signature(false, values);
+        module
+            .body
+            .push_filled(number_getter_template(of.base), values);
     }
 
     // Writes the getter of a pointer, from its name on, and the call that says whether it is null.
@@ -281,7 +288,7 @@ impl<'m> Readers<'m> {
         if of.lists > 0 {
             write_list(module, of, values);
         } else {
-            write_one(module, of.base, values);
+            write_pointer_getter(module, of.base, values);
         }
         let mut has = Values::new(self.alloc);
         has.put("name", values.get("name"));
@@ -289,12 +296,12 @@ impl<'m> Readers<'m> {
         has.put("index", values.get("index"));
         has.put_filled("call", "has_~snake~");
         has.put("gives", "bool");
-        module.body.fill(
+        module.body.push_filled(
             "\n    /// Whether the pointer of ~name~ is not null.\n",
             &has,
         );
-        module.sign(false, &has);
-        module.body.fill(templates::HAS, &has);
+        module.push_signature(false, &has);
+        module.body.push_filled(templates::HAS, &has);
     }
 }
 
@@ -307,16 +314,16 @@ fn put_variants(alloc: Global, names: &[String], values: &mut Values) {
     let mut numbers = Text::new(alloc);
     for (i, name) in names.iter().enumerate() {
         let mut variant = capitalized(alloc, name.as_str());
-        taken.take(alloc, VARIANT_WORDS, &mut variant);
+        taken.push_unique(alloc, VARIANT_WORDS, &mut variant);
         let mut row = Values::new(alloc);
         row.put("name", name.as_str());
         row.put_text("variant", variant);
         row.put("type", values.get("type"));
         row.put("module", values.get("module"));
         row.put_number("number", i as u64);
-        variants.fill("    /// ~name~ @~number~\n    ~variant~,\n", &row);
-        arms.fill("        ~number~ => Ok(~type~::~variant~),\n", &row);
-        numbers.fill("~module~_number ~variant~ = ~number~\n", &row);
+        variants.push_filled("    /// ~name~ @~number~\n    ~variant~,\n", &row);
+        arms.push_filled("        ~number~ => Ok(~type~::~variant~),\n", &row);
+        numbers.push_filled("~module~_number ~variant~ = ~number~\n", &row);
     }
     values.put_text("variants", variants);
     values.put_text("arms", arms);
@@ -332,7 +339,10 @@ fn put_number_field(alloc: Global, slot: &Slot, values: &mut Values) {
     values.put("type", "ℕ");
     values.put("kind", number_kind(base));
     values.put_number("bits", base.bits());
-    values.put_text("stored", bits_in(alloc, slot.offset, base.bits()));
+    values.put_text(
+        "stored",
+        field_bits_definition(alloc, slot.offset, base.bits()),
+    );
     if let Default::Number { literal, bits } = &slot.default {
         values.put("sense", "≢");
         values.put("literal", literal.as_str());
@@ -358,7 +368,7 @@ fn number_kind(base: Base) -> &'static str {
 }
 
 // The template of a number, or a bit.
-fn number_template(base: Base) -> &'static str {
+fn number_getter_template(base: Base) -> &'static str {
     if base == Base::Bool {
         return templates::BOOL;
     }
@@ -381,8 +391,8 @@ fn put_pointer_field(alloc: Global, slot: &Slot, values: &mut Values) {
     values.put("kind", bytes_kind(of.base));
     values.put("bytes", bytes_definition(of.base));
     if let Default::Bytes(bytes) = &slot.default {
-        values.put_text("numbers", numbers_of(alloc, bytes.as_slice()));
-        values.put_text("literal", literal_of(alloc, bytes.as_slice()));
+        values.put_text("numbers", list_of_bytes(alloc, bytes.as_slice()));
+        values.put_text("literal", byte_string_literal(alloc, bytes.as_slice()));
         values.put_filled("value", "~kind~_or (~numbers~) (child ~index~ t)");
         values.put_filled("read", templates::BYTES_OR);
     } else {
@@ -406,7 +416,7 @@ fn bytes_definition(base: Base) -> &'static str {
 }
 
 // The names of a union's members, by their numbers.
-fn members(alloc: Global, it: &Struct) -> Names {
+fn member_names(alloc: Global, it: &Struct) -> Names {
     let mut names = Names::new(alloc);
     for number in 0..it.members {
         if let Some(field) = it.fields.iter().find(|field| field.discriminant == number) {
@@ -417,7 +427,7 @@ fn members(alloc: Global, it: &Struct) -> Names {
 }
 
 // The definition of a field of a data section: `width` bits, from the field at `offset` on.
-fn bits_in(alloc: Global, offset: u32, width: u64) -> Text
+fn field_bits_definition(alloc: Global, offset: u32, width: u64) -> Text
     requires { width ≤ 64 }
 {
     let mut text = Text::new(alloc);
@@ -430,31 +440,37 @@ fn bits_in(alloc: Global, offset: u32, width: u64) -> Text
 }
 
 // Writes the getter of the enum `name` of the module `of`, from the getter's name on.
-fn write_named(alloc: Global, module: &mut Module, of: &str, name: &str, values: &mut Values) {
+fn write_enum_getter_named(
+    alloc: Global,
+    module: &mut Module,
+    of: &str,
+    name: &str,
+    values: &mut Values,
+) {
     module.numbers.note(alloc, of);
     module.put_path(of, values);
     values.put("module", of);
     values.put("enum", name);
     values.put_filled("gives", "Result<~path~~enum~, NotInSchema>");
-    module.sign(false, values);
-    module.body.fill(templates::ENUM, values);
+    module.push_signature(false, values);
+    module.body.push_filled(templates::ENUM, values);
 }
 
 // Writes the getter of a text, data, a struct, a capability, or any pointer, from its name on.
-fn write_one(module: &mut Module, base: Base, values: &mut Values) {
-    values.put_filled("gives", pointer_result(base));
-    module.sign(
+fn write_pointer_getter(module: &mut Module, base: Base, values: &mut Values) {
+    values.put_filled("gives", pointer_getter_result(base));
+    module.push_signature(
         matches!(base, Base::Text | Base::Data | Base::Struct),
         values,
     );
     let has_default = !values.get("default").is_empty();
     module
         .body
-        .fill(pointer_template(base, has_default), values);
+        .push_filled(pointer_getter_template(base, has_default), values);
 }
 
 // What such a getter returns.
-fn pointer_result(base: Base) -> &'static str {
+fn pointer_getter_result(base: Base) -> &'static str {
     match base {
         Base::Text | Base::Data => "Result<&'a [u8], ErrorKind>",
         Base::Struct => "Result<~path~Reader<'a, A>, ErrorKind>",
@@ -464,7 +480,7 @@ fn pointer_result(base: Base) -> &'static str {
 }
 
 // The template of such a getter.
-fn pointer_template(base: Base, has_default: bool) -> &'static str {
+fn pointer_getter_template(base: Base, has_default: bool) -> &'static str {
     match base {
         Base::Struct if has_default => templates::STRUCT_OR,
         Base::Text => templates::TEXT,
@@ -482,7 +498,7 @@ fn write_list(module: &mut Module, of: Type, values: &mut Values) {
     values.put("get", function);
     values.put("reader", reader);
     values.put("element", of.base.rust_type().unwrap_or("()"));
-    values.put_filled("gives", list_result(function));
+    values.put_filled("gives", list_getter_result(function));
     let has_default = !values.get("default").is_empty();
     let of_structs = function == "get_structs";
     values.put(
@@ -493,18 +509,18 @@ fn write_list(module: &mut Module, of: Type, values: &mut Values) {
             "r.reader"
         },
     );
-    values.put_filled("end", list_end(of_structs, has_default));
-    module.sign(true, values);
+    values.put_filled("end", list_getter_end(of_structs, has_default));
+    module.push_signature(true, values);
     let template = if has_default {
         templates::LIST_OR
     } else {
         templates::LIST
     };
-    module.body.fill(template, values);
+    module.body.push_filled(template, values);
 }
 
 // How such a getter ends.
-fn list_end(of_structs: bool, has_default: bool) -> &'static str {
+fn list_getter_end(of_structs: bool, has_default: bool) -> &'static str {
     match (of_structs, has_default) {
         (true, false) => templates::STRUCT_LIST,
         (true, true) => templates::STRUCT_LIST_OR,
@@ -514,7 +530,7 @@ fn list_end(of_structs: bool, has_default: bool) -> &'static str {
 }
 
 // What the getter of a list returns.
-fn list_result(function: &str) -> &'static str {
+fn list_getter_result(function: &str) -> &'static str {
     match function {
         "get_structs" => "Result<~path~Readers<'a, A>, ErrorKind>",
         "get_numbers" => "Result<~reader~<'a, A, ~element~>, ErrorKind>",
@@ -523,7 +539,7 @@ fn list_result(function: &str) -> &'static str {
 }
 
 // Bytes as a list of the prover's.
-fn numbers_of(alloc: Global, bytes: &[u8]) -> Text {
+fn list_of_bytes(alloc: Global, bytes: &[u8]) -> Text {
     let mut numbers = Text::new(alloc);
     for byte in bytes {
         numbers.push_number(u64::from(*byte));
@@ -534,7 +550,7 @@ fn numbers_of(alloc: Global, bytes: &[u8]) -> Text {
 }
 
 // Bytes as a literal of Rust's, in the layout of `rt fmt` after `let default =`.
-fn literal_of(alloc: Global, bytes: &[u8]) -> Text {
+fn byte_string_literal(alloc: Global, bytes: &[u8]) -> Text {
     let mut literal = Text::new(alloc);
     let fits = bytes.len() <= 18;
     literal.push(if fits { " b\"" } else { "\n            b\"" });

@@ -33,11 +33,11 @@ pub fn read_request<A: ReaderArena>(
     noted: &mut Noted,
 ) -> Request {
     let mut file = String::new(noted.alloc());
-    if let Some(files) = noted.got(from.get_requested_files(lim)) {
+    if let Some(files) = noted.ok_or_note(from.get_requested_files(lim)) {
         file = read_file(files, lim, noted);
     }
     let mut nodes = Vec::new(noted.alloc());
-    if let Some(declared) = noted.got(from.get_nodes(lim)) {
+    if let Some(declared) = noted.ok_or_note(from.get_nodes(lim)) {
         read_nodes(declared, &mut nodes, lim, noted);
     }
     Request { file, nodes }
@@ -52,8 +52,8 @@ fn read_file<A: ReaderArena>(
     if files.len() == 0 {
         return String::new(noted.alloc());
     }
-    let name = noted.text(files.get(0).get_filename(lim));
-    noted.copy(name)
+    let name = noted.text_or_note(files.get(0).get_filename(lim));
+    noted.copy_text(name)
 }
 
 // Reads the declarations, and appends them to `nodes`.
@@ -75,13 +75,13 @@ fn read_node<A: ReaderArena>(
     lim: &mut ReadLimiter,
     noted: &mut Noted,
 ) -> Node {
-    let full = without_file(noted.text(from.get_display_name(lim)));
+    let full = without_file(noted.text_or_note(from.get_display_name(lim)));
     let kind = read_kind(from, lim, noted);
     Node {
         id: from.get_id(),
         scope: from.get_scope_id(),
-        full: noted.copy(full),
-        snake: noted.snake(full),
+        full: noted.copy_text(full),
+        snake: noted.snake_case(full),
         module: String::new(noted.alloc()),
         kind,
     }
@@ -123,7 +123,7 @@ fn read_enum<A: ReaderArena>(
     noted: &mut Noted,
 ) -> Vec<String> {
     let mut names = Vec::new(noted.alloc());
-    if let Some(enumerants) = noted.got(from.get_enum().get_enumerants(lim)) {
+    if let Some(enumerants) = noted.ok_or_note(from.get_enum().get_enumerants(lim)) {
         read_enumerants(enumerants, &mut names, lim, noted);
     }
     names
@@ -137,8 +137,8 @@ fn read_enumerants<A: ReaderArena>(
     noted: &mut Noted,
 ) {
     for i in 0..enumerants.len() {
-        let name = noted.text(enumerants.get(i).get_name(lim));
-        let name = noted.copy(name);
+        let name = noted.text_or_note(enumerants.get(i).get_name(lim));
+        let name = noted.copy_text(name);
         noted.push(names, name);
     }
 }
@@ -150,7 +150,7 @@ fn read_struct<A: ReaderArena>(
     noted: &mut Noted,
 ) -> Struct {
     let mut fields = Vec::new(noted.alloc());
-    if let Some(declared) = noted.got(from.get_fields(lim)) {
+    if let Some(declared) = noted.ok_or_note(from.get_fields(lim)) {
         read_fields(declared, &mut fields, lim, noted);
     }
     Struct {
@@ -184,10 +184,10 @@ fn read_field<A: ReaderArena>(
     lim: &mut ReadLimiter,
     noted: &mut Noted,
 ) -> Field {
-    let name = noted.text(from.get_name(lim));
+    let name = noted.text_or_note(from.get_name(lim));
     let kind = read_field_kind(from, lim, noted);
     Field {
-        name: noted.copy(name),
+        name: noted.copy_text(name),
         snake: String::new(noted.alloc()),
         spec: String::new(noted.alloc()),
         default_spec: String::new(noted.alloc()),
@@ -227,7 +227,7 @@ fn read_slot<A: ReaderArena>(
     let Some(of) = slot_type(from, lim, noted) else {
         return FieldKind::Unknown;
     };
-    let default = match noted.got(from.get_default_value(lim)) {
+    let default = match noted.ok_or_note(from.get_default_value(lim)) {
         Some(value) => read_default(value, lim, noted),
         None => Default::Zero,
     };
@@ -244,7 +244,7 @@ fn slot_type<A: ReaderArena>(
     lim: &mut ReadLimiter,
     noted: &mut Noted,
 ) -> Option<Type> {
-    let of = noted.got(from.get_type(lim))?;
+    let of = noted.ok_or_note(from.get_type(lim))?;
     read_type(of, lim, noted)
 }
 
@@ -259,10 +259,10 @@ fn read_type<A: ReaderArena>(
         let which = inner.which().ok()?;
         if !matches!(which, type_which::Which::List) {
             let base = base_of(which);
-            let id = id_of(inner, base);
+            let id = type_id(inner, base);
             return Some(Type { lists, base, id });
         }
-        inner = noted.got(inner.get_list().get_element_type(lim))?;
+        inner = noted.ok_or_note(inner.get_list().get_element_type(lim))?;
     }
     None
 }
@@ -292,7 +292,7 @@ fn base_of(which: type_which::Which) -> Base {
 }
 
 // The id of a type's declaration; 0 if it has none.
-fn id_of<A: ReaderArena>(from: type_::Reader<'_, A>, base: Base) -> u64 {
+fn type_id<A: ReaderArena>(from: type_::Reader<'_, A>, base: Base) -> u64 {
     match base {
         Base::Enum => from.get_enum().get_type_id(),
         Base::Struct => from.get_struct().get_type_id(),
@@ -308,18 +308,18 @@ fn read_default<A: ReaderArena>(
     noted: &mut Noted,
 ) -> Default {
     match from.which() {
-        Ok(value_which::Which::Text) => bytes(from.get_text(lim), noted),
-        Ok(value_which::Which::Data) => bytes(from.get_data(lim), noted),
-        Ok(value_which::Which::List) => words(from.get_list(), lim, noted),
-        Ok(value_which::Which::Struct) => words(from.get_struct(), lim, noted),
-        Ok(value_which::Which::AnyPointer) => words(from.get_any_pointer(), lim, noted),
-        Ok(which) => number(bits_of(from, which), signed_of(from, which), noted),
+        Ok(value_which::Which::Text) => bytes_default(from.get_text(lim), noted),
+        Ok(value_which::Which::Data) => bytes_default(from.get_data(lim), noted),
+        Ok(value_which::Which::List) => words_default(from.get_list(), lim, noted),
+        Ok(value_which::Which::Struct) => words_default(from.get_struct(), lim, noted),
+        Ok(value_which::Which::AnyPointer) => words_default(from.get_any_pointer(), lim, noted),
+        Ok(which) => number_default(value_bits(from, which), signed_value(from, which), noted),
         Err(_) => Default::Unknown,
     }
 }
 
 // The bits of a number; 1 for `true`.
-fn bits_of<A: ReaderArena>(from: value_::Reader<'_, A>, which: value_which::Which) -> u64 {
+fn value_bits<A: ReaderArena>(from: value_::Reader<'_, A>, which: value_which::Which) -> u64 {
     match which {
         value_which::Which::Bool => u64::from(from.get_bool()),
         value_which::Which::Int8 => u64::from(from.get_int8().cast_unsigned()),
@@ -338,7 +338,7 @@ fn bits_of<A: ReaderArena>(from: value_::Reader<'_, A>, which: value_which::Whic
 }
 
 // A number that has a sign.
-fn signed_of<A: ReaderArena>(
+fn signed_value<A: ReaderArena>(
     from: value_::Reader<'_, A>,
     which: value_which::Which,
 ) -> Option<i64> {
@@ -352,7 +352,7 @@ fn signed_of<A: ReaderArena>(
 }
 
 // The default of a number with these bits.
-fn number(bits: u64, signed: Option<i64>, noted: &mut Noted) -> Default {
+fn number_default(bits: u64, signed: Option<i64>, noted: &mut Noted) -> Default {
     if bits == 0 {
         return Default::Zero;
     }
@@ -361,13 +361,13 @@ fn number(bits: u64, signed: Option<i64>, noted: &mut Noted) -> Default {
         Some(value) => literal.push_signed(value),
         None => literal.push_number(bits),
     }
-    let literal = noted.whole(literal);
+    let literal = noted.string_or_note(literal);
     Default::Number { literal, bits }
 }
 
 // The default of a text or of data.
-fn bytes(read: Result<&[u8], ErrorKind>, noted: &mut Noted) -> Default {
-    let bytes = noted.bytes(read);
+fn bytes_default(read: Result<&[u8], ErrorKind>, noted: &mut Noted) -> Default {
+    let bytes = noted.bytes_or_note(read);
     if bytes.is_empty() {
         return Default::Zero;
     }
@@ -375,7 +375,7 @@ fn bytes(read: Result<&[u8], ErrorKind>, noted: &mut Noted) -> Default {
 }
 
 // The default of a struct, a list, or any pointer.
-fn words<A: ReaderArena>(
+fn words_default<A: ReaderArena>(
     from: PointerReader<'_, A>,
     lim: &mut ReadLimiter,
     noted: &mut Noted,
@@ -383,7 +383,7 @@ fn words<A: ReaderArena>(
     if from.is_null() {
         return Default::Zero;
     }
-    match noted.got(copied(noted.alloc(), from, lim)) {
+    match noted.ok_or_note(copied(noted.alloc(), from, lim)) {
         Some(words) => Default::Words(words),
         None => Default::Zero,
     }

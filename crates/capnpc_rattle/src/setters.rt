@@ -38,10 +38,10 @@ pub fn write_number(
     put_stored(slot, values);
     values.put_filled("start", "pub fn set_~snake~<A: BuilderArena>");
     values.put_filled("params", "self, arena: &mut A, value: ~value_type~");
-    module.sign_builder(values.get("params"), values);
-    module.fill(templates::THERE, values);
+    module.push_builder_signature(values.get("params"), values);
+    module.push_filled(templates::THERE, values);
     module.body.push(templates::GROWS);
-    module.fill(templates::FIELD, values);
+    module.push_filled(templates::FIELD, values);
     module.body.push(templates::WRITES);
     begin_body(module, values);
     values.put_filled("call", "value::~function~~suffix~");
@@ -49,7 +49,7 @@ pub fn write_number(
         "args",
         "arena, self.place, ~tag_arg~~index~, ~argument~~default~",
     );
-    module.call("", values.get("call"), values.get("args"), ";\n");
+    module.push_call("", values.get("call"), values.get("args"), ";\n");
     module.body.push("    }\n");
 }
 
@@ -106,17 +106,17 @@ fn stored(base: Base) -> &'static str {
 pub fn begin_body(module: &mut Module, values: &Values) {
     module.body.push("    {\n");
     if is_member(values) {
-        module.fill(templates::TAG, values);
+        module.push_filled(templates::TAG, values);
     }
 }
 
 /// Writes the call of a member of a union that has no value.
 pub fn write_void(module: &mut Module, values: &mut Values) {
     values.put_filled("start", "pub fn set_~snake~<A: BuilderArena>");
-    module.sign_builder("self, arena: &mut A", values);
-    module.fill(templates::THERE, values);
+    module.push_builder_signature("self, arena: &mut A", values);
+    module.push_filled(templates::THERE, values);
     module.body.push(templates::GROWS);
-    module.fill(templates::TAGGED, values);
+    module.push_filled(templates::TAGGED, values);
     module.body.push(templates::WRITES);
     begin_body(module, values);
     module
@@ -142,13 +142,13 @@ pub fn write_bytes(module: &mut Module, base: Base, values: &mut Values) {
     values.put_filled("start", "pub fn set_~snake~<A: BuilderArena>");
     values.put_filled("params", "self, arena: &mut A, ~bytes~: &[u8]");
     values.put("end", " -> Result<(), ErrorKind>");
-    module.sign_builder(values.get("params"), values);
-    module.fill(templates::THERE_AND_FEW, values);
+    module.push_builder_signature(values.get("params"), values);
+    module.push_filled(templates::THERE_AND_FEW, values);
     write_object(module, values);
     write_child(module, values);
     begin_body(module, values);
     values.put_filled("args", "arena, self.place, ~tag_arg~~index~, ~bytes~");
-    module.call("", values.get("call"), values.get("args"), "\n    }\n");
+    module.push_call("", values.get("call"), values.get("args"), "\n    }\n");
 }
 
 /// Writes the call that makes a new struct.
@@ -158,17 +158,17 @@ pub fn write_struct(module: &mut Module, values: &mut Values) {
     values.put_filled("all_words", "~words~");
     values.put_filled("start", "pub fn init_~snake~<A: BuilderArena>");
     values.put_filled("end", " -> Result<~path~Builder, ErrorKind>");
-    module.sign_builder("self, arena: &mut A", values);
-    module.fill(templates::THERE, values);
+    module.push_builder_signature("self, arena: &mut A", values);
+    module.push_filled(templates::THERE, values);
     write_object(module, values);
-    module.fill(templates::STRUCT_THERE, values);
-    module.fill(templates::STRUCT_MADE, values);
+    module.push_filled(templates::STRUCT_THERE, values);
+    module.push_filled(templates::STRUCT_MADE, values);
     write_child(module, values);
     begin_body(module, values);
     values.put_filled("call", "value::init_struct~suffix~");
     values.put_filled("args", "arena, self.place, ~tag_arg~~index~, ~path~SIZE");
-    module.call("match ", values.get("call"), values.get("args"), " {\n");
-    module.fill(templates::BUILT, values);
+    module.push_call("match ", values.get("call"), values.get("args"), " {\n");
+    module.push_filled(templates::BUILT, values);
 }
 
 /// Writes the call that makes a new list of structs.
@@ -183,11 +183,11 @@ pub fn write_structs(module: &mut Module, values: &mut Values) {
     values.put_filled("all_words", "(1 + count * ~words~)");
     values.put_filled("start", "pub fn init_~snake~<A: BuilderArena>");
     values.put_filled("end", " -> Result<~path~Builders, ErrorKind>");
-    module.sign_builder("self, arena: &mut A, count: u32", values);
-    module.fill(templates::THERE_AND_FEW, values);
+    module.push_builder_signature("self, arena: &mut A, count: u32", values);
+    module.push_filled(templates::THERE_AND_FEW, values);
     write_object(module, values);
-    module.fill(templates::STRUCTS_THERE, values);
-    module.fill(templates::STRUCTS_MADE, values);
+    module.push_filled(templates::STRUCTS_THERE, values);
+    module.push_filled(templates::STRUCTS_MADE, values);
     write_child(module, values);
     begin_body(module, values);
     values.put_filled("call", "value::init_struct_list~suffix~");
@@ -195,8 +195,8 @@ pub fn write_structs(module: &mut Module, values: &mut Values) {
         "args",
         "arena, self.place, ~tag_arg~~index~, count, ~path~SIZE",
     );
-    module.call("match ", values.get("call"), values.get("args"), " {\n");
-    module.fill(templates::BUILT, values);
+    module.push_call("match ", values.get("call"), values.get("args"), " {\n");
+    module.push_filled(templates::BUILT, values);
 }
 
 /// Writes the call that makes a new list whose elements aren't structs.
@@ -208,11 +208,11 @@ pub fn write_list(module: &mut Module, of: Type, values: &mut Values) {
     values.put_filled("all_words", "(list_words ~size_number~ count)");
     values.put_filled("start", "pub fn init_~snake~<A: BuilderArena>");
     values.put("end", " -> Result<ListPlace, ErrorKind>");
-    module.sign_builder("self, arena: &mut A, count: u32", values);
-    module.fill(templates::THERE_AND_FEW, values);
+    module.push_builder_signature("self, arena: &mut A, count: u32", values);
+    module.push_filled(templates::THERE_AND_FEW, values);
     write_object(module, values);
-    module.fill(templates::LIST_THERE, values);
-    module.fill(templates::LIST_MADE, values);
+    module.push_filled(templates::LIST_THERE, values);
+    module.push_filled(templates::LIST_MADE, values);
     write_child(module, values);
     begin_body(module, values);
     values.put_filled("call", "value::init_list~suffix~");
@@ -220,7 +220,7 @@ pub fn write_list(module: &mut Module, of: Type, values: &mut Values) {
         "args",
         "arena, self.place, ~tag_arg~~index~, ElementSize::~size~, count",
     );
-    module.call("", values.get("call"), values.get("args"), "\n    }\n");
+    module.push_call("", values.get("call"), values.get("args"), "\n    }\n");
 }
 
 // The number of an element size.
@@ -239,7 +239,7 @@ fn size_number(size: &str) -> u64 {
 // Writes what the call of an object ensures of the message, and that no segment becomes shorter.
 fn write_object(module: &mut Module, values: &mut Values) {
     if !is_member(values) {
-        module.fill(templates::OBJECT, values);
+        module.push_filled(templates::OBJECT, values);
     }
     module.body.push(templates::GROWS);
 }
@@ -247,25 +247,25 @@ fn write_object(module: &mut Module, values: &mut Values) {
 // Writes what the call of an object ensures of the struct that it is in.
 fn write_child(module: &mut Module, values: &Values) {
     if is_member(values) {
-        module.fill(templates::MEMBER, values);
-        module.fill(templates::ALLOCATES, values);
+        module.push_filled(templates::MEMBER, values);
+        module.push_filled(templates::ALLOCATES, values);
     } else {
-        module.fill(templates::CHILD, values);
+        module.push_filled(templates::CHILD, values);
     }
 }
 
 /// Writes the call that sets a capability.
 pub fn write_capability(module: &mut Module, values: &mut Values) {
     values.put_filled("start", "pub fn set_~snake~<A: BuilderArena>");
-    module.sign_builder("self, arena: &mut A, capability: u32", values);
-    module.fill(templates::THERE, values);
+    module.push_builder_signature("self, arena: &mut A, capability: u32", values);
+    module.push_filled(templates::THERE, values);
     module.body.push(templates::GROWS);
-    module.fill(templates::CAPABILITY, values);
+    module.push_filled(templates::CAPABILITY, values);
     module.body.push(templates::WRITES);
     begin_body(module, values);
     values.put_filled("call", "value::set_capability~suffix~");
     values.put_filled("args", "arena, self.place, ~tag_arg~~index~, capability");
-    module.call("", values.get("call"), values.get("args"), ";\n");
+    module.push_call("", values.get("call"), values.get("args"), ";\n");
     module.body.push("    }\n");
 }
 
@@ -274,9 +274,9 @@ pub fn write_group(alloc: Global, module: &mut Module, slots: &Names, values: &m
     values.put_filled("end", " -> ~path~Builder");
     values.put_filled("start", "pub fn get_~snake~");
     module.begin();
-    module.fill("    /// ~name~ :group\n", values);
-    module.sign_builder("self", values);
-    module.fill(templates::GROUP, values);
+    module.push_filled("    /// ~name~ :group\n", values);
+    module.push_builder_signature("self", values);
+    module.push_filled(templates::GROUP, values);
     values.put_filled("start", "pub fn init_~snake~<A: BuilderArena>");
     values.put_text("slots", slot_list(alloc, slots));
     values.put_text("items", slot_items(alloc, slots));
@@ -288,11 +288,11 @@ pub fn write_group(alloc: Global, module: &mut Module, slots: &Names, values: &m
         values.put("replaces", "ReplacesSlots");
     }
     module.begin();
-    module.fill(templates::GROUP_ABOUT, values);
-    module.sign_builder("self, arena: &mut A", values);
-    module.fill(templates::THERE, values);
+    module.push_filled(templates::GROUP_ABOUT, values);
+    module.push_builder_signature("self, arena: &mut A", values);
+    module.push_filled(templates::THERE, values);
     module.body.push(templates::GROWS);
-    module.fill(templates::ZEROES, values);
+    module.push_filled(templates::ZEROES, values);
     write_zeroes(module, values);
 }
 
@@ -301,11 +301,11 @@ fn write_zeroes(module: &mut Module, values: &mut Values) {
     begin_body(module, values);
     let is_empty = values.get("items").is_empty();
     if !is_empty {
-        module.array("let slots = ", values.get("items"));
+        module.push_array("let slots = ", values.get("items"));
     }
     values.put("array", if is_empty { "&[]" } else { "&slots" });
     values.put_filled("call", "groups::zero_slots~suffix~");
     values.put_filled("args", "arena, self.place, ~tag_arg~~array~");
-    module.call("", values.get("call"), values.get("args"), ";\n");
-    module.fill(templates::GROUP_END, values);
+    module.push_call("", values.get("call"), values.get("args"), ";\n");
+    module.push_filled(templates::GROUP_END, values);
 }

@@ -68,7 +68,7 @@ impl Text {
     }
 
     /// Appends `template`, with each word between two `~` replaced by what `values` has for it.
-    pub fn fill(&mut self, template: &str, values: &Values) {
+    pub fn push_filled(&mut self, template: &str, values: &Values) {
         for (i, piece) in template.split('~').enumerate() {
             if i % 2 == 0 {
                 self.push(piece);
@@ -95,7 +95,7 @@ impl Text {
     }
 
     /// Returns the text. Refuses one with a part for which there was no memory.
-    pub fn whole(self) -> Result<String, AllocError> {
+    pub fn into_string(self) -> Result<String, AllocError> {
         let Text { text, has_failed } = self;
         if has_failed {
             return Err(AllocError);
@@ -131,7 +131,7 @@ impl Values {
 
     /// Adds a word that stands for what is in `text`, from now on.
     pub fn put_text(&mut self, word: &'static str, text: Text) {
-        match text.whole() {
+        match text.into_string() {
             Ok(text) => {
                 if self.values.push(Value { word, text }).is_err() {
                     self.has_failed = true;
@@ -158,7 +158,7 @@ impl Values {
     /// Adds a word that stands for a template, filled with the words before it.
     pub fn put_filled(&mut self, word: &'static str, template: &str) {
         let mut text = Text::new(self.alloc);
-        text.fill(template, self);
+        text.push_filled(template, self);
         self.put_text(word, text);
     }
 
@@ -206,7 +206,7 @@ impl Names {
     pub fn add(&mut self, alloc: Global, name: &str) {
         let mut text = Text::new(alloc);
         text.push(name);
-        match text.whole() {
+        match text.into_string() {
             Ok(name) => {
                 if self.names.push(name).is_err() {
                     self.has_failed = true;
@@ -224,7 +224,7 @@ impl Names {
     }
 
     /// Appends as many `_` to `name` as make it new, and none of these words, and adds it.
-    pub fn take(&mut self, alloc: Global, words: &[&'static str], name: &mut Text) {
+    pub fn push_unique(&mut self, alloc: Global, words: &[&'static str], name: &mut Text) {
         for _ in 0..u32::MAX {
             if !is_word(words, name.as_str()) && !self.contains(name.as_str()) {
                 break;

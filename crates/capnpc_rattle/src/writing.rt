@@ -52,39 +52,40 @@ impl Module {
 
     /// Appends the first line of a call, or its first lines if one would have over 100 columns.
     /// `values` has the name of the call, `call`, and what it returns, `gives`.
-    pub fn sign(&mut self, has_limiter: bool, values: &Values) {
+    pub fn push_signature(&mut self, has_limiter: bool, values: &Values) {
         let mut line = Text::new(self.alloc);
-        line.fill(signature(has_limiter), values);
+        line.push_filled(signature_template(has_limiter), values);
         if line.as_str().len() <= 101 {
             self.body.push(line.as_str());
         } else {
-            self.body.fill(long_signature(has_limiter), values);
+            self.body
+                .push_filled(wrapped_signature_template(has_limiter), values);
         }
     }
 
     /// Appends the first line of a builder's call, with these parameters. `values` has its `start` and
     /// its `end`.
-    pub fn sign_builder(&mut self, params: &str, values: &Values) {
+    pub fn push_builder_signature(&mut self, params: &str, values: &Values) {
         let mut start = Text::new(self.alloc);
-        start.fill("~start~", values);
+        start.push_filled("~start~", values);
         let mut end = Text::new(self.alloc);
-        end.fill("~end~", values);
+        end.push_filled("~end~", values);
         end.push("\n");
-        self.items("    ", start.as_str(), params, end.as_str(), 100);
+        self.push_items("    ", start.as_str(), params, end.as_str(), 100);
     }
 
     /// Appends a call, which is a statement of a body: what is before it, the function, the arguments
     /// with `, ` between them, and what is after it.
-    pub fn call(&mut self, before: &str, function: &str, args: &str, after: &str) {
+    pub fn push_call(&mut self, before: &str, function: &str, args: &str, after: &str) {
         let mut start = Text::new(self.alloc);
         start.push(before);
         start.push(function);
-        self.items("        ", start.as_str(), args, after, 60);
+        self.push_items("        ", start.as_str(), args, after, 60);
     }
 
     // Appends items in parentheses: in one line if they have at most `width` columns and the line has at
     // most 100, and otherwise a line for each.
-    fn items(&mut self, indent: &str, start: &str, items: &str, end: &str, width: usize) {
+    fn push_items(&mut self, indent: &str, start: &str, items: &str, end: &str, width: usize) {
         let mut line = Text::new(self.alloc);
         line.push_all(&[indent, start, "(", items, ")", end]);
         let first = line.as_str().lines().next().unwrap_or("");
@@ -93,12 +94,12 @@ impl Module {
             return;
         }
         self.body.push_all(&[indent, start, "(\n"]);
-        self.item_lines(indent, items);
+        self.push_item_lines(indent, items);
         self.body.push_all(&[indent, ")", end]);
     }
 
     // Appends a line for each item. A `, ` between `<` and `>` doesn't end an item.
-    fn item_lines(&mut self, indent: &str, items: &str) {
+    fn push_item_lines(&mut self, indent: &str, items: &str) {
         let mut is_inside = false;
         for (i, item) in items.split(", ").enumerate() {
             if is_inside {
@@ -116,7 +117,7 @@ impl Module {
 
     /// Appends a statement that makes an array: what is before it, and its items with `, ` between
     /// them.
-    pub fn array(&mut self, before: &str, items: &str) {
+    pub fn push_array(&mut self, before: &str, items: &str) {
         self.body.push("        ");
         self.body.push(before);
         if items.len() <= 60 {
@@ -124,15 +125,15 @@ impl Module {
             return;
         }
         self.body.push("[\n");
-        self.item_lines("        ", items);
+        self.push_item_lines("        ", items);
         self.body.push("        ];\n");
     }
 
     /// Appends `template`, filled. A line with over 100 columns is broken after its first
     /// `.words`.
-    pub fn fill(&mut self, template: &str, values: &Values) {
+    pub fn push_filled(&mut self, template: &str, values: &Values) {
         let mut filled = Text::new(self.alloc);
-        filled.fill(template, values);
+        filled.push_filled(template, values);
         for line in filled.as_str().split_inclusive('\n') {
             match line.split_once(".words ") {
                 Some((head, rest)) if line.len() > 101 && line.chars().count() > 101 => {
@@ -179,15 +180,15 @@ impl Module {
     }
 
     /// Returns the text of the module's file.
-    pub fn text(&mut self, about: &str, crate_name: &str, reading: &str, kind: Kind) -> Text {
+    pub fn file_text(&mut self, about: &str, crate_name: &str, reading: &str, kind: Kind) -> Text {
         let alloc = self.alloc;
         let mut text = Text::new(alloc);
         let mut values = Values::new(alloc);
         values.put("about", about);
         values.put("crate", crate_name);
         values.put("reading", reading);
-        text.fill("//! ~about~\n", &values);
-        imports(
+        text.push_filled("//! ~about~\n", &values);
+        push_imports(
             alloc,
             &mut text,
             self.body.as_str(),
@@ -195,12 +196,12 @@ impl Module {
             "ghost use ",
             ".",
         );
-        self.own_imports(&mut text, &mut values);
+        self.push_own_imports(&mut text, &mut values);
         text.push("\n");
         self.modules.sort();
-        use_modules(alloc, &mut text, &self.modules);
+        push_module_imports(alloc, &mut text, &self.modules);
         let mut uses = Text::new(alloc);
-        imports(
+        push_imports(
             alloc,
             &mut uses,
             self.body.as_str(),
@@ -209,7 +210,7 @@ impl Module {
             "::",
         );
         if !uses.as_str().is_empty() {
-            push_uses(&mut text, uses.as_str());
+            push_joined_imports(&mut text, uses.as_str());
             text.push("\n");
         }
         text.push(self.body.as_str());
@@ -217,32 +218,32 @@ impl Module {
     }
 
     // Appends the imports of the crate's own definitions.
-    fn own_imports(&self, text: &mut Text, values: &mut Values) {
-        self.own_import(templates::SIZES_IMPORT, &self.sizes, text, values);
-        self.own_import(templates::SPECS_IMPORT, &self.specs, text, values);
+    fn push_own_imports(&self, text: &mut Text, values: &mut Values) {
+        self.push_own_import(templates::SIZES_IMPORT, &self.sizes, text, values);
+        self.push_own_import(templates::SPECS_IMPORT, &self.specs, text, values);
         for module in self.numbers.as_slice() {
             let mut row = Values::new(self.alloc);
             row.put("reading", values.get("reading"));
             row.put("module", module.as_str());
             row.put_text("file", joined(self.alloc, module.as_str()));
-            text.fill(templates::NUMBERS_IMPORT, &row);
+            text.push_filled(templates::NUMBERS_IMPORT, &row);
         }
         text.note(self.numbers.has_failed());
     }
 
     // Appends an import of some definitions, if there are any.
-    fn own_import(&self, template: &str, names: &Names, text: &mut Text, values: &mut Values) {
+    fn push_own_import(&self, template: &str, names: &Names, text: &mut Text, values: &mut Values) {
         if !names.as_slice().is_empty() {
             let mut specs = Text::new(self.alloc);
             names.list(&mut specs);
             values.put_text("specs", specs);
-            text.fill(template, values);
+            text.push_filled(template, values);
         }
     }
 }
 
 // The first line of a call.
-fn signature(has_limiter: bool) -> &'static str {
+fn signature_template(has_limiter: bool) -> &'static str {
     if has_limiter {
         "    pub fn ~call~(&self, lim: &mut ReadLimiter) -> ~gives~\n"
     } else {
@@ -251,7 +252,7 @@ fn signature(has_limiter: bool) -> &'static str {
 }
 
 // The first lines of a call, if one line would be too long.
-fn long_signature(has_limiter: bool) -> &'static str {
+fn wrapped_signature_template(has_limiter: bool) -> &'static str {
     if has_limiter {
         "    pub fn ~call~(\n        &self,\n        lim: &mut ReadLimiter,\n    ) -> ~gives~\n"
     } else {
@@ -260,7 +261,7 @@ fn long_signature(has_limiter: bool) -> &'static str {
 }
 
 // Appends imports, with the two that `rt fmt` makes one of as one.
-fn push_uses(text: &mut Text, uses: &str) {
+fn push_joined_imports(text: &mut Text, uses: &str) {
     match uses.split_once(BOTH) {
         Some((before, _)) => {
             text.push(before);
@@ -271,23 +272,23 @@ fn push_uses(text: &mut Text, uses: &str) {
 }
 
 // Appends the import of modules of the crate, in the layout of `rt fmt`.
-fn use_modules(alloc: Global, to: &mut Text, modules: &Names) {
+fn push_module_imports(alloc: Global, to: &mut Text, modules: &Names) {
     let mut all = Text::new(alloc);
     modules.list(&mut all);
     let mut values = Values::new(alloc);
     values.put_text("all", all);
     let count = modules.as_slice().len();
     if count == 1 {
-        to.fill("use crate::~all~;\n", &values);
+        to.push_filled("use crate::~all~;\n", &values);
     } else if count > 1 && values.get("all").len() <= 86 {
-        to.fill("use crate::{~all~};\n", &values);
+        to.push_filled("use crate::{~all~};\n", &values);
     } else if count > 1 {
-        use_many(to, modules.as_slice());
+        push_module_import_lines(to, modules.as_slice());
     }
 }
 
 // Appends an import of modules that takes more than one line.
-fn use_many(to: &mut Text, modules: &[String]) {
+fn push_module_import_lines(to: &mut Text, modules: &[String]) {
     to.push("use crate::{\n   ");
     let mut column = 3u64;
     for module in modules {
@@ -306,15 +307,15 @@ fn use_many(to: &mut Text, modules: &[String]) {
 
 // Appends the imports that a module with this body needs. `table` is one of those of `Kind`, `start`
 // is what a line begins with, and `dot` what separates names.
-fn imports(alloc: Global, to: &mut Text, body: &str, table: &str, start: &str, dot: &str) {
+fn push_imports(alloc: Global, to: &mut Text, body: &str, table: &str, start: &str, dot: &str) {
     for block in table.split("\n\n") {
         if let Some((module, rows)) = block.split_once('\n') {
             let mut found = Text::new(alloc);
-            let count = needed(&mut found, body, rows);
+            let count = push_needed_names(&mut found, body, rows);
             if count > 0 {
                 to.push(start);
                 to.push(module);
-                import(to, found.as_str(), count, dot);
+                push_import_end(to, found.as_str(), count, dot);
             }
         }
     }
@@ -322,7 +323,7 @@ fn imports(alloc: Global, to: &mut Text, body: &str, table: &str, start: &str, d
 
 // Appends the names of the rows whose text is in `body`, with commas between them, and returns how
 // many.
-fn needed(to: &mut Text, body: &str, rows: &str) -> u64 {
+fn push_needed_names(to: &mut Text, body: &str, rows: &str) -> u64 {
     let mut count = 0u64;
     for row in rows.lines() {
         if let Some((text, name)) = row.split_once('|')
@@ -340,7 +341,7 @@ fn needed(to: &mut Text, body: &str, rows: &str) -> u64 {
 }
 
 // Appends the end of an import of these names.
-fn import(to: &mut Text, names: &str, count: u64, dot: &str) {
+fn push_import_end(to: &mut Text, names: &str, count: u64, dot: &str) {
     if names == "self" {
         to.push(";\n");
         return;

@@ -10,12 +10,12 @@ use std::alloc::Global;
 pub fn answer(alloc: Global, line: &str) -> Result<String, Fault> {
     let segments = parse::segments(alloc, line, ',', "")?;
     let segments = parse::slices(alloc, segments.as_slice())?;
-    audited(alloc, segments.as_slice())
+    answer_audit(alloc, segments.as_slice())
 }
 
 /// Answers for a message of these segments: 1 if a builder can have made it, otherwise 0; or the
 /// name of the refusal. `Unfit` if segment 0 has no word, or there are too many segments or words.
-fn audited(alloc: Global, segments: &[&[u8]]) -> Result<String, Fault> {
+fn answer_audit(alloc: Global, segments: &[&[u8]]) -> Result<String, Fault> {
     if SegmentArray::new(segments).is_none() {
         return Err(Fault::Unfit);
     }
@@ -24,8 +24,8 @@ fn audited(alloc: Global, segments: &[&[u8]]) -> Result<String, Fault> {
     }
     let mut out = Output::new(alloc);
     match audit(alloc, segments) {
-        Ok(is_built) => out.flag(is_built),
-        Err(kind) => out.put(kind),
+        Ok(is_built) => out.push_flag(is_built),
+        Err(kind) => out.push(kind),
     }
     Ok(out.into_text()?)
 }

@@ -44,9 +44,9 @@ fn built_with<A: Allocator>(
     let mut arena = memory::built(alloc, allocator)?;
     let mut out = Output::new(alloc);
     match task {
-        Task::Edits => edits::put_outcomes(alloc, &mut arena, calls, &mut out)?,
-        Task::Calls => builds::put_answers(alloc, &mut arena, calls, &mut out)?,
+        Task::Edits => edits::push_outcomes(alloc, &mut arena, calls, &mut out)?,
+        Task::Calls => builds::push_answers(alloc, &mut arena, calls, &mut out)?,
     }
-    memory::put_words(&arena, &mut out);
+    memory::push_words(&arena, &mut out);
     Ok(out.into_text()?)
 }

@@ -26,7 +26,7 @@ const ROOT: PointerPlace = PointerPlace {
 };
 
 /// Makes `calls` in order. Adds to `out` the answer of each call, followed by `;`.
-pub fn put_answers<A: Allocator>(
+pub fn push_answers<A: Allocator>(
     alloc: Global,
     arena: &mut BuilderArenaImpl<A>,
     calls: &[&str],
@@ -36,7 +36,7 @@ pub fn put_answers<A: Allocator>(
     kept.push(Place::Pointer(ROOT))?;
     for text in calls {
         let made = call_once(alloc, arena, kept.as_slice(), text, out);
-        if let Some(place) = put_answer(made, out)? {
+        if let Some(place) = push_answer(made, out)? {
             kept.push(place)?;
         }
     }
@@ -45,21 +45,21 @@ pub fn put_answers<A: Allocator>(
 
 /// Adds the answer of a call that hasn't added it itself. Returns the place that the call returned,
 /// if it did.
-fn put_answer(
+fn push_answer(
     made: Result<Option<Place>, Fault>,
     out: &mut Output,
 ) -> Result<Option<Place>, Fault> {
     let mut place = None;
     match made {
         Ok(found) => place = found,
-        Err(Fault::Unfit) => out.text("none"),
-        Err(Fault::Refused(kind)) => out.put(kind),
+        Err(Fault::Unfit) => out.push_text("none"),
+        Err(Fault::Refused(kind)) => out.push(kind),
         Err(fault) => return Err(fault),
     }
     if let Some(place) = place {
-        place.put(out);
+        place.push_to(out);
     }
-    out.text(";");
+    out.push_text(";");
     Ok(place)
 }
 
@@ -72,20 +72,20 @@ fn call_once<A: Allocator>(
     text: &str,
     out: &mut Output,
 ) -> Result<Option<Place>, Fault> {
-    let (place, text) = made_of(kept, text);
+    let (place, text) = split_place(kept, text);
     let (call, values) = calls::read(&FORMS, text)?;
     if values.is_unfit {
         return Err(Fault::Unfit);
     }
     match (call, place) {
-        (Call::Message(call), _) => message_call(arena, call, &values, out),
-        (call, Some(place)) => call_at(alloc, arena, place, (call, &values), out),
+        (Call::Message(call), _) => call_on_message(arena, call, &values, out),
+        (call, Some(place)) => call_on_place(alloc, arena, place, (call, &values), out),
         _ => Err(Fault::Unfit),
     }
 }
 
 /// Makes a call on what is at a place, and adds its answer.
-fn call_at<A: Allocator>(
+fn call_on_place<A: Allocator>(
     alloc: Global,
     arena: &mut BuilderArenaImpl<A>,
     place: Place,
@@ -93,12 +93,12 @@ fn call_at<A: Allocator>(
     out: &mut Output,
 ) -> Result<Option<Place>, Fault> {
     if matches!(call, Call::Read) {
-        place.read(arena, out)?;
+        place.push_contents(arena, out)?;
         return Ok(None);
     }
     match place {
-        Place::Pointer(place) => pointer_call(alloc, arena, place, (call, values), out),
-        Place::Struct(place) => struct_call(alloc, arena, place, (call, values), out),
+        Place::Pointer(place) => call_on_pointer(alloc, arena, place, (call, values), out),
+        Place::Struct(place) => call_on_struct(alloc, arena, place, (call, values), out),
         Place::List(place) => match call {
             Call::List(call) => lists::call(arena, place, (call, values), out),
             _ => Err(Fault::Unfit),
@@ -107,7 +107,7 @@ fn call_at<A: Allocator>(
 }
 
 /// Makes a call on the struct at a place, and adds its answer.
-fn struct_call<A: Allocator>(
+fn call_on_struct<A: Allocator>(
     alloc: Global,
     arena: &mut BuilderArenaImpl<A>,
     place: StructPlace,
@@ -126,7 +126,7 @@ fn struct_call<A: Allocator>(
 }
 
 /// Makes a call on the pointer at a place, and adds its answer.
-fn pointer_call<A: Allocator>(
+fn call_on_pointer<A: Allocator>(
     alloc: Global,
     arena: &mut BuilderArenaImpl<A>,
     place: PointerPlace,
@@ -147,7 +147,7 @@ fn pointer_call<A: Allocator>(
 /// Splits `text` into the place that a call is made on, and the call. A number before a point is
 /// the number of the place in `kept`; without a number, the place is the last of `kept`. Returns
 /// `None` for the place if `kept` doesn't have it.
-fn made_of<'a>(kept: &[Place], text: &'a str) -> (Option<Place>, &'a str) {
+fn split_place<'a>(kept: &[Place], text: &'a str) -> (Option<Place>, &'a str) {
     match text.split_once('.') {
         Some((number, call)) if parse::is_number(number) => {
             let place = match parse::number::<usize>(number) {
@@ -161,18 +161,18 @@ fn made_of<'a>(kept: &[Place], text: &'a str) -> (Option<Place>, &'a str) {
 }
 
 /// Makes a call on the message itself.
-fn message_call<A: Allocator>(
+fn call_on_message<A: Allocator>(
     arena: &mut BuilderArenaImpl<A>,
     call: MessageCall,
     values: &Values<'_>,
     out: &mut Output,
 ) -> Result<Option<Place>, Fault> {
     match call {
-        MessageCall::Words => memory::put_words(&*arena, out),
-        MessageCall::Len => out.put(arena.len()),
-        MessageCall::Refused => out.put(arena.refused()),
-        MessageCall::Size => out.put(arena.size_in_words()),
-        MessageCall::Allocated => allocated(arena, values.count, out),
+        MessageCall::Words => memory::push_words(&*arena, out),
+        MessageCall::Len => out.push(arena.len()),
+        MessageCall::Refused => out.push(arena.refused()),
+        MessageCall::Size => out.push(arena.size_in_words()),
+        MessageCall::Allocated => push_allocated(arena, values.count, out),
         MessageCall::WriteAllocated => {
             write_allocated(arena, values.count, (values.index, values.byte), out)?;
         }
@@ -187,7 +187,7 @@ fn pointer_at<A: BuilderArena>(arena: &A, values: &Values<'_>) -> Result<Option<
         segment: values.count,
         word: values.word,
     };
-    if place::is_pointer(arena, place) {
+    if place::has_pointer(arena, place) {
         Ok(Some(Place::Pointer(place)))
     } else {
         Err(Fault::Unfit)
@@ -195,10 +195,10 @@ fn pointer_at<A: BuilderArena>(arena: &A, values: &Values<'_>) -> Result<Option<
 }
 
 /// Adds the bytes of a segment that the arena lends for writing, or `absent` if it lends none.
-fn allocated<A: BuilderArena>(arena: &mut A, segment: u32, out: &mut Output) {
+fn push_allocated<A: BuilderArena>(arena: &mut A, segment: u32, out: &mut Output) {
     match arena.allocated_mut(segment) {
-        Some(bytes) => out.hex_or_dash(bytes),
-        None => out.text("absent"),
+        Some(bytes) => out.push_hex_or_dash(bytes),
+        None => out.push_text("absent"),
     }
 }
 
@@ -216,9 +216,9 @@ fn write_allocated<A: BuilderArena>(
                 return Err(Fault::Unfit);
             };
             *at = byte;
-            out.text("ok");
+            out.push_text("ok");
         }
-        None => out.text("absent"),
+        None => out.push_text("absent"),
     }
     Ok(())
 }

@@ -66,8 +66,8 @@ impl<'l> Values<'l> {
 
     /// Parses `word` as the argument with this letter. If it is out of its type's range, only notes
     /// that.
-    fn take(&mut self, letter: u8, word: &'l str) -> Result<(), Fault> {
-        match self.put(letter, word) {
+    fn parse_or_note(&mut self, letter: u8, word: &'l str) -> Result<(), Fault> {
+        match self.parse_argument(letter, word) {
             Err(Fault::Unfit) => {
                 self.is_unfit = true;
                 Ok(())
@@ -77,34 +77,34 @@ impl<'l> Values<'l> {
     }
 
     /// Parses `word` as the argument with this letter.
-    fn put(&mut self, letter: u8, word: &'l str) -> Result<(), Fault> {
+    fn parse_argument(&mut self, letter: u8, word: &'l str) -> Result<(), Fault> {
         match letter {
-            b'd' => parse::put_number(word, &mut self.sections.data_words),
-            b'p' => parse::put_number(word, &mut self.sections.pointers),
-            b'i' => parse::put_number(word, &mut self.index),
-            b'c' => parse::put_number(word, &mut self.count),
-            b'w' => parse::put_number(word, &mut self.word),
-            b'n' => parse::put_number(word, &mut self.number),
-            b'b' => parse::put_number(word, &mut self.byte),
-            b'l' => parse::put_number(word, &mut self.source.options.nesting_limit),
-            _ => self.put_named(letter, word),
+            b'd' => parse::parse_into(word, &mut self.sections.data_words),
+            b'p' => parse::parse_into(word, &mut self.sections.pointers),
+            b'i' => parse::parse_into(word, &mut self.index),
+            b'c' => parse::parse_into(word, &mut self.count),
+            b'w' => parse::parse_into(word, &mut self.word),
+            b'n' => parse::parse_into(word, &mut self.number),
+            b'b' => parse::parse_into(word, &mut self.byte),
+            b'l' => parse::parse_into(word, &mut self.source.options.nesting_limit),
+            _ => self.parse_named(letter, word),
         }
     }
 
     /// Parses `word` as the argument with this letter, if the argument isn't just a number.
-    fn put_named(&mut self, letter: u8, word: &'l str) -> Result<(), Fault> {
+    fn parse_named(&mut self, letter: u8, word: &'l str) -> Result<(), Fault> {
         match letter {
             b's' => self.size = parse::element_size(word)?,
             b't' => self.element = element_type(word)?,
             b'f' => self.flag = parse::flag(word)?,
             b'r' => self.source.options.traversal_limit_in_words = parse::limit(word)?,
-            _ => return self.put_text(letter, word),
+            _ => return self.keep_text(letter, word),
         }
         Ok(())
     }
 
     /// Keeps `word` as the argument with this letter, if the argument is kept as text.
-    fn put_text(&mut self, letter: u8, word: &'l str) -> Result<(), Fault> {
+    fn keep_text(&mut self, letter: u8, word: &'l str) -> Result<(), Fault> {
         let has_form = match letter {
             b'h' => parse::is_hex(word),
             b'o' => word == "none" || parse::is_hex(word),
@@ -139,7 +139,7 @@ pub fn read<'l, T: Copy>(forms: &[Form<T>], text: &'l str) -> Result<(T, Values<
     let Some((letters, call)) = find(forms, name, count) else {
         return Err(Fault::Malformed);
     };
-    Ok((call, values_of(letters, arguments)?))
+    Ok((call, parse_values(letters, arguments)?))
 }
 
 /// Finds the form with this name that allows `count` arguments. Returns the letters of its
@@ -155,13 +155,13 @@ pub fn find<T: Copy>(forms: &[Form<T>], name: &str, count: usize) -> Option<(&'s
 
 /// Parses arguments, each by its letter. If one argument has the wrong form, and another is out of
 /// its type's range, reports the wrong form.
-fn values_of<'l>(letters: &str, arguments: Option<&'l str>) -> Result<Values<'l>, Fault> {
+fn parse_values<'l>(letters: &str, arguments: Option<&'l str>) -> Result<Values<'l>, Fault> {
     let mut values = Values::none();
     let Some(arguments) = arguments else {
         return Ok(values);
     };
     for (letter, word) in letters.as_bytes().iter().zip(arguments.split(',')) {
-        values.take(*letter, word)?;
+        values.parse_or_note(*letter, word)?;
     }
     Ok(values)
 }

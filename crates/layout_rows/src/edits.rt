@@ -94,7 +94,7 @@ static FORMS: [Form<Name>; 23] = [
 
 /// Applies the edits in the only word of `words`, and adds their outcomes to `out`, separated by
 /// `;`.
-pub fn put_outcomes<A: BuilderArena>(
+pub fn push_outcomes<A: BuilderArena>(
     alloc: Global,
     arena: &mut A,
     words: &[&str],
@@ -105,20 +105,20 @@ pub fn put_outcomes<A: BuilderArena>(
     };
     for (i, edit) in edits.split(';').enumerate() {
         if i > 0 {
-            out.text(";");
+            out.push_text(";");
         }
-        match edit_once(alloc, arena, edit) {
-            Ok(()) => out.text("ok"),
-            Err(Fault::Refused(kind)) => out.put(kind),
+        match apply_edit(alloc, arena, edit) {
+            Ok(()) => out.push_text("ok"),
+            Err(Fault::Refused(kind)) => out.push(kind),
             Err(fault) => return Err(fault),
         }
     }
-    out.text(" ");
+    out.push_text(" ");
     Ok(())
 }
 
 /// Applies an edit of the form `PATH:OP,ARGUMENT,..`.
-fn edit_once<A: BuilderArena>(alloc: Global, arena: &mut A, text: &str) -> Result<(), Fault> {
+fn apply_edit<A: BuilderArena>(alloc: Global, arena: &mut A, text: &str) -> Result<(), Fault> {
     let Some((path, call)) = text.split_once(':') else {
         return Err(Fault::Malformed);
     };
@@ -126,25 +126,25 @@ fn edit_once<A: BuilderArena>(alloc: Global, arena: &mut A, text: &str) -> Resul
     if values.is_unfit {
         return Err(Fault::Unfit);
     }
-    let path = path_of(alloc, path)?;
+    let path = parse_path(alloc, path)?;
     read_bytes(alloc, arena, path.as_slice(), (name, &values))
 }
 
 /// Parses a path: `-` for no steps; otherwise steps, such as `c3` for child 3 and `e12` for element
 /// 12, separated by points.
-fn path_of(alloc: Global, text: &str) -> Result<Vec<Step>, Fault> {
+fn parse_path(alloc: Global, text: &str) -> Result<Vec<Step>, Fault> {
     let mut path = Vec::new(alloc);
     if text == "-" {
         return Ok(path);
     }
     for step in text.split('.') {
-        path.push(step_of(step)?)?;
+        path.push(parse_step(step)?)?;
     }
     Ok(path)
 }
 
 /// Parses one step of a path.
-fn step_of(text: &str) -> Result<Step, Fault> {
+fn parse_step(text: &str) -> Result<Step, Fault> {
     match text.strip_prefix('c') {
         Some(index) => Ok(Step::Child(parse::number(index)?)),
         None => match text.strip_prefix('e') {
@@ -212,15 +212,15 @@ fn operation<'a>(
     source: Source<'a>,
 ) -> Op<'a> {
     match name {
-        Name::Make(making) => made(making, values),
-        Name::Set(setting) => set(setting, values, given.unwrap_or(&[])),
-        Name::Copy(copying) => copied(copying, values, source),
-        Name::Get(getting) => got(getting, values, given),
-        Name::Write(writing) => written(writing, values),
+        Name::Make(making) => making_op(making, values),
+        Name::Set(setting) => setting_op(setting, values, given.unwrap_or(&[])),
+        Name::Copy(copying) => copying_op(copying, values, source),
+        Name::Get(getting) => getting_op(getting, values, given),
+        Name::Write(writing) => writing_op(writing, values),
     }
 }
 
-fn made<'a>(making: Making, values: &Values<'_>) -> Op<'a> {
+fn making_op<'a>(making: Making, values: &Values<'_>) -> Op<'a> {
     match making {
         Making::Struct => Op::InitStruct(values.sections),
         Making::List => Op::InitList(values.size, values.count),
@@ -230,7 +230,7 @@ fn made<'a>(making: Making, values: &Values<'_>) -> Op<'a> {
     }
 }
 
-fn set<'a>(setting: Setting, values: &Values<'_>, bytes: &'a [u8]) -> Op<'a> {
+fn setting_op<'a>(setting: Setting, values: &Values<'_>, bytes: &'a [u8]) -> Op<'a> {
     match setting {
         Setting::Text => Op::SetText(bytes),
         Setting::Data => Op::SetData(bytes),
@@ -239,7 +239,7 @@ fn set<'a>(setting: Setting, values: &Values<'_>, bytes: &'a [u8]) -> Op<'a> {
     }
 }
 
-fn copied<'a>(copying: Copying, values: &Values<'_>, source: Source<'a>) -> Op<'a> {
+fn copying_op<'a>(copying: Copying, values: &Values<'_>, source: Source<'a>) -> Op<'a> {
     match copying {
         Copying::Value => Op::CopyFrom(source, values.flag),
         Copying::Struct => Op::SetStruct(source, values.flag),
@@ -248,7 +248,7 @@ fn copied<'a>(copying: Copying, values: &Values<'_>, source: Source<'a>) -> Op<'
     }
 }
 
-fn got<'a>(getting: Getting, values: &Values<'_>, default: Option<&'a [u8]>) -> Op<'a> {
+fn getting_op<'a>(getting: Getting, values: &Values<'_>, default: Option<&'a [u8]>) -> Op<'a> {
     match getting {
         Getting::Struct => Op::GetStruct(values.sections, default),
         Getting::List => Op::GetList(values.size, default),
@@ -258,7 +258,7 @@ fn got<'a>(getting: Getting, values: &Values<'_>, default: Option<&'a [u8]>) -> 
     }
 }
 
-fn written<'a>(writing: Writing, values: &Values<'_>) -> Op<'a> {
+fn writing_op<'a>(writing: Writing, values: &Values<'_>) -> Op<'a> {
     match writing {
         Writing::Field => Op::SetField(values.size, values.count, values.number),
         Writing::Bool => Op::SetBool(values.count, values.flag),

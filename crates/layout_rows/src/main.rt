@@ -49,9 +49,9 @@ fn main(rt: HostRuntime) -> ExitCode {
 
 /// Runs the command. Fails if reading or writing does, or memory runs out.
 fn run(rt: &HostRuntime) -> io::Result<ExitCode> {
-    match asked(rt)? {
+    match parse_command(rt)? {
         Some(command) => {
-            respond(rt, command)?;
+            answer_lines(rt, command)?;
             Ok(ExitCode::SUCCESS)
         }
         None => {
@@ -63,7 +63,7 @@ fn run(rt: &HostRuntime) -> io::Result<ExitCode> {
 
 /// Returns the command that the program's only argument names; `None` if there isn't exactly one
 /// argument, or it names no command.
-fn asked(rt: &HostRuntime) -> io::Result<Option<Command>> {
+fn parse_command(rt: &HostRuntime) -> io::Result<Option<Command>> {
     let words: Vec<String> = env::args(rt)?.skip(1).collect(rt.alloc())?;
     Ok(match words.as_slice() {
         [word] => command_of(word.as_str()),
@@ -84,7 +84,7 @@ fn command_of(name: &str) -> Option<Command> {
 }
 
 /// Answers each line of standard input.
-fn respond(rt: &HostRuntime, command: Command) -> io::Result<()> {
+fn answer_lines(rt: &HostRuntime, command: Command) -> io::Result<()> {
     let mut text = String::new(rt.alloc());
     rt.reader().read_to_string(&mut text)?;
     let mut writer = BufWriter::new(rt.alloc(), io::writer(rt))?;

@@ -39,8 +39,8 @@ impl Memory {
         let (segments, rows) = segments.split_once('/').unwrap_or((segments, "none"));
         Ok(Memory {
             words,
-            segments: count(segments)?,
-            rows: count(rows)?,
+            segments: parse_limit(segments)?,
+            rows: parse_limit(rows)?,
             scratch_words,
         })
     }
@@ -69,7 +69,7 @@ impl Memory {
 }
 
 /// Parses a limit: decimal digits, or `none` for no limit.
-fn count(text: &str) -> Result<u32, Fault> {
+fn parse_limit(text: &str) -> Result<u32, Fault> {
     if text == "none" {
         Ok(u32::MAX)
     } else {
@@ -130,14 +130,14 @@ pub fn built<A: Allocator>(alloc: Global, allocator: A) -> Result<BuilderArenaIm
 }
 
 /// Adds the allocated words of each segment in hex digits, with commas between segments.
-pub fn put_words(arena: &impl ReaderArena, out: &mut Output) {
+pub fn push_words(arena: &impl ReaderArena, out: &mut Output) {
     for id in 0..u32::MAX {
         match arena.get_segment(id) {
             Ok(bytes) => {
                 if id > 0 {
-                    out.text(",");
+                    out.push_text(",");
                 }
-                out.hex(bytes);
+                out.push_hex(bytes);
             }
             Err(_) => break,
         }

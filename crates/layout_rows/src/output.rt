@@ -34,65 +34,65 @@ impl Output {
     }
 
     /// Adds a text.
-    pub fn text(&mut self, text: &str) {
+    pub fn push_text(&mut self, text: &str) {
         if self.text.push_str(text).is_err() {
             self.is_lost = true;
         }
     }
 
     /// Adds a number in decimal digits, or the name of a refusal, with its number if it has one.
-    pub fn put<V: Display + Drop>(&mut self, value: V) {
+    pub fn push<V: Display + Drop>(&mut self, value: V) {
         match format!(in self.alloc; "{value}") {
-            Ok(shown) => self.text(shown.as_str()),
+            Ok(shown) => self.push_text(shown.as_str()),
             Err(_) => self.is_lost = true,
         }
     }
 
     /// Adds a space and a number.
-    pub fn spaced<V: Display + Drop>(&mut self, value: V) {
-        self.text(" ");
-        self.put(value);
+    pub fn push_spaced<V: Display + Drop>(&mut self, value: V) {
+        self.push_text(" ");
+        self.push(value);
     }
 
     /// Adds a `/` and a number.
-    pub fn slash<V: Display + Drop>(&mut self, value: V) {
-        self.text("/");
-        self.put(value);
+    pub fn push_slashed<V: Display + Drop>(&mut self, value: V) {
+        self.push_text("/");
+        self.push(value);
     }
 
     /// Adds 1 for yes, 0 for no.
-    pub fn flag(&mut self, yes: bool) {
-        self.text(if yes { "1" } else { "0" });
+    pub fn push_flag(&mut self, yes: bool) {
+        self.push_text(if yes { "1" } else { "0" });
     }
 
     /// Adds the number of words that a limiter has left, or `none` if it has no limit.
-    pub fn left(&mut self, words: Option<usize>) {
+    pub fn push_words_left(&mut self, words: Option<usize>) {
         match words {
-            Some(words) => self.put(words),
-            None => self.text("none"),
+            Some(words) => self.push(words),
+            None => self.push_text("none"),
         }
     }
 
     /// Adds bytes as hex digits.
-    pub fn hex(&mut self, bytes: &[u8]) {
+    pub fn push_hex(&mut self, bytes: &[u8]) {
         match hex::encode(self.alloc, bytes) {
-            Ok(digits) => self.text(digits.as_str()),
+            Ok(digits) => self.push_text(digits.as_str()),
             Err(_) => self.is_lost = true,
         }
     }
 
     /// Adds bytes as hex digits, `-` for none.
-    pub fn hex_or_dash(&mut self, bytes: &[u8]) {
+    pub fn push_hex_or_dash(&mut self, bytes: &[u8]) {
         if bytes.is_empty() {
-            self.text("-");
+            self.push_text("-");
         } else {
-            self.hex(bytes);
+            self.push_hex(bytes);
         }
     }
 
     /// Adds the element size as a number.
-    pub fn element_size(&mut self, size: ElementSize) {
-        self.text(match size {
+    pub fn push_element_size(&mut self, size: ElementSize) {
+        self.push_text(match size {
             ElementSize::Void => "0",
             ElementSize::Bit => "1",
             ElementSize::Byte => "2",
@@ -106,16 +106,16 @@ impl Output {
 
     /// Adds the element size of a list, and the words of data and the pointers of its structs, each
     /// number after a `/`.
-    pub fn elements(&mut self, size: ElementSize, structs: StructSize) {
-        self.text("/");
-        self.element_size(size);
-        self.slash(structs.data_words);
-        self.slash(structs.pointers);
+    pub fn push_list_sizes(&mut self, size: ElementSize, structs: StructSize) {
+        self.push_text("/");
+        self.push_element_size(size);
+        self.push_slashed(structs.data_words);
+        self.push_slashed(structs.pointers);
     }
 
     /// Adds a letter for the kind of object that a pointer leads to, or `n` for a null pointer.
-    pub fn pointer_type(&mut self, found: PointerType) {
-        self.text(match found {
+    pub fn push_pointer_type(&mut self, found: PointerType) {
+        self.push_text(match found {
             PointerType::Null => "n",
             PointerType::Struct => "s",
             PointerType::List => "l",

@@ -83,7 +83,7 @@ where
 }
 
 /// Parses a number in decimal digits, and stores it in `to`.
-pub fn put_number<T: FromStr + Copy>(text: &str, to: &mut T) -> Result<(), Fault>
+pub fn parse_into<T: FromStr + Copy>(text: &str, to: &mut T) -> Result<(), Fault>
 where
     T::Err: Drop,
 {

@@ -12,25 +12,25 @@ use capnp_words::read_limiter::ReadLimiter;
 use capnp_words::wire_pointer::{ElementSize, PointerType};
 use capnp_words::zero::Zero;
 
-pub fn root<'a, A: ReaderArena>(
+pub fn get_root<'a, A: ReaderArena>(
     arena: &'a A,
     limiter: &mut ReadLimiter,
 ) -> Result<PointerReader<'a, A>, ErrorKind> {
     PointerReader::get_root_from_arena(arena, limiter)
 }
 
-pub fn pointer_type<A: ReaderArena>(
+pub fn get_pointer_type<A: ReaderArena>(
     from: PointerReader<'_, A>,
     limiter: &mut ReadLimiter,
 ) -> Result<PointerType, ErrorKind> {
     from.get_pointer_type(limiter)
 }
 
-pub fn capability<A: ReaderArena>(from: PointerReader<'_, A>) -> Result<u32, ErrorKind> {
+pub fn get_capability<A: ReaderArena>(from: PointerReader<'_, A>) -> Result<u32, ErrorKind> {
     from.get_capability()
 }
 
-pub fn structure<'a, A: ReaderArena>(
+pub fn get_struct<'a, A: ReaderArena>(
     from: PointerReader<'a, A>,
     limiter: &mut ReadLimiter,
     default: Option<&'a [u8]>,
@@ -40,7 +40,7 @@ pub fn structure<'a, A: ReaderArena>(
     from.get_struct(limiter, default)
 }
 
-pub fn list<'a, A: ReaderArena>(
+pub fn get_list<'a, A: ReaderArena>(
     from: PointerReader<'a, A>,
     limiter: &mut ReadLimiter,
     size: ElementSize,
@@ -51,7 +51,7 @@ pub fn list<'a, A: ReaderArena>(
     from.get_list(limiter, size, default)
 }
 
-pub fn text<'a, A: ReaderArena>(
+pub fn get_text<'a, A: ReaderArena>(
     from: PointerReader<'a, A>,
     limiter: &mut ReadLimiter,
     default: Option<&'a [u8]>,
@@ -61,7 +61,7 @@ pub fn text<'a, A: ReaderArena>(
     from.get_text(limiter, default)
 }
 
-pub fn data<'a, A: ReaderArena>(
+pub fn get_data<'a, A: ReaderArena>(
     from: PointerReader<'a, A>,
     limiter: &mut ReadLimiter,
     default: Option<&'a [u8]>,
@@ -78,36 +78,36 @@ pub fn next<'a, A: ReaderArena>(
     from.next(limiter)
 }
 
-pub fn pointer_size<A: ReaderArena>(
+pub fn total_size_of_pointer<A: ReaderArena>(
     from: PointerReader<'_, A>,
     limiter: &mut ReadLimiter,
 ) -> Result<MessageSize, ErrorKind> {
     from.total_size(limiter)
 }
 
-pub fn struct_size<A: ReaderArena>(
+pub fn total_size_of_struct<A: ReaderArena>(
     from: StructReader<'_, A>,
     limiter: &mut ReadLimiter,
 ) -> Result<MessageSize, ErrorKind> {
     from.total_size(limiter)
 }
 
-pub fn pointer_field<'a, A: ReaderArena>(
+pub fn get_pointer_field<'a, A: ReaderArena>(
     from: StructReader<'a, A>,
     index: usize,
 ) -> PointerReader<'a, A> {
     from.get_pointer_field(index)
 }
 
-pub fn is_field_null<A: ReaderArena>(from: StructReader<'_, A>, index: usize) -> bool {
+pub fn is_pointer_field_null<A: ReaderArena>(from: StructReader<'_, A>, index: usize) -> bool {
     from.is_pointer_field_null(index)
 }
 
-pub fn bool_field<A: ReaderArena>(from: StructReader<'_, A>, index: usize) -> bool {
+pub fn get_bool_field<A: ReaderArena>(from: StructReader<'_, A>, index: usize) -> bool {
     from.get_bool_field(index)
 }
 
-pub fn bool_field_mask<A: ReaderArena>(
+pub fn get_bool_field_mask<A: ReaderArena>(
     from: StructReader<'_, A>,
     index: usize,
     mask: bool,
@@ -115,14 +115,14 @@ pub fn bool_field_mask<A: ReaderArena>(
     from.get_bool_field_mask(index, mask)
 }
 
-pub fn data_field<T: Primitive + Zero, A: ReaderArena>(
+pub fn get_data_field<T: Primitive + Zero, A: ReaderArena>(
     from: StructReader<'_, A>,
     index: usize,
 ) -> T {
     from.get_data_field::<T>(index)
 }
 
-pub fn data_field_mask<T: Primitive + Zero + Mask<T = T>, A: ReaderArena>(
+pub fn get_data_field_mask<T: Primitive + Zero + Mask<T = T>, A: ReaderArena>(
     from: StructReader<'_, A>,
     index: usize,
     mask: T,

@@ -60,8 +60,8 @@ impl Reading {
                 Some(number) => kept.get(number),
                 None => kept.last(),
             };
-            let made = self.call(arena, of.copied(), call);
-            if let Some(reader) = self.answer_call(made)? {
+            let made = self.make_call(arena, of.copied(), call);
+            if let Some(reader) = self.push_answer(made)? {
                 kept.push(reader)?;
             }
         }
@@ -71,29 +71,29 @@ impl Reading {
 
     /// Adds the answer of a call, and what the limiter then has. Returns the reader that the call
     /// returned, if it did.
-    fn answer_call<'a, A: ReaderArena>(
+    fn push_answer<'a, A: ReaderArena>(
         &mut self,
         made: Result<Option<Reader<'a, A>>, Fault>,
     ) -> Result<Option<Reader<'a, A>>, Fault> {
         let reader = match made {
             Ok(reader) => reader,
             Err(fault) => {
-                self.refusal(fault)?;
+                self.push_fault(fault)?;
                 None
             }
         };
         if let Some(reader) = reader {
-            self.show(reader);
+            self.push_reader(reader);
         }
-        self.limits();
+        self.push_limits();
         Ok(reader)
     }
 
     /// Adds why a call has no result. Fails if the line has no answer for that reason.
-    fn refusal(&mut self, fault: Fault) -> Result<(), Fault> {
+    fn push_fault(&mut self, fault: Fault) -> Result<(), Fault> {
         match fault {
-            Fault::Unfit => self.out.text("none"),
-            Fault::Refused(kind) => self.out.put(kind),
+            Fault::Unfit => self.out.push_text("none"),
+            Fault::Refused(kind) => self.out.push(kind),
             fault => return Err(fault),
         }
         Ok(())
@@ -101,17 +101,17 @@ impl Reading {
 
     /// Adds the number of words that the limiter has left, and the number of pointers that were
     /// followed.
-    fn limits(&mut self) {
-        self.out.text(" ");
-        self.out.left(self.limiter.left());
-        self.out.text(" ");
-        self.out.put(self.limiter.followed());
-        self.out.text(";");
+    fn push_limits(&mut self) {
+        self.out.push_text(" ");
+        self.out.push_words_left(self.limiter.left());
+        self.out.push_text(" ");
+        self.out.push(self.limiter.followed());
+        self.out.push_text(";");
     }
 
     /// Makes a call, on the reader `of` if there is one. If the call returns a reader, returns it,
     /// and adds nothing for it yet.
-    fn call<'a, A: ReaderArena>(
+    fn make_call<'a, A: ReaderArena>(
         &mut self,
         arena: &'a A,
         of: Option<Reader<'a, A>>,
@@ -122,7 +122,7 @@ impl Reading {
         }
         let reader = match call.op {
             Op::Root => {
-                let root = readers::root(arena, &mut self.limiter)?;
+                let root = readers::get_root(arena, &mut self.limiter)?;
                 Reader::Pointer(root)
             }
             Op::At => Reader::Pointer(reader_at(arena, &call.values)?),
@@ -130,57 +130,57 @@ impl Reading {
             Op::NewPointer => Reader::Pointer(PointerReader::new_default()),
             Op::NewStruct => Reader::Struct(StructReader::new_default()),
             Op::NewList => Reader::List(ListReader::new_default()),
-            _ => return self.call_of(of, call),
+            _ => return self.call_on_reader(of, call),
         };
         Ok(Some(reader))
     }
 
     /// Makes a call on the reader `of`; `Unfit` if there is none.
-    fn call_of<'a, A: ReaderArena>(
+    fn call_on_reader<'a, A: ReaderArena>(
         &mut self,
         of: Option<Reader<'a, A>>,
         call: &'a Call,
     ) -> Result<Option<Reader<'a, A>>, Fault> {
         match of {
-            Some(Reader::Pointer(from)) => self.call_of_pointer(from, call),
-            Some(Reader::Struct(from)) => self.call_of_struct(from, call),
-            Some(Reader::List(from)) => self.call_of_list(from, call),
+            Some(Reader::Pointer(from)) => self.call_on_pointer(from, call),
+            Some(Reader::Struct(from)) => self.call_on_struct(from, call),
+            Some(Reader::List(from)) => self.call_on_list(from, call),
             None => Err(Fault::Unfit),
         }
     }
 
-    fn call_of_pointer<'a, A: ReaderArena>(
+    fn call_on_pointer<'a, A: ReaderArena>(
         &mut self,
         from: PointerReader<'a, A>,
         call: &'a Call,
     ) -> Result<Option<Reader<'a, A>>, Fault> {
-        let default = default_of(call)?;
+        let default = default_bytes(call)?;
         match call.op {
             Op::Struct => {
-                let found = readers::structure(from, &mut self.limiter, default)?;
+                let found = readers::get_struct(from, &mut self.limiter, default)?;
                 Ok(Some(Reader::Struct(found)))
             }
             Op::List => {
-                let found = readers::list(from, &mut self.limiter, call.values.size, default)?;
+                let found = readers::get_list(from, &mut self.limiter, call.values.size, default)?;
                 Ok(Some(Reader::List(found)))
             }
             Op::Next => {
                 let target = readers::next(from, &mut self.limiter)?;
-                Ok(self.target(target))
+                Ok(self.push_target(target))
             }
             Op::Text | Op::Data => {
-                self.bytes(from, call.op, default)?;
+                self.push_bytes(from, call.op, default)?;
                 Ok(None)
             }
             op => {
-                self.ask_pointer(from, op, call.values.count)?;
+                self.query_pointer(from, op, call.values.count)?;
                 Ok(None)
             }
         }
     }
 
     /// Adds the bytes of a text if `op` is `Text`, otherwise those of data.
-    fn bytes<'a, A: ReaderArena>(
+    fn push_bytes<'a, A: ReaderArena>(
         &mut self,
         from: PointerReader<'a, A>,
         op: Op,
@@ -189,122 +189,131 @@ impl Reading {
         requires { IfSome default (λ bytes. length bytes.now / 8 < 2 ^ 32) }
     {
         let bytes = match op {
-            Op::Text => readers::text(from, &mut self.limiter, default)?,
-            _ => readers::data(from, &mut self.limiter, default)?,
+            Op::Text => readers::get_text(from, &mut self.limiter, default)?,
+            _ => readers::get_data(from, &mut self.limiter, default)?,
         };
-        self.out.hex_or_dash(bytes);
+        self.out.push_hex_or_dash(bytes);
         Ok(())
     }
 
     /// Adds the kind of object that a pointer leads to. Returns a reader of the object if it is a
     /// struct or a list.
-    fn target<'a, A: ReaderArena>(&mut self, target: Target<'a, A>) -> Option<Reader<'a, A>> {
+    fn push_target<'a, A: ReaderArena>(&mut self, target: Target<'a, A>) -> Option<Reader<'a, A>> {
         match target {
             Target::Struct(found) => {
-                self.out.text("struct:");
+                self.out.push_text("struct:");
                 return Some(Reader::Struct(found));
             }
             Target::List(found) => {
-                self.out.text("list:");
+                self.out.push_text("list:");
                 return Some(Reader::List(found));
             }
-            Target::Null => self.out.text("null"),
+            Target::Null => self.out.push_text("null"),
             Target::Cap(index) => {
-                self.out.text("capability:");
-                self.out.put(index);
+                self.out.push_text("capability:");
+                self.out.push(index);
             }
         }
         None
     }
 
     /// Makes a call that returns neither a reader nor bytes, on a pointer.
-    fn ask_pointer<A: ReaderArena>(
+    fn query_pointer<A: ReaderArena>(
         &mut self,
         from: PointerReader<'_, A>,
         op: Op,
         head: u32,
     ) -> Result<(), Fault> {
         match op {
-            Op::IsNull => self.out.flag(from.is_null()),
-            Op::Type => return self.pointer_type(from),
-            Op::Capability => self.out.put(readers::capability(from)?),
+            Op::IsNull => self.out.push_flag(from.is_null()),
+            Op::Type => return self.push_pointer_type(from),
+            Op::Capability => self.out.push(readers::get_capability(from)?),
             Op::Size => {
-                let size = readers::pointer_size(from, &mut self.limiter);
-                return self.size(size);
+                let size = readers::total_size_of_pointer(from, &mut self.limiter);
+                return self.push_size(size);
             }
-            Op::Canonical => self.canonical(from, head),
+            Op::Canonical => self.push_is_canonical(from, head),
             _ => return Err(Fault::Unfit),
         }
         Ok(())
     }
 
-    fn pointer_type<A: ReaderArena>(&mut self, from: PointerReader<'_, A>) -> Result<(), Fault> {
-        let found = readers::pointer_type(from, &mut self.limiter)?;
-        self.out.pointer_type(found);
+    fn push_pointer_type<A: ReaderArena>(
+        &mut self,
+        from: PointerReader<'_, A>,
+    ) -> Result<(), Fault> {
+        let found = readers::get_pointer_type(from, &mut self.limiter)?;
+        self.out.push_pointer_type(found);
         Ok(())
     }
 
-    fn call_of_struct<'a, A: ReaderArena>(
+    fn call_on_struct<'a, A: ReaderArena>(
         &mut self,
         from: StructReader<'a, A>,
         call: &Call,
     ) -> Result<Option<Reader<'a, A>>, Fault> {
         match call.op {
             Op::Pointer => {
-                let pointer = readers::pointer_field(from, call.values.index);
+                let pointer = readers::get_pointer_field(from, call.values.index);
                 Ok(Some(Reader::Pointer(pointer)))
             }
             Op::Section => Ok(Some(Reader::List(from.get_pointer_section_as_list()))),
             op => {
-                self.ask_struct(from, op, &call.values)?;
+                self.query_struct(from, op, &call.values)?;
                 Ok(None)
             }
         }
     }
 
     /// Makes a call that returns no reader, on a struct.
-    fn ask_struct<A: ReaderArena>(
+    fn query_struct<A: ReaderArena>(
         &mut self,
         from: StructReader<'_, A>,
         op: Op,
         values: &Values<'_>,
     ) -> Result<(), Fault> {
         match op {
-            Op::IsPointerNull => self.out.flag(readers::is_field_null(from, values.index)),
-            Op::Bool => return self.bool_field(from, values),
-            Op::Number(of) => return self.number(of, Reader::Struct(from), values),
-            Op::Bytes => self.out.hex_or_dash(readers::data_bytes(from)),
+            Op::IsPointerNull => self
+                .out
+                .push_flag(readers::is_pointer_field_null(from, values.index)),
+            Op::Bool => return self.push_bool_field(from, values),
+            Op::Number(of) => return self.push_number(of, Reader::Struct(from), values),
+            Op::Bytes => self.out.push_hex_or_dash(readers::data_bytes(from)),
             Op::Size => {
-                let size = readers::struct_size(from, &mut self.limiter);
-                return self.size(size);
+                let size = readers::total_size_of_struct(from, &mut self.limiter);
+                return self.push_size(size);
             }
-            Op::CanonicalStruct => self.canonical_struct(from, values),
-            Op::CanonicalShared => self.canonical_shared(from, values),
+            Op::CanonicalStruct => self.push_struct_is_canonical(from, values),
+            Op::CanonicalShared => self.push_is_canonical_shared(from, values),
             _ => return Err(Fault::Unfit),
         }
         Ok(())
     }
 
-    fn bool_field<A: ReaderArena>(
+    fn push_bool_field<A: ReaderArena>(
         &mut self,
         from: StructReader<'_, A>,
         values: &Values<'_>,
     ) -> Result<(), Fault> {
         let value = match flag_of(values.mask)? {
-            Some(mask) => readers::bool_field_mask(from, values.index, mask),
-            None => readers::bool_field(from, values.index),
+            Some(mask) => readers::get_bool_field_mask(from, values.index, mask),
+            None => readers::get_bool_field(from, values.index),
         };
-        self.out.flag(value);
+        self.out.push_flag(value);
         Ok(())
     }
 
-    fn canonical<A: ReaderArena>(&mut self, from: PointerReader<'_, A>, head: u32) {
+    fn push_is_canonical<A: ReaderArena>(&mut self, from: PointerReader<'_, A>, head: u32) {
         let mut head = head;
         let tested = from.is_canonical(&mut self.limiter, &mut head);
-        self.tested(tested, head);
+        self.push_test(tested, head);
     }
 
-    fn canonical_struct<A: ReaderArena>(&mut self, from: StructReader<'_, A>, values: &Values<'_>) {
+    fn push_struct_is_canonical<A: ReaderArena>(
+        &mut self,
+        from: StructReader<'_, A>,
+        values: &Values<'_>,
+    ) {
         let (mut read, mut behind) = (values.count, values.word);
         let (mut data, mut pointers) = (values.flag, values.flag);
         let tested = from.is_canonical(
@@ -314,12 +323,16 @@ impl Reading {
             &mut data,
             &mut pointers,
         );
-        self.tested(tested, read);
-        self.out.slash(behind);
-        self.used(data, pointers);
+        self.push_test(tested, read);
+        self.out.push_slashed(behind);
+        self.push_used(data, pointers);
     }
 
-    fn canonical_shared<A: ReaderArena>(&mut self, from: StructReader<'_, A>, values: &Values<'_>) {
+    fn push_is_canonical_shared<A: ReaderArena>(
+        &mut self,
+        from: StructReader<'_, A>,
+        values: &Values<'_>,
+    ) {
         let mut head = values.count;
         let (mut data, mut pointers) = (values.flag, values.flag);
         let tested = from.is_canonical_shared(
@@ -328,29 +341,29 @@ impl Reading {
             &mut data,
             &mut pointers,
         );
-        self.tested(tested, head);
-        self.used(data, pointers);
+        self.push_test(tested, head);
+        self.push_used(data, pointers);
     }
 
     /// Adds the answer of a test for canonical form, and the head after the test, a position in
     /// words.
-    fn tested(&mut self, tested: Result<bool, ErrorKind>, head: u32) {
+    fn push_test(&mut self, tested: Result<bool, ErrorKind>, head: u32) {
         match tested {
-            Ok(yes) => self.out.flag(yes),
-            Err(kind) => self.out.put(kind),
+            Ok(yes) => self.out.push_flag(yes),
+            Err(kind) => self.out.push(kind),
         }
-        self.out.slash(head);
+        self.out.push_slashed(head);
     }
 
     /// Adds, for each of the two sections of a struct, whether its last word is used.
-    fn used(&mut self, data: bool, pointers: bool) {
-        self.out.text("/");
-        self.out.flag(data);
-        self.out.text("/");
-        self.out.flag(pointers);
+    fn push_used(&mut self, data: bool, pointers: bool) {
+        self.out.push_text("/");
+        self.out.push_flag(data);
+        self.out.push_text("/");
+        self.out.push_flag(pointers);
     }
 
-    fn call_of_list<'a, A: ReaderArena>(
+    fn call_on_list<'a, A: ReaderArena>(
         &mut self,
         from: ListReader<'a, A>,
         call: &Call,
@@ -361,31 +374,31 @@ impl Reading {
             Op::OwnElement => Ok(Some(Reader::Struct(own_struct_at(&from, index)?))),
             Op::PointerElement => Ok(Some(Reader::Pointer(pointer_at(&from, index)?))),
             op => {
-                self.ask_list(from, op, &call.values)?;
+                self.query_list(from, op, &call.values)?;
                 Ok(None)
             }
         }
     }
 
     /// Makes a call that returns no reader, on a list.
-    fn ask_list<A: ReaderArena>(
+    fn query_list<A: ReaderArena>(
         &mut self,
         from: ListReader<'_, A>,
         op: Op,
         values: &Values<'_>,
     ) -> Result<(), Fault> {
         match op {
-            Op::Get => return self.element(from, values),
-            Op::Bytes => self.out.hex_or_dash(from.data_bytes()),
-            Op::Bits => self.out.put(from.element_data_bits()),
-            Op::Low => self.out.put(low_data_at(&from, values.count)?),
+            Op::Get => return self.push_element(from, values),
+            Op::Bytes => self.out.push_hex_or_dash(from.data_bytes()),
+            Op::Bits => self.out.push(from.element_data_bits()),
+            Op::Low => self.out.push(low_data_at(&from, values.count)?),
             _ => return Err(Fault::Unfit),
         }
         Ok(())
     }
 
     /// Adds an element of a list: a number, a bit or nothing.
-    fn element<A: ReaderArena>(
+    fn push_element<A: ReaderArena>(
         &mut self,
         from: ListReader<'_, A>,
         values: &Values<'_>,
@@ -393,39 +406,39 @@ impl Reading {
         match values.element {
             ElementType::Void => {
                 <() as PrimitiveElement>::get(&from, values.count);
-                self.out.text("-");
+                self.out.push_text("-");
             }
             ElementType::Bool => {
                 let bit = number_at::<bool, A>(&from, values.count)?;
-                self.out.flag(bit);
+                self.out.push_flag(bit);
             }
-            ElementType::Number(of) => return self.number(of, Reader::List(from), values),
+            ElementType::Number(of) => return self.push_number(of, Reader::List(from), values),
         }
         Ok(())
     }
 
     /// Adds a number in a struct or a list. `of` is the number's type.
-    fn number<A: ReaderArena>(
+    fn push_number<A: ReaderArena>(
         &mut self,
         of: NumberType,
         from: Reader<'_, A>,
         values: &Values<'_>,
     ) -> Result<(), Fault> {
         match of {
-            NumberType::U8 => self.number_as::<u8, A>(from, values),
-            NumberType::U16 => self.number_as::<u16, A>(from, values),
-            NumberType::U32 => self.number_as::<u32, A>(from, values),
-            NumberType::U64 => self.number_as::<u64, A>(from, values),
-            NumberType::I8 => self.number_as::<i8, A>(from, values),
-            NumberType::I16 => self.number_as::<i16, A>(from, values),
-            NumberType::I32 => self.number_as::<i32, A>(from, values),
-            NumberType::I64 => self.number_as::<i64, A>(from, values),
+            NumberType::U8 => self.push_number_as::<u8, A>(from, values),
+            NumberType::U16 => self.push_number_as::<u16, A>(from, values),
+            NumberType::U32 => self.push_number_as::<u32, A>(from, values),
+            NumberType::U64 => self.push_number_as::<u64, A>(from, values),
+            NumberType::I8 => self.push_number_as::<i8, A>(from, values),
+            NumberType::I16 => self.push_number_as::<i16, A>(from, values),
+            NumberType::I32 => self.push_number_as::<i32, A>(from, values),
+            NumberType::I64 => self.push_number_as::<i64, A>(from, values),
         }
     }
 
     /// Adds a number of type `T`: a field of a struct, with a mask if the call has one, or an
     /// element of a list.
-    fn number_as<
+    fn push_number_as<
         T: Primitive + Zero + Mask<T = T> + PrimitiveElement + FromStr + Display + Drop,
         A: ReaderArena,
     >(&mut self, from: Reader<'_, A>, values: &Values<'_>) -> Result<(), Fault>
@@ -434,59 +447,59 @@ impl Reading {
     {
         let number: T = match from {
             Reader::Pointer(_) => return Err(Fault::Unfit),
-            Reader::Struct(from) => number_field::<T, A>(from, values)?,
+            Reader::Struct(from) => get_number_field::<T, A>(from, values)?,
             Reader::List(from) => number_at::<T, A>(&from, values.count)?,
         };
-        self.out.put(number);
+        self.out.push(number);
         Ok(())
     }
 
     /// Adds what a reader reads from, its content and its nesting limit.
-    fn show<A: ReaderArena>(&mut self, reader: Reader<'_, A>) {
+    fn push_reader<A: ReaderArena>(&mut self, reader: Reader<'_, A>) {
         match reader {
             Reader::Pointer(pointer) => {
-                self.source(pointer.source);
-                self.out.slash(pointer.nesting_limit);
+                self.push_source(pointer.source);
+                self.out.push_slashed(pointer.nesting_limit);
             }
-            Reader::Struct(found) => self.show_struct(found),
-            Reader::List(list) => self.show_list(&list),
+            Reader::Struct(found) => self.push_struct(found),
+            Reader::List(list) => self.push_list(&list),
         }
     }
 
-    fn show_struct<A: ReaderArena>(&mut self, found: StructReader<'_, A>) {
-        self.source(found.source);
-        self.out.text("/");
-        self.out.hex_or_dash(readers::data_bytes(found));
-        self.out.slash(found.pointer_count());
-        self.out.slash(found.nesting_limit);
+    fn push_struct<A: ReaderArena>(&mut self, found: StructReader<'_, A>) {
+        self.push_source(found.source);
+        self.out.push_text("/");
+        self.out.push_hex_or_dash(readers::data_bytes(found));
+        self.out.push_slashed(found.pointer_count());
+        self.out.push_slashed(found.nesting_limit);
     }
 
-    fn show_list<A: ReaderArena>(&mut self, list: &ListReader<'_, A>) {
-        self.source(list.source);
-        self.out.slash(list.len());
+    fn push_list<A: ReaderArena>(&mut self, list: &ListReader<'_, A>) {
+        self.push_source(list.source);
+        self.out.push_slashed(list.len());
         self.out
-            .elements(list.get_element_size(), list.struct_size());
-        self.out.slash(list.nesting_limit);
+            .push_list_sizes(list.get_element_size(), list.struct_size());
+        self.out.push_slashed(list.nesting_limit);
     }
 
-    fn source<A>(&mut self, source: Source<'_, A>) {
-        self.out.text(match source {
+    fn push_source<A>(&mut self, source: Source<'_, A>) {
+        self.out.push_text(match source {
             Source::Arena(_) => "message",
             Source::Default(_) => "default",
             Source::Nothing => "nothing",
         });
     }
 
-    fn size(&mut self, size: Result<MessageSize, ErrorKind>) -> Result<(), Fault> {
+    fn push_size(&mut self, size: Result<MessageSize, ErrorKind>) -> Result<(), Fault> {
         let size = size?;
-        self.out.put(size.word_count);
-        self.out.slash(size.cap_count);
+        self.out.push(size.word_count);
+        self.out.push_slashed(size.cap_count);
         Ok(())
     }
 }
 
 /// Returns a number of a struct, with a mask if the call has one.
-fn number_field<T: Primitive + Zero + Mask<T = T> + FromStr + Drop, A: ReaderArena>(
+fn get_number_field<T: Primitive + Zero + Mask<T = T> + FromStr + Drop, A: ReaderArena>(
     from: StructReader<'_, A>,
     values: &Values<'_>,
 ) -> Result<T, Fault>
@@ -494,8 +507,8 @@ where
     T::Err: Drop,
 {
     Ok(match mask_of::<T>(values.mask)? {
-        Some(mask) => readers::data_field_mask::<T, A>(from, values.index, mask),
-        None => readers::data_field::<T, A>(from, values.index),
+        Some(mask) => readers::get_data_field_mask::<T, A>(from, values.index, mask),
+        None => readers::get_data_field::<T, A>(from, values.index),
     })
 }
 
@@ -520,14 +533,14 @@ fn reader_at<'a, A: ReaderArena>(
 
 /// Returns a reader of the root pointer of a call's default; `Unfit` if the call has none.
 fn from_default<'a, A: ReaderArena>(call: &'a Call) -> Result<PointerReader<'a, A>, Fault> {
-    match default_of(call)? {
+    match default_bytes(call)? {
         Some(bytes) => Ok(PointerReader::from_default(bytes)?),
         None => Err(Fault::Unfit),
     }
 }
 
 /// Returns the bytes of a call's default, if it has one; `Unfit` if the default has too many words.
-fn default_of<'a>(call: &'a Call) -> Result<Option<&'a [u8]>, Fault>
+fn default_bytes<'a>(call: &'a Call) -> Result<Option<&'a [u8]>, Fault>
     ensures { IfOk result (λ default. IfSome default (λ bytes. length bytes.now / 8 < 2 ^ 32)) }
 {
     match &call.default {

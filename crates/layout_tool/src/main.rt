@@ -32,7 +32,7 @@ words; none is no limit.";
 fn main(rt: HostRuntime) -> ExitCode {
     match answer(&rt) {
         Ok(code) => code,
-        Err(AllocError) => refuse(&rt, ErrorKind::AllocationFailed),
+        Err(AllocError) => report_refusal(&rt, ErrorKind::AllocationFailed),
     }
 }
 
@@ -40,18 +40,18 @@ fn main(rt: HostRuntime) -> ExitCode {
 /// then writes nothing.
 fn answer(rt: &HostRuntime) -> Result<ExitCode, AllocError> {
     let Some(given) = arguments(rt)? else {
-        return Ok(complain(rt, "bad arguments"));
+        return Ok(print_error(rt, "bad arguments"));
     };
     if given.len() == 1 && given[0].as_str() == "--help" {
-        return Ok(say(rt, USAGE));
+        return Ok(print_text(rt, USAGE));
     }
     let Some(args) = tool::parse_args(given.as_slice()) else {
-        return Ok(complain(rt, "bad arguments"));
+        return Ok(print_error(rt, "bad arguments"));
     };
     Ok(match run(rt, &args)? {
         Outcome::Done => ExitCode::SUCCESS,
         Outcome::Refused => ExitCode::from(1),
-        Outcome::BadInput => complain(rt, "bad input"),
+        Outcome::BadInput => print_error(rt, "bad input"),
         Outcome::WriteFailed => ExitCode::from(2),
     })
 }
@@ -85,7 +85,7 @@ fn run(rt: &HostRuntime, args: &Args) -> Result<Outcome, AllocError> {
 }
 
 /// Prints `text` to standard output.
-fn say(rt: &HostRuntime, text: &str) -> ExitCode {
+fn print_text(rt: &HostRuntime, text: &str) -> ExitCode {
     match rt.println(text) {
         Ok(()) => ExitCode::SUCCESS,
         Err(_) => ExitCode::from(2),
@@ -93,7 +93,7 @@ fn say(rt: &HostRuntime, text: &str) -> ExitCode {
 }
 
 /// Prints the line that names a refusal.
-fn refuse(rt: &HostRuntime, kind: ErrorKind) -> ExitCode {
+fn report_refusal(rt: &HostRuntime, kind: ErrorKind) -> ExitCode {
     match println!(rt; "refused {}", kind.name()) {
         Ok(()) => ExitCode::from(1),
         Err(_) => ExitCode::from(2),
@@ -101,7 +101,7 @@ fn refuse(rt: &HostRuntime, kind: ErrorKind) -> ExitCode {
 }
 
 /// Reports `text` on standard error, if possible.
-fn complain(rt: &HostRuntime, text: &str) -> ExitCode {
+fn print_error(rt: &HostRuntime, text: &str) -> ExitCode {
     let _ = eprintln!(rt; "{text}");
     ExitCode::from(2)
 }

@@ -96,7 +96,7 @@ fn run_once(alloc: Global, run: &Run) -> Result<String, AllocError> {
     }
     let mut packing = PackingOutput::new(output);
     let ended = run_to(alloc, run, &mut packing);
-    let is_flushed = packing.flush().is_ok();
+    let is_flushed = packing.write_pending().is_ok();
     let output = packing.into_packed();
     if is_flushed {
         told(alloc, ended, output.bytes.as_slice())

@@ -2,7 +2,7 @@
 ghost use Rattle.std.specs.Prelude.{◌≡◌, false};
 
 use capnp_arena::arena::{
-    Allocator, HeapAllocator, HeapSegment, MAX_SEGMENT_WORDS, Segment, keep_in,
+    Allocator, HeapAllocator, HeapSegment, MAX_SEGMENT_WORDS, Segment, push_or_count_refusal,
 };
 use capnp_words::error::ErrorKind;
 use std::cell::Cell;
@@ -118,7 +118,7 @@ impl Allocator for TestAllocator<'_> {
             self.refused = self.refused.saturating_add(1);
             return Some(row);
         }
-        keep_in(list, row, &mut self.refused)
+        push_or_count_refusal(list, row, &mut self.refused)
     }
 
     fn refused(&self) -> u64 {

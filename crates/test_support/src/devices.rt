@@ -119,7 +119,7 @@ impl BufferedOutput for StrainedOutput {
     ghost kept = { λ _. 0 };
 
     /// The device buffers no bytes.
-    fn pass_on(&mut self) -> Result<(), DeviceFault> {
+    fn flush(&mut self) -> Result<(), DeviceFault> {
         Ok(())
     }
 }

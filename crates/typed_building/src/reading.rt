@@ -10,7 +10,7 @@ ghost use Rattle.capnp_builders.specs.Places.{IsAligned};
 
 use capnp_arena_traits::arena::BuilderArena;
 use capnp_contents::{existing, numbers};
-use capnp_making::landing::word_of;
+use capnp_making::landing::pointer_word;
 use capnp_readers::readers::StructPlace;
 use capnp_words::error::ErrorKind;
 use capnp_words::mask::Mask;
@@ -77,5 +77,5 @@ pub fn has<A: BuilderArena>(arena: &A, place: StructPlace, index: usize) -> bool
         → (IsTrue result ↔ (tree_at ts index ≢ Null)) }
 {
     let at = place.pointers_at + index as u32;
-    !word_of(arena, place.segment, at).is_null()
+    !pointer_word(arena, place.segment, at).is_null()
 }

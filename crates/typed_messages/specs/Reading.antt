@@ -1,5 +1,5 @@
 -- Messages that are read with limits, from a frame at the front of an input.
-use Rattle.std.specs.Prelude.{◌≡◌, ◌-◌, ◌^◌, ◌≤◌, map, false, unwrap_or}
+use Rattle.std.specs.Prelude.{◌≡◌, ◌≤◌, map, false}
 use Rattle.std.specs.Io.KnownBytes.{IsAtEnd}
 use Rattle.capnp_format.specs.Bytes.{message}
 use Rattle.capnp_format.specs.Segments.{Segments}
@@ -7,6 +7,7 @@ use Rattle.capnp_words.specs.Meter.{unused}
 use Rattle.capnp_arena_traits.specs.Limits.{whole}
 use Rattle.capnp_arena.specs.declared.arena.reader_arena_impl.ReaderOptions.{ReaderOptions}
 use Rattle.capnp_arena.specs.declared.arena.reader_segments.ReaderSegments as segments
+use Rattle.capnp_framing.specs.Limits.{most_words}
 use Rattle.capnp_framing.specs.Reading.{IsFrameRead, total}
 use Rattle.capnp_framing.specs.declared.devices.Input as input
 use Rattle.capnp_framing.specs.declared.framing.frame_error.FrameError.{FrameError}
@@ -36,5 +37,5 @@ module _ {R S : Type 0} (g : input.Ghosts R) (s : segments.Ghosts S) where
   -- as many words as the traversal limit of the options, and is read with these options.
   pub record IsMessageRead (from to : R) (options : ReaderOptions) (m : MessageReader S s) : Type 0 where
     pub frame : IsFrameRead g from to (words_of_message s m)
-    pub short : total (words_of_message s m) ≤ unwrap_or options.traversal_limit_in_words (2 ^ 64 - 1)
+    pub short : total (words_of_message s m) ≤ most_words options
     pub limits : HasLimits s m options

@@ -1,8 +1,9 @@
 -- The messages of a stream, one after another.
-use Rattle.std.specs.Prelude.{◌≡◌, ℕ, ◌-◌, ◌^◌, ◌<◌, unwrap_or, Option, Some, None, Result, Ok, Err}
+use Rattle.std.specs.Prelude.{◌≡◌, ℕ, ◌-◌, ◌<◌, Option, Some, None, Result, Ok, Err}
 use Rattle.std.specs.Io.KnownBytes.{IsAtEnd}
 use Rattle.capnp_arena.specs.declared.arena.reader_arena_impl.ReaderOptions.{ReaderOptions}
 use Rattle.capnp_arena.specs.declared.arena.reader_segments.ReaderSegments as segments
+use Rattle.capnp_framing.specs.Limits.{most_words}
 use Rattle.capnp_framing.specs.Reading.{NoFrameRead}
 use Rattle.capnp_framing.specs.declared.devices.Input as input
 use Rattle.capnp_framing.specs.declared.framing.frame_error.FrameError.{FrameError}
@@ -22,7 +23,7 @@ module _ {R S : Type 0} (g : input.Ghosts R) (s : segments.Ghosts S) where
   ReadsNext options from to None = IsAtEnd (g.remaining from) × IsAtEnd (g.remaining to)
   ReadsNext options from to (Some (Ok m)) = IsMessageRead g s from to options m
   ReadsNext options from to (Some (Err e)) =
-      NoFrameRead g from to (unwrap_or options.traversal_limit_in_words (2 ^ 64 - 1)) e
+      NoFrameRead g from to (most_words options) e
 
   -- A step of the iterator: it reads the next message. After an error or the end of the input it is
   -- done: it has no item left, and no longer reads.

@@ -1,8 +1,9 @@
 //! Reads and writes messages as packed frames (encoding specification, "Packing").
-ghost use Rattle.std.specs.Prelude.{◌≡◌, ◌⊎◌, [], true, length, IfOk, IfErr, IfSome, unwrap_or};
+ghost use Rattle.std.specs.Prelude.{◌≡◌, ◌⊎◌, [], true, length, IfOk, IfErr, IfSome};
 ghost use Rattle.std.specs.Io.KnownBytes.{Appends};
 ghost use Rattle.capnp_framing.specs.Flat.{BeginsWithFrame};
 ghost use Rattle.capnp_framing.specs.Frames.{CanBeFramed, frame};
+ghost use Rattle.capnp_framing.specs.Limits.{most_words};
 ghost use Rattle.capnp_framing.specs.Reading.{IsRefusedNumber, NoFrame};
 ghost use Rattle.capnp_framing.specs.declared.framing.frame_error.FrameError.TheVariants.{AllocationFailed, ReadFailed, Truncated, WriteFailed};
 ghost use Rattle.capnp_packing.specs.Packing.{unpacked_bytes, unpacked_known};
@@ -30,7 +31,7 @@ pub fn read_message<R: Input + Drop>(
 ) -> Result<MessageReader<OwnedSegments>, FrameError>
     ensures read { IfOk result (λ m. IfSome (R.remaining packed) (λ bytes.
         BeginsWithFrame (unpacked_bytes Tag bytes)
-        (unwrap_or options.traversal_limit_in_words u64.MAX)
+        (most_words options)
         (words_of_message ⟦<OwnedSegments as ReaderSegments>⟧ m))) }
     ensures limits { IfOk result
         (λ m. HasLimits ⟦<OwnedSegments as ReaderSegments>⟧ m options) }
@@ -39,7 +40,7 @@ pub fn read_message<R: Input + Drop>(
         ⊎ IfSome (R.remaining packed) (λ bytes.
         ((e ≡ Truncated) × (unpacked_bytes Tag bytes ≡ []))
         ⊎ NoFrame (unpacked_bytes Tag bytes)
-        (unwrap_or options.traversal_limit_in_words u64.MAX) e)) }
+        (most_words options) e)) }
 {
     let mut input = UnpackingInput::new(packed);
     serialize::read_message(alloc, &mut input, options)
@@ -61,7 +62,7 @@ pub fn write_message<W: Output + Drop>(output: W, message: &MessageBuilder) -> R
 {
     let mut packing = PackingOutput::new(output);
     serialize::write_message(&mut packing, message)?;
-    match packing.flush() {
+    match packing.write_pending() {
         Ok(()) => Ok(packing.into_packed()),
         Err(DeviceFault) => Err(FrameError::WriteFailed),
     }

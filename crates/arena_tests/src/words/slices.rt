@@ -2,7 +2,8 @@
 ghost use Rattle.std.specs.Prelude.{◌≤◌, length};
 
 use capnp_words::words::{
-    copy_words, count, move_words, part, put_word, used, used_words_in, word_at, zero_words,
+    copy_words, count, move_words, put_word, used_words, used_words_in, word_at, word_range,
+    zero_words,
 };
 use std::process::Abort;
 
@@ -22,11 +23,11 @@ fn four(bytes: &[u8]) -> [u64; 4]
 
 /// Writes a word among zero words, and reads it back.
 fn check_put(rt: &impl Abort, bytes: &mut [u8; 36]) {
-    assert!(rt; [count(bytes), used(bytes)] == [4, 0]);
+    assert!(rt; [count(bytes), used_words(bytes)] == [4, 0]);
     put_word(bytes, 1, WORD);
     assert!(rt; four(bytes) == [0, WORD, 0, 0] && bytes[9] == 1);
-    assert!(rt; [used(bytes), used_words_in(bytes, 0, 1)] == [2, 0]);
-    assert!(rt; word_at(part(bytes, 1, 2), 0) == WORD);
+    assert!(rt; [used_words(bytes), used_words_in(bytes, 0, 1)] == [2, 0]);
+    assert!(rt; word_at(word_range(bytes, 1, 2), 0) == WORD);
 }
 
 /// Copies two words to the place after the word that `check_put` wrote, moves all three to the

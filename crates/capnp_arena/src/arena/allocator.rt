@@ -120,7 +120,7 @@ pub trait Allocator: Drop {
 /// Does the work of `Allocator::keep` for an allocator that counts in a field: appends `row` to
 /// `list`, and returns `None`. If there is no memory for `row`, returns it, leaves `list`
 /// unchanged, and adds 1 to `refused`.
-pub fn keep_in<T>(list: &mut Vec<T>, row: T, refused: &mut u64) -> Option<T>
+pub fn push_or_count_refusal<T>(list: &mut Vec<T>, row: T, refused: &mut u64) -> Option<T>
     ensures kept { IsNone result → (list.new.items ≡ list.old.items ++ row ∷ [])
         × (refused.new ≡ refused.old) }
     ensures given_back { IfSome result (λ r. (r ≡ row) × (list.new.items ≡ list.old.items)

@@ -20,7 +20,7 @@ use crate::arena::row::Row;
 /// Skips ranges of rows, from row `from` on, while their bounds say that none of their rows has
 /// room for `amount` words. Returns the first row that isn't skipped, which may have no room
 /// either; `None` if all are skipped.
-fn first_allowed<S: Segment>(rows: &[Row<S>], from: usize, amount: u32) -> Option<usize>
+fn skip_full_ranges<S: Segment>(rows: &[Row<S>], from: usize, amount: u32) -> Option<usize>
     requires few { length rows.now ≤ max_segments }
     requires bounded { HasBounds S.Segment rows.now }
     requires inside { from ≤ length rows.now }
@@ -65,7 +65,7 @@ fn greatest_room<S: Segment>(rows: &[Row<S>], at: usize) -> u32
 }
 
 /// Lowers the bound of row `at` to its `greatest_room`.
-fn lower<S: Segment>(rows: &mut [Row<S>], at: usize)
+fn tighten_bound<S: Segment>(rows: &mut [Row<S>], at: usize)
     requires there { at < length rows.old }
     requires bounded { HasBounds S.Segment rows.old }
     ensures bounded { HasBounds S.Segment rows.new }
@@ -80,18 +80,18 @@ fn lower<S: Segment>(rows: &mut [Row<S>], at: usize)
 /// Finds the first row with room for `amount` more words, by the bounds of the rows; `None` if no
 /// row has room for them.
 #[inline(never)]
-pub(crate) fn first_by_bounds<S: Segment>(rows: &mut [Row<S>], amount: u32) -> Option<u32>
+pub(crate) fn first_fit_by_bounds<S: Segment>(rows: &mut [Row<S>], amount: u32) -> Option<u32>
     requires few { length rows.old ≤ max_segments }
     requires bounded { HasBounds S.Segment rows.old }
     ensures found { FindsFit S.Segment rows.old rows.new amount result }
     ensures bounded { HasBounds S.Segment rows.new }
 {
     let mut from = 0;
-    while let Some(at) = first_allowed(rows, from, amount) {
+    while let Some(at) = skip_full_ranges(rows, from, amount) {
         if rows[at].has_room(amount) {
             return Some(at as u32);
         }
-        lower(rows, at);
+        tighten_bound(rows, at);
         from = at + 1;
     }
     None
@@ -109,5 +109,5 @@ pub(crate) fn first_fit<S: Segment>(rows: &mut [Row<S>], amount: u32) -> Option<
     if !rows.is_empty() && rows[0].has_room(amount) {
         return Some(0);
     }
-    first_by_bounds(rows, amount)
+    first_fit_by_bounds(rows, amount)
 }

@@ -60,7 +60,7 @@ fn deallocate<A: Allocator>(allocator: &mut A, row: Row<A::Segment>)
 
 /// Returns the segment of each row in `rows` to the allocator exactly once, in order of number.
 #[inline(always)]
-fn give_back_list<A: Allocator>(allocator: &mut A, mut rows: Vec<Row<A::Segment>>)
+fn deallocate_list<A: Allocator>(allocator: &mut A, mut rows: Vec<Row<A::Segment>>)
     ensures { RefusesNothing A.Allocator allocator.old allocator.new }
 {
     if rows.len() > 1 {
@@ -75,20 +75,20 @@ fn give_back_list<A: Allocator>(allocator: &mut A, mut rows: Vec<Row<A::Segment>
 /// For an arena that stores its first row outside of the list: returns each segment in the list,
 /// `rows`, to the allocator exactly once, in order of number. For most messages the list is empty.
 #[inline(never)]
-fn give_back_others<A: Allocator>(allocator: &mut A, rows: Vec<Row<A::Segment>>)
+fn deallocate_others<A: Allocator>(allocator: &mut A, rows: Vec<Row<A::Segment>>)
     ensures { RefusesNothing A.Allocator allocator.old allocator.new }
 {
     if rows.is_empty() {
         rows.destroy_empty();
     } else {
-        give_back_list(allocator, rows);
+        deallocate_list(allocator, rows);
     }
 }
 
 /// For an arena that stores its first row outside of the list: returns each segment to the
 /// allocator exactly once, in order of number.
 #[inline(always)]
-fn give_back_apart<A: Allocator>(allocator: &mut A, rows: Rows<A::Segment>)
+fn deallocate_rows<A: Allocator>(allocator: &mut A, rows: Rows<A::Segment>)
     ensures { RefusesNothing A.Allocator allocator.old allocator.new }
 {
     let Rows {
@@ -98,7 +98,7 @@ fn give_back_apart<A: Allocator>(allocator: &mut A, rows: Rows<A::Segment>)
     } = rows;
     if there {
         deallocate(allocator, first);
-        give_back_others(allocator, others);
+        deallocate_others(allocator, others);
     } else {
         let Row {
             segment,
@@ -113,18 +113,22 @@ fn give_back_apart<A: Allocator>(allocator: &mut A, rows: Rows<A::Segment>)
 /// Returns each segment to the allocator exactly once, in order of number. In every arena at least
 /// one of `listed` and `apart` is empty.
 #[inline(always)]
-fn give_back<A: Allocator>(allocator: &mut A, listed: Listed<A::Segment>, apart: Rows<A::Segment>)
+fn deallocate_all<A: Allocator>(
+    allocator: &mut A,
+    listed: Listed<A::Segment>,
+    apart: Rows<A::Segment>,
+)
     ensures { RefusesNothing A.Allocator allocator.old allocator.new }
 {
-    give_back_apart(allocator, apart);
+    deallocate_rows(allocator, apart);
     let Listed { rows } = listed;
-    give_back_list(allocator, rows);
+    deallocate_list(allocator, rows);
 }
 
 /// Appends `segment`, with none of its words allocated. If there is no memory for its row, returns
 /// the segment to the allocator and refuses with `AllocationFailed`. The first row needs no memory.
 #[tactic(auto, using(crate::proofs::TakingLemmas::pushed, crate::proofs::BoundsLemmas::bounded_pushed))]
-fn put_behind<A: Allocator>(
+fn push_to_rows<A: Allocator>(
     allocator: &mut A,
     rows: &mut Rows<A::Segment>,
     segment: A::Segment,
@@ -139,7 +143,7 @@ fn put_behind<A: Allocator>(
     ensures counted { CountsRefusal A.Allocator allocator.old allocator.new result }
 {
     if !rows.there {
-        rows.put_first(segment);
+        rows.push_first(segment);
         return Ok(());
     }
     match allocator.keep(&mut rows.others, Row::new(segment)) {
@@ -151,9 +155,9 @@ fn put_behind<A: Allocator>(
     }
 }
 
-/// Like `put_behind`, for an arena with all rows in a list: the first row needs memory, too.
+/// Like `push_to_rows`, for an arena with all rows in a list: the first row needs memory, too.
 #[tactic(auto, using(crate::proofs::TakingLemmas::pushed, crate::proofs::BoundsLemmas::bounded_pushed))]
-fn put_in_list<A: Allocator>(
+fn push_to_list<A: Allocator>(
     allocator: &mut A,
     list: &mut Listed<A::Segment>,
     segment: A::Segment,
@@ -176,7 +180,7 @@ fn put_in_list<A: Allocator>(
 
 /// Appends the allocated words of each row to `segments`, in order. Fails with `AllocationFailed`
 /// if memory runs out.
-fn put_allocated<'a, S: Segment>(
+fn push_allocated<'a, S: Segment>(
     segments: &mut Vec<&'a [u8]>,
     rows: &'a [Row<S>],
 ) -> Result<(), ErrorKind>
@@ -193,7 +197,7 @@ fn put_allocated<'a, S: Segment>(
 }
 
 /// The allocated words of each row, in order. Fails with `AllocationFailed` if memory runs out.
-fn allocated_of_each<S: Segment>(alloc: Global, rows: &Rows<S>) -> Result<Vec<&[u8]>, ErrorKind>
+fn allocated_of_rows<S: Segment>(alloc: Global, rows: &Rows<S>) -> Result<Vec<&[u8]>, ErrorKind>
     ensures bytes { IfOk result
         (λ v. map (λ s. s.now) v.items ≡ shown S.Segment (all S.Segment rows.now)) }
     ensures named { IfErr result (λ e. e ≡ AllocationFailed) }
@@ -206,7 +210,7 @@ fn allocated_of_each<S: Segment>(alloc: Global, rows: &Rows<S>) -> Result<Vec<&[
         if segments.push(rows.first.allocated()).is_err() {
             return Err(ErrorKind::AllocationFailed);
         }
-        put_allocated(&mut segments, &rows.others)?;
+        push_allocated(&mut segments, &rows.others)?;
     }
     Ok(segments)
 }
@@ -222,12 +226,15 @@ fn allocated_of_list<S: Segment>(alloc: Global, list: &Listed<S>) -> Result<Vec<
         Ok(segments) => segments,
         Err(_) => return Err(ErrorKind::AllocationFailed),
     };
-    put_allocated(&mut segments, &list.rows)?;
+    push_allocated(&mut segments, &list.rows)?;
     Ok(segments)
 }
 
 /// The output segments of an arena that stores its first row outside of the list.
-fn output_apart<S: Segment>(alloc: Global, rows: &Rows<S>) -> Result<OutputSegments<'_>, ErrorKind>
+fn output_of_rows<S: Segment>(
+    alloc: Global,
+    rows: &Rows<S>,
+) -> Result<OutputSegments<'_>, ErrorKind>
     ensures bytes { IfOk result
         (λ o. output_bytes o ≡ shown S.Segment (all S.Segment rows.now)) }
     ensures small { IfOk result (λ o. IsSmall (output_bytes o)) }
@@ -239,7 +246,7 @@ fn output_apart<S: Segment>(alloc: Global, rows: &Rows<S>) -> Result<OutputSegme
     if rows.len() == 1 {
         return Ok(OutputSegments::SingleSegment(rows.first.allocated()));
     }
-    let segments = allocated_of_each(alloc, rows)?;
+    let segments = allocated_of_rows(alloc, rows)?;
     Ok(OutputSegments::MultiSegment(segments))
 }
 
@@ -263,7 +270,7 @@ fn output_of_list<S: Segment>(
 }
 
 /// The number of allocated words in all of `rows` together.
-fn used_in<S: Segment>(rows: &[Row<S>]) -> usize
+fn allocated_words_in<S: Segment>(rows: &[Row<S>]) -> usize
     requires { length rows.now ≤ max_segments }
     ensures words { result ≡ total_words (shown S.Segment rows.now) }
     ensures bounded { result ≤ max_segment_words * length rows.now }
@@ -276,11 +283,11 @@ fn used_in<S: Segment>(rows: &[Row<S>]) -> usize
 }
 
 /// The number of allocated words in an arena that stores its first row outside of the list.
-fn used_apart<S: Segment>(rows: &Rows<S>) -> usize
+fn allocated_words_of_rows<S: Segment>(rows: &Rows<S>) -> usize
     ensures { result ≡ total_words (shown S.Segment (all S.Segment rows.now)) }
 {
     if rows.there {
-        rows.first.used as usize + used_in(&rows.others)
+        rows.first.used as usize + allocated_words_in(&rows.others)
     } else {
         0
     }
@@ -294,7 +301,7 @@ impl<A: Allocator> Drop for BuilderArenaImpl<A> {
             listed,
             apart,
         } = self;
-        give_back(&mut allocator, listed, apart);
+        deallocate_all(&mut allocator, listed, apart);
     }
 }
 
@@ -349,7 +356,7 @@ impl<A: Allocator> BuilderArenaImpl<A> {
             listed,
             apart,
         } = self;
-        give_back(&mut allocator, listed, apart);
+        deallocate_all(&mut allocator, listed, apart);
         allocator
     }
 
@@ -390,7 +397,7 @@ impl<A: Allocator> BuilderArenaImpl<A> {
     /// `keeps_first_in_arena` of the allocator is `true`, the first row needs no memory.
     #[inline(always)]
     #[tactic(auto, using(crate::proofs::KeptLemmas::keeping))]
-    fn put_last(&mut self, segment: A::Segment) -> Result<(), ErrorKind>
+    fn push_segment(&mut self, segment: A::Segment) -> Result<(), ErrorKind>
         requires few { length (⟦<Self as ReaderArena>⟧.segments self.old) < max_segments }
         requires fresh { IsFresh 0 (A.Segment.content segment) }
         ensures put { OnOk result (GainsRow A.Segment.Segment
@@ -405,9 +412,9 @@ impl<A: Allocator> BuilderArenaImpl<A> {
         ensures counted { CountsRefusal A.Allocator self.old.allocator self.new.allocator result }
     {
         if A::keeps_first_in_arena() {
-            put_behind(&mut self.allocator, &mut self.apart, segment)
+            push_to_rows(&mut self.allocator, &mut self.apart, segment)
         } else {
-            put_in_list(&mut self.allocator, &mut self.listed, segment)
+            push_to_list(&mut self.allocator, &mut self.listed, segment)
         }
     }
 
@@ -456,7 +463,7 @@ impl<A: Allocator> BuilderArenaImpl<A> {
             return Err(ErrorKind::MessageTooLarge(usize::MAX));
         }
         let segment = self.allocator.allocate_segment(min)?;
-        self.put_last(segment)
+        self.push_segment(segment)
     }
 
     /// The allocated words of each segment, for writing the message out. They meet the precondition
@@ -474,7 +481,7 @@ impl<A: Allocator> BuilderArenaImpl<A> {
         ensures named { IfErr result (λ e. e ≡ AllocationFailed) }
     {
         if A::keeps_first_in_arena() {
-            output_apart(self.alloc, &self.apart)
+            output_of_rows(self.alloc, &self.apart)
         } else {
             output_of_list(self.alloc, &self.listed)
         }
@@ -518,7 +525,7 @@ impl<A: Allocator> BuilderArenaImpl<A> {
     /// Allocates `amount` words after the allocated ones of segment `id`, and returns their
     /// position. Precondition: the segment has room for them.
     #[tactic(auto, using(crate::proofs::KeptLemmas::keeping))]
-    fn take(&mut self, id: u32, amount: u32) -> u32
+    fn allocate_fitting(&mut self, id: u32, amount: u32) -> u32
         requires there { id < length (⟦<Self as ReaderArena>⟧.segments self.old) }
         requires fits { length (segment (⟦<Self as BuilderArena>⟧.view self.old).words id) + amount
             ≤ (⟦<Self as BuilderArena>⟧.view self.old).room id }
@@ -528,22 +535,22 @@ impl<A: Allocator> BuilderArenaImpl<A> {
         ensures small { result + amount < 2 ^ 29 }
     {
         if A::keeps_first_in_arena() {
-            self.apart.take(id, amount)
+            self.apart.allocate_fitting(id, amount)
         } else {
-            self.listed.take(id, amount)
+            self.listed.allocate_fitting(id, amount)
         }
     }
 
     /// Appends a segment of at least `amount` words, allocates `amount` words in it, and returns
     /// the segment's number. Refuses like `allocate_segment` for `amount` words.
-    fn take_another(&mut self, amount: u32) -> Result<u32, ErrorKind>
+    fn allocate_in_new_segment(&mut self, amount: u32) -> Result<u32, ErrorKind>
         ensures { TakesAnother (⟦<Self as BuilderArena>⟧.view self.old)
             (⟦<Self as BuilderArena>⟧.view self.new) amount result }
     {
         let id = self.len();
         self.allocate_segment(amount)?;
         let id = id as u32;
-        let _at = self.take(id, amount);
+        let _at = self.allocate_fitting(id, amount);
         Ok(id)
     }
 }
@@ -610,9 +617,9 @@ impl<A: Allocator> ReaderArena for BuilderArenaImpl<A> {
     #[tactic(auto, using(crate::proofs::KeptLemmas::keeping))]
     fn size_in_words(&self) -> usize {
         if A::keeps_first_in_arena() {
-            used_apart(&self.apart)
+            allocated_words_of_rows(&self.apart)
         } else {
-            used_in(&self.listed.rows)
+            allocated_words_in(&self.listed.rows)
         }
     }
 }
@@ -689,11 +696,11 @@ impl<A: Allocator> BuilderArena for BuilderArenaImpl<A> {
     fn allocate_anywhere(&mut self, amount: u32) -> Result<(SegmentId, u32), ErrorKind> {
         match self.first_fit(amount) {
             Some(id) => {
-                let at = self.take(id, amount);
+                let at = self.allocate_fitting(id, amount);
                 Ok((id, at))
             }
             None => {
-                let id = self.take_another(amount)?;
+                let id = self.allocate_in_new_segment(amount)?;
                 Ok((id, 0))
             }
         }

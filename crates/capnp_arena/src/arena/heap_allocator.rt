@@ -2,7 +2,7 @@
 ghost use Rattle.std.specs.Prelude.{◌≡◌, ◌≤◌, ◌==◌, max};
 ghost use Rattle.capnp_arena_traits.specs.Allocations.{max_segment_words};
 
-use crate::arena::{Allocator, MAX_SEGMENT_WORDS, Segment, keep_in};
+use crate::arena::{Allocator, MAX_SEGMENT_WORDS, Segment, push_or_count_refusal};
 use capnp_words::error::ErrorKind;
 use std::alloc::Global;
 
@@ -108,7 +108,7 @@ impl Allocator for HeapAllocator {
     }
 
     fn keep<T>(&mut self, list: &mut Vec<T>, row: T) -> Option<T> {
-        keep_in(list, row, &mut self.refused)
+        push_or_count_refusal(list, row, &mut self.refused)
     }
 
     fn refused(&self) -> u64 {

@@ -58,7 +58,7 @@ impl<S: Segment> Listed<S> {
     /// Precondition: the row has room for them.
     #[inline(always)]
     #[tactic(auto, using(crate::proofs::RowsLemmas::rows_written))]
-    pub(crate) fn take(&mut self, id: u32, amount: u32) -> u32
+    pub(crate) fn allocate_fitting(&mut self, id: u32, amount: u32) -> u32
         requires there { id < length self.old.rows.items }
         requires fits { length (segment (message (shown S.Segment self.old.rows.items)) id)
             + amount ≤ capacity_at S.Segment self.old.rows.items id }
@@ -68,7 +68,7 @@ impl<S: Segment> Listed<S> {
             (extended (message (shown S.Segment self.old.rows.items)) id (replicate amount 0)) }
     {
         let row = &mut self.rows[id as usize];
-        row.take(amount)
+        row.allocate_fitting(amount)
     }
 
     /// Allocates `amount` words after the allocated ones of row `id`, and returns their position;
@@ -90,7 +90,7 @@ impl<S: Segment> Listed<S> {
             ≡ capacity_at S.Segment self.old.rows.items }
     {
         if self.has_room(id, amount) {
-            Some(self.take(id, amount))
+            Some(self.allocate_fitting(id, amount))
         } else {
             None
         }

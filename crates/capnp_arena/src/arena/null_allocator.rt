@@ -1,7 +1,7 @@
 //! An allocator that grants no segment.
 ghost use Rattle.std.specs.Prelude.{◌≡◌, false};
 
-use crate::arena::{Allocator, MAX_SEGMENT_WORDS, keep_in};
+use crate::arena::{Allocator, MAX_SEGMENT_WORDS, push_or_count_refusal};
 use capnp_words::error::ErrorKind;
 use std::marker::PhantomData;
 
@@ -59,7 +59,7 @@ impl<A: Allocator> Allocator for NullAllocator<A> {
     }
 
     fn keep<T>(&mut self, list: &mut Vec<T>, row: T) -> Option<T> {
-        keep_in(list, row, &mut self.refused)
+        push_or_count_refusal(list, row, &mut self.refused)
     }
 
     fn refused(&self) -> u64 {

@@ -9,7 +9,7 @@ use crate::arena::{MAX_SEGMENT_WORDS, Segment};
 use capnp_words::words;
 
 /// Lends the first `n` bytes of `segment` for writing, and leaves the others unchanged.
-fn front_of<S: Segment>(segment: &mut S, n: usize) -> &mut [u8]
+fn prefix_mut<S: Segment>(segment: &mut S, n: usize) -> &mut [u8]
     requires { n ≤ length (S.ready segment.old) }
     ensures* lends { sem 𝓛 (Lends S.row (Array byte 0) segment.entry result
         (λ ws. S.with_ready segment.old (with_front n (S.ready segment.old) ws))) }
@@ -48,7 +48,7 @@ impl<S: Segment> Row<S> {
         ensures now { result.now ≡ allocated S.Segment self.old }
     {
         let n = 8 * self.used as usize;
-        front_of(&mut self.segment, n)
+        prefix_mut(&mut self.segment, n)
     }
 
     #[tactic(auto, using(crate::proofs::RowLemmas::fresh_rows))]
@@ -84,7 +84,7 @@ impl<S: Segment> Row<S> {
     /// Allocates `amount` words after the allocated ones, and returns their position. The new words
     /// are zero. Precondition: the segment has room for them.
     #[tactic(auto, using(crate::proofs::RowLemmas::taking))]
-    pub(crate) fn take(&mut self, amount: u32) -> u32
+    pub(crate) fn allocate_fitting(&mut self, amount: u32) -> u32
         requires { self.old.used + amount ≤ capacity S.Segment self.old }
         ensures at { result ≡ self.old.used }
         ensures taken { words_of (allocated S.Segment self.new)
@@ -116,7 +116,7 @@ impl<S: Segment> Row<S> {
             (with_copied (words_of (allocated S.Segment self.old)) at
             (words_of (allocated S.Segment row.now)) from n) }
     {
-        let copied = words::part(row.allocated(), from as usize, n as usize);
+        let copied = words::word_range(row.allocated(), from as usize, n as usize);
         words::copy_words(self.allocated_mut(), at as usize, copied);
     }
 }

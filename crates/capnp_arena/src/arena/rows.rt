@@ -25,7 +25,7 @@ use std::mem::replace;
 #[cold]
 #[inline(never)]
 #[tactic(auto, using(crate::proofs::RowsLemmas::rows_written))]
-fn take_in<S: Segment>(rows: &mut [Row<S>], id: usize, amount: u32) -> u32
+fn allocate_fitting_in<S: Segment>(rows: &mut [Row<S>], id: usize, amount: u32) -> u32
     requires there { id < length rows.old }
     requires fits { length (segment (message (shown S.Segment rows.old)) id) + amount
         ≤ capacity_at S.Segment rows.old id }
@@ -34,7 +34,7 @@ fn take_in<S: Segment>(rows: &mut [Row<S>], id: usize, amount: u32) -> u32
         (extended (message (shown S.Segment rows.old)) id (replicate amount 0)) }
 {
     let row = &mut rows[id];
-    row.take(amount)
+    row.allocate_fitting(amount)
 }
 
 /// Allocates `amount` words after the allocated ones of row `id`, and returns their position;
@@ -55,7 +55,7 @@ fn allocate_in<S: Segment>(rows: &mut [Row<S>], id: usize, amount: u32) -> Optio
     ensures kept { KeepsList S.Segment rows.old rows.new }
 {
     if rows[id].has_room(amount) {
-        Some(take_in(rows, id, amount))
+        Some(allocate_fitting_in(rows, id, amount))
     } else {
         None
     }
@@ -173,7 +173,7 @@ impl<S: Segment> Rows<S> {
     /// Precondition: the row has room for them.
     #[inline(always)]
     #[tactic(auto, using(crate::proofs::ListedLemmas::listing))]
-    pub(crate) fn take(&mut self, id: u32, amount: u32) -> u32
+    pub(crate) fn allocate_fitting(&mut self, id: u32, amount: u32) -> u32
         requires there { id < length (all S.Segment self.old) }
         requires fits { length (segment (message (shown S.Segment (all S.Segment self.old))) id)
             + amount ≤ capacity_at S.Segment (all S.Segment self.old) id }
@@ -184,9 +184,9 @@ impl<S: Segment> Rows<S> {
             (replicate amount 0)) }
     {
         if id == 0 {
-            self.first.take(amount)
+            self.first.allocate_fitting(amount)
         } else {
-            take_in(&mut self.others, id as usize - 1, amount)
+            allocate_fitting_in(&mut self.others, id as usize - 1, amount)
         }
     }
 
@@ -211,7 +211,7 @@ impl<S: Segment> Rows<S> {
     {
         if id == 0 {
             if self.first.has_room(amount) {
-                Some(self.first.take(amount))
+                Some(self.first.allocate_fitting(amount))
             } else {
                 None
             }
@@ -339,7 +339,7 @@ impl<S: Segment> Rows<S> {
             if self.first.has_room(amount) {
                 return Some(0);
             }
-            match bounds::first_by_bounds(&mut self.others, amount) {
+            match bounds::first_fit_by_bounds(&mut self.others, amount) {
                 Some(k) => Some(k + 1),
                 None => None,
             }
@@ -354,7 +354,7 @@ impl<S: Segment + Drop> Rows<S> {
 
     /// Adds the first row, for `segment`, with none of its words allocated. Precondition: there are
     /// no rows yet.
-    pub(crate) fn put_first(&mut self, segment: S)
+    pub(crate) fn push_first(&mut self, segment: S)
         requires none { length (all S.Segment self.old) ≡ 0 }
         requires fresh { IsFresh 0 (S.Segment.content segment) }
         ensures { GainsRow S.Segment (all S.Segment self.old) (all S.Segment self.new) segment }

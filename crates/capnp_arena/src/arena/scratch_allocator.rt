@@ -131,7 +131,7 @@ impl<'a> ZeroBytes<'a> {
 
     /// Zeroes the first `used` words of `bytes`, and wraps `bytes`. Precondition: all bytes after
     /// these words are zero.
-    fn again(bytes: &'a mut [u8], used: u32) -> Self
+    fn rezeroed(bytes: &'a mut [u8], used: u32) -> Self
         requires within { 8 * used ≤ length bytes.old }
         requires clear { IsClearFrom used bytes.old }
         ensures { result ≡ length bytes.old }
@@ -237,7 +237,7 @@ impl<'a> ScratchSpaceHeapAllocator<'a> {
     /// If `bytes` has as many bytes as the scratch space's segment, takes `bytes` back as the
     /// scratch space, and zeroes its first `used_words` words; otherwise does nothing.
     /// Precondition: all bytes after these words are zero.
-    fn take_back(&mut self, bytes: &'a mut [u8], used_words: u32)
+    fn reclaim(&mut self, bytes: &'a mut [u8], used_words: u32)
         requires within { 8 * used_words ≤ length bytes.old }
         requires clear { IsClearFrom used_words bytes.old }
         ensures back { length bytes.old ≡ 8 * self.old.scratch_words → IsTrue self.new.here }
@@ -246,7 +246,7 @@ impl<'a> ScratchSpaceHeapAllocator<'a> {
         ensures heap { self.new.heap ≡ self.old.heap }
     {
         if bytes.len() == 8 * self.scratch_words as usize {
-            self.scratch = Some(ZeroBytes::again(bytes, used_words));
+            self.scratch = Some(ZeroBytes::rezeroed(bytes, used_words));
         }
     }
 }
@@ -318,7 +318,7 @@ impl<'a> Allocator for ScratchSpaceHeapAllocator<'a> {
         ensures stays { IsTrue self.old.here → IsTrue self.new.here }
     {
         match segment {
-            ScratchSegment::Borrowed(bytes) => self.take_back(bytes, used_words),
+            ScratchSegment::Borrowed(bytes) => self.reclaim(bytes, used_words),
             ScratchSegment::Owned(segment) => self.heap.deallocate_segment(segment, used_words),
         }
     }

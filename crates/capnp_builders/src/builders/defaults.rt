@@ -12,7 +12,7 @@ ghost use Rattle.capnp_builders.specs.Defaults.{DropsDefault, PutsDefault, PutsD
 use crate::copy;
 use capnp_arena_traits::arena::{BuilderArena, WordPlace};
 use capnp_copies::form::{CopyForm, Destination};
-use capnp_making::landing::word_of;
+use capnp_making::landing::pointer_word;
 use capnp_readers::readers::PointerReader;
 use capnp_words::error::ErrorKind;
 use capnp_words::read_limiter::ReadLimiter;
@@ -79,7 +79,7 @@ pub(crate) fn put_default<A: BuilderArena>(
     let Some(bytes) = default else {
         return Ok(());
     };
-    if !word_of(arena, id, at).is_null() {
+    if !pointer_word(arena, id, at).is_null() {
         return Ok(());
     }
     if bytes.len() < 8 {
@@ -104,14 +104,14 @@ pub(crate) fn put_blob_default<A: BuilderArena>(
     ensures { PutsDefaultBy (blob_default default.entry)
         (call_at id at (A.view arena.old) (A.view arena.new)) result }
 {
-    if has_null_word(default) && word_of(arena, id, at).is_null() {
+    if starts_with_null(default) && pointer_word(arena, id, at).is_null() {
         return Err(ErrorKind::ExistingPointerIsNotAList);
     }
     put_default(arena, id, at, default)
 }
 
 /// Whether there is a default whose first word is null.
-fn has_null_word(default: Option<&[u8]>) -> bool
+fn starts_with_null(default: Option<&[u8]>) -> bool
     ensures { IsTrue result
         ↔ IsSomeAnd default.entry (λ d. slice_get (words_of d.now) 0 ≡ Some 0) }
 {

@@ -21,7 +21,7 @@ ghost use Rattle.capnp_builders.specs.Places.{IsAligned};
 
 use super::PointerBuilder;
 use super::defaults::{put_blob_default, put_default};
-use super::found::{found_bytes, found_list, look_for_list};
+use super::found::{find_list, found_bytes, found_list};
 use super::list_builder::ListBuilder;
 use super::places::struct_place;
 use super::struct_builder::StructBuilder;
@@ -230,7 +230,7 @@ impl<'a, A: BuilderArena> PointerBuilder<'a, A> {
         ensures stays { StaysThere A.view self.old self.new }
     {
         put_default(&mut *self.arena, self.segment, self.at, default)?;
-        look_for_list(&*self.arena, self.segment, self.at, size)
+        find_list(&*self.arena, self.segment, self.at, size)
     }
 
     /// Returns the list that the pointer leads to, for writing. Never changes the list, and refuses

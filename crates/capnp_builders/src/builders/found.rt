@@ -37,7 +37,7 @@ pub(crate) fn found_list(segment: u32, found: Option<ExistingList>) -> ListPlace
 /// Returns the place of the list that the pointer at `at` of segment `id` leads to; for a null
 /// pointer, that of a list of void without elements. Refuses anything but a list, and a list whose
 /// elements are narrower than `size`. Changes nothing.
-pub(crate) fn look_for_list<A: BuilderArena>(
+pub(crate) fn find_list<A: BuilderArena>(
     arena: &A,
     id: u32,
     at: u32,

@@ -75,7 +75,7 @@ pub fn element_place(list: ListPlace, index: u32) -> StructPlace
 /// Returns the position, in words, of element `index` of `list` if it is a pointer, or of its first
 /// pointer if it is a struct.
 #[tactic(auto, using(capnp_readers::proofs::Sections::elements))]
-fn element_pointer(list: ListPlace, index: u32) -> u32
+fn element_pointer_position(list: ListPlace, index: u32) -> u32
     requires range { index < list.count }
     requires pointers { HoldsPointer list.size list.struct_size }
     requires inside { list.byte / 8 + elements_words list.size list.count
@@ -230,7 +230,7 @@ impl<'a, A: BuilderArena> ListBuilder<'a, A> {
         PointerBuilder {
             arena,
             segment: place.segment,
-            at: element_pointer(place, index),
+            at: element_pointer_position(place, index),
         }
     }
 

@@ -9,7 +9,9 @@ ghost use Rattle.capnp_copies.specs.Originals.{FitsListPointer};
 ghost use Rattle.capnp_making.specs.Makes.{call_at};
 
 use capnp_arena_traits::arena::{BuilderArena, ReaderArena, WordPlace};
-use capnp_copies::copy::{clear_refused, copy_flat, copy_pointers, copy_structs};
+use capnp_copies::copy::{
+    clear_if_refused, copy_pointer_list, copy_primitive_list, copy_struct_list,
+};
 use capnp_copies::form::{CopyForm, Destination};
 use capnp_copies::widths::StructList;
 use capnp_objects::pointers::Pointer;
@@ -59,14 +61,14 @@ pub fn copy_list<A: BuilderArena, B: ReaderArena>(
     match value.element_size {
         ElementSize::InlineComposite => {
             let size = value.struct_size;
-            let copied = copy_structs(arena, list, first, StructList { count, size }, lim);
-            clear_refused(arena, to, copied)
+            let copied = copy_struct_list(arena, list, first, StructList { count, size }, lim);
+            clear_if_refused(arena, to, copied)
         }
         ElementSize::Pointer => {
-            let copied = copy_pointers(arena, list, first, count, lim);
-            clear_refused(arena, to, copied)
+            let copied = copy_pointer_list(arena, list, first, count, lim);
+            clear_if_refused(arena, to, copied)
         }
-        size => copy_flat(arena, to, size, count, value.content),
+        size => copy_primitive_list(arena, to, size, count, value.content),
     }
 }
 

@@ -10,9 +10,9 @@ ghost use Rattle.capnp_copies.specs.Originals.{kept_count};
 ghost use Rattle.capnp_builders.specs.StructValues.{data_of, struct_read};
 ghost use Rattle.capnp_making.specs.Makes.{call_at};
 
-use crate::section::{kept_words, put_section};
+use crate::section::{kept_words, write_section};
 use capnp_arena_traits::arena::{BuilderArena, ReaderArena, WordPlace};
-use capnp_copies::copy::{clear_refused, copy_children};
+use capnp_copies::copy::{clear_if_refused, copy_children};
 use capnp_copies::form::{CopyForm, Destination};
 use capnp_making::making::make_struct;
 use capnp_objects::pointers::Pointer;
@@ -51,7 +51,7 @@ pub fn copy_struct_value<A: BuilderArena, B: ReaderArena>(
     let kept = kept_sections(value, canonicalize)?;
     let start = make_struct(arena, to.segment, to.at, kept)?;
     let data_words = kept.data_words;
-    put_section(arena, start, value.content, value.bits, data_words);
+    write_section(arena, start, value.content, value.bits, data_words);
     let children = Pointer {
         source: value.source,
         place: value.pointers,
@@ -64,7 +64,7 @@ pub fn copy_struct_value<A: BuilderArena, B: ReaderArena>(
     let pointers = u32::from(kept.pointers);
     let form = CopyForm::of(canonicalize);
     let copied = copy_children(arena, Destination { place, form }, children, pointers, lim);
-    clear_refused(arena, to, copied)
+    clear_if_refused(arena, to, copied)
 }
 
 /// The sections of `value` that a copy keeps: in plain form all words, in canonical form the words

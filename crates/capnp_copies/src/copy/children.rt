@@ -9,7 +9,7 @@ ghost use Rattle.capnp_copies.specs.Forms.{form_in};
 ghost use Rattle.capnp_copies.specs.Originals.{value_original};
 ghost use Rattle.capnp_making.specs.Makes.{call_at};
 
-use super::flat::copy_flat;
+use super::flat::copy_primitive_list;
 use super::places::{place_past, pointer_inside, pointer_past};
 use super::structs::copy_struct;
 use crate::form::{CopyForm, Destination};
@@ -18,8 +18,10 @@ use capnp_objects::object::{Place, PointerWord};
 use capnp_objects::pointers::Pointer;
 use capnp_words::error::ErrorKind;
 use capnp_words::read_limiter::ReadLimiter;
-use capnp_words::wire_pointer::{WirePointer, WirePointerKind, flat_words, is_of_bits};
-use capnp_words::words::part;
+use capnp_words::wire_pointer::{
+    WirePointer, WirePointerKind, is_primitive_list, words_for_elements,
+};
+use capnp_words::words::word_range;
 
 /// Copies the values of `count` consecutive pointers, from `from` on, to the `count` null pointers
 /// from `to.place` on.
@@ -40,14 +42,14 @@ pub fn copy_children<A: BuilderArena, B: ReaderArena>(
     if count == 0 {
         return Ok(());
     }
-    copy_row(arena, to.place, from, count, lim, to.form)
+    copy_children_out_of_line(arena, to.place, from, count, lim, to.form)
 }
 
 /// Like `copy_children`, but not inlined, because it is called for each level of structs. Takes the
 /// place and the form of a `Destination` separately, so that they are passed in registers.
 #[cycle(copies)]
 #[inline(never)]
-fn copy_row<A: BuilderArena, B: ReaderArena>(
+fn copy_children_out_of_line<A: BuilderArena, B: ReaderArena>(
     arena: &mut A,
     to: WordPlace,
     from: Pointer<'_, B>,
@@ -62,7 +64,7 @@ fn copy_row<A: BuilderArena, B: ReaderArena>(
         (call_at to.segment to.at (A.view arena.old) (A.view arena.new)) lim.old lim.new) }
 {
     let to = Destination { place: to, form };
-    copy_in_line(arena, to, from, count, lim)
+    copy_children_inline(arena, to, from, count, lim)
 }
 
 /// Like `copy_children`, but inlined into the loops over lists. So a pointer that is null, or leads
@@ -70,7 +72,7 @@ fn copy_row<A: BuilderArena, B: ReaderArena>(
 /// stack of only one more call.
 #[cycle(copies)]
 #[inline(always)]
-pub(crate) fn copy_in_line<A: BuilderArena, B: ReaderArena>(
+pub(crate) fn copy_children_inline<A: BuilderArena, B: ReaderArena>(
     arena: &mut A,
     to: Destination,
     from: Pointer<'_, B>,
@@ -110,8 +112,8 @@ fn copy_child<A: BuilderArena, B: ReaderArena>(
     if word.is_null() {
         return Ok(());
     }
-    if is_list_of_bits(word) {
-        return copy_near_flat(arena, to.place, from, word, lim);
+    if is_near_primitive_list(word) {
+        return copy_near_primitive_list(arena, to.place, from, word, lim);
     }
     if word.kind() == WirePointerKind::Struct {
         copy_near_struct(arena, to, from, word, lim)
@@ -151,7 +153,7 @@ fn copy_near_struct<A: BuilderArena, B: ReaderArena>(
 /// Copies the list of bits or numbers that `from` leads to. The copy is the same in every form.
 /// Precondition: `word` is the word of `from`, and a pointer to a list of bits or numbers.
 #[inline(always)]
-fn copy_near_flat<A: BuilderArena, B: ReaderArena>(
+fn copy_near_primitive_list<A: BuilderArena, B: ReaderArena>(
     arena: &mut A,
     to: WordPlace,
     from: Pointer<'_, B>,
@@ -169,22 +171,22 @@ fn copy_near_flat<A: BuilderArena, B: ReaderArena>(
 {
     let size = word.list_element_size();
     let count = word.list_element_count();
-    let words = flat_words(size, count);
+    let words = words_for_elements(size, count);
     let source = from.source;
     let pointer = PointerWord {
         place: from.place,
         word,
         nesting_limit: from.nesting_limit,
     };
-    let start = source.read_near_flat(pointer, words, lim)?;
-    let elements = part(from.place.bytes, start as usize, words as usize);
-    copy_flat(arena, to, size, count, elements)
+    let start = source.read_near_primitive_list(pointer, words, lim)?;
+    let elements = word_range(from.place.bytes, start as usize, words as usize);
+    copy_primitive_list(arena, to, size, count, elements)
 }
 
 /// Whether `word` is a pointer to a list of bits or numbers, and not a far pointer.
-fn is_list_of_bits(word: WirePointer) -> bool
+fn is_near_primitive_list(word: WirePointer) -> bool
     ensures { IsTrue result
         ↔ (kind word.0 ≡ 1) × (0 < element_size word.0) × (element_size word.0 ≤ 5) }
 {
-    word.kind() == WirePointerKind::List && is_of_bits(word)
+    word.kind() == WirePointerKind::List && is_primitive_list(word)
 }

@@ -12,7 +12,7 @@ ghost use Rattle.capnp_copies.specs.Forms.{form_in};
 ghost use Rattle.capnp_copies.specs.Originals.{elements_original};
 ghost use Rattle.capnp_copies.specs.Widths.{widths_kept, IsAtMost};
 
-use super::children::copy_in_line;
+use super::children::copy_children_inline;
 use crate::form::Destination;
 use crate::widths::ElementSizes;
 use capnp_arena_traits::arena::{BuilderArena, ReaderArena, WordPlace, copy_words};
@@ -20,7 +20,7 @@ use capnp_objects::object::Place;
 use capnp_objects::pointers::Pointer;
 use capnp_words::error::ErrorKind;
 use capnp_words::read_limiter::ReadLimiter;
-use capnp_words::words::{count, part};
+use capnp_words::words::{count, word_range};
 
 /// Copies the elements of a list of structs, which start at `from`, over the zero words from
 /// `to.place` on. Cuts each element to the sections `sizes.kept`.
@@ -64,7 +64,7 @@ pub(crate) fn copy_elements<A: BuilderArena, B: ReaderArena>(
     for i in 0..sizes.count {
         let element = from.place.at + i * source_words;
         let row = to.place.at + i * kept_words;
-        let data = part(from.place.bytes, element as usize, data_words);
+        let data = word_range(from.place.bytes, element as usize, data_words);
         put_words(arena, segment, row, data);
         let children = Pointer {
             source: from.source,
@@ -80,7 +80,7 @@ pub(crate) fn copy_elements<A: BuilderArena, B: ReaderArena>(
             at: row + u32::from(sizes.kept.data_words),
         };
         let form = to.form;
-        copy_in_line(arena, Destination { place, form }, children, pointers, lim)?;
+        copy_children_inline(arena, Destination { place, form }, children, pointers, lim)?;
     }
     Ok(())
 }

@@ -23,7 +23,7 @@ use capnp_words::words;
 /// and makes the pointer at `to` lead to the copy. Refuses only if the arena refuses the words;
 /// then no word changes.
 #[inline(always)]
-pub fn copy_flat<A: BuilderArena>(
+pub fn copy_primitive_list<A: BuilderArena>(
     arena: &mut A,
     to: WordPlace,
     size: ElementSize,

@@ -9,7 +9,7 @@ ghost use Rattle.capnp_copies.specs.Forms.{form_in};
 ghost use Rattle.capnp_copies.specs.Originals.{pointers_original, structs_original};
 ghost use Rattle.capnp_copies.specs.Widths.{widths_kept, IsAtMost};
 
-use super::children::copy_in_line;
+use super::children::copy_children_inline;
 use super::elements::copy_elements;
 use crate::form::{CopyForm, Destination};
 use crate::widths::{ElementSizes, StructList, least_widths};
@@ -24,7 +24,7 @@ use capnp_words::wire_pointer::{ElementSize, StructSize};
 /// null pointer at `to.place` lead to the copy.
 #[cycle(copies)]
 #[inline(always)]
-pub fn copy_pointers<A: BuilderArena, B: ReaderArena>(
+pub fn copy_pointer_list<A: BuilderArena, B: ReaderArena>(
     arena: &mut A,
     to: Destination,
     from: Pointer<'_, B>,
@@ -43,7 +43,7 @@ pub fn copy_pointers<A: BuilderArena, B: ReaderArena>(
         place: start,
         form: to.form,
     };
-    copy_in_line(arena, elements, from, count, lim)
+    copy_children_inline(arena, elements, from, count, lim)
 }
 
 /// Copies the list of structs `list`, whose first element starts at `from`, to the null pointer at
@@ -51,7 +51,7 @@ pub fn copy_pointers<A: BuilderArena, B: ReaderArena>(
 /// each element loses only zero words and null pointers.
 #[cycle(copies)]
 #[inline(always)]
-pub fn copy_structs<A: BuilderArena, B: ReaderArena>(
+pub fn copy_struct_list<A: BuilderArena, B: ReaderArena>(
     arena: &mut A,
     to: Destination,
     from: Pointer<'_, B>,

@@ -11,7 +11,7 @@ use capnp_words::error::ErrorKind;
 /// Ends a copy to the pointer at `to`. If the copy was refused, makes the pointer null, and zeroes
 /// what was made for the copy. Returns `copied`.
 #[inline(always)]
-pub fn clear_refused<A: BuilderArena>(
+pub fn clear_if_refused<A: BuilderArena>(
     arena: &mut A,
     to: WordPlace,
     copied: Result<(), ErrorKind>,

@@ -19,7 +19,7 @@ use capnp_objects::pointers::Pointer;
 use capnp_words::error::ErrorKind;
 use capnp_words::read_limiter::ReadLimiter;
 use capnp_words::wire_pointer::StructSize;
-use capnp_words::words::{part, used_words_in};
+use capnp_words::words::{used_words_in, word_range};
 
 /// Copies the struct whose first word is at `from`, with the sections `size`, to the null pointer
 /// at `to.place`. In canonical form, drops the zeros and null pointers at the ends of the struct's
@@ -45,7 +45,7 @@ pub fn copy_struct<A: BuilderArena, B: ReaderArena>(
     let kept = kept_sections(from, size, form);
     let start = make_struct(arena, to.place.segment, to.place.at, kept)?;
     let data_words = usize::from(kept.data_words);
-    let data = part(from.place.bytes, from.place.at as usize, data_words);
+    let data = word_range(from.place.bytes, from.place.at as usize, data_words);
     put_words(arena, start.segment, start.at, data);
     let children = Pointer {
         source: from.source,

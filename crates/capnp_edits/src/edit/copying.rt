@@ -43,7 +43,7 @@ pub(crate) type SourceReader<'a> = PointerReader<'a, ReaderArenaImpl<SegmentArra
 
 /// Returns the root of another message, and the limiter for reading that message, which is already
 /// charged for the root's word.
-pub(crate) fn open_source<'a>(
+pub(crate) fn read_source_root<'a>(
     source: Source<'a>,
 ) -> Result<(SourceReader<'a>, ReadLimiter), ErrorKind>
     ensures found { IfOk result (λ r. HasRoot source.entry
@@ -73,7 +73,7 @@ pub(crate) fn copy_root<A: BuilderArena>(
         (AtPointer (place_of pointer.old)) → IsOk result }
     ensures same { pointer.new.arena.ghost_name ≡ pointer.old.arena.ghost_name }
 {
-    let (root, mut lim) = open_source(copying.source)?;
+    let (root, mut lim) = read_source_root(copying.source)?;
     match copying.wanted {
         Wanted::Value => pointer.copy_from(root, &mut lim, copying.canonicalize),
         Wanted::Struct => {

@@ -29,7 +29,7 @@ use capnp_words::error::ErrorKind;
 use capnp_words::wire_pointer::{ElementSize, data_bits_per_element};
 
 /// The number of words that the elements of a list take, without its tag.
-fn words_of(list: ExistingList) -> u64
+fn list_words(list: ExistingList) -> u64
     ensures { result ≡ elements_words list.size list.count
         (list.struct_size.data_words + list.struct_size.pointers) }
 {
@@ -42,7 +42,7 @@ fn words_of(list: ExistingList) -> u64
 }
 
 /// The number of bits of data of an element of a list.
-fn bits_of(list: ExistingList) -> u32
+fn element_bits(list: ExistingList) -> u32
     ensures { result ≡ data_bits list.size list.struct_size }
 {
     match list.size {
@@ -68,9 +68,13 @@ fn has_element<A: BuilderArena>(
         → index < list.count → IsTrue result }
 {
     index < list.count
-        && data_bits_per_element(size) <= bits_of(list)
+        && data_bits_per_element(size) <= element_bits(list)
         && arena.get_segment(list.segment).is_ok()
-        && has_words(arena, list.segment, u64::from(list.start) + words_of(list))
+        && has_words(
+            arena,
+            list.segment,
+            u64::from(list.start) + list_words(list),
+        )
 }
 
 /// Writes `value` into the lowest bits of element `index` of `list`: into as many bits as an

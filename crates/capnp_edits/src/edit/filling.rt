@@ -12,7 +12,7 @@ ghost use Rattle.capnp_edits.specs.Edits.{refusal_of, FillsAt, refusals_after};
 ghost use Rattle.capnp_edits.specs.Steps.{FitsAt, IsDoneAt, IsRefusedAt, AllocatesAt};
 
 use crate::edit::Source;
-use crate::edit::copying::open_source;
+use crate::edit::copying::read_source_root;
 use crate::edit::fields::put_field;
 use crate::edit::path::has_words;
 use crate::edit::tasks::StructChange;
@@ -24,7 +24,7 @@ use capnp_readers::readers::StructPlace;
 use capnp_words::error::ErrorKind;
 
 /// Returns where the struct `parent` is; `None` if the struct has no words.
-fn place_in<A: BuilderArena>(arena: &A, parent: ExistingStruct) -> Option<StructPlace>
+fn place_of_struct<A: BuilderArena>(arena: &A, parent: ExistingStruct) -> Option<StructPlace>
     requires { IsStructInside (A.view arena.now).words parent }
     ensures empty { result ≡ None → parent.size.data_words + parent.size.pointers ≡ 0 }
     ensures place { IfSome result (λ place. place ≡ struct_place parent) }
@@ -45,7 +45,7 @@ fn place_in<A: BuilderArena>(arena: &A, parent: ExistingStruct) -> Option<Struct
 /// changes nothing. If the copy of a pointer is refused, the data and the pointers before that one
 /// are copied, and that one and those after it are null. In the contract, `AtElement parent` is the
 /// struct `parent`, whether it is an element of a list or a pointer leads to it.
-pub(crate) fn fill<A: BuilderArena>(
+pub(crate) fn copy_content<A: BuilderArena>(
     arena: &mut A,
     parent: ExistingStruct,
     source: Source<'_>,
@@ -62,9 +62,9 @@ pub(crate) fn fill<A: BuilderArena>(
     ensures fits { FitsAt (A.view arena.old) (InStruct (Content source.entry)) (AtElement parent)
         → IsOk result }
 {
-    let (root, mut lim) = open_source(source)?;
+    let (root, mut lim) = read_source_root(source)?;
     let value = root.get_struct(&mut lim, None)?;
-    match place_in(&*arena, parent) {
+    match place_of_struct(&*arena, parent) {
         Some(place) => {
             let mut builder = StructBuilder { arena, place };
             builder.copy_content_from(&value, &mut lim)
@@ -86,6 +86,6 @@ pub(crate) fn change_struct<A: BuilderArena>(
 {
     match change {
         StructChange::Bits(number) => put_field(arena, parent, number),
-        StructChange::Content(source) => fill(arena, parent, source),
+        StructChange::Content(source) => copy_content(arena, parent, source),
     }
 }

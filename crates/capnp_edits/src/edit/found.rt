@@ -6,14 +6,14 @@ ghost use Rattle.capnp_edits.specs.Tasks.{is_in_range};
 ghost use Rattle.capnp_edits.specs.Edits.{refusal_of};
 ghost use Rattle.capnp_edits.specs.Steps.{IsDoneBy};
 
-use crate::edit::pointer::done;
+use crate::edit::pointer::discard_value;
 use crate::edit::tasks::Sought;
 use capnp_arena::arena::BuilderArena;
 use capnp_builders::builders::PointerBuilder;
 use capnp_words::error::ErrorKind;
 
 /// Looks for `sought` at `pointer`, by the call of `PointerBuilder` that finds such a value.
-pub(crate) fn look<A: BuilderArena>(
+pub(crate) fn find_value<A: BuilderArena>(
     pointer: &mut PointerBuilder<'_, A>,
     sought: Sought,
     default: Option<&[u8]>,
@@ -24,10 +24,10 @@ pub(crate) fn look<A: BuilderArena>(
         (refusal_of result) }
 {
     match sought {
-        Sought::Struct(size) => done(pointer.get_struct_place(size, default)),
-        Sought::List(size) => done(pointer.get_list_place(size, default)),
-        Sought::StructList(size) => done(pointer.get_struct_list_place(size, default)),
-        Sought::Text => done(pointer.get_text_place(default)),
-        Sought::Data => done(pointer.get_data_place(default)),
+        Sought::Struct(size) => discard_value(pointer.get_struct_place(size, default)),
+        Sought::List(size) => discard_value(pointer.get_list_place(size, default)),
+        Sought::StructList(size) => discard_value(pointer.get_struct_list_place(size, default)),
+        Sought::Text => discard_value(pointer.get_text_place(default)),
+        Sought::Data => discard_value(pointer.get_data_place(default)),
     }
 }

@@ -106,7 +106,7 @@ fn step_from<A: BuilderArena>(arena: &A, here: PathEnd, step: Step) -> Option<Pa
 
 /// Where `path` leads from the root pointer; `None` if it leads nowhere. Precondition: the first
 /// segment has at least one word: its first word is the root pointer.
-pub(crate) fn find<A: BuilderArena>(arena: &A, path: &[Step]) -> Option<PathEnd>
+pub(crate) fn follow_path<A: BuilderArena>(arena: &A, path: &[Step]) -> Option<PathEnd>
     requires { IsPlace (A.view arena.now).words 0 0 }
     ensures found { (t : Tree) → IsStored (A.view arena.now).words 0 0 t
         → IsPathFound (A.view arena.now).words (record { segment = 0; word = 0 }) t

@@ -11,7 +11,7 @@ ghost use Rattle.capnp_edits.specs.Steps.{IsDoneAt, IsDoneBy};
 use crate::edit::copying::copy_root;
 use crate::edit::elements::edit_part;
 use crate::edit::filling::change_struct;
-use crate::edit::found::look;
+use crate::edit::found::find_value;
 use crate::edit::tasks::{NewObject, Task};
 use capnp_arena::arena::BuilderArena;
 use capnp_builders::builders::PointerBuilder;
@@ -21,7 +21,7 @@ use capnp_words::error::ErrorKind;
 use capnp_words::wire_pointer::ElementSize;
 
 /// Returns `outcome` without its value.
-pub(crate) fn done<T: Drop>(outcome: Result<T, ErrorKind>) -> Result<(), ErrorKind>
+pub(crate) fn discard_value<T: Drop>(outcome: Result<T, ErrorKind>) -> Result<(), ErrorKind>
     ensures { refusal_of result ≡ refusal_of outcome }
 {
     outcome?;
@@ -29,7 +29,7 @@ pub(crate) fn done<T: Drop>(outcome: Result<T, ErrorKind>) -> Result<(), ErrorKi
 }
 
 /// Makes `pointer` lead to the new object `object`.
-fn make<A: BuilderArena>(
+fn init_object<A: BuilderArena>(
     pointer: &mut PointerBuilder<'_, A>,
     object: NewObject<'_>,
 ) -> Result<(), ErrorKind>
@@ -38,10 +38,15 @@ fn make<A: BuilderArena>(
     ensures { IsDoneBy A.view pointer.old pointer.new (Make object.entry) (refusal_of result) }
 {
     match object {
-        NewObject::ZeroStruct(size) => done(pointer.init_struct_place(size)),
-        NewObject::ZeroList(size, count) => done(pointer.init_list_place(size, count)),
-        NewObject::ZeroStructs(count, size) => done(pointer.init_struct_list_place(count, size)),
-        NewObject::ZeroText(size) => done(pointer.init_list_place(ElementSize::Byte, size + 1)),
+        NewObject::ZeroStruct(size) => discard_value(pointer.init_struct_place(size)),
+        NewObject::ZeroList(size, count) => discard_value(pointer.init_list_place(size, count)),
+        NewObject::ZeroStructs(count, size) => discard_value(pointer.init_struct_list_place(
+            count, size,
+        )),
+        NewObject::ZeroText(size) => discard_value(pointer.init_list_place(
+            ElementSize::Byte,
+            size + 1,
+        )),
         NewObject::Text(bytes) => pointer.set_text(bytes),
         NewObject::Data(bytes) => pointer.set_data(bytes),
     }
@@ -49,7 +54,10 @@ fn make<A: BuilderArena>(
 
 /// Makes `pointer` lead to the capability with the index `capability`; if `capability` is `None`,
 /// makes `pointer` null.
-fn point<A: BuilderArena>(pointer: &mut PointerBuilder<'_, A>, capability: Option<u32>)
+fn set_capability_or_null<A: BuilderArena>(
+    pointer: &mut PointerBuilder<'_, A>,
+    capability: Option<u32>,
+)
     requires { IsThere (built A.view pointer.old) }
     ensures { IsDoneBy A.view pointer.old pointer.new (Point capability) None }
 {
@@ -76,9 +84,9 @@ pub(crate) fn edit_pointer<A: BuilderArena>(
         at: place.word,
     };
     match task {
-        Task::Make(object) => make(&mut pointer, object),
+        Task::Make(object) => init_object(&mut pointer, object),
         Task::Point(capability) => {
-            point(&mut pointer, capability);
+            set_capability_or_null(&mut pointer, capability);
             Ok(())
         }
         Task::InStruct(change) => {
@@ -88,7 +96,7 @@ pub(crate) fn edit_pointer<A: BuilderArena>(
             }
         }
         Task::Write(part) => edit_part(pointer.arena, place, part),
-        Task::Search(sought, default) => look(&mut pointer, sought, default),
+        Task::Search(sought, default) => find_value(&mut pointer, sought, default),
         Task::CopyRoot(copying) => copy_root(&mut pointer, copying),
     }
 }

@@ -141,7 +141,7 @@ fn is_object(object: NewObject<'_>) -> bool
 
 /// Whether there is no default, or it has fewer words than `DEFAULT_LIMIT`; and `sought` isn't a
 /// `List` of structs.
-fn is_search(sought: Sought, default: Option<&[u8]>) -> bool
+fn is_search_in_range(sought: Sought, default: Option<&[u8]>) -> bool
     ensures { result ≡ is_in_range (Search sought default.entry) }
 {
     match sought {
@@ -162,7 +162,7 @@ fn is_in_range(task: Task<'_>) -> bool
         Task::Make(object) => is_object(object),
         Task::InStruct(StructChange::Bits(number)) => is_number(number.size, number.value),
         Task::Write(Part::ListElement(number)) => is_number(number.size, number.value),
-        Task::Search(sought, default) => is_search(sought, default),
+        Task::Search(sought, default) => is_search_in_range(sought, default),
         Task::InStruct(StructChange::Content(_)) => true,
         Task::Write(Part::TextByte(_, _)) | Task::Write(Part::DataByte(_, _)) => true,
         Task::Point(_) | Task::CopyRoot(_) => true,
@@ -170,7 +170,7 @@ fn is_in_range(task: Task<'_>) -> bool
 }
 
 /// The task of copying the value of another message's root.
-fn copy_of(source: Source<'_>, wanted: Wanted, canonicalize: bool) -> Task<'_>
+fn copy_task(source: Source<'_>, wanted: Wanted, canonicalize: bool) -> Task<'_>
     ensures { result ≡ CopyRoot (record {
       source = source.entry;
       wanted = wanted;
@@ -185,7 +185,7 @@ fn copy_of(source: Source<'_>, wanted: Wanted, canonicalize: bool) -> Task<'_>
 }
 
 /// The task of writing a number into a data section.
-fn bits<'a>(size: ElementSize, index: u32, value: u64) -> Task<'a>
+fn field_task<'a>(size: ElementSize, index: u32, value: u64) -> Task<'a>
     ensures { result ≡ InStruct (Bits (record { size = size; index = index; value = value })) }
 {
     Task::InStruct(StructChange::Bits(Number { size, index, value }))
@@ -205,8 +205,8 @@ fn as_task(op: Op<'_>) -> Task<'_>
         Op::SetData(bytes) => Task::Make(NewObject::Data(bytes)),
         Op::SetCapability(index) => Task::Point(Some(index)),
         Op::Clear => Task::Point(None),
-        Op::SetField(size, index, value) => bits(size, index, value),
-        Op::SetBool(index, value) => bits(ElementSize::Bit, index, u64::from(value)),
+        Op::SetField(size, index, value) => field_task(size, index, value),
+        Op::SetBool(index, value) => field_task(ElementSize::Bit, index, u64::from(value)),
         Op::CopyContent(source) => Task::InStruct(StructChange::Content(source)),
         Op::SetElement(size, index, value) => {
             Task::Write(Part::ListElement(Number { size, index, value }))
@@ -218,9 +218,9 @@ fn as_task(op: Op<'_>) -> Task<'_>
         Op::GetStructList(size, default) => Task::Search(Sought::StructList(size), default),
         Op::GetText(default) => Task::Search(Sought::Text, default),
         Op::GetData(default) => Task::Search(Sought::Data, default),
-        Op::CopyFrom(source, canonicalize) => copy_of(source, Wanted::Value, canonicalize),
-        Op::SetStruct(source, canonicalize) => copy_of(source, Wanted::Struct, canonicalize),
-        Op::SetList(source, canonicalize) => copy_of(source, Wanted::List, canonicalize),
+        Op::CopyFrom(source, canonicalize) => copy_task(source, Wanted::Value, canonicalize),
+        Op::SetStruct(source, canonicalize) => copy_task(source, Wanted::Struct, canonicalize),
+        Op::SetList(source, canonicalize) => copy_task(source, Wanted::List, canonicalize),
     }
 }
 

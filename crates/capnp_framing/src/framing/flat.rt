@@ -39,7 +39,7 @@ pub struct FrameSegments<'a> {
 
 /// Computes, from the `count` sizes in `table`, the number of words before every 32nd segment, and
 /// the number of all words.
-fn starts_of(table: &[u8], count: usize) -> ([u64; STARTS], u64)
+fn segment_starts(table: &[u8], count: usize) -> ([u64; STARTS], u64)
     requires inside { 4 * count ≤ length table.now }
     requires few { count ≤ 512 }
     ensures kept { AreStarts count table.now result.0 }
@@ -129,7 +129,7 @@ pub fn read_from_flat_slice(
     if bytes.len() < size {
         return Err(FrameError::Truncated);
     }
-    let (starts, words) = starts_of(&bytes[4..], count);
+    let (starts, words) = segment_starts(&bytes[4..], count);
     if words > max_words {
         return Err(FrameError::MessageTooLong(words));
     }

@@ -44,8 +44,8 @@ pub(super) fn read_up_to<R: Input>(input: &mut R, to: &mut [u8]) -> Result<usize
 
 /// If `to` has no bytes after the first `n`, grows `to` by `more` bytes, or by `PIECE` bytes if
 /// that is fewer. Takes their memory from the heap. If the heap has none, grows `to` like
-/// `make_some_room`.
-pub(super) fn make_room<A: Allocator>(
+/// `grow`.
+pub(super) fn grow_if_full<A: Allocator>(
     allocator: &mut A,
     to: &mut Vec<u8>,
     n: usize,
@@ -63,7 +63,7 @@ pub(super) fn make_room<A: Allocator>(
     }
     match to.resize(n + more.min(PIECE), 0) {
         Ok(()) => Ok(()),
-        Err(AllocError) => make_some_room(allocator, to, n),
+        Err(AllocError) => grow(allocator, to, n),
     }
 }
 
@@ -71,11 +71,7 @@ pub(super) fn make_room<A: Allocator>(
 /// for one byte, refuses with `AllocationFailed`, and the allocator adds 1 to its count `refused`.
 #[cold]
 #[inline(never)]
-fn make_some_room<A: Allocator>(
-    allocator: &mut A,
-    to: &mut Vec<u8>,
-    n: usize,
-) -> Result<(), FrameError>
+fn grow<A: Allocator>(allocator: &mut A, to: &mut Vec<u8>, n: usize) -> Result<(), FrameError>
     requires { n ≤ length to.old.items }
     ensures front { take n to.new.items ≡ take n to.old.items }
     ensures long { length to.old.items ≤ length to.new.items }
@@ -116,7 +112,7 @@ pub(super) fn read_between<R: Input>(
 
 /// Reads into all bytes of `to` from position `start` up to `end`. Refuses with `Truncated` if the
 /// input ends first.
-fn fill_between<R: Input>(
+fn read_exact_between<R: Input>(
     input: &mut R,
     to: &mut [u8],
     start: usize,
@@ -142,7 +138,7 @@ fn fill_between<R: Input>(
 
 /// Reads `size` bytes to the front of `to`, which grows if it has to.
 #[inline(always)]
-fn read_front<A: Allocator, R: Input>(
+fn read_exact_to_front<A: Allocator, R: Input>(
     allocator: &mut A,
     input: &mut R,
     to: &mut Vec<u8>,
@@ -158,9 +154,9 @@ fn read_front<A: Allocator, R: Input>(
 {
     let mut n = 0;
     while n < size {
-        make_room(allocator, to, n, size - n)?;
+        grow_if_full(allocator, to, n, size - n)?;
         let end = size.min(to.len());
-        fill_between(input, to.as_mut_slice(), n, end)?;
+        read_exact_between(input, to.as_mut_slice(), n, end)?;
         n = end;
     }
     Ok(())
@@ -192,7 +188,7 @@ pub(super) fn words_between(table: &[u8], first: usize, end: usize) -> u64
 
 /// Stores in `ends`, for each of the `count` segments with sizes in `table`, the number of words up
 /// to the segment's end. Returns the number of all words.
-fn ends_of<A: Allocator>(
+fn segment_ends<A: Allocator>(
     allocator: &mut A,
     table: &[u8],
     count: usize,
@@ -217,14 +213,17 @@ fn ends_of<A: Allocator>(
 }
 
 /// Does nothing; its contract states that each byte is below 256.
-fn are_bytes(bytes: &[u8])
+fn bytes_are_below_256(bytes: &[u8])
     ensures { (i : ℕ) → slice_index bytes.now i < 256 }
 {}
 
 /// Reads the first four bytes and returns the number of segments that they state; `None` if the
 /// input is at its end.
 #[inline(always)]
-fn read_count<R: Input>(input: &mut R, first: &mut [u8; 4]) -> Result<Option<usize>, FrameError>
+fn read_segment_count<R: Input>(
+    input: &mut R,
+    first: &mut [u8; 4],
+) -> Result<Option<usize>, FrameError>
     requires { R.has_failed input.old ≡ false }
     ensures end { result ≡ Ok None
         → IsAtEnd (R.remaining input.old) × IsAtEnd (R.remaining input.new) }
@@ -243,7 +242,7 @@ fn read_count<R: Input>(input: &mut R, first: &mut [u8; 4]) -> Result<Option<usi
         Ok(_) => return Err(FrameError::Truncated),
         Err(DeviceFault) => return Err(FrameError::ReadFailed),
     }
-    are_bytes(first);
+    bytes_are_below_256(first);
     let told = u64::from(u32::from_le_bytes(*first)) + 1;
     if told > MAX_SEGMENTS as u64 {
         return Err(FrameError::TooManySegments(told));
@@ -293,19 +292,19 @@ pub fn read_into_with<A: Allocator, R: Input>(
 {
     into.count = 0;
     let mut first = [0u8; 4];
-    let count = match read_count(input, &mut first)? {
+    let count = match read_segment_count(input, &mut first)? {
         Some(count) => count,
         None => return Ok(false),
     };
     let size = 4 * count + 4 * ((count + 1) % 2);
-    read_front(allocator, input, &mut into.table, size)?;
-    let words = ends_of(allocator, into.table.as_slice(), count, &mut into.ends)?;
+    read_exact_to_front(allocator, input, &mut into.table, size)?;
+    let words = segment_ends(allocator, into.table.as_slice(), count, &mut into.ends)?;
     if words as u64 > max_words {
         return Err(FrameError::MessageTooLong(words as u64));
     }
-    read_front(allocator, input, &mut into.words, 8 * words)?;
-    are_bytes(into.table.as_slice());
-    are_bytes(into.words.as_slice());
+    read_exact_to_front(allocator, input, &mut into.words, 8 * words)?;
+    bytes_are_below_256(into.table.as_slice());
+    bytes_are_below_256(into.words.as_slice());
     into.count = count;
     Ok(true)
 }

@@ -11,7 +11,7 @@ ghost use Rattle.capnp_framing.specs.declared.framing.frame_error.FrameError.The
 
 use super::frame_error::FrameError;
 use super::owned_segments::OwnedSegments;
-use super::reading::{make_room, read_between};
+use super::reading::{grow_if_full, read_between};
 use crate::devices::{DeviceFault, Input};
 use capnp_arena::arena::{Allocator, HeapAllocator, ReaderSegments};
 
@@ -45,7 +45,7 @@ fn read_to_end<A: Allocator, R: Input>(
     let mut n = 0;
     while n < most {
         let more = (most - n).min(n.max(FIRST_PIECE));
-        make_room(allocator, to, n, more)?;
+        grow_if_full(allocator, to, n, more)?;
         let end = most.min(to.len());
         let came = match read_between(input, to.as_mut_slice(), n, end) {
             Ok(came) => came,
@@ -61,7 +61,7 @@ fn read_to_end<A: Allocator, R: Input>(
 
 /// Appends `bytes` to `list`. If there is no memory for a byte, refuses with `AllocationFailed`,
 /// and the allocator adds 1 to its count `refused`.
-fn keep_bytes<A: Allocator>(
+fn append_bytes<A: Allocator>(
     allocator: &mut A,
     list: &mut Vec<u8>,
     bytes: &[u8],
@@ -79,7 +79,7 @@ fn keep_bytes<A: Allocator>(
 
 /// Replaces the contents of `table` and `ends` by those for a message whose only segment has
 /// `words` words: the segment's size, and the number of words up to its end.
-fn tell_only<A: Allocator>(
+fn set_single_segment<A: Allocator>(
     allocator: &mut A,
     words: u32,
     table: &mut Vec<u8>,
@@ -92,7 +92,7 @@ fn tell_only<A: Allocator>(
 {
     table.clear();
     ends.clear();
-    keep_bytes(allocator, table, words.to_le_bytes().as_slice())?;
+    append_bytes(allocator, table, words.to_le_bytes().as_slice())?;
     if allocator.keep(ends, words as usize).is_some() {
         return Err(FrameError::AllocationFailed);
     }
@@ -140,7 +140,7 @@ pub fn read_segment_into_with<A: Allocator, R: Input>(
     if size % 8 != 0 {
         return Err(FrameError::Truncated);
     }
-    tell_only(
+    set_single_segment(
         allocator,
         (size / 8) as u32,
         &mut into.table,

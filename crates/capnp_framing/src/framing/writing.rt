@@ -14,17 +14,17 @@ use super::MAX_SEGMENTS;
 use super::frame_error::FrameError;
 use crate::devices::{DeviceFault, Output, write_all};
 use capnp_arena::arena::ReaderSegments;
-use capnp_words::words::{count, part};
+use capnp_words::words::{count, word_range};
 
 /// Returns the whole words of segment `id`; no bytes if there is no such segment.
-fn words_in<S: ReaderSegments>(segments: &S, id: u32) -> &[u8]
+fn segment_words<S: ReaderSegments>(segments: &S, id: u32) -> &[u8]
     requires small { IsSmall (S.segments segments.now) }
     ensures words { words_of result.now ≡ segment (message (S.segments segments.now)) id }
     ensures whole { length result.now ≡ 8 * length (words_of result.now) }
     ensures short { length (words_of result.now) < 2 ^ 32 }
 {
     match segments.get_segment(id) {
-        Some(bytes) => part(bytes, 0, count(bytes)),
+        Some(bytes) => word_range(bytes, 0, count(bytes)),
         None => &[],
     }
 }
@@ -39,7 +39,7 @@ fn put_number(to: &mut [u8], at: usize, number: u32)
 
 /// Returns the bytes of `first`, then those of `second`; the lowest byte of each number comes
 /// first.
-fn two_numbers(first: u32, second: u32) -> [u8; 8]
+fn number_pair_bytes(first: u32, second: u32) -> [u8; 8]
     ensures { result ≡ to_le_bytes w32 first ++ to_le_bytes w32 second }
 {
     let mut bytes = [0u8; 8];
@@ -49,11 +49,11 @@ fn two_numbers(first: u32, second: u32) -> [u8; 8]
 }
 
 /// The size of segment `id` in words; 0 if there is no such segment.
-fn length_of<S: ReaderSegments>(segments: &S, id: u32) -> u32
+fn segment_length<S: ReaderSegments>(segments: &S, id: u32) -> u32
     requires small { IsSmall (S.segments segments.now) }
     ensures { result ≡ length (segment (message (S.segments segments.now)) id) }
 {
-    (words_in(segments, id).len() / 8) as u32
+    (segment_words(segments, id).len() / 8) as u32
 }
 
 /// Writes the table of a message: the number of segments minus one, and each segment's size in
@@ -71,12 +71,12 @@ fn write_table<W: Output, S: ReaderSegments>(
         (to_le_bytes w32 (count - 1)
         ++ (lengths (message (S.segments segments.now)) ++ replicate (padding_size count) 0)) }
 {
-    let first = two_numbers(count - 1, length_of(segments, 0));
+    let first = number_pair_bytes(count - 1, segment_length(segments, 0));
     write_all(output, first.as_slice())?;
     for k in 0..count / 2 {
-        let next = two_numbers(
-            length_of(segments, 2 * k + 1),
-            length_of(segments, 2 * k + 2),
+        let next = number_pair_bytes(
+            segment_length(segments, 2 * k + 1),
+            segment_length(segments, 2 * k + 2),
         );
         write_all(output, next.as_slice())?;
     }
@@ -95,7 +95,7 @@ fn write_words<W: Output>(output: &mut W, words: &[u8]) -> Result<(), DeviceFaul
 }
 
 /// Writes the words of all segments, in order.
-fn write_contents<W: Output, S: ReaderSegments>(
+fn write_all_segments<W: Output, S: ReaderSegments>(
     output: &mut W,
     segments: &S,
     count: u32,
@@ -106,7 +106,7 @@ fn write_contents<W: Output, S: ReaderSegments>(
     ensures words { OnOk result (All AreSegmentWords (message (S.segments segments.now))) }
 {
     for i in 0..count {
-        write_words(output, words_in(segments, i))?;
+        write_words(output, segment_words(segments, i))?;
     }
     Ok(())
 }
@@ -139,7 +139,7 @@ pub fn write<W: Output, S: ReaderSegments>(output: &mut W, segments: &S) -> Resu
     if write_table(output, segments, count as u32).is_err() {
         return Err(FrameError::WriteFailed);
     }
-    match write_contents(output, segments, count as u32) {
+    match write_all_segments(output, segments, count as u32) {
         Ok(()) => Ok(()),
         Err(DeviceFault) => Err(FrameError::WriteFailed),
     }

@@ -52,7 +52,7 @@ pub fn read_root<'a, S: ReaderSegments>(
         (message (⟦<ReaderArenaImpl<S> as ReaderArena>⟧.segments arena.now)) lim.old.left) }
     ensures unread { OnErr result (lim.new ≡ lim.old) }
 {
-    Ok(PointerReader::of_pointer(messages::read_root(arena, lim)?))
+    Ok(PointerReader::from_pointer(messages::read_root(arena, lim)?))
 }
 
 /// Makes a canonical copy (encoding specification, "Canonicalization") of the value of `from`: a

@@ -6,7 +6,7 @@ ghost use Rattle.capnp_layout.specs.declared.tool.args.Args.{Args};
 ghost use Rattle.capnp_arena.specs.declared.arena.reader_arena_impl.ReaderOptions.{ReaderOptions};
 
 use capnp_arena::arena::ReaderOptions;
-use capnp_messages::text::{parse_budget, parse_nesting};
+use capnp_messages::text::{parse_nesting_limit, parse_traversal_limit};
 
 /// What the program has to do.
 #[derive(Clone, Copy)]
@@ -43,20 +43,20 @@ pub fn parse_args(args: &[String]) -> Option<Args>
     ensures none { IsNone result → (a : Args) → AreArguments (map string_bytes args.now) a → ⊥ }
 {
     match args {
-        [command] => without_limits(command.as_str()),
+        [command] => command_without_limits(command.as_str()),
         [command, nesting, budget] => {
             let options = ReaderOptions {
-                nesting_limit: parse_nesting(nesting.as_str())?,
-                traversal_limit_in_words: parse_budget(budget.as_str())?,
+                nesting_limit: parse_nesting_limit(nesting.as_str())?,
+                traversal_limit_in_words: parse_traversal_limit(budget.as_str())?,
             };
-            within_limits(command.as_str(), options)
+            command_with_limits(command.as_str(), options)
         }
         _ => None,
     }
 }
 
 /// Returns what a command without limits asks for; `None` if there is no such command.
-fn without_limits(command: &str) -> Option<Args>
+fn command_without_limits(command: &str) -> Option<Args>
     ensures read { IfSome result (IsNamedAlone command.now) }
     ensures none { IsNone result → (a : Args) → IsNamedAlone command.now a → ⊥ }
 {
@@ -70,7 +70,7 @@ fn without_limits(command: &str) -> Option<Args>
 }
 
 /// Returns what a command with limits asks for; `None` if there is no such command.
-fn within_limits(command: &str, options: ReaderOptions) -> Option<Args>
+fn command_with_limits(command: &str, options: ReaderOptions) -> Option<Args>
     ensures read { IfSome result (IsNamed command.now options) }
     ensures none { IsNone result → (a : Args) (limits : ReaderOptions)
         → IsNamed command.now limits a → ⊥ }

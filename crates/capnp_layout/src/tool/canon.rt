@@ -10,7 +10,7 @@ ghost use Rattle.capnp_layout.specs.Answers.{RefusesMessage};
 ghost use Rattle.capnp_layout.specs.Messages.{segments_in};
 
 use super::args::Args;
-use super::limits::within_limits;
+use super::limits::check_limits;
 use super::lines::Message;
 use capnp_arena::arena::{
     Allocator, BuilderArena, BuilderArenaImpl, ReaderArenaImpl, ReaderOptions,
@@ -21,7 +21,7 @@ use std::alloc::Global;
 
 /// Makes a canonical copy of the value of the root of `source`: a message of one segment. A refusal
 /// returns the allocator.
-pub(crate) fn canonical<A: Allocator>(
+pub(crate) fn canonicalize_root<A: Allocator>(
     alloc: Global,
     allocator: A,
     source: Message,
@@ -39,7 +39,7 @@ pub(crate) fn canonical<A: Allocator>(
         (λ e. LacksMemoryOr (A.refusals allocator) (A.refusals e.1) e.0
         (RefusesMessage (segments_in source) (Args.Canon options) e.0)) }
 {
-    match within_limits(&source) {
+    match check_limits(&source) {
         Ok(()) => {
             let arena = ReaderArenaImpl::new(source, options);
             canonicalize(alloc, allocator, &arena, options.traversal_limit_in_words)

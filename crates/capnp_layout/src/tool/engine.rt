@@ -13,10 +13,10 @@ ghost use Rattle.capnp_layout.specs.declared.tool.refusal.Refusal.{Refusal};
 ghost use Rattle.capnp_layout.specs.Runs.{AreLinesOf, TextHasAnswer, IsBadInput, IsForMemoryOr, Responds, uncounted};
 
 use super::args::Args;
-use super::canon::canonical;
+use super::canon::canonicalize_root;
 use super::check::is_canonical;
 use super::framed::{frame, framed_check, unframe};
-use super::frames::write_form;
+use super::frames::write_words_in_form;
 use super::lines::{InputFault, Message, read_lines};
 use super::reading::read_text;
 use super::refusal::Refusal;
@@ -62,7 +62,7 @@ fn read_message<A: Allocator, R: Input>(
 }
 
 /// Returns `outcome` if the text was written, and `WriteFailed` if the output failed.
-pub(super) fn ended(written: Result<(), DeviceFault>, outcome: Outcome) -> Outcome
+pub(super) fn outcome_of(written: Result<(), DeviceFault>, outcome: Outcome) -> Outcome
     ensures written { OnOk written (result ≡ outcome) }
     ensures failed { OnErr written (result ≡ Outcome.WriteFailed) }
 {
@@ -74,7 +74,7 @@ pub(super) fn ended(written: Result<(), DeviceFault>, outcome: Outcome) -> Outco
 
 /// Writes the line `refused NAME`. Returns `Refused` if it is written, and `WriteFailed` if the
 /// output fails.
-pub(super) fn refuse<W: Output>(output: &mut W, refusal: Refusal) -> Outcome
+pub(super) fn answer_refusal<W: Output>(output: &mut W, refusal: Refusal) -> Outcome
     requires { W.has_failed output.old ≡ false }
     ensures either { (result ≡ Outcome.Refused) ⊎ (result ≡ Outcome.WriteFailed) }
     ensures written { result ≡ Outcome.Refused
@@ -82,7 +82,7 @@ pub(super) fn refuse<W: Output>(output: &mut W, refusal: Refusal) -> Outcome
     ensures works { result ≡ Outcome.Refused → W.has_failed output.new ≡ false }
     ensures failed { result ≡ Outcome.WriteFailed → W.has_failed output.new ≡ true }
 {
-    ended(write_refusal(output, refusal), Outcome::Refused)
+    outcome_of(write_refusal(output, refusal), Outcome::Refused)
 }
 
 /// Writes the line of the canonical words of `source`, in a frame or without one, depending on
@@ -104,12 +104,12 @@ fn canon<A: Allocator, W: Output>(
       after = A.refusals result.1;
     }) }
 {
-    match canonical(alloc, allocator, source, options) {
+    match canonicalize_root(alloc, allocator, source, options) {
         Ok(made) => {
-            let written = write_form(output, canonical_bytes(&made), form);
-            (ended(written, Outcome::Done), made.into_allocator())
+            let written = write_words_in_form(output, canonical_bytes(&made), form);
+            (outcome_of(written, Outcome::Done), made.into_allocator())
         }
-        Err((kind, allocator)) => (refuse(output, Refusal::Layout(kind)), allocator),
+        Err((kind, allocator)) => (answer_refusal(output, Refusal::Layout(kind)), allocator),
     }
 }
 
@@ -120,8 +120,8 @@ fn check<W: Output>(source: Message, options: ReaderOptions, output: &mut W) -> 
         (uncounted (segments_in source) (Args.Check options) result) }
 {
     match is_canonical(source, options) {
-        Ok(yes) => ended(write_check(output, yes), Outcome::Done),
-        Err(kind) => refuse(output, Refusal::Layout(kind)),
+        Ok(yes) => outcome_of(write_check(output, yes), Outcome::Done),
+        Err(kind) => answer_refusal(output, Refusal::Layout(kind)),
     }
 }
 
@@ -132,14 +132,14 @@ fn size<W: Output>(source: Message, options: ReaderOptions, output: &mut W) -> O
         (uncounted (segments_in source) (Args.Size options) result) }
 {
     match size_of(source, options) {
-        Ok(size) => ended(write_size(output, size), Outcome::Done),
-        Err(kind) => refuse(output, Refusal::Layout(kind)),
+        Ok(size) => outcome_of(write_size(output, size), Outcome::Done),
+        Err(kind) => answer_refusal(output, Refusal::Layout(kind)),
     }
 }
 
 /// Writes what the command in `args` prints for `lines`, the lines of an input, or the line of the
 /// command's refusal.
-fn respond<A: Allocator, W: Output>(
+fn run_command<A: Allocator, W: Output>(
     alloc: Global,
     allocator: A,
     lines: Message,
@@ -176,7 +176,7 @@ fn respond<A: Allocator, W: Output>(
 ///
 /// - `Canon`: the canonical words of the message's value as lower case hex digits, each word's
 ///   lowest byte first.
-/// - `Check`: `canonical` if the canonical words of a value are at the message's root, otherwise
+/// - `Check`: `canonicalize_root` if the canonical words of a value are at the message's root, otherwise
 ///   `not canonical`.
 /// - `Size`: `words N caps M`, the numbers of words and capabilities that the root leads to,
 ///   without landing pads, in decimal digits.
@@ -223,10 +223,10 @@ pub fn run_with<A: Allocator, R: Input, W: Output>(
 {
     let mut allocator = allocator;
     match read_message(alloc, &mut allocator, input) {
-        Ok(source) => respond(alloc, allocator, source, args, output),
+        Ok(source) => run_command(alloc, allocator, source, args, output),
         Err(InputFault::BadInput) => (Outcome::BadInput, allocator),
         Err(InputFault::NoMemory) => (
-            refuse(output, Refusal::Layout(ErrorKind::AllocationFailed)),
+            answer_refusal(output, Refusal::Layout(ErrorKind::AllocationFailed)),
             allocator,
         ),
     }
@@ -241,7 +241,7 @@ pub fn run_with<A: Allocator, R: Input, W: Output>(
 ///
 /// - `Canon`: the canonical words of the message's value as lower case hex digits, each word's
 ///   lowest byte first ("Canonicalization").
-/// - `Check`: `canonical` if the canonical words of a value are at the root, with the first object
+/// - `Check`: `canonicalize_root` if the canonical words of a value are at the root, with the first object
 ///   right after the root pointer, otherwise `not canonical`. Ignores other segments, and words
 ///   after the canonical ones.
 /// - `Size`: `words N caps M`, the numbers of words and capabilities that the root leads to,

@@ -8,7 +8,7 @@ ghost use Rattle.capnp_layout.specs.Messages.{segments_in};
 ghost use Rattle.capnp_layout.specs.Runs.{Responds, uncounted};
 
 use super::args::Args;
-use super::engine::{Outcome, ended, refuse};
+use super::engine::{Outcome, answer_refusal, outcome_of};
 use super::frames::{write_frame, write_segments};
 use super::lines::Message;
 use super::refusal::Refusal;
@@ -25,7 +25,7 @@ const MAX_FRAME_WORDS: u64 = 8_388_608;
 /// Returns the message in the frame at the start of the only line. Refusals: `NoMessage` if there
 /// is no line or the line is empty; `Frame` if the line doesn't begin with a frame, or this frame
 /// has more words than `MAX_FRAME_WORDS`.
-fn frame_in(lines: &Message) -> Result<FrameSegments<'_>, Refusal>
+fn read_frame(lines: &Message) -> Result<FrameSegments<'_>, Refusal>
     requires { length (segments_in lines.now) ≤ 1 }
     ensures holds { IfOk result (λ f. HoldsFrame (segments_in lines.now)
         (message (⟦<FrameSegments<'static> as ReaderSegments>⟧.segments f))) }
@@ -50,7 +50,7 @@ fn is_canonical_frame(lines: &Message, options: ReaderOptions) -> Result<bool, R
     ensures answered { HasAnswer (segments_in lines.now) (Args.FramedCheck options) → IsOk result }
     ensures refused { IfErr result (WhyRefused (segments_in lines.now) (Args.FramedCheck options)) }
 {
-    let frame = frame_in(lines)?;
+    let frame = read_frame(lines)?;
     let source = ReaderArenaImpl::new(frame, options);
     match check(&source, options.traversal_limit_in_words) {
         Ok(fault) => Ok(fault.is_none()),
@@ -59,7 +59,7 @@ fn is_canonical_frame(lines: &Message, options: ReaderOptions) -> Result<bool, R
 }
 
 /// Returns the number of segments of `source`, or a refusal if `source` can't be framed.
-fn count_of(source: &Message) -> Result<usize, Refusal>
+fn segment_count(source: &Message) -> Result<usize, Refusal>
     ensures small { OnOk result (IsSmall (segments_in source.now)) }
     ensures answered { OnOk result (HasAnswer (segments_in source.now) Args.Frame) }
     ensures refused { IfErr result (WhyRefused (segments_in source.now) Args.Frame) }
@@ -83,9 +83,9 @@ pub(crate) fn frame<W: Output>(source: Message, output: &mut W) -> Outcome
     ensures { Responds W.Output output.old output.new
         (uncounted (segments_in source) Args.Frame result) }
 {
-    match count_of(&source) {
-        Ok(_) => ended(write_frame(output, &source), Outcome::Done),
-        Err(refusal) => refuse(output, refusal),
+    match segment_count(&source) {
+        Ok(_) => outcome_of(write_frame(output, &source), Outcome::Done),
+        Err(refusal) => answer_refusal(output, refusal),
     }
 }
 
@@ -100,9 +100,9 @@ pub(crate) fn unframe<W: Output>(lines: Message, output: &mut W) -> Outcome
     if lines.len() > 1 {
         return Outcome::BadInput;
     }
-    match frame_in(&lines) {
-        Ok(segments) => ended(write_segments(output, &segments), Outcome::Done),
-        Err(refusal) => refuse(output, refusal),
+    match read_frame(&lines) {
+        Ok(segments) => outcome_of(write_segments(output, &segments), Outcome::Done),
+        Err(refusal) => answer_refusal(output, refusal),
     }
 }
 
@@ -122,7 +122,7 @@ pub(crate) fn framed_check<W: Output>(
         return Outcome::BadInput;
     }
     match is_canonical_frame(&lines, options) {
-        Ok(yes) => ended(write_message_check(output, yes), Outcome::Done),
-        Err(refusal) => refuse(output, refusal),
+        Ok(yes) => outcome_of(write_message_check(output, yes), Outcome::Done),
+        Err(refusal) => answer_refusal(output, refusal),
     }
 }

@@ -71,7 +71,7 @@ fn write_padding<W: Output>(output: &mut W, count: u32) -> Result<(), DeviceFaul
 }
 
 /// Writes the words of all segments as hex digits, in order.
-fn write_contents<W: Output, S: ReaderSegments>(
+fn write_all_segments<W: Output, S: ReaderSegments>(
     output: &mut W,
     segments: &S,
 ) -> Result<(), DeviceFault>
@@ -100,13 +100,13 @@ pub(crate) fn write_frame<W: Output, S: ReaderSegments>(
     write_number(output, count - 1)?;
     write_lengths(output, segments)?;
     write_padding(output, count)?;
-    write_contents(output, segments)?;
+    write_all_segments(output, segments)?;
     write_all(output, b"\n")
 }
 
 /// Writes the canonical words in `words` as one line of hex digits: in a frame or without one,
 /// depending on `form`.
-pub(crate) fn write_form<W: Output>(
+pub(crate) fn write_words_in_form<W: Output>(
     output: &mut W,
     words: &[u8],
     form: Form,

@@ -66,7 +66,7 @@ impl ReaderSegments for Message {
 
 /// Appends `bytes` to `list`. Stops with `NoMemory` if `allocator` refuses memory for a byte; the
 /// bytes before that one are then in `list`.
-pub(crate) fn keep_bytes<A: Allocator>(
+pub(crate) fn append_bytes<A: Allocator>(
     allocator: &mut A,
     list: &mut Vec<u8>,
     bytes: &[u8],
@@ -85,7 +85,7 @@ pub(crate) fn keep_bytes<A: Allocator>(
 }
 
 /// Returns the position of the first line feed of `text`; `None` if there is none.
-fn line_feed(text: &[u8]) -> Option<usize>
+fn find_line_feed(text: &[u8]) -> Option<usize>
     ensures { result ≡ position (λ byte. byte == 10) text.now }
 {
     text.iter().position(|byte| *byte == b'\n')
@@ -97,7 +97,7 @@ fn line_feed(text: &[u8]) -> Option<usize>
 fn line_end(text: &[u8]) -> usize
     ensures { result ≡ position_or_len (λ byte. byte == 10) text.now }
 {
-    match line_feed(text) {
+    match find_line_feed(text) {
         Some(n) => n,
         None => text.len(),
     }

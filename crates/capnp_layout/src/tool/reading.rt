@@ -2,7 +2,7 @@
 ghost use Rattle.std.specs.Prelude.{◌≡◌, ◌++◌, false, true, IfOk, IfErr, IfSome};
 ghost use Rattle.capnp_layout.specs.Reading.{CountsRead, WorksUnlessBad};
 
-use super::lines::{InputFault, keep_bytes};
+use super::lines::{InputFault, append_bytes};
 use crate::devices::Input;
 use capnp_arena::arena::Allocator;
 use std::alloc::Global;
@@ -27,7 +27,7 @@ pub(crate) fn read_text<A: Allocator, R: Input>(
     loop {
         match input.read(&mut buffer) {
             Ok(0) => return Ok(text),
-            Ok(n) => keep_bytes(allocator, &mut text, &buffer[..n])?,
+            Ok(n) => append_bytes(allocator, &mut text, &buffer[..n])?,
             Err(_) => return Err(InputFault::BadInput),
         }
     }

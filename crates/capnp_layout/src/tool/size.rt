@@ -7,7 +7,7 @@ ghost use Rattle.capnp_layout.specs.Answers.{RefusesMessage};
 ghost use Rattle.capnp_layout.specs.Messages.{segments_in};
 
 use super::args::Args;
-use super::limits::within_limits;
+use super::limits::check_limits;
 use super::lines::Message;
 use capnp_arena::arena::{ReaderArenaImpl, ReaderOptions};
 use capnp_messages::messages;
@@ -22,7 +22,7 @@ pub(crate) fn size_of(source: Message, options: ReaderOptions) -> Result<Message
         HasSizeOf (message (segments_in source)) options z.word_count z.cap_count) }
     ensures refused { IfErr result (RefusesMessage (segments_in source) (Args.Size options)) }
 {
-    within_limits(&source)?;
+    check_limits(&source)?;
     let arena = ReaderArenaImpl::new(source, options);
     messages::size(&arena, options.traversal_limit_in_words)
 }

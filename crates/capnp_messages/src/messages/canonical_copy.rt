@@ -36,7 +36,7 @@ use capnp_words::read_limiter::ReadLimiter;
 use std::alloc::Global;
 
 /// Whether `kind` says that the room is too small, or that memory ran out.
-fn is_want_of_room(kind: ErrorKind) -> bool
+fn is_lack_of_room(kind: ErrorKind) -> bool
     ensures { result ≡ is_allocation_name kind }
 {
     matches!(
@@ -47,7 +47,7 @@ fn is_want_of_room(kind: ErrorKind) -> bool
 
 /// Copies what `from` leads to in canonical form to the null pointer at `to`. After a refusal the
 /// objects that were made before it stay.
-fn copy_reached<A: BuilderArena, B: ReaderArena>(
+fn canonicalize_to_pointer<A: BuilderArena, B: ReaderArena>(
     arena: &mut A,
     to: WordPlace,
     from: Reached<'_, B>,
@@ -76,7 +76,7 @@ fn copy_reached<A: BuilderArena, B: ReaderArena>(
 /// root, a null pointer. Words that don't fit after the root go into further segments if the
 /// allocator grants any; otherwise the copy is refused. Charges the copy to a new limiter with
 /// `left` words left, and returns this limiter.
-fn copy_root<A: BuilderArena, B: ReaderArena>(
+fn canonicalize_to_root<A: BuilderArena, B: ReaderArena>(
     arena: &mut A,
     from: Reached<'_, B>,
     left: Option<usize>,
@@ -94,13 +94,13 @@ fn copy_root<A: BuilderArena, B: ReaderArena>(
 {
     let mut lim = ReadLimiter::new(left);
     let root = WordPlace { segment: 0, at: 0 };
-    copy_reached(arena, root, from, &mut lim)?;
+    canonicalize_to_pointer(arena, root, from, &mut lim)?;
     Ok(lim)
 }
 
-/// Like `copy_root`, but the copy has to fit in the message's only segment, which has room for at
+/// Like `canonicalize_to_root`, but the copy has to fit in the message's only segment, which has room for at
 /// least `room` words. Refuses with `MessageTooLarge(room)` if the copy doesn't fit.
-fn copy_to_segment<A: Allocator, B: ReaderArena>(
+fn canonicalize_to_segment<A: Allocator, B: ReaderArena>(
     arena: &mut BuilderArenaImpl<A>,
     from: Reached<'_, B>,
     left: Option<usize>,
@@ -116,7 +116,7 @@ fn copy_to_segment<A: Allocator, B: ReaderArena>(
     ensures refused { IfErr result (RefusesEndCopy (end_read B.ReaderArena from.entry) left room) }
 {
     let too_large = ErrorKind::MessageTooLarge(room as usize);
-    match copy_root(arena, from, left) {
+    match canonicalize_to_root(arena, from, left) {
         Ok(after) => {
             if arena.len() == 1 {
                 Ok(after)
@@ -125,7 +125,7 @@ fn copy_to_segment<A: Allocator, B: ReaderArena>(
             }
         }
         Err(kind) => {
-            if is_want_of_room(kind) {
+            if is_lack_of_room(kind) {
                 Err(too_large)
             } else {
                 Err(kind)
@@ -136,7 +136,7 @@ fn copy_to_segment<A: Allocator, B: ReaderArena>(
 
 /// Makes the first segment of `made`, with room for at least `room` words. Allocates the segment's
 /// first word: the root, a null pointer. Precondition: `made` has no segment yet.
-fn make_root<A: Allocator>(made: &mut BuilderArenaImpl<A>, room: u32) -> Result<(), ErrorKind>
+fn allocate_root<A: Allocator>(made: &mut BuilderArenaImpl<A>, room: u32) -> Result<(), ErrorKind>
     requires none { ⟦<BuilderArenaImpl<A> as ReaderArena>⟧.segments made.old ≡ [] }
     requires room { IsSegmentRoom room }
     ensures root { OnOk result ((⟦<BuilderArenaImpl<A> as BuilderArena>⟧.view made.new).words
@@ -192,7 +192,7 @@ fn charge_copy(lim: &mut ReadLimiter, own: ReadLimiter)
 /// Copies what `from` leads to in canonical form into a new message with one segment, for which it
 /// requests `room` words. During the copy, the message has no allocator that could grant another
 /// segment. If refused, returns the allocator, and leaves `lim` unchanged.
-fn copy_to_message<A: Allocator, B: ReaderArena>(
+fn canonicalize_to_message<A: Allocator, B: ReaderArena>(
     alloc: Global,
     allocator: A,
     from: Reached<'_, B>,
@@ -214,11 +214,11 @@ fn copy_to_message<A: Allocator, B: ReaderArena>(
     ensures unread { OnErr result (lim.new ≡ lim.old) }
 {
     let mut made = BuilderArenaImpl::new(alloc, allocator);
-    if let Err(kind) = make_root(&mut made, room) {
+    if let Err(kind) = allocate_root(&mut made, room) {
         return Err((kind, made.into_allocator()));
     }
     let (mut segments, allocator) = made.without_allocator();
-    let copied = copy_to_segment(&mut segments, from, lim.left(), room);
+    let copied = canonicalize_to_segment(&mut segments, from, lim.left(), room);
     let made = segments.with_allocator(allocator);
     match copied {
         Ok(own) => {
@@ -259,7 +259,7 @@ fn next_room(room: u32) -> u32
 }
 
 /// The number of words in the arena of `from`; 0 if `from` has no arena.
-fn words_of_source<B: ReaderArena>(from: &Pointer<'_, B>) -> usize
+fn arena_words<B: ReaderArena>(from: &Pointer<'_, B>) -> usize
     ensures { result ≡ words_read (reading B.ReaderArena from.now) }
 {
     match from.source {
@@ -269,12 +269,12 @@ fn words_of_source<B: ReaderArena>(from: &Pointer<'_, B>) -> usize
 }
 
 /// The number of words in the arena of what `from` leads to; 0 if it has no arena.
-fn words_around<B: ReaderArena>(from: &Reached<'_, B>) -> usize
+fn arena_words_of_reached<B: ReaderArena>(from: &Reached<'_, B>) -> usize
     ensures { result ≡ words_read (end_place (end_read B.ReaderArena from.now)) }
 {
     match from {
-        Reached::Pointer(pointer) => words_of_source(pointer),
-        Reached::Element(element) => words_of_source(&element.first),
+        Reached::Pointer(pointer) => arena_words(pointer),
+        Reached::Element(element) => arena_words(&element.first),
     }
 }
 
@@ -282,7 +282,7 @@ fn words_around<B: ReaderArena>(from: &Reached<'_, B>) -> usize
 /// `room` words, and returns `true`. Returns `false` if the copy doesn't fit the segment, or there
 /// is no memory for the segment. `left` is the number of words that reading may cost. Precondition:
 /// `made` has no segment yet.
-pub(super) fn copy_in_room<A: Allocator, B: ReaderArena>(
+pub(super) fn canonicalize_reached_into<A: Allocator, B: ReaderArena>(
     made: &mut BuilderArenaImpl<A>,
     from: Reached<'_, B>,
     left: Option<usize>,
@@ -303,10 +303,10 @@ pub(super) fn copy_in_room<A: Allocator, B: ReaderArena>(
     ensures refused { IfErr result (λ k. (m : Meter)
         × EndStops (end_read B.ReaderArena from.entry) (unused left) m k) }
 {
-    if make_root(made, room).is_err() {
+    if allocate_root(made, room).is_err() {
         return Ok(false);
     }
-    match copy_to_segment(made, from, left, room) {
+    match canonicalize_to_segment(made, from, left, room) {
         Ok(_) => Ok(true),
         Err(kind) => {
             if is_too_large(kind) {
@@ -319,7 +319,7 @@ pub(super) fn copy_in_room<A: Allocator, B: ReaderArena>(
 }
 
 /// Copies what `from` leads to like `canonicalize_pointer`.
-pub(super) fn copy_reached_with<A: Allocator, B: ReaderArena>(
+pub(super) fn canonicalize_reached<A: Allocator, B: ReaderArena>(
     alloc: Global,
     allocator: A,
     from: Reached<'_, B>,
@@ -336,10 +336,10 @@ pub(super) fn copy_reached_with<A: Allocator, B: ReaderArena>(
         (RefusesEndCopy (end_read B.ReaderArena from.entry) lim.old.left max_segment_words e.0)) }
     ensures unread { OnErr result (lim.new ≡ lim.old) }
 {
-    let mut room = first_room(words_around(&from));
+    let mut room = first_room(arena_words_of_reached(&from));
     let mut unused = allocator;
     loop {
-        match copy_to_message(alloc, unused, from, lim, room) {
+        match canonicalize_to_message(alloc, unused, from, lim, room) {
             Ok(made) => return Ok(made),
             Err((kind, returned)) => {
                 if room == MAX_SEGMENT_WORDS || !is_too_large(kind) {
@@ -380,5 +380,5 @@ pub fn canonicalize_pointer<A: Allocator, B: ReaderArena>(
         (RefusesCopy (reading B.ReaderArena from.entry) lim.old.left max_segment_words e.0)) }
     ensures unread { OnErr result (lim.new ≡ lim.old) }
 {
-    copy_reached_with(alloc, allocator, Reached::Pointer(from), lim)
+    canonicalize_reached(alloc, allocator, Reached::Pointer(from), lim)
 }

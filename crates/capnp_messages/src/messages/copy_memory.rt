@@ -2,7 +2,7 @@
 ghost use Rattle.std.specs.Prelude.{◌≡◌, ◌==◌, ◌≤◌, ◌+◌, length, true, vec_len};
 ghost use Rattle.std.specs.Vec.{vec_capacity};
 
-use capnp_arena::arena::{Allocator, MAX_SEGMENT_WORDS, Segment, keep_in};
+use capnp_arena::arena::{Allocator, MAX_SEGMENT_WORDS, Segment, push_or_count_refusal};
 use capnp_words::error::ErrorKind;
 use std::alloc::{AllocError, Global};
 use std::mem;
@@ -149,7 +149,7 @@ impl Allocator for CopyMemory {
     }
 
     fn keep<T>(&mut self, list: &mut Vec<T>, row: T) -> Option<T> {
-        keep_in(list, row, &mut self.refused)
+        push_or_count_refusal(list, row, &mut self.refused)
     }
 
     fn refused(&self) -> u64 {

@@ -4,7 +4,7 @@ ghost use Rattle.std.specs.Option.{option_map_or};
 ghost use Rattle.capnp_words.specs.declared.error.ErrorKind.TheVariants.{AllocationFailed, MessageTooLarge};
 ghost use Rattle.capnp_arena_traits.specs.Allocations.{IsFresh, max_segment_words, one_more, zeros};
 
-use capnp_arena::arena::{Allocator, MAX_SEGMENT_WORDS, keep_in};
+use capnp_arena::arena::{Allocator, MAX_SEGMENT_WORDS, push_or_count_refusal};
 use capnp_words::error::ErrorKind;
 use std::marker::Model;
 
@@ -140,7 +140,7 @@ impl<'a> Allocator for LentMemory<'a> {
     fn deallocate_segment(&mut self, _segment: &'a mut [u8], _used_words: u32) {}
 
     fn keep<T>(&mut self, list: &mut Vec<T>, row: T) -> Option<T> {
-        keep_in(list, row, &mut self.refused)
+        push_or_count_refusal(list, row, &mut self.refused)
     }
 
     fn refused(&self) -> u64 {

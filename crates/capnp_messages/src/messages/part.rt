@@ -13,7 +13,7 @@ ghost use Rattle.capnp_messages.specs.Messages.{arena_limits};
 ghost use Rattle.capnp_messages.specs.Parts.{PathEnd};
 ghost use Rattle.capnp_messages.specs.Tries.{IsSegmentRoom};
 
-use super::canonical_copy::{copy_in_room, copy_reached_with};
+use super::canonical_copy::{canonicalize_reached, canonicalize_reached_into};
 use super::path::read_part;
 use capnp_arena::arena::{
     Allocator, BuilderArena, BuilderArenaImpl, ReaderArena, ReaderArenaImpl, ReaderSegments,
@@ -56,7 +56,7 @@ pub fn canonicalize_part<A: Allocator, S: ReaderSegments>(
 {
     let mut lim = ReadLimiter::new(traversal_limit_in_words);
     match read_part(source, path, &mut lim) {
-        Ok(part) => copy_reached_with(alloc, allocator, part, &mut lim),
+        Ok(part) => canonicalize_reached(alloc, allocator, part, &mut lim),
         Err(kind) => Err((kind, allocator)),
     }
 }
@@ -96,7 +96,7 @@ pub fn canonicalize_part_into<A: Allocator, S: ReaderSegments>(
 {
     let mut lim = ReadLimiter::new(traversal_limit_in_words);
     let part = read_part(source, path, &mut lim)?;
-    copy_in_room(made, part, lim.left(), room)
+    canonicalize_reached_into(made, part, lim.left(), room)
 }
 
 /// Counts the words and capabilities of the value to which `path` leads from the root pointer of

@@ -57,7 +57,7 @@ impl<'a, A: ReaderArena> Copy for Reached<'a, A> {}
 
 impl<'a, A: ReaderArena> Reached<'a, A> {
     /// The end of a path at the pointer of `run` with this `index`.
-    fn in_run(run: PointerRun<'a, A>, index: u32) -> Result<Self, ErrorKind>
+    fn pointer_in_run(run: PointerRun<'a, A>, index: u32) -> Result<Self, ErrorKind>
         ensures { end_at (pointer_in (reading A.ReaderArena run.entry.first) run.entry.count index)
             ≡ end_result A.ReaderArena result }
     {
@@ -69,7 +69,7 @@ impl<'a, A: ReaderArena> Reached<'a, A> {
 
     /// The element at `index` of the list of structs that `from` leads to, which has `count`
     /// elements from `start` on.
-    fn in_structs(
+    fn element_of_list(
         from: Pointer<'a, A>,
         start: Place<'a>,
         size: StructSize,
@@ -93,7 +93,11 @@ impl<'a, A: ReaderArena> Reached<'a, A> {
 
     /// Where `index` leads from `object`, to which the pointer `from` leads. Refuses with
     /// `NoSuchPlace` if that is nowhere.
-    fn in_object(from: Pointer<'a, A>, object: Object<'a>, index: u32) -> Result<Self, ErrorKind>
+    fn child_of_object(
+        from: Pointer<'a, A>,
+        object: Object<'a>,
+        index: u32,
+    ) -> Result<Self, ErrorKind>
         requires { IsObjectRead (reading A.ReaderArena from) object }
         ensures { end_in (reading A.ReaderArena from.entry) (object_shape object.entry) index
             ≡ end_result A.ReaderArena result }
@@ -102,13 +106,13 @@ impl<'a, A: ReaderArena> Reached<'a, A> {
             Object::Struct { start, size } => {
                 let words = u32::from(size.data_words);
                 let pointers = u32::from(size.pointers);
-                Reached::in_run(PointerRun::inside(from, start, words, pointers), index)
+                Reached::pointer_in_run(PointerRun::inside(from, start, words, pointers), index)
             }
             Object::Pointers { start, count } => {
-                Reached::in_run(PointerRun::inside(from, start, 0, count), index)
+                Reached::pointer_in_run(PointerRun::inside(from, start, 0, count), index)
             }
             Object::Structs { start, size, count } => {
-                Reached::in_structs(from, start, size, count, index)
+                Reached::element_of_list(from, start, size, count, index)
             }
             Object::Null | Object::Capability(_) | Object::Flat { .. } => {
                 Err(ErrorKind::NoSuchPlace)
@@ -125,9 +129,12 @@ impl<'a, A: ReaderArena> Reached<'a, A> {
         match self {
             Reached::Pointer(from) => {
                 let object = read_object(from, lim)?;
-                Reached::in_object(from, object, index)
+                Reached::child_of_object(from, object, index)
             }
-            Reached::Element(element) => Reached::in_run(PointerRun::of_element(element), index),
+            Reached::Element(element) => Reached::pointer_in_run(
+                PointerRun::from_element(element),
+                index,
+            ),
         }
     }
 
@@ -140,7 +147,7 @@ impl<'a, A: ReaderArena> Reached<'a, A> {
             Reached::Pointer(pointer) => pointer.total_size(lim),
             Reached::Element(element) => {
                 let words = u64::from(element.size.total());
-                let run = PointerRun::of_element(element);
+                let run = PointerRun::from_element(element);
                 run.first.total_size_of(run.count, words, lim)
             }
         }

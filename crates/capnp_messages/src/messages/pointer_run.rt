@@ -93,7 +93,7 @@ impl<'a, A: ReaderArena> PointerRun<'a, A> {
     }
 
     /// The pointers of an element.
-    pub(super) fn of_element(element: ElementPlace<'a, A>) -> Self
+    pub(super) fn from_element(element: ElementPlace<'a, A>) -> Self
         ensures first { reading A.ReaderArena result.first
             ≡ place_past (reading A.ReaderArena element.entry.first) element.entry.size.data_words }
         ensures count { result.count ≡ element.entry.size.pointers }

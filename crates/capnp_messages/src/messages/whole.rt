@@ -11,7 +11,7 @@ ghost use Rattle.capnp_messages.specs.Check.{check};
 ghost use Rattle.capnp_messages.specs.Tries.{IsMadeByFirstTry, IsSegmentRoom, NeedsMoreRoom};
 ghost use Rattle.capnp_messages.specs.Messages.{HasSizeOf, HasSizeWithin, IsCanonicalWithin, IsFaultOf, IsValueOf, RefusesCanon, RefusesCheck, RefusesSize, arena_limits, message_size, root_within};
 
-use super::canonical_copy::{canonicalize_pointer, copy_in_room};
+use super::canonical_copy::{canonicalize_pointer, canonicalize_reached_into};
 use super::message_fault::canonical_fault;
 use super::path::Reached;
 use super::root::read_root;
@@ -91,7 +91,7 @@ pub fn canonicalize_into<A: Allocator, S: ReaderSegments>(
 {
     let mut lim = ReadLimiter::new(traversal_limit_in_words);
     let root = read_root(source, &mut lim)?;
-    copy_in_room(made, Reached::Pointer(root), lim.left(), room)
+    canonicalize_reached_into(made, Reached::Pointer(root), lim.left(), room)
 }
 
 /// Tests whether the message in `source` is canonical as a whole. Returns where and why it isn't,

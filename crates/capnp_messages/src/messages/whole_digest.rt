@@ -5,7 +5,7 @@ ghost use Rattle.capnp_messages.specs.Copies.{LacksMemoryOr};
 ghost use Rattle.capnp_messages.specs.Digests.{IsDigestOf};
 ghost use Rattle.capnp_messages.specs.Messages.{RefusesCanon, arena_limits};
 
-use super::as_it_stands::canonical_segment;
+use super::already_canonical::canonical_segment;
 use super::lent_memory::LentMemory;
 use super::whole::{canonicalize, canonicalize_into};
 use super::writing::canonical_bytes;

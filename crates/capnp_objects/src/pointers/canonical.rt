@@ -1,5 +1,5 @@
 //! The test for canonical form, in place.
-ghost use Rattle.std.specs.Prelude.{ℕ, ◌≡◌, ◌≢◌, ◌<◌, ◌≤◌, ◌+◌, ◌*◌, ◌/◌, ◌-◌, ◌⊎◌, ◌↔◌, pred, ◌^◌, None, IsTrue, Ok, true, false, Some, Err, IfOk, IfErr, OnErr, length, slice_index};
+ghost use Rattle.std.specs.Prelude.{ℕ, ◌≡◌, ◌≢◌, ◌<◌, ◌≤◌, ◌+◌, ◌*◌, ◌/◌, ◌-◌, ◌⊎◌, ◌↔◌, ◌^◌, None, IsTrue, Ok, true, false, Some, Err, IfOk, IfErr, OnErr, length, slice_index};
 ghost use Rattle.capnp_format.specs.Bytes.{words_of};
 ghost use Rattle.capnp_format.specs.Word.{kind, element_size};
 ghost use Rattle.capnp_format.specs.Numbers.{words_for};
@@ -11,9 +11,12 @@ ghost use Rattle.capnp_objects.specs.Pointers.{reading, reading_on};
 ghost use Rattle.capnp_objects.specs.Checking.{HasSmallSegment, IsTestedWord, StartsRight, TellsFlat};
 ghost use Rattle.capnp_objects.specs.Testing.{Tests, fault_verdict, head_found, head_moved, rows_tested, struct_tested, structs_tested, test_value, test_values, test_within};
 
+use crate::nesting::one_level_less;
 use crate::object::{Object, Place, PointerWord};
 use crate::pointers::Pointer;
-use crate::pointers::canonical_answer::{Answer, Stopped, Test, fault_at, reason_of, refused};
+use crate::pointers::canonical_answer::{
+    Answer, Stopped, Test, reason_of, stop_with_fault, stop_with_refusal,
+};
 use crate::pointers::canonical_fault::{CanonicalFault, CanonicalFaultReason};
 use crate::source::Source;
 use capnp_arena_traits::arena::ReaderArena;
@@ -21,8 +24,8 @@ use capnp_words::error::ErrorKind;
 use capnp_words::lanes;
 use capnp_words::read_limiter::ReadLimiter;
 use capnp_words::wire_pointer::{
-    ElementSize, StructSize, WirePointer, WirePointerKind, data_bits_per_element, flat_words,
-    is_of_bits,
+    ElementSize, StructSize, WirePointer, WirePointerKind, data_bits_per_element,
+    is_primitive_list, words_for_elements,
 };
 use capnp_words::words::word_at;
 
@@ -128,7 +131,7 @@ fn test_place<A: ReaderArena>(
 {
     let word = Place { at, ..from.place }.word();
     if at as usize >= whole_words(from.place.bytes) {
-        return Err(fault_at(
+        return Err(stop_with_fault(
             &mut test.answer,
             from.place,
             at,
@@ -136,14 +139,21 @@ fn test_place<A: ReaderArena>(
         ));
     }
     if !word.is_positional() {
-        return Err(fault_at(&mut test.answer, from.place, at, reason_of(word)));
+        return Err(stop_with_fault(&mut test.answer, from.place, at, reason_of(word)));
     }
     if word.is_null() {
         return Ok(head);
     }
     match word.kind() {
         WirePointerKind::Struct => test_struct(from, at, word, nesting_limit, head, test),
-        _ if is_of_bits(word) => test_near_flat(from, at, word, nesting_limit, head, test),
+        _ if is_primitive_list(word) => test_near_primitive_list(
+            from,
+            at,
+            word,
+            nesting_limit,
+            head,
+            test,
+        ),
         _ => test_list(from, at, word, nesting_limit, head, test),
     }
 }
@@ -196,14 +206,14 @@ fn test_struct<A: ReaderArena>(
     };
     let start = match from.source.read_near_struct(pointer, &mut test.lim) {
         Ok(start) => start,
-        Err(kind) => return Err(refused(&mut test.answer, word, kind)),
+        Err(kind) => return Err(stop_with_refusal(&mut test.answer, word, kind)),
     };
     let size = word.struct_size();
     if size.total() == 0 {
         if start == at {
             return Ok(head);
         }
-        return Err(fault_at(
+        return Err(stop_with_fault(
             &mut test.answer,
             from.place,
             at,
@@ -211,14 +221,14 @@ fn test_struct<A: ReaderArena>(
         ));
     }
     if start != head {
-        return Err(fault_at(
+        return Err(stop_with_fault(
             &mut test.answer,
             from.place,
             at,
             CanonicalFaultReason::ObjectPlace,
         ));
     }
-    test_sections(from, start, size, less(nesting_limit), test)
+    test_sections(from, start, size, one_level_less(nesting_limit), test)
 }
 
 /// Tests the sections of a struct that starts at `start`. The first object that the struct's
@@ -242,17 +252,17 @@ fn test_sections<A: ReaderArena>(
     let pointers = u32::from(size.pointers);
     let first = start + data_words;
     let behind = first + pointers;
-    let end = test_row(from, first, pointers, nesting_limit, behind, test)?;
-    if !ends_used(from.place, start, data_words) {
-        return Err(fault_at(
+    let end = test_element_pointers(from, first, pointers, nesting_limit, behind, test)?;
+    if !is_last_word_used(from.place, start, data_words) {
+        return Err(stop_with_fault(
             &mut test.answer,
             from.place,
             first - 1,
             CanonicalFaultReason::DataSection,
         ));
     }
-    if !ends_used(from.place, first, pointers) {
-        return Err(fault_at(
+    if !is_last_word_used(from.place, first, pointers) {
+        return Err(stop_with_fault(
             &mut test.answer,
             from.place,
             behind - 1,
@@ -264,7 +274,7 @@ fn test_sections<A: ReaderArena>(
 
 /// Tests the list of bits or numbers that the word at `at` describes, like `test_list`.
 #[inline(always)]
-fn test_near_flat<A: ReaderArena>(
+fn test_near_primitive_list<A: ReaderArena>(
     from: &Pointer<'_, A>,
     at: u32,
     word: WirePointer,
@@ -285,13 +295,16 @@ fn test_near_flat<A: ReaderArena>(
         word,
         nesting_limit,
     };
-    let words = flat_words(size, count);
-    let start = match from.source.read_near_flat(pointer, words, &mut test.lim) {
+    let words = words_for_elements(size, count);
+    let start = match from
+        .source
+        .read_near_primitive_list(pointer, words, &mut test.lim)
+    {
         Ok(start) => start,
-        Err(kind) => return Err(refused(&mut test.answer, word, kind)),
+        Err(kind) => return Err(stop_with_refusal(&mut test.answer, word, kind)),
     };
     if start != head {
-        return Err(fault_at(
+        return Err(stop_with_fault(
             &mut test.answer,
             from.place,
             at,
@@ -302,7 +315,7 @@ fn test_near_flat<A: ReaderArena>(
         at: start,
         ..from.place
     };
-    test_flat(first, size, count, &mut test.answer)
+    test_primitive_list(first, size, count, &mut test.answer)
 }
 
 /// Tests the list that the word at `at` describes.
@@ -324,10 +337,10 @@ fn test_list<A: ReaderArena>(
     let place = Place { at, ..from.place };
     let object = match from.source.read_object(place, nesting_limit, &mut test.lim) {
         Ok(object) => object,
-        Err(kind) => return Err(refused(&mut test.answer, word, kind)),
+        Err(kind) => return Err(stop_with_refusal(&mut test.answer, word, kind)),
     };
-    if !starts_right(object, at, head) {
-        return Err(fault_at(
+    if !starts_canonically(object, at, head) {
+        return Err(stop_with_fault(
             &mut test.answer,
             from.place,
             at,
@@ -335,17 +348,29 @@ fn test_list<A: ReaderArena>(
         ));
     }
     match object {
-        Object::Flat { start, size, count } => test_flat(start, size, count, &mut test.answer),
+        Object::Flat { start, size, count } => test_primitive_list(
+            start,
+            size,
+            count,
+            &mut test.answer,
+        ),
         Object::Pointers { start, count } => {
             let end = start.at + count;
-            test_children(from, start.at, count, less(nesting_limit), end, test)
+            test_children(
+                from,
+                start.at,
+                count,
+                one_level_less(nesting_limit),
+                end,
+                test,
+            )
         }
         Object::Structs { start, size, count } => {
             let claimed = word.list_inline_composite_word_count();
-            let inner = less(nesting_limit);
-            test_structs(from, start.at, size, count, inner, claimed, test)
+            let inner = one_level_less(nesting_limit);
+            test_struct_list(from, start.at, size, count, inner, claimed, test)
         }
-        _ => Err(fault_at(
+        _ => Err(stop_with_fault(
             &mut test.answer,
             from.place,
             at,
@@ -357,7 +382,7 @@ fn test_list<A: ReaderArena>(
 /// Tests the elements, from position `start` on, of a list of structs whose pointer claims
 /// `claimed` words for them.
 #[cycle(tests)]
-fn test_structs<A: ReaderArena>(
+fn test_struct_list<A: ReaderArena>(
     from: &Pointer<'_, A>,
     start: u32,
     size: StructSize,
@@ -372,7 +397,7 @@ fn test_structs<A: ReaderArena>(
         (reading_on A.ReaderArena from.now start nesting_limit)) test.old test.new result }
 {
     if u64::from(count) * u64::from(size.total()) != u64::from(claimed) {
-        return Err(fault_at(
+        return Err(stop_with_fault(
             &mut test.answer,
             from.place,
             start - 1,
@@ -382,13 +407,13 @@ fn test_structs<A: ReaderArena>(
     if size.total() == 0 {
         return Ok(start);
     }
-    test_rows(from, start, size, count, nesting_limit, test)
+    test_elements(from, start, size, count, nesting_limit, test)
 }
 
 /// Tests `count` consecutive elements of a list of structs from `start` on. The first object that
 /// their pointers lead to has to start right after the elements.
 #[cycle(tests)]
-fn test_rows<A: ReaderArena>(
+fn test_elements<A: ReaderArena>(
     from: &Pointer<'_, A>,
     start: u32,
     size: StructSize,
@@ -412,12 +437,12 @@ fn test_rows<A: ReaderArena>(
     for i in 0..count {
         let at = start + i * width;
         let first = at + data_words;
-        head = test_row(from, first, pointers, nesting_limit, head, test)?;
-        is_data_used = is_data_used || ends_used(from.place, at, data_words);
-        are_pointers_used = are_pointers_used || ends_used(from.place, first, pointers);
+        head = test_element_pointers(from, first, pointers, nesting_limit, head, test)?;
+        is_data_used = is_data_used || is_last_word_used(from.place, at, data_words);
+        are_pointers_used = are_pointers_used || is_last_word_used(from.place, first, pointers);
     }
     if !is_data_used {
-        return Err(fault_at(
+        return Err(stop_with_fault(
             &mut test.answer,
             from.place,
             start - 1,
@@ -425,7 +450,7 @@ fn test_rows<A: ReaderArena>(
         ));
     }
     if !are_pointers_used {
-        return Err(fault_at(
+        return Err(stop_with_fault(
             &mut test.answer,
             from.place,
             start - 1,
@@ -439,7 +464,7 @@ fn test_rows<A: ReaderArena>(
 /// calls nothing if `count` is 0.
 #[cycle(tests)]
 #[inline(always)]
-fn test_row<A: ReaderArena>(
+fn test_element_pointers<A: ReaderArena>(
     from: &Pointer<'_, A>,
     at: u32,
     count: u32,
@@ -460,7 +485,7 @@ fn test_row<A: ReaderArena>(
 /// Tests a list of `count` numbers that starts at `start`: the bits after the last number, up to
 /// the end of its word, have to be zero. Returns the position after the list.
 #[inline(always)]
-fn test_flat(
+fn test_primitive_list(
     start: Place,
     size: ElementSize,
     count: u32,
@@ -483,7 +508,7 @@ fn test_flat(
 {
     match padded_end(start.bytes, start.at, size, count) {
         Ok(end) => Ok(end),
-        Err(word) => Err(fault_at(answer, start, word, CanonicalFaultReason::Padding)),
+        Err(word) => Err(stop_with_fault(answer, start, word, CanonicalFaultReason::Padding)),
     }
 }
 
@@ -530,7 +555,7 @@ fn whole_words(bytes: &[u8]) -> usize
 }
 
 /// Whether the last of the `count` words from position `at` on isn't zero, or `count` is 0.
-pub fn ends_used(place: Place, at: u32, count: u32) -> bool
+pub fn is_last_word_used(place: Place, at: u32, count: u32) -> bool
     requires { at + count < 2 ^ 32 }
     ensures { IsTrue result
         ↔ (count ≡ 0) ⊎ (slice_index (words_of place.entry.bytes.now) (at + count - 1) ≢ 0) }
@@ -545,17 +570,10 @@ pub fn ends_used(place: Place, at: u32, count: u32) -> bool
     !last.word().is_null()
 }
 
-/// The nesting limit with one level less.
-pub(crate) fn less(nesting_limit: i32) -> i32
-    ensures { levels result ≡ pred (levels nesting_limit) }
-{
-    nesting_limit.saturating_sub(1)
-}
-
 /// Whether `object`, to which the pointer at `at` leads, starts where canonical form requires: a
 /// struct without words at `at` itself, any other object at `head`. A list of structs starts with
 /// its tag.
-fn starts_right(object: Object, at: u32, head: u32) -> bool
+fn starts_canonically(object: Object, at: u32, head: u32) -> bool
     ensures { IsTrue result ↔ StartsRight object.entry at head }
 {
     match object {

@@ -45,7 +45,7 @@ impl Test {
 
 /// Stores in `answer` a fault at position `word` of the segment of `place`, so that the test stops.
 #[cold]
-pub(crate) fn fault_at(
+pub(crate) fn stop_with_fault(
     answer: &mut Answer,
     place: Place,
     word: u32,
@@ -69,10 +69,10 @@ pub(crate) fn fault_at(
 /// Reading the object was refused with `kind`; for a list, `answer` has `NestingLimitExceeded` in
 /// place of `MessageIsTooDeeplyNestedOrContainsCycles`.
 #[cold]
-pub(crate) fn refused(answer: &mut Answer, word: WirePointer, kind: ErrorKind) -> Stopped
+pub(crate) fn stop_with_refusal(answer: &mut Answer, word: WirePointer, kind: ErrorKind) -> Stopped
     ensures { answer.new ≡ Err (level_refusal_name word.0 kind) }
 {
-    *answer = Err(name_of_refusal(word, kind));
+    *answer = Err(refusal_for_word(word, kind));
     Stopped
 }
 
@@ -90,7 +90,7 @@ pub(crate) fn reason_of(word: WirePointer) -> CanonicalFaultReason
 }
 
 // The refusal if the object of a word can't be read.
-fn name_of_refusal(word: WirePointer, kind: ErrorKind) -> ErrorKind
+fn refusal_for_word(word: WirePointer, kind: ErrorKind) -> ErrorKind
     ensures { result ≡ level_refusal_name word.0 kind }
 {
     match kind {

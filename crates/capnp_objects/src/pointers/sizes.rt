@@ -15,7 +15,9 @@ use crate::pointers::walk::{Stopped, Walk};
 use capnp_arena_traits::arena::ReaderArena;
 use capnp_words::error::ErrorKind;
 use capnp_words::read_limiter::ReadLimiter;
-use capnp_words::wire_pointer::{WirePointer, WirePointerKind, flat_words, is_of_bits};
+use capnp_words::wire_pointer::{
+    WirePointer, WirePointerKind, is_primitive_list, words_for_elements,
+};
 
 /// The size of a value: of its object and all objects below it, without landing pads.
 #[derive(Clone, Copy, Debug, PartialEq, Eq)]
@@ -121,14 +123,14 @@ fn add_pointers<A: ReaderArena>(
     ensures { Walks (measure_pointers count (reading_on A.ReaderArena from.now at nesting_limit))
         walk.old walk.new result }
 {
-    add_row(from, at, count, nesting_limit, walk)
+    add_element_pointers(from, at, count, nesting_limit, walk)
 }
 
 // Like `add_pointers`, but inlined: the loop over a list's elements calls nothing for pointers to
 // bits or bytes.
 #[cycle(sizes)]
 #[inline(always)]
-fn add_row<A: ReaderArena>(
+fn add_element_pointers<A: ReaderArena>(
     from: &Pointer<'_, A>,
     at: u32,
     count: u32,
@@ -163,8 +165,8 @@ fn add_pointer<A: ReaderArena>(
     }
     match word.kind() {
         WirePointerKind::Struct => add_struct(from, at, word, nesting_limit, walk),
-        WirePointerKind::List if is_of_bits(word) => {
-            add_flat(from, at, word, nesting_limit, walk)
+        WirePointerKind::List if is_primitive_list(word) => {
+            add_primitive_list(from, at, word, nesting_limit, walk)
         }
         _ => add_object(from, at, nesting_limit, walk),
     }
@@ -210,7 +212,7 @@ fn add_struct<A: ReaderArena>(
 
 // Adds the size of the list of bits or bytes that the word at `at` describes.
 #[inline(always)]
-fn add_flat<A: ReaderArena>(
+fn add_primitive_list<A: ReaderArena>(
     from: &Pointer<'_, A>,
     at: u32,
     word: WirePointer,
@@ -228,7 +230,7 @@ fn add_flat<A: ReaderArena>(
         word,
         nesting_limit,
     };
-    let words = flat_words(word.list_element_size(), word.list_element_count());
+    let words = words_for_elements(word.list_element_size(), word.list_element_count());
     match from.source.measure_near(pointer, words, &mut walk.lim) {
         Ok(_) => walk.sums.add_words(u64::from(words)),
         Err(k) => {
@@ -274,13 +276,13 @@ fn add_object<A: ReaderArena>(
         place: rows.start,
         nesting_limit: nesting_limit - 1,
     };
-    add_rows(&inner, rows.data_words, rows.pointers, rows.count, walk)
+    add_elements(&inner, rows.data_words, rows.pointers, rows.count, walk)
 }
 
 // Adds the sizes of the pointers of `count` consecutive elements, each of `data_words` data words
 // and `pointers` pointers.
 #[cycle(sizes)]
-fn add_rows<A: ReaderArena>(
+fn add_elements<A: ReaderArena>(
     from: &Pointer<'_, A>,
     data_words: u32,
     pointers: u32,
@@ -298,7 +300,7 @@ fn add_rows<A: ReaderArena>(
     let width = u64::from(data_words) + u64::from(pointers);
     for i in 0..count {
         let at = u64::from(from.place.at) + u64::from(i) * width + u64::from(data_words);
-        add_row(from, at as u32, pointers, from.nesting_limit, walk)?;
+        add_element_pointers(from, at as u32, pointers, from.nesting_limit, walk)?;
     }
     Ok(())
 }
@@ -311,7 +313,7 @@ fn words_of_object(object: Object) -> u64
 {
     match object {
         Object::Null | Object::Capability(_) => 0,
-        Object::Flat { size, count, .. } => u64::from(flat_words(size, count)),
+        Object::Flat { size, count, .. } => u64::from(words_for_elements(size, count)),
         Object::Struct { size, .. } => u64::from(size.total()),
         Object::Pointers { count, .. } => u64::from(count),
         Object::Structs { size, count, .. } => 1 + u64::from(count) * u64::from(size.total()),

@@ -10,15 +10,17 @@ ghost use Rattle.capnp_objects.specs.Pointers.{reading, reading_on};
 ghost use Rattle.capnp_objects.specs.Sizes.{IsWordAt};
 ghost use Rattle.capnp_objects.specs.Validation.{Validates, tally_shape, tally_words, validate_elements, validate_place, validate_pointers};
 
+use crate::nesting::{levels_left, one_level_less};
 use crate::object::{Object, Place, PointerWord};
 use crate::pointers::Pointer;
-use crate::pointers::canonical::less;
 use crate::pointers::sizes::rows_of_object;
 use crate::pointers::walk::Stopped;
 use capnp_arena_traits::arena::ReaderArena;
 use capnp_words::error::ErrorKind;
 use capnp_words::read_limiter::ReadLimiter;
-use capnp_words::wire_pointer::{WirePointer, WirePointerKind, flat_words, is_of_bits};
+use capnp_words::wire_pointer::{
+    WirePointer, WirePointerKind, is_primitive_list, words_for_elements,
+};
 use std::mem;
 
 /// How deep a value is, and how much it holds. A part that several pointers lead to counts for each
@@ -75,7 +77,10 @@ impl Tally {
             Object::Null => {}
             Object::Capability(_) => self.capabilities = self.capabilities.saturating_add(1),
             Object::Struct { size, .. } => self.add_words(levels, size.total()),
-            Object::Flat { size, count, .. } => self.add_words(levels, flat_words(size, count)),
+            Object::Flat { size, count, .. } => self.add_words(
+                levels,
+                words_for_elements(size, count),
+            ),
             Object::Pointers { count, .. } => self.add_words(levels, count),
             Object::Structs { size, count, .. } => {
                 self.add_words(levels, 1 + count * size.total());
@@ -120,7 +125,7 @@ impl<'a, A: ReaderArena> Pointer<'a, A> {
     pub fn validate(&self, lim: &mut ReadLimiter) -> Result<Extent, ErrorKind>
         ensures { read_extent (reading A.ReaderArena self.now) lim.old ≡ (result, lim.new) }
     {
-        let levels = levels_of(self.nesting_limit);
+        let levels = levels_left(self.nesting_limit);
         let mut walk = Validation::begin(levels, lim);
         match validate_object(self, self.place.at, self.nesting_limit, &mut walk) {
             Ok(()) => {
@@ -179,8 +184,8 @@ fn validate_pointer<A: ReaderArena>(
     }
     match word.kind() {
         WirePointerKind::Struct => validate_struct(from, at, word, nesting_limit, walk),
-        WirePointerKind::List if is_of_bits(word) => {
-            validate_flat(from, at, word, nesting_limit, walk)
+        WirePointerKind::List if is_primitive_list(word) => {
+            validate_primitive_list(from, at, word, nesting_limit, walk)
         }
         _ => validate_object(from, at, nesting_limit, walk),
     }
@@ -214,8 +219,8 @@ fn validate_struct<A: ReaderArena>(
         }
     };
     let size = word.struct_size();
-    let inner = less(nesting_limit);
-    walk.tally.add_words(levels_of(inner), size.total());
+    let inner = one_level_less(nesting_limit);
+    walk.tally.add_words(levels_left(inner), size.total());
     let first = start + u32::from(size.data_words);
     let count = u32::from(size.pointers);
     if count == 0 {
@@ -226,7 +231,7 @@ fn validate_struct<A: ReaderArena>(
 
 // Validates the list of bits or numbers that the word at `at` describes.
 #[inline(always)]
-fn validate_flat<A: ReaderArena>(
+fn validate_primitive_list<A: ReaderArena>(
     from: &Pointer<'_, A>,
     at: u32,
     word: WirePointer,
@@ -244,10 +249,14 @@ fn validate_flat<A: ReaderArena>(
         word,
         nesting_limit,
     };
-    let words = flat_words(word.list_element_size(), word.list_element_count());
-    match from.source.read_near_flat(pointer, words, &mut walk.lim) {
+    let words = words_for_elements(word.list_element_size(), word.list_element_count());
+    match from
+        .source
+        .read_near_primitive_list(pointer, words, &mut walk.lim)
+    {
         Ok(_) => {
-            walk.tally.add_words(levels_of(less(nesting_limit)), words);
+            walk.tally
+                .add_words(levels_left(one_level_less(nesting_limit)), words);
             Ok(())
         }
         Err(k) => {
@@ -278,8 +287,8 @@ fn validate_object<A: ReaderArena>(
             return Err(Stopped);
         }
     };
-    let inner = less(nesting_limit);
-    walk.tally.add(levels_of(inner), object);
+    let inner = one_level_less(nesting_limit);
+    walk.tally.add(levels_left(inner), object);
     let Some(rows) = rows_of_object(object) else {
         return Ok(());
     };
@@ -288,13 +297,13 @@ fn validate_object<A: ReaderArena>(
         place: rows.start,
         nesting_limit: inner,
     };
-    validate_rows(&first, rows.data_words, rows.pointers, rows.count, walk)
+    validate_elements(&first, rows.data_words, rows.pointers, rows.count, walk)
 }
 
 // Validates the pointers of `count` consecutive elements, each of `data_words` data words and
 // `pointers` pointers.
 #[cycle(validation)]
-fn validate_rows<A: ReaderArena>(
+fn validate_elements<A: ReaderArena>(
     from: &Pointer<'_, A>,
     data_words: u32,
     pointers: u32,
@@ -315,11 +324,4 @@ fn validate_rows<A: ReaderArena>(
         validate_pointers(from, at as u32, pointers, from.nesting_limit, walk)?;
     }
     Ok(())
-}
-
-// The number of levels that a nesting limit allows.
-fn levels_of(nesting_limit: i32) -> u32
-    ensures { result ≡ levels nesting_limit }
-{
-    nesting_limit.max(0) as u32
 }

@@ -10,8 +10,9 @@ ghost use Rattle.capnp_objects.specs.Expected.{expectation, narrow_elements, nar
 ghost use Rattle.capnp_objects.specs.Entering.{found_target, entered_from, ReadsAs, object_misfit, place_byte, IsAtHand};
 ghost use Rattle.capnp_objects.specs.Values.{enter_expected, expect};
 
+use super::Source;
 use super::landing::Entrance;
-use super::{Source, depth_of};
+use crate::nesting::levels_left;
 use crate::object::{Expected, Object, Place, PointerWord, Purpose};
 use capnp_arena_traits::arena::ReaderArena;
 use capnp_words::error::ErrorKind;
@@ -55,12 +56,12 @@ impl<'a, A: ReaderArena> Source<'a, A> {
             (RefusesExpected (expectation expected)
             (reading_at A.ReaderArena self.entry place.entry nesting_limit) lim.old lim.new) }
     {
-        self.expect(expected, place, nesting_limit, lim)
+        self.read_as_expected(expected, place, nesting_limit, lim)
     }
 
     // Reads the object that the pointer at a place leads to, if it is as expected.
     #[inline(always)]
-    fn expect(
+    fn read_as_expected(
         self,
         expected: Expected,
         place: Place<'a>,
@@ -75,7 +76,7 @@ impl<'a, A: ReaderArena> Source<'a, A> {
         if word.is_null() {
             return Ok(Object::Null);
         }
-        match name_of_depth(expected, depth_of(nesting_limit)) {
+        match depth_error(expected, levels_left(nesting_limit)) {
             Some(kind) => return Err(kind),
             None => {}
         }
@@ -106,12 +107,12 @@ impl<'a, A: ReaderArena> Entrance<'a, A> {
             ReadsAs (enter_expected (expectation expected) r (found_target self.entry.found))
             r.segments lim.old lim.new result }
     {
-        match name_of_kind(expected, self.found.word) {
+        match kind_error(expected, self.found.word) {
             Some(kind) => return Err(kind),
             None => {}
         }
         let object = self.enter(Purpose::Value, lim)?;
-        match name_of_misfit(expected, object) {
+        match mismatch_error(expected, object) {
             Some(kind) => Err(kind),
             None => Ok(object),
         }
@@ -120,7 +121,7 @@ impl<'a, A: ReaderArena> Entrance<'a, A> {
 
 // The refusal for having `depth` levels left, if that is too few for what is expected.
 #[inline(always)]
-fn name_of_depth(expected: Expected, depth: u32) -> Option<ErrorKind>
+fn depth_error(expected: Expected, depth: u32) -> Option<ErrorKind>
     ensures { result ≡ (expectation expected).too_deep depth }
 {
     match expected {
@@ -132,7 +133,7 @@ fn name_of_depth(expected: Expected, depth: u32) -> Option<ErrorKind>
 
 // The refusal for a word that describes an object of another kind than expected, if it does.
 #[inline(always)]
-fn name_of_kind(expected: Expected, word: WirePointer) -> Option<ErrorKind>
+fn kind_error(expected: Expected, word: WirePointer) -> Option<ErrorKind>
     ensures { result ≡ (expectation expected).another_kind word.0 }
 {
     let is_list = word.kind() == WirePointerKind::List;
@@ -162,19 +163,19 @@ fn name_of_kind(expected: Expected, word: WirePointer) -> Option<ErrorKind>
 
 // The refusal for an object of the right kind that isn't as expected, if it isn't.
 #[inline(always)]
-fn name_of_misfit(expected: Expected, object: Object) -> Option<ErrorKind>
+fn mismatch_error(expected: Expected, object: Object) -> Option<ErrorKind>
     requires { IsAtHand object }
     ensures { result ≡ object_misfit expected object.entry }
 {
     match (expected, object) {
         (Expected::List(size), Object::Flat { size: found, .. }) => {
-            name_of_narrow_elements(size, found)
+            narrow_elements_error(size, found)
         }
         (Expected::List(size), Object::Pointers { .. }) => {
-            name_of_narrow_elements(size, ElementSize::Pointer)
+            narrow_elements_error(size, ElementSize::Pointer)
         }
         (Expected::List(size), Object::Structs { size: sections, .. }) => {
-            name_of_narrow_structs(size, sections)
+            narrow_structs_error(size, sections)
         }
         (
             Expected::Text,
@@ -204,7 +205,7 @@ fn ends_in_zero(start: Place, count: u32) -> bool
 }
 
 // The refusal for elements of a list that are too narrow, if they are.
-fn name_of_narrow_elements(expected: ElementSize, found: ElementSize) -> Option<ErrorKind>
+fn narrow_elements_error(expected: ElementSize, found: ElementSize) -> Option<ErrorKind>
     requires { size_number found < 7 }
     ensures { result ≡ narrow_elements expected (size_number found) }
 {
@@ -220,7 +221,7 @@ fn name_of_narrow_elements(expected: ElementSize, found: ElementSize) -> Option<
 }
 
 // The refusal for sections of a list of structs that are too narrow, if they are.
-fn name_of_narrow_structs(expected: ElementSize, sections: StructSize) -> Option<ErrorKind>
+fn narrow_structs_error(expected: ElementSize, sections: StructSize) -> Option<ErrorKind>
     ensures { result ≡ narrow_structs expected sections }
 {
     match expected {

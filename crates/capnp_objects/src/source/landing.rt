@@ -11,7 +11,7 @@ use crate::object::{Object, Place, Purpose};
 use capnp_arena_traits::arena::ReaderArena;
 use capnp_words::error::ErrorKind;
 use capnp_words::read_limiter::ReadLimiter;
-use capnp_words::wire_pointer::{ElementSize, WirePointerKind, flat_words};
+use capnp_words::wire_pointer::{ElementSize, WirePointerKind, words_for_elements};
 use std::alloc::AllocError;
 
 // What following a pointer found, in the source that it is read from.
@@ -75,7 +75,7 @@ impl<'a, A: ReaderArena> Entrance<'a, A> {
 
     // Checks and charges the words that an object claims.
     #[inline(always)]
-    pub(crate) fn claim(self, words: u32, lim: &mut ReadLimiter) -> Result<(), ErrorKind>
+    pub(crate) fn charge_claim(self, words: u32, lim: &mut ReadLimiter) -> Result<(), ErrorKind>
         requires { words ≡ claimed_words self.found.word.0 }
         ensures { claim_words (entered_from A.ReaderArena self.entry) (found_target self.entry.found)
             lim.old ≡ (result, lim.new) }
@@ -98,7 +98,7 @@ impl<'a, A: ReaderArena> Entrance<'a, A> {
             ReadsAs (enter_plain r (found_target self.entry.found)) r.segments
             lim.old lim.new result }
     {
-        self.claim(self.found.word.struct_word_size(), lim)?;
+        self.charge_claim(self.found.word.struct_word_size(), lim)?;
         Ok(Object::Struct {
             start: self.found.start,
             size: self.found.word.struct_size(),
@@ -115,16 +115,20 @@ impl<'a, A: ReaderArena> Entrance<'a, A> {
             lim.old lim.new result }
     {
         match self.found.word.list_element_size() {
-            ElementSize::InlineComposite => self.enter_structs(purpose, lim),
-            ElementSize::Pointer => self.enter_pointers(purpose, lim),
-            ElementSize::Void => self.enter_void(purpose, lim),
-            size => self.enter_flat(purpose, size, lim),
+            ElementSize::InlineComposite => self.enter_struct_list(purpose, lim),
+            ElementSize::Pointer => self.enter_pointer_list(purpose, lim),
+            ElementSize::Void => self.enter_void_list(purpose, lim),
+            size => self.enter_primitive_list(purpose, size, lim),
         }
     }
 
     // Enters a list of void; for the size, without a check of its place or a charge.
     #[inline(always)]
-    fn enter_void(self, purpose: Purpose, lim: &mut ReadLimiter) -> Result<Object<'a>, ErrorKind>
+    fn enter_void_list(
+        self,
+        purpose: Purpose,
+        lim: &mut ReadLimiter,
+    ) -> Result<Object<'a>, ErrorKind>
         requires of_void { IsVoidList self.found.word.0 }
         requires level { purpose ≡ Size → 0 < self.depth }
         ensures { let r = entered_from A.ReaderArena self.entry in
@@ -138,14 +142,14 @@ impl<'a, A: ReaderArena> Entrance<'a, A> {
             Purpose::Size => return Ok(Object::Flat { start, size, count }),
             Purpose::Value => {}
         }
-        self.claim(0, lim)?;
+        self.charge_claim(0, lim)?;
         self.source.charge(u64::from(count), lim)?;
         Ok(Object::Flat { start, size, count })
     }
 
     // Enters a list of bits or of elements of bytes.
     #[inline(always)]
-    fn enter_flat(
+    fn enter_primitive_list(
         self,
         purpose: Purpose,
         size: ElementSize,
@@ -159,7 +163,7 @@ impl<'a, A: ReaderArena> Entrance<'a, A> {
             lim.old lim.new result }
     {
         let count = self.found.word.list_element_count();
-        self.claim(flat_words(size, count), lim)?;
+        self.charge_claim(words_for_elements(size, count), lim)?;
         Ok(Object::Flat {
             start: self.found.start,
             size,
@@ -169,7 +173,7 @@ impl<'a, A: ReaderArena> Entrance<'a, A> {
 
     // Enters a list of pointers.
     #[inline(always)]
-    fn enter_pointers(
+    fn enter_pointer_list(
         self,
         purpose: Purpose,
         lim: &mut ReadLimiter,
@@ -180,7 +184,7 @@ impl<'a, A: ReaderArena> Entrance<'a, A> {
             lim.old lim.new result }
     {
         let count = self.found.word.list_element_count();
-        self.claim(count, lim)?;
+        self.charge_claim(count, lim)?;
         Ok(Object::Pointers {
             start: self.found.start,
             count,
@@ -189,24 +193,28 @@ impl<'a, A: ReaderArena> Entrance<'a, A> {
 
     // Enters a list of structs, whose first word is their tag.
     #[inline(always)]
-    fn enter_structs(self, purpose: Purpose, lim: &mut ReadLimiter) -> Result<Object<'a>, ErrorKind>
+    fn enter_struct_list(
+        self,
+        purpose: Purpose,
+        lim: &mut ReadLimiter,
+    ) -> Result<Object<'a>, ErrorKind>
         requires { IsStructList self.found.word.0 }
         ensures { let r = entered_from A.ReaderArena self.entry in
             ReadsAs (enter_structs purpose r (found_target self.entry.found)) r.segments
             lim.old lim.new result }
     {
         let words = self.found.word.list_inline_composite_word_count();
-        self.claim(words + 1, lim)?;
+        self.charge_claim(words + 1, lim)?;
         let tag = self.found.start.word();
         if tag.kind() != WirePointerKind::Struct {
-            return Err(name_of_non_struct_tag(purpose));
+            return Err(non_struct_tag_error(purpose));
         }
         let count = tag.inline_composite_list_element_count();
         let width = tag.struct_word_size();
         if u64::from(count) * u64::from(width) > u64::from(words) {
             return Err(ErrorKind::InlineCompositeListsElementsOverrunItsWordCount);
         }
-        self.source.charge_count(purpose, width, count, lim)?;
+        self.source.charge_elements(purpose, width, count, lim)?;
         Ok(Object::Structs {
             start: Place {
                 at: self.found.start.at + 1,
@@ -219,7 +227,7 @@ impl<'a, A: ReaderArena> Entrance<'a, A> {
 }
 
 // The refusal of a list of structs without a tag.
-fn name_of_non_struct_tag(purpose: Purpose) -> ErrorKind
+fn non_struct_tag_error(purpose: Purpose) -> ErrorKind
     ensures { result ≡ no_tag_name purpose }
 {
     match purpose {

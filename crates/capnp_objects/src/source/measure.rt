@@ -7,7 +7,8 @@ ghost use Rattle.capnp_objects.specs.Reading.{source_start, reading_at, pointer_
 ghost use Rattle.capnp_objects.specs.Objects.{IsObject, IsHeld, IsWordRead, IsFew, EntersNear};
 ghost use Rattle.capnp_objects.specs.Enter.{read, result_shape, near_shape};
 
-use super::{Source, depth_of};
+use super::Source;
+use crate::nesting::levels_left;
 use crate::object::{Object, Place, PointerWord, Purpose};
 use capnp_arena_traits::arena::ReaderArena;
 use capnp_words::error::ErrorKind;
@@ -45,7 +46,7 @@ impl<'a, A: ReaderArena> Source<'a, A> {
         ensures computed { read Size (reading_at A.ReaderArena self.entry place.entry nesting_limit)
             lim.old ≡ (result_shape result, lim.new) }
     {
-        self.read_place(Purpose::Size, place, nesting_limit, lim)
+        self.read_for_purpose(Purpose::Size, place, nesting_limit, lim)
     }
 
     /// Reads the object that `pointer` leads to only for its size, like `measure_object`. Returns
@@ -69,7 +70,7 @@ impl<'a, A: ReaderArena> Source<'a, A> {
         ensures computed { let r = pointer_at A.ReaderArena self.entry pointer.entry in
             read Size r lim.old ≡ (near_shape r result, lim.new) }
     {
-        if depth_of(pointer.nesting_limit) == 0 {
+        if levels_left(pointer.nesting_limit) == 0 {
             return Err(ErrorKind::MessageIsTooDeeplyNested);
         }
         self.enter_near(pointer, words, lim)

@@ -64,12 +64,12 @@ impl<'a, A: ReaderArena> Source<'a, A> {
             nesting_limit,
         };
         let found = self.follow(pointer, lim)?;
-        described(found.word)
+        described_type(found.word)
     }
 }
 
 // What a word describes.
-fn described(word: WirePointer) -> Result<PointerType, ErrorKind>
+fn described_type(word: WirePointer) -> Result<PointerType, ErrorKind>
     ensures { result ≡ type_of word.0 }
 {
     match word.kind() {

@@ -8,7 +8,7 @@ use super::packing_error::PackingError;
 use super::place::Place;
 use super::read_ahead::ReadAhead;
 use super::unpacking_input::UnpackingInput;
-use super::words::pack_front;
+use super::words::pack_words;
 use capnp_framing::devices::{Input, MemoryInput};
 use std::alloc::Global;
 
@@ -46,7 +46,7 @@ fn pack_more(packed: &mut Vec<u8>, words: &[u8]) -> Result<usize, PackingError>
     ensures refused { IfErr result (λ e. e ≡ AllocationFailed) }
 {
     let mut part = [0; STEP];
-    let done = pack_front(&mut part, words);
+    let done = pack_words(&mut part, words);
     if packed.extend_from_slice(&part[..done.given]).is_err() {
         return Err(PackingError::AllocationFailed);
     }

@@ -4,7 +4,7 @@ ghost use Rattle.std.specs.Io.KnownBytes.{Keeps, WriteAppends, append_known};
 ghost use Rattle.capnp_framing.specs.Devices.{WriteTakes};
 ghost use Rattle.capnp_packing.specs.Packing.{unpacked_known};
 
-use super::words::{MOST_BYTES, pack_front};
+use super::words::{MOST_BYTES, pack_words};
 use crate::buffered::BufferedOutput;
 use capnp_framing::devices::{DeviceFault, Output};
 
@@ -12,7 +12,7 @@ use capnp_framing::devices::{DeviceFault, Output};
 const CAPACITY: usize = 8192;
 
 /// An output that packs whole words, and writes the packed bytes to another output. Holds packed
-/// bytes back until there are many of them, or until `flush` is called. A write of 1 to 7 bytes
+/// bytes back until there are many of them, or until `write_pending` is called. A write of 1 to 7 bytes
 /// fails, since it has no whole word; any other write fails only if the output of packed bytes has
 /// failed.
 #[derive(Drop)]
@@ -47,14 +47,17 @@ impl<W: Output> PackingOutput<W> {
     }
 
     /// Writes all packed bytes that are held back to the output of packed bytes.
-    pub fn flush(&mut self) -> Result<(), DeviceFault>
+    pub fn write_pending(&mut self) -> Result<(), DeviceFault>
         ensures sends { Sends W.Output result self.old self.new }
         ensures taken { OnOk result (Keeps (⟦<Self as Output>⟧.contents self.old)
             (unpacked_known (W.contents self.new.packed))) }
         ensures none { OnOk result ((self.new.sent ≡ 0) × (self.new.end ≡ 0)) }
     {
         while self.sent < self.end {
-            match self.packed.write(part(&self.pending, self.sent, self.end)) {
+            match self
+                .packed
+                .write(subslice(&self.pending, self.sent, self.end))
+            {
                 Ok(n) => self.sent += n,
                 Err(fault) => {
                     self.failed = true;
@@ -68,7 +71,7 @@ impl<W: Output> PackingOutput<W> {
     }
 
     /// Returns the output of packed bytes. Packed bytes that are held back are lost, so call
-    /// `flush` first.
+    /// `write_pending` first.
     pub fn into_packed(self) -> W
         ensures { result ≡ self.packed }
     {
@@ -76,7 +79,7 @@ impl<W: Output> PackingOutput<W> {
     }
 
     /// Makes room for `MOST_BYTES` packed bytes, if needed by writing all bytes that are held back.
-    fn make_room(&mut self) -> Result<(), DeviceFault>
+    fn ensure_room(&mut self) -> Result<(), DeviceFault>
         ensures sends { Sends W.Output result self.old self.new }
         ensures room { OnOk result (self.new.end + 2050 ≤ 8192) }
         ensures none { OnOk result (self.new.sent ≡ 0) }
@@ -84,12 +87,12 @@ impl<W: Output> PackingOutput<W> {
         if self.sent == 0 && CAPACITY - self.end >= MOST_BYTES {
             return Ok(());
         }
-        self.flush()
+        self.write_pending()
     }
 }
 
 /// The bytes from `from` up to `to`.
-fn part(bytes: &[u8], from: usize, to: usize) -> &[u8]
+fn subslice(bytes: &[u8], from: usize, to: usize) -> &[u8]
     requires order { from ≤ to }
     requires inside { to ≤ length bytes.now }
     ensures { result.now ≡ slice_range bytes.now from to }
@@ -115,8 +118,8 @@ impl<W: Output> Output for PackingOutput<W> {
             self.failed = true;
             return Err(DeviceFault);
         }
-        self.make_room()?;
-        let done = pack_front(&mut self.pending[self.end..], from);
+        self.ensure_room()?;
+        let done = pack_words(&mut self.pending[self.end..], from);
         self.end += done.given;
         Ok(done.taken)
     }
@@ -129,9 +132,9 @@ impl<W: Output> Output for PackingOutput<W> {
 impl<W: BufferedOutput> BufferedOutput for PackingOutput<W> {
     ghost kept = { λ p. (p.end - p.sent) + W.kept p.packed };
 
-    fn pass_on(&mut self) -> Result<(), DeviceFault> {
-        self.flush()?;
-        if self.packed.pass_on().is_err() {
+    fn flush(&mut self) -> Result<(), DeviceFault> {
+        self.write_pending()?;
+        if self.packed.flush().is_err() {
             self.failed = true;
             return Err(DeviceFault);
         }

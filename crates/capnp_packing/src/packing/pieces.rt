@@ -3,7 +3,7 @@ ghost use Rattle.std.specs.Prelude.{◌≡◌, ◌≢◌, ◌≤◌, ◌<◌, �
 ghost use Rattle.capnp_packing.specs.Pieces.{UnpacksNext, is_before_count, piece_of, takes_next, taken_of, unpacked_piece};
 
 use super::place::{Place, step};
-use super::unpacking::{Progress, UNIT, put_zeros, raw_behind, unpack_words};
+use super::unpacking::{Progress, UNIT, fill_with_zeros, place_after_raw, unpack_words};
 
 /// Whether the next packed byte is a count.
 fn is_before_count(place: Place) -> bool
@@ -22,7 +22,7 @@ fn unpack_zeros_due(zeros: u16, place: Place, to: &mut [u8]) -> Progress
     ensures bytes { take result.given to.new ≡ replicate result.given 0 }
 {
     let given = to.len().min(zeros as usize);
-    put_zeros(&mut to[..given]);
+    fill_with_zeros(&mut to[..given]);
     Progress {
         taken: 0,
         given,
@@ -68,7 +68,7 @@ fn unpack_raw(left: u16, packed: &[u8], to: &mut [u8]) -> Progress
         taken: given,
         given,
         zeros: 0,
-        place: raw_behind(left, given),
+        place: place_after_raw(left, given),
     }
 }
 

@@ -33,7 +33,7 @@ impl<R: Input> ReadAhead<R> {
     }
 
     /// The bytes that are read ahead and not taken yet.
-    pub(super) fn ahead(&self) -> &[u8]
+    pub(super) fn buffer(&self) -> &[u8]
         ensures { result.now ≡ slice_range self.now.bytes self.now.at self.now.end }
     {
         &self.bytes[self.at..self.end]

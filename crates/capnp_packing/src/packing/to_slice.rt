@@ -4,7 +4,7 @@ ghost use Rattle.std.specs.Prelude.{◌≡◌, ◌≤◌, ◌+◌, ◌^◌, leng
 ghost use Rattle.capnp_packing.specs.Packing.{all_given, place_after, place_at_end, unpacked_bytes};
 
 use super::place::{Place, step};
-use super::unpacking::{UNIT, put_zeros, unpack_words};
+use super::unpacking::{UNIT, fill_with_zeros, unpack_words};
 
 /// How many bytes a packed byte unpacks to, and the next place.
 #[derive(Clone, Copy)]
@@ -16,7 +16,7 @@ struct Given {
 }
 
 /// Counts the bytes that `byte` unpacks to at `place`.
-fn count_given(place: Place, byte: u8) -> Given
+fn count_unpacked(place: Place, byte: u8) -> Given
     ensures count { result.count ≡ length (all_given place byte) }
     ensures next { result.next ≡ place_after place byte }
 {
@@ -36,7 +36,7 @@ fn count_given(place: Place, byte: u8) -> Given
 /// program may break the contract, with packed bytes that overlap `to`, or that another thread
 /// changes after they were counted. Even then, each write is inside `to`.
 #[inline(always)]
-fn within(count: usize, room: usize) -> usize
+fn clamp_to_room(count: usize, room: usize) -> usize
     requires { count ≤ room }
     ensures { result ≡ count }
 {
@@ -44,9 +44,9 @@ fn within(count: usize, room: usize) -> usize
 }
 
 /// Writes `byte` to the front of `to`. Does nothing if `to` is empty, which only a C program that
-/// breaks the contract can cause (see `within`).
+/// breaks the contract can cause (see `clamp_to_room`).
 #[inline(always)]
-fn put_first(byte: u8, to: &mut [u8])
+fn write_first(byte: u8, to: &mut [u8])
     requires { 1 ≤ length to.old }
     ensures { to.new ≡ slice_set to.old 0 byte }
 {
@@ -56,7 +56,7 @@ fn put_first(byte: u8, to: &mut [u8])
 }
 
 /// Unpacks `byte` at `place`, and writes the result to the front of `to`.
-fn put_given(place: Place, byte: u8, to: &mut [u8]) -> Given
+fn unpack_to_front(place: Place, byte: u8, to: &mut [u8]) -> Given
     requires { length (all_given place byte) ≤ length to.old }
     ensures bytes { take result.count to.new ≡ all_given place byte }
     ensures within { result.count ≤ length to.new }
@@ -67,14 +67,14 @@ fn put_given(place: Place, byte: u8, to: &mut [u8]) -> Given
     let next = taken.next;
     match taken.byte {
         Some(itself) => {
-            let count = within(1 + zeros, to.len());
-            put_first(itself, to);
-            put_zeros(&mut to[within(1, count)..count]);
+            let count = clamp_to_room(1 + zeros, to.len());
+            write_first(itself, to);
+            fill_with_zeros(&mut to[clamp_to_room(1, count)..count]);
             Given { count, next }
         }
         None => {
-            let count = within(zeros, to.len());
-            put_zeros(&mut to[..count]);
+            let count = clamp_to_room(zeros, to.len());
+            fill_with_zeros(&mut to[..count]);
             Given { count, next }
         }
     }
@@ -91,7 +91,7 @@ pub fn unpacked_size(packed: &[u8]) -> Option<(usize, Place)>
     let mut size: usize = 0;
     let mut place = Place::Tag;
     for byte in packed {
-        let given = count_given(place, *byte);
+        let given = count_unpacked(place, *byte);
         let Some(sum) = size.checked_add(given.count) else {
             return None;
         };
@@ -110,7 +110,7 @@ fn unpack_bytes(start: Place, packed: &[u8], to: &mut [u8])
     let mut place = start;
     let mut given = 0;
     for byte in packed {
-        let more = put_given(place, *byte, &mut to[given..]);
+        let more = unpack_to_front(place, *byte, &mut to[given..]);
         given += more.count;
         place = more.next;
     }
@@ -127,7 +127,7 @@ pub fn unpack_to_slice(packed: &[u8], to: &mut [u8])
         return;
     }
     let front = unpack_words(packed, to);
-    let behind = within(front.given + front.zeros as usize, to.len());
-    put_zeros(&mut to[front.given..behind]);
+    let behind = clamp_to_room(front.given + front.zeros as usize, to.len());
+    fill_with_zeros(&mut to[front.given..behind]);
     unpack_bytes(front.place, &packed[front.taken..], &mut to[behind..]);
 }

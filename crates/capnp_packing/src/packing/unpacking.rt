@@ -25,7 +25,7 @@ pub struct Progress {
 
 /// Zeroes all bytes.
 #[inline(always)]
-pub(super) fn put_zeros(to: &mut [u8])
+pub(super) fn fill_with_zeros(to: &mut [u8])
     ensures { to.new ≡ replicate (length to.old) 0 }
 {
     for byte in to.iter_mut() {
@@ -92,7 +92,7 @@ fn last_half(bits: u8, packed: &[u8]) -> u32
 /// Writes the bytes of a word: for each bit of `tag`, the next packed byte if the bit is set, and
 /// zero if not. Returns the number of packed bytes that were unpacked.
 #[inline(always)]
-fn put_word(tag: u8, packed: &[u8], to: &mut [u8]) -> usize
+fn unpack_tagged_word(tag: u8, packed: &[u8], to: &mut [u8]) -> usize
     requires packed { length packed.now ≡ 8 }
     requires room { length to.old ≡ 8 }
     ensures bytes { to.new ≡ expanded 8 tag packed.now }
@@ -119,7 +119,7 @@ fn unpack_zeros(more: u8, to: &mut [u8]) -> Progress
         result.zeros result.place }
 {
     if more == 0 {
-        put_zeros(&mut to[..8]);
+        fill_with_zeros(&mut to[..8]);
         return Progress {
             taken: 2,
             given: 8,
@@ -129,7 +129,7 @@ fn unpack_zeros(more: u8, to: &mut [u8]) -> Progress
     }
     let due = 8 + 8 * more as usize;
     let given = to.len().min(due);
-    put_zeros(&mut to[..given]);
+    fill_with_zeros(&mut to[..given]);
     Progress {
         taken: 2,
         given,
@@ -176,7 +176,7 @@ fn unpack_whole(packed: &[u8], to: &mut [u8]) -> Progress
 
 /// The place after the next `taken` bytes of words that aren't packed. `left` + 1 bytes of these
 /// words are still to be read: the next one, and `left` after it.
-pub(super) fn raw_behind(left: u16, taken: usize) -> Place
+pub(super) fn place_after_raw(left: u16, taken: usize) -> Place
     requires some { 0 < taken }
     requires inside { taken ≤ left + 1 }
     ensures { result ≡ (if nat_lt left taken then Place.Tag else Place.Raw (left - taken)) }
@@ -200,7 +200,7 @@ fn unpack_unit(packed: &[u8], to: &mut [u8]) -> Progress
     } else if tag == 255 {
         unpack_whole(packed, to)
     } else {
-        let taken = put_word(tag, &packed[1..9], &mut to[..8]);
+        let taken = unpack_tagged_word(tag, &packed[1..9], &mut to[..8]);
         Progress {
             taken: 1 + taken,
             given: 8,

@@ -9,7 +9,7 @@ ghost use Rattle.capnp_packing.specs.Unpacking.{UnpacksAhead, UnpacksSome};
 
 use super::place::{Place, step};
 use super::read_ahead::ReadAhead;
-use super::unpacking::{UNIT, put_zeros, raw_behind, unpack_words};
+use super::unpacking::{UNIT, fill_with_zeros, place_after_raw, unpack_words};
 use crate::buffered::BufferedInput;
 use capnp_framing::devices::{DeviceFault, Input};
 
@@ -50,7 +50,7 @@ impl<R: Input> UnpackingInput<R> {
     /// Tests whether the input has ended: returns `true` only if no unpacked byte is left, and the
     /// packed bytes aren't cut short. To find out, tries to read one unpacked byte. If there is
     /// one, no later read returns that byte.
-    pub fn finish(&mut self) -> Result<bool, DeviceFault>
+    pub fn is_whole_at_end(&mut self) -> Result<bool, DeviceFault>
         ensures whole { IsAtEnd (⟦<Self as Input>⟧.remaining self.old) → IfOk result
             (λ whole. KeepsWhole (⟦<Self as Input>⟧.ends_whole self.old) (Some whole)) }
         ensures end { IfOk result
@@ -128,7 +128,7 @@ impl<R: Input> UnpackingInput<R> {
             if !self.packed.fill()? {
                 return Ok(0);
             }
-            if self.is_whole() && to.len() >= 8 && self.packed.ahead().len() >= UNIT {
+            if self.is_whole() && to.len() >= 8 && self.packed.buffer().len() >= UNIT {
                 return Ok(self.unpack_ahead(to));
             }
             let taken = step(self.place, self.packed.next());
@@ -139,7 +139,7 @@ impl<R: Input> UnpackingInput<R> {
                 return Ok(1);
             }
         }
-        Ok(self.give_zeros(to))
+        Ok(self.write_due_zeros(to))
     }
 
     /// Unpacks words from the bytes read ahead to the front of `to`, and returns the number of
@@ -151,7 +151,7 @@ impl<R: Input> UnpackingInput<R> {
         requires room { 8 ≤ length to.old }
         ensures { UnpacksAhead R.Input result self.old self.new to.new }
     {
-        let progress = unpack_words(self.packed.ahead(), to);
+        let progress = unpack_words(self.packed.buffer(), to);
         self.packed.consume(progress.taken);
         self.place = progress.place;
         self.zeros = progress.zeros;
@@ -160,13 +160,13 @@ impl<R: Input> UnpackingInput<R> {
 
     /// Writes zero bytes that are already unpacked, but not returned yet, to the front of `to`.
     /// Returns the number of bytes written.
-    fn give_zeros(&mut self, to: &mut [u8]) -> usize
+    fn write_due_zeros(&mut self, to: &mut [u8]) -> usize
         requires due { 0 < self.old.zeros }
         requires room { 0 < length to.old }
         ensures { UnpacksAhead R.Input result self.old self.new to.new }
     {
         let n = to.len().min(self.zeros as usize);
-        put_zeros(&mut to[..n]);
+        fill_with_zeros(&mut to[..n]);
         self.zeros -= n as u16;
         n
     }
@@ -183,7 +183,7 @@ impl<R: Input> UnpackingInput<R> {
         let most = to.len().min(left as usize + 1);
         let n = self.packed.read(&mut to[..most])?;
         if n > 0 {
-            self.place = raw_behind(left, n);
+            self.place = place_after_raw(left, n);
         }
         Ok(n)
     }
@@ -215,6 +215,6 @@ impl<R: Input> BufferedInput for UnpackingInput<R> {
     ghost has_enough = { λ u. 10 ≤ u.packed.end - u.packed.at };
 
     fn is_ahead(&self) -> bool {
-        self.packed.ahead().len() >= UNIT
+        self.packed.buffer().len() >= UNIT
     }
 }

@@ -28,7 +28,7 @@ fn tag_of(word: &[u8]) -> u8
 }
 
 /// The number of zero words at the front of `bytes`, at most 255.
-fn zero_words(bytes: &[u8]) -> u8
+fn leading_zero_words(bytes: &[u8]) -> u8
     ensures within { 8 * result ≤ length bytes.now }
     ensures zeros { take (8 * result) bytes.now ≡ replicate (8 * result) 0 }
 {
@@ -53,7 +53,7 @@ fn is_full(word: u64) -> bool {
 }
 
 /// The number of words at the front of `bytes` that have at most one zero byte each; at most 255.
-fn full_words(bytes: &[u8]) -> u8
+fn leading_full_words(bytes: &[u8]) -> u8
     ensures { 8 * result ≤ length bytes.now }
 {
     let mut n = 0;
@@ -68,7 +68,7 @@ fn full_words(bytes: &[u8]) -> u8
 
 /// Writes those of `bytes` that aren't zero to the front of `to`, and returns their number.
 #[inline(always)]
-fn put_kept(to: &mut [u8], bytes: &[u8]) -> usize
+fn write_nonzero_bytes(to: &mut [u8], bytes: &[u8]) -> usize
     requires { length bytes.now ≤ length to.old }
     ensures kept { take result to.new ≡ nonzero_bytes bytes.now }
     ensures within { result ≤ length bytes.now }
@@ -86,18 +86,18 @@ fn put_kept(to: &mut [u8], bytes: &[u8]) -> usize
 /// Writes the bytes of `word` that aren't zero to the front of `to`, and returns their number. In
 /// most words the last three bytes are zero, as in a small number or the pointer to a short text.
 #[inline(always)]
-fn put_kept_of(tag: u8, to: &mut [u8], word: &[u8]) -> usize
+fn write_nonzero_bytes_of_word(tag: u8, to: &mut [u8], word: &[u8]) -> usize
     requires tag { tag ≡ tag_of_word word.now }
     requires room { length to.old ≡ 8 }
     requires word { length word.now ≡ 8 }
     ensures kept { take result to.new ≡ nonzero_bytes word.now }
     ensures within { result ≤ 8 }
 {
-    let n = put_kept(to, &word[..5]);
+    let n = write_nonzero_bytes(to, &word[..5]);
     if tag < 32 {
         return n;
     }
-    n + put_kept(&mut to[n..], &word[5..])
+    n + write_nonzero_bytes(&mut to[n..], &word[5..])
 }
 
 /// Packs a zero word, and at most 255 zero words right after it.
@@ -107,7 +107,7 @@ fn pack_zeros(to: &mut [u8], from: &[u8]) -> Packed
     requires zero { tag_of_word (take 8 from.now) ≡ 0 }
     ensures { PacksFront to.new from.now result }
 {
-    let n = zero_words(&from[8..]);
+    let n = leading_zero_words(&from[8..]);
     to[0] = 0;
     to[1] = n;
     Packed {
@@ -123,7 +123,7 @@ fn pack_full(to: &mut [u8], from: &[u8]) -> Packed
     requires { CanPack to.old from.now }
     ensures { PacksFront to.new from.now result }
 {
-    let n = full_words(&from[8..]);
+    let n = leading_full_words(&from[8..]);
     let more = 8 * n as usize;
     to[0] = 255;
     to[1..9].copy_from_slice(&from[..8]);
@@ -156,7 +156,7 @@ fn pack_unit(to: &mut [u8], from: &[u8]) -> Packed
         return pack_full(to, from);
     }
     to[0] = tag;
-    let n = put_kept_of(tag, &mut to[1..9], &from[..8]);
+    let n = write_nonzero_bytes_of_word(tag, &mut to[1..9], &from[..8]);
     Packed {
         taken: 8,
         given: 1 + n,
@@ -165,7 +165,7 @@ fn pack_unit(to: &mut [u8], from: &[u8]) -> Packed
 
 /// Packs words of `from`, in order, while there is a word left and `to` has room for `MOST_BYTES`
 /// more bytes.
-pub(super) fn pack_front(to: &mut [u8], from: &[u8]) -> Packed
+pub(super) fn pack_words(to: &mut [u8], from: &[u8]) -> Packed
     requires { CanPack to.old from.now }
     ensures { PacksFront to.new from.now result }
 {

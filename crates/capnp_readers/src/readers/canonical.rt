@@ -10,7 +10,7 @@ ghost use Rattle.capnp_readers.specs.Checking.{StartsWhole, IsDataUsed, ArePoint
 
 use crate::readers::{PointerReader, StructReader};
 use capnp_arena_traits::arena::ReaderArena;
-use capnp_objects::pointers::{CanonicalFault, ends_used};
+use capnp_objects::pointers::{CanonicalFault, is_last_word_used};
 use capnp_objects::source::Source;
 use capnp_words::error::ErrorKind;
 use capnp_words::read_limiter::ReadLimiter;
@@ -113,7 +113,7 @@ impl<'a, A: ReaderArena> StructReader<'a, A> {
         ensures flags { (result ≡ Ok true → ⊥) → (data_trunc.new ≡ data_trunc.old)
             × (ptr_trunc.new ≡ ptr_trunc.old) }
     {
-        if !self.begins_somewhere() {
+        if !self.has_start() {
             return Ok(false);
         }
         if self.bits % 64 != 0 || self.byte != 8 * u64::from(*read_head) {
@@ -124,8 +124,8 @@ impl<'a, A: ReaderArena> StructReader<'a, A> {
             return Ok(false);
         }
         let data_words = self.bits / 64;
-        *data_trunc = ends_used(self.pointers, *read_head, data_words);
-        *ptr_trunc = ends_used(self.pointers, self.pointers.at, count);
+        *data_trunc = is_last_word_used(self.pointers, *read_head, data_words);
+        *ptr_trunc = is_last_word_used(self.pointers, self.pointers.at, count);
         *read_head = read_head.saturating_add(data_words + count);
         Ok(true)
     }
@@ -172,7 +172,7 @@ impl<'a, A: ReaderArena> StructReader<'a, A> {
     }
 
     // Whether the struct starts somewhere: the one from nothing doesn't.
-    fn begins_somewhere(&self) -> bool
+    fn has_start(&self) -> bool
         ensures { IsTrue result ↔ self.now.source ≢ Source.Nothing }
     {
         match self.source {

@@ -13,7 +13,7 @@ ghost use Rattle.capnp_objects.specs.Rows.{rows_sized};
 ghost use Rattle.capnp_objects.specs.Objects.{IsHeld};
 ghost use Rattle.capnp_readers.specs.Sections.{IsPart, HasWordsFrom, HoldsPointer, elements_words, pointers_offset, bit_at, step_bits, data_bits, low_data};
 
-use crate::readers::{NO_SECTIONS, PointerReader, StructReader, are_bytes};
+use crate::readers::{NO_SECTIONS, PointerReader, StructReader, bytes_are_below_256};
 use capnp_arena_traits::arena::ReaderArena;
 use capnp_objects::object::Place;
 use capnp_objects::source::Source;
@@ -146,7 +146,7 @@ impl<'a, A: ReaderArena> ListReader<'a, A> {
             bytes,
             at: (place.byte / 8) as u32,
         };
-        Self::of_words(
+        Self::starting_at(
             Source::Arena(arena),
             start,
             place.size,
@@ -159,7 +159,7 @@ impl<'a, A: ReaderArena> ListReader<'a, A> {
     // The list whose elements start at a place.
     #[inline(always)]
     #[tactic(auto, using(capnp_format::proofs::WordsOf::part_words))]
-    pub(crate) fn of_words(
+    pub(crate) fn starting_at(
         source: Source<'a, A>,
         start: Place<'a>,
         element_size: ElementSize,
@@ -250,7 +250,7 @@ impl<'a, A: ReaderArena> ListReader<'a, A> {
         ensures value { (t : Tree) → ShowsListOf A.ReaderArena self.now t
             → result ≡ element_number t index }
     {
-        are_bytes(self.content);
+        bytes_are_below_256(self.content);
         self.lowest_data(index)
     }
 
@@ -301,7 +301,7 @@ impl<'a, A: ReaderArena> ListReader<'a, A> {
         ensures number { (t : Tree) → ShowsListOf A.ReaderArena self.now t
             → T.bits_of result ≡ element_number t index % 2 ^ (8 * T.BYTES) }
     {
-        are_bytes(self.content);
+        bytes_are_below_256(self.content);
         let n = T::BYTES;
         let step = self.step_bits() / 8;
         let start = index as usize * step as usize;
@@ -317,7 +317,7 @@ impl<'a, A: ReaderArena> ListReader<'a, A> {
         ensures number { (t : Tree) → ShowsListOf A.ReaderArena self.now t
             → (if result then 1 else 0) ≡ element_number t index % 2 }
     {
-        are_bytes(self.content);
+        bytes_are_below_256(self.content);
         let at = index as usize * self.step_bits() as usize;
         self.content[at / 8] >> (at % 8) & 1 == 1
     }
@@ -371,8 +371,8 @@ impl<'a, A: ReaderArena> ListReader<'a, A> {
             → ShowsListOf A.ReaderArena self.now (Flat size ns)
             → ShowsNumber A.ReaderArena result (element_bits size) (slice_index ns index) }
     {
-        are_bytes(self.content);
-        self.element_within(index, self.nesting_limit)
+        bytes_are_below_256(self.content);
+        self.element_with_limit(index, self.nesting_limit)
     }
 
     /// The same call as `ListReader::get_struct_element`.
@@ -392,7 +392,7 @@ impl<'a, A: ReaderArena> ListReader<'a, A> {
     }
 
     #[tactic(auto, using(crate::proofs::Sections::elements))]
-    fn element_within(&self, index: u32, nesting_limit: i32) -> StructReader<'a, A>
+    fn element_with_limit(&self, index: u32, nesting_limit: i32) -> StructReader<'a, A>
         requires range { index < self.now.count }
         requires size { size_number self.now.element_size ≢ 1 }
         ensures source { result.source ≡ self.now.source }
@@ -400,7 +400,7 @@ impl<'a, A: ReaderArena> ListReader<'a, A> {
         ensures nesting { result.nesting_limit ≡ nesting_limit }
     {
         match self.element_size {
-            ElementSize::InlineComposite => StructReader::of_words(
+            ElementSize::InlineComposite => StructReader::starting_at(
                 self.source,
                 Place {
                     at: self.start.at + index * self.struct_size.total(),
@@ -409,7 +409,7 @@ impl<'a, A: ReaderArena> ListReader<'a, A> {
                 self.struct_size,
                 nesting_limit,
             ),
-            _ => self.plain_element(index, nesting_limit),
+            _ => self.non_struct_element(index, nesting_limit),
         }
     }
 
@@ -418,7 +418,7 @@ impl<'a, A: ReaderArena> ListReader<'a, A> {
     #[tactic(auto, using(crate::proofs::Sections::elements))]
     #[cold]
     #[inline(never)]
-    fn plain_element(&self, index: u32, nesting_limit: i32) -> StructReader<'a, A>
+    fn non_struct_element(&self, index: u32, nesting_limit: i32) -> StructReader<'a, A>
         requires range { index < self.now.count }
         requires size { size_number self.now.element_size ≢ 1 }
         requires plain { size_number self.now.element_size ≤ 6 }
@@ -427,7 +427,7 @@ impl<'a, A: ReaderArena> ListReader<'a, A> {
         ensures nesting { result.nesting_limit ≡ nesting_limit }
     {
         match self.element_size {
-            ElementSize::Pointer => StructReader::of_words(
+            ElementSize::Pointer => StructReader::starting_at(
                 self.source,
                 Place {
                     at: self.start.at + index,
@@ -436,12 +436,12 @@ impl<'a, A: ReaderArena> ListReader<'a, A> {
                 ONE_POINTER,
                 nesting_limit,
             ),
-            _ => self.number(index, nesting_limit),
+            _ => self.number_element(index, nesting_limit),
         }
     }
 
     // An element that is a number, as a struct of its bits.
-    fn number(&self, index: u32, nesting_limit: i32) -> StructReader<'a, A>
+    fn number_element(&self, index: u32, nesting_limit: i32) -> StructReader<'a, A>
         requires range { index < self.now.count }
         requires whole { size_number self.now.element_size ≢ 1 }
         requires flat { size_number self.now.element_size ≤ 5 }

@@ -12,7 +12,7 @@ ghost use Rattle.capnp_objects.specs.Rows.{rows_sized};
 ghost use Rattle.capnp_objects.specs.Objects.{IsHeld};
 ghost use Rattle.capnp_readers.specs.Sections.{IsPart, IsInside, HasWordsFrom, bit_at, bytes_for};
 
-use crate::readers::{ListReader, NO_SECTIONS, PointerReader, are_bytes};
+use crate::readers::{ListReader, NO_SECTIONS, PointerReader, bytes_are_below_256};
 use capnp_arena_traits::arena::ReaderArena;
 use capnp_objects::object::Place;
 use capnp_objects::pointers::Pointer;
@@ -133,7 +133,7 @@ impl<'a, A: ReaderArena> StructReader<'a, A> {
     // The struct of whole words that starts at a place.
     #[inline(always)]
     #[tactic(auto, using(capnp_format::proofs::WordsOf::part_words))]
-    pub(crate) fn of_words(
+    pub(crate) fn starting_at(
         source: Source<'a, A>,
         start: Place<'a>,
         size: StructSize,
@@ -243,7 +243,7 @@ impl<'a, A: ReaderArena> StructReader<'a, A> {
             (rows_sized (sized 0 0) self.now.pointer_count) }
         ensures nesting { result.nesting_limit ≡ self.now.nesting_limit }
     {
-        ListReader::of_words(
+        ListReader::starting_at(
             self.source,
             self.pointers,
             ElementSize::Pointer,
@@ -277,7 +277,7 @@ impl<'a, A: ReaderArena> StructReader<'a, A> {
         ensures number { (bits x : ℕ) → ShowsNumber A.ReaderArena self.now bits x
             → T.bits_of result ≡ field_of_number bits x (8 * T.BYTES * offset) (8 * T.BYTES) }
     {
-        are_bytes(self.content);
+        bytes_are_below_256(self.content);
         let n = T::BYTES;
         if offset < self.bits as usize / 8 / n {
             let start = offset * n;
@@ -319,7 +319,7 @@ impl<'a, A: ReaderArena> StructReader<'a, A> {
         ensures number { (bits x : ℕ) → ShowsNumber A.ReaderArena self.now bits x
             → (IsTrue result ↔ (field_of_number bits x offset 1 ≡ 1)) }
     {
-        are_bytes(self.content);
+        bytes_are_below_256(self.content);
         offset < self.bits as usize && self.content[offset / 8] >> (offset % 8) & 1 == 1
     }
 

@@ -1,13 +1,13 @@
 //! Searches a value for the first pointer whose object is refused.
-ghost use Rattle.std.specs.Prelude.{◌≡◌, ◌≤◌, ◌+◌, ◌*◌, Ok, length, pred, IfOk};
+ghost use Rattle.std.specs.Prelude.{◌≡◌, ◌≤◌, ◌+◌, ◌*◌, Ok, length, IfOk};
 ghost use Rattle.capnp_objects.specs.Enter.{object_shape, read, result_shape};
 ghost use Rattle.capnp_objects.specs.Objects.{IsFew, IsHeld, IsObject};
 ghost use Rattle.capnp_objects.specs.Reading.{reading_at, segment_read, source_start};
-ghost use Rattle.capnp_objects.specs.Source.{levels};
 ghost use Rattle.capnp_objects.specs.Pointers.{reading, reading_on};
 ghost use Rattle.capnp_refusals.specs.Search.{demanded, permitted, search_elements, search_place, search_pointers};
 
 use capnp_arena_traits::arena::ReaderArena;
+use capnp_objects::nesting::one_level_less;
 use capnp_objects::object::{Object, Place, Purpose};
 use capnp_objects::pointers::Pointer;
 use capnp_objects::source::Source;
@@ -74,7 +74,7 @@ fn read_object<'a, A: ReaderArena>(
 }
 
 // Refuses a capability where none may be.
-fn permit(capabilities: bool, object: Object<'_>) -> Result<(), ErrorKind>
+fn refuse_capability(capabilities: bool, object: Object<'_>) -> Result<(), ErrorKind>
     ensures { result ≡ permitted capabilities (object_shape object.entry) }
 {
     match object {
@@ -133,7 +133,7 @@ fn search_object<A: ReaderArena>(
             });
         }
     };
-    match permit(demands.capabilities, object) {
+    match refuse_capability(demands.capabilities, object) {
         Ok(()) => {}
         Err(refusal) => {
             return Some(RefusedPointer {
@@ -143,7 +143,7 @@ fn search_object<A: ReaderArena>(
             });
         }
     }
-    let inner = less(nesting_limit);
+    let inner = one_level_less(nesting_limit);
     match object {
         Object::Null => None,
         Object::Capability(_) => None,
@@ -208,11 +208,4 @@ fn search_elements<A: ReaderArena>(
         }
     }
     None
-}
-
-// The nesting limit with one level less.
-fn less(nesting_limit: i32) -> i32
-    ensures { levels result ≡ pred (levels nesting_limit) }
-{
-    nesting_limit.saturating_sub(1)
 }

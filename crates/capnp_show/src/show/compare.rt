@@ -6,7 +6,7 @@ ghost use Rattle.capnp_show.specs.Show.{PrintsAtMost, PrintsSome};
 
 use super::json::{Json, Search};
 use super::message::write_json;
-use super::text::{Ended, MOST_BYTES, Text, front_of};
+use super::text::{Ended, MOST_BYTES, Text, text_prefix};
 use capnp_arena::arena::{ReaderArenaImpl, ReaderOptions, ReaderSegments};
 use capnp_framing::devices::{DeviceFault, Output, write_all};
 use capnp_words::read_limiter::ReadLimiter;
@@ -111,7 +111,7 @@ fn compare_lines(left: &[u8], right: &[u8]) -> Option<Difference>
     if left == right {
         return None;
     }
-    let at = common_front(left, right);
+    let at = common_prefix_length(left, right);
     let latest = if begins_object(left, at) && begins_object(right, at) {
         at
     } else {
@@ -121,7 +121,7 @@ fn compare_lines(left: &[u8], right: &[u8]) -> Option<Difference>
 }
 
 /// The number of bytes at the front that are the same in both.
-fn common_front(left: &[u8], right: &[u8]) -> usize {
+fn common_prefix_length(left: &[u8], right: &[u8]) -> usize {
     let most = left.len().min(right.len());
     let mut at = 0;
     while at < most && left[at] == right[at] {
@@ -197,7 +197,7 @@ fn push_found(text: &mut Text, line: &Json) -> Result<(), Ended> {
         None => 0,
     };
     let found = &bytes[start..];
-    let front = front_of(found);
+    let front = text_prefix(found);
     text.push(b" ")?;
     text.push(front)?;
     text.push(if front.len() < found.len() {

@@ -8,7 +8,7 @@ ghost use Rattle.capnp_messages.specs.PathEnds.{IsObjectRead, end_read, end_resu
 ghost use Rattle.capnp_show.specs.Shown.{IsPlain, Shows, add, array_within, show_elements, show_end};
 ghost use Rattle.capnp_show.specs.Shown.{show_object, show_refusal, show_struct, show_structs, show_within, shown_json};
 
-use super::objects::{are_bytes, bytes_at, pointer_after, pointer_inside, read_object};
+use super::objects::{bytes_are_below_256, bytes_at, pointer_inside, pointer_past, read_object};
 use super::path::{PathStep, PathText};
 use super::text::{CUT_OBJECT, Ended, Text};
 use capnp_arena_traits::arena::ReaderArena;
@@ -327,7 +327,7 @@ fn json_object<A: ReaderArena>(
     match object {
         Object::Null => json.text.push(b"}"),
         Object::Capability(index) => json.text.push_capability(index),
-        Object::Flat { start, size, count } => json.text.push_flat(start, size, count),
+        Object::Flat { start, size, count } => json.text.push_primitive_list(start, size, count),
         Object::Struct { start, size } => {
             json_struct(pointer_inside(from, start, 0), size, depth, json)
         }
@@ -356,9 +356,9 @@ fn json_struct<A: ReaderArena>(
 {
     let words = u32::from(size.data_words);
     let data = bytes_at(start.place, 8 * words as usize);
-    are_bytes(data);
+    bytes_are_below_256(data);
     json.text.push_data(data)?;
-    let first = pointer_after(start, words);
+    let first = pointer_past(start, words);
     json_pointers(false, first, u32::from(size.pointers), depth, json)
 }
 
@@ -383,7 +383,7 @@ fn json_pointers<A: ReaderArena>(
     for i in 0..count {
         json.text.push_comma(i)?;
         let len = json.enter(step_to(are_elements, i))?;
-        json_pointer(pointer_after(first, i), depth - 1, json)?;
+        json_pointer(pointer_past(first, i), depth - 1, json)?;
         json.leave(len);
     }
     json.text.push(b"]}")
@@ -433,7 +433,7 @@ fn json_elements<A: ReaderArena>(
         let len = json.enter(PathStep::Element(i))?;
         let start = json.text.len();
         json.text.push(b"{")?;
-        let element = pointer_after(first, i * size.total());
+        let element = pointer_past(first, i * size.total());
         json_struct(element, size, depth, json)?;
         json.end_object(start)?;
         json.leave(len);

@@ -1,8 +1,8 @@
 //! A message as lines of text, one for each object.
 use super::message::Showing;
-use super::objects::{bytes_at, number_at, place_at, pointer_after, pointer_inside, read_object};
+use super::objects::{bytes_at, number_at, place_past, pointer_inside, pointer_past, read_object};
 use super::path::{PathStep, PathText};
-use super::text::{CUT_COLORED_LINE, CUT_LINE, Ended, Text, front_of, text_of};
+use super::text::{CUT_COLORED_LINE, CUT_LINE, Ended, Text, as_text, text_prefix};
 use capnp_arena_traits::arena::ReaderArena;
 use capnp_messages::messages::ElementPlace;
 use capnp_objects::object::{Object, Place};
@@ -249,7 +249,7 @@ impl Lines {
     fn write_data(&mut self, start: Place, words: u32) -> Result<(), Ended> {
         for i in 0..words.min(MOST_ELEMENTS) {
             self.text.push(if i == 0 { b": 0x" } else { b" 0x" })?;
-            self.text.push_hex_number(place_at(start, i).word().0)?;
+            self.text.push_hex_number(place_past(start, i).word().0)?;
         }
         self.write_more(words)
     }
@@ -271,7 +271,12 @@ impl Lines {
     }
 
     /// Writes the rest of the line for a list of bits or numbers.
-    fn write_flat(&mut self, start: Place, size: ElementSize, count: u32) -> Result<(), Ended> {
+    fn write_primitive_list(
+        &mut self,
+        start: Place,
+        size: ElementSize,
+        count: u32,
+    ) -> Result<(), Ended> {
         self.write_kind(kind_of(size), count)?;
         self.write_start(start)?;
         match size {
@@ -297,7 +302,7 @@ impl Lines {
             return Ok(());
         }
         self.text.push(b": ")?;
-        match text_of(bytes) {
+        match as_text(bytes) {
             Some(text) => self.write_text(text.as_bytes()),
             None => self.write_hex(bytes),
         }
@@ -305,7 +310,7 @@ impl Lines {
 
     /// Writes UTF-8 bytes in quotes.
     fn write_text(&mut self, bytes: &[u8]) -> Result<(), Ended> {
-        let front = front_of(bytes);
+        let front = text_prefix(bytes);
         self.begin(LinePart::Text)?;
         self.text.push_quoted(front)?;
         self.end()?;
@@ -374,7 +379,7 @@ pub(super) fn show_element<A: ReaderArena>(
     let size = element.size;
     lines.write_path()?;
     lines.write_struct(element.first.place, size)?;
-    let first = pointer_after(element.first, u32::from(size.data_words));
+    let first = pointer_past(element.first, u32::from(size.data_words));
     show_below(first, u32::from(size.pointers), false, depth, lines)
 }
 
@@ -391,7 +396,7 @@ pub(super) fn show_pointer<A: ReaderArena>(
         Err(kind) => lines.write_refusal(kind.name()),
         Ok(Object::Null) => lines.text.push(b" null\n"),
         Ok(Object::Capability(index)) => lines.write_capability(index),
-        Ok(Object::Flat { start, size, count }) => lines.write_flat(start, size, count),
+        Ok(Object::Flat { start, size, count }) => lines.write_primitive_list(start, size, count),
         Ok(Object::Struct { start, size }) => {
             lines.write_struct(start, size)?;
             let first = pointer_inside(from, start, u32::from(size.data_words));
@@ -441,7 +446,7 @@ fn show_pointers<A: ReaderArena>(
     lines: &mut Lines,
 ) -> Result<(), Ended> {
     for i in 0..count {
-        let pointer = pointer_after(first, i);
+        let pointer = pointer_past(first, i);
         if !pointer.is_null() {
             let step = if are_elements {
                 PathStep::Element(i)
@@ -473,11 +478,11 @@ fn show_elements<A: ReaderArena>(
         return lines.write_deeper();
     }
     for i in 0..count.min(MOST_ELEMENTS) {
-        let element = pointer_after(first, i.saturating_mul(size.total()));
+        let element = pointer_past(first, i.saturating_mul(size.total()));
         let len = lines.path.enter(PathStep::Element(i))?;
         lines.write_path()?;
         lines.write_struct(element.place, size)?;
-        let pointers = pointer_after(element, u32::from(size.data_words));
+        let pointers = pointer_past(element, u32::from(size.data_words));
         show_pointers(pointers, u32::from(size.pointers), false, depth - 1, lines)?;
         lines.path.leave(len);
     }

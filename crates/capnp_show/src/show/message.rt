@@ -163,13 +163,13 @@ fn json_of<S: ReaderSegments>(
     let mut json = Json::new(alloc, lim, !showing.values);
     match write_json(arena, number, count, path, showing.depth, &mut json) {
         Ok(()) => Ok(json),
-        Err(Ended::Full) => cut(json),
+        Err(Ended::Full) => cut_line(json),
         Err(_) => Err(ShowFault::AllocationFailed),
     }
 }
 
 /// Returns the line that says that a message isn't shown, since its line would be too long.
-fn cut(mut json: Json) -> Result<Json, ShowFault> {
+fn cut_line(mut json: Json) -> Result<Json, ShowFault> {
     match json.write_cut() {
         Ok(()) => Ok(json),
         Err(_) => Err(ShowFault::AllocationFailed),

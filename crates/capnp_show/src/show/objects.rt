@@ -1,11 +1,10 @@
 //! The objects of a message, and the numbers in them.
-ghost use Rattle.std.specs.Prelude.{◌≡◌, ◌+◌, ◌*◌, ◌^◌, ◌<◌, ℕ, pred, take, drop, slice_index, IfOk};
+ghost use Rattle.std.specs.Prelude.{◌≡◌, ◌+◌, ◌*◌, ◌^◌, ◌<◌, ℕ, take, drop, slice_index, IfOk};
 ghost use Rattle.capnp_format.specs.Bytes.{words_of};
 ghost use Rattle.capnp_objects.specs.declared.object.Purpose.TheVariants.{Value};
 ghost use Rattle.capnp_objects.specs.Enter.{read, result_shape};
 ghost use Rattle.capnp_objects.specs.Objects.{IsHeld};
 ghost use Rattle.capnp_objects.specs.Reading.{place_past, source_start};
-ghost use Rattle.capnp_objects.specs.Source.{levels};
 ghost use Rattle.capnp_objects.specs.Entering.{IsObjectHeld};
 ghost use Rattle.capnp_messages.specs.Parts.{inside};
 ghost use Rattle.capnp_messages.specs.PathEnds.{IsObjectRead};
@@ -13,6 +12,7 @@ ghost use Rattle.capnp_objects.specs.Pointers.{reading};
 ghost use Rattle.capnp_show.specs.Numbers.{number_in, word_index};
 
 use capnp_arena_traits::arena::ReaderArena;
+use capnp_objects::nesting::one_level_less;
 use capnp_objects::object::{Object, Place};
 use capnp_objects::pointers::Pointer;
 use capnp_words::error::ErrorKind;
@@ -34,7 +34,7 @@ pub(super) fn read_object<'a, A: ReaderArena>(
 }
 
 /// The place `words` words after `start`. It saturates nowhere inside of an object.
-pub(super) fn place_at(start: Place, words: u32) -> Place
+pub(super) fn place_past(start: Place, words: u32) -> Place
     ensures bytes { result.bytes.now ≡ start.entry.bytes.now }
     ensures at { start.entry.at + words < 2 ^ 32 → result.at ≡ start.entry.at + words }
 {
@@ -60,19 +60,12 @@ pub(super) fn pointer_inside<'a, A: ReaderArena>(
             at: start.at.saturating_add(words),
             ..start
         },
-        nesting_limit: less(from.nesting_limit),
+        nesting_limit: one_level_less(from.nesting_limit),
     }
 }
 
-/// The nesting limit with one level less.
-fn less(nesting_limit: i32) -> i32
-    ensures { levels result ≡ pred (levels nesting_limit) }
-{
-    nesting_limit.saturating_sub(1)
-}
-
 /// The pointer `words` words after the pointer `first` of the same object.
-pub(super) fn pointer_after<'a, A: ReaderArena>(first: Pointer<'a, A>, words: u32) -> Pointer<'a, A>
+pub(super) fn pointer_past<'a, A: ReaderArena>(first: Pointer<'a, A>, words: u32) -> Pointer<'a, A>
     ensures { first.entry.place.at + words < 2 ^ 32
         → reading A.ReaderArena result ≡ place_past (reading A.ReaderArena first.entry) words }
 {
@@ -87,7 +80,7 @@ pub(super) fn pointer_after<'a, A: ReaderArena>(first: Pointer<'a, A>, words: u3
 }
 
 /// Does nothing: its contract says what bytes are.
-pub(super) fn are_bytes(bytes: &[u8])
+pub(super) fn bytes_are_below_256(bytes: &[u8])
     ensures { (i : ℕ) → slice_index bytes.now i < 256 }
 {}
 
@@ -106,11 +99,15 @@ pub(super) fn number_at(start: Place, size: ElementSize, index: u32) -> u64
     ensures { start.entry.at + word_index size index < 2 ^ 32 → result ≡ number_in size index
         (slice_index (words_of start.entry.bytes.now) (start.entry.at + word_index size index)) }
 {
-    number_of(place_at(start, word_of(size, index)).word().0, size, index)
+    element_in_word(
+        place_past(start, word_of_element(size, index)).word().0,
+        size,
+        index,
+    )
 }
 
 /// The word that element `index` of such a list is in, counted from the start of the list.
-fn word_of(size: ElementSize, index: u32) -> u32
+fn word_of_element(size: ElementSize, index: u32) -> u32
     ensures { result ≡ word_index size index }
 {
     match size {
@@ -123,7 +120,7 @@ fn word_of(size: ElementSize, index: u32) -> u32
 }
 
 /// Element `index` of such a list, which is in this word.
-fn number_of(word: u64, size: ElementSize, index: u32) -> u64
+fn element_in_word(word: u64, size: ElementSize, index: u32) -> u64
     ensures { result ≡ number_in size index word }
 {
     match size {

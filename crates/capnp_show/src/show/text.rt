@@ -218,7 +218,7 @@ fn escape_of(byte: u8) -> Option<&'static [u8]>
 
 /// The text that `bytes` are, without the zero at its end, if they read as text: UTF-8 that ends in
 /// one zero byte, without control characters other than tabs and line ends.
-pub(super) fn text_of(bytes: &[u8]) -> Option<&str>
+pub(super) fn as_text(bytes: &[u8]) -> Option<&str>
     ensures { MatchOption result (reads_as_text bytes.now ≡ false) (λ text.
         (reads_as_text bytes.now ≡ true) × (text.now ≡ without_last bytes.now)) }
 {
@@ -278,7 +278,7 @@ fn is_control(byte: u8) -> bool
 }
 
 /// The first characters of UTF-8 bytes, at most `MOST_TEXT` bytes.
-pub(super) fn front_of(bytes: &[u8]) -> &[u8]
+pub(super) fn text_prefix(bytes: &[u8]) -> &[u8]
     ensures { length result.now ≤ length bytes.now }
 {
     if bytes.len() <= MOST_TEXT {

@@ -13,8 +13,8 @@ ghost use Rattle.capnp_show.specs.Numbers.{flat_numbers, number_text};
 ghost use Rattle.capnp_show.specs.Shown.{array_begin, comma, cut_text, refusal_text};
 ghost use Rattle.capnp_show.specs.Shown.{sizes_members};
 
-use super::objects::{are_bytes, bytes_at, number_at};
-use super::text::{Ended, Text, text_of};
+use super::objects::{bytes_are_below_256, bytes_at, number_at};
+use super::text::{Ended, Text, as_text};
 use capnp_objects::object::Place;
 use capnp_words::wire_pointer::{ElementSize, StructSize};
 
@@ -98,7 +98,7 @@ impl Text {
     }
 
     /// Adds the rest of the object of a list of bits or numbers.
-    pub(super) fn push_flat(
+    pub(super) fn push_primitive_list(
         &mut self,
         start: Place,
         size: ElementSize,
@@ -109,7 +109,7 @@ impl Text {
         ensures { Adds result self.old.bytes.items self.new.bytes.items
             (flat_member (size_number size) (flat_numbers start.entry size count) ++ codes "}") }
     {
-        are_bytes(start.bytes);
+        bytes_are_below_256(start.bytes);
         match size {
             ElementSize::Void => self.push_last(b"\"void\":", u64::from(count)),
             ElementSize::Byte => self.push_bytes(bytes_at(start, count as usize)),
@@ -123,7 +123,7 @@ impl Text {
         ensures { Adds result self.old.bytes.items self.new.bytes.items
             (bytes_member bytes.now ++ codes "}") }
     {
-        match text_of(bytes) {
+        match as_text(bytes) {
             Some(text) => self.push_text(text.as_bytes()),
             None => self.push_hex_member(bytes),
         }

@@ -6,7 +6,7 @@ ghost use Rattle.capnp_format.specs.Bytes.{message};
 ghost use Rattle.capnp_streams.specs.Streams.{Answers, CountsRefusals, question_on, with_pointer};
 
 use super::fault::StreamError;
-use super::parts::{check, copy_asked, digest_asked, size_asked, validate};
+use super::parts::{canonicalize_for_task, check, digest_for_task, size_for_task, validate};
 use super::task::Task;
 use super::writing::{write_canonical, write_canonical_words, write_fault, write_hex_line};
 use capnp_arena::arena::{Allocator, ReaderArena, ReaderArenaImpl, ReaderSegments};
@@ -68,7 +68,7 @@ fn is_first_segment<S: ReaderSegments>(source: &ReaderArenaImpl<S>, bytes: &[u8]
 }
 
 /// Returns `holds` if the answer was written, and the error `WRITE_FAILED` if it wasn't.
-fn if_written(written: Result<(), DeviceFault>, holds: bool) -> Result<bool, StreamError>
+fn result_if_written(written: Result<(), DeviceFault>, holds: bool) -> Result<bool, StreamError>
     ensures written { OnOk written (result ≡ Ok holds) }
     ensures failed { OnErr written (result ≡ Err (StreamError.Frame WriteFailed)) }
 {
@@ -99,13 +99,13 @@ fn canon_copy<A: Allocator, S: ReaderSegments, W: Output>(
     let Some(allocator) = memory.allocator.take() else {
         unreachable!()
     };
-    match copy_asked(memory.alloc, allocator, source, task) {
+    match canonicalize_for_task(memory.alloc, allocator, source, task) {
         Ok(made) => {
             let words = canonical_bytes(&made);
             memory.was_canonical = is_first_segment(source, words);
             let written = write_canonical_words(output, words, task.hex, form);
             memory.allocator = Some(made.into_allocator());
-            if_written(written, true)
+            result_if_written(written, true)
         }
         Err((kind, allocator)) => {
             memory.allocator = Some(allocator);
@@ -133,9 +133,9 @@ fn canon<A: Allocator, S: ReaderSegments + Drop, W: Output>(
         (Command.Canon form) result }
 {
     let source = ReaderArenaImpl::new(segments, task.limits);
-    if memory.was_canonical && task.path.is_whole() {
+    if memory.was_canonical && task.path.is_empty() {
         if let Some(words) = canonical_segment(&source, task.limits.traversal_limit_in_words) {
-            return if_written(write_canonical_words(output, words, task.hex, form), true);
+            return result_if_written(write_canonical_words(output, words, task.hex, form), true);
         }
     }
     canon_copy(memory, form, task, &source, output)
@@ -160,10 +160,10 @@ fn digest<A: Allocator, S: ReaderSegments + Drop, W: Output>(
     let Some(allocator) = memory.allocator.take() else {
         unreachable!()
     };
-    let (digest, allocator) = digest_asked(memory.alloc, allocator, segments, task);
+    let (digest, allocator) = digest_for_task(memory.alloc, allocator, segments, task);
     memory.allocator = Some(allocator);
     match digest {
-        Ok(digest) => if_written(write_hex_line(output, &digest), true),
+        Ok(digest) => result_if_written(write_hex_line(output, &digest), true),
         Err(kind) => Err(StreamError::Layout(kind, None)),
     }
 }
@@ -187,17 +187,17 @@ pub(super) fn answer<A: Allocator, S: ReaderSegments + Drop, W: Output>(
     match task.command {
         Command::Canon(form) => canon(memory, form, task, segments, output),
         Command::Check => match check(segments, task.limits) {
-            Ok(None) => if_written(write_canonical(output), true),
-            Ok(Some(fault)) => if_written(write_fault(output, fault), false),
+            Ok(None) => result_if_written(write_canonical(output), true),
+            Ok(Some(fault)) => result_if_written(write_fault(output, fault), false),
             Err(kind) => Err(StreamError::Layout(kind, None)),
         },
-        Command::Size => match size_asked(segments, task) {
-            Ok(size) => if_written(write_size(output, size), true),
+        Command::Size => match size_for_task(segments, task) {
+            Ok(size) => result_if_written(write_size(output, size), true),
             Err(kind) => Err(StreamError::Layout(kind, None)),
         },
         Command::Digest => digest(memory, task, segments, output),
         Command::Validate => match validate(segments, task.limits) {
-            Ok(extent) => if_written(write_extent(output, extent.value), true),
+            Ok(extent) => result_if_written(write_extent(output, extent.value), true),
             Err(kind) => Err(StreamError::Layout(kind, None)),
         },
     }
@@ -206,7 +206,7 @@ pub(super) fn answer<A: Allocator, S: ReaderSegments + Drop, W: Output>(
 /// Adds to `fault` the pointer at which the message in `segments` is refused, if `fault` is the
 /// refusal of a pointer and `task` is about the whole message. The message is read once more for
 /// this.
-pub(super) fn located<S: ReaderSegments + Drop>(
+pub(super) fn locate_refusal<S: ReaderSegments + Drop>(
     fault: StreamError,
     task: Task,
     segments: S,
@@ -216,7 +216,7 @@ pub(super) fn located<S: ReaderSegments + Drop>(
 {
     match fault {
         StreamError::Layout(kind, _) => {
-            let pointer = if task.path.is_whole() {
+            let pointer = if task.path.is_empty() {
                 pointer_of_refusal(kind, task.command, segments, task.limits)
             } else {
                 None

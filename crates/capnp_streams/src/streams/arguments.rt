@@ -6,11 +6,11 @@ use super::options::{
     OptionName, Subcommand, ValueOption, looks_like_option, option_of, split_at_equals,
     subcommand_of,
 };
-use super::path::{Path, path_of};
+use super::path::{Path, parse_path};
 use super::task::{DiffTask, Request, ShowTask, Task};
 use capnp_arena::arena::ReaderOptions;
 use capnp_messages::messages::{Command, Form};
-use capnp_messages::text::{parse_budget, parse_nesting};
+use capnp_messages::text::{parse_nesting_limit, parse_traversal_limit};
 
 /// How many pointers below the first one are followed without `--depth`.
 const PLAIN_DEPTH: i32 = 64;
@@ -83,7 +83,7 @@ pub(super) enum ArgumentStep {
 
 impl ParsedArguments {
     /// Returns the line before any argument.
-    pub(super) fn plain() -> Self
+    pub(super) fn new() -> Self
         ensures { result ≡ no_arguments }
     {
         ParsedArguments {
@@ -96,7 +96,7 @@ impl ParsedArguments {
             hex: false,
             quiet: false,
             lists: false,
-            path: Path::whole(),
+            path: Path::empty(),
             json: false,
             values: false,
             depth: None,
@@ -130,7 +130,7 @@ impl ParsedArguments {
             Some(Subcommand::Check) if self.pack => (Subcommand::Check, OptionName::Pack),
             Some(Subcommand::Check) if self.hex => (Subcommand::Check, OptionName::Hex),
             Some(Subcommand::Check) if self.lists => (Subcommand::Check, OptionName::Check),
-            Some(Subcommand::Check) if !self.path.is_whole() => (Subcommand::Check, OptionName::At),
+            Some(Subcommand::Check) if !self.path.is_empty() => (Subcommand::Check, OptionName::At),
             Some(Subcommand::Check) => return None,
             Some(Subcommand::Size) if self.pack => (Subcommand::Size, OptionName::Pack),
             Some(Subcommand::Size) if self.hex => (Subcommand::Size, OptionName::Hex),
@@ -143,7 +143,7 @@ impl ParsedArguments {
             Some(Subcommand::Validate) if self.pack => (Subcommand::Validate, OptionName::Pack),
             Some(Subcommand::Validate) if self.hex => (Subcommand::Validate, OptionName::Hex),
             Some(Subcommand::Validate) if self.lists => (Subcommand::Validate, OptionName::Check),
-            Some(Subcommand::Validate) if !self.path.is_whole() => (
+            Some(Subcommand::Validate) if !self.path.is_empty() => (
                 Subcommand::Validate,
                 OptionName::At,
             ),
@@ -156,7 +156,7 @@ impl ParsedArguments {
             Some(Subcommand::Diff) if self.pack => (Subcommand::Diff, OptionName::Pack),
             Some(Subcommand::Diff) if self.hex => (Subcommand::Diff, OptionName::Hex),
             Some(Subcommand::Diff) if self.lists => (Subcommand::Diff, OptionName::Check),
-            Some(Subcommand::Diff) if !self.path.is_whole() => (Subcommand::Diff, OptionName::At),
+            Some(Subcommand::Diff) if !self.path.is_empty() => (Subcommand::Diff, OptionName::At),
             Some(Subcommand::Diff) => return None,
         };
         Some(ArgumentFault::NotOfCommand(subcommand, option))
@@ -226,7 +226,7 @@ impl ParsedArguments {
 
     /// Returns the step that replaces the line before by this one; an error if the command and
     /// options of this line can't be used together.
-    fn if_allowed(self) -> Result<ArgumentStep, ArgumentFault>
+    fn check_exclusions(self) -> Result<ArgumentStep, ArgumentFault>
         ensures { result ≡ step_if_allowed self }
     {
         match self.exclusion() {
@@ -236,7 +236,7 @@ impl ParsedArguments {
     }
 
     /// Returns what the argument `option`, without a `=`, does to the line.
-    fn with_option(self, option: OptionName) -> Result<ArgumentStep, ArgumentFault>
+    fn apply_option(self, option: OptionName) -> Result<ArgumentStep, ArgumentFault>
         ensures { result ≡ option_step option self }
     {
         match option {
@@ -252,36 +252,36 @@ impl ParsedArguments {
                 unpack: true,
                 ..self
             }
-            .if_allowed(),
-            OptionName::Pack => ParsedArguments { pack: true, ..self }.if_allowed(),
-            OptionName::Flat => ParsedArguments { flat: true, ..self }.if_allowed(),
+            .check_exclusions(),
+            OptionName::Pack => ParsedArguments { pack: true, ..self }.check_exclusions(),
+            OptionName::Flat => ParsedArguments { flat: true, ..self }.check_exclusions(),
             OptionName::FromFlat => ParsedArguments {
                 from_flat: true,
                 ..self
             }
-            .if_allowed(),
-            OptionName::Hex => ParsedArguments { hex: true, ..self }.if_allowed(),
+            .check_exclusions(),
+            OptionName::Hex => ParsedArguments { hex: true, ..self }.check_exclusions(),
             OptionName::Quiet => ParsedArguments {
                 quiet: true,
                 ..self
             }
-            .if_allowed(),
+            .check_exclusions(),
             OptionName::Check | OptionName::CheckLetter => ParsedArguments {
                 lists: true,
                 ..self
             }
-            .if_allowed(),
-            OptionName::Json => ParsedArguments { json: true, ..self }.if_allowed(),
+            .check_exclusions(),
+            OptionName::Json => ParsedArguments { json: true, ..self }.check_exclusions(),
             OptionName::Values => ParsedArguments {
                 values: true,
                 ..self
             }
-            .if_allowed(),
+            .check_exclusions(),
             OptionName::Color => ParsedArguments {
                 colors: true,
                 ..self
             }
-            .if_allowed(),
+            .check_exclusions(),
             OptionName::Depth => Ok(ArgumentStep::Goes(ParsedArguments {
                 expects: Some(ValueOption::Depth),
                 ..self
@@ -307,11 +307,11 @@ impl ParsedArguments {
 
     /// Returns the line with `text` as the value of `value_option`; `None` if `text` isn't a valid
     /// value of `value_option`.
-    fn with_value(self, value_option: ValueOption, text: &str) -> Option<Self>
+    fn parse_value(self, value_option: ValueOption, text: &str) -> Option<Self>
         ensures { result ≡ parsed_with_value value_option text.now self }
     {
         match value_option {
-            ValueOption::Nesting => match nesting(text) {
+            ValueOption::Nesting => match parse_levels(text) {
                 Some(nesting_limit) => Some(ParsedArguments {
                     limits: ReaderOptions {
                         nesting_limit,
@@ -322,7 +322,7 @@ impl ParsedArguments {
                 }),
                 None => None,
             },
-            ValueOption::Words => match budget(text) {
+            ValueOption::Words => match parse_number_or_none(text) {
                 Some(traversal_limit_in_words) => Some(ParsedArguments {
                     limits: ReaderOptions {
                         traversal_limit_in_words,
@@ -333,7 +333,7 @@ impl ParsedArguments {
                 }),
                 None => None,
             },
-            ValueOption::At => match path_of(text) {
+            ValueOption::At => match parse_path(text) {
                 Some(path) => Some(ParsedArguments {
                     path,
                     expects: None,
@@ -341,7 +341,7 @@ impl ParsedArguments {
                 }),
                 None => None,
             },
-            ValueOption::Depth => match nesting(text) {
+            ValueOption::Depth => match parse_levels(text) {
                 Some(depth) => Some(ParsedArguments {
                     depth: Some(depth),
                     expects: None,
@@ -349,7 +349,7 @@ impl ParsedArguments {
                 }),
                 None => None,
             },
-            ValueOption::Bytes => match budget(text) {
+            ValueOption::Bytes => match parse_number_or_none(text) {
                 Some(bytes) => Some(ParsedArguments {
                     bytes: Some(bytes),
                     expects: None,
@@ -363,7 +363,7 @@ impl ParsedArguments {
     /// Returns what `text`, as the value of `value_option`, does to the line; the error `fault` if
     /// `text` isn't a valid value of `value_option`; an error if the command doesn't have
     /// `value_option`.
-    fn with_value_or(
+    fn parse_value_or(
         self,
         value_option: ValueOption,
         text: &str,
@@ -371,15 +371,15 @@ impl ParsedArguments {
     ) -> Result<ArgumentStep, ArgumentFault>
         ensures { result ≡ step_or fault (parsed_with_value value_option text.now self) }
     {
-        match self.with_value(value_option, text) {
-            Some(line) => line.if_allowed(),
+        match self.parse_value(value_option, text) {
+            Some(line) => line.check_exclusions(),
             None => Err(fault),
         }
     }
 
     /// Returns what an argument does to the line that is an option's name, a `=` and `value`. The
     /// caller passes the option as `option`, or `None` if no option has this name.
-    fn with_assigned(
+    fn apply_assignment(
         self,
         option: Option<OptionName>,
         value: &str,
@@ -390,7 +390,7 @@ impl ParsedArguments {
             None => Err(ArgumentFault::UnknownOption),
             Some(OptionName::Nesting) => {
                 let value_option = ValueOption::Nesting;
-                self.with_value_or(
+                self.parse_value_or(
                     value_option,
                     value,
                     ArgumentFault::InvalidAssignment(value_option),
@@ -398,7 +398,7 @@ impl ParsedArguments {
             }
             Some(OptionName::Words) => {
                 let value_option = ValueOption::Words;
-                self.with_value_or(
+                self.parse_value_or(
                     value_option,
                     value,
                     ArgumentFault::InvalidAssignment(value_option),
@@ -406,7 +406,7 @@ impl ParsedArguments {
             }
             Some(OptionName::At) => {
                 let value_option = ValueOption::At;
-                self.with_value_or(
+                self.parse_value_or(
                     value_option,
                     value,
                     ArgumentFault::InvalidAssignment(value_option),
@@ -414,7 +414,7 @@ impl ParsedArguments {
             }
             Some(OptionName::Depth) => {
                 let value_option = ValueOption::Depth;
-                self.with_value_or(
+                self.parse_value_or(
                     value_option,
                     value,
                     ArgumentFault::InvalidAssignment(value_option),
@@ -422,7 +422,7 @@ impl ParsedArguments {
             }
             Some(OptionName::Bytes) => {
                 let value_option = ValueOption::Bytes;
-                self.with_value_or(
+                self.parse_value_or(
                     value_option,
                     value,
                     ArgumentFault::InvalidAssignment(value_option),
@@ -434,42 +434,42 @@ impl ParsedArguments {
 
     /// Returns what the argument `text` does to the line. The caller passes a text that looks like
     /// an option, but isn't just an option's name.
-    fn with_parted(self, text: &str) -> Result<ArgumentStep, ArgumentFault>
+    fn parse_assignment(self, text: &str) -> Result<ArgumentStep, ArgumentFault>
         ensures { result ≡ parted_step text.now self }
     {
         match split_at_equals(text) {
-            Some((name, value)) => self.with_assigned(option_of(name), value),
+            Some((name, value)) => self.apply_assignment(option_of(name), value),
             None => Err(ArgumentFault::UnknownOption),
         }
     }
 
     /// Returns what the argument `text` does to the line. The caller passes a text that looks like
     /// an option.
-    fn with_option_text(self, text: &str) -> Result<ArgumentStep, ArgumentFault>
+    fn parse_option(self, text: &str) -> Result<ArgumentStep, ArgumentFault>
         ensures { result ≡ named_step (option_named text.now) text.now self }
     {
         match option_of(text) {
-            Some(option) => self.with_option(option),
-            None => self.with_parted(text),
+            Some(option) => self.apply_option(option),
+            None => self.parse_assignment(text),
         }
     }
 
     /// Returns what the argument `text` does to the line. The caller passes a text that is neither
     /// an option nor the value of one: it is the command if the line has none yet, and otherwise a
     /// file.
-    fn with_operand(self, text: &str) -> Result<ArgumentStep, ArgumentFault>
+    fn parse_operand(self, text: &str) -> Result<ArgumentStep, ArgumentFault>
         ensures { result ≡ operand_step self.subcommand text.now self }
     {
         match self.subcommand {
             Some(_) => Ok(ArgumentStep::File),
-            None => self.with_command(subcommand_of(text)),
+            None => self.apply_subcommand(subcommand_of(text)),
         }
     }
 
     /// Returns what the command `subcommand` does to the line; the error `UnknownCommand` if
     /// `subcommand` is
     /// `None`.
-    fn with_command(self, subcommand: Option<Subcommand>) -> Result<ArgumentStep, ArgumentFault>
+    fn apply_subcommand(self, subcommand: Option<Subcommand>) -> Result<ArgumentStep, ArgumentFault>
         ensures { result ≡ command_step subcommand self }
     {
         match subcommand {
@@ -477,32 +477,32 @@ impl ParsedArguments {
                 subcommand: Some(subcommand),
                 ..self
             }
-            .if_allowed(),
+            .check_exclusions(),
             None => Err(ArgumentFault::UnknownCommand),
         }
     }
 
     /// Returns what the next argument, `text`, does to the line; an error if `text` can't follow
     /// the arguments before it.
-    pub(super) fn with_argument(self, text: &str) -> Result<ArgumentStep, ArgumentFault>
+    pub(super) fn parse_argument(self, text: &str) -> Result<ArgumentStep, ArgumentFault>
         ensures { result ≡ argument_step text.now self }
     {
         match self.expects {
             Some(value_option) => {
-                self.with_value_or(
+                self.parse_value_or(
                     value_option,
                     text,
                     ArgumentFault::InvalidValue(value_option),
                 )
             }
-            None if looks_like_option(text) && !self.ended => self.with_option_text(text),
-            None => self.with_operand(text),
+            None if looks_like_option(text) && !self.ended => self.parse_option(text),
+            None => self.parse_operand(text),
         }
     }
 
     /// Returns what the line asks for if no argument follows; an error if a command or the value of
     /// an option is missing.
-    pub(super) fn request(self) -> Result<Request, ArgumentFault>
+    pub(super) fn into_request(self) -> Result<Request, ArgumentFault>
         ensures { result ≡ end_of self }
     {
         if let Some(value_option) = self.expects {
@@ -605,16 +605,16 @@ impl ParsedArguments {
 }
 
 /// Returns the nesting limit that `text` states; `None` if `text` doesn't state one.
-fn nesting(text: &str) -> Option<i32>
+fn parse_levels(text: &str) -> Option<i32>
     ensures { result ≡ nesting_of text.now }
 {
-    parse_nesting(text)
+    parse_nesting_limit(text)
 }
 
 /// Returns the number that `text` states, which is `Some(None)` if `text` is
 /// `none`. Returns `None` if `text` doesn't state a traversal limit.
-fn budget(text: &str) -> Option<Option<usize>>
+fn parse_number_or_none(text: &str) -> Option<Option<usize>>
     ensures { result ≡ budget_of text.now }
 {
-    parse_budget(text)
+    parse_traversal_limit(text)
 }

@@ -8,14 +8,14 @@ ghost use Rattle.capnp_messages.specs.Messages.{IsReadable};
 
 use super::fault::StreamError;
 use super::parts::validate;
-use super::runs::{Stop, words_of};
+use super::runs::Stop;
 use super::task::DiffTask;
 use capnp_arena::arena::{ReaderOptions, ReaderSegments};
 use capnp_framing::devices::{DeviceFault, Input, Output, write_all};
-use capnp_framing::framing::{FrameError, OwnedSegments, read_into, read_segment_into};
+use capnp_framing::framing::{FrameError, OwnedSegments, most_words, read_into, read_segment_into};
 use capnp_messages::messages::Command;
 use capnp_messages::text::write_number;
-use capnp_packing::buffered::{BufferedInput, BufferedOutput, pass_on_before_waiting};
+use capnp_packing::buffered::{BufferedInput, BufferedOutput, flush_before_waiting};
 use capnp_packing::packing::UnpackingInput;
 use capnp_refusals::refusals::pointer_of_refusal;
 use capnp_show::show::{CompareFault, compare_messages};
@@ -100,8 +100,8 @@ impl Reading {
             (IsSmall (⟦<OwnedSegments as ReaderSegments>⟧.segments self.new.segments)) }
         ensures works { OnOk result (R.has_failed input.new ≡ false) }
     {
-        match read_into(input, words_of(limits), &mut self.segments) {
-            Ok(true) => match fault_of(&self.segments, limits) {
+        match read_into(input, most_words(limits), &mut self.segments) {
+            Ok(true) => match validation_fault(&self.segments, limits) {
                 None => Ok(true),
                 Some(fault) => Err(self.refused(fault)),
             },
@@ -118,8 +118,8 @@ impl Reading {
         ensures small { OnOk result
             (IsSmall (⟦<OwnedSegments as ReaderSegments>⟧.segments self.new.segments)) }
     {
-        match read_segment_into(input, words_of(limits), &mut self.segments) {
-            Ok(()) => match fault_of(&self.segments, limits) {
+        match read_segment_into(input, most_words(limits), &mut self.segments) {
+            Ok(()) => match validation_fault(&self.segments, limits) {
                 None => Ok(()),
                 Some(fault) => Err(self.refused(fault)),
             },
@@ -137,7 +137,7 @@ impl Reading {
 }
 
 /// Why the message isn't sound; `None` if its whole value can be read within the limits.
-fn fault_of(segments: &OwnedSegments, limits: ReaderOptions) -> Option<StreamError>
+fn validation_fault(segments: &OwnedSegments, limits: ReaderOptions) -> Option<StreamError>
     requires { IsSmall (⟦<OwnedSegments as ReaderSegments>⟧.segments segments.now) }
     ensures { IsNone result
         → IsReadable (message (⟦<OwnedSegments as ReaderSegments>⟧.segments segments.now)) limits }
@@ -238,8 +238,8 @@ pub fn run_diff<L: BufferedInput, R: BufferedInput, W: BufferedOutput>(
     let mut second = Reading::new(alloc, Side::Right);
     let mut is_same = true;
     for number in 1..u64::MAX {
-        if pass_on_before_waiting(left, output).is_err()
-            || pass_on_before_waiting(right, output).is_err()
+        if flush_before_waiting(left, output).is_err()
+            || flush_before_waiting(right, output).is_err()
         {
             return Err(DiffFault::WriteFailed);
         }
@@ -293,7 +293,7 @@ pub fn run_diff_packed<L: Input + Drop, R: Input + Drop, W: BufferedOutput>(
     let mut right = UnpackingInput::new(right);
     let compared = run_diff(alloc, task, &mut left, &mut right, output)?;
     if compared.longer != Some(Side::Left) {
-        finish(
+        check_whole_at_end(
             Side::Left,
             compared.messages,
             compared.left_bytes,
@@ -301,7 +301,7 @@ pub fn run_diff_packed<L: Input + Drop, R: Input + Drop, W: BufferedOutput>(
         )?;
     }
     if compared.longer != Some(Side::Right) {
-        finish(
+        check_whole_at_end(
             Side::Right,
             compared.messages,
             compared.right_bytes,
@@ -312,13 +312,13 @@ pub fn run_diff_packed<L: Input + Drop, R: Input + Drop, W: BufferedOutput>(
 }
 
 /// Tests that a packed input isn't cut short after its last message.
-fn finish<R: Input>(
+fn check_whole_at_end<R: Input>(
     side: Side,
     answered: u64,
     byte: u64,
     input: &mut UnpackingInput<R>,
 ) -> Result<(), DiffFault> {
-    let error = match input.finish() {
+    let error = match input.is_whole_at_end() {
         Ok(true) => return Ok(()),
         Ok(false) => FrameError::Truncated,
         Err(DeviceFault) => FrameError::ReadFailed,

@@ -5,13 +5,12 @@ ghost use Rattle.capnp_framing.specs.Writing.{IsUnwritten};
 ghost use Rattle.capnp_streams.specs.Flat.{CanFlatBeAnswered, HasTakenFlat, IsFlatDone, StopsFlat};
 ghost use Rattle.capnp_streams.specs.Streams.{AreWorking, IsOfDevices, IsWriteFault, RunsToEnd, refusals_behind, stage_of};
 
-use super::answers::{Memory, answer, located};
+use super::answers::{Memory, answer, locate_refusal};
 use super::fault::StreamError;
-use super::runs::words_of;
 use super::task::Task;
 use capnp_arena::arena::Allocator;
 use capnp_framing::devices::{Input, Output};
-use capnp_framing::framing::{OwnedSegments, read_segment_into_with};
+use capnp_framing::framing::{OwnedSegments, most_words, read_segment_into_with};
 use capnp_messages::messages::CopyMemory;
 use std::alloc::Global;
 
@@ -61,13 +60,18 @@ pub fn run_flat_with<A: Allocator, R: Input, W: Output>(
 {
     let mut allocator = allocator;
     let mut segments = OwnedSegments::new(alloc);
-    match read_segment_into_with(&mut allocator, input, words_of(task.limits), &mut segments) {
+    match read_segment_into_with(
+        &mut allocator,
+        input,
+        most_words(task.limits),
+        &mut segments,
+    ) {
         Ok(()) => {
             let mut memory = Memory::new(alloc, allocator);
             match answer(&mut memory, task, &segments, output) {
                 Ok(holds) => (Ok(holds), memory.into_allocator()),
                 Err(fault) => {
-                    let fault = located(fault, task, &segments);
+                    let fault = locate_refusal(fault, task, &segments);
                     (Err(fault), memory.into_allocator())
                 }
             }

@@ -55,7 +55,7 @@ pub fn run_packed_with<A: Allocator, R: Input + Drop, W: BufferedOutput>(
     let mut input = UnpackingInput::new(packed);
     let (answered, allocator) = run_with(alloc, allocator, task, &mut input, output);
     match answered {
-        Ok(summary) => match input.finish() {
+        Ok(summary) => match input.is_whole_at_end() {
             Ok(true) => (Ok(summary), allocator),
             Ok(false) => (Err(stop_after(summary, FrameError::Truncated)), allocator),
             Err(DeviceFault) => (Err(stop_after(summary, FrameError::ReadFailed)), allocator),

@@ -24,7 +24,7 @@ use std::alloc::Global;
 
 /// Makes the canonical copy that `task` asks for of the message in `source`, like `canonicalize` or
 /// `canonicalize_part`, within the nesting limit of `source`.
-pub(super) fn copy_asked<A: Allocator, S: ReaderSegments>(
+pub(super) fn canonicalize_for_task<A: Allocator, S: ReaderSegments>(
     alloc: Global,
     allocator: A,
     source: &ReaderArenaImpl<S>,
@@ -54,7 +54,7 @@ pub(super) fn copy_asked<A: Allocator, S: ReaderSegments>(
 
 /// Returns the digest that `task` asks for of the message, and the allocator, like `digest` or
 /// `digest_of_part`.
-pub(super) fn digest_asked<A: Allocator, S: ReaderSegments + Drop>(
+pub(super) fn digest_for_task<A: Allocator, S: ReaderSegments + Drop>(
     alloc: Global,
     allocator: A,
     segments: S,
@@ -79,7 +79,7 @@ pub(super) fn digest_asked<A: Allocator, S: ReaderSegments + Drop>(
 }
 
 /// Counts the words and capabilities that `task` asks for, like `size` or `size_of_part`.
-pub(super) fn size_asked<S: ReaderSegments + Drop>(
+pub(super) fn size_for_task<S: ReaderSegments + Drop>(
     segments: S,
     task: Task,
 ) -> Result<MessageSize, ErrorKind>

@@ -18,7 +18,7 @@ pub struct Path {
 
 impl Path {
     /// Returns the path without indexes.
-    pub fn whole() -> Self
+    pub fn empty() -> Self
         ensures { result ≡ no_path }
     {
         Path {
@@ -36,14 +36,14 @@ impl Path {
     }
 
     /// Whether the path has no indexes.
-    pub fn is_whole(&self) -> bool
+    pub fn is_empty(&self) -> bool
         ensures { result ≡ is_whole_path self.now }
     {
         self.indexes().is_empty()
     }
 
     /// Returns the path with `index` after its indexes; `None` if it has 32 already.
-    fn with(self, index: u32) -> Option<Self>
+    fn with_index(self, index: u32) -> Option<Self>
         ensures { result ≡ longer_path index self }
     {
         if self.count >= MOST {
@@ -59,11 +59,11 @@ impl Path {
 
     /// Returns the path with the index that `text` states after its indexes; `None` if `text`
     /// states none, or if the path has 32 indexes already.
-    fn with_text(self, text: &str) -> Option<Self>
+    fn with_parsed_index(self, text: &str) -> Option<Self>
         ensures { result ≡ path_with (index_of text.now) self }
     {
-        match index_of(text) {
-            Some(index) => self.with(index),
+        match parse_bracketed_index(text) {
+            Some(index) => self.with_index(index),
             None => None,
         }
     }
@@ -71,19 +71,19 @@ impl Path {
 
 /// Parses a path: 1 to 32 indexes between dots, each in decimal digits, with or without brackets,
 /// as in `0.2.[7].1`. Returns `None` for any other text, also if an index doesn't fit a `u32`.
-pub(super) fn path_of(text: &str) -> Option<Path>
+pub(super) fn parse_path(text: &str) -> Option<Path>
     ensures { result ≡ path_of text.now }
 {
-    let mut path = Path::whole();
+    let mut path = Path::empty();
     let mut rest = text;
-    while let Some((first, more)) = at_dot(rest) {
-        let Some(longer) = path.with_text(first) else {
+    while let Some((first, more)) = split_at_dot(rest) {
+        let Some(longer) = path.with_parsed_index(first) else {
             return None;
         };
         path = longer;
         rest = more;
     }
-    path.with_text(rest)
+    path.with_parsed_index(rest)
 }
 
 /// The indexes of a path that is parsed are those that the text states between its dots, in order.
@@ -93,7 +93,7 @@ pub fn paths_parsed()
 {}
 
 /// Returns the parts of `text` before and after its first dot; `None` if there is no dot.
-fn at_dot(text: &str) -> Option<(&str, &str)>
+fn split_at_dot(text: &str) -> Option<(&str, &str)>
     ensures { MatchOption result (position_or_len is_dot text.now ≡ length text.now) (λ x.
         (position_or_len is_dot text.now < length text.now)
         × (x.0.now ≡ before_first is_dot text.now)
@@ -104,7 +104,7 @@ fn at_dot(text: &str) -> Option<(&str, &str)>
 
 /// Returns the index that `text` states in decimal digits, with or without brackets; `None` if
 /// `text` states none.
-fn index_of(text: &str) -> Option<u32>
+fn parse_bracketed_index(text: &str) -> Option<u32>
     ensures { result ≡ index_of text.now }
 {
     parse_index(without_brackets(text))

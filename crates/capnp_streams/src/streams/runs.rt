@@ -3,16 +3,16 @@ ghost use Rattle.std.specs.Prelude.{◌≡◌, ◌⊎◌, [], Some, true, Ok, No
 ghost use Rattle.std.specs.Io.KnownBytes.{IsAtEnd, Keeps};
 ghost use Rattle.capnp_framing.specs.declared.framing.frame_error.FrameError.TheVariants.{ReadFailed};
 ghost use Rattle.capnp_framing.specs.Wholeness.{KeepsWhole};
-ghost use Rattle.capnp_streams.specs.Streams.{AreDone, AreWorking, CanBeAnswered, CountsRefusals, EndsAfter, IsOfDevices, IsWriteFault, RunsToEnd, Stage, StopsAt, WereAnswered, most_words, refusals_behind, stage_of};
+ghost use Rattle.capnp_streams.specs.Streams.{AreDone, AreWorking, CanBeAnswered, CountsRefusals, EndsAfter, IsOfDevices, IsWriteFault, RunsToEnd, Stage, StopsAt, WereAnswered, refusals_behind, stage_of};
 
-use super::answers::{Memory, answer, located};
+use super::answers::{Memory, answer, locate_refusal};
 use super::fault::StreamError;
 use super::task::Task;
-use capnp_arena::arena::{Allocator, ReaderOptions};
+use capnp_arena::arena::Allocator;
 use capnp_framing::devices::{Input, Output};
-use capnp_framing::framing::{FrameError, OwnedSegments, read_into_with};
+use capnp_framing::framing::{FrameError, OwnedSegments, most_words, read_into_with};
 use capnp_messages::messages::CopyMemory;
-use capnp_packing::buffered::{BufferedInput, BufferedOutput, pass_on_before_waiting};
+use capnp_packing::buffered::{BufferedInput, BufferedOutput, flush_before_waiting};
 use std::alloc::Global;
 
 /// The result of a run that has answered all messages of a stream.
@@ -46,16 +46,6 @@ struct Answered {
     holds: bool,
     /// The size of the message's frame in bytes.
     bytes: u64,
-}
-
-/// Returns the largest number of words that a message may have; a frame with more words isn't read.
-pub(super) fn words_of(limits: ReaderOptions) -> u64
-    ensures { result ≡ most_words limits }
-{
-    match limits.traversal_limit_in_words {
-        Some(words) => words as u64,
-        None => u64::MAX,
-    }
 }
 
 /// Reads the next message and answers it. Returns `None` at the end of the input.
@@ -92,14 +82,14 @@ fn answer_next<A: Allocator, R: BufferedInput, W: BufferedOutput>(
     let Some(allocator) = &mut memory.allocator else {
         unreachable!()
     };
-    match read_into_with(allocator, input, words_of(task.limits), segments) {
+    match read_into_with(allocator, input, most_words(task.limits), segments) {
         Ok(false) => Ok(None),
         Ok(true) => match answer(memory, task, &*segments, output) {
             Ok(holds) => Ok(Some(Answered {
                 holds,
                 bytes: segments.size_in_bytes() as u64,
             })),
-            Err(fault) => Err(located(fault, task, &*segments)),
+            Err(fault) => Err(locate_refusal(fault, task, &*segments)),
         },
         Err(error) => Err(StreamError::Frame(error)),
     }
@@ -107,7 +97,7 @@ fn answer_next<A: Allocator, R: BufferedInput, W: BufferedOutput>(
 
 /// Flushes the answers so far, unless the next message is already in the input's buffer; then reads
 /// this message and answers it. Returns `None` at the end of the input.
-fn next<A: Allocator, R: BufferedInput, W: BufferedOutput>(
+fn flush_and_answer_next<A: Allocator, R: BufferedInput, W: BufferedOutput>(
     task: Task,
     input: &mut R,
     segments: &mut OwnedSegments,
@@ -133,7 +123,7 @@ fn next<A: Allocator, R: BufferedInput, W: BufferedOutput>(
     ensures memory { CountsRefusals A.refusals memory.old.allocator memory.new.allocator
         task.command result }
 {
-    if pass_on_before_waiting(input, output).is_err() {
+    if flush_before_waiting(input, output).is_err() {
         return Err(StreamError::Frame(FrameError::WriteFailed));
     }
     answer_next(task, input, segments, memory, output)
@@ -199,7 +189,7 @@ pub fn run_with<A: Allocator, R: BufferedInput, W: BufferedOutput>(
     let mut bytes = 0u64;
     let mut holds = true;
     for number in 0..u64::MAX {
-        match next(task, input, &mut segments, &mut memory, output) {
+        match flush_and_answer_next(task, input, &mut segments, &mut memory, output) {
             Ok(None) => {
                 let summary = Summary {
                     messages: number,

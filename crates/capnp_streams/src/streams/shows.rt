@@ -5,12 +5,12 @@ ghost use Rattle.capnp_show.specs.Show.{PrintsAtMost};
 ghost use Rattle.capnp_streams.specs.Streams.{AreWorking};
 
 use super::fault::StreamError;
-use super::runs::{Stop, Summary, words_of};
+use super::runs::{Stop, Summary};
 use super::task::ShowTask;
 use capnp_arena::arena::ReaderSegments;
 use capnp_framing::devices::{DeviceFault, Input, Output};
-use capnp_framing::framing::{FrameError, OwnedSegments, read_into, read_segment_into};
-use capnp_packing::buffered::{BufferedInput, BufferedOutput, pass_on_before_waiting};
+use capnp_framing::framing::{FrameError, OwnedSegments, most_words, read_into, read_segment_into};
+use capnp_packing::buffered::{BufferedInput, BufferedOutput, flush_before_waiting};
 use capnp_packing::packing::UnpackingInput;
 use capnp_show::show::{MOST_BYTES, ShowFault, Showing, show_message};
 use std::alloc::Global;
@@ -56,10 +56,10 @@ fn show_next<R: BufferedInput, W: BufferedOutput>(
     requires { AreWorking R.Input W.Output input.old output.old }
     ensures { OnOk result (AreWorking R.Input W.Output input.new output.new) }
 {
-    if pass_on_before_waiting(input, output).is_err() {
+    if flush_before_waiting(input, output).is_err() {
         return Err(StreamError::Frame(FrameError::WriteFailed));
     }
-    match read_into(input, words_of(task.limits), segments) {
+    match read_into(input, most_words(task.limits), segments) {
         Ok(false) => Ok(None),
         Ok(true) => match show(alloc, task, number, &*segments, output) {
             Ok(is_sound) => Ok(Some(is_sound)),
@@ -132,7 +132,7 @@ pub fn run_show_packed<R: Input + Drop, W: BufferedOutput>(
 {
     let mut input = UnpackingInput::new(packed);
     let summary = run_show(alloc, task, &mut input, output)?;
-    let error = match input.finish() {
+    let error = match input.is_whole_at_end() {
         Ok(true) => return Ok(summary),
         Ok(false) => FrameError::Truncated,
         Err(DeviceFault) => FrameError::ReadFailed,
@@ -157,7 +157,7 @@ pub fn run_show_flat<R: Input, W: Output>(
     ensures works { OnOk result (W.has_failed output.new ≡ false) }
 {
     let mut segments = OwnedSegments::new(alloc);
-    match read_segment_into(input, words_of(task.limits), &mut segments) {
+    match read_segment_into(input, most_words(task.limits), &mut segments) {
         Ok(()) => show(alloc, task, 1, &segments, output),
         Err(error) => Err(StreamError::Frame(error)),
     }

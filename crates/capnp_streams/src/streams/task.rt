@@ -124,11 +124,11 @@ pub fn parse_args(args: &[String]) -> Result<Request, WrongArgument>
     ensures first { IfErr result (λ wrong. wrong.at < length args.now → (more : List (List ℕ))
         → request_of (take (wrong.at + 1) (map string_bytes args.now) ++ more) ≡ Err wrong) }
 {
-    let mut line = ParsedArguments::plain();
+    let mut line = ParsedArguments::new();
     let mut at = 0;
     let mut rest = args;
     while let Some((arg, more)) = rest.split_first() {
-        match line.with_argument(arg.as_str()) {
+        match line.parse_argument(arg.as_str()) {
             Ok(ArgumentStep::Goes(next)) => line = next,
             Ok(ArgumentStep::File) => {}
             Ok(ArgumentStep::Stops(request)) => return Ok(request),
@@ -137,7 +137,7 @@ pub fn parse_args(args: &[String]) -> Result<Request, WrongArgument>
         at += 1;
         rest = more;
     }
-    match line.request() {
+    match line.into_request() {
         Ok(request) => Ok(request),
         Err(fault) => Err(WrongArgument { at, fault }),
     }
@@ -149,10 +149,10 @@ pub fn named_files(alloc: Global, args: &[String]) -> Result<Vec<String>, AllocE
         map string_bytes files.items ≡ files_of (map string_bytes args.now)) }
 {
     let mut files = Vec::new(alloc);
-    let mut line = ParsedArguments::plain();
+    let mut line = ParsedArguments::new();
     let mut rest = args;
     while let Some((arg, more)) = rest.split_first() {
-        match line.with_argument(arg.as_str()) {
+        match line.parse_argument(arg.as_str()) {
             Ok(ArgumentStep::Goes(next)) => line = next,
             Ok(ArgumentStep::File) => files.push(arg.clone()?)?,
             Ok(ArgumentStep::Stops(_)) | Err(_) => return Ok(files),

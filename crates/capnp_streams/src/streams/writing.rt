@@ -28,7 +28,7 @@ pub(super) fn write_canonical<W: Output>(output: &mut W) -> Result<(), DeviceFau
 
 /// Writes the beginning of the line for a message that isn't canonical.
 #[tactic(auto, unfolding(crate::specs::Streams::no_text))]
-fn write_no<W: Output>(output: &mut W) -> Result<(), DeviceFault>
+fn write_not_canonical<W: Output>(output: &mut W) -> Result<(), DeviceFault>
     requires { W.has_failed output.old ≡ false }
     ensures { Writes W.Output result output.old output.new no_text }
 {
@@ -64,7 +64,7 @@ pub(super) fn write_fault<W: Output>(
     requires { W.has_failed output.old ≡ false }
     ensures { Writes W.Output result output.old output.new (fault_line fault) }
 {
-    write_no(output)?;
+    write_not_canonical(output)?;
     write_all(output, fault.reason.text().as_bytes())?;
     write_segment(output, fault.segment)?;
     write_word_number(output, u64::from(fault.word))

@@ -80,7 +80,7 @@ fn walked_object(parent: u64, pointer: Place<'_>, object: Object<'_>) -> Option<
         Object::Flat { start, size, count } => Some(WalkedObject {
             segment: start.segment,
             word: start.at,
-            kind: number_of(size),
+            kind: size_code(size),
             count,
             ..entry
         }),
@@ -104,7 +104,7 @@ fn walked_object(parent: u64, pointer: Place<'_>, object: Object<'_>) -> Option<
 }
 
 // The number by which an element size is encoded.
-fn number_of(size: ElementSize) -> u32
+fn size_code(size: ElementSize) -> u32
     ensures { result ≡ size_number size }
 {
     match size {

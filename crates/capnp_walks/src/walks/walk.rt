@@ -1,13 +1,13 @@
 //! Walks over the objects of a value.
-ghost use Rattle.std.specs.Prelude.{◌≡◌, ◌≤◌, ◌+◌, ◌*◌, Ok, length, pred};
+ghost use Rattle.std.specs.Prelude.{◌≡◌, ◌≤◌, ◌+◌, ◌*◌, Ok, length};
 ghost use Rattle.capnp_objects.specs.Reading.{segment_read};
-ghost use Rattle.capnp_objects.specs.Source.{levels};
 ghost use Rattle.capnp_objects.specs.Pointers.{reading, reading_on};
 ghost use Rattle.capnp_walks.specs.Listing.{into_array, no_parent};
 ghost use Rattle.capnp_walks.specs.Walks.{walk_elements, walk_place, walk_pointers};
 
 use crate::walks::listing::{NO_PARENT, WalkedObject, add_object};
 use capnp_arena_traits::arena::ReaderArena;
+use capnp_objects::nesting::one_level_less;
 use capnp_objects::object::{Object, Place};
 use capnp_objects::pointers::Pointer;
 use capnp_refusals::refusals::RefusedPointer;
@@ -84,7 +84,7 @@ fn walk_object<A: ReaderArena>(
     };
     let index = *count;
     add_object(parent, place, object, objects, count);
-    let inner = less(nesting_limit);
+    let inner = one_level_less(nesting_limit);
     match object {
         Object::Null => None,
         Object::Capability(_) => None,
@@ -158,11 +158,4 @@ fn walk_elements<A: ReaderArena>(
         }
     }
     None
-}
-
-// The nesting limit with one level less.
-fn less(nesting_limit: i32) -> i32
-    ensures { levels result ≡ pred (levels nesting_limit) }
-{
-    nesting_limit.saturating_sub(1)
 }

@@ -2,8 +2,8 @@
 ghost use Rattle.capnp_builders.specs.Defaults.{IsShortDefault};
 
 use super::call::{Blob, BlobCall};
-use super::place::pointer;
-use super::pointers::{LIST_LIMIT, default_of};
+use super::place::pointer_builder;
+use super::pointers::{LIST_LIMIT, default_bytes};
 use crate::calls::Values;
 use crate::output::Output;
 use crate::parse::{self, Fault};
@@ -21,21 +21,21 @@ pub fn call<A: BuilderArena>(
     out: &mut Output,
 ) -> Result<(), Fault> {
     let bytes = parse::bytes(alloc, values.hex.unwrap_or("-"))?;
-    let default = default_of(values, bytes.as_slice())?;
+    let default = default_bytes(values, bytes.as_slice())?;
     match call {
-        BlobCall::Init => init(arena, place, (blob, values.count), bytes.as_slice(), out),
-        BlobCall::Set => set(arena, place, blob, bytes.as_slice(), out),
-        BlobCall::Find => find(arena, place, blob, default, out),
+        BlobCall::Init => init_blob(arena, place, (blob, values.count), bytes.as_slice(), out),
+        BlobCall::Set => set_blob(arena, place, blob, bytes.as_slice(), out),
+        BlobCall::Find => push_blob_place(arena, place, blob, default, out),
         BlobCall::Get => {
-            out.hex_or_dash(lent(arena, place, blob, default)?);
+            out.push_hex_or_dash(get_bytes(arena, place, blob, default)?);
             Ok(())
         }
-        BlobCall::Write => write(lent(arena, place, blob, default)?, values, out),
+        BlobCall::Write => write_byte(get_bytes(arena, place, blob, default)?, values, out),
     }
 }
 
 // Makes `count` bytes, and writes the first of them.
-fn init<A: BuilderArena>(
+fn init_blob<A: BuilderArena>(
     arena: &mut A,
     place: PointerPlace,
     (blob, count): (Blob, u32),
@@ -45,20 +45,20 @@ fn init<A: BuilderArena>(
     if first.len() > count as usize {
         return Err(Fault::Unfit);
     }
-    let bytes = made(arena, place, blob, count)?;
+    let bytes = init_bytes(arena, place, blob, count)?;
     write_first(bytes, first);
-    out.put(bytes.len());
+    out.push(bytes.len());
     Ok(())
 }
 
 // The bytes of a text or of data that is made, for writing.
-fn made<'a, A: BuilderArena>(
+fn init_bytes<'a, A: BuilderArena>(
     arena: &'a mut A,
     place: PointerPlace,
     blob: Blob,
     count: u32,
 ) -> Result<&'a mut [u8], Fault> {
-    let pointer = pointer(arena, place)?;
+    let pointer = pointer_builder(arena, place)?;
     match blob {
         Blob::Text if count < LIST_LIMIT - 1 => Ok(pointer.init_text(count)?),
         Blob::Data if count < LIST_LIMIT => Ok(pointer.init_data(count)?),
@@ -74,26 +74,26 @@ fn write_first(bytes: &mut [u8], first: &[u8]) {
 }
 
 // Makes a text or data of given bytes.
-fn set<A: BuilderArena>(
+fn set_blob<A: BuilderArena>(
     arena: &mut A,
     place: PointerPlace,
     blob: Blob,
     bytes: &[u8],
     out: &mut Output,
 ) -> Result<(), Fault> {
-    let mut pointer = pointer(arena, place)?;
+    let mut pointer = pointer_builder(arena, place)?;
     let limit = LIST_LIMIT as usize;
     match blob {
         Blob::Text if bytes.len() < limit - 1 => pointer.set_text(bytes)?,
         Blob::Data if bytes.len() < limit => pointer.set_data(bytes)?,
         _ => return Err(Fault::Unfit),
     }
-    out.text("ok");
+    out.push_text("ok");
     Ok(())
 }
 
 // Adds where a text or data is.
-fn find<A: BuilderArena>(
+fn push_blob_place<A: BuilderArena>(
     arena: &mut A,
     place: PointerPlace,
     blob: Blob,
@@ -102,19 +102,19 @@ fn find<A: BuilderArena>(
 ) -> Result<(), Fault>
     requires { IsShortDefault default }
 {
-    let mut pointer = pointer(arena, place)?;
+    let mut pointer = pointer_builder(arena, place)?;
     let found = match blob {
         Blob::Text => pointer.get_text_place(default)?,
         Blob::Data => pointer.get_data_place(default)?,
     };
-    out.put(found.segment);
-    out.slash(found.start);
-    out.slash(found.length);
+    out.push(found.segment);
+    out.push_slashed(found.start);
+    out.push_slashed(found.length);
     Ok(())
 }
 
 // The bytes of a text or of data, for writing.
-fn lent<'a, A: BuilderArena>(
+fn get_bytes<'a, A: BuilderArena>(
     arena: &'a mut A,
     place: PointerPlace,
     blob: Blob,
@@ -122,7 +122,7 @@ fn lent<'a, A: BuilderArena>(
 ) -> Result<&'a mut [u8], Fault>
     requires { IsShortDefault default }
 {
-    let pointer = pointer(arena, place)?;
+    let pointer = pointer_builder(arena, place)?;
     match blob {
         Blob::Text => Ok(pointer.get_text(default)?),
         Blob::Data => Ok(pointer.get_data(default)?),
@@ -130,11 +130,11 @@ fn lent<'a, A: BuilderArena>(
 }
 
 // Writes one of these bytes.
-fn write(bytes: &mut [u8], values: &Values<'_>, out: &mut Output) -> Result<(), Fault> {
+fn write_byte(bytes: &mut [u8], values: &Values<'_>, out: &mut Output) -> Result<(), Fault> {
     let Some(at) = bytes.get_mut(values.index) else {
         return Err(Fault::Unfit);
     };
     *at = values.byte;
-    out.text("ok");
+    out.push_text("ok");
     Ok(())
 }

@@ -1,7 +1,7 @@
 //! Calls that copy from another message.
 
 use super::call::Copying;
-use super::place::{Place, pointer, structure};
+use super::place::{Place, pointer_builder, struct_builder};
 use crate::calls::Values;
 use crate::elements::{Reader, struct_at};
 use crate::output::Output;
@@ -40,14 +40,14 @@ fn copy_from<A: BuilderArena, B: ReaderArena>(
     out: &mut Output,
 ) -> Result<(), Fault> {
     let mut lim = ReadLimiter::new(values.source.options.traversal_limit_in_words);
-    match original(message, copying, values, &mut lim) {
+    match read_original(message, copying, values, &mut lim) {
         Ok(original) => {
-            let copied = put_copy(arena, place, original, values.flag, &mut lim);
-            put_outcome(copied, &lim, out)
+            let copied = copy_to_place(arena, place, original, values.flag, &mut lim);
+            push_outcome(copied, &lim, out)
         }
         Err(Fault::Refused(kind)) => {
-            out.text("source:");
-            out.put(kind);
+            out.push_text("source:");
+            out.push(kind);
             Ok(())
         }
         Err(fault) => Err(fault),
@@ -55,54 +55,54 @@ fn copy_from<A: BuilderArena, B: ReaderArena>(
 }
 
 // Adds the outcome of a copy, and what the limiter then has.
-fn put_outcome(
+fn push_outcome(
     copied: Result<(), Fault>,
     lim: &ReadLimiter,
     out: &mut Output,
 ) -> Result<(), Fault> {
     match copied {
-        Ok(()) => out.text("ok"),
-        Err(Fault::Refused(kind)) => out.put(kind),
+        Ok(()) => out.push_text("ok"),
+        Err(Fault::Refused(kind)) => out.push(kind),
         Err(fault) => return Err(fault),
     }
-    out.text("/");
-    out.left(lim.left());
-    out.slash(lim.followed());
+    out.push_text("/");
+    out.push_words_left(lim.left());
+    out.push_slashed(lim.followed());
     Ok(())
 }
 
 // What to copy.
-fn original<'a, B: ReaderArena>(
+fn read_original<'a, B: ReaderArena>(
     message: &'a B,
     copying: Copying,
     values: &Values<'_>,
     lim: &mut ReadLimiter,
 ) -> Result<Reader<'a, B>, Fault> {
-    let root = readers::root(message, lim)?;
+    let root = readers::get_root(message, lim)?;
     match copying {
         Copying::Value => Ok(Reader::Pointer(root)),
-        Copying::Struct => Ok(Reader::Struct(readers::structure(root, lim, None)?)),
-        Copying::List => Ok(Reader::List(readers::list(root, lim, values.size, None)?)),
-        Copying::Element => element(root, values.count, lim),
+        Copying::Struct => Ok(Reader::Struct(readers::get_struct(root, lim, None)?)),
+        Copying::List => Ok(Reader::List(readers::get_list(root, lim, values.size, None)?)),
+        Copying::Element => struct_element(root, values.count, lim),
         Copying::Section => {
-            let found = readers::structure(root, lim, None)?;
+            let found = readers::get_struct(root, lim, None)?;
             Ok(Reader::List(found.get_pointer_section_as_list()))
         }
     }
 }
 
 // An element of the list that a pointer leads to, as a struct.
-fn element<'a, B: ReaderArena>(
+fn struct_element<'a, B: ReaderArena>(
     root: PointerReader<'a, B>,
     index: u32,
     lim: &mut ReadLimiter,
 ) -> Result<Reader<'a, B>, Fault> {
-    let list = readers::list(root, lim, ElementSize::InlineComposite, None)?;
+    let list = readers::get_list(root, lim, ElementSize::InlineComposite, None)?;
     Ok(Reader::Struct(struct_at(&list, index)?))
 }
 
 // Copies to a place.
-fn put_copy<A: BuilderArena, B: ReaderArena>(
+fn copy_to_place<A: BuilderArena, B: ReaderArena>(
     arena: &mut A,
     place: Place,
     original: Reader<'_, B>,
@@ -110,9 +110,11 @@ fn put_copy<A: BuilderArena, B: ReaderArena>(
     lim: &mut ReadLimiter,
 ) -> Result<(), Fault> {
     match (place, original) {
-        (Place::Pointer(place), original) => put_pointer(arena, place, original, canonical, lim),
+        (Place::Pointer(place), original) => copy_to_pointer(
+            arena, place, original, canonical, lim,
+        ),
         (Place::Struct(place), Reader::Struct(value)) => {
-            structure(arena, place)?.copy_content_from(&value, lim)?;
+            struct_builder(arena, place)?.copy_content_from(&value, lim)?;
             Ok(())
         }
         _ => Err(Fault::Unfit),
@@ -120,14 +122,14 @@ fn put_copy<A: BuilderArena, B: ReaderArena>(
 }
 
 // Copies to a pointer.
-fn put_pointer<A: BuilderArena, B: ReaderArena>(
+fn copy_to_pointer<A: BuilderArena, B: ReaderArena>(
     arena: &mut A,
     place: PointerPlace,
     original: Reader<'_, B>,
     canonical: bool,
     lim: &mut ReadLimiter,
 ) -> Result<(), Fault> {
-    let mut to = pointer(arena, place)?;
+    let mut to = pointer_builder(arena, place)?;
     match original {
         Reader::Pointer(value) => to.copy_from(value, lim, canonical)?,
         Reader::Struct(value) => to.set_struct(&value, lim, canonical)?,

@@ -1,8 +1,8 @@
 //! Calls on a list.
 
 use super::call::{Access, ListCall};
-use super::numbers::{element, number, set_element};
-use super::place::{Place, list};
+use super::numbers::{access_number, get_element, set_element};
+use super::place::{Place, list_builder};
 use crate::calls::Values;
 use crate::output::Output;
 use crate::parse::{self, Fault};
@@ -19,22 +19,22 @@ pub fn call<A: BuilderArena>(
     out: &mut Output,
 ) -> Result<Option<Place>, Fault> {
     match call {
-        ListCall::Struct => struct_element(arena, place, values.count),
-        ListCall::Pointer => pointer_element(arena, place, values.count),
+        ListCall::Struct => get_struct_element(arena, place, values.count),
+        ListCall::Pointer => get_pointer_element(arena, place, values.count),
         ListCall::Element(access) => {
-            primitive(arena, place, access, values, out)?;
+            access_element(arena, place, access, values, out)?;
             Ok(None)
         }
     }
 }
 
 // An element as a struct.
-fn struct_element<A: BuilderArena>(
+fn get_struct_element<A: BuilderArena>(
     arena: &mut A,
     place: ListPlace,
     index: u32,
 ) -> Result<Option<Place>, Fault> {
-    let builder = list(arena, place)?;
+    let builder = list_builder(arena, place)?;
     if index >= place.count || place.size == ElementSize::Bit {
         return Err(Fault::Unfit);
     }
@@ -42,12 +42,12 @@ fn struct_element<A: BuilderArena>(
 }
 
 // The pointer of an element.
-fn pointer_element<A: BuilderArena>(
+fn get_pointer_element<A: BuilderArena>(
     arena: &mut A,
     place: ListPlace,
     index: u32,
 ) -> Result<Option<Place>, Fault> {
-    let builder = list(arena, place)?;
+    let builder = list_builder(arena, place)?;
     let holds_pointer = match place.size {
         ElementSize::Pointer => true,
         ElementSize::InlineComposite => place.struct_size.pointers > 0,
@@ -64,7 +64,7 @@ fn pointer_element<A: BuilderArena>(
 }
 
 // Adds an element that is neither a struct nor a pointer, or writes it.
-fn primitive<A: BuilderArena>(
+fn access_element<A: BuilderArena>(
     arena: &mut A,
     place: ListPlace,
     access: Access,
@@ -74,19 +74,19 @@ fn primitive<A: BuilderArena>(
     let index = values.count;
     match (values.element, access) {
         (ElementType::Number(of), access) => {
-            return number(arena, Place::List(place), (of, access), values, out);
+            return access_number(arena, Place::List(place), (of, access), values, out);
         }
         (ElementType::Void, Access::Get) => {
-            let () = element(arena, place, index)?;
-            out.text("-");
+            let () = get_element(arena, place, index)?;
+            out.push_text("-");
         }
-        (ElementType::Bool, Access::Get) => out.flag(element(arena, place, index)?),
+        (ElementType::Bool, Access::Get) => out.push_flag(get_element(arena, place, index)?),
         (of, Access::Set) => {
             match of {
                 ElementType::Bool => set_bit(arena, place, values)?,
                 _ => set_element(arena, place, index, ())?,
             }
-            out.text("ok");
+            out.push_text("ok");
         }
     }
     Ok(())

@@ -5,7 +5,7 @@ ghost use Rattle.capnp_words.specs.Sizes.{size_number};
 ghost use Rattle.capnp_readers.specs.Sections.{IsInside, data_bits};
 
 use super::call::Access;
-use super::place::{Place, list, structure};
+use super::place::{Place, list_builder, struct_builder};
 use crate::calls::Values;
 use crate::output::Output;
 use crate::parse::{self, Fault};
@@ -22,7 +22,7 @@ use std::str::FromStr;
 
 /// Reads a number in a struct or a list, and adds it to the answer; or writes the number. `of` is
 /// the number's type.
-pub fn number<A: BuilderArena>(
+pub fn access_number<A: BuilderArena>(
     arena: &mut A,
     place: Place,
     (of, access): (NumberType, Access),
@@ -30,19 +30,19 @@ pub fn number<A: BuilderArena>(
     out: &mut Output,
 ) -> Result<(), Fault> {
     match of {
-        NumberType::U8 => number_as::<A, u8>(arena, place, access, values, out),
-        NumberType::U16 => number_as::<A, u16>(arena, place, access, values, out),
-        NumberType::U32 => number_as::<A, u32>(arena, place, access, values, out),
-        NumberType::U64 => number_as::<A, u64>(arena, place, access, values, out),
-        NumberType::I8 => number_as::<A, i8>(arena, place, access, values, out),
-        NumberType::I16 => number_as::<A, i16>(arena, place, access, values, out),
-        NumberType::I32 => number_as::<A, i32>(arena, place, access, values, out),
-        NumberType::I64 => number_as::<A, i64>(arena, place, access, values, out),
+        NumberType::U8 => access_number_as::<A, u8>(arena, place, access, values, out),
+        NumberType::U16 => access_number_as::<A, u16>(arena, place, access, values, out),
+        NumberType::U32 => access_number_as::<A, u32>(arena, place, access, values, out),
+        NumberType::U64 => access_number_as::<A, u64>(arena, place, access, values, out),
+        NumberType::I8 => access_number_as::<A, i8>(arena, place, access, values, out),
+        NumberType::I16 => access_number_as::<A, i16>(arena, place, access, values, out),
+        NumberType::I32 => access_number_as::<A, i32>(arena, place, access, values, out),
+        NumberType::I64 => access_number_as::<A, i64>(arena, place, access, values, out),
     }
 }
 
 // Adds a number of the type `T`, of a struct or a list, or writes it.
-fn number_as<
+fn access_number_as<
     A: BuilderArena,
     T: Primitive + Zero + Mask<T = T> + PrimitiveElement + FromStr + Display + Drop,
 >(
@@ -58,11 +58,11 @@ where
     match access {
         Access::Get => {
             let value: T = get::<A, T>(arena, place, values)?;
-            out.put(value);
+            out.push(value);
         }
         Access::Set => {
             set::<A, T>(arena, place, values)?;
-            out.text("ok");
+            out.push_text("ok");
         }
     }
     Ok(())
@@ -78,8 +78,8 @@ where
     T::Err: Drop,
 {
     match place {
-        Place::Struct(place) => field(arena, place, values),
-        Place::List(place) => element(arena, place, values.count),
+        Place::Struct(place) => get_field(arena, place, values),
+        Place::List(place) => get_element(arena, place, values.count),
         Place::Pointer(_) => Err(Fault::Unfit),
     }
 }
@@ -117,9 +117,9 @@ where
     T::Err: Drop,
 {
     let mask: Option<T> = mask_of(values.mask)?;
-    let mut builder = structure(arena, place)?;
+    let mut builder = struct_builder(arena, place)?;
     let index = values.index;
-    if !is_field(place.bits, 8 * T::BYTES, index) {
+    if !has_field(place.bits, 8 * T::BYTES, index) {
         return Err(Fault::Unfit);
     }
     match mask {
@@ -130,7 +130,7 @@ where
 }
 
 // A number of a struct, with a mask if there is one.
-fn field<A: BuilderArena, T: Primitive + Zero + Mask<T = T> + FromStr + Drop>(
+fn get_field<A: BuilderArena, T: Primitive + Zero + Mask<T = T> + FromStr + Drop>(
     arena: &mut A,
     place: StructPlace,
     values: &Values<'_>,
@@ -139,9 +139,9 @@ where
     T::Err: Drop,
 {
     let mask: Option<T> = mask_of(values.mask)?;
-    let builder = structure(arena, place)?;
+    let builder = struct_builder(arena, place)?;
     let index = values.index;
-    if !is_field(place.bits, 8 * T::BYTES, index) {
+    if !has_field(place.bits, 8 * T::BYTES, index) {
         return Err(Fault::Unfit);
     }
     Ok(match mask {
@@ -151,7 +151,7 @@ where
 }
 
 // Whether field `index`, counted in fields of its width, is inside a data section of `bits` bits.
-fn is_field(bits: u32, width: usize, index: usize) -> bool
+fn has_field(bits: u32, width: usize, index: usize) -> bool
     ensures { IsTrue result → IsInside bits width index }
 {
     let Some(count) = index.checked_add(1) else {
@@ -171,8 +171,8 @@ pub fn set_element<A: BuilderArena, T: PrimitiveElement + Drop>(
     index: u32,
     value: T,
 ) -> Result<(), Fault> {
-    let mut builder = list(arena, place)?;
-    if !is_element(place, T::element_size(), index) {
+    let mut builder = list_builder(arena, place)?;
+    if !has_element(place, T::element_size(), index) {
         return Err(Fault::Unfit);
     }
     T::set(&mut builder, index, value);
@@ -181,13 +181,13 @@ pub fn set_element<A: BuilderArena, T: PrimitiveElement + Drop>(
 
 /// Returns element `index` of a list; `Unfit` if the list isn't in the message, or has no such
 /// element, or the element is too narrow. For `()`, no element is needed.
-pub fn element<A: BuilderArena, T: PrimitiveElement>(
+pub fn get_element<A: BuilderArena, T: PrimitiveElement>(
     arena: &mut A,
     place: ListPlace,
     index: u32,
 ) -> Result<T, Fault> {
-    let builder = list(arena, place)?;
-    if !is_element(place, T::element_size(), index) {
+    let builder = list_builder(arena, place)?;
+    if !has_element(place, T::element_size(), index) {
         return Err(Fault::Unfit);
     }
     Ok(T::get_from_builder(&builder, index))
@@ -195,7 +195,7 @@ pub fn element<A: BuilderArena, T: PrimitiveElement>(
 
 // Whether there is such an element, whose data is as wide as that of elements of a size, or these
 // have no data.
-fn is_element(place: ListPlace, size: ElementSize, index: u32) -> bool
+fn has_element(place: ListPlace, size: ElementSize, index: u32) -> bool
     ensures range { IsTrue result → 0 < element_bits (size_number size) → index < place.count }
     ensures wide { IsTrue result → element_bits (size_number size)
         ≤ data_bits place.size place.struct_size }

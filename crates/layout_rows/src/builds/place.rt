@@ -29,82 +29,86 @@ pub enum Place {
 
 impl Place {
     /// Adds the place to the answer.
-    pub fn put(self, out: &mut Output) {
+    pub fn push_to(self, out: &mut Output) {
         match self {
             Place::Pointer(place) => {
-                out.put(place.segment);
-                out.slash(place.word);
+                out.push(place.segment);
+                out.push_slashed(place.word);
             }
             Place::Struct(place) => {
-                out.put(place.segment);
-                out.slash(place.byte);
-                out.slash(place.bits);
-                out.slash(place.pointers_at);
-                out.slash(place.pointers);
+                out.push(place.segment);
+                out.push_slashed(place.byte);
+                out.push_slashed(place.bits);
+                out.push_slashed(place.pointers_at);
+                out.push_slashed(place.pointers);
             }
             Place::List(place) => {
-                out.put(place.segment);
-                out.slash(place.byte);
-                out.slash(place.count);
-                out.elements(place.size, place.struct_size);
+                out.push(place.segment);
+                out.push_slashed(place.byte);
+                out.push_slashed(place.count);
+                out.push_list_sizes(place.size, place.struct_size);
             }
         }
     }
 
     /// Adds what a reader of the place reads.
-    pub fn read<A: BuilderArena>(self, arena: &mut A, out: &mut Output) -> Result<(), Fault> {
+    pub fn push_contents<A: BuilderArena>(
+        self,
+        arena: &mut A,
+        out: &mut Output,
+    ) -> Result<(), Fault> {
         match self {
-            Place::Pointer(place) => read_pointer(arena, place, out),
-            Place::Struct(place) => read_struct(arena, place, out),
-            Place::List(place) => read_list(arena, place, out),
+            Place::Pointer(place) => push_pointer(arena, place, out),
+            Place::Struct(place) => push_struct(arena, place, out),
+            Place::List(place) => push_list(arena, place, out),
         }
     }
 }
 
 // Shows what a pointer reads as.
-fn read_pointer<A: BuilderArena>(
+fn push_pointer<A: BuilderArena>(
     arena: &mut A,
     place: PointerPlace,
     out: &mut Output,
 ) -> Result<(), Fault> {
-    let builder = pointer(arena, place)?;
+    let builder = pointer_builder(arena, place)?;
     let reader = builder.as_reader();
-    out.flag(reader.is_null());
-    out.text("/");
-    let size = readers::pointer_size(reader, &mut ReadLimiter::new(None))?;
-    out.put(size.word_count);
-    out.slash(size.cap_count);
+    out.push_flag(reader.is_null());
+    out.push_text("/");
+    let size = readers::total_size_of_pointer(reader, &mut ReadLimiter::new(None))?;
+    out.push(size.word_count);
+    out.push_slashed(size.cap_count);
     Ok(())
 }
 
 // Shows what a struct reads as.
-fn read_struct<A: BuilderArena>(
+fn push_struct<A: BuilderArena>(
     arena: &mut A,
     place: StructPlace,
     out: &mut Output,
 ) -> Result<(), Fault> {
-    let builder = structure(arena, place)?;
+    let builder = struct_builder(arena, place)?;
     let reader = builder.as_reader();
-    out.hex_or_dash(readers::data_bytes(reader));
-    out.slash(reader.pointer_count());
+    out.push_hex_or_dash(readers::data_bytes(reader));
+    out.push_slashed(reader.pointer_count());
     Ok(())
 }
 
 // Shows what a list reads as.
-fn read_list<A: BuilderArena>(
+fn push_list<A: BuilderArena>(
     arena: &mut A,
     place: ListPlace,
     out: &mut Output,
 ) -> Result<(), Fault> {
-    let builder = list(arena, place)?;
+    let builder = list_builder(arena, place)?;
     let reader = builder.as_reader();
-    out.put(reader.len());
-    out.elements(reader.get_element_size(), reader.struct_size());
+    out.push(reader.len());
+    out.push_list_sizes(reader.get_element_size(), reader.struct_size());
     Ok(())
 }
 
 // The number of words of a segment, if it exists.
-fn words_in<A: BuilderArena>(arena: &A, id: u32) -> Option<u64>
+fn segment_words<A: BuilderArena>(arena: &A, id: u32) -> Option<u64>
     ensures there { IfSome result (λ n. (id < length (A.view arena.now).words)
         × (n ≡ length (segment (A.view arena.now).words id))) }
     ensures small { IfSome result (λ n. n < 2 ^ 32) }
@@ -116,21 +120,21 @@ fn words_in<A: BuilderArena>(arena: &A, id: u32) -> Option<u64>
 }
 
 /// Whether the message has the pointer's word.
-pub fn is_pointer<A: BuilderArena>(arena: &A, place: PointerPlace) -> bool
+pub fn has_pointer<A: BuilderArena>(arena: &A, place: PointerPlace) -> bool
     ensures { IsTrue result → IsPlace (A.view arena.now).words place.segment place.word }
 {
-    match words_in(arena, place.segment) {
+    match segment_words(arena, place.segment) {
         Some(words) => u64::from(place.word) < words,
         None => false,
     }
 }
 
 // Whether both sections of a struct exist.
-fn is_struct<A: BuilderArena>(arena: &A, place: StructPlace) -> bool
+fn has_struct<A: BuilderArena>(arena: &A, place: StructPlace) -> bool
     ensures { IsTrue result → IsStructPlace (A.view arena.now).words place }
 {
     match (
-        words_in(arena, place.segment),
+        segment_words(arena, place.segment),
         place.byte.checked_add(bytes_for(place.bits)),
     ) {
         (Some(words), Some(end)) => {
@@ -156,12 +160,12 @@ fn is_aligned(place: StructPlace) -> bool
 }
 
 // Whether the elements of a list exist.
-fn is_list<A: BuilderArena>(arena: &A, place: ListPlace) -> bool
+fn has_list<A: BuilderArena>(arena: &A, place: ListPlace) -> bool
     ensures { IsTrue result → IsListPlace (A.view arena.now).words place }
 {
-    let elements = words_of(place.size, place.struct_size.total(), place.count);
+    let elements = words_of_elements(place.size, place.struct_size.total(), place.count);
     match (
-        words_in(arena, place.segment),
+        segment_words(arena, place.segment),
         (place.byte / 8).checked_add(elements),
     ) {
         (Some(words), Some(end)) => place.byte % 8 == 0 && end <= words,
@@ -170,7 +174,7 @@ fn is_list<A: BuilderArena>(arena: &A, place: ListPlace) -> bool
 }
 
 // The number of words of `count` elements; `width` is that of a struct, in words.
-fn words_of(size: ElementSize, width: u32, count: u32) -> u64
+fn words_of_elements(size: ElementSize, width: u32, count: u32) -> u64
     ensures { result ≡ elements_words size count width }
 {
     match size {
@@ -181,13 +185,13 @@ fn words_of(size: ElementSize, width: u32, count: u32) -> u64
 }
 
 /// Returns a builder of the pointer at `place`; `Unfit` if it isn't in the message.
-pub fn pointer<A: BuilderArena>(
+pub fn pointer_builder<A: BuilderArena>(
     arena: &mut A,
     place: PointerPlace,
 ) -> Result<PointerBuilder<'_, A>, Fault>
     ensures { IfOk result (λ b. IsThere (built A.view b)) }
 {
-    if !is_pointer(&*arena, place) {
+    if !has_pointer(&*arena, place) {
         return Err(Fault::Unfit);
     }
     Ok(PointerBuilder {
@@ -199,25 +203,28 @@ pub fn pointer<A: BuilderArena>(
 
 /// Returns a builder of the struct at `place`; `Unfit` if it isn't in the message, or isn't
 /// aligned.
-pub fn structure<A: BuilderArena>(
+pub fn struct_builder<A: BuilderArena>(
     arena: &mut A,
     place: StructPlace,
 ) -> Result<StructBuilder<'_, A>, Fault>
     ensures inside { IfOk result (λ b. IsStructPlace (A.view b.arena.now).words b.place) }
     ensures place { IfOk result (λ b. b.place ≡ place) }
 {
-    if !is_struct(&*arena, place) || !is_aligned(place) {
+    if !has_struct(&*arena, place) || !is_aligned(place) {
         return Err(Fault::Unfit);
     }
     Ok(StructBuilder { arena, place })
 }
 
 /// Returns a builder of the list at `place`; `Unfit` if it isn't in the message.
-pub fn list<A: BuilderArena>(arena: &mut A, place: ListPlace) -> Result<ListBuilder<'_, A>, Fault>
+pub fn list_builder<A: BuilderArena>(
+    arena: &mut A,
+    place: ListPlace,
+) -> Result<ListBuilder<'_, A>, Fault>
     ensures inside { IfOk result (λ b. IsListPlace (A.view b.arena.now).words b.place) }
     ensures place { IfOk result (λ b. b.place ≡ place) }
 {
-    if !is_list(&*arena, place) {
+    if !has_list(&*arena, place) {
         return Err(Fault::Unfit);
     }
     Ok(ListBuilder { arena, place })

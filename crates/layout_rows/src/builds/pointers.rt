@@ -5,7 +5,7 @@ ghost use Rattle.capnp_builders.specs.Building.{built, IsThere};
 ghost use Rattle.capnp_builders.specs.Defaults.{IsShortDefault};
 
 use super::call::{PointerCall, Verb, WordCall};
-use super::place::{Place, pointer};
+use super::place::{Place, pointer_builder};
 use crate::calls::Values;
 use crate::output::Output;
 use crate::parse::{self, Fault};
@@ -27,23 +27,23 @@ pub fn call<A: BuilderArena>(
     (call, values): (PointerCall, &Values<'_>),
     out: &mut Output,
 ) -> Result<Option<Place>, Fault> {
-    let mut pointer = pointer(arena, place)?;
+    let mut pointer = pointer_builder(arena, place)?;
     let bytes = parse::bytes(alloc, values.hex.unwrap_or("-"))?;
-    let default = default_of(values, bytes.as_slice())?;
+    let default = default_bytes(values, bytes.as_slice())?;
     match call {
-        PointerCall::Word(call) => word(pointer, call, values.count, out)?,
+        PointerCall::Word(call) => call_on_word(pointer, call, values.count, out)?,
         PointerCall::PutDefault => {
             pointer.put_default(default)?;
-            out.text("ok");
+            out.push_text("ok");
         }
         PointerCall::Struct(verb) => {
-            return structure(pointer, verb, values.sections, default);
+            return struct_place(pointer, verb, values.sections, default);
         }
         PointerCall::List(verb) => {
-            return list(pointer, verb, values.size, values.count, default);
+            return list_place(pointer, verb, values.size, values.count, default);
         }
         PointerCall::StructList(verb) => {
-            return struct_list(pointer, verb, values.count, values.sections, default);
+            return struct_list_place(pointer, verb, values.count, values.sections, default);
         }
     }
     Ok(None)
@@ -51,7 +51,7 @@ pub fn call<A: BuilderArena>(
 
 /// Returns the bytes among a call's arguments as a default, or `None` if the call has none; `Unfit`
 /// if there are too many.
-pub fn default_of<'a>(values: &Values<'_>, bytes: &'a [u8]) -> Result<Option<&'a [u8]>, Fault>
+pub fn default_bytes<'a>(values: &Values<'_>, bytes: &'a [u8]) -> Result<Option<&'a [u8]>, Fault>
     ensures { IfOk result IsShortDefault }
 {
     if bytes.len() / 8 > u32::MAX as usize {
@@ -65,7 +65,7 @@ pub fn default_of<'a>(values: &Values<'_>, bytes: &'a [u8]) -> Result<Option<&'a
 }
 
 /// Makes a call that reads or writes only the pointer's word, and adds its answer.
-fn word<A: BuilderArena>(
+fn call_on_word<A: BuilderArena>(
     mut pointer: PointerBuilder<'_, A>,
     call: WordCall,
     index: u32,
@@ -74,22 +74,22 @@ fn word<A: BuilderArena>(
     requires { IsThere (built A.view pointer) }
 {
     match call {
-        WordCall::IsNull => out.flag(pointer.is_null()),
+        WordCall::IsNull => out.push_flag(pointer.is_null()),
         WordCall::Clear => {
             pointer.clear();
-            out.text("ok");
+            out.push_text("ok");
         }
         WordCall::SetCapability => {
             pointer.set_capability(index);
-            out.text("ok");
+            out.push_text("ok");
         }
-        WordCall::GetCapability => out.put(pointer.get_capability()?),
+        WordCall::GetCapability => out.push(pointer.get_capability()?),
     }
     Ok(())
 }
 
 /// Makes a pointer lead to a new struct, or finds the struct that it leads to.
-fn structure<A: BuilderArena>(
+fn struct_place<A: BuilderArena>(
     mut pointer: PointerBuilder<'_, A>,
     verb: Verb,
     size: StructSize,
@@ -101,13 +101,13 @@ fn structure<A: BuilderArena>(
     let place = match verb {
         Verb::Put => pointer.init_struct_place(size)?,
         Verb::Init => pointer.init_struct(size)?.place,
-        verb => found_struct(pointer, verb, size, default)?,
+        verb => find_struct(pointer, verb, size, default)?,
     };
     Ok(Some(Place::Struct(place)))
 }
 
 /// Finds the struct that a pointer leads to.
-fn found_struct<A: BuilderArena>(
+fn find_struct<A: BuilderArena>(
     mut pointer: PointerBuilder<'_, A>,
     verb: Verb,
     size: StructSize,
@@ -124,7 +124,7 @@ fn found_struct<A: BuilderArena>(
 
 /// Makes a pointer lead to a new list whose elements aren't structs, or finds the list that it
 /// leads to.
-fn list<A: BuilderArena>(
+fn list_place<A: BuilderArena>(
     mut pointer: PointerBuilder<'_, A>,
     verb: Verb,
     size: ElementSize,
@@ -140,13 +140,13 @@ fn list<A: BuilderArena>(
     let place = match verb {
         Verb::Put => pointer.init_list_place(size, count)?,
         Verb::Init => pointer.init_list(size, count)?.place,
-        verb => found_list(pointer, verb, size, default)?,
+        verb => find_list(pointer, verb, size, default)?,
     };
     Ok(Some(Place::List(place)))
 }
 
 /// Finds the list that a pointer leads to, of elements that aren't structs.
-fn found_list<A: BuilderArena>(
+fn find_list<A: BuilderArena>(
     mut pointer: PointerBuilder<'_, A>,
     verb: Verb,
     size: ElementSize,
@@ -163,7 +163,7 @@ fn found_list<A: BuilderArena>(
 }
 
 /// Makes a pointer lead to a new list of structs, or finds the list that it leads to.
-fn struct_list<A: BuilderArena>(
+fn struct_list_place<A: BuilderArena>(
     mut pointer: PointerBuilder<'_, A>,
     verb: Verb,
     count: u32,
@@ -180,13 +180,13 @@ fn struct_list<A: BuilderArena>(
     let place = match verb {
         Verb::Put => pointer.init_struct_list_place(count, size)?,
         Verb::Init => pointer.init_struct_list(count, size)?.place,
-        verb => found_struct_list(pointer, verb, size, default)?,
+        verb => find_struct_list(pointer, verb, size, default)?,
     };
     Ok(Some(Place::List(place)))
 }
 
 /// Finds the list of structs that a pointer leads to.
-fn found_struct_list<A: BuilderArena>(
+fn find_struct_list<A: BuilderArena>(
     mut pointer: PointerBuilder<'_, A>,
     verb: Verb,
     size: StructSize,

@@ -2,8 +2,8 @@
 ghost use Rattle.std.specs.Prelude.{◌<◌};
 
 use super::call::{Access, StructCall};
-use super::numbers::number;
-use super::place::{Place, structure};
+use super::numbers::access_number;
+use super::place::{Place, struct_builder};
 use crate::calls::Values;
 use crate::output::Output;
 use crate::parse::Fault;
@@ -19,23 +19,23 @@ pub fn call<A: BuilderArena>(
     out: &mut Output,
 ) -> Result<Option<Place>, Fault> {
     match call {
-        StructCall::Field => return field(arena, place, values.index),
-        StructCall::IsFieldNull => is_field_null(arena, place, values.index, out)?,
-        StructCall::Bool(access) => bit(arena, place, access, values, out)?,
+        StructCall::Field => return get_field(arena, place, values.index),
+        StructCall::IsFieldNull => push_is_pointer_null(arena, place, values.index, out)?,
+        StructCall::Bool(access) => access_bit(arena, place, access, values, out)?,
         StructCall::Number(of, access) => {
-            number(arena, Place::Struct(place), (of, access), values, out)?;
+            access_number(arena, Place::Struct(place), (of, access), values, out)?;
         }
     }
     Ok(None)
 }
 
 // Returns a pointer.
-fn field<A: BuilderArena>(
+fn get_field<A: BuilderArena>(
     arena: &mut A,
     place: StructPlace,
     index: usize,
 ) -> Result<Option<Place>, Fault> {
-    let builder = structure(arena, place)?;
+    let builder = struct_builder(arena, place)?;
     if index >= usize::from(place.pointers) {
         return Err(Fault::Unfit);
     }
@@ -48,22 +48,22 @@ fn field<A: BuilderArena>(
 }
 
 // Adds whether a pointer is zero.
-fn is_field_null<A: BuilderArena>(
+fn push_is_pointer_null<A: BuilderArena>(
     arena: &mut A,
     place: StructPlace,
     index: usize,
     out: &mut Output,
 ) -> Result<(), Fault> {
-    let builder = structure(arena, place)?;
+    let builder = struct_builder(arena, place)?;
     if index >= usize::from(place.pointers) {
         return Err(Fault::Unfit);
     }
-    out.flag(builder.is_pointer_field_null(index));
+    out.push_flag(builder.is_pointer_field_null(index));
     Ok(())
 }
 
 // Adds a bit, or writes it, with a mask if there is one.
-fn bit<A: BuilderArena>(
+fn access_bit<A: BuilderArena>(
     arena: &mut A,
     place: StructPlace,
     access: Access,
@@ -76,10 +76,10 @@ fn bit<A: BuilderArena>(
         return Err(Fault::Unfit);
     }
     match access {
-        Access::Get => out.flag(get_bit(arena, place, index, mask)?),
+        Access::Get => out.push_flag(get_bit(arena, place, index, mask)?),
         Access::Set => {
             set_bit(arena, place, index, values.flag, mask)?;
-            out.text("ok");
+            out.push_text("ok");
         }
     }
     Ok(())
@@ -94,7 +94,7 @@ fn get_bit<A: BuilderArena>(
 ) -> Result<bool, Fault>
     requires { index < place.bits }
 {
-    let builder = structure(arena, place)?;
+    let builder = struct_builder(arena, place)?;
     Ok(match mask {
         Some(mask) => builder.get_bool_field_mask(index, mask),
         None => builder.get_bool_field(index),
@@ -111,7 +111,7 @@ fn set_bit<A: BuilderArena>(
 ) -> Result<(), Fault>
     requires { index < place.bits }
 {
-    let mut builder = structure(arena, place)?;
+    let mut builder = struct_builder(arena, place)?;
     match mask {
         Some(mask) => builder.set_bool_field_mask(index, value, mask),
         None => builder.set_bool_field(index, value),

@@ -108,7 +108,7 @@ pub fn read_calls<'l>(alloc: Global, words: &[&'l str]) -> Result<Vec<Call<'l>>,
 /// Parses a call.
 fn read_call<'l>(alloc: Global, word: &'l str) -> Result<Call<'l>, Fault> {
     let (of, text) = match word.split_once('.') {
-        Some((number, text)) => (Some(number_of(number)?), text),
+        Some((number, text)) => (Some(parse_reader_number(number)?), text),
         None => (None, word),
     };
     let (op, values) = calls::read(&FORMS, text)?;
@@ -126,7 +126,7 @@ fn read_call<'l>(alloc: Global, word: &'l str) -> Result<Call<'l>, Fault> {
 
 /// Parses the number of a reader. Returns `usize::MAX`, which no reader has, for a number that is
 /// too large.
-fn number_of(digits: &str) -> Result<usize, Fault> {
+fn parse_reader_number(digits: &str) -> Result<usize, Fault> {
     match parse::number(digits) {
         Err(Fault::Unfit) => Ok(usize::MAX),
         read => read,

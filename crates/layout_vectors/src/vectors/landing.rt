@@ -35,7 +35,7 @@ fn bytes_of<A: ReaderArena>(arena: &A, id: u32) -> &[u8]
 
 /// The number of words of segment `id`; 0 if there is no such segment.
 #[tactic(auto, using(capnp_format::proofs::WordsOf::words))]
-pub(crate) fn length_of<A: ReaderArena>(arena: &A, id: u32) -> u32
+pub(crate) fn segment_length<A: ReaderArena>(arena: &A, id: u32) -> u32
     ensures { result ≡ length (segment (message (A.segments arena.now)) id) }
 {
     (bytes_of(arena, id).len() / 8) as u32
@@ -43,7 +43,7 @@ pub(crate) fn length_of<A: ReaderArena>(arena: &A, id: u32) -> u32
 
 /// The word at `at` of segment `id`; zero if there is no such word.
 #[tactic(auto, using(capnp_format::proofs::WordsOf::words, std::proofs::lemmas::List::get_or_past))]
-pub(crate) fn word_of<A: ReaderArena>(arena: &A, id: u32, at: u32) -> WirePointer
+pub(crate) fn pointer_word<A: ReaderArena>(arena: &A, id: u32, at: u32) -> WirePointer
     ensures { result.0 ≡ word_at (message (A.segments arena.now)) id at }
 {
     let bytes = bytes_of(arena, id);
@@ -65,7 +65,7 @@ fn exists<A: ReaderArena>(arena: &A, id: u32) -> bool
 pub(crate) fn follow<A: ReaderArena>(arena: &A, id: u32, at: u32) -> Option<PointerTarget>
     ensures { option_map target_at result ≡ leads (message (A.segments arena.now)) id at }
 {
-    let word = word_of(arena, id, at);
+    let word = pointer_word(arena, id, at);
     if word.kind() == WirePointerKind::Far {
         follow_far(arena, word)
     } else {
@@ -86,7 +86,7 @@ fn follow_near<A: ReaderArena>(
     ensures { option_map target_at result
         ≡ near (message (A.segments arena.now)) id at word.0 pads }
 {
-    let start = word.target(at, length_of(arena, id))?;
+    let start = word.target(at, segment_length(arena, id))?;
     Some(PointerTarget {
         word,
         segment: id,
@@ -116,10 +116,10 @@ fn follow_single<A: ReaderArena>(arena: &A, word: WirePointer) -> Option<Pointer
 {
     let id = word.far_segment_id();
     let at = word.far_position_in_segment();
-    if at >= length_of(arena, id) {
+    if at >= segment_length(arena, id) {
         return None;
     }
-    let pad = word_of(arena, id, at);
+    let pad = pointer_word(arena, id, at);
     if pad.kind() == WirePointerKind::Far {
         return None;
     }
@@ -132,11 +132,11 @@ fn follow_double<A: ReaderArena>(arena: &A, word: WirePointer) -> Option<Pointer
 {
     let id = word.far_segment_id();
     let at = word.far_position_in_segment();
-    if at + 1 >= length_of(arena, id) {
+    if at + 1 >= segment_length(arena, id) {
         return None;
     }
-    let pad = word_of(arena, id, at);
-    let tag = word_of(arena, id, at + 1);
+    let pad = pointer_word(arena, id, at);
+    let tag = pointer_word(arena, id, at + 1);
     if tag.kind() == WirePointerKind::Far || !exists(arena, pad.far_segment_id()) {
         return None;
     }

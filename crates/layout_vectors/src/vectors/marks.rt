@@ -28,7 +28,7 @@ fn are_free(row: &[u8], start: usize, n: usize) -> bool
 }
 
 /// Marks the `n` words from `start` on in `row`.
-fn fill(row: &mut [u8], start: usize, n: usize)
+fn mark_words(row: &mut [u8], start: usize, n: usize)
     requires { start + n ≤ length row.old }
     ensures { row.new ≡ put_mid start n row.old (replicate n 1) }
 {
@@ -50,7 +50,7 @@ impl Marks {
     }
 
     /// The number of words of segment `id`; 0 if there is no such segment.
-    fn length_of(&self, id: u32) -> usize
+    fn segment_length(&self, id: u32) -> usize
         ensures { result ≡ length (segment (rows_of self.now) id) }
     {
         match self.rows.get(id as usize) {
@@ -61,24 +61,24 @@ impl Marks {
 
     /// Marks the `n` words of segment `id` from `start` on and returns `true`. If one of them
     /// doesn't exist or is marked already, marks none and returns `false`.
-    pub(crate) fn take(&mut self, id: u32, start: u32, n: u32) -> bool
+    pub(crate) fn try_mark(&mut self, id: u32, start: u32, n: u32) -> bool
         ensures inside { IsTrue result → start + n ≤ length (segment (rows_of self.old) id) }
         ensures taken { IsTrue result → TakesRow (rows_of self.old) (rows_of self.new) id start n }
         ensures refused { result ≡ false → start + n ≤ length (segment (rows_of self.old) id)
             → IsMarkedWithin (segment (rows_of self.old) id) start n }
     {
-        if start as usize + n as usize > self.length_of(id) {
+        if start as usize + n as usize > self.segment_length(id) {
             return false;
         }
         if n == 0 {
             return true;
         }
-        self.take_some(id, start as usize, n as usize)
+        self.try_mark_some(id, start as usize, n as usize)
     }
 
     /// Marks the `n` words of segment `id` from `start` on and returns `true`. If one of them is
     /// marked already, marks none and returns `false`. Preconditions: the words exist; `n` isn't 0.
-    fn take_some(&mut self, id: u32, start: usize, n: usize) -> bool
+    fn try_mark_some(&mut self, id: u32, start: usize, n: usize) -> bool
         requires some { 0 < n }
         requires inside { start + n ≤ length (segment (rows_of self.old) id) }
         ensures taken { IsTrue result → TakesRow (rows_of self.old) (rows_of self.new) id start n }
@@ -88,7 +88,7 @@ impl Marks {
         if !are_free(row.as_slice(), start, n) {
             return false;
         }
-        fill(row.as_mut_slice(), start, n);
+        mark_words(row.as_mut_slice(), start, n);
         true
     }
 }

@@ -11,12 +11,14 @@ ghost use Rattle.layout_vectors.specs.Landings.{target_at};
 ghost use Rattle.layout_vectors.specs.Marks.{rows_of};
 ghost use Rattle.layout_vectors.specs.Walks.{walk, TakesObject, FitsRows};
 
-use crate::vectors::landing::{PointerTarget, word_of};
+use crate::vectors::landing::{PointerTarget, pointer_word};
 use crate::vectors::marks::Marks;
-use crate::vectors::pending::{put_elements, put_pointers};
+use crate::vectors::pending::{push_elements, push_pointers};
 use capnp_arena::arena::ReaderArena;
 use capnp_arena_traits::arena::WordPlace;
-use capnp_words::wire_pointer::{ElementSize, WirePointerKind, data_bits_per_element, flat_words};
+use capnp_words::wire_pointer::{
+    ElementSize, WirePointerKind, data_bits_per_element, words_for_elements,
+};
 use capnp_words::words::word_at;
 use std::alloc::AllocError;
 
@@ -24,7 +26,7 @@ use std::alloc::AllocError;
 /// Returns `false` if there is no such object, one of its words is marked already, the bits after
 /// the last element of a list of numbers aren't zero, or the tag of a list of structs isn't a
 /// struct pointer or states another number of words than the pointer to the list.
-pub(crate) fn take_object<A: ReaderArena>(
+pub(crate) fn mark_object<A: ReaderArena>(
     arena: &A,
     marks: &mut Marks,
     pending: &mut Vec<WordPlace>,
@@ -35,19 +37,19 @@ pub(crate) fn take_object<A: ReaderArena>(
         (walk marks.old pending.old) (walk marks.new pending.new)) }
 {
     match landing.word.kind() {
-        WirePointerKind::Struct => take_struct(arena, marks, pending, landing),
+        WirePointerKind::Struct => mark_struct(arena, marks, pending, landing),
         WirePointerKind::List => match landing.word.list_element_size() {
-            ElementSize::InlineComposite => take_structs(arena, marks, pending, landing),
-            ElementSize::Pointer => take_pointers(arena, marks, pending, landing),
-            size => Ok(take_flat(arena, marks, pending, landing, size)),
+            ElementSize::InlineComposite => mark_struct_list(arena, marks, pending, landing),
+            ElementSize::Pointer => mark_pointer_list(arena, marks, pending, landing),
+            size => Ok(mark_primitive_list(arena, marks, pending, landing, size)),
         },
         WirePointerKind::Far => Ok(false),
         WirePointerKind::Other => Ok(landing.word.is_capability()),
     }
 }
 
-/// Does what `take_object` does, for a struct (encoding specification, "Structs").
-fn take_struct<A: ReaderArena>(
+/// Does what `mark_object` does, for a struct (encoding specification, "Structs").
+fn mark_struct<A: ReaderArena>(
     arena: &A,
     marks: &mut Marks,
     pending: &mut Vec<WordPlace>,
@@ -59,16 +61,16 @@ fn take_struct<A: ReaderArena>(
         (walk marks.old pending.old) (walk marks.new pending.new)) }
 {
     let size = landing.word.struct_size();
-    if !marks.take(landing.segment, landing.start, size.total()) {
+    if !marks.try_mark(landing.segment, landing.start, size.total()) {
         return Ok(false);
     }
     let start = landing.start + u32::from(size.data_words);
-    put_pointers(pending, landing.segment, start, u32::from(size.pointers))?;
+    push_pointers(pending, landing.segment, start, u32::from(size.pointers))?;
     Ok(true)
 }
 
-/// Does what `take_object` does, for a list of pointers ("Lists").
-fn take_pointers<A: ReaderArena>(
+/// Does what `mark_object` does, for a list of pointers ("Lists").
+fn mark_pointer_list<A: ReaderArena>(
     arena: &A,
     marks: &mut Marks,
     pending: &mut Vec<WordPlace>,
@@ -80,15 +82,15 @@ fn take_pointers<A: ReaderArena>(
         (walk marks.old pending.old) (walk marks.new pending.new)) }
 {
     let count = landing.word.list_element_count();
-    if !marks.take(landing.segment, landing.start, count) {
+    if !marks.try_mark(landing.segment, landing.start, count) {
         return Ok(false);
     }
-    put_pointers(pending, landing.segment, landing.start, count)?;
+    push_pointers(pending, landing.segment, landing.start, count)?;
     Ok(true)
 }
 
-/// Does what `take_object` does, for a list of numbers ("Lists").
-fn take_flat<A: ReaderArena>(
+/// Does what `mark_object` does, for a list of numbers ("Lists").
+fn mark_primitive_list<A: ReaderArena>(
     arena: &A,
     marks: &mut Marks,
     pending: &Vec<WordPlace>,
@@ -103,8 +105,9 @@ fn take_flat<A: ReaderArena>(
         (walk marks.old pending.now) (walk marks.new pending.now) result }
 {
     let count = landing.word.list_element_count();
-    let words = flat_words(size, count);
-    marks.take(landing.segment, landing.start, words) && has_padding(arena, landing, size, count)
+    let words = words_for_elements(size, count);
+    marks.try_mark(landing.segment, landing.start, words)
+        && has_padding(arena, landing, size, count)
 }
 
 /// Whether the bits after the elements of the list of numbers at `landing`, up to the end of the
@@ -154,8 +157,8 @@ fn is_padded(bytes: &[u8], start: u32, size: ElementSize, count: u32) -> bool
     false
 }
 
-/// Does what `take_object` does, for a list of structs and its tag ("Lists").
-fn take_structs<A: ReaderArena>(
+/// Does what `mark_object` does, for a list of structs and its tag ("Lists").
+fn mark_struct_list<A: ReaderArena>(
     arena: &A,
     marks: &mut Marks,
     pending: &mut Vec<WordPlace>,
@@ -167,16 +170,16 @@ fn take_structs<A: ReaderArena>(
         (walk marks.old pending.old) (walk marks.new pending.new)) }
 {
     let words = landing.word.list_inline_composite_word_count();
-    if !marks.take(landing.segment, landing.start, words + 1) {
+    if !marks.try_mark(landing.segment, landing.start, words + 1) {
         return Ok(false);
     }
-    let tag = word_of(arena, landing.segment, landing.start);
+    let tag = pointer_word(arena, landing.segment, landing.start);
     let size = tag.struct_size();
     let count = tag.inline_composite_list_element_count();
     let taken = u64::from(count) * u64::from(size.total());
     if tag.kind() != WirePointerKind::Struct || taken != u64::from(words) {
         return Ok(false);
     }
-    put_elements(pending, landing.segment, landing.start + 1, size, count)?;
+    push_elements(pending, landing.segment, landing.start + 1, size, count)?;
     Ok(true)
 }

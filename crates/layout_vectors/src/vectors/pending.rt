@@ -7,7 +7,11 @@ use capnp_words::wire_pointer::StructSize;
 use std::alloc::AllocError;
 
 /// Appends the place at word `at` of segment `segment` to `pending`.
-pub(crate) fn put(pending: &mut Vec<WordPlace>, segment: u32, at: u32) -> Result<(), AllocError>
+pub(crate) fn push_place(
+    pending: &mut Vec<WordPlace>,
+    segment: u32,
+    at: u32,
+) -> Result<(), AllocError>
     ensures { OnOk result (pending.new.items ≡ pending.old.items ++ spots segment at 1) }
 {
     pending.push(WordPlace { segment, at })?;
@@ -16,7 +20,7 @@ pub(crate) fn put(pending: &mut Vec<WordPlace>, segment: u32, at: u32) -> Result
 
 /// Appends the places of the `count` consecutive pointers from word `start` on to `pending`.
 #[tactic(auto, using(crate::proofs::SpotsMore::spots_more))]
-pub(crate) fn put_pointers(
+pub(crate) fn push_pointers(
     pending: &mut Vec<WordPlace>,
     segment: u32,
     start: u32,
@@ -27,7 +31,7 @@ pub(crate) fn put_pointers(
         ++ spots segment start count) }
 {
     for i in 0..count {
-        put(pending, segment, start + i)?;
+        push_place(pending, segment, start + i)?;
     }
     Ok(())
 }
@@ -35,7 +39,7 @@ pub(crate) fn put_pointers(
 /// Appends the places of the pointers in the `count` consecutive structs of `size` from word
 /// `start` on to `pending`.
 #[tactic(auto, using(crate::proofs::SpotsMore::element_spots_more, crate::proofs::SpotsMore::element_spots_none))]
-pub(crate) fn put_elements(
+pub(crate) fn push_elements(
     pending: &mut Vec<WordPlace>,
     segment: u32,
     start: u32,
@@ -52,7 +56,7 @@ pub(crate) fn put_elements(
     let mut at = start;
     for _i in 0..count {
         at += u32::from(size.data_words);
-        put_pointers(pending, segment, at, u32::from(size.pointers))?;
+        push_pointers(pending, segment, at, u32::from(size.pointers))?;
         at += u32::from(size.pointers);
     }
     Ok(())

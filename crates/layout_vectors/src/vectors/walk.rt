@@ -9,10 +9,10 @@ ghost use Rattle.capnp_words.specs.declared.error.ErrorKind.TheVariants.{Allocat
 ghost use Rattle.layout_vectors.specs.Marks.{rows_of, TakesPads};
 ghost use Rattle.layout_vectors.specs.Walks.{walk, TakesSpot, FitsRows};
 
-use crate::vectors::landing::{follow, word_of};
+use crate::vectors::landing::{follow, pointer_word};
 use crate::vectors::marks::Marks;
-use crate::vectors::objects::take_object;
-use crate::vectors::pending::put;
+use crate::vectors::objects::mark_object;
+use crate::vectors::pending::push_place;
 use capnp_arena::arena::{ReaderArena, ReaderArenaImpl, ReaderOptions, SegmentArray};
 use capnp_arena_traits::arena::WordPlace;
 use capnp_words::error::ErrorKind;
@@ -66,10 +66,10 @@ fn walk_from_root<A: ReaderArena>(
         ↔ ((t : Tree) × IsForest (message (A.segments arena.now)) t)) }
 {
     let mut pending = Vec::new(alloc);
-    if !marks.take(0, 0, 1) {
+    if !marks.try_mark(0, 0, 1) {
         return Ok(false);
     }
-    put(&mut pending, 0, 0)?;
+    push_place(&mut pending, 0, 0)?;
     while let Some(spot) = pending.pop() {
         if !walk_pointer(arena, &mut marks, &mut pending, spot)? {
             return Ok(false);
@@ -80,7 +80,7 @@ fn walk_from_root<A: ReaderArena>(
 
 /// Marks the words of the object that the pointer at `spot` leads to, and of its landing pad.
 /// Returns `false` if the pointer leads nowhere, a word of the landing pad is marked already, or
-/// `take_object` returns `false`.
+/// `mark_object` returns `false`.
 fn walk_pointer<A: ReaderArena>(
     arena: &A,
     marks: &mut Marks,
@@ -91,14 +91,14 @@ fn walk_pointer<A: ReaderArena>(
     ensures { IfOk result (TakesSpot (message (A.segments arena.now)) spot
         (walk marks.old pending.old) (walk marks.new pending.new)) }
 {
-    let word = word_of(arena, spot.segment, spot.at);
+    let word = pointer_word(arena, spot.segment, spot.at);
     if word.is_null() {
         return Ok(true);
     }
     match follow(arena, spot.segment, spot.at) {
         Some(landing) => {
-            if take_pads(marks, word) {
-                take_object(arena, marks, pending, landing)
+            if mark_pads(marks, word) {
+                mark_object(arena, marks, pending, landing)
             } else {
                 Ok(false)
             }
@@ -109,12 +109,12 @@ fn walk_pointer<A: ReaderArena>(
 
 /// If `word` is a far pointer, marks the words of its landing pad; otherwise marks nothing. Returns
 /// `false` if one of these words doesn't exist or is marked already.
-fn take_pads(marks: &mut Marks, word: WirePointer) -> bool
+fn mark_pads(marks: &mut Marks, word: WirePointer) -> bool
     ensures { TakesPads (rows_of marks.old) (rows_of marks.new) word.0 result }
 {
     if word.kind() == WirePointerKind::Far {
         let words = if word.is_double_far() { 2 } else { 1 };
-        marks.take(word.far_segment_id(), word.far_position_in_segment(), words)
+        marks.try_mark(word.far_segment_id(), word.far_position_in_segment(), words)
     } else {
         true
     }
@@ -128,7 +128,7 @@ fn rest_is_zero<A: ReaderArena>(arena: &A, marks: &Marks) -> bool
 {
     for (id, row) in marks.rows.iter().enumerate() {
         let is_zero = match arena.get_segment(id as u32) {
-            Ok(bytes) => is_zero_behind(bytes, row.as_slice()),
+            Ok(bytes) => is_unmarked_zero(bytes, row.as_slice()),
             Err(_) => true,
         };
         if !is_zero {
@@ -140,7 +140,7 @@ fn rest_is_zero<A: ReaderArena>(arena: &A, marks: &Marks) -> bool
 
 /// Whether each unmarked word of a segment is zero. `bytes` are the bytes of the segment, and `row`
 /// the marks of its words.
-fn is_zero_behind(bytes: &[u8], row: &[u8]) -> bool
+fn is_unmarked_zero(bytes: &[u8], row: &[u8]) -> bool
     requires { length row.now ≡ length (words_of bytes.now) }
     ensures { IsTrue result
         ↔ ((q : ℕ) → slice_index row.now q ≡ 0 → slice_index (words_of bytes.now) q ≡ 0) }

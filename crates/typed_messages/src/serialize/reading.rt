@@ -1,7 +1,8 @@
 //! Reads messages from frames (encoding specification, "Serialization Over a Stream").
-ghost use Rattle.std.specs.Prelude.{◌≡◌, ◌⊎◌, [], false, None, Ok, IfOk, IfErr, IfSome, unwrap_or};
+ghost use Rattle.std.specs.Prelude.{◌≡◌, ◌⊎◌, [], false, None, Ok, IfOk, IfErr, IfSome};
 ghost use Rattle.std.specs.Io.KnownBytes.{IsAtEnd};
 ghost use Rattle.capnp_framing.specs.Flat.{BeginsWithFrame};
+ghost use Rattle.capnp_framing.specs.Limits.{most_words};
 ghost use Rattle.capnp_framing.specs.Reading.{KeepsInput, NoFrame, NoFrameRead};
 ghost use Rattle.capnp_framing.specs.declared.framing.frame_error.FrameError.TheVariants.{Truncated};
 ghost use Rattle.typed_messages.specs.Reading.{EndsBefore, HasLimits, IsMessageRead, words_of_message};
@@ -10,19 +11,9 @@ use crate::message::{MessageReader, ReaderOptions};
 use capnp_arena::arena::ReaderSegments;
 use capnp_framing::devices::Input;
 use capnp_framing::framing::{
-    FrameError, FrameSegments, OwnedSegments, read, read_from_flat_slice,
+    FrameError, FrameSegments, OwnedSegments, most_words, read, read_from_flat_slice,
 };
 use std::alloc::Global;
-
-/// Returns the largest number of words that a message may have; a frame with more words isn't read.
-fn most_words(options: ReaderOptions) -> u64
-    ensures { result ≡ unwrap_or options.traversal_limit_in_words u64.MAX }
-{
-    match options.traversal_limit_in_words {
-        Some(words) => words as u64,
-        None => u64::MAX,
-    }
-}
 
 /// Reads a message from the front of `input`, and leaves what follows it unread. Returns `None` if
 /// the input is at its end. Precondition: the input hasn't failed.
@@ -44,7 +35,7 @@ pub fn try_read_message<R: Input>(
         R.Input ⟦<OwnedSegments as ReaderSegments>⟧ input.old input.new options)) }
     ensures input { KeepsInput R.Input result input.old input.new }
     ensures refused { IfErr result (NoFrameRead R.Input input.old input.new
-        (unwrap_or options.traversal_limit_in_words u64.MAX)) }
+        (most_words options)) }
 {
     match read(alloc, input, most_words(options)) {
         Ok(Some(segments)) => Ok(Some(MessageReader::new(segments, options))),
@@ -66,7 +57,7 @@ pub fn read_message<R: Input>(
     ensures input { KeepsInput R.Input result input.old input.new }
     ensures refused { IfErr result (λ e. EndsBefore R.Input input.old input.new e
         ⊎ NoFrameRead R.Input input.old input.new
-        (unwrap_or options.traversal_limit_in_words u64.MAX) e) }
+        (most_words options) e) }
 {
     match try_read_message(alloc, input, options) {
         Ok(Some(message)) => Ok(message),
@@ -86,12 +77,12 @@ pub fn read_message_from_flat_slice(
     options: ReaderOptions,
 ) -> Result<MessageReader<FrameSegments<'_>>, FrameError>
     ensures read { IfOk result (λ m. BeginsWithFrame bytes.now
-        (unwrap_or options.traversal_limit_in_words u64.MAX)
+        (most_words options)
         (words_of_message ⟦<FrameSegments<'static> as ReaderSegments>⟧ m)) }
     ensures limits { IfOk result
         (λ m. HasLimits ⟦<FrameSegments<'static> as ReaderSegments>⟧ m options) }
     ensures refused { IfErr result (λ e. ((e ≡ Truncated) × (bytes.now ≡ []))
-        ⊎ NoFrame bytes.now (unwrap_or options.traversal_limit_in_words u64.MAX) e) }
+        ⊎ NoFrame bytes.now (most_words options) e) }
 {
     match read_from_flat_slice(bytes, most_words(options)) {
         Ok(Some(segments)) => Ok(MessageReader::new(segments, options)),

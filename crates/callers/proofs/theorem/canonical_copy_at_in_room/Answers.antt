@@ -21,7 +21,7 @@ use Rattle.callers.proofs.theorem.canonical_copy_at_in_room.Goals as goal
 pub returns-clause-fits : goal.returns-clause-fits
 returns-clause-fits g c = λ t cost means free covers fits.
     c.copy_from.ensures.fits
-    (fits_here (g.A.BuilderArena.view c.args.arena.now) _ _ (rw (← c.of_pointer-from.ensures.source, ← c.of_pointer-from.ensures.place, ← c.of_pointer-from.ensures.nesting) at c.pointer_at.ensures)
+    (fits_here (g.A.BuilderArena.view c.args.arena.now) _ _ (rw (← c.from_pointer-from.ensures.source, ← c.from_pointer-from.ensures.place, ← c.from_pointer-from.ensures.nesting) at c.pointer_at.ensures)
     (ap g.A.BuilderArena.view c.get_root.ensures.now) c.get_root.ensures.place.0 c.requires.root t cost means free covers fits)
 
 pub returns-clause-made : goal.returns-clause-made
@@ -31,7 +31,7 @@ returns-clause-made g c =
     let root : IsFreshRoot (view c.args.arena.now) (view c.get_root.result.arena.now) c.get_root.result.segment c.get_root.result.at =
     record { same = ap view c.get_root.ensures.now; segment = c.get_root.ensures.place.0; at = c.get_root.ensures.place.1; fresh = c.requires.root } in
     let now = c.copy_from.new.self.arena.now in
-    let made = IfOk-weaker c.copy_from.result _ _ (λ x. made_here (view now) (rw (← c.of_pointer-from.ensures.source, ← c.of_pointer-from.ensures.place, ← c.of_pointer-from.ensures.nesting) at c.pointer_at.ensures) root (g.met.A.BuilderArena.within now 0)) (c.copy_from.ensures.near (null_root root)) in
+    let made = IfOk-weaker c.copy_from.result _ _ (λ x. made_here (view now) (rw (← c.from_pointer-from.ensures.source, ← c.from_pointer-from.ensures.place, ← c.from_pointer-from.ensures.nesting) at c.pointer_at.ensures) root (g.met.A.BuilderArena.within now 0)) (c.copy_from.ensures.near (null_root root)) in
     subst (λ (a : g.row.A.Denot). IfOk c.copy_from.result (λ _. (t : Tree) × (cost : ℕ) × Means S (levels c.args.source.now.nesting_limit) c.args.place.segment c.args.place.word t cost × HasNoCapabilities t ×
     Paid true c.args.lim.now c.copy_from.new.lim cost (pointers_in t) ×
     (1 + word_count (trim t) ≤ (view c.args.arena.now).room 0 ↔ ((view a).words ≡ encoding (trim t) ∷ [])) × IsForest (view a).words (trim t))) (search rules) made
@@ -61,6 +61,6 @@ returns-clause-refused g c =
     let root : IsFreshRoot (view c.args.arena.now) (view c.get_root.result.arena.now) c.get_root.result.segment c.get_root.result.at =
     record { same = ap view c.get_root.ensures.now; segment = c.get_root.ensures.place.0; at = c.get_root.ensures.place.1; fresh = c.requires.root } in
     let now = c.copy_from.new.self.arena.now in
-    let refused = IfErr-weaker c.copy_from.result _ _ (λ k. refused_here (view now) k (rw (← c.of_pointer-from.ensures.source, ← c.of_pointer-from.ensures.place, ← c.of_pointer-from.ensures.nesting) at c.pointer_at.ensures) root) c.copy_from.ensures.refused in
+    let refused = IfErr-weaker c.copy_from.result _ _ (λ k. refused_here (view now) k (rw (← c.from_pointer-from.ensures.source, ← c.from_pointer-from.ensures.place, ← c.from_pointer-from.ensures.nesting) at c.pointer_at.ensures) root) c.copy_from.ensures.refused in
     subst (λ (a : g.row.A.Denot). IfErr c.copy_from.result (RefusesToCopy (value_original (read_at S (levels c.args.source.now.nesting_limit) c.args.place.segment c.args.place.word))
     (copy_call canonical (call_at 0 0 (view c.args.arena.now) (view a)) c.args.lim.now c.copy_from.new.lim))) (search rules) refused

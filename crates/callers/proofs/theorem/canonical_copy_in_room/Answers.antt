@@ -27,7 +27,7 @@ pub returns-clause-fits : goal.returns-clause-fits
 returns-clause-fits g c = λ t value fits.
     let read : IsOk c.read_root.result = search rules in
     let at : AtRoot (message (g.S.ReaderSegments.segments c.args.segments)) c.args.limits _ c.read_root.new.lim =
-    at_root c.new-source.ensures.words c.new-source.ensures.nesting c.new-lim.ensures (rw (← c.of_pointer-from.ensures.source, ← c.of_pointer-from.ensures.place, ← c.of_pointer-from.ensures.nesting) at c.in_ok-root.ensures.place)
+    at_root c.new-source.ensures.words c.new-source.ensures.nesting c.new-lim.ensures (rw (← c.from_pointer-from.ensures.source, ← c.from_pointer-from.ensures.place, ← c.from_pointer-from.ensures.nesting) at c.in_ok-root.ensures.place)
     c.in_ok-root.ensures.charged (c.read_root.ensures.exactly.0 read) in
     c.copy_from.ensures.fits
     (fits_at (g.A.BuilderArena.view c.args.arena.now) _ _ at (ap g.A.BuilderArena.view c.get_root.ensures.now)
@@ -38,7 +38,7 @@ returns-clause-made g c =
     let view = g.A.BuilderArena.view in
     let read : IsOk c.read_root.result = search rules in
     let at : AtRoot (message (g.S.ReaderSegments.segments c.args.segments)) c.args.limits _ c.read_root.new.lim =
-    at_root c.new-source.ensures.words c.new-source.ensures.nesting c.new-lim.ensures (rw (← c.of_pointer-from.ensures.source, ← c.of_pointer-from.ensures.place, ← c.of_pointer-from.ensures.nesting) at c.in_ok-root.ensures.place)
+    at_root c.new-source.ensures.words c.new-source.ensures.nesting c.new-lim.ensures (rw (← c.from_pointer-from.ensures.source, ← c.from_pointer-from.ensures.place, ← c.from_pointer-from.ensures.nesting) at c.in_ok-root.ensures.place)
     c.in_ok-root.ensures.charged (c.read_root.ensures.exactly.0 read) in
     let root : IsFreshRoot (view c.args.arena.now) (view c.get_root.result.arena.now) c.get_root.result.segment c.get_root.result.at =
     record { same = ap view c.get_root.ensures.now; segment = c.get_root.ensures.place.0; at = c.get_root.ensures.place.1; fresh = c.requires.root } in
@@ -70,7 +70,7 @@ returns-clause-refused g c =
     let view = g.A.BuilderArena.view in
     let read : IsOk c.read_root.result = search rules in
     let at : AtRoot (message (g.S.ReaderSegments.segments c.args.segments)) c.args.limits _ c.read_root.new.lim =
-    at_root c.new-source.ensures.words c.new-source.ensures.nesting c.new-lim.ensures (rw (← c.of_pointer-from.ensures.source, ← c.of_pointer-from.ensures.place, ← c.of_pointer-from.ensures.nesting) at c.in_ok-root.ensures.place)
+    at_root c.new-source.ensures.words c.new-source.ensures.nesting c.new-lim.ensures (rw (← c.from_pointer-from.ensures.source, ← c.from_pointer-from.ensures.place, ← c.from_pointer-from.ensures.nesting) at c.in_ok-root.ensures.place)
     c.in_ok-root.ensures.charged (c.read_root.ensures.exactly.0 read) in
     let root : IsFreshRoot (view c.args.arena.now) (view c.get_root.result.arena.now) c.get_root.result.segment c.get_root.result.at =
     record { same = ap view c.get_root.ensures.now; segment = c.get_root.ensures.place.0; at = c.get_root.ensures.place.1; fresh = c.requires.root } in
@@ -93,7 +93,7 @@ returns-clause-means g c =
     let view = g.A.BuilderArena.view in
     let read : IsOk c.read_root.result = search rules in
     let at : AtRoot (message (g.S.ReaderSegments.segments c.args.segments)) c.args.limits _ c.read_root.new.lim =
-    at_root c.new-source.ensures.words c.new-source.ensures.nesting c.new-lim.ensures (rw (← c.of_pointer-from.ensures.source, ← c.of_pointer-from.ensures.place, ← c.of_pointer-from.ensures.nesting) at c.in_ok-root.ensures.place)
+    at_root c.new-source.ensures.words c.new-source.ensures.nesting c.new-lim.ensures (rw (← c.from_pointer-from.ensures.source, ← c.from_pointer-from.ensures.place, ← c.from_pointer-from.ensures.nesting) at c.in_ok-root.ensures.place)
     c.in_ok-root.ensures.charged (c.read_root.ensures.exactly.0 read) in
     let root : IsFreshRoot (view c.args.arena.now) (view c.get_root.result.arena.now) c.get_root.result.segment c.get_root.result.at =
     record { same = ap view c.get_root.ensures.now; segment = c.get_root.ensures.place.0; at = c.get_root.ensures.place.1; fresh = c.requires.root } in

@@ -9,12 +9,12 @@ pub returns-then-not-canonicalize : goal.returns-then-not-canonicalize
 returns-then-not-canonicalize c =
     sym (section_long c.args.bits c.args.bytes.now c.requires.long) ∙ sym (ap (λ b. kept_count (form_of b) (section_words c.args.bits c.args.bytes.now)) c.if-not-canonicalize.true)
 
-pub returns-then-last_word-ne0 : goal.returns-then-last_word-ne0
-returns-then-last_word-ne0 c =
-    sym (last_used c.args.bits c.args.bytes.now c.requires.long (λ e. c.if-last_word-ne0.true (c.last_word.ensures ∙ e)))
+pub returns-then-last_partial_word-ne0 : goal.returns-then-last_partial_word-ne0
+returns-then-last_partial_word-ne0 c =
+    sym (last_used c.args.bits c.args.bytes.now c.requires.long (λ e. c.if-last_partial_word-ne0.true (c.last_partial_word.ensures ∙ e)))
     ∙ sym (ap (λ b. kept_count (form_of b) (section_words c.args.bits c.args.bytes.now)) c.if-not-canonicalize.false)
 
 pub returns : goal.returns
 returns c =
-    c.used_words_in.ensures.value ∙ sym (last_unused c.args.bits c.args.bytes.now (sym c.last_word.ensures ∙ c.if-last_word-ne0.false))
+    c.used_words_in.ensures.value ∙ sym (last_unused c.args.bits c.args.bytes.now (sym c.last_partial_word.ensures ∙ c.if-last_partial_word-ne0.false))
     ∙ sym (ap (λ b. kept_count (form_of b) (section_words c.args.bits c.args.bytes.now)) c.if-not-canonicalize.false)

@@ -53,21 +53,21 @@ returns-in_ok-list-in-Some-clause-widened g c =
     (u, e, made, list_leads S R c.args.id c.args.at c.args.size c.in-Some.old c.in_ok-list-in-Some.list found widens t u x e))
 
 -- A list of large enough structs is returned unchanged.
-pub returns-then-is_wide_list-clause-widened : goal.returns-then-is_wide_list-clause-widened
-returns-then-is_wide_list-clause-widened g c =
+pub returns-then-is_wide_enough_list-clause-widened : goal.returns-then-is_wide_enough_list-clause-widened
+returns-then-is_wide_enough_list-clause-widened g c =
     let S : Segments = (g.A.BuilderArena.view c.args.arena.now).words in
     let found = λ (t : Tree) (x : IsStored S c.args.id c.args.at t). sym (ap Ok c.in-Some.is) ∙ c.in_ok-old.ensures.found t x in
-    let wide = c.is_wide_list.ensures.0 (search rules) in
+    let wide = c.is_wide_enough_list.ensures.0 (search rules) in
     let widens = structs_kept S c.args.id c.args.at c.in-Some.old c.args.size (ap size_number wide.0) wide.1 wide.2 in
     λ t x.
     (let (u, e, made) = list_widens S S c.args.id c.args.at c.args.size c.in-Some.old c.in-Some.old found widens t x in
     (u, e, made, list_leads S S c.args.id c.args.at c.args.size c.in-Some.old c.in-Some.old found widens t u x e))
 
-pub returns-then-is_wide_list-clause-wider : goal.returns-then-is_wide_list-clause-wider
-returns-then-is_wide_list-clause-wider g c =
+pub returns-then-is_wide_enough_list-clause-wider : goal.returns-then-is_wide_enough_list-clause-wider
+returns-then-is_wide_enough_list-clause-wider g c =
     let v : View = g.A.BuilderArena.view c.args.arena.now in
     let found = λ (t : Tree) (x : IsStored v.words c.args.id c.args.at t). sym (ap Ok c.in-Some.is) ∙ c.in_ok-old.ensures.found t x in
-    let wide = c.is_wide_list.ensures.0 (search rules) in
+    let wide = c.is_wide_enough_list.ensures.0 (search rules) in
     let kind = ap size_number wide.0 in
     record {
       anew = λ t u x some becomes narrow. structs_not_anew v c.args.id c.args.at c.in-Some.old c.args.size kind wide.1 wide.2 t u (x, sym (found t x)) some becomes narrow;
@@ -174,14 +174,14 @@ wide_stays S s p l size found narrow (inr (d, q, es, x, m, n)) =
 pub returns-in_ok-list-in-Some-clause-stays : goal.returns-in_ok-list-in-Some-clause-stays
 returns-in_ok-list-in-Some-clause-stays g c = λ h.
     absurd (wide_stays (g.A.BuilderArena.view c.args.arena.now).words c.args.id c.args.at c.in-Some.old c.args.size (λ t x. sym (ap Ok c.in-Some.is) ∙ c.in_ok-old.ensures.found t x)
-    (λ wide. no_truth c.is_wide_list.result c.if-is_wide_list.false (c.is_wide_list.ensures.1 wide)) h)
+    (λ wide. no_truth c.is_wide_enough_list.result c.if-is_wide_enough_list.false (c.is_wide_enough_list.ensures.1 wide)) h)
 
 pub returns-in_err-list-in-Some-clause-stays : goal.returns-in_err-list-in-Some-clause-stays
 returns-in_err-list-in-Some-clause-stays g c =
     let p = err_from_is_err_and c.from_residual-in_err-list-in-Some.result c.from_residual-in_err-list-in-Some.ensures.1 in rw p.1 (λ h.
     absurd (wide_stays (g.A.BuilderArena.view c.args.arena.now).words c.args.id c.args.at c.in-Some.old c.args.size (λ t x. sym (ap Ok c.in-Some.is) ∙ c.in_ok-old.ensures.found t x)
-    (λ wide. no_truth c.is_wide_list.result c.if-is_wide_list.false (c.is_wide_list.ensures.1 wide)) h))
+    (λ wide. no_truth c.is_wide_enough_list.result c.if-is_wide_enough_list.false (c.is_wide_enough_list.ensures.1 wide)) h))
 
 pub widen_list-requires-clause-narrow : goal.widen_list-requires-clause-narrow
 widen_list-requires-clause-narrow g c = λ is wide many.
-    no_truth c.is_wide_list.result c.if-is_wide_list.false (c.is_wide_list.ensures.1 (is_composite c.in-Some.old.size is, wide, many))
+    no_truth c.is_wide_enough_list.result c.if-is_wide_enough_list.false (c.is_wide_enough_list.ensures.1 (is_composite c.in-Some.old.size is, wide, many))

@@ -9,9 +9,9 @@ use Rattle.capnp_contents.proofs.number_lists.widen_numbers.Goals as goal
 pub returns-clause-makes : goal.returns-clause-makes
 returns-clause-makes g c =
     let a : View = g.A.BuilderArena.view c.args.arena.now in
-    let b : View = g.A.BuilderArena.view c.remake_numbers.new.arena in
-    let e = c.remake_numbers.ensures in
-    numbers_make a b c.args.id c.args.at c.args.old c.args.size c.remake_numbers.result c.requires.kind.0 c.requires.kind.1 e.made e.refused e.full e.few e.fits
+    let b : View = g.A.BuilderArena.view c.widen_numbers_inside.new.arena in
+    let e = c.widen_numbers_inside.ensures in
+    numbers_make a b c.args.id c.args.at c.args.old c.args.size c.widen_numbers_inside.result c.requires.kind.0 c.requires.kind.1 e.made e.refused e.full e.few e.fits
 
 -- What a place stores is inside its segment.
 pub returns-then-not-are_numbers_inside-clause-makes : goal.returns-then-not-are_numbers_inside-clause-makes

@@ -9,9 +9,9 @@ use Rattle.capnp_contents.proofs.remaking.widen_rows.Goals as goal
 pub returns-clause-makes : goal.returns-clause-makes
 returns-clause-makes g c =
     let a : View = g.A.BuilderArena.view c.args.arena.now in
-    let b : View = g.A.BuilderArena.view c.remake_rows.new.arena in
-    let e = c.remake_rows.ensures in
-    rows_make a b c.args.id c.args.at c.args.old c.args.size c.remake_rows.result e.remakes e.full e.fits
+    let b : View = g.A.BuilderArena.view c.widen_rows_inside.new.arena in
+    let e = c.widen_rows_inside.ensures in
+    rows_make a b c.args.id c.args.at c.args.old c.args.size c.widen_rows_inside.result e.remakes e.full e.fits
 
 -- What a place stores is inside its segment.
 pub returns-then-not-are_inside-clause-makes : goal.returns-then-not-are_inside-clause-makes

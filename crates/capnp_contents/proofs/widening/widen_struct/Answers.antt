@@ -56,14 +56,14 @@ pub allocate_object-requires-clause-there : goal.allocate_object-requires-clause
 allocate_object-requires-clause-there g c =
     there (g.A.BuilderArena.view c.args.arena.now).words c.args.id c.args.at c.requires.place
 
-pub pointers_of-from-requires : goal.pointers_of-from-requires
-pointers_of-from-requires g c =
+pub pointers_place-from-requires : goal.pointers_place-from-requires
+pointers_place-from-requires g c =
     data_fits c.args.old.start c.args.old.size.data_words c.args.old.size.pointers
     c.requires.inside (g.met.A.BuilderArena.within c.args.arena.now c.args.old.segment)
     (g.met.A.BuilderArena.small c.args.arena.now c.args.old.segment)
 
-pub pointers_of-to-requires : goal.pointers_of-to-requires
-pointers_of-to-requires g c =
+pub pointers_place-to-requires : goal.pointers_place-to-requires
+pointers_place-to-requires g c =
     let (grown, near) = c.in_ok-room.ensures.taken in
     new_data_fits c.in_ok-room.room.at c.in_ok-room.room.pads c.args.size.data_words c.args.size.pointers
     grown.room c.total.ensures
@@ -73,11 +73,11 @@ pointers_of-to-requires g c =
 pub copy_words-requires-clause-inside : goal.copy_words-requires-clause-inside
 copy_words-requires-clause-inside g c = record {
   from = (let (grown, near) = c.in_ok-room.ensures.taken in
-      rw (c.data_of.ensures, c.from.ensures)
+      rw (c.data_place.ensures, c.from.ensures)
       (le_trans (data_inside c.args.old.start c.args.old.size.data_words c.args.old.size.pointers
       c.requires.inside) (grown.grows.words c.args.old.segment)));
   to = (let (grown, near) = c.in_ok-room.ensures.taken in
-      rw (c.data_of-2.ensures, c.from.ensures)
+      rw (c.data_place-2.ensures, c.from.ensures)
       (new_data c.in_ok-room.room.at c.in_ok-room.room.pads c.args.size.data_words c.args.size.pointers
       grown.room c.total.ensures c.requires.data));
 }
@@ -86,19 +86,19 @@ pub copy_words-requires-clause-apart : goal.copy_words-requires-clause-apart
 copy_words-requires-clause-apart g c =
     let (grown, near) = c.in_ok-room.ensures.taken in
     let S : Segments = (g.A.BuilderArena.view c.args.arena.now).words in
-    rw (c.data_of.ensures, c.data_of-2.ensures, c.from.ensures)
+    rw (c.data_place.ensures, c.data_place-2.ensures, c.from.ensures)
     (λ e. old_before_new c.args.old.start c.args.old.size.data_words c.args.old.size.pointers
     c.in_ok-room.room.pads
     c.requires.inside (ap (λ s. length (segment S s)) e) grown.behind)
 
-pub move_row-requires : goal.move_row-requires
-move_row-requires g c = record {
+pub transfer_row-requires : goal.transfer_row-requires
+transfer_row-requires g c = record {
   from = (let (grown, near) = c.in_ok-room.ensures.taken in
       let s : ℕ = c.args.old.segment in
-      rw (c.pointers_of-from.ensures, c.from-count.ensures) (le_trans c.requires.inside
+      rw (c.pointers_place-from.ensures, c.from-count.ensures) (le_trans c.requires.inside
       (le_trans (grown.grows.words s) (le_of_eq (sym (c.copy_words.ensures.copied.words s))))));
   to = (let (grown, near) = c.in_ok-room.ensures.taken in
-      rw (c.pointers_of-to.ensures, c.from-count.ensures)
+      rw (c.pointers_place-to.ensures, c.from-count.ensures)
       (le_trans
       (new_pointers c.in_ok-room.room.at c.in_ok-room.room.pads c.args.size.data_words c.args.size.pointers
       grown.room c.total.ensures c.requires.pointers)
@@ -131,24 +131,24 @@ point_to_object-requires-clause-apart g c = λ e.
 pub point_to_object-requires-clause-near : goal.point_to_object-requires-clause-near
 point_to_object-requires-clause-near g c = near_or_behind c.in_ok-room.ensures.taken.1
 
-pub unmove_row-requires : goal.unmove_row-requires
-unmove_row-requires g c = record {
+pub zero_pads_of_row-requires : goal.zero_pads_of_row-requires
+zero_pads_of_row-requires g c = record {
   from = (let (grown, near) = c.in_ok-room.ensures.taken in
       let s : ℕ = c.args.old.segment in
-      rw (c.pointers_of-from.ensures, c.from-count.ensures) (le_trans c.requires.inside
+      rw (c.pointers_place-from.ensures, c.from-count.ensures) (le_trans c.requires.inside
       (le_trans (grown.grows.words s) (le_trans (le_of_eq (sym (c.copy_words.ensures.copied.words s)))
       (c.in-Err.ensures.moves.longer.words s)))));
   to = (let (grown, near) = c.in_ok-room.ensures.taken in
       let v : ℕ = c.in_ok-room.room.segment in
-      rw (c.pointers_of-to.ensures, c.from-count.ensures)
+      rw (c.pointers_place-to.ensures, c.from-count.ensures)
       (le_trans
       (new_pointers c.in_ok-room.room.at c.in_ok-room.room.pads c.args.size.data_words c.args.size.pointers
       grown.room c.total.ensures c.requires.pointers)
       (le_trans (le_of_eq (sym (c.copy_words.ensures.copied.words v))) (c.in-Err.ensures.moves.longer.words v))));
 }
 
-pub zero_part-requires : goal.zero_part-requires
-zero_part-requires g c =
+pub zero_if_inside-requires : goal.zero_if_inside-requires
+zero_if_inside-requires g c =
     rw (c.from-in-Ok.ensures ∙ c.total-in-Ok.ensures)
     (sections_fit c.args.old.start c.args.old.size.data_words c.args.old.size.pointers
     c.requires.inside
@@ -160,16 +160,16 @@ returns-in-Ok-clause-wider g c =
     let s : View = g.A.BuilderArena.view c.args.arena.now in
     let t : View = g.A.BuilderArena.view c.allocate_object.new.arena in
     let d : View = g.A.BuilderArena.view c.copy_words.new.arena in
-    let p : View = g.A.BuilderArena.view c.move_row.new.arena in
+    let p : View = g.A.BuilderArena.view c.transfer_row.new.arena in
     let r : View = g.A.BuilderArena.view c.point_to_object.new.arena in
-    let z : View = g.A.BuilderArena.view c.zero_part.new.arena in
+    let z : View = g.A.BuilderArena.view c.zero_if_inside.new.arena in
     let q : View = g.A.BuilderArena.view c.zero_pads.new.arena in
     let (b, settled, shaped, segment_of, start_of) = settled_room c.point_to_object.ensures.settled in
     let (grown, near) = c.in_ok-room.ensures.taken in
     let moves = c.in-Ok.ensures.moves in
     let first : OnlyWrites t d = record { limits = c.copy_words.ensures.limits; segments = c.copy_words.ensures.copied.segments; words = c.copy_words.ensures.copied.words } in
     let set : OnlyWrites p r = record { limits = c.point_to_object.ensures.limits; segments = settled.segments; words = settled.words } in
-    let zeroed = pruned_writes r z c.zero_part.ensures.limits c.zero_part.ensures.pruned in
+    let zeroed = pruned_writes r z c.zero_if_inside.ensures.limits c.zero_if_inside.ensures.pruned in
     let cleared = pruned_writes z q c.zero_pads.ensures.limits c.zero_pads.ensures.pruned in
     let last = writes_both p r q set (writes_both r z q zeroed cleared) in
     let copied : length s.words ≤ length d.words = le_trans grown.grows.segments
@@ -178,11 +178,11 @@ returns-in-Ok-clause-wider g c =
     let steps : StructSteps s.words t.words d.words p.words r.words z.words q.words c.args.id c.args.at c.args.old c.args.size c.in_ok-room.room = record {
       place = c.requires.place;
       room = rw c.total.ensures at c.in_ok-room.ensures.taken;
-      copied = rw (c.data_of.ensures, c.data_of-2.ensures, c.from.ensures) at c.copy_words.ensures.copied;
-      moves = rw (c.pointers_of-from.ensures, c.pointers_of-to.ensures, c.from-count.ensures) at moves.moved;
+      copied = rw (c.data_place.ensures, c.data_place-2.ensures, c.from.ensures) at c.copy_words.ensures.copied;
+      moves = rw (c.pointers_place-from.ensures, c.pointers_place-to.ensures, c.from-count.ensures) at moves.moved;
       settled = settled_room c.point_to_object.ensures.settled;
-      object_zeroed = rw (c.from-in-Ok.ensures ∙ c.total-in-Ok.ensures) at c.zero_part.ensures.zeroed;
-      pads_zeroed = rw c.word_of-pointer.ensures at c.zero_pads.ensures.zeroed;
+      object_zeroed = rw (c.from-in-Ok.ensures ∙ c.total-in-Ok.ensures) at c.zero_if_inside.ensures.zeroed;
+      pads_zeroed = rw c.pointer_word-pointer.ensures at c.zero_pads.ensures.zeroed;
       wider = (c.requires.data, c.requires.pointers);
     } in
     record {
@@ -193,7 +193,7 @@ returns-in-Ok-clause-wider g c =
         taken = rw c.total.ensures at c.in_ok-room.ensures.room.words;
         behind = rw c.total.ensures at c.in_ok-room.ensures.room.behind;
         first = first;
-        written = rw (c.pointers_of-from.ensures, c.pointers_of-to.ensures, c.from-count.ensures) at moves.written;
+        written = rw (c.pointers_place-from.ensures, c.pointers_place-to.ensures, c.from-count.ensures) at moves.written;
         last = last;
       });
       granted = keeps_both s p q (le_trans copied moves.longer.segments)
@@ -207,9 +207,9 @@ returns-in-Err-clause-wider g c =
     let s : View = g.A.BuilderArena.view c.args.arena.now in
     let t : View = g.A.BuilderArena.view c.allocate_object.new.arena in
     let d : View = g.A.BuilderArena.view c.copy_words.new.arena in
-    let p : View = g.A.BuilderArena.view c.move_row.new.arena in
-    let u : View = g.A.BuilderArena.view c.unmove_row.new.arena in
-    let z : View = g.A.BuilderArena.view c.zero_part-in-Err.new.arena in
+    let p : View = g.A.BuilderArena.view c.transfer_row.new.arena in
+    let u : View = g.A.BuilderArena.view c.zero_pads_of_row.new.arena in
+    let z : View = g.A.BuilderArena.view c.zero_if_inside-in-Err.new.arena in
     let k = c.in-Err.k in
     let (grown, near) = c.in_ok-room.ensures.taken in
     let moves = c.in-Err.ensures.moves in
@@ -218,10 +218,10 @@ returns-in-Err-clause-wider g c =
     let kept = keeps_both s t d grown.grows.segments c.in_ok-room.ensures.room.granted (keeps_written t d d.words c.copy_words.ensures.limits) in
     let steps : StructUndone s.words t.words d.words p.words u.words z.words c.args.id c.args.old c.args.size c.in_ok-room.room = record {
       room = rw c.total.ensures at c.in_ok-room.ensures.taken;
-      copied = rw (c.data_of.ensures, c.data_of-2.ensures, c.from.ensures) at c.copy_words.ensures.copied;
-      some = rw (c.pointers_of-from.ensures, c.pointers_of-to.ensures, c.from-count.ensures) at moves.some;
-      unmoves = rw (c.pointers_of-from.ensures, c.pointers_of-to.ensures, c.from-count.ensures) at c.unmove_row.ensures.zeroed;
-      zeroed = rw (c.from-in-Err.ensures ∙ c.total-in-Err.ensures) at c.zero_part-in-Err.ensures.zeroed;
+      copied = rw (c.data_place.ensures, c.data_place-2.ensures, c.from.ensures) at c.copy_words.ensures.copied;
+      some = rw (c.pointers_place-from.ensures, c.pointers_place-to.ensures, c.from-count.ensures) at moves.some;
+      unmoves = rw (c.pointers_place-from.ensures, c.pointers_place-to.ensures, c.from-count.ensures) at c.zero_pads_of_row.ensures.zeroed;
+      zeroed = rw (c.from-in-Err.ensures ∙ c.total-in-Err.ensures) at c.zero_if_inside-in-Err.ensures.zeroed;
       wider = (c.requires.data, c.requires.pointers);
     } in
     record {
@@ -229,7 +229,7 @@ returns-in-Err-clause-wider g c =
       leads = tt;
       anew = tt;
       granted = tt;
-      memory = spends_then_limits s u z k (spends_then_limits s p u k (keeps_then_spends s d p k copied kept moves.memory) c.unmove_row.ensures.limits) c.zero_part-in-Err.ensures.limits;
+      memory = spends_then_limits s u z k (spends_then_limits s p u k (keeps_then_spends s d p k copied kept moves.memory) c.zero_pads_of_row.ensures.limits) c.zero_if_inside-in-Err.ensures.limits;
       refused = struct_left s.words t.words d.words p.words u.words z.words c.args.id c.args.at c.args.old c.args.size c.in_ok-room.room steps;
     }
 
@@ -255,31 +255,31 @@ returns-in-Err-clause-full g c =
     let old : View = g.A.BuilderArena.view c.args.arena.now in
     let T : View = g.A.BuilderArena.view c.allocate_object.new.arena in
     let D : View = g.A.BuilderArena.view c.copy_words.new.arena in
-    let P : View = g.A.BuilderArena.view c.move_row.new.arena in
-    let U : View = g.A.BuilderArena.view c.unmove_row.new.arena in
-    let Z : View = g.A.BuilderArena.view c.zero_part-in-Err.new.arena in
+    let P : View = g.A.BuilderArena.view c.transfer_row.new.arena in
+    let U : View = g.A.BuilderArena.view c.zero_pads_of_row.new.arena in
+    let Z : View = g.A.BuilderArena.view c.zero_if_inside-in-Err.new.arena in
     let k = c.in-Err.k in
     let (some, refused) = c.in-Err.ensures.moves.full in
     let (grown, near) = c.in_ok-room.ensures.taken in
     let keeps = keeps_both old T D grown.grows.segments c.in_ok-room.ensures.room.granted (keeps_written T D D.words c.copy_words.ensures.limits) in
-    let undone = words_refused_before old P U 1 k (words_refused_after old D P 1 k keeps refused) c.unmove_row.ensures.limits c.unmove_row.ensures.pruned in
-    inr (rw c.from-count.ensures at some, words_refused_before old U Z 1 k undone c.zero_part-in-Err.ensures.limits c.zero_part-in-Err.ensures.pruned)
+    let undone = words_refused_before old P U 1 k (words_refused_after old D P 1 k keeps refused) c.zero_pads_of_row.ensures.limits c.zero_pads_of_row.ensures.pruned in
+    inr (rw c.from-count.ensures at some, words_refused_before old U Z 1 k undone c.zero_if_inside-in-Err.ensures.limits c.zero_if_inside-in-Err.ensures.pruned)
 
 -- Words are allocated for the struct, and then at most two for a pointer.
 pub returns-in-Ok-clause-few : goal.returns-in-Ok-clause-few
 returns-in-Ok-clause-few g c =
     let T : Segments = (g.A.BuilderArena.view c.allocate_object.new.arena).words in
     let D : Segments = (g.A.BuilderArena.view c.copy_words.new.arena).words in
-    let P : Segments = (g.A.BuilderArena.view c.move_row.new.arena).words in
+    let P : Segments = (g.A.BuilderArena.view c.transfer_row.new.arena).words in
     let R : Segments = (g.A.BuilderArena.view c.point_to_object.new.arena).words in
-    let Z : Segments = (g.A.BuilderArena.view c.zero_part.new.arena).words in
+    let Z : Segments = (g.A.BuilderArena.view c.zero_if_inside.new.arena).words in
     let Q : Segments = (g.A.BuilderArena.view c.zero_pads.new.arena).words in
     let (b, settled, shaped, segment_of, start_of) = settled_room c.point_to_object.ensures.settled in
     let taken = rw c.total.ensures at c.allocate_object.ensures.room.few in
-    let moved = rw c.from-count.ensures at c.move_row.ensures.moves.few in
+    let moved = rw c.from-count.ensures at c.transfer_row.ensures.moves.few in
     let copied = same_words T D c.copy_words.ensures.copied.segments c.copy_words.ensures.copied.words in
     let set = same_words P R settled.segments settled.words in
-    let zeroed = same_words R Z c.zero_part.ensures.pruned.segments c.zero_part.ensures.pruned.words in
+    let zeroed = same_words R Z c.zero_if_inside.ensures.pruned.segments c.zero_if_inside.ensures.pruned.words in
     let cleared = same_words Z Q c.zero_pads.ensures.pruned.segments c.zero_pads.ensures.pruned.words in
     few_after _ _ _ _ (few_again _ _ _ (c.args.size.data_words + c.args.size.pointers + 1)
     (2 * c.args.old.size.pointers) taken (few_before _ copied moved)) (cleared ∙ zeroed ∙ set)
@@ -288,14 +288,14 @@ pub returns-in-Err-clause-few : goal.returns-in-Err-clause-few
 returns-in-Err-clause-few g c =
     let T : Segments = (g.A.BuilderArena.view c.allocate_object.new.arena).words in
     let D : Segments = (g.A.BuilderArena.view c.copy_words.new.arena).words in
-    let P : Segments = (g.A.BuilderArena.view c.move_row.new.arena).words in
-    let U : Segments = (g.A.BuilderArena.view c.unmove_row.new.arena).words in
-    let Z : Segments = (g.A.BuilderArena.view c.zero_part-in-Err.new.arena).words in
+    let P : Segments = (g.A.BuilderArena.view c.transfer_row.new.arena).words in
+    let U : Segments = (g.A.BuilderArena.view c.zero_pads_of_row.new.arena).words in
+    let Z : Segments = (g.A.BuilderArena.view c.zero_if_inside-in-Err.new.arena).words in
     let taken = rw c.total.ensures at c.allocate_object.ensures.room.few in
-    let moved = rw c.from-count.ensures at c.move_row.ensures.moves.few in
+    let moved = rw c.from-count.ensures at c.transfer_row.ensures.moves.few in
     let copied = same_words T D c.copy_words.ensures.copied.segments c.copy_words.ensures.copied.words in
-    let undone = same_words P U c.unmove_row.ensures.pruned.segments c.unmove_row.ensures.pruned.words in
-    let zeroed = same_words U Z c.zero_part-in-Err.ensures.pruned.segments c.zero_part-in-Err.ensures.pruned.words in
+    let undone = same_words P U c.zero_pads_of_row.ensures.pruned.segments c.zero_pads_of_row.ensures.pruned.words in
+    let zeroed = same_words U Z c.zero_if_inside-in-Err.ensures.pruned.segments c.zero_if_inside-in-Err.ensures.pruned.words in
     few_after _ _ _ _ (few_again _ _ _ (c.args.size.data_words + c.args.size.pointers + 1)
     (2 * c.args.old.size.pointers) taken (few_before _ copied moved)) (zeroed ∙ undone)
 
@@ -319,7 +319,7 @@ returns-in-Err-clause-fits g c = λ to h.
     let T : View = g.A.BuilderArena.view c.allocate_object.new.arena in
     let D : View = g.A.BuilderArena.view c.copy_words.new.arena in
     let (grown, near) = c.in_ok-room.ensures.taken in
-    let copied = rw (c.data_of.ensures, c.data_of-2.ensures, c.from.ensures) at c.copy_words.ensures.copied in
+    let copied = rw (c.data_place.ensures, c.data_place-2.ensures, c.from.ensures) at c.copy_words.ensures.copied in
     let old = c.args.old in
     let k : ℕ = old.segment in
     let v : ℕ = c.in_ok-room.room.segment in
@@ -331,8 +331,8 @@ returns-in-Err-clause-fits g c = λ to h.
     let exists = there S.words k p (omega (arith, some, c.requires.inside)) in
     let few : n ≤ c.total.result = omega (arith, near_row_few S.words k p to.segment to.at old.size.pointers, c.requires.pointers, c.total.ensures) in
     elim (cases_eq k v) [
-      | inl here ↦ c.in-Err.ensures.near (ap (λ (x : WordPlace). x.segment) c.pointers_of-from.ensures ∙ (here ∙ sym (ap (λ (x : WordPlace). x.segment) c.pointers_of-to.ensures)))
-      | inr other ↦ (let moved = rw (c.pointers_of-from.ensures, c.pointers_of-to.ensures, c.from-count.ensures) at c.in-Err.ensures.apart in
+      | inl here ↦ c.in-Err.ensures.near (ap (λ (x : WordPlace). x.segment) c.pointers_place-from.ensures ∙ (here ∙ sym (ap (λ (x : WordPlace). x.segment) c.pointers_place-to.ensures)))
+      | inr other ↦ (let moved = rw (c.pointers_place-from.ensures, c.pointers_place-to.ensures, c.from-count.ensures) at c.in-Err.ensures.apart in
           let left = (c.in_ok-room.ensures.room.fits k n (subst (λ m. HasRoomAndPads S c.args.id m k n) (sym c.total.ensures) h)).1 exists (λ e. other (sym e)) few in
           let first = pads_written T D k n (record { limits = c.copy_words.ensures.limits; segments = copied.segments; words = copied.words }) left in
           let same = near_same_row S.words D.words k p v r to.segment to.at old.size.pointers
@@ -347,15 +347,15 @@ returns-in-Ok-clause-grows g c =
     let S : Segments = (g.A.BuilderArena.view c.args.arena.now).words in
     let T : Segments = (g.A.BuilderArena.view c.allocate_object.new.arena).words in
     let D : Segments = (g.A.BuilderArena.view c.copy_words.new.arena).words in
-    let P : Segments = (g.A.BuilderArena.view c.move_row.new.arena).words in
+    let P : Segments = (g.A.BuilderArena.view c.transfer_row.new.arena).words in
     let R : Segments = (g.A.BuilderArena.view c.point_to_object.new.arena).words in
-    let Z : Segments = (g.A.BuilderArena.view c.zero_part.new.arena).words in
+    let Z : Segments = (g.A.BuilderArena.view c.zero_if_inside.new.arena).words in
     let Q : Segments = (g.A.BuilderArena.view c.zero_pads.new.arena).words in
     let (b, settled, shaped, segment_of, start_of) = settled_room c.point_to_object.ensures.settled in
     let copied = c.copy_words.ensures.copied in
     let copy = same_grows T D (record { segments = copied.segments; words = copied.words }) in
     let set = same_grows P R (record { segments = settled.segments; words = settled.words }) in
-    let zeroed = grows_again R Z Q (pruned_grows c.zero_part.ensures.pruned) (pruned_grows c.zero_pads.ensures.pruned) in
+    let zeroed = grows_again R Z Q (pruned_grows c.zero_if_inside.ensures.pruned) (pruned_grows c.zero_pads.ensures.pruned) in
     let moved = grows_again D P Q c.in-Ok.ensures.moves.longer (grows_again P R Q set zeroed) in
     grows_again S T Q c.in_ok-room.ensures.taken.0.grows (grows_again T D Q copy moved)
 
@@ -364,11 +364,11 @@ returns-in-Err-clause-grows g c =
     let S : Segments = (g.A.BuilderArena.view c.args.arena.now).words in
     let T : Segments = (g.A.BuilderArena.view c.allocate_object.new.arena).words in
     let D : Segments = (g.A.BuilderArena.view c.copy_words.new.arena).words in
-    let P : Segments = (g.A.BuilderArena.view c.move_row.new.arena).words in
-    let U : Segments = (g.A.BuilderArena.view c.unmove_row.new.arena).words in
-    let Z : Segments = (g.A.BuilderArena.view c.zero_part-in-Err.new.arena).words in
+    let P : Segments = (g.A.BuilderArena.view c.transfer_row.new.arena).words in
+    let U : Segments = (g.A.BuilderArena.view c.zero_pads_of_row.new.arena).words in
+    let Z : Segments = (g.A.BuilderArena.view c.zero_if_inside-in-Err.new.arena).words in
     let copied = c.copy_words.ensures.copied in
     let copy = same_grows T D (record { segments = copied.segments; words = copied.words }) in
-    let undone = grows_again P U Z (pruned_grows c.unmove_row.ensures.pruned) (pruned_grows c.zero_part-in-Err.ensures.pruned) in
+    let undone = grows_again P U Z (pruned_grows c.zero_pads_of_row.ensures.pruned) (pruned_grows c.zero_if_inside-in-Err.ensures.pruned) in
     let moved = grows_again D P Z c.in-Err.ensures.moves.longer undone in
     grows_again S T Z c.in_ok-room.ensures.taken.0.grows (grows_again T D Z copy moved)

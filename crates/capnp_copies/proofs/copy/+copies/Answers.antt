@@ -50,12 +50,12 @@ use Rattle.capnp_copies.proofs.copy.+copies.Goals as goal
 
 -- Positions fit 32 bits.
 
-pub children::copy_in_line-pointer_past-child-requires : goal.children::copy_in_line-pointer_past-child-requires
-children::copy_in_line-pointer_past-child-requires g t c =
+pub children::copy_children_inline-pointer_past-child-requires : goal.children::copy_children_inline-pointer_past-child-requires
+children::copy_children_inline-pointer_past-child-requires g t c =
     child_fits c.args.from.place.at c.args.count c.loop-i.i c.requires.inside c.loop-i-test.true c.args.from.held.1 c.args.from.held.2
 
-pub children::copy_in_line-place_past-place-requires : goal.children::copy_in_line-place_past-place-requires
-children::copy_in_line-place_past-place-requires g t c =
+pub children::copy_children_inline-place_past-place-requires : goal.children::copy_children_inline-place_past-place-requires
+children::copy_children_inline-place_past-place-requires g t c =
     let now = c.args.arena.now in
     null_fits c.args.to.place.at c.args.count c.loop-i.i c.requires.nulls.room c.loop-i-test.true (g.met.A.BuilderArena.within now c.args.to.place.segment) (g.met.A.BuilderArena.small now c.args.to.place.segment)
 
@@ -66,12 +66,12 @@ structs::copy_struct-overflow_add-children g t c =
           c.requires.inside c.from.ensures c.args.from.held.1 c.args.from.held.2;
     }
 
-pub children::copy_in_line-loop-i-init : goal.children::copy_in_line-loop-i-init
-children::copy_in_line-loop-i-init g t c =
+pub children::copy_children_inline-loop-i-init : goal.children::copy_children_inline-loop-i-init
+children::copy_children_inline-loop-i-init g t c =
     (no_child (reading g.B.ReaderArena c.args.from) (form_in c.args.to.form) c.args.to.place.segment c.args.to.place.at (g.A.BuilderArena.view c.args.arena.now) c.args.lim.now, none_taken (reading g.B.ReaderArena c.args.from) (form_in c.args.to.form) c.args.to.place.segment (g.A.BuilderArena.view c.args.arena.now) c.args.lim.now)
 
-pub children::copy_in_line-copy_child-requires : goal.children::copy_in_line-copy_child-requires
-children::copy_in_line-copy_child-requires g t c κs within =
+pub children::copy_children_inline-copy_child-requires : goal.children::copy_children_inline-copy_child-requires
+children::copy_children_inline-copy_child-requires g t c κs within =
     let grows = children_grow c.loop-i.invariant.0 in
     let PLACE : IsPlace (g.A.BuilderArena.view c.loop-i.arena).words c.args.to.place.segment (c.args.to.place.at + c.loop-i.i) =
     child_there c.args.to.place.at c.args.count c.loop-i.i c.requires.nulls.room c.loop-i-test.true (grows.words
@@ -82,8 +82,8 @@ children::copy_in_line-copy_child-requires g t c κs within =
     c.loop-i-test.true in
     (falls_below 1 0 (ap (λ (r : Reading). r.levels) c.pointer_past-child.ensures) c.decreases, (within.0, (within.1, rw c.place_past-place.ensures (record { place = PLACE; null = NULL }))))
 
-pub children::copy_in_line-returns-in_err-copy_child : goal.children::copy_in_line-returns-in_err-copy_child
-children::copy_in_line-returns-in_err-copy_child g t c =
+pub children::copy_children_inline-returns-in_err-copy_child : goal.children::copy_children_inline-returns-in_err-copy_child
+children::copy_children_inline-returns-in_err-copy_child g t c =
     let p = err_from_is_err_and c.from_residual.result c.from_residual.ensures.1 in
     rw (p.1, p.2) (record {
       copied = tt;
@@ -92,8 +92,8 @@ children::copy_in_line-returns-in_err-copy_child g t c =
       taken = stop_taken c.loop-i-test.true c.loop-i.invariant.1 (rw (c.pointer_past-child.ensures, c.place_past-place.ensures) at c.in_err-copy_child.ensures.taken);
     })
 
-pub children::copy_in_line-loop-i-preserved : goal.children::copy_in_line-loop-i-preserved
-children::copy_in_line-loop-i-preserved g t c =
+pub children::copy_children_inline-loop-i-preserved : goal.children::copy_children_inline-loop-i-preserved
+children::copy_children_inline-loop-i-preserved g t c =
     let few : length (segment (g.A.BuilderArena.view c.loop-i.arena).words c.args.to.place.segment) < 2 ^ 29 =
     lt_of_le_of_lt (g.met.A.BuilderArena.within c.loop-i.arena c.args.to.place.segment) (g.met.A.BuilderArena.small
     c.loop-i.arena c.args.to.place.segment) in (
@@ -102,8 +102,8 @@ children::copy_in_line-loop-i-preserved g t c =
       one_taken c.loop-i.invariant.1 (rw (c.pointer_past-child.ensures, c.place_past-place.ensures) at c.in_ok-copy_child.ensures.taken),
     )
 
-pub children::copy_in_line-returns : goal.children::copy_in_line-returns
-children::copy_in_line-returns g t c =
+pub children::copy_children_inline-returns : goal.children::copy_children_inline-returns
+children::copy_children_inline-returns g t c =
     let all : c.loop-i.i ≡ c.args.count = le_antisymm c.loop-i.auto.i-end c.loop-i-test.false in
     record { copied = rw all at c.loop-i.invariant.0; refused = tt; taken = all_taken all c.loop-i.invariant.1 }
 
@@ -118,19 +118,19 @@ children::copy_children-returns-then-count-eq0 g t c =
           c.args.lim.now);
     }
 
-pub children::copy_row-copy_in_line-requires : goal.children::copy_row-copy_in_line-requires
-children::copy_row-copy_in_line-requires g t c κs within =
+pub children::copy_children_out_of_line-copy_children_inline-requires : goal.children::copy_children_out_of_line-copy_children_inline-requires
+children::copy_children_out_of_line-copy_children_inline-requires g t c κs within =
     (falls_below 2 0 refl c.decreases, (within.0, (within.1, c.requires)))
 
-pub children::copy_row-returns : goal.children::copy_row-returns
-children::copy_row-returns g t c = c.copy_in_line.ensures
+pub children::copy_children_out_of_line-returns : goal.children::copy_children_out_of_line-returns
+children::copy_children_out_of_line-returns g t c = c.copy_children_inline.ensures
 
-pub children::copy_children-copy_row-requires : goal.children::copy_children-copy_row-requires
-children::copy_children-copy_row-requires g t c κs within =
+pub children::copy_children-copy_children_out_of_line-requires : goal.children::copy_children-copy_children_out_of_line-requires
+children::copy_children-copy_children_out_of_line-requires g t c κs within =
     (falls_below 3 0 refl c.decreases, (within.0, (within.1, c.requires)))
 
 pub children::copy_children-returns : goal.children::copy_children-returns
-children::copy_children-returns g t c = c.copy_row.ensures
+children::copy_children-returns g t c = c.copy_children_out_of_line.ensures
 
 -- What a pointer means, according to its word.
 
@@ -144,8 +144,8 @@ pub children::copy_child-copy_object-requires : goal.children::copy_child-copy_o
 children::copy_child-copy_object-requires g t c κs within =
     (falls_last 0 refl c.decreases, (within.0, (within.1, c.requires)))
 
-pub children::copy_child-returns-then-is_list_of_bits : goal.children::copy_child-returns-then-is_list_of_bits
-children::copy_child-returns-then-is_list_of_bits g t c = c.copy_near_flat.ensures (form_in c.args.to.form)
+pub children::copy_child-returns-then-is_near_primitive_list : goal.children::copy_child-returns-then-is_near_primitive_list
+children::copy_child-returns-then-is_near_primitive_list g t c = c.copy_near_primitive_list.ensures (form_in c.args.to.form)
 
 pub children::copy_child-returns-then-eq : goal.children::copy_child-returns-then-eq
 children::copy_child-returns-then-eq g t c = c.copy_near_struct.ensures
@@ -220,8 +220,8 @@ copy_object-copy_struct-requires g t c κs within =
     let INSIDE = struct_room c.in-Struct.start c.in-Struct.size object in
     (falls_in LESS SOME c.decreases, (within.0, (within.1, (c.requires, rw (inner.source, inner.place) INSIDE))))
 
-pub copy_object-copy_pointers-requires : goal.copy_object-copy_pointers-requires
-copy_object-copy_pointers-requires g t c κs within =
+pub copy_object-copy_pointer_list-requires : goal.copy_object-copy_pointer_list-requires
+copy_object-copy_pointer_list-requires g t c κs within =
     let FEW : c.in-Pointers.count < 2 ^ 29 = few_read c.in-Pointers.is c.in_ok-object.ensures.few in
     let fits : SFits w32 c.args.from.nesting_limit = search rules in
     let nl = to_z-of_z w32 c.args.from.nesting_limit fits in
@@ -231,8 +231,8 @@ copy_object-copy_pointers-requires g t c κs within =
     let LESS = inner.levels in
     (falls_in LESS SOME c.decreases, (within.0, (within.1, (c.requires, (FEW, search rules)))))
 
-pub copy_object-copy_structs-requires : goal.copy_object-copy_structs-requires
-copy_object-copy_structs-requires g t c κs within =
+pub copy_object-copy_struct_list-requires : goal.copy_object-copy_struct_list-requires
+copy_object-copy_struct_list-requires g t c κs within =
     let few : (c.in-Structs.count < 2 ^ 30) × (c.in-Structs.count * (c.in-Structs.size.data_words + c.in-Structs.size.pointers) < 2 ^ 29) = few_read c.in-Structs.is c.in_ok-object.ensures.few in
     let FEW : c.in-Structs.count < 2 ^ 30 = few.0 in
     let WORDS : c.in-Structs.count * (c.in-Structs.size.data_words + c.in-Structs.size.pointers) < 2 ^ 29 = few.1 in
@@ -279,22 +279,22 @@ pub copy_object-returns-in-Flat : goal.copy_object-returns-in-Flat
 copy_object-returns-in-Flat g t c =
     let nl = to_z-of_z w32 c.args.from.nesting_limit (search rules) in
     let object = object_read (reading g.B.ReaderArena c.args.from) c.args.lim.now c.read_object.new.lim c.in-Flat.is (ap levels nl) c.in_ok-object.ensures.object in
-    let outcome : FlatOutcome c.copy_flat.result c.args.to.segment c.args.to.at (words_for (size_number c.in-Flat.size) c.in-Flat.count) (g.A.BuilderArena.view c.args.arena.now) (g.A.BuilderArena.view c.copy_flat.new.arena) (Flat (size_number c.in-Flat.size) (unpacked (size_number c.in-Flat.size) c.in-Flat.count (words_of c.part-elements.result.now))) =
+    let outcome : FlatOutcome c.copy_primitive_list.result c.args.to.segment c.args.to.at (words_for (size_number c.in-Flat.size) c.in-Flat.count) (g.A.BuilderArena.view c.args.arena.now) (g.A.BuilderArena.view c.copy_primitive_list.new.arena) (Flat (size_number c.in-Flat.size) (unpacked (size_number c.in-Flat.size) c.in-Flat.count (words_of c.word_range-elements.result.now))) =
     record {
-      copied = c.copy_flat.ensures.copied;
-      granted = c.copy_flat.ensures.granted;
-      refused = c.copy_flat.ensures.refused;
-      kept = c.copy_flat.ensures.kept;
-      memory = c.copy_flat.ensures.memory;
-      stands = c.copy_flat.ensures.stands;
-      fits = λ room. c.copy_flat.ensures.fits (subst (HasOwnRoom
+      copied = c.copy_primitive_list.ensures.copied;
+      granted = c.copy_primitive_list.ensures.granted;
+      refused = c.copy_primitive_list.ensures.refused;
+      kept = c.copy_primitive_list.ensures.kept;
+      memory = c.copy_primitive_list.ensures.memory;
+      stands = c.copy_primitive_list.ensures.stands;
+      fits = λ room. c.copy_primitive_list.ensures.fits (subst (HasOwnRoom
           (g.A.BuilderArena.view c.args.arena.now) c.args.to.segment) (word_count-flat (size_number c.in-Flat.size)
-          c.in-Flat.count (words_of c.part-elements.result.now)) room);
+          c.in-Flat.count (words_of c.word_range-elements.result.now)) room);
     } in
     record {
-      copied = flat_value (form_in c.args.form) c.copy_flat.result c.in-Flat.start c.in-Flat.size object c.flat_words-words.ensures c.part-elements.ensures.words outcome;
-      refused = flat_stops (form_in c.args.form) c.copy_flat.result c.in-Flat.start c.in-Flat.size object c.flat_words-words.ensures c.part-elements.ensures.words (c.requires.place, c.requires.null) outcome;
-      taken = taken_so c.copy_flat.result _ _ _ _ (λ made. flat_takes c.in-Flat.size c.in-Flat.start object made) (λ none. flat_stop_takes c.in-Flat.size c.in-Flat.start object none) c.copy_flat.ensures.taken;
+      copied = flat_value (form_in c.args.form) c.copy_primitive_list.result c.in-Flat.start c.in-Flat.size object c.words_for_elements-words.ensures c.word_range-elements.ensures.words outcome;
+      refused = flat_stops (form_in c.args.form) c.copy_primitive_list.result c.in-Flat.start c.in-Flat.size object c.words_for_elements-words.ensures c.word_range-elements.ensures.words (c.requires.place, c.requires.null) outcome;
+      taken = taken_so c.copy_primitive_list.result _ _ _ _ (λ made. flat_takes c.in-Flat.size c.in-Flat.start object made) (λ none. flat_stop_takes c.in-Flat.size c.in-Flat.start object none) c.copy_primitive_list.ensures.taken;
     }
 
 pub copy_object-returns-in-Pointers : goal.copy_object-returns-in-Pointers
@@ -305,9 +305,9 @@ copy_object-returns-in-Pointers g t c =
     let inner = c.pointer_inside-inner-in-Pointers.ensures in
     let less = λ (_ : 0 < levels c.args.from.nesting_limit). inner.levels in
     record {
-      copied = ok_so c.copy_pointers.result (rw (inner.source, inner.place) at c.copy_pointers.ensures.copied) (λ x made. pointers_value c.in-Pointers.start less object made);
-      refused = err_so c.copy_pointers.result (rw (inner.source, inner.place) at c.copy_pointers.ensures.refused) (λ k stop. pointers_value_stops c.in-Pointers.start less object (few_read c.in-Pointers.is c.in_ok-object.ensures.few) stop);
-      taken = taken_so c.copy_pointers.result _ _ _ _ (λ x. pointers_take c.in-Pointers.start less object x) (λ x. pointers_stop_take c.in-Pointers.start less object x) (rw (inner.source, inner.place) at c.copy_pointers.ensures.taken);
+      copied = ok_so c.copy_pointer_list.result (rw (inner.source, inner.place) at c.copy_pointer_list.ensures.copied) (λ x made. pointers_value c.in-Pointers.start less object made);
+      refused = err_so c.copy_pointer_list.result (rw (inner.source, inner.place) at c.copy_pointer_list.ensures.refused) (λ k stop. pointers_value_stops c.in-Pointers.start less object (few_read c.in-Pointers.is c.in_ok-object.ensures.few) stop);
+      taken = taken_so c.copy_pointer_list.result _ _ _ _ (λ x. pointers_take c.in-Pointers.start less object x) (λ x. pointers_stop_take c.in-Pointers.start less object x) (rw (inner.source, inner.place) at c.copy_pointer_list.ensures.taken);
     }
 
 pub copy_object-returns-in-Structs : goal.copy_object-returns-in-Structs
@@ -318,9 +318,9 @@ copy_object-returns-in-Structs g t c =
     let inner = c.pointer_inside-inner-in-Structs.ensures in
     let less = λ (_ : 0 < levels c.args.from.nesting_limit). inner.levels in
     record {
-      copied = ok_so c.copy_structs.result (rw (inner.source, inner.place) at c.copy_structs.ensures.copied) (λ x made. structs_value c.in-Structs.start less object made);
-      refused = err_so c.copy_structs.result (rw (inner.source, inner.place) at c.copy_structs.ensures.refused) (λ k stop. structs_value_stops c.in-Structs.start less object (few_read c.in-Structs.is c.in_ok-object.ensures.few) stop);
-      taken = taken_so c.copy_structs.result _ _ _ _ (λ x. structs_take c.in-Structs.start less object x) (λ x. structs_stop_take c.in-Structs.start less object x) (rw (inner.source, inner.place) at c.copy_structs.ensures.taken);
+      copied = ok_so c.copy_struct_list.result (rw (inner.source, inner.place) at c.copy_struct_list.ensures.copied) (λ x made. structs_value c.in-Structs.start less object made);
+      refused = err_so c.copy_struct_list.result (rw (inner.source, inner.place) at c.copy_struct_list.ensures.refused) (λ k stop. structs_value_stops c.in-Structs.start less object (few_read c.in-Structs.is c.in_ok-object.ensures.few) stop);
+      taken = taken_so c.copy_struct_list.result _ _ _ _ (λ x. structs_take c.in-Structs.start less object x) (λ x. structs_stop_take c.in-Structs.start less object x) (rw (inner.source, inner.place) at c.copy_struct_list.ensures.taken);
     }
 
 -- The elements of a list of structs.
@@ -403,8 +403,8 @@ elements::copy_elements-overflow_add-place g t c =
           (g.met.A.BuilderArena.small now c.args.to.place.segment);
     }
 
-pub elements::copy_elements-part-data-requires : goal.elements::copy_elements-part-data-requires
-elements::copy_elements-part-data-requires g t c =
+pub elements::copy_elements-word_range-data-requires : goal.elements::copy_elements-word_range-data-requires
+elements::copy_elements-word_range-data-requires g t c =
     let from : Reading = reading g.B.ReaderArena c.args.from in
     let fits : SourceKept (form_in c.args.to.form) from c.args.sizes c.args.sizes.count =
     record { inside = c.requires.inside; less_data = c.requires.less.data_words; less_pointers = c.requires.less.pointers; used = widths_keep (form_in c.args.to.form) from c.args.sizes c.args.sizes.count c.requires.kept } in
@@ -419,10 +419,10 @@ elements::copy_elements-put_words-requires-clause-inside g t c =
     record { inside = c.requires.inside; less_data = c.requires.less.data_words; less_pointers = c.requires.less.pointers; used = widths_keep (form_in c.args.to.form) from c.args.sizes c.args.sizes.count c.requires.kept } in
     let here : AtRow from c.args.sizes c.args.sizes.count c.loop-i.i (form_in c.args.to.form) c.args.to.place.segment c.args.to.place.at (g.A.BuilderArena.view c.args.arena.now) (g.A.BuilderArena.view c.loop-i.arena) c.args.lim.now c.loop-i.lim =
     record { fits = fits; room = c.requires.room; zero = c.requires.zero; wide = some_words c.total-kept_words.ensures c.if-kept_words-eq0.false; more = c.loop-i-test.true; rows = c.loop-i.invariant.0 } in
-    data_room here c.total-kept_words.ensures c.part-data.ensures.count c.from-data_words.ensures
+    data_room here c.total-kept_words.ensures c.word_range-data.ensures.count c.from-data_words.ensures
 
-pub elements::copy_elements-copy_in_line-requires : goal.elements::copy_elements-copy_in_line-requires
-elements::copy_elements-copy_in_line-requires g t c κs within =
+pub elements::copy_elements-copy_children_inline-requires : goal.elements::copy_elements-copy_children_inline-requires
+elements::copy_elements-copy_children_inline-requires g t c κs within =
     let from : Reading = reading g.B.ReaderArena c.args.from in
     let fits : SourceKept (form_in c.args.to.form) from c.args.sizes c.args.sizes.count =
     record { inside = c.requires.inside; less_data = c.requires.less.data_words; less_pointers = c.requires.less.pointers; used = widths_keep (form_in c.args.to.form) from c.args.sizes c.args.sizes.count c.requires.kept } in
@@ -435,7 +435,7 @@ elements::copy_elements-copy_in_line-requires g t c κs within =
         (
           within.1,
           record {
-            nulls = next_nulls here c.total-kept_words.ensures c.from-in-loop-i.ensures c.from-pointers.ensures c.part-data.ensures.count c.from-data_words.ensures c.put_words.ensures.length c.put_words.ensures.behind;
+            nulls = next_nulls here c.total-kept_words.ensures c.from-in-loop-i.ensures c.from-pointers.ensures c.word_range-data.ensures.count c.from-data_words.ensures c.put_words.ensures.length c.put_words.ensures.behind;
             inside = children_inside here c.total-source_words.ensures c.from.ensures c.from-pointers.ensures;
           },
         ),
@@ -450,29 +450,29 @@ elements::copy_elements-loop-i-preserved g t c =
     record { inside = c.requires.inside; less_data = c.requires.less.data_words; less_pointers = c.requires.less.pointers; used = widths_keep (form_in c.args.to.form) from c.args.sizes c.args.sizes.count c.requires.kept } in
     let here : AtRow from c.args.sizes c.args.sizes.count c.loop-i.i (form_in c.args.to.form) c.args.to.place.segment c.args.to.place.at (g.A.BuilderArena.view c.args.arena.now) (g.A.BuilderArena.view c.loop-i.arena) c.args.lim.now c.loop-i.lim =
     record { fits = fits; room = c.requires.room; zero = c.requires.zero; wide = some_words c.total-kept_words.ensures c.if-kept_words-eq0.false; more = c.loop-i-test.true; rows = c.loop-i.invariant.0 } in
-    let put = row_put here c.total-source_words.ensures c.total-kept_words.ensures c.from-data_words.ensures c.args.from.held.0 c.part-data.ensures.words c.put_words.ensures.words in
+    let put = row_put here c.total-source_words.ensures c.total-kept_words.ensures c.from-data_words.ensures c.args.from.held.0 c.word_range-data.ensures.words c.put_words.ensures.words in
     let none = c.put_words.ensures.taken in
-    let last = none_itself (g.A.BuilderArena.view c.copy_in_line.new.arena) in (
-      row_done here c.total-source_words.ensures c.total-kept_words.ensures c.from.ensures c.from-in-loop-i.ensures c.from-pointers.ensures (ap levels nl) put c.in_ok-copy_in_line.ensures.copied,
-      row_taken fits c.loop-i-test.true c.loop-i.invariant.1 (all_within none last (rw (c.total-source_words.ensures, c.from.ensures, c.from-pointers.ensures, nl) at c.in_ok-copy_in_line.ensures.taken)),
+    let last = none_itself (g.A.BuilderArena.view c.copy_children_inline.new.arena) in (
+      row_done here c.total-source_words.ensures c.total-kept_words.ensures c.from.ensures c.from-in-loop-i.ensures c.from-pointers.ensures (ap levels nl) put c.in_ok-copy_children_inline.ensures.copied,
+      row_taken fits c.loop-i-test.true c.loop-i.invariant.1 (all_within none last (rw (c.total-source_words.ensures, c.from.ensures, c.from-pointers.ensures, nl) at c.in_ok-copy_children_inline.ensures.taken)),
     )
 
-pub elements::copy_elements-returns-in_err-copy_in_line : goal.elements::copy_elements-returns-in_err-copy_in_line
-elements::copy_elements-returns-in_err-copy_in_line g t c =
+pub elements::copy_elements-returns-in_err-copy_children_inline : goal.elements::copy_elements-returns-in_err-copy_children_inline
+elements::copy_elements-returns-in_err-copy_children_inline g t c =
     let nl = to_z-of_z w32 c.args.from.nesting_limit (search rules) in
     let from : Reading = reading g.B.ReaderArena c.args.from in
     let fits : SourceKept (form_in c.args.to.form) from c.args.sizes c.args.sizes.count =
     record { inside = c.requires.inside; less_data = c.requires.less.data_words; less_pointers = c.requires.less.pointers; used = widths_keep (form_in c.args.to.form) from c.args.sizes c.args.sizes.count c.requires.kept } in
     let here : AtRow from c.args.sizes c.args.sizes.count c.loop-i.i (form_in c.args.to.form) c.args.to.place.segment c.args.to.place.at (g.A.BuilderArena.view c.args.arena.now) (g.A.BuilderArena.view c.loop-i.arena) c.args.lim.now c.loop-i.lim =
     record { fits = fits; room = c.requires.room; zero = c.requires.zero; wide = some_words c.total-kept_words.ensures c.if-kept_words-eq0.false; more = c.loop-i-test.true; rows = c.loop-i.invariant.0 } in
-    let put = row_put here c.total-source_words.ensures c.total-kept_words.ensures c.from-data_words.ensures c.args.from.held.0 c.part-data.ensures.words c.put_words.ensures.words in
+    let put = row_put here c.total-source_words.ensures c.total-kept_words.ensures c.from-data_words.ensures c.args.from.held.0 c.word_range-data.ensures.words c.put_words.ensures.words in
     let none = c.put_words.ensures.taken in
-    let last = none_itself (g.A.BuilderArena.view c.copy_in_line.new.arena) in
+    let last = none_itself (g.A.BuilderArena.view c.copy_children_inline.new.arena) in
     let p = err_from_is_err_and c.from_residual.result c.from_residual.ensures.1 in
     record {
       copied = rw p.1 tt;
-      refused = rw (p.1, p.2) (row_refused here c.total-source_words.ensures c.total-kept_words.ensures c.from.ensures c.from-in-loop-i.ensures c.from-pointers.ensures (ap levels nl) c.loop-i.invariant.1 put c.in_err-copy_in_line.ensures.refused);
-      taken = rw p.1 (row_stop_taken fits c.loop-i-test.true c.loop-i.invariant.1 (among_within (le_refl _) none last (rw (c.total-source_words.ensures, c.from.ensures, c.from-pointers.ensures, nl) at c.in_err-copy_in_line.ensures.taken)));
+      refused = rw (p.1, p.2) (row_refused here c.total-source_words.ensures c.total-kept_words.ensures c.from.ensures c.from-in-loop-i.ensures c.from-pointers.ensures (ap levels nl) c.loop-i.invariant.1 put c.in_err-copy_children_inline.ensures.refused);
+      taken = rw p.1 (row_stop_taken fits c.loop-i-test.true c.loop-i.invariant.1 (among_within (le_refl _) none last (rw (c.total-source_words.ensures, c.from.ensures, c.from-pointers.ensures, nl) at c.in_err-copy_children_inline.ensures.taken)));
     }
 
 pub elements::copy_elements-returns-clause-copied : goal.elements::copy_elements-returns-clause-copied
@@ -485,27 +485,27 @@ elements::copy_elements-returns-clause-taken g t c =
 
 -- Lists of pointers.
 
-pub lists::copy_pointers-copy_in_line-requires : goal.lists::copy_pointers-copy_in_line-requires
-lists::copy_pointers-copy_in_line-requires g t c κs within =
+pub lists::copy_pointer_list-copy_children_inline-requires : goal.lists::copy_pointer_list-copy_children_inline-requires
+lists::copy_pointer_list-copy_children_inline-requires g t c κs within =
     let S : Segments = (g.A.BuilderArena.view c.args.arena.now).words in
     let M : Segments = (g.A.BuilderArena.view c.make_list.new.arena).words in
     let begun : IsBegun S M c.args.to.place.segment c.args.to.place.at c.args.count c.in_ok-start.start (Pointers (nulls c.args.count)) = record { made = c.in_ok-start.ensures.made; start = c.in_ok-start.ensures.start.leads; inside = c.in_ok-start.ensures.start.inside } in
     let NULLS : HasNulls M c.in_ok-start.start.segment c.in_ok-start.start.at c.args.count = record { room = begun.inside.1; null = pointers_ready S M c.args.to.place.segment c.args.to.place.at c.args.count c.in_ok-start.start begun } in
     (falls_below 2 2 refl c.decreases, (within.0, (within.1, record { nulls = NULLS; inside = c.requires.inside })))
 
-pub lists::copy_pointers-returns : goal.lists::copy_pointers-returns
-lists::copy_pointers-returns g t c =
+pub lists::copy_pointer_list-returns : goal.lists::copy_pointer_list-returns
+lists::copy_pointer_list-returns g t c =
     record {
       copied = (let begun : ObjectBegun c.args.to.place.segment c.args.to.place.at c.args.count (g.A.BuilderArena.view c.args.arena.now) (g.A.BuilderArena.view c.make_list.new.arena) c.in_ok-start.start (Pointers (nulls c.args.count)) =
-          record { begun = record { made = c.in_ok-start.ensures.made; start = c.in_ok-start.ensures.start.leads; inside = c.in_ok-start.ensures.start.inside }; memory = c.in_ok-start.ensures.memory.granted } in ok_so c.copy_in_line.result c.copy_in_line.ensures.copied (λ x made. pointers_copied begun (record { place = c.requires.place.place; memory = c.in_ok-start.ensures.memory.granted; taken = c.in_ok-start.ensures.memory.taken; near = c.in_ok-start.ensures.near; at_end = c.in_ok-start.ensures.at_end }) made));
+          record { begun = record { made = c.in_ok-start.ensures.made; start = c.in_ok-start.ensures.start.leads; inside = c.in_ok-start.ensures.start.inside }; memory = c.in_ok-start.ensures.memory.granted } in ok_so c.copy_children_inline.result c.copy_children_inline.ensures.copied (λ x made. pointers_copied begun (record { place = c.requires.place.place; memory = c.in_ok-start.ensures.memory.granted; taken = c.in_ok-start.ensures.memory.taken; near = c.in_ok-start.ensures.near; at_end = c.in_ok-start.ensures.at_end }) made));
       refused = (let begun : ObjectBegun c.args.to.place.segment c.args.to.place.at c.args.count (g.A.BuilderArena.view c.args.arena.now) (g.A.BuilderArena.view c.make_list.new.arena) c.in_ok-start.start (Pointers (nulls c.args.count)) =
-          record { begun = record { made = c.in_ok-start.ensures.made; start = c.in_ok-start.ensures.start.leads; inside = c.in_ok-start.ensures.start.inside }; memory = c.in_ok-start.ensures.memory.granted } in err_so c.copy_in_line.result c.copy_in_line.ensures.refused (λ k stop. pointers_stop begun (record { place = c.requires.place.place; memory = c.in_ok-start.ensures.memory.granted; taken = c.in_ok-start.ensures.memory.taken; behind = c.in_ok-start.ensures.start.behind }) c.in_ok-start.ensures.at_end stop));
+          record { begun = record { made = c.in_ok-start.ensures.made; start = c.in_ok-start.ensures.start.leads; inside = c.in_ok-start.ensures.start.inside }; memory = c.in_ok-start.ensures.memory.granted } in err_so c.copy_children_inline.result c.copy_children_inline.ensures.refused (λ k stop. pointers_stop begun (record { place = c.requires.place.place; memory = c.in_ok-start.ensures.memory.granted; taken = c.in_ok-start.ensures.memory.taken; behind = c.in_ok-start.ensures.start.behind }) c.in_ok-start.ensures.at_end stop));
       taken = (let begun : Begins c.args.to.place.segment c.in_ok-start.start.segment c.args.count (g.A.BuilderArena.view c.args.arena.now) (g.A.BuilderArena.view c.make_list.new.arena) =
-          record { there = there (g.A.BuilderArena.view c.args.arena.now).words c.args.to.place.segment c.args.to.place.at c.requires.place.place; taken = c.in_ok-start.ensures.memory.taken; memory = c.in_ok-start.ensures.memory.granted; near = λ room. (c.in_ok-start.ensures.at_end room).0; far = λ full. (c.in_ok-start.ensures.start.behind.far full).0 } in taken_so c.copy_in_line.result _ _ _ _ (λ x. pointers_behind _ _ _ _ _ _ _ _ _ _ begun x) (λ x. pointers_stop_behind _ _ _ _ _ _ _ _ _ _ begun x) c.copy_in_line.ensures.taken);
+          record { there = there (g.A.BuilderArena.view c.args.arena.now).words c.args.to.place.segment c.args.to.place.at c.requires.place.place; taken = c.in_ok-start.ensures.memory.taken; memory = c.in_ok-start.ensures.memory.granted; near = λ room. (c.in_ok-start.ensures.at_end room).0; far = λ full. (c.in_ok-start.ensures.start.behind.far full).0 } in taken_so c.copy_children_inline.result _ _ _ _ (λ x. pointers_behind _ _ _ _ _ _ _ _ _ _ begun x) (λ x. pointers_stop_behind _ _ _ _ _ _ _ _ _ _ begun x) c.copy_children_inline.ensures.taken);
     }
 
-pub lists::copy_pointers-returns-in_err-start : goal.lists::copy_pointers-returns-in_err-start
-lists::copy_pointers-returns-in_err-start g t c =
+pub lists::copy_pointer_list-returns-in_err-start : goal.lists::copy_pointer_list-returns-in_err-start
+lists::copy_pointer_list-returns-in_err-start g t c =
     let p = err_from_is_err_and c.from_residual.result c.from_residual.ensures.1 in
     record {
       copied = rw p.1 tt;
@@ -516,8 +516,8 @@ lists::copy_pointers-returns-in_err-start g t c =
 
 -- Lists of structs.
 
-pub lists::copy_structs-copy_elements-requires : goal.lists::copy_structs-copy_elements-requires
-lists::copy_structs-copy_elements-requires g t c κs within =
+pub lists::copy_struct_list-copy_elements-requires : goal.lists::copy_struct_list-copy_elements-requires
+lists::copy_struct_list-copy_elements-requires g t c κs within =
     let from : Reading = reading g.B.ReaderArena c.args.from in
     let least = c.kept_widths-kept.result in
     let S : Segments = (g.A.BuilderArena.view c.args.arena.now).words in
@@ -528,14 +528,14 @@ lists::copy_structs-copy_elements-requires g t c κs within =
     let ZERO : (i : ℕ) → i < c.args.list.count * (least.data_words + least.pointers) → word_at M c.in_ok-made.made.segment (c.in_ok-made.made.at + 1 + i) ≡ 0 = structs_ready S M c.args.to.place.segment c.args.to.place.at least.data_words least.pointers c.args.list.count c.in_ok-made.made begun in
     (falls_below 4 0 refl c.decreases, (within.0, (within.1, (ROOM, (ZERO, (c.requires.inside, (c.kept_widths-kept.ensures.less, c.kept_widths-kept.ensures.kept)))))))
 
-pub lists::copy_structs-overflow_add-place : goal.lists::copy_structs-overflow_add-place
-lists::copy_structs-overflow_add-place g t c =
+pub lists::copy_struct_list-overflow_add-place : goal.lists::copy_struct_list-overflow_add-place
+lists::copy_struct_list-overflow_add-place g t c =
     let now = c.make_struct_list.new.arena in
     let s = c.in_ok-made.made.segment in
     record { fits = omega (arith, c.in_ok-made.ensures.start.inside.1, g.met.A.BuilderArena.within now s, g.met.A.BuilderArena.small now s) }
 
-pub lists::copy_structs-returns : goal.lists::copy_structs-returns
-lists::copy_structs-returns g t c =
+pub lists::copy_struct_list-returns : goal.lists::copy_struct_list-returns
+lists::copy_struct_list-returns g t c =
     let least = c.kept_widths-kept.result in
     let less = no_wider c.args.list.count least.data_words least.pointers c.args.list.size.data_words c.args.list.size.pointers c.kept_widths-kept.ensures.less.data_words c.kept_widths-kept.ensures.less.pointers in
     record {
@@ -563,8 +563,8 @@ lists::copy_structs-returns g t c =
           c.copy_elements.ensures.taken);
     }
 
-pub lists::copy_structs-returns-in_err-made : goal.lists::copy_structs-returns-in_err-made
-lists::copy_structs-returns-in_err-made g t c =
+pub lists::copy_struct_list-returns-in_err-made : goal.lists::copy_struct_list-returns-in_err-made
+lists::copy_struct_list-returns-in_err-made g t c =
     let least = c.kept_widths-kept.result in
     let p = err_from_is_err_and c.from_residual.result c.from_residual.ensures.1 in
     record {
@@ -603,8 +603,8 @@ structs::copy_struct-returns g t c =
     let least = c.kept_sections-kept.result in
     let r : Reading = reading g.B.ReaderArena c.args.from in
     let held : words_of c.args.from.place.bytes.now ≡ segment_read r = c.args.from.held.0 in
-    let section : words_of c.part-data.result.now ≡ take least.data_words (words_from r c.args.size.data_words) =
-    (rw (c.from-data_words.ensures, held) at c.part-data.ensures.words) ∙ sym (words_taken r.segments r.segment r.at least.data_words c.args.size.data_words c.kept_sections-kept.ensures.less.data_words) in
+    let section : words_of c.word_range-data.result.now ≡ take least.data_words (words_from r c.args.size.data_words) =
+    (rw (c.from-data_words.ensures, held) at c.word_range-data.ensures.words) ∙ sym (words_taken r.segments r.segment r.at least.data_words c.args.size.data_words c.kept_sections-kept.ensures.less.data_words) in
     record {
       copied = (let begun : SectionsBegun (form_in c.args.to.form) (words_from r c.args.size.data_words) (place_past r c.args.size.data_words) c.args.size.pointers least c.args.to.place.segment c.args.to.place.at (g.A.BuilderArena.view c.args.arena.now) (g.A.BuilderArena.view c.make_struct.new.arena) (g.A.BuilderArena.view c.put_words.new.arena) c.in_ok-start.start = record {
         cut = record {
@@ -662,8 +662,8 @@ structs::copy_struct-copy_children-requires g t c κs within =
     let least = c.kept_sections-kept.result in
     let r : Reading = reading g.B.ReaderArena c.args.from in
     let held : words_of c.args.from.place.bytes.now ≡ segment_read r = c.args.from.held.0 in
-    let section : words_of c.part-data.result.now ≡ take least.data_words (words_from r c.args.size.data_words) =
-    (rw (c.from-data_words.ensures, held) at c.part-data.ensures.words) ∙ sym (words_taken r.segments r.segment r.at least.data_words c.args.size.data_words c.kept_sections-kept.ensures.less.data_words) in
+    let section : words_of c.word_range-data.result.now ≡ take least.data_words (words_from r c.args.size.data_words) =
+    (rw (c.from-data_words.ensures, held) at c.word_range-data.ensures.words) ∙ sym (words_taken r.segments r.segment r.at least.data_words c.args.size.data_words c.kept_sections-kept.ensures.less.data_words) in
     let begun : SectionsBegun (form_in c.args.to.form) (words_from r c.args.size.data_words) (place_past r c.args.size.data_words) c.args.size.pointers least c.args.to.place.segment c.args.to.place.at (g.A.BuilderArena.view c.args.arena.now) (g.A.BuilderArena.view c.make_struct.new.arena) (g.A.BuilderArena.view c.put_words.new.arena) c.in_ok-start.start = record {
       cut = record {
         inside = behind_inside c.args.from.place.at c.args.size.data_words c.args.size.pointers

@@ -12,11 +12,11 @@ decreases-copy_object g l = 8 * levels l.from.nesting_limit
 abbrev pub decreases-children::copy_children : goal.decreases-children::copy_children
 decreases-children::copy_children g l = 8 * levels l.from.nesting_limit + 4
 
-abbrev pub decreases-children::copy_row : goal.decreases-children::copy_row
-decreases-children::copy_row g l = 8 * levels l.from.nesting_limit + 3
+abbrev pub decreases-children::copy_children_out_of_line : goal.decreases-children::copy_children_out_of_line
+decreases-children::copy_children_out_of_line g l = 8 * levels l.from.nesting_limit + 3
 
-abbrev pub decreases-children::copy_in_line : goal.decreases-children::copy_in_line
-decreases-children::copy_in_line g l = 8 * levels l.from.nesting_limit + 2
+abbrev pub decreases-children::copy_children_inline : goal.decreases-children::copy_children_inline
+decreases-children::copy_children_inline g l = 8 * levels l.from.nesting_limit + 2
 
 abbrev pub decreases-children::copy_child : goal.decreases-children::copy_child
 decreases-children::copy_child g l = 8 * levels l.from.nesting_limit + 1
@@ -27,17 +27,17 @@ decreases-children::copy_near_struct g l = 8 * levels l.from.nesting_limit
 abbrev pub decreases-elements::copy_elements : goal.decreases-elements::copy_elements
 decreases-elements::copy_elements g l = 8 * levels l.from.nesting_limit + 4
 
-abbrev pub decreases-lists::copy_pointers : goal.decreases-lists::copy_pointers
-decreases-lists::copy_pointers g l = 8 * levels l.from.nesting_limit + 5
+abbrev pub decreases-lists::copy_pointer_list : goal.decreases-lists::copy_pointer_list
+decreases-lists::copy_pointer_list g l = 8 * levels l.from.nesting_limit + 5
 
-abbrev pub decreases-lists::copy_structs : goal.decreases-lists::copy_structs
-decreases-lists::copy_structs g l = 8 * levels l.from.nesting_limit + 5
+abbrev pub decreases-lists::copy_struct_list : goal.decreases-lists::copy_struct_list
+decreases-lists::copy_struct_list g l = 8 * levels l.from.nesting_limit + 5
 
 abbrev pub decreases-structs::copy_struct : goal.decreases-structs::copy_struct
 decreases-structs::copy_struct g l = 8 * levels l.from.nesting_limit + 5
 
-abbrev pub invariant-children::copy_in_line-loop-i : goal.invariant-children::copy_in_line-loop-i
-invariant-children::copy_in_line-loop-i g l =
+abbrev pub invariant-children::copy_children_inline-loop-i : goal.invariant-children::copy_children_inline-loop-i
+invariant-children::copy_children_inline-loop-i g l =
     CopiesChildren (reading g.B.ReaderArena l.from) l.i (copy_call_to l.to (g.A.BuilderArena.view l.fn.arena) (g.A.BuilderArena.view l.arena) l.fn.lim l.lim)
     × TakesForCopy (children_original (reading g.B.ReaderArena l.from) l.i) (copy_call_to l.to (g.A.BuilderArena.view l.fn.arena) (g.A.BuilderArena.view l.arena) l.fn.lim l.lim)
 

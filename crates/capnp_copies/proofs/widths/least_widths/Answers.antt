@@ -18,13 +18,13 @@ loop-i-preserved c =
     let left : n - i ≡ suc (n - (i + 1)) = one_left n i c.loop-i-test.true in
     record {
       reached = next_reached c.args.start i (d + q) c.loop-i.invariant.reached next;
-      data_fits = c.widened-least_data.ensures.within;
-      pointers_fit = c.widened-least_pointers.ensures.within;
+      data_fits = c.max_used_words-least_data.ensures.within;
+      pointers_fit = c.max_used_words-least_pointers.ensures.within;
       data_left =
-          ap₂ (λ w p. max w (data_used ws p d q (n - (i + 1)))) c.widened-least_data.ensures.value next
+          ap₂ (λ w p. max w (data_used ws p d q (n - (i + 1)))) c.max_used_words-least_data.ensures.value next
           ∙ sym (ap (λ k. max c.loop-i.least_data (data_used ws at d q k)) left ∙ data_more ws at d q (n - (i + 1)) c.loop-i.least_data) ∙ c.loop-i.invariant.data_left;
       pointers_left =
-          ap₂ (λ w p. max w (pointers_used ws p d q (n - (i + 1)))) (c.widened-least_pointers.ensures.value ∙ ap (λ p. max c.loop-i.least_pointers (used_words (take q (drop p ws)))) behind) next
+          ap₂ (λ w p. max w (pointers_used ws p d q (n - (i + 1)))) (c.max_used_words-least_pointers.ensures.value ∙ ap (λ p. max c.loop-i.least_pointers (used_words (take q (drop p ws)))) behind) next
           ∙ sym (ap (λ k. max c.loop-i.least_pointers (pointers_used ws at d q k)) left ∙ pointers_more ws at d q (n - (i + 1)) c.loop-i.least_pointers) ∙ c.loop-i.invariant.pointers_left;
     }
 
@@ -55,17 +55,17 @@ loop-i-init c =
       pointers_left = none_yet ws (c.args.start + d) q (d + q) c.args.count;
     }
 
-pub widened-least_data-requires-clause-inside : goal.widened-least_data-requires-clause-inside
-widened-least_data-requires-clause-inside c = data_inside c.args.start c.args.size.data_words c.args.size.pointers c.loop-i.invariant.reached c.requires.inside c.requires.whole c.loop-i-test.true
+pub max_used_words-least_data-requires-clause-inside : goal.max_used_words-least_data-requires-clause-inside
+max_used_words-least_data-requires-clause-inside c = data_inside c.args.start c.args.size.data_words c.args.size.pointers c.loop-i.invariant.reached c.requires.inside c.requires.whole c.loop-i-test.true
 
-pub widened-least_data-requires-clause-within : goal.widened-least_data-requires-clause-within
-widened-least_data-requires-clause-within c = c.loop-i.invariant.data_fits
+pub max_used_words-least_data-requires-clause-within : goal.max_used_words-least_data-requires-clause-within
+max_used_words-least_data-requires-clause-within c = c.loop-i.invariant.data_fits
 
-pub widened-least_pointers-requires-clause-inside : goal.widened-least_pointers-requires-clause-inside
-widened-least_pointers-requires-clause-inside c = pointers_inside c.args.start c.args.size.pointers c.loop-i.invariant.reached c.requires.inside c.requires.whole c.loop-i-test.true c.from-at.ensures
+pub max_used_words-least_pointers-requires-clause-inside : goal.max_used_words-least_pointers-requires-clause-inside
+max_used_words-least_pointers-requires-clause-inside c = pointers_inside c.args.start c.args.size.pointers c.loop-i.invariant.reached c.requires.inside c.requires.whole c.loop-i-test.true c.from-at.ensures
 
-pub widened-least_pointers-requires-clause-within : goal.widened-least_pointers-requires-clause-within
-widened-least_pointers-requires-clause-within c = c.loop-i.invariant.pointers_fit
+pub max_used_words-least_pointers-requires-clause-within : goal.max_used_words-least_pointers-requires-clause-within
+max_used_words-least_pointers-requires-clause-within c = c.loop-i.invariant.pointers_fit
 
 -- All elements are counted.
 

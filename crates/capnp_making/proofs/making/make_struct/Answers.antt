@@ -22,17 +22,17 @@ returns-then-words-eq0-clause-made g c =
 pub returns-clause-made : goal.returns-clause-made
 returns-clause-made g c =
     let S : Segments = (g.A.BuilderArena.view c.args.arena.now).words in
-    let R : Segments = (g.A.BuilderArena.view c.put_object.new.arena).words in
+    let R : Segments = (g.A.BuilderArena.view c.make_object.new.arena).words in
     let total = c.total-words.ensures in
-    on_ok_so c.put_object.result _ _ c.put_object.ensures.made (λ h made.
+    on_ok_so c.make_object.result _ _ c.make_object.ensures.made (λ h made.
     (let (a, m, shape, is_segment, is_start) = made in struct_made S R c.args.id c.args.at c.args.size.data_words c.args.size.pointers a c.requires.place (rw total at m) shape.0 shape.1 shape.2))
 
 pub returns-clause-start : goal.returns-clause-start
 returns-clause-start g c =
     let old : View = g.A.BuilderArena.view c.args.arena.now in
-    let new : View = g.A.BuilderArena.view c.put_object.new.arena in
-    subst (λ n. IfOk c.put_object.result (ObjectStartsAt (call_at c.args.id c.args.at old new) n)) c.total-words.ensures (made_starts c.put_object.result old new c.args.id c.args.at c.total-words.result (StructShape c.args.size) c.put_object.ensures.made c.put_object.ensures.behind)
+    let new : View = g.A.BuilderArena.view c.make_object.new.arena in
+    subst (λ n. IfOk c.make_object.result (ObjectStartsAt (call_at c.args.id c.args.at old new) n)) c.total-words.ensures (made_starts c.make_object.result old new c.args.id c.args.at c.total-words.result (StructShape c.args.size) c.make_object.ensures.made c.make_object.ensures.behind)
 
 pub returns-clause-memory : goal.returns-clause-memory
 returns-clause-memory g c =
-    subst (Allocates c.put_object.result (call_at c.args.id c.args.at (g.A.BuilderArena.view c.args.arena.now) (g.A.BuilderArena.view c.put_object.new.arena))) c.total-words.ensures c.put_object.ensures.memory
+    subst (Allocates c.make_object.result (call_at c.args.id c.args.at (g.A.BuilderArena.view c.args.arena.now) (g.A.BuilderArena.view c.make_object.new.arena))) c.total-words.ensures c.make_object.ensures.memory

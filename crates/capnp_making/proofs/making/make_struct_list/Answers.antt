@@ -15,7 +15,7 @@ use Rattle.capnp_making.proofs.making.make_struct_list.Goals as goal
 pub returns-clause-made : goal.returns-clause-made
 returns-clause-made g c =
     let S : Segments = (g.A.BuilderArena.view c.args.arena.now).words in
-    let M : Segments = (g.A.BuilderArena.view c.put_object.new.arena).words in
+    let M : Segments = (g.A.BuilderArena.view c.make_object.new.arena).words in
     let R : Segments = (g.A.BuilderArena.view c.set_word.new.arena).words in
     let (a, m, shape, is_segment, is_start) = c.in_ok-start.ensures.made in
     let x : ℕ = c.new_tag-tag.result.0 in
@@ -28,7 +28,7 @@ returns-clause-made g c =
 pub returns-clause-start : goal.returns-clause-start
 returns-clause-start g c =
     let S : Segments = (g.A.BuilderArena.view c.args.arena.now).words in
-    let M : Segments = (g.A.BuilderArena.view c.put_object.new.arena).words in
+    let M : Segments = (g.A.BuilderArena.view c.make_object.new.arena).words in
     let (a, m, shape, is_segment, is_start) = c.in_ok-start.ensures.made in
     let written = ap words_in c.set_word.ensures ∙ ap₂ (λ u b. with_word M u b c.new_tag-tag.result.0) is_segment is_start in
     let there = structs_lead S M _ c.args.id c.args.at (c.args.count * c.total.result) c.new_tag-tag.result.0 a c.requires.place m written in
@@ -41,7 +41,7 @@ returns-clause-start g c =
 pub returns-clause-memory : goal.returns-clause-memory
 returns-clause-memory g c =
     let (a, m, shape, is_segment, is_start) = c.in_ok-start.ensures.made in
-    let M : Segments = (g.A.BuilderArena.view c.put_object.new.arena).words in
+    let M : Segments = (g.A.BuilderArena.view c.make_object.new.arena).words in
     let put = word_put M (g.A.BuilderArena.view c.set_word.new.arena).words c.in_ok-start.start.segment c.in_ok-start.start.at c.new_tag-tag.result.0 (rw (is_segment, is_start) (omega (arith, m.claims))) (ap words_in c.set_word.ensures) in
     record {
       fits = λ room. refl;

@@ -18,8 +18,8 @@ zero_object-returns-then-is_null-clause-zeroes g t c =
     record { zeroed = λ u a. null_done S c.args.id c.args.at u none a; pruned = pruned_itself S; limits = refl }
 
 -- There is one nonzero word fewer.
-pub zero_object-zero_landed-requires : goal.zero_object-zero_landed-requires
-zero_object-zero_landed-requires g t c κs within =
+pub zero_object-zero_target-requires : goal.zero_object-zero_target-requires
+zero_object-zero_target-requires g t c κs within =
     let S : Segments = (g.A.BuilderArena.view c.args.arena.now).words in
     let R : Segments = (g.A.BuilderArena.view c.set_word.new.arena).words in
     let some : word_at S c.args.id c.args.at ≢ 0 = search rules in
@@ -35,11 +35,11 @@ zero_object-returns-in-Some-clause-zeroes g t c =
     let goes : (a : Target) → leads S c.args.id c.args.at ≡ Some a → Some (target_of c.in-Some.landing) ≡ Some a = λ a e. rw c.in-Some.is at (c.follow-landing.ensures a e) in
     let first = word_zeroed S R c.args.id c.args.at c.requires (ap words_in c.set_word.ensures) in
     record {
-      zeroed = λ u a. object_done S R (g.A.BuilderArena.view c.zero_landed.new.arena).words (g.A.BuilderArena.view c.zero_pads.new.arena).words c.args.id c.args.at u (target_of c.in-Some.landing) some goes
-          first.0 c.zero_landed.ensures.zeroed (rw c.get_word.ensures at c.zero_pads.ensures.zeroed) a;
-      pruned = pruned_again _ _ _ first.1 (pruned_again _ _ _ c.zero_landed.ensures.pruned c.zero_pads.ensures.pruned);
+      zeroed = λ u a. object_done S R (g.A.BuilderArena.view c.zero_target.new.arena).words (g.A.BuilderArena.view c.zero_pads.new.arena).words c.args.id c.args.at u (target_of c.in-Some.landing) some goes
+          first.0 c.zero_target.ensures.zeroed (rw c.get_word.ensures at c.zero_pads.ensures.zeroed) a;
+      pruned = pruned_again _ _ _ first.1 (pruned_again _ _ _ c.zero_target.ensures.pruned c.zero_pads.ensures.pruned);
       limits = limits_again (g.A.BuilderArena.view c.args.arena.now) (g.A.BuilderArena.view c.set_word.new.arena) (g.A.BuilderArena.view c.zero_pads.new.arena) (limits_written (g.A.BuilderArena.view c.args.arena.now) (g.A.BuilderArena.view c.set_word.new.arena) _ c.set_word.ensures)
-          (limits_again (g.A.BuilderArena.view c.set_word.new.arena) (g.A.BuilderArena.view c.zero_landed.new.arena) (g.A.BuilderArena.view c.zero_pads.new.arena) c.zero_landed.ensures.limits c.zero_pads.ensures.limits);
+          (limits_again (g.A.BuilderArena.view c.set_word.new.arena) (g.A.BuilderArena.view c.zero_target.new.arena) (g.A.BuilderArena.view c.zero_pads.new.arena) c.zero_target.ensures.limits c.zero_pads.ensures.limits);
     }
 
 pub zero_object-returns-in-None-clause-zeroes : goal.zero_object-returns-in-None-clause-zeroes
@@ -59,7 +59,7 @@ zero_object-returns-in-Some-clause-null g t c =
     let S : Segments = (g.A.BuilderArena.view c.args.arena.now).words in
     let R : Segments = (g.A.BuilderArena.view c.set_word.new.arena).words in
     let first : word_at R c.args.id c.args.at ≡ 0 = (word_zeroed S R c.args.id c.args.at c.requires (ap words_in c.set_word.ensures)).0.zero c.args.id c.args.at (here_once c.args.id c.args.at) in
-    zero_stays R _ c.args.id c.args.at (pruned_again _ _ _ c.zero_landed.ensures.pruned c.zero_pads.ensures.pruned) first
+    zero_stays R _ c.args.id c.args.at (pruned_again _ _ _ c.zero_target.ensures.pruned c.zero_pads.ensures.pruned) first
 
 pub zero_object-returns-in-None-clause-null : goal.zero_object-returns-in-None-clause-null
 zero_object-returns-in-None-clause-null g t c =
@@ -67,22 +67,22 @@ zero_object-returns-in-None-clause-null g t c =
     let R : Segments = (g.A.BuilderArena.view c.set_word.new.arena).words in
     (word_zeroed S R c.args.id c.args.at c.requires (ap words_in c.set_word.ensures)).0.zero c.args.id c.args.at (here_once c.args.id c.args.at)
 
-pub zero_landed-returns-in-Struct : goal.zero_landed-returns-in-Struct
-zero_landed-returns-in-Struct g t c =
+pub zero_target-returns-in-Struct : goal.zero_target-returns-in-Struct
+zero_target-returns-in-Struct g t c =
     let S : Segments = (g.A.BuilderArena.view c.args.arena.now).words in
     let a : Target = target_of c.args.landing in
     let is_struct : kind a.word ≡ 0 = search rules in
     record { zeroed = λ u o. landed_struct S _ a c.struct_size.result.data_words c.struct_size.result.pointers u is_struct c.struct_size.ensures.data_of c.struct_size.ensures.pointers_of c.zero_struct.ensures.zeroed o; pruned = c.zero_struct.ensures.pruned; limits = c.zero_struct.ensures.limits }
 
-pub zero_landed-returns-in-InlineComposite : goal.zero_landed-returns-in-InlineComposite
-zero_landed-returns-in-InlineComposite g t c =
+pub zero_target-returns-in-InlineComposite : goal.zero_target-returns-in-InlineComposite
+zero_target-returns-in-InlineComposite g t c =
     let S : Segments = (g.A.BuilderArena.view c.args.arena.now).words in
     let a : Target = target_of c.args.landing in
     let is_list : kind a.word ≡ 1 = search rules in
-    record { zeroed = λ u o. landed_structs S _ a u is_list (search rules) c.zero_structs.ensures.zeroed o; pruned = c.zero_structs.ensures.pruned; limits = c.zero_structs.ensures.limits }
+    record { zeroed = λ u o. landed_structs S _ a u is_list (search rules) c.zero_struct_list.ensures.zeroed o; pruned = c.zero_struct_list.ensures.pruned; limits = c.zero_struct_list.ensures.limits }
 
-pub zero_landed-returns-in-Pointer : goal.zero_landed-returns-in-Pointer
-zero_landed-returns-in-Pointer g t c =
+pub zero_target-returns-in-Pointer : goal.zero_target-returns-in-Pointer
+zero_target-returns-in-Pointer g t c =
     let S : Segments = (g.A.BuilderArena.view c.args.arena.now).words in
     let a : Target = target_of c.args.landing in
     let is_list : kind a.word ≡ 1 = search rules in
@@ -141,17 +141,17 @@ zero_elements-returns-else-size-gt0 g t c =
       limits = refl;
     }
 
-pub zero_structs-returns-then-from-words : goal.zero_structs-returns-then-from-words
-zero_structs-returns-then-from-words g t c =
+pub zero_struct_list-returns-then-from-words : goal.zero_struct_list-returns-then-from-words
+zero_struct_list-returns-then-from-words g t c =
     let S : Segments = (g.A.BuilderArena.view c.args.arena.now).words in
     let K : Segments = (g.A.BuilderArena.view c.zero_elements.new.arena).words in
     let n : ℕ = c.inline_composite_list_element_count-count.result in
     let wide : 1 + c.from.result * c.from-2.result ≡ 1 + n * (c.struct_size-size.result.data_words + c.struct_size-size.result.pointers) = ap₂ (λ x y. 1 + x * y) c.from.ensures (c.from-2.ensures ∙ c.total.ensures) in
     record {
-      zeroed = structs_zeroed S K _ c.args.id c.args.start c.word_of-tag.result.0 n c.struct_size-size.result.data_words c.struct_size-size.result.pointers _ c.inline_composite_list_element_count-count.ensures.value
-          c.struct_size-size.ensures.data_of c.struct_size-size.ensures.pointers_of wide (c.zero_elements.ensures.pruned.words c.args.id) c.zero_elements.ensures.zeroed c.zero_part.ensures.zeroed c.word_of-tag.ensures;
-      pruned = pruned_again _ _ _ c.zero_elements.ensures.pruned c.zero_part.ensures.pruned;
-      limits = limits_again (g.A.BuilderArena.view c.args.arena.now) (g.A.BuilderArena.view c.zero_elements.new.arena) (g.A.BuilderArena.view c.zero_part.new.arena) c.zero_elements.ensures.limits c.zero_part.ensures.limits;
+      zeroed = structs_zeroed S K _ c.args.id c.args.start c.pointer_word-tag.result.0 n c.struct_size-size.result.data_words c.struct_size-size.result.pointers _ c.inline_composite_list_element_count-count.ensures.value
+          c.struct_size-size.ensures.data_of c.struct_size-size.ensures.pointers_of wide (c.zero_elements.ensures.pruned.words c.args.id) c.zero_elements.ensures.zeroed c.zero_if_inside.ensures.zeroed c.pointer_word-tag.ensures;
+      pruned = pruned_again _ _ _ c.zero_elements.ensures.pruned c.zero_if_inside.ensures.pruned;
+      limits = limits_again (g.A.BuilderArena.view c.args.arena.now) (g.A.BuilderArena.view c.zero_elements.new.arena) (g.A.BuilderArena.view c.zero_if_inside.new.arena) c.zero_elements.ensures.limits c.zero_if_inside.ensures.limits;
     }
 
 -- A call for a pointer, or for fewer words, is below the call that makes it, since there are no
@@ -162,16 +162,16 @@ zero_elements-zero_pointers-requires g t c κs within = (falls_below 1 0 (fewer 
 
 pub zero_pointers-zero_object-requires : goal.zero_pointers-zero_object-requires
 zero_pointers-zero_object-requires g t c κs within =
-    (falls_first 0 (fewer _ _ c.loop-i.invariant.pruned) c.decreases, (within, place_in c.from.ensures c.from-2.ensures (c.from-3.ensures ∙ c.length_of.ensures) c.if-from.true c.loop-i-test.true (c.loop-i.invariant.pruned.words c.args.id)))
+    (falls_first 0 (fewer _ _ c.loop-i.invariant.pruned) c.decreases, (within, place_in c.from.ensures c.from-2.ensures (c.from-3.ensures ∙ c.segment_length.ensures) c.if-from.true c.loop-i-test.true (c.loop-i.invariant.pruned.words c.args.id)))
 
 pub zero_struct-zero_pointers-requires : goal.zero_struct-zero_pointers-requires
 zero_struct-zero_pointers-requires g t c κs within = (falls_below 1 1 (le_refl _) c.decreases, within)
 
-pub zero_structs-zero_elements-requires : goal.zero_structs-zero_elements-requires
-zero_structs-zero_elements-requires g t c κs within =
+pub zero_struct_list-zero_elements-requires : goal.zero_struct_list-zero_elements-requires
+zero_struct_list-zero_elements-requires g t c κs within =
     let n : ℕ = c.inline_composite_list_element_count-count.result in
     let wide : 1 + c.from.result * c.from-2.result ≡ 1 + n * (c.struct_size-size.result.data_words + c.struct_size-size.result.pointers) = ap₂ (λ x y. 1 + x * y) c.from.ensures (c.from-2.ensures ∙ c.total.ensures) in
-    (falls_below 2 0 (le_refl _) c.decreases, (within, list_inside _ c.from-3.ensures wide (c.from-4.ensures ∙ c.length_of.ensures) c.if-from-words.true))
+    (falls_below 2 0 (le_refl _) c.decreases, (within, list_inside _ c.from-3.ensures wide (c.from-4.ensures ∙ c.segment_length.ensures) c.if-from-words.true))
 
 -- Counts and positions fit their numbers.
 
@@ -186,19 +186,19 @@ zero_elements-overflow_add-at-in-loop-i g t c =
     record { fits = row_end c.args.start c.loop-i.invariant.place c.requires c.loop-i-test.true (g.met.A.BuilderArena.within now c.args.id) (g.met.A.BuilderArena.small now c.args.id) c.from-at.ensures c.from-at-in-loop-i.ensures }
 
 pub zero_pointers-overflow_add-start : goal.zero_pointers-overflow_add-start
-zero_pointers-overflow_add-start g t c = record { fits = start_fits c.from.ensures c.from-2.ensures c.from-3.ensures c.length_of.type_inv c.if-from.true c.loop-i-test.true }
+zero_pointers-overflow_add-start g t c = record { fits = start_fits c.from.ensures c.from-2.ensures c.from-3.ensures c.segment_length.type_inv c.if-from.true c.loop-i-test.true }
 
-pub zero_structs-overflow_mul-words : goal.zero_structs-overflow_mul-words
-zero_structs-overflow_mul-words g t c = record { fits = product_fits _ (product_small c.from.ensures c.inline_composite_list_element_count-count.ensures.few c.from-2.ensures c.total.type_inv) }
+pub zero_struct_list-overflow_mul-words : goal.zero_struct_list-overflow_mul-words
+zero_struct_list-overflow_mul-words g t c = record { fits = product_fits _ (product_small c.from.ensures c.inline_composite_list_element_count-count.ensures.few c.from-2.ensures c.total.type_inv) }
 
-pub zero_structs-overflow_add-words : goal.zero_structs-overflow_add-words
-zero_structs-overflow_add-words g t c = record { fits = tag_fits _ (product_small c.from.ensures c.inline_composite_list_element_count-count.ensures.few c.from-2.ensures c.total.type_inv) }
+pub zero_struct_list-overflow_add-words : goal.zero_struct_list-overflow_add-words
+zero_struct_list-overflow_add-words g t c = record { fits = tag_fits _ (product_small c.from.ensures c.inline_composite_list_element_count-count.ensures.few c.from-2.ensures c.total.type_inv) }
 
-pub zero_structs-overflow_add-from : goal.zero_structs-overflow_add-from
-zero_structs-overflow_add-from g t c = record { fits = end_fits _ c.from-3.ensures c.ranges.start.fits (product_small c.from.ensures c.inline_composite_list_element_count-count.ensures.few c.from-2.ensures c.total.type_inv) }
+pub zero_struct_list-overflow_add-from : goal.zero_struct_list-overflow_add-from
+zero_struct_list-overflow_add-from g t c = record { fits = end_fits _ c.from-3.ensures c.ranges.start.fits (product_small c.from.ensures c.inline_composite_list_element_count-count.ensures.few c.from-2.ensures c.total.type_inv) }
 
-pub zero_structs-overflow_add-start : goal.zero_structs-overflow_add-start
-zero_structs-overflow_add-start g t c = record { fits = behind_tag _ c.from-3.ensures c.from-4.ensures c.length_of.type_inv c.if-from-words.true }
+pub zero_struct_list-overflow_add-start : goal.zero_struct_list-overflow_add-start
+zero_struct_list-overflow_add-start g t c = record { fits = behind_tag _ c.from-3.ensures c.from-4.ensures c.segment_length.type_inv c.if-from-words.true }
 
 -- At first nothing below is zeroed yet.
 
@@ -221,14 +221,14 @@ zero_elements-loop-i-init g t c = record {
 
 pub zero_pointers-returns-else-from : goal.zero_pointers-returns-else-from
 zero_pointers-returns-else-from g t c = record {
-  zeroed = λ ts (n, fits, a). absurd (too_many c.from.ensures c.from-2.ensures (c.from-3.ensures ∙ c.length_of.ensures) c.if-from.false fits);
+  zeroed = λ ts (n, fits, a). absurd (too_many c.from.ensures c.from-2.ensures (c.from-3.ensures ∙ c.segment_length.ensures) c.if-from.false fits);
   pruned = pruned_itself (g.A.BuilderArena.view c.args.arena.now).words;
   limits = refl;
 }
 
 pub zero_struct-returns-else-pointers-from : goal.zero_struct-returns-else-pointers-from
 zero_struct-returns-else-pointers-from g t c = record {
-  zeroed = λ ts (n, fits, a). absurd (too_short c.from.ensures c.from-2.ensures c.from-3.ensures (c.from-4.ensures ∙ c.length_of.ensures) c.if-pointers-from.false fits);
+  zeroed = λ ts (n, fits, a). absurd (too_short c.from.ensures c.from-2.ensures c.from-3.ensures (c.from-4.ensures ∙ c.segment_length.ensures) c.if-pointers-from.false fits);
   pruned = pruned_itself (g.A.BuilderArena.view c.args.arena.now).words;
   limits = refl;
 }
@@ -239,20 +239,20 @@ zero_struct-returns-then-pointers-from g t c =
     let K : Segments = (g.A.BuilderArena.view c.zero_pointers.new.arena).words in
     record {
       zeroed = λ ts (n, fits, a). struct_done S K _ c.args.id c.args.start c.args.size.data_words c.args.size.pointers ts (ap₂ (λ x y. x + y) c.from.ensures c.from-2.ensures) c.from-then-pointers-from.ensures (c.from-then-pointers-from-2.ensures ∙ c.total.ensures) n fits a
-          (c.zero_pointers.ensures.pruned.words c.args.id) c.zero_pointers.ensures.zeroed c.zero_part.ensures.zeroed;
-      pruned = pruned_again _ _ _ c.zero_pointers.ensures.pruned c.zero_part.ensures.pruned;
-      limits = limits_again (g.A.BuilderArena.view c.args.arena.now) (g.A.BuilderArena.view c.zero_pointers.new.arena) (g.A.BuilderArena.view c.zero_part.new.arena) c.zero_pointers.ensures.limits c.zero_part.ensures.limits;
+          (c.zero_pointers.ensures.pruned.words c.args.id) c.zero_pointers.ensures.zeroed c.zero_if_inside.ensures.zeroed;
+      pruned = pruned_again _ _ _ c.zero_pointers.ensures.pruned c.zero_if_inside.ensures.pruned;
+      limits = limits_again (g.A.BuilderArena.view c.args.arena.now) (g.A.BuilderArena.view c.zero_pointers.new.arena) (g.A.BuilderArena.view c.zero_if_inside.new.arena) c.zero_pointers.ensures.limits c.zero_if_inside.ensures.limits;
     }
 
-pub zero_structs-returns-else-from-words : goal.zero_structs-returns-else-from-words
-zero_structs-returns-else-from-words g t c =
+pub zero_struct_list-returns-else-from-words : goal.zero_struct_list-returns-else-from-words
+zero_struct_list-returns-else-from-words g t c =
     let S : Segments = (g.A.BuilderArena.view c.args.arena.now).words in
     let n : ℕ = c.inline_composite_list_element_count-count.result in
     let wide : 1 + c.from.result * c.from-2.result ≡ 1 + n * (c.struct_size-size.result.data_words + c.struct_size-size.result.pointers) = ap₂ (λ x y. 1 + x * y) c.from.ensures (c.from-2.ensures ∙ c.total.ensures) in
-    let out = list_beyond _ c.from-3.ensures (c.from-4.ensures ∙ c.length_of.ensures) c.if-from-words.false in
+    let out = list_beyond _ c.from-3.ensures (c.from-4.ensures ∙ c.segment_length.ensures) c.if-from-words.false in
     record {
-      zeroed = λ u a. absurd (list_outside S c.args.id c.args.start c.word_of-tag.result.0 n c.struct_size-size.result.data_words c.struct_size-size.result.pointers _ c.inline_composite_list_element_count-count.ensures.value
-          c.struct_size-size.ensures.data_of c.struct_size-size.ensures.pointers_of wide out c.word_of-tag.ensures u a);
+      zeroed = λ u a. absurd (list_outside S c.args.id c.args.start c.pointer_word-tag.result.0 n c.struct_size-size.result.data_words c.struct_size-size.result.pointers _ c.inline_composite_list_element_count-count.ensures.value
+          c.struct_size-size.ensures.data_of c.struct_size-size.ensures.pointers_of wide out c.pointer_word-tag.ensures u a);
       pruned = pruned_itself S;
       limits = refl;
     }

@@ -18,14 +18,14 @@ decreases-zero_pointers g l = 5 * nonzeros (g.A.BuilderArena.view l.arena.now).w
 abbrev pub decreases-zero_elements : goal.decreases-zero_elements
 decreases-zero_elements g l = 5 * nonzeros (g.A.BuilderArena.view l.arena.now).words + 2
 
-abbrev pub decreases-zero_structs : goal.decreases-zero_structs
-decreases-zero_structs g l = 5 * nonzeros (g.A.BuilderArena.view l.arena.now).words + 3
+abbrev pub decreases-zero_struct_list : goal.decreases-zero_struct_list
+decreases-zero_struct_list g l = 5 * nonzeros (g.A.BuilderArena.view l.arena.now).words + 3
 
 abbrev pub decreases-zero_struct : goal.decreases-zero_struct
 decreases-zero_struct g l = 5 * nonzeros (g.A.BuilderArena.view l.arena.now).words + 3
 
-abbrev pub decreases-zero_landed : goal.decreases-zero_landed
-decreases-zero_landed g l = 5 * nonzeros (g.A.BuilderArena.view l.arena.now).words + 4
+abbrev pub decreases-zero_target : goal.decreases-zero_target
+decreases-zero_target g l = 5 * nonzeros (g.A.BuilderArena.view l.arena.now).words + 4
 
 abbrev pub invariant-zero_pointers-loop-i : goal.invariant-zero_pointers-loop-i
 invariant-zero_pointers-loop-i g l = record {

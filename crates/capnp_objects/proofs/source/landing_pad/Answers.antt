@@ -30,7 +30,7 @@ returns-in_err-amplified_read-clause-computed g c =
     let x : ℕ = c.args.far.0 in
     let whole = rw c.far_segment_id-id.ensures at c.in_ok-bytes.ensures.whole in
     let inside : far_position x + is_double x < length (segment S (upper_half x)) = omega (arith, whole) in
-    let words : c.from.result ≡ 1 + is_double x = c.from.ensures ∙ c.pad_words-words.ensures in
+    let words : c.from.result ≡ 1 + is_double x = c.from.ensures ∙ c.landing_pad_words-words.ensures in
     let charge = c.in_err-amplified_read.ensures in
     let p = err_from_is_err_and c.from_residual-in_err-amplified_read.result c.from_residual-in_err-amplified_read.ensures.1 in
     rw (p.1, p.2) (pad_charged S (g.A.ReaderArena.charging c.args.arena.now) x c.args.lim.now c.amplified_read.new.lim _ c.requires.is_far inside (rw words at (charges (g.A.ReaderArena.charging c.args.arena.now) c.args.lim.now c.amplified_read.new.lim c.from.result (Err _) charge.exactly charge.granted charge.refused charge.named)))
@@ -43,7 +43,7 @@ returns g c =
     let whole = rw c.far_segment_id-id.ensures at some.whole in
     let inside : far_position x + is_double x < length (segment S (upper_half x)) = omega (arith, whole) in
     let there : c.from-2.result ≡ upper_half x = c.from-2.ensures ∙ c.far_segment_id-id.ensures in
-    let words : c.from.result ≡ 1 + is_double x = c.from.ensures ∙ c.pad_words-words.ensures in
+    let words : c.from.result ≡ 1 + is_double x = c.from.ensures ∙ c.landing_pad_words-words.ensures in
     let charge = c.in_ok-amplified_read.ensures in
     record {
       pad = record {

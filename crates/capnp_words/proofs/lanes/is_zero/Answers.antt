@@ -13,4 +13,4 @@ loop-at-preserved c = record {
 }
 
 pub returns : goal.returns
-returns c = zero_behind c.loop-at.at c.args.bytes.now c.loop-at.invariant.seen (take_rest c.args.bytes.now c.loop-at.at) c.is_rest_zero.ensures
+returns c = zero_behind c.loop-at.at c.args.bytes.now c.loop-at.invariant.seen (take_rest c.args.bytes.now c.loop-at.at) c.is_zero_by_words.ensures

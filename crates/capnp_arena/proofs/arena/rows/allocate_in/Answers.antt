@@ -4,8 +4,8 @@ use Rattle.capnp_arena.specs.Row.{capacity}
 use Rattle.capnp_arena.proofs.RowsLemmas.{row_old, room_is}
 use Rattle.capnp_arena.proofs.arena.rows.allocate_in.Goals as goal
 
-pub take_in-requires-clause-fits : goal.take_in-requires-clause-fits
-take_in-requires-clause-fits g c =
+pub allocate_fitting_in-requires-clause-fits : goal.allocate_fitting_in-requires-clause-fits
+allocate_fitting_in-requires-clause-fits g c =
     let seg = g.S.Segment in
     let rows = c.args.rows.now in
     let row = c.index-rows-id.result in

@@ -12,8 +12,8 @@ returns-clause-found g c = record {
     found = λ t stored.
         (let a : View = g.A.BuilderArena.view c.args.self.now.arena.now in
         let m : View = g.A.BuilderArena.view c.put_default.new.arena in
-        then_does (object_default c.args.default t) c.args.self.now.segment c.args.self.now.at a m m t c.in_ok-put_default.field-0 c.look_for_list.result (GivesFoundList c.args.size c.look_for_list.result) stored (c.in_ok-put_default.ensures.put.put t stored)
-        (λ u stands. (c.look_for_list.ensures.found u stands, refl)));
+        then_does (object_default c.args.default t) c.args.self.now.segment c.args.self.now.at a m m t c.in_ok-put_default.field-0 c.find_list.result (GivesFoundList c.args.size c.find_list.result) stored (c.in_ok-put_default.ensures.put.put t stored)
+        (λ u stands. (c.find_list.ensures.found u stands, refl)));
     memory = search rules;
   };
   set = search rules;

@@ -32,8 +32,8 @@ returns-then-not-fits_list_pointer g c =
 
 -- A list of numbers.
 
-pub copy_flat-requires : goal.copy_flat-requires
-copy_flat-requires g c =
+pub copy_primitive_list-requires : goal.copy_primitive_list-requires
+copy_primitive_list-requires g c =
     let value = c.args.value in
     let width : ℕ = value.struct_size.data_words + value.struct_size.pointers in
     let flat : size_number value.element_size ≤ 5 = number_size value.element_size c.in_default.not-Pointer c.in_default.not-InlineComposite in
@@ -48,41 +48,41 @@ returns-in_default g c =
     let width : ℕ = value.struct_size.data_words + value.struct_size.pointers in
     let flat : size ≤ 5 = number_size value.element_size c.in_default.not-Pointer c.in_default.not-InlineComposite in
     let held = numbers_held (source_start g.B.ReaderArena value.source).segments value.start value.element_size value.count width value.content.now flat value.held value.content_is value.inside in
-    let outcome : FlatOutcome c.copy_flat.result c.args.to.segment c.args.to.at (words_for size value.count) (g.A.BuilderArena.view c.args.arena.now) (g.A.BuilderArena.view c.copy_flat.new.arena) (Flat size (unpacked size value.count (words_of value.content.now))) =
-    record { copied = c.copy_flat.ensures.copied; granted = c.copy_flat.ensures.granted; refused = c.copy_flat.ensures.refused; kept = c.copy_flat.ensures.kept; memory = c.copy_flat.ensures.memory; stands = c.copy_flat.ensures.stands; fits = λ room. c.copy_flat.ensures.fits (omega (arith, room, word_count-flat size value.count (words_of value.content.now))) } in
-    let call : CopyCall = copy_call (form_of c.args.canonicalize) (call_at c.args.to.segment c.args.to.at (g.A.BuilderArena.view c.args.arena.now) (g.A.BuilderArena.view c.copy_flat.new.arena)) c.args.lim.now c.args.lim.now in
+    let outcome : FlatOutcome c.copy_primitive_list.result c.args.to.segment c.args.to.at (words_for size value.count) (g.A.BuilderArena.view c.args.arena.now) (g.A.BuilderArena.view c.copy_primitive_list.new.arena) (Flat size (unpacked size value.count (words_of value.content.now))) =
+    record { copied = c.copy_primitive_list.ensures.copied; granted = c.copy_primitive_list.ensures.granted; refused = c.copy_primitive_list.ensures.refused; kept = c.copy_primitive_list.ensures.kept; memory = c.copy_primitive_list.ensures.memory; stands = c.copy_primitive_list.ensures.stands; fits = λ room. c.copy_primitive_list.ensures.fits (omega (arith, room, word_count-flat size value.count (words_of value.content.now))) } in
+    let call : CopyCall = copy_call (form_of c.args.canonicalize) (call_at c.args.to.segment c.args.to.at (g.A.BuilderArena.view c.args.arena.now) (g.A.BuilderArena.view c.copy_primitive_list.new.arena)) c.args.lim.now c.args.lim.now in
     let listed : (P : Original Tree → Type 0) → P (numbers_original value.element_size value.count (first_read g.B.ReaderArena value)) → P (list_read g.B.ReaderArena value) =
     λ P h. numbers_listed value.element_size value.struct_size value.count (first_read g.B.ReaderArena value) P c.in_default.not-Pointer c.in_default.not-InlineComposite h in
-    ends_clear c.copy_flat.result (list_apart c.args.value.element_size c.args.value.struct_size c.args.value.count (first_read g.B.ReaderArena c.args.value) (form_of c.args.canonicalize) c.args.lim.now c.args.lim.now)
+    ends_clear c.copy_primitive_list.result (list_apart c.args.value.element_size c.args.value.struct_size c.args.value.count (first_read g.B.ReaderArena c.args.value) (form_of c.args.canonicalize) c.args.lim.now c.args.lim.now)
     (λ k large. (exceeding c.args.value.element_size c.args.value.struct_size c.args.value.count (first_read g.B.ReaderArena c.args.value) (form_of c.args.canonicalize) k large).0 (c.fits_list_pointer.ensures.0 (search rules)))
-    (listed (λ o. IfOk c.copy_flat.result (λ _. MakesCopy o call)) (numbers_copied value.element_size value.count (first_read g.B.ReaderArena value) call value.content.now c.copy_flat.result held.stand refl outcome))
-    (listed (λ o. IfErr c.copy_flat.result (StopsCopy o call Null)) (numbers_stop value.element_size value.count (first_read g.B.ReaderArena value) call value.content.now c.copy_flat.result held.stand (c.requires.place, c.requires.null) refl outcome))
-    (listed (λ o. TakesAtMost c.copy_flat.result o call) (numbers_take c.copy_flat.result value.element_size value.count (first_read g.B.ReaderArena value) (form_of c.args.canonicalize) c.args.to.segment c.args.to.at (g.A.BuilderArena.view c.args.arena.now) (g.A.BuilderArena.view c.copy_flat.new.arena) c.args.lim.now c.copy_flat.ensures.taken))
+    (listed (λ o. IfOk c.copy_primitive_list.result (λ _. MakesCopy o call)) (numbers_copied value.element_size value.count (first_read g.B.ReaderArena value) call value.content.now c.copy_primitive_list.result held.stand refl outcome))
+    (listed (λ o. IfErr c.copy_primitive_list.result (StopsCopy o call Null)) (numbers_stop value.element_size value.count (first_read g.B.ReaderArena value) call value.content.now c.copy_primitive_list.result held.stand (c.requires.place, c.requires.null) refl outcome))
+    (listed (λ o. TakesAtMost c.copy_primitive_list.result o call) (numbers_take c.copy_primitive_list.result value.element_size value.count (first_read g.B.ReaderArena value) (form_of c.args.canonicalize) c.args.to.segment c.args.to.at (g.A.BuilderArena.view c.args.arena.now) (g.A.BuilderArena.view c.copy_primitive_list.new.arena) c.args.lim.now c.copy_primitive_list.ensures.taken))
 
 -- Pointers, and structs.
 
-pub clear_refused-requires-in-Pointer : goal.clear_refused-requires-in-Pointer
-clear_refused-requires-in-Pointer g c = place_left _ _ c.copy_pointers-copied.result c.requires.place c.copy_pointers-copied.ensures.refused
+pub clear_if_refused-requires-in-Pointer : goal.clear_if_refused-requires-in-Pointer
+clear_if_refused-requires-in-Pointer g c = place_left _ _ c.copy_pointer_list-copied.result c.requires.place c.copy_pointer_list-copied.ensures.refused
 
 pub returns-in-Pointer : goal.returns-in-Pointer
 returns-in-Pointer g c =
     let nl = to_z-of_z w32 c.args.value.nesting_limit (search rules) in
     let left = pointers_listed c.args.value.element_size c.args.value.struct_size c.args.value.count (first_read g.B.ReaderArena c.args.value)
-    (λ o. CopiesOrLeaves c.copy_pointers-copied.result o (copy_call (form_of c.args.canonicalize) (call_at c.args.to.segment c.args.to.at (g.A.BuilderArena.view c.args.arena.now) (g.A.BuilderArena.view c.copy_pointers-copied.new.arena)) c.args.lim.now c.copy_pointers-copied.new.lim))
-    c.in-Pointer.is (rw (nl, c.of-form.ensures) at c.copy_pointers-copied.ensures) in
-    copies_or_clears c.copy_pointers-copied.result (list_apart c.args.value.element_size c.args.value.struct_size c.args.value.count (first_read g.B.ReaderArena c.args.value) (form_of c.args.canonicalize) c.args.lim.now c.copy_pointers-copied.new.lim)
+    (λ o. CopiesOrLeaves c.copy_pointer_list-copied.result o (copy_call (form_of c.args.canonicalize) (call_at c.args.to.segment c.args.to.at (g.A.BuilderArena.view c.args.arena.now) (g.A.BuilderArena.view c.copy_pointer_list-copied.new.arena)) c.args.lim.now c.copy_pointer_list-copied.new.lim))
+    c.in-Pointer.is (rw (nl, c.of-form.ensures) at c.copy_pointer_list-copied.ensures) in
+    copies_or_clears c.copy_pointer_list-copied.result (list_apart c.args.value.element_size c.args.value.struct_size c.args.value.count (first_read g.B.ReaderArena c.args.value) (form_of c.args.canonicalize) c.args.lim.now c.copy_pointer_list-copied.new.lim)
     (λ k large. (exceeding c.args.value.element_size c.args.value.struct_size c.args.value.count (first_read g.B.ReaderArena c.args.value) (form_of c.args.canonicalize) k large).0 (c.fits_list_pointer.ensures.0 (search rules)))
-    (list_until_more c.args.value.element_size c.args.value.struct_size c.args.value.count (first_read g.B.ReaderArena c.args.value) (form_of c.args.canonicalize) c.args.lim.now c.copy_pointers-copied.new.lim) left c.clear_refused-in-Pointer.ensures.same c.clear_refused-in-Pointer.ensures.clears
+    (list_until_more c.args.value.element_size c.args.value.struct_size c.args.value.count (first_read g.B.ReaderArena c.args.value) (form_of c.args.canonicalize) c.args.lim.now c.copy_pointer_list-copied.new.lim) left c.clear_if_refused-in-Pointer.ensures.same c.clear_if_refused-in-Pointer.ensures.clears
 
-pub clear_refused-requires : goal.clear_refused-requires
-clear_refused-requires g c = place_left _ _ c.copy_structs-copied.result c.requires.place c.copy_structs-copied.ensures.refused
+pub clear_if_refused-requires : goal.clear_if_refused-requires
+clear_if_refused-requires g c = place_left _ _ c.copy_struct_list-copied.result c.requires.place c.copy_struct_list-copied.ensures.refused
 
 pub returns-in-InlineComposite : goal.returns-in-InlineComposite
 returns-in-InlineComposite g c =
     let nl = to_z-of_z w32 c.args.value.nesting_limit (search rules) in
     let left = structs_listed c.args.value.element_size c.args.value.struct_size c.args.value.count (first_read g.B.ReaderArena c.args.value)
-    (λ o. CopiesOrLeaves c.copy_structs-copied.result o (copy_call (form_of c.args.canonicalize) (call_at c.args.to.segment c.args.to.at (g.A.BuilderArena.view c.args.arena.now) (g.A.BuilderArena.view c.copy_structs-copied.new.arena)) c.args.lim.now c.copy_structs-copied.new.lim))
-    c.in-InlineComposite.is (rw (nl, c.of-form.ensures) at c.copy_structs-copied.ensures) in
-    copies_or_clears c.copy_structs-copied.result (list_apart c.args.value.element_size c.args.value.struct_size c.args.value.count (first_read g.B.ReaderArena c.args.value) (form_of c.args.canonicalize) c.args.lim.now c.copy_structs-copied.new.lim)
+    (λ o. CopiesOrLeaves c.copy_struct_list-copied.result o (copy_call (form_of c.args.canonicalize) (call_at c.args.to.segment c.args.to.at (g.A.BuilderArena.view c.args.arena.now) (g.A.BuilderArena.view c.copy_struct_list-copied.new.arena)) c.args.lim.now c.copy_struct_list-copied.new.lim))
+    c.in-InlineComposite.is (rw (nl, c.of-form.ensures) at c.copy_struct_list-copied.ensures) in
+    copies_or_clears c.copy_struct_list-copied.result (list_apart c.args.value.element_size c.args.value.struct_size c.args.value.count (first_read g.B.ReaderArena c.args.value) (form_of c.args.canonicalize) c.args.lim.now c.copy_struct_list-copied.new.lim)
     (λ k large. (exceeding c.args.value.element_size c.args.value.struct_size c.args.value.count (first_read g.B.ReaderArena c.args.value) (form_of c.args.canonicalize) k large).0 (c.fits_list_pointer.ensures.0 (search rules)))
-    (list_until_more c.args.value.element_size c.args.value.struct_size c.args.value.count (first_read g.B.ReaderArena c.args.value) (form_of c.args.canonicalize) c.args.lim.now c.copy_structs-copied.new.lim) left c.clear_refused.ensures.same c.clear_refused.ensures.clears
+    (list_until_more c.args.value.element_size c.args.value.struct_size c.args.value.count (first_read g.B.ReaderArena c.args.value) (form_of c.args.canonicalize) c.args.lim.now c.copy_struct_list-copied.new.lim) left c.clear_if_refused.ensures.same c.clear_if_refused.ensures.clears

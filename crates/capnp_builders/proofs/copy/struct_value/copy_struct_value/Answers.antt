@@ -69,8 +69,8 @@ returns-in_err-start g c =
 
 -- The struct is made, and its data words are written.
 
-pub put_section-requires-clause-few : goal.put_section-requires-clause-few
-put_section-requires-clause-few g c = omega (arith, c.in_ok-kept.ensures.data, kept_count-le (form_of c.args.canonicalize) (data_of g.B.ReaderArena c.args.value))
+pub write_section-requires-clause-few : goal.write_section-requires-clause-few
+write_section-requires-clause-few g c = omega (arith, c.in_ok-kept.ensures.data, kept_count-le (form_of c.args.canonicalize) (data_of g.B.ReaderArena c.args.value))
 
 pub overflow_add-place : goal.overflow_add-place
 overflow_add-place g c =
@@ -79,13 +79,13 @@ overflow_add-place g c =
 pub copy_children-copied-requires : goal.copy_children-copied-requires
 copy_children-copied-requires g c =
     let begun : SectionsBegun (form_of c.args.canonicalize) (data_of g.B.ReaderArena c.args.value) (pointers_read g.B.ReaderArena c.args.value) c.args.value.pointer_count c.in_ok-kept.kept c.args.to.segment c.args.to.at (g.A.BuilderArena.view c.args.arena.now) (g.A.BuilderArena.view c.make_struct.new.arena)
-    (g.A.BuilderArena.view c.put_section.new.arena) c.in_ok-start.start = record {
+    (g.A.BuilderArena.view c.write_section.new.arena) c.in_ok-start.start = record {
       cut = record { inside = c.args.value.inside; of_data = c.in_ok-kept.ensures.data; of_pointers = c.in_ok-kept.ensures.pointers };
       begun = record { made = c.in_ok-start.ensures.made; start = c.in_ok-start.ensures.start.leads; inside = c.in_ok-start.ensures.start.inside };
       memory = c.in_ok-start.ensures.memory.granted;
-      writes = c.put_section.ensures;
+      writes = c.write_section.ensures;
       place = c.requires.place;
-      within = g.met.A.BuilderArena.within c.put_section.new.arena c.in_ok-start.start.segment;
+      within = g.met.A.BuilderArena.within c.write_section.new.arena c.in_ok-start.start.segment;
       taken = c.in_ok-start.ensures.memory.taken;
       behind = c.in_ok-start.ensures.start.behind;
       near = c.in_ok-start.ensures.near;
@@ -98,13 +98,13 @@ copy_children-copied-requires g c =
 
 -- The copy of its pointers is the last step.
 
-pub clear_refused-requires : goal.clear_refused-requires
-clear_refused-requires g c =
+pub clear_if_refused-requires : goal.clear_if_refused-requires
+clear_if_refused-requires g c =
     let made : View = g.A.BuilderArena.view c.make_struct.new.arena in
-    let put : View = g.A.BuilderArena.view c.put_section.new.arena in
+    let put : View = g.A.BuilderArena.view c.write_section.new.arena in
     let start = c.in_ok-start.start in
     let ws : List ℕ = take c.in_ok-kept.kept.data_words (data_of g.B.ReaderArena c.args.value) in
-    let over = none_written made put start.segment start.at ws (omega (arith, c.in_ok-start.ensures.start.inside.1, length-take c.in_ok-kept.kept.data_words (data_of g.B.ReaderArena c.args.value))) c.put_section.ensures in
+    let over = none_written made put start.segment start.at ws (omega (arith, c.in_ok-start.ensures.start.inside.1, length-take c.in_ok-kept.kept.data_words (data_of g.B.ReaderArena c.args.value))) c.write_section.ensures in
     place_past _ _ c.args.to.segment c.args.to.at _ c.copy_children-copied.result (omega (arith, c.requires.place, c.in_ok-start.ensures.made.words c.args.to.segment, over.words c.args.to.segment)) c.copy_children-copied.ensures.refused
 
 pub returns : goal.returns
@@ -112,7 +112,7 @@ returns g c =
     let value = c.args.value in
     let r : Reading = pointers_read g.B.ReaderArena value in
     let made : View = g.A.BuilderArena.view c.make_struct.new.arena in
-    let put : View = g.A.BuilderArena.view c.put_section.new.arena in
+    let put : View = g.A.BuilderArena.view c.write_section.new.arena in
     let ws : List ℕ = data_of g.B.ReaderArena value in
     let size = c.in_ok-kept.kept in
     let words_kept : size.data_words ≤ length ws = omega (arith, c.in_ok-kept.ensures.data, kept_count-le (form_of c.args.canonicalize) ws) in
@@ -122,18 +122,18 @@ returns g c =
     let old : View = g.A.BuilderArena.view c.args.arena.now in
     let e = c.in_ok-start.ensures in
     let begins = struct_begins c.args.to.segment c.args.to.at size old made start c.requires.place e.memory.taken e.memory.granted e.start.behind e.start.leads e.empty in
-    let over = none_written made put start.segment start.at (take size.data_words ws) (omega (arith, e.start.inside.1, length-take size.data_words ws)) c.put_section.ensures in
+    let over = none_written made put start.segment start.at (take size.data_words ws) (omega (arith, e.start.inside.1, length-take size.data_words ws)) c.write_section.ensures in
     let last = none_itself (g.A.BuilderArena.view c.copy_children-copied.new.arena) in
     let nl = to_z-of_z w32 value.nesting_limit (search rules) in
     let less : size.data_words + size.pointers ≤ length ws + value.pointer_count = omega (arith, words_kept, pointers_kept) in
     let begun : SectionsBegun (form_of c.args.canonicalize) (data_of g.B.ReaderArena c.args.value) (pointers_read g.B.ReaderArena c.args.value) c.args.value.pointer_count c.in_ok-kept.kept c.args.to.segment c.args.to.at (g.A.BuilderArena.view c.args.arena.now) (g.A.BuilderArena.view c.make_struct.new.arena)
-    (g.A.BuilderArena.view c.put_section.new.arena) c.in_ok-start.start = record {
+    (g.A.BuilderArena.view c.write_section.new.arena) c.in_ok-start.start = record {
       cut = record { inside = c.args.value.inside; of_data = c.in_ok-kept.ensures.data; of_pointers = c.in_ok-kept.ensures.pointers };
       begun = record { made = c.in_ok-start.ensures.made; start = c.in_ok-start.ensures.start.leads; inside = c.in_ok-start.ensures.start.inside };
       memory = c.in_ok-start.ensures.memory.granted;
-      writes = c.put_section.ensures;
+      writes = c.write_section.ensures;
       place = c.requires.place;
-      within = g.met.A.BuilderArena.within c.put_section.new.arena c.in_ok-start.start.segment;
+      within = g.met.A.BuilderArena.within c.write_section.new.arena c.in_ok-start.start.segment;
       taken = c.in_ok-start.ensures.memory.taken;
       behind = c.in_ok-start.ensures.start.behind;
       near = c.in_ok-start.ensures.near;
@@ -145,4 +145,4 @@ returns g c =
       taken = taken_so c.copy_children-copied.result _ _ _ _ (λ x. sections_behind ws r value.pointer_count size.pointers (size.data_words + size.pointers) _ _ _ _ _ _ _ _ value.inside c.in_ok-kept.ensures.pointers begins less (all_within over last x)) (λ x. sections_stop_behind ws r value.pointer_count size.pointers (size.data_words + size.pointers) _ _ _ _ _ _ _ _ pointers_kept begins less (among_within (omega arith) over last x)) (rw (c.of-form.ensures, nl, c.from-pointers.ensures) at c.copy_children-copied.ensures.taken);
     } in
     copies_or_clears c.copy_children-copied.result (sections_apart ws r value.pointer_count (form_of c.args.canonicalize) c.args.lim.now c.copy_children-copied.new.lim) (λ k large. absurd (omega (arith, large.0, c.in_ok-kept.ensures.narrow)))
-    (sections_until_more ws r value.pointer_count (form_of c.args.canonicalize) c.args.lim.now c.copy_children-copied.new.lim) left c.clear_refused.ensures.same c.clear_refused.ensures.clears
+    (sections_until_more ws r value.pointer_count (form_of c.args.canonicalize) c.args.lim.now c.copy_children-copied.new.lim) left c.clear_if_refused.ensures.same c.clear_if_refused.ensures.clears

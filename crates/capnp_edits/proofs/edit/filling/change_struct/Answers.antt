@@ -21,7 +21,7 @@ returns-in-Bits g c =
 pub returns-in-Content : goal.returns-in-Content
 returns-in-Content g c =
     let old = g.A.BuilderArena.view c.args.arena.now in
-    let new = g.A.BuilderArena.view c.fill.new.arena in
-    let e = c.fill.ensures in
-    subst (λ change. IsDoneAt old new (AtElement c.args.parent) (InStruct change) (refusal_of c.fill.result)) (sym c.in-Content.is)
-    (content_changed c.fill.result old new c.args.parent c.in-Content.source e.filled e.counted e.named e.taken e.fits)
+    let new = g.A.BuilderArena.view c.copy_content.new.arena in
+    let e = c.copy_content.ensures in
+    subst (λ change. IsDoneAt old new (AtElement c.args.parent) (InStruct change) (refusal_of c.copy_content.result)) (sym c.in-Content.is)
+    (content_changed c.copy_content.result old new c.args.parent c.in-Content.source e.filled e.counted e.named e.taken e.fits)

@@ -10,14 +10,14 @@ pub returns-in-Make : goal.returns-in-Make
 returns-in-Make g c =
     let view = g.A.BuilderArena.view in
     let old = view c.args.arena.now in
-    let made = subst (λ task. IsDoneAt old (view c.make.new.pointer.arena.now) (AtPointer c.args.place) task (refusal_of c.make.result)) (sym c.in-Make.is) c.make.ensures.done in
-    subst (λ (a : g.row.A.Denot). IsDoneAt old (view a) (AtPointer c.args.place) c.args.task (refusal_of c.make.result)) (search rules) made
+    let made = subst (λ task. IsDoneAt old (view c.init_object.new.pointer.arena.now) (AtPointer c.args.place) task (refusal_of c.init_object.result)) (sym c.in-Make.is) c.init_object.ensures.done in
+    subst (λ (a : g.row.A.Denot). IsDoneAt old (view a) (AtPointer c.args.place) c.args.task (refusal_of c.init_object.result)) (search rules) made
 
 pub returns-in-Point : goal.returns-in-Point
 returns-in-Point g c =
     let view = g.A.BuilderArena.view in
     let old = view c.args.arena.now in
-    let pointed = subst (λ task. IsDoneAt old (view c.point.new.pointer.arena.now) (AtPointer c.args.place) task None) (sym c.in-Point.is) c.point.ensures.done in
+    let pointed = subst (λ task. IsDoneAt old (view c.set_capability_or_null.new.pointer.arena.now) (AtPointer c.args.place) task None) (sym c.in-Point.is) c.set_capability_or_null.ensures.done in
     subst (λ (a : g.row.A.Denot). IsDoneAt old (view a) (AtPointer c.args.place) c.args.task None) (search rules) pointed
 
 pub returns-in-Write : goal.returns-in-Write
@@ -27,8 +27,8 @@ pub returns-in-Search : goal.returns-in-Search
 returns-in-Search g c =
     let view = g.A.BuilderArena.view in
     let old = view c.args.arena.now in
-    let sought = subst (λ task. IsDoneAt old (view c.look.new.pointer.arena.now) (AtPointer c.args.place) task (refusal_of c.look.result)) (sym c.in-Search.is) c.look.ensures.done in
-    subst (λ (a : g.row.A.Denot). IsDoneAt old (view a) (AtPointer c.args.place) c.args.task (refusal_of c.look.result)) (search rules) sought
+    let sought = subst (λ task. IsDoneAt old (view c.find_value.new.pointer.arena.now) (AtPointer c.args.place) task (refusal_of c.find_value.result)) (sym c.in-Search.is) c.find_value.ensures.done in
+    subst (λ (a : g.row.A.Denot). IsDoneAt old (view a) (AtPointer c.args.place) c.args.task (refusal_of c.find_value.result)) (search rules) sought
 
 pub returns-in-CopyRoot : goal.returns-in-CopyRoot
 returns-in-CopyRoot g c =

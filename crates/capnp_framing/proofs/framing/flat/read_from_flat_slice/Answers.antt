@@ -20,11 +20,11 @@ returns c =
       room = omega (arith, c.if-bytes-size.false);
       table_is = take_all (length bytes - 4) (drop 4 bytes) (omega (arith, length-drop 4 bytes));
       rest_is = take_all (length bytes - size) (drop size bytes) (omega (arith, length-drop size bytes));
-      whole = (let there = length-take (length bytes - size) (drop size bytes) in omega (arith, there, length-drop size bytes, c.if-words-there.false, c.starts_of-words.ensures.sum, c.if-bytes-size.false));
+      whole = (let there = length-take (length bytes - size) (drop size bytes) in omega (arith, there, length-drop size bytes, c.if-words-there.false, c.segment_starts-words.ensures.sum, c.if-bytes-size.false));
     } in
     record {
       end = search rules;
-      read = flat_frame c.args.max_words at (omega (arith, c.if-words-max_words.false, c.starts_of-words.ensures.sum));
+      read = flat_frame c.args.max_words at (omega (arith, c.if-words-max_words.false, c.segment_starts-words.ensures.sum));
       small = flat_small at;
       refused = search rules;
     }
@@ -54,7 +54,7 @@ returns-then-words-max_words c =
     let bytes : List ℕ = c.args.bytes.now in
     let n : ℕ = c.from-told.result + 1 in
     let same : n ≡ segments_told bytes = ap (λ k. k + 1) (c.from-told.ensures ∙ c.number_at.ensures) in
-    let words : c.starts_of-words.result.1 ≡ words_in_table bytes = c.starts_of-words.ensures.sum ∙ ap₂ words_told same (take_all (length bytes - 4) (drop 4 bytes) (omega (arith, length-drop 4 bytes))) in
+    let words : c.segment_starts-words.result.1 ≡ words_in_table bytes = c.segment_starts-words.ensures.sum ∙ ap₂ words_told same (take_all (length bytes - 4) (drop 4 bytes) (omega (arith, length-drop 4 bytes))) in
     record {
       end = gives_nothing _ _ refl;
       read = tt;
@@ -67,11 +67,11 @@ returns-then-words-there c =
     let bytes : List ℕ = c.args.bytes.now in
     let n : ℕ = c.from-told.result + 1 in
     let same : n ≡ segments_told bytes = ap (λ k. k + 1) (c.from-told.ensures ∙ c.number_at.ensures) in
-    let words : c.starts_of-words.result.1 ≡ words_in_table bytes = c.starts_of-words.ensures.sum ∙ ap₂ words_told same (take_all (length bytes - 4) (drop 4 bytes) (omega (arith, length-drop 4 bytes))) in
+    let words : c.segment_starts-words.result.1 ≡ words_in_table bytes = c.segment_starts-words.ensures.sum ∙ ap₂ words_told same (take_all (length bytes - 4) (drop 4 bytes) (omega (arith, length-drop 4 bytes))) in
     record {
       end = gives_nothing _ _ refl;
       read = tt;
       small = tt;
-      refused = words_short bytes n c.starts_of-words.result.1 c.args.max_words (table_there bytes n c.if-bytes-lt4.false same c.if-told.false c.if-bytes-size.false) same words c.if-words-max_words.false
+      refused = words_short bytes n c.segment_starts-words.result.1 c.args.max_words (table_there bytes n c.if-bytes-lt4.false same c.if-told.false c.if-bytes-size.false) same words c.if-words-max_words.false
           (omega (arith, c.if-words-there.true, c.if-bytes-size.false));
     }

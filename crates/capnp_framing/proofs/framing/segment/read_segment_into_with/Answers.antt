@@ -43,17 +43,17 @@ returns-in_err-size g c =
       memory = record { kept = on_err _ _ p.1; counted = if_err _ _ p.1 p.2 (c.in_err-size.ensures.memory.counted) };
     }
 
-pub returns-in_err-tell_only : goal.returns-in_err-tell_only
-returns-in_err-tell_only g c =
-    let p = err_from_is_err_and c.from_residual-in_err-tell_only.result c.from_residual-in_err-tell_only.ensures.1 in
+pub returns-in_err-set_single_segment : goal.returns-in_err-set_single_segment
+returns-in_err-set_single_segment g c =
+    let p = err_from_is_err_and c.from_residual-in_err-set_single_segment.result c.from_residual-in_err-set_single_segment.ensures.1 in
     record {
       read = on_err _ _ p.1;
       end = on_err _ _ p.1;
       small = none_small;
       input = record { whole = on_err _ _ p.1; works = on_err _ _ p.1 };
-      refused = if_err _ _ p.1 p.2 (segment_memory g.R.Input _ _ _ _ c.in_err-tell_only.ensures.memory.refused c.in_ok-size.ensures.input.works);
+      refused = if_err _ _ p.1 p.2 (segment_memory g.R.Input _ _ _ _ c.in_err-set_single_segment.ensures.memory.refused c.in_ok-size.ensures.input.works);
       none = rw p.1 refl;
-      memory = record { kept = on_err _ _ p.1; counted = if_err _ _ p.1 p.2 (counted_later _ _ _ _ c.in_ok-size.ensures.memory.kept c.in_err-tell_only.ensures.memory.counted) };
+      memory = record { kept = on_err _ _ p.1; counted = if_err _ _ p.1 p.2 (counted_later _ _ _ _ c.in_ok-size.ensures.memory.kept c.in_err-set_single_segment.ensures.memory.counted) };
     }
 
 pub returns-then-size-beyond-clause-memory : goal.returns-then-size-beyond-clause-memory
@@ -71,13 +71,13 @@ returns-then-size-ne0-clause-small g c = none_small
 pub returns : goal.returns
 returns g c =
     let words : List ℕ = c.read_to_end.new.to.items in
-    let table : List ℕ = c.tell_only.new.table.items in
+    let table : List ℕ = c.set_single_segment.new.table.items in
     let size : ℕ = c.in_ok-size.size in
     let most : c.min-most.result ≡ most_bare c.args.max_words = omega (arith, c.min-most.ensures) in
     let long : length (take size words) ≡ size = omega (arith, length-take size words, c.in_ok-size.ensures.within) in
     let less : size < 8 * c.min-most.result + 8 = omega (arith, c.in_ok-size.ensures.most, c.if-size-beyond.false) in
     let whole : size % 8 ≡ 0 = omega (arith, c.if-size-ne0.false) in
-    let only = only_part size table words c.in_ok-tell_only.ensures.told whole in
+    let only = only_part size table words c.in_ok-set_single_segment.ensures.told whole in
     record {
       read = record {
         bytes = take size words;
@@ -90,5 +90,5 @@ returns g c =
       input = record { whole = c.in_ok-size.ensures.input.whole; works = c.in_ok-size.ensures.input.works };
       refused = tt;
       none = tt;
-      memory = record { kept = c.in_ok-tell_only.ensures.memory.kept ∙ c.in_ok-size.ensures.memory.kept; counted = tt };
+      memory = record { kept = c.in_ok-set_single_segment.ensures.memory.kept ∙ c.in_ok-size.ensures.memory.kept; counted = tt };
     }

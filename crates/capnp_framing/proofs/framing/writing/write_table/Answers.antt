@@ -14,7 +14,7 @@ loop-k-init g c =
     let n : ℕ = c.args.count in
     let four : List ℕ = to_le_bytes w32 (n - 1) in
     let counts : n ≡ length S = omega (arith, length-message bytes, c.requires.ready.number) in
-    let first : c.as_slice.result.now ≡ four ++ to_le_bytes w32 (length (segment S 0)) = c.as_slice.ensures ∙ c.two_numbers-first.ensures ∙ ap (λ k. four ++ to_le_bytes w32 k) c.length_of.ensures in
+    let first : c.as_slice.result.now ≡ four ++ to_le_bytes w32 (length (segment S 0)) = c.as_slice.ensures ∙ c.number_pair_bytes-first.ensures ∙ ap (λ k. four ++ to_le_bytes w32 k) c.segment_length.ensures in
     record {
       left_over = left_over_less (lengths_left (drop 1 S)) (record { left_over = left_over_all _ _; appended = c.in_ok-write_all.ensures.written })
           (table_first S n counts c.requires.some ∙ ap (λ (xs : List ℕ). xs ++ lengths_left (drop 1 S)) (sym first));
@@ -27,9 +27,9 @@ loop-k-preserved g c =
     let S : Segments = message bytes in
     let i : ℕ = 2 * c.loop-k.k + 1 in
     let inside : i < length S = omega (arith, length-message bytes, c.requires.ready.number, c.loop-k-test.true, c.loop-k.auto.k-end) in
-    let second = c.length_of-in-loop-k-2.ensures ∙ ap (λ j. length (segment S j)) (let e : 2 * c.loop-k.k + 2 ≡ suc i = omega arith in e) in
+    let second = c.segment_length-in-loop-k-2.ensures ∙ ap (λ j. length (segment S j)) (let e : 2 * c.loop-k.k + 2 ≡ suc i = omega arith in e) in
     let next : c.as_slice-in-loop-k.result.now ≡ to_le_bytes w32 (length (segment S i)) ++ to_le_bytes w32 (length (segment S (suc i))) =
-    c.as_slice-in-loop-k.ensures ∙ c.two_numbers-next.ensures ∙ ap₂ (λ j k. to_le_bytes w32 j ++ to_le_bytes w32 k) c.length_of-in-loop-k.ensures second in
+    c.as_slice-in-loop-k.ensures ∙ c.number_pair_bytes-next.ensures ∙ ap₂ (λ j k. to_le_bytes w32 j ++ to_le_bytes w32 k) c.segment_length-in-loop-k.ensures second in
     record {
       left_over = left_over_less (lengths_left (drop (2 * (c.loop-k.k + 1) + 1) S)) (record { left_over = c.loop-k.invariant.left_over; appended = c.in_ok-write_all-2.ensures.written })
           (table_next S i inside ∙ ap₂ (λ (xs : List ℕ) k. xs ++ lengths_left (drop k S)) (sym next) (let e : suc (suc i) ≡ 2 * (c.loop-k.k + 1) + 1 = omega arith in e));

@@ -9,26 +9,26 @@ use Rattle.capnp_layout.proofs.tool.args.parse_args.Goals as goal
 pub returns-in-len1-clause-none : goal.returns-in-len1-clause-none
 returns-in-len1-clause-none c = λ none.
     alone_none (one c.args.args.now c.in-len1.len_at_least c.in-len1.len_below (sym c.command-item.is))
-    (rw c.as_str.ensures.value at (c.without_limits.ensures.none none))
+    (rw c.as_str.ensures.value at (c.command_without_limits.ensures.none none))
 
 -- the three arguments: the first is the command
-pub returns-in_ok-parse_budget-in-len3-clause-read : goal.returns-in_ok-parse_budget-in-len3-clause-read
-returns-in_ok-parse_budget-in-len3-clause-read c =
-    limited_read c.within_limits.result
+pub returns-in_ok-parse_traversal_limit-in-len3-clause-read : goal.returns-in_ok-parse_traversal_limit-in-len3-clause-read
+returns-in_ok-parse_traversal_limit-in-len3-clause-read c =
+    limited_read c.command_with_limits.result
     (record {
       all = three c.args.args.now c.in-len3.len_at_least c.in-len3.len_below (sym c.command-item-then-args-lt4.is) (sym c.nesting-item.is) (sym c.budget-item.is);
-      is_nesting = rw c.as_str-in-len3.ensures.value at c.in_ok-parse_nesting-in-len3.ensures.read;
-      is_budget = rw c.as_str-in-len3-2.ensures.value at c.in_ok-parse_budget-in-len3.ensures.read;
+      is_nesting = rw c.as_str-in-len3.ensures.value at c.in_ok-parse_nesting_limit-in-len3.ensures.read;
+      is_budget = rw c.as_str-in-len3-2.ensures.value at c.in_ok-parse_traversal_limit-in-len3.ensures.read;
     })
     (
-    let fits = c.in_ok-parse_nesting-in-len3.ensures.read.2 in
+    let fits = c.in_ok-parse_nesting_limit-in-len3.ensures.read.2 in
     subst
-    (λ n. IfSome c.within_limits.result (IsNamed (string_bytes c.command-item-then-args-lt4.result) (record { nesting_limit = n; traversal_limit_in_words = c.in_ok-parse_budget-in-len3.field-0 })))
-    (to_z-of_z w32 c.in_ok-parse_nesting-in-len3.field-0 fits)
-    (rw c.as_str-in-len3-3.ensures.value at c.within_limits.ensures.read)
+    (λ n. IfSome c.command_with_limits.result (IsNamed (string_bytes c.command-item-then-args-lt4.result) (record { nesting_limit = n; traversal_limit_in_words = c.in_ok-parse_traversal_limit-in-len3.field-0 })))
+    (to_z-of_z w32 c.in_ok-parse_nesting_limit-in-len3.field-0 fits)
+    (rw c.as_str-in-len3-3.ensures.value at c.command_with_limits.ensures.read)
     )
 
-pub returns-in_ok-parse_budget-in-len3-clause-none : goal.returns-in_ok-parse_budget-in-len3-clause-none
-returns-in_ok-parse_budget-in-len3-clause-none c = λ none.
+pub returns-in_ok-parse_traversal_limit-in-len3-clause-none : goal.returns-in_ok-parse_traversal_limit-in-len3-clause-none
+returns-in_ok-parse_traversal_limit-in-len3-clause-none c = λ none.
     limited_none (three c.args.args.now c.in-len3.len_at_least c.in-len3.len_below (sym c.command-item-then-args-lt4.is) (sym c.nesting-item.is) (sym c.budget-item.is))
-    (rw c.as_str-in-len3-3.ensures.value at (c.within_limits.ensures.none none))
+    (rw c.as_str-in-len3-3.ensures.value at (c.command_with_limits.ensures.none none))

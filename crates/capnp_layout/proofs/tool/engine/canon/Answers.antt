@@ -8,7 +8,7 @@ use Rattle.capnp_layout.proofs.tool.engine.canon.Goals as goal
 
 pub returns-in-Err : goal.returns-in-Err
 returns-in-Err g c =
-    refused_run _ _ _ (Layout c.in-Err.kind) c.refuse.ensures.either c.refuse.ensures.written c.refuse.ensures.works c.refuse.ensures.failed
+    refused_run _ _ _ (Layout c.in-Err.kind) c.answer_refusal.ensures.either c.answer_refusal.ensures.written c.answer_refusal.ensures.works c.answer_refusal.ensures.failed
     (canonical_refusal c.args.form c.args.options (segments_in c.args.source) c.in-Err.ensures.refused)
     (canonical_memory c.args.form c.args.options (segments_in c.args.source) c.in-Err.ensures.refused)
 
@@ -16,6 +16,6 @@ pub returns-in-Ok : goal.returns-in-Ok
 returns-in-Ok g c =
     let (t, value, is_made) = c.in-Ok.ensures.value in
     let same : words_of c.canonical_bytes.result.now ≡ encoding (trim t) = search rules in
-    answered_run _ _ _ _ _ c.write_form-written.ensures c.ended.ensures.written c.ended.ensures.failed
+    answered_run _ _ _ _ _ c.write_words_in_form-written.ensures c.outcome_of.ensures.written c.outcome_of.ensures.failed
     (canonical_within c.args.form c.args.options (segments_in c.args.source) c.in-Ok.ensures.small) (search rules)
     (canonical_answer c.args.form c.args.options (segments_in c.args.source) t value same)

@@ -5,5 +5,5 @@ use Rattle.capnp_layout.proofs.tool.framed.unframe.Goals as goal
 
 pub returns : goal.returns
 returns g c =
-    refused_run _ _ _ c.in-Err.refusal c.refuse.ensures.either c.refuse.ensures.written c.refuse.ensures.works c.refuse.ensures.failed
+    refused_run _ _ _ c.in-Err.refusal c.answer_refusal.ensures.either c.answer_refusal.ensures.written c.answer_refusal.ensures.works c.answer_refusal.ensures.failed
     (inr (c.in-Err.ensures.refused, refl)) (λ _ (message, holds). absurd (frame_not_refused holds c.in-Err.ensures.refused))

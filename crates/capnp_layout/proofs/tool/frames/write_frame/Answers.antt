@@ -16,7 +16,7 @@ returns g c =
             number = c.in_ok-write_number.ensures.written;
             table = c.in_ok-write_lengths.ensures.written;
             padding = c.in_ok-write_padding.ensures.written;
-            words = c.in_ok-write_contents.ensures.written;
+            words = c.in_ok-write_all_segments.ensures.written;
             feed = feed;
           }))
           c.write_all.ensures.written;

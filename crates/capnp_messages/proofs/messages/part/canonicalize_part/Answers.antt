@@ -12,19 +12,19 @@ pub returns-in-Ok-clause-copied : goal.returns-in-Ok-clause-copied
 returns-in-Ok-clause-copied g c =
     let S : Segments = message (map whole (g.S.ReaderSegments.segments c.args.source.now.segments)) in
     let leads = part_here S (arena_limits c.args.source.now.nesting_limit c.args.traversal_limit_in_words) c.args.path.now _ _ c.new-lim.ensures c.in-Ok.ensures in
-    IfOk-weaker c.copy_reached_with.result _ _ (λ made. part_of_copy c.copy_reached_with.new.lim leads) c.copy_reached_with.ensures.copied
+    IfOk-weaker c.canonicalize_reached.result _ _ (λ made. part_of_copy c.canonicalize_reached.new.lim leads) c.canonicalize_reached.ensures.copied
 
 pub returns-in-Ok-clause-tries : goal.returns-in-Ok-clause-tries
 returns-in-Ok-clause-tries g c =
     let S : Segments = message (map whole (g.S.ReaderSegments.segments c.args.source.now.segments)) in
     let leads = part_here S (arena_limits c.args.source.now.nesting_limit c.args.traversal_limit_in_words) c.args.path.now _ _ c.new-lim.ensures c.in-Ok.ensures in
-    IfOk-weaker c.copy_reached_with.result _ _ (λ made tries. (_, _, leads, tries)) c.copy_reached_with.ensures.tries
+    IfOk-weaker c.canonicalize_reached.result _ _ (λ made tries. (_, _, leads, tries)) c.canonicalize_reached.ensures.tries
 
 pub returns-in-Ok-clause-refused : goal.returns-in-Ok-clause-refused
 returns-in-Ok-clause-refused g c =
     let S : Segments = message (map whole (g.S.ReaderSegments.segments c.args.source.now.segments)) in
     let leads = part_here S (arena_limits c.args.source.now.nesting_limit c.args.traversal_limit_in_words) c.args.path.now _ _ c.new-lim.ensures c.in-Ok.ensures in
-    IfErr-weaker c.copy_reached_with.result _ _ (λ e. part_copy_refused leads) c.copy_reached_with.ensures.refused
+    IfErr-weaker c.canonicalize_reached.result _ _ (λ e. part_copy_refused leads) c.canonicalize_reached.ensures.refused
 
 pub returns-in-Err-clause-refused : goal.returns-in-Err-clause-refused
 returns-in-Err-clause-refused g c =

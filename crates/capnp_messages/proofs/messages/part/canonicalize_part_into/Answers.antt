@@ -20,16 +20,16 @@ pub returns-clause-copied : goal.returns-clause-copied
 returns-clause-copied g c =
     let S : Segments = message (map whole (g.S.ReaderSegments.segments c.args.source.now.segments)) in
     let leads = part_here S (arena_limits c.args.source.now.nesting_limit c.args.traversal_limit_in_words) c.args.path.now _ _ c.new-lim.ensures c.in_ok-part.ensures in
-    IfOk-weaker c.copy_in_room.result _ _ (λ fits h. OnTrue_from fits _ (λ e. part_of_own_copy leads c.left.ensures (OnTrue_at e h))) c.copy_in_room.ensures.copied
+    IfOk-weaker c.canonicalize_reached_into.result _ _ (λ fits h. OnTrue_from fits _ (λ e. part_of_own_copy leads c.left.ensures (OnTrue_at e h))) c.canonicalize_reached_into.ensures.copied
 
 pub returns-clause-small : goal.returns-clause-small
 returns-clause-small g c =
     let S : Segments = message (map whole (g.S.ReaderSegments.segments c.args.source.now.segments)) in
     let leads = part_here S (arena_limits c.args.source.now.nesting_limit c.args.traversal_limit_in_words) c.args.path.now _ _ c.new-lim.ensures c.in_ok-part.ensures in
-    IfOk-weaker c.copy_in_room.result _ _ (λ fits h. OnFalse_from fits _ (λ e. own_part_needs S (arena_limits c.args.source.now.nesting_limit c.args.traversal_limit_in_words) c.args.path.now leads (OnFalse_at e h))) c.copy_in_room.ensures.small
+    IfOk-weaker c.canonicalize_reached_into.result _ _ (λ fits h. OnFalse_from fits _ (λ e. own_part_needs S (arena_limits c.args.source.now.nesting_limit c.args.traversal_limit_in_words) c.args.path.now leads (OnFalse_at e h))) c.canonicalize_reached_into.ensures.small
 
 pub returns-clause-refused : goal.returns-clause-refused
 returns-clause-refused g c =
     let S : Segments = message (map whole (g.S.ReaderSegments.segments c.args.source.now.segments)) in
     let leads = part_here S (arena_limits c.args.source.now.nesting_limit c.args.traversal_limit_in_words) c.args.path.now _ _ c.new-lim.ensures c.in_ok-part.ensures in
-    IfErr-weaker c.copy_in_room.result _ _ (λ k h. own_part_copy_refused leads c.left.ensures h) c.copy_in_room.ensures.refused
+    IfErr-weaker c.canonicalize_reached_into.result _ _ (λ k h. own_part_copy_refused leads c.left.ensures h) c.canonicalize_reached_into.ensures.refused

@@ -11,7 +11,7 @@ returns-clause-copied g c =
     let at : AtRoot _ (arena_limits c.args.source.now.nesting_limit c.args.traversal_limit_in_words) _ c.read_root.new.lim =
     at_root refl refl c.new-lim.ensures c.in_ok-root.ensures.place
     c.in_ok-root.ensures.charged (c.read_root.ensures.exactly.0 read) in
-    IfOk-weaker c.copy_in_room.result _ _ (λ fits h. OnTrue_from fits _ (λ e. own_copy_of at c.left.ensures (OnTrue_at e h))) c.copy_in_room.ensures.copied
+    IfOk-weaker c.canonicalize_reached_into.result _ _ (λ fits h. OnTrue_from fits _ (λ e. own_copy_of at c.left.ensures (OnTrue_at e h))) c.canonicalize_reached_into.ensures.copied
 
 pub returns-clause-small : goal.returns-clause-small
 returns-clause-small g c =
@@ -19,7 +19,7 @@ returns-clause-small g c =
     let at : AtRoot _ (arena_limits c.args.source.now.nesting_limit c.args.traversal_limit_in_words) _ c.read_root.new.lim =
     at_root refl refl c.new-lim.ensures c.in_ok-root.ensures.place
     c.in_ok-root.ensures.charged (c.read_root.ensures.exactly.0 read) in
-    IfOk-weaker c.copy_in_room.result _ _ (λ fits h. OnFalse_from fits _ (λ e. own_copy_needs at (OnFalse_at e h))) c.copy_in_room.ensures.small
+    IfOk-weaker c.canonicalize_reached_into.result _ _ (λ fits h. OnFalse_from fits _ (λ e. own_copy_needs at (OnFalse_at e h))) c.canonicalize_reached_into.ensures.small
 
 pub returns-clause-refused : goal.returns-clause-refused
 returns-clause-refused g c =
@@ -27,4 +27,4 @@ returns-clause-refused g c =
     let at : AtRoot _ (arena_limits c.args.source.now.nesting_limit c.args.traversal_limit_in_words) _ c.read_root.new.lim =
     at_root refl refl c.new-lim.ensures c.in_ok-root.ensures.place
     c.in_ok-root.ensures.charged (c.read_root.ensures.exactly.0 read) in
-    IfErr-weaker c.copy_in_room.result _ _ (λ k h. own_copy_refused at c.left.ensures h) c.copy_in_room.ensures.refused
+    IfErr-weaker c.canonicalize_reached_into.result _ _ (λ k h. own_copy_refused at c.left.ensures h) c.canonicalize_reached_into.ensures.refused

@@ -12,7 +12,7 @@ pub overflow_sub-result : goal.overflow_sub-result
 overflow_sub-result g c =
     let r : Reading = reading g.A.ReaderArena c.args.self.now in
     let nl = to_z-of_z w32 c.args.self.now.nesting_limit (search rules) in
-    let level : c.levels_of-levels.result ≡ r.levels = c.levels_of-levels.ensures ∙ ap levels nl in
+    let level : c.levels_left-levels.result ≡ r.levels = c.levels_left-levels.ensures ∙ ap levels nl in
     let begun : c.begin-walk.result.tally ≡ start r.levels = c.begin-walk.ensures.tally ∙ ap start level in
     let walked : validate_place r (start r.levels) c.args.lim.now ≡ (Ok c.validate_object.new.walk.tally, c.validate_object.new.walk.lim) = rw (nl, begun, c.begin-walk.ensures.limiter) at c.in-Ok.ensures in
     let it : Found r c.args.lim.now c.validate_object.new.walk.lim c.validate_object.new.walk.tally = found r _ _ _ walked in
@@ -22,7 +22,7 @@ pub returns-in-Ok : goal.returns-in-Ok
 returns-in-Ok g c =
     let r : Reading = reading g.A.ReaderArena c.args.self.now in
     let nl = to_z-of_z w32 c.args.self.now.nesting_limit (search rules) in
-    let level : c.levels_of-levels.result ≡ r.levels = c.levels_of-levels.ensures ∙ ap levels nl in
+    let level : c.levels_left-levels.result ≡ r.levels = c.levels_left-levels.ensures ∙ ap levels nl in
     let begun : c.begin-walk.result.tally ≡ start r.levels = c.begin-walk.ensures.tally ∙ ap start level in
     let walked : validate_place r (start r.levels) c.args.lim.now ≡ (Ok c.validate_object.new.walk.tally, c.validate_object.new.walk.lim) = rw (nl, begun, c.begin-walk.ensures.limiter) at c.in-Ok.ensures in
     let it : Found r c.args.lim.now c.validate_object.new.walk.lim c.validate_object.new.walk.tally = found r _ _ _ walked in
@@ -32,6 +32,6 @@ pub returns-in-Err : goal.returns-in-Err
 returns-in-Err g c =
     let r : Reading = reading g.A.ReaderArena c.args.self.now in
     let nl = to_z-of_z w32 c.args.self.now.nesting_limit (search rules) in
-    let level : c.levels_of-levels.result ≡ r.levels = c.levels_of-levels.ensures ∙ ap levels nl in
+    let level : c.levels_left-levels.result ≡ r.levels = c.levels_left-levels.ensures ∙ ap levels nl in
     let begun : c.begin-walk.result.tally ≡ start r.levels = c.begin-walk.ensures.tally ∙ ap start level in
     stopped r _ _ _ (rw (nl, begun, c.begin-walk.ensures.limiter) at c.in-Err.ensures)

@@ -21,14 +21,14 @@ decreases-test_children g l = 6 * levels l.nesting_limit + 2
 abbrev pub decreases-test_sections : goal.decreases-test_sections
 decreases-test_sections g l = 6 * levels l.nesting_limit + 4
 
-abbrev pub decreases-test_row : goal.decreases-test_row
-decreases-test_row g l = 6 * levels l.nesting_limit + 3
+abbrev pub decreases-test_element_pointers : goal.decreases-test_element_pointers
+decreases-test_element_pointers g l = 6 * levels l.nesting_limit + 3
 
-abbrev pub decreases-test_rows : goal.decreases-test_rows
-decreases-test_rows g l = 6 * levels l.nesting_limit + 4
+abbrev pub decreases-test_elements : goal.decreases-test_elements
+decreases-test_elements g l = 6 * levels l.nesting_limit + 4
 
-abbrev pub decreases-test_structs : goal.decreases-test_structs
-decreases-test_structs g l = 6 * levels l.nesting_limit + 5
+abbrev pub decreases-test_struct_list : goal.decreases-test_struct_list
+decreases-test_struct_list g l = 6 * levels l.nesting_limit + 5
 
 abbrev pub invariant-test_children-loop-i : goal.invariant-test_children-loop-i
 invariant-test_children-loop-i g l =
@@ -37,8 +37,8 @@ invariant-test_children-loop-i g l =
     ((k : ℕ) → l.i + k ≡ l.fn.count → test_values l.fn.count r l.fn.first l.fn.test.lim ≡ test_values k (place_past r l.i) l.head l.test.lim)
 
 -- What is left of the elements, and whether those that are left need their sections, too.
-abbrev pub invariant-test_rows-loop-i : goal.invariant-test_rows-loop-i
-invariant-test_rows-loop-i g l =
+abbrev pub invariant-test_elements-loop-i : goal.invariant-test_elements-loop-i
+invariant-test_elements-loop-i g l =
     let r : Reading = reading_on g.A.ReaderArena l.fn.from l.start l.nesting_limit in
     let d : ℕ = l.fn.size.data_words in
     let q : ℕ = l.fn.size.pointers in

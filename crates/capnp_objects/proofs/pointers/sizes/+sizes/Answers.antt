@@ -43,8 +43,8 @@ add_object-returns-in_default-rows_of_object g t c =
     object_added r c.args.walk.now.sums.size c.add_words.new.self.size c.args.walk.now.lim _ (object_shape c.in-Ok.object) c.args.walk.now.sums.fits (rw nl at c.in-Ok.ensures.computed) sum.0 (rw (no_capability c.in-Ok.object c.in_default.not-Capability) (sum.1 ∙ sym (add-zero _))) c.add_words.new.self.fits
     ∙ no_children (measure_within (pred r.levels)) (record r { levels = pred r.levels }) c.in-Ok.object _ _ c.in_default-rows_of_object.ensures
 
-pub add_object-add_rows-requires : goal.add_object-add_rows-requires
-add_object-add_rows-requires g t c =
+pub add_object-add_elements-requires : goal.add_object-add_elements-requires
+add_object-add_elements-requires g t c =
     let r : Reading = reading_on g.A.ReaderArena c.args.from.now c.args.at c.args.nesting_limit in
     let opened : Opened Size r c.args.walk.now.lim c.measure_object.new.lim c.in-Ok.object c.in-Some.rows = record { is_read = rw (to_z-of_z w32 c.args.nesting_limit c.ranges.nesting_limit) at c.in-Ok.ensures.object; has = c.in-Some.ensures } in
     let level = object_level c.in-Ok.object opened in
@@ -63,7 +63,7 @@ add_object-returns g t c =
     let sum = rw c.words_of_object.ensures at c.in_ok-add_words.ensures.sum in
     object_added r c.args.walk.now.sums.size c.add_words.new.self.size c.args.walk.now.lim _ (object_shape c.in-Ok.object) c.args.walk.now.sums.fits (rw nl at c.in-Ok.ensures.computed) sum.0 (rw (no_capability c.in-Ok.object c.in_default.not-Capability) (sum.1 ∙ sym (add-zero _))) c.add_words.new.self.fits
     ∙ children_in_rows (measure_within (pred r.levels)) (record r { levels = pred r.levels }) c.in-Ok.object c.in-Some.rows _ _ c.in-Some.ensures
-    ∙ rw less at c.add_rows.ensures
+    ∙ rw less at c.add_elements.ensures
 
 pub add_pointer-returns-then-is_null : goal.add_pointer-returns-then-is_null
 add_pointer-returns-then-is_null g t c =
@@ -71,33 +71,33 @@ add_pointer-returns-then-is_null g t c =
     let word : c.word-word.result.0 ≡ word_of r = c.word-word.ensures.value ∙ ap (λ ws. get_or ws c.args.at 0) c.args.from.now.held.0 in
     null_added r c.args.walk.now.sums.size c.args.walk.now.lim c.args.walk.now.sums.fits (sym word ∙ c.if-is_null.ensures.0 refl)
 
-pub add_row-returns-in_err-add_pointer : goal.add_row-returns-in_err-add_pointer
-add_row-returns-in_err-add_pointer g t c =
+pub add_element_pointers-returns-in_err-add_pointer : goal.add_element_pointers-returns-in_err-add_pointer
+add_element_pointers-returns-in_err-add_pointer g t c =
     let r : Reading = reading_on g.A.ReaderArena c.args.from.now c.args.at (to_z w32 (of_z w32 c.args.nesting_limit)) in
     let nl = to_z-of_z w32 c.args.nesting_limit c.ranges.nesting_limit in
     let rest = c.loop-i.invariant (suc (c.args.count - c.loop-i.i - 1)) (omega (arith, c.loop-i-test.true)) in
     let whole = rest ∙ one_stops (measure_within r.levels) (place_past r c.loop-i.i) (c.args.count - c.loop-i.i - 1) _ _ _ _ c.in_err-add_pointer.ensures in
     rw nl at whole ∙ ap (λ x. (x, c.add_pointer.new.walk.lim)) (sym (ended_err c.from_residual.result _ c.from_residual.ensures.0))
 
-pub add_row-loop-i-preserved : goal.add_row-loop-i-preserved
-add_row-loop-i-preserved g t c =
+pub add_element_pointers-loop-i-preserved : goal.add_element_pointers-loop-i-preserved
+add_element_pointers-loop-i-preserved g t c =
     let r : Reading = reading_on g.A.ReaderArena c.args.from.now c.args.at (to_z w32 (of_z w32 c.args.nesting_limit)) in
     λ k e. c.loop-i.invariant (suc k) (omega (arith, e)) ∙ one_more (measure_within r.levels) r c.loop-i.i (c.loop-i.i + 1) k _ _ _ _ refl c.in_ok-add_pointer.ensures
 
-pub add_row-returns : goal.add_row-returns
-add_row-returns g t c =
+pub add_element_pointers-returns : goal.add_element_pointers-returns
+add_element_pointers-returns g t c =
     let nl = to_z-of_z w32 c.args.nesting_limit c.ranges.nesting_limit in
     rw nl at (c.loop-i.invariant 0 (omega (arith, c.loop-i-test.false, c.loop-i.auto.i-end)))
 
-pub add_rows-returns-then-pointers-eq0 : goal.add_rows-returns-then-pointers-eq0
-add_rows-returns-then-pointers-eq0 g t c =
+pub add_elements-returns-then-pointers-eq0 : goal.add_elements-returns-then-pointers-eq0
+add_elements-returns-then-pointers-eq0 g t c =
     let r : Reading = reading g.A.ReaderArena c.args.from.now in
     let d : ℕ = c.args.data_words in
     let q : ℕ = c.args.pointers in
     rw c.if-pointers-eq0.true (no_pointers (measure_within r.levels) r d c.args.count c.args.walk.now.sums.size c.args.walk.now.lim)
 
-pub add_rows-returns-in_err-add_row : goal.add_rows-returns-in_err-add_row
-add_rows-returns-in_err-add_row g t c =
+pub add_elements-returns-in_err-add_element_pointers : goal.add_elements-returns-in_err-add_element_pointers
+add_elements-returns-in_err-add_element_pointers g t c =
     let r : Reading = reading g.A.ReaderArena c.args.from.now in
     let d : ℕ = c.args.data_words in
     let q : ℕ = c.args.pointers in
@@ -105,23 +105,23 @@ add_rows-returns-in_err-add_row g t c =
     ap₂ (λ x y. x + y) (ap₂ (λ x y. x + y) c.from-in-loop-i.ensures (ap₂ (λ x y. x * y) c.from-in-loop-i-2.ensures (ap₂ (λ x y. x + y) c.from.ensures c.from-2.ensures))) c.from-in-loop-i-3.ensures ∙ omega arith in
     let nl = to_z-of_z w32 c.args.from.now.nesting_limit (search rules) in
     let i : ℕ = c.loop-i.i in
-    let stops = ap (λ p. fold_pointers (measure_within r.levels) q (record r { at = p }) c.loop-i.walk.sums.size c.loop-i.walk.lim) (omega arith) ∙ rw (at, nl) at c.in_err-add_row.ensures in
+    let stops = ap (λ p. fold_pointers (measure_within r.levels) q (record r { at = p }) c.loop-i.walk.sums.size c.loop-i.walk.lim) (omega arith) ∙ rw (at, nl) at c.in_err-add_element_pointers.ensures in
     c.loop-i.invariant (suc (c.args.count - i - 1)) (omega (arith, c.loop-i-test.true))
     ∙ row_stops (measure_within r.levels) (place_past r (i * (d + q))) d q (c.args.count - i - 1) _ _ _ _ stops
-    ∙ ap (λ x. (x, c.add_row.new.walk.lim)) (sym (ended_err c.from_residual.result _ c.from_residual.ensures.0))
+    ∙ ap (λ x. (x, c.add_element_pointers.new.walk.lim)) (sym (ended_err c.from_residual.result _ c.from_residual.ensures.0))
 
-pub add_rows-loop-i-preserved : goal.add_rows-loop-i-preserved
-add_rows-loop-i-preserved g t c =
+pub add_elements-loop-i-preserved : goal.add_elements-loop-i-preserved
+add_elements-loop-i-preserved g t c =
     let r : Reading = reading g.A.ReaderArena c.args.from.now in
     let d : ℕ = c.args.data_words in
     let q : ℕ = c.args.pointers in
     let at : c.from-in-loop-i.result + c.from-in-loop-i-2.result * (c.from.result + c.from-2.result) + c.from-in-loop-i-3.result ≡ r.at + (c.loop-i.i * (d + q) + d) =
     ap₂ (λ x y. x + y) (ap₂ (λ x y. x + y) c.from-in-loop-i.ensures (ap₂ (λ x y. x * y) c.from-in-loop-i-2.ensures (ap₂ (λ x y. x + y) c.from.ensures c.from-2.ensures))) c.from-in-loop-i-3.ensures ∙ omega arith in
     let nl = to_z-of_z w32 c.args.from.now.nesting_limit (search rules) in
-    λ k e. c.loop-i.invariant (suc k) (omega (arith, e)) ∙ row_more (measure_within r.levels) r d q c.loop-i.i (c.loop-i.i + 1) k _ _ _ _ refl (rw (at, nl) at c.in_ok-add_row.ensures)
+    λ k e. c.loop-i.invariant (suc k) (omega (arith, e)) ∙ row_more (measure_within r.levels) r d q c.loop-i.i (c.loop-i.i + 1) k _ _ _ _ refl (rw (at, nl) at c.in_ok-add_element_pointers.ensures)
 
-pub add_rows-returns : goal.add_rows-returns
-add_rows-returns g t c =
+pub add_elements-returns : goal.add_elements-returns
+add_elements-returns g t c =
     c.loop-i.invariant 0 (omega (arith, c.loop-i-test.false, c.loop-i.auto.i-end))
 
 pub add_struct-returns-in-Err : goal.add_struct-returns-in-Err

@@ -32,15 +32,15 @@ validate_object-returns-in_default g t c =
     let r : Reading = reading_on g.A.ReaderArena c.args.from.now c.args.at c.args.nesting_limit in
     let nl = to_z-of_z w32 c.args.nesting_limit c.ranges.nesting_limit in
     let object : IsObject Value r c.args.walk.now.lim c.read_object.new.lim c.in-Ok.object = rw nl at c.in-Ok.ensures.object in
-    let inner = inner_levels c.args.nesting_limit c.less-inner.result c.ranges.nesting_limit (record { sfits = c.less-inner.type_inv }) c.less-inner.ensures in
-    object_ends r c.args.walk.now.lim c.read_object.new.lim c.in-Ok.object c.args.walk.now.tally c.add.new.self _ (c.levels_of.ensures ∙ inner) c.add.ensures object c.in_default.ensures
+    let inner = inner_levels c.args.nesting_limit c.one_level_less-inner.result c.ranges.nesting_limit (record { sfits = c.one_level_less-inner.type_inv }) c.one_level_less-inner.ensures in
+    object_ends r c.args.walk.now.lim c.read_object.new.lim c.in-Ok.object c.args.walk.now.tally c.add.new.self _ (c.levels_left.ensures ∙ inner) c.add.ensures object c.in_default.ensures
 
-pub validate_object-validate_rows-requires : goal.validate_object-validate_rows-requires
-validate_object-validate_rows-requires g t c =
+pub validate_object-validate_elements-requires : goal.validate_object-validate_elements-requires
+validate_object-validate_elements-requires g t c =
     let r : Reading = reading_on g.A.ReaderArena c.args.from.now c.args.at c.args.nesting_limit in
     let nl = to_z-of_z w32 c.args.nesting_limit c.ranges.nesting_limit in
     let opened : Opened Value r c.args.walk.now.lim c.read_object.new.lim c.in-Ok.object c.in-Some.rows = record { is_read = rw nl at c.in-Ok.ensures.object; has = c.in-Some.ensures } in
-    let inner = inner_levels c.args.nesting_limit c.less-inner.result c.ranges.nesting_limit (record { sfits = c.less-inner.type_inv }) c.less-inner.ensures in
+    let inner = inner_levels c.args.nesting_limit c.one_level_less-inner.result c.ranges.nesting_limit (record { sfits = c.one_level_less-inner.type_inv }) c.one_level_less-inner.ensures in
     let inside = object_inside c.in-Ok.object opened in
     λ κs le. (falls_in 3 (search rules) inner (object_level c.in-Ok.object opened) c.decreases, (le, inside))
 
@@ -49,9 +49,9 @@ validate_object-returns g t c =
     let r : Reading = reading_on g.A.ReaderArena c.args.from.now c.args.at c.args.nesting_limit in
     let nl = to_z-of_z w32 c.args.nesting_limit c.ranges.nesting_limit in
     let opened : Opened Value r c.args.walk.now.lim c.read_object.new.lim c.in-Ok.object c.in-Some.rows = record { is_read = rw nl at c.in-Ok.ensures.object; has = c.in-Some.ensures } in
-    let inner = inner_levels c.args.nesting_limit c.less-inner.result c.ranges.nesting_limit (record { sfits = c.less-inner.type_inv }) c.less-inner.ensures in
-    object_opens r c.args.walk.now.lim c.read_object.new.lim c.in-Ok.object c.args.walk.now.tally c.add.new.self _ c.in-Some.rows (object_level c.in-Ok.object opened) refl (c.add.ensures ∙ ap (λ n. tally_shape n (object_shape c.in-Ok.object) c.args.walk.now.tally) (c.levels_of.ensures ∙ inner)) opened.is_read opened.has
-    ∙ rw inner at c.validate_rows.ensures
+    let inner = inner_levels c.args.nesting_limit c.one_level_less-inner.result c.ranges.nesting_limit (record { sfits = c.one_level_less-inner.type_inv }) c.one_level_less-inner.ensures in
+    object_opens r c.args.walk.now.lim c.read_object.new.lim c.in-Ok.object c.args.walk.now.tally c.add.new.self _ c.in-Some.rows (object_level c.in-Ok.object opened) refl (c.add.ensures ∙ ap (λ n. tally_shape n (object_shape c.in-Ok.object) c.args.walk.now.tally) (c.levels_left.ensures ∙ inner)) opened.is_read opened.has
+    ∙ rw inner at c.validate_elements.ensures
 
 pub validate_pointers-returns-in_err-validate_pointer : goal.validate_pointers-returns-in_err-validate_pointer
 validate_pointers-returns-in_err-validate_pointer g t c =
@@ -71,14 +71,14 @@ validate_pointers-returns g t c =
     let nl = to_z-of_z w32 c.args.nesting_limit c.ranges.nesting_limit in
     rw nl at (c.loop-i.invariant 0 (omega (arith, c.loop-i-test.false, c.loop-i.auto.i-end)))
 
-pub validate_rows-returns-then-pointers-eq0 : goal.validate_rows-returns-then-pointers-eq0
-validate_rows-returns-then-pointers-eq0 g t c =
+pub validate_elements-returns-then-pointers-eq0 : goal.validate_elements-returns-then-pointers-eq0
+validate_elements-returns-then-pointers-eq0 g t c =
     let r : Reading = reading g.A.ReaderArena c.args.from.now in
     let d : ℕ = c.args.data_words in
     rw c.if-pointers-eq0.true (no_pointers (validate_within r.levels) r d c.args.count c.args.walk.now.tally c.args.walk.now.lim)
 
-pub validate_rows-returns-in_err-validate_pointers : goal.validate_rows-returns-in_err-validate_pointers
-validate_rows-returns-in_err-validate_pointers g t c =
+pub validate_elements-returns-in_err-validate_pointers : goal.validate_elements-returns-in_err-validate_pointers
+validate_elements-returns-in_err-validate_pointers g t c =
     let r : Reading = reading g.A.ReaderArena c.args.from.now in
     let d : ℕ = c.args.data_words in
     let q : ℕ = c.args.pointers in
@@ -91,8 +91,8 @@ validate_rows-returns-in_err-validate_pointers g t c =
     ∙ row_stops (validate_within r.levels) (place_past r (i * (d + q))) d q (c.args.count - i - 1) _ _ _ _ stops
     ∙ ap (λ x. (x, c.validate_pointers.new.walk.lim)) (sym (stopped_result c.from_residual.result _ c.from_residual.ensures.0))
 
-pub validate_rows-loop-i-preserved : goal.validate_rows-loop-i-preserved
-validate_rows-loop-i-preserved g t c =
+pub validate_elements-loop-i-preserved : goal.validate_elements-loop-i-preserved
+validate_elements-loop-i-preserved g t c =
     let r : Reading = reading g.A.ReaderArena c.args.from.now in
     let d : ℕ = c.args.data_words in
     let q : ℕ = c.args.pointers in
@@ -101,8 +101,8 @@ validate_rows-loop-i-preserved g t c =
     let nl = to_z-of_z w32 c.args.from.now.nesting_limit (search rules) in
     λ k e. c.loop-i.invariant (suc k) (omega (arith, e)) ∙ row_more (validate_within r.levels) r d q c.loop-i.i (c.loop-i.i + 1) k _ _ _ _ refl (rw (at, nl) at c.in_ok-validate_pointers.ensures)
 
-pub validate_rows-returns : goal.validate_rows-returns
-validate_rows-returns g t c =
+pub validate_elements-returns : goal.validate_elements-returns
+validate_elements-returns g t c =
     c.loop-i.invariant 0 (omega (arith, c.loop-i-test.false, c.loop-i.auto.i-end))
 
 pub validate_struct-returns-in-Err : goal.validate_struct-returns-in-Err
@@ -115,9 +115,9 @@ validate_struct-returns-then-count-eq0 g t c =
     let r : Reading = reading_on g.A.ReaderArena c.args.from.now c.args.at c.args.nesting_limit in
     let nl = to_z-of_z w32 c.args.nesting_limit c.ranges.nesting_limit in
     let entered : EntersNear Value r c.args.walk.now.lim c.read_near_struct.new.lim c.in-Ok.start = rw nl at c.in-Ok.ensures.object in
-    let inner = inner_levels c.args.nesting_limit c.less-inner.result c.ranges.nesting_limit (record { sfits = c.less-inner.type_inv }) c.less-inner.ensures in
+    let inner = inner_levels c.args.nesting_limit c.one_level_less-inner.result c.ranges.nesting_limit (record { sfits = c.one_level_less-inner.type_inv }) c.one_level_less-inner.ensures in
     let words : c.total.result ≡ c.from.result + c.from-count.result = c.total.ensures ∙ ap₂ (λ d q. d + q) (sym c.from.ensures) (sym c.from-count.ensures) in
-    let added : c.add_words.new.self ≡ tally_words (pred r.levels) (c.from.result + c.from-count.result) c.args.walk.now.tally = c.add_words.ensures ∙ ap₂ (λ n w. tally_words n w c.args.walk.now.tally) (c.levels_of.ensures ∙ inner) words in
+    let added : c.add_words.new.self ≡ tally_words (pred r.levels) (c.from.result + c.from-count.result) c.args.walk.now.tally = c.add_words.ensures ∙ ap₂ (λ n w. tally_words n w c.args.walk.now.tally) (c.levels_left.ensures ∙ inner) words in
     struct_opens c.args.walk.now.tally c.add_words.new.self (pred r.levels) _ _ c.requires.word c.requires.is_struct entered (c.from.ensures ∙ c.struct_size-size.ensures.data_of) (c.from-count.ensures ∙ c.struct_size-size.ensures.pointers_of) refl added
     ∙ rw c.if-count-eq0.true refl
 
@@ -126,8 +126,8 @@ validate_struct-returns g t c =
     let r : Reading = reading_on g.A.ReaderArena c.args.from.now c.args.at c.args.nesting_limit in
     let nl = to_z-of_z w32 c.args.nesting_limit c.ranges.nesting_limit in
     let entered : EntersNear Value r c.args.walk.now.lim c.read_near_struct.new.lim c.in-Ok.start = rw nl at c.in-Ok.ensures.object in
-    let inner = inner_levels c.args.nesting_limit c.less-inner.result c.ranges.nesting_limit (record { sfits = c.less-inner.type_inv }) c.less-inner.ensures in
+    let inner = inner_levels c.args.nesting_limit c.one_level_less-inner.result c.ranges.nesting_limit (record { sfits = c.one_level_less-inner.type_inv }) c.one_level_less-inner.ensures in
     let words : c.total.result ≡ c.from.result + c.from-count.result = c.total.ensures ∙ ap₂ (λ d q. d + q) (sym c.from.ensures) (sym c.from-count.ensures) in
-    let added : c.add_words.new.self ≡ tally_words (pred r.levels) (c.from.result + c.from-count.result) c.args.walk.now.tally = c.add_words.ensures ∙ ap₂ (λ n w. tally_words n w c.args.walk.now.tally) (c.levels_of.ensures ∙ inner) words in
+    let added : c.add_words.new.self ≡ tally_words (pred r.levels) (c.from.result + c.from-count.result) c.args.walk.now.tally = c.add_words.ensures ∙ ap₂ (λ n w. tally_words n w c.args.walk.now.tally) (c.levels_left.ensures ∙ inner) words in
     struct_opens c.args.walk.now.tally c.add_words.new.self (pred r.levels) _ _ c.requires.word c.requires.is_struct entered (c.from.ensures ∙ c.struct_size-size.ensures.data_of) (c.from-count.ensures ∙ c.struct_size-size.ensures.pointers_of) refl added
     ∙ rw inner at c.validate_pointers.ensures

@@ -17,16 +17,16 @@ decreases-validate_pointer g l = 6 * levels l.nesting_limit + 1
 abbrev pub decreases-validate_pointers : goal.decreases-validate_pointers
 decreases-validate_pointers g l = 6 * levels l.nesting_limit + 2
 
-abbrev pub decreases-validate_rows : goal.decreases-validate_rows
-decreases-validate_rows g l = 6 * levels l.from.now.nesting_limit + 3
+abbrev pub decreases-validate_elements : goal.decreases-validate_elements
+decreases-validate_elements g l = 6 * levels l.from.now.nesting_limit + 3
 
 abbrev pub invariant-validate_pointers-loop-i : goal.invariant-validate_pointers-loop-i
 invariant-validate_pointers-loop-i g l =
     let r : Reading = reading_on g.A.ReaderArena l.from l.at l.nesting_limit in
     (k : ℕ) → l.i + k ≡ l.count → validate_pointers l.count r l.fn.walk.tally l.fn.walk.lim ≡ validate_pointers k (place_past r l.i) l.walk.tally l.walk.lim
 
-abbrev pub invariant-validate_rows-loop-i : goal.invariant-validate_rows-loop-i
-invariant-validate_rows-loop-i g l =
+abbrev pub invariant-validate_elements-loop-i : goal.invariant-validate_elements-loop-i
+invariant-validate_elements-loop-i g l =
     let r : Reading = reading g.A.ReaderArena l.from in
     let d : ℕ = l.data_words in
     let q : ℕ = l.pointers in

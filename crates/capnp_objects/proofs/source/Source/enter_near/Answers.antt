@@ -11,8 +11,8 @@ use Rattle.capnp_objects.specs.Source.{levels}
 use Rattle.capnp_objects.proofs.Landings.{near_found}
 use Rattle.capnp_objects.proofs.source.Source.enter_near.Goals as goal
 
-pub claim-requires : goal.claim-requires
-claim-requires g c =
+pub charge_claim-requires : goal.charge_claim-requires
+charge_claim-requires g c =
     let r : Reading = pointer_at g.A.ReaderArena c.args.self c.args.pointer in
     let near : kind (word_of r) < 2 = rw c.requires.word.there at c.requires.near in
     c.requires.claimed ∙ ap claimed_words (c.requires.word.there ∙ sym (ap (λ a. a.word) (near_found r (found_target c.in_ok-found.found) c.args.lim.now c.follow.new.lim near c.in_ok-found.ensures.computed)))
@@ -21,16 +21,16 @@ pub returns : goal.returns
 returns g c =
     let r : Reading = pointer_at g.A.ReaderArena c.args.self c.args.pointer in
     let near : kind (word_of r) < 2 = rw c.requires.word.there at c.requires.near in
-    let depth : c.depth_of.result ≡ r.levels = c.depth_of.ensures ∙ ap levels (to_z-of_z w32 c.args.pointer.nesting_limit (search rules)) in
+    let depth : c.levels_left.result ≡ r.levels = c.levels_left.ensures ∙ ap levels (to_z-of_z w32 c.args.pointer.nesting_limit (search rules)) in
     ap (onward (enter_plain r)) c.in_ok-found.ensures.computed
-    ∙ ap (onward (λ _. answer (shape r.segments (found_target c.in_ok-found.found)))) (rw depth at c.in_ok-claim.ensures)
-    ∙ ap (λ a. (Ok (shape r.segments a), c.claim.new.lim)) (near_found r (found_target c.in_ok-found.found) c.args.lim.now c.follow.new.lim near c.in_ok-found.ensures.computed)
+    ∙ ap (onward (λ _. answer (shape r.segments (found_target c.in_ok-found.found)))) (rw depth at c.in_ok-charge_claim.ensures)
+    ∙ ap (λ a. (Ok (shape r.segments a), c.charge_claim.new.lim)) (near_found r (found_target c.in_ok-found.found) c.args.lim.now c.follow.new.lim near c.in_ok-found.ensures.computed)
 
-pub returns-in_err-claim : goal.returns-in_err-claim
-returns-in_err-claim g c =
+pub returns-in_err-charge_claim : goal.returns-in_err-charge_claim
+returns-in_err-charge_claim g c =
     let r : Reading = pointer_at g.A.ReaderArena c.args.self c.args.pointer in
-    let depth : c.depth_of.result ≡ r.levels = c.depth_of.ensures ∙ ap levels (to_z-of_z w32 c.args.pointer.nesting_limit (search rules)) in
-    let p = err_from_is_err_and c.from_residual-in_err-claim.result c.from_residual-in_err-claim.ensures.1 in
+    let depth : c.levels_left.result ≡ r.levels = c.levels_left.ensures ∙ ap levels (to_z-of_z w32 c.args.pointer.nesting_limit (search rules)) in
+    let p = err_from_is_err_and c.from_residual-in_err-charge_claim.result c.from_residual-in_err-charge_claim.ensures.1 in
     rw (p.1, p.2) (
     ap (onward (enter_plain r)) c.in_ok-found.ensures.computed
-    ∙ ap (onward (λ _. answer (shape r.segments (found_target c.in_ok-found.found)))) (rw depth at c.in_err-claim.ensures))
+    ∙ ap (onward (λ _. answer (shape r.segments (found_target c.in_ok-found.found)))) (rw depth at c.in_err-charge_claim.ensures))

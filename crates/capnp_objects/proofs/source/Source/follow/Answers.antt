@@ -12,13 +12,13 @@ pub returns-in-Arena-clause-computed : goal.returns-in-Arena-clause-computed
 returns-in-Arena-clause-computed g c =
     let r : Reading = pointer_at g.A.ReaderArena c.args.self c.args.pointer in
     let is_far : kind c.args.pointer.word.0 ≡ 2 = search rules in
-    far_followed r c.args.pointer.word.0 c.args.lim.now c.requires.there is_far (rw c.in-Arena.is refl) ∙ rw (← c.count.ensures, c.in-Arena.is) c.follow_far.ensures.computed
+    far_followed r c.args.pointer.word.0 c.args.lim.now c.requires.there is_far (rw c.in-Arena.is refl) ∙ rw (← c.count_pointer.ensures, c.in-Arena.is) c.follow_far.ensures.computed
 
 pub returns-in-Default-clause-computed : goal.returns-in-Default-clause-computed
 returns-in-Default-clause-computed g c =
     let is_far : kind c.args.pointer.word.0 ≡ 2 = search rules in
     default_refused g.A.ReaderArena c.args.pointer.place c.args.lim.now c.args.pointer.nesting_limit c.in-Default.is (segments_of_word c.requires) (rw c.requires.there at is_far) (rw c.requires.there at c.requires.small)
-    ∙ ap (λ y. (Err _, y)) (sym c.count.ensures)
+    ∙ ap (λ y. (Err _, y)) (sym c.count_pointer.ensures)
 
 pub returns-in-Some-clause-computed : goal.returns-in-Some-clause-computed
 returns-in-Some-clause-computed g c =
@@ -26,7 +26,7 @@ returns-in-Some-clause-computed g c =
     let other : kind c.args.pointer.word.0 ≢ 2 = search rules in
     let n : c.length.result ≡ length (segment r.segments c.args.pointer.place.segment) = c.length.ensures ∙ ap length c.requires.held.0 in
     let leads = rw n at (sym c.in-Some.ensures) in
-    near_followed r c.args.pointer.word.0 c.args.lim.now c.requires.there other ∙ rw (leads, ← c.count.ensures) refl
+    near_followed r c.args.pointer.word.0 c.args.lim.now c.requires.there other ∙ rw (leads, ← c.count_pointer.ensures) refl
 
 pub returns-in-None-clause-computed : goal.returns-in-None-clause-computed
 returns-in-None-clause-computed g c =
@@ -34,4 +34,4 @@ returns-in-None-clause-computed g c =
     let other : kind c.args.pointer.word.0 ≢ 2 = search rules in
     let n : c.length.result ≡ length (segment r.segments c.args.pointer.place.segment) = c.length.ensures ∙ ap length c.requires.held.0 in
     let leads = rw n at (sym c.in-None.ensures) in
-    near_followed r c.args.pointer.word.0 c.args.lim.now c.requires.there other ∙ rw (leads, ← c.count.ensures) refl
+    near_followed r c.args.pointer.word.0 c.args.lim.now c.requires.there other ∙ rw (leads, ← c.count_pointer.ensures) refl

@@ -11,8 +11,8 @@ use Rattle.capnp_objects.proofs.source.Source.measure_near.Goals as goal
 pub returns : goal.returns
 returns g c =
     let r : Reading = pointer_at g.A.ReaderArena c.args.self c.args.pointer in
-    let depth : c.depth_of.result ≡ r.levels = c.depth_of.ensures ∙ ap levels (to_z-of_z w32 c.args.pointer.nesting_limit (search rules)) in
-    let level : 0 < r.levels = rw depth at (let some : 0 < c.depth_of.result = omega (arith, c.if-depth_of-eq0.false) in some) in
+    let depth : c.levels_left.result ≡ r.levels = c.levels_left.ensures ∙ ap levels (to_z-of_z w32 c.args.pointer.nesting_limit (search rules)) in
+    let level : 0 < r.levels = rw depth at (let some : 0 < c.levels_left.result = omega (arith, c.if-levels_left-eq0.false) in some) in
     let some : word_of r ≢ 0 = rw c.requires.word.there at c.requires.word.some in
     let near : kind (word_of r) < 2 = rw c.requires.word.there at c.requires.near in
     let bits : IsVoidList (word_of r) → ⊥ = rw c.requires.word.there at c.requires.of_bits in

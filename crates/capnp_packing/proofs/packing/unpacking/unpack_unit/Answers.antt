@@ -6,13 +6,13 @@ use Rattle.capnp_packing.proofs.packing.unpacking.unpack_unit.Goals as goal
 
 pub returns-else-tag : goal.returns-else-tag
 returns-else-tag c =
-    let leads = word_unit c.args.packed.now c.put_word-taken.new.to _ c.put_word-taken.result c.requires.unit c.if-tag-eq0.false c.if-tag.false c.put_word-taken.ensures.taken c.put_word-taken.ensures.within (search rules) c.put_word-taken.ensures.bytes in
+    let leads = word_unit c.args.packed.now c.unpack_tagged_word-taken.new.to _ c.unpack_tagged_word-taken.result c.requires.unit c.if-tag-eq0.false c.if-tag.false c.unpack_tagged_word-taken.ensures.taken c.unpack_tagged_word-taken.ensures.within (search rules) c.unpack_tagged_word-taken.ensures.bytes in
     record {
       taken = search rules;
       some = search rules;
       within = search rules;
       full = search rules;
-      exact = led_taken c.args.packed.now _ (1 + c.put_word-taken.result) 8 Tag leads (search rules) (search rules) refl;
+      exact = led_taken c.args.packed.now _ (1 + c.unpack_tagged_word-taken.result) 8 Tag leads (search rules) (search rules) refl;
       leads = leads;
     }
 

@@ -15,13 +15,13 @@ use Rattle.capnp_readers.proofs.readers.PointerReader.get_data.Goals as goal
 pub returns-in-Flat-clause-read : goal.returns-in-Flat-clause-read
 returns-in-Flat-clause-read g c =
     let given : c.in-Flat.size ≡ Byte = rw c.in-Flat.is at c.in_ok-found.ensures.given in
-    let read : IsReadAt (read_by g.A.ReaderArena c.in_ok-found.found.0) c.args.lim.now c.expect.new.lim (Flat c.in-Flat.start c.in-Flat.size c.in-Flat.count) = record { object = rw c.in-Flat.is at c.in_ok-found.ensures.object } in
-    (c.in_ok-found.found.0, c.in_ok-found.ensures.read, inr (data_shown c.are_bytes.ensures c.bytes_at-bytes.ensures (rw given at read)))
+    let read : IsReadAt (read_by g.A.ReaderArena c.in_ok-found.found.0) c.args.lim.now c.read_as_expected.new.lim (Flat c.in-Flat.start c.in-Flat.size c.in-Flat.count) = record { object = rw c.in-Flat.is at c.in_ok-found.ensures.object } in
+    (c.in_ok-found.found.0, c.in_ok-found.ensures.read, inr (data_shown c.bytes_are_below_256.ensures c.bytes_at-bytes.ensures (rw given at read)))
 
 pub returns-in_default-clause-read : goal.returns-in_default-clause-read
 returns-in_default-clause-read g c =
     let r = read_by g.A.ReaderArena c.in_ok-found.found.0 in
-    let read : IsReadAt r c.args.lim.now c.expect.new.lim c.in_ok-found.found.1 = record { object = c.in_ok-found.ensures.object } in
+    let read : IsReadAt r c.args.lim.now c.read_as_expected.new.lim c.in_ok-found.found.1 = record { object = c.in_ok-found.ensures.object } in
     let null = no_data r.levels c.in_ok-found.found.1 c.in_ok-found.ensures.given read c.in_default.not-Flat in
     (c.in_ok-found.found.0, c.in_ok-found.ensures.read, inl (null.0, null.1, refl))
 

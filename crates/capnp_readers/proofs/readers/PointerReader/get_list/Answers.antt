@@ -14,14 +14,14 @@ use Rattle.capnp_readers.proofs.readers.PointerReader.get_list.Goals as goal
 pub target_of-requires : goal.target_of-requires
 target_of-requires g c =
     let m = c.args.lim.now in
-    let m' = c.expect.new.lim in
+    let m' = c.read_as_expected.new.lim in
     let read : IsReadAt (read_by g.A.ReaderArena c.in_ok-found.found.0) m m' c.in_ok-found.found.1 = record { object = c.in_ok-found.ensures.object } in
     record { read = (m, m', list_given c.args.expected_element_size c.in_ok-found.found.1 c.in_ok-found.ensures.given read) }
 
 pub returns-in-List-clause-read : goal.returns-in-List-clause-read
 returns-in-List-clause-read g c =
     let m = c.args.lim.now in
-    let m' = c.expect.new.lim in
+    let m' = c.read_as_expected.new.lim in
     let read : IsReadAt (read_by g.A.ReaderArena c.in_ok-found.found.0) m m' c.in_ok-found.found.1 = record { object = c.in_ok-found.ensures.object } in
     let target = c.target_of.ensures m m' (list_given c.args.expected_element_size c.in_ok-found.found.1 c.in_ok-found.ensures.given read) in
     let shown : IsShown g.A.ReaderArena c.in_ok-found.found.0 m m' c.in_ok-found.found.1 (List c.in-List.found) = record { read = read; target = rw c.in-List.is at target } in
@@ -31,7 +31,7 @@ returns-in-List-clause-read g c =
 pub returns-in_default-clause-read : goal.returns-in_default-clause-read
 returns-in_default-clause-read g c =
     let m = c.args.lim.now in
-    let m' = c.expect.new.lim in
+    let m' = c.read_as_expected.new.lim in
     let read : IsReadAt (read_by g.A.ReaderArena c.in_ok-found.found.0) m m' c.in_ok-found.found.1 = record { object = c.in_ok-found.ensures.object } in
     let target = c.target_of.ensures m m' (list_given c.args.expected_element_size c.in_ok-found.found.1 c.in_ok-found.ensures.given read) in
     let shown : IsShown g.A.ReaderArena c.in_ok-found.found.0 m m' c.in_ok-found.found.1 c.target_of.result = record { read = read; target = target } in

@@ -13,21 +13,21 @@ use Rattle.capnp_readers.proofs.readers.PointerReader.get_struct.Goals as goal
 pub target_of-requires : goal.target_of-requires
 target_of-requires g c =
     let m = c.args.lim.now in
-    let m' = c.expect.new.lim in
+    let m' = c.read_as_expected.new.lim in
     let read : IsReadAt (read_by g.A.ReaderArena c.in_ok-found.found.0) m m' c.in_ok-found.found.1 = record { object = c.in_ok-found.ensures.object } in
     record { read = (m, m', struct_given c.in_ok-found.found.1 c.in_ok-found.ensures.given read) }
 
 pub returns-in-Struct-clause-read : goal.returns-in-Struct-clause-read
 returns-in-Struct-clause-read g c =
     let m = c.args.lim.now in
-    let m' = c.expect.new.lim in
+    let m' = c.read_as_expected.new.lim in
     let read : IsReadAt (read_by g.A.ReaderArena c.in_ok-found.found.0) m m' c.in_ok-found.found.1 = record { object = c.in_ok-found.ensures.object } in
     (c.in_ok-found.found.0, c.in_ok-found.ensures.read, inr (rw c.in-Struct.is at (c.target_of.ensures m m' (struct_given c.in_ok-found.found.1 c.in_ok-found.ensures.given read))))
 
 pub returns-in_default-clause-read : goal.returns-in_default-clause-read
 returns-in_default-clause-read g c =
     let m = c.args.lim.now in
-    let m' = c.expect.new.lim in
+    let m' = c.read_as_expected.new.lim in
     let read : IsReadAt (read_by g.A.ReaderArena c.in_ok-found.found.0) m m' c.in_ok-found.found.1 = record { object = c.in_ok-found.ensures.object } in
     let target = c.target_of.ensures m m' (struct_given c.in_ok-found.found.1 c.in_ok-found.ensures.given read) in
     let shown : IsShown g.A.ReaderArena c.in_ok-found.found.0 m m' c.in_ok-found.found.1 c.target_of.result = record { read = read; target = target } in

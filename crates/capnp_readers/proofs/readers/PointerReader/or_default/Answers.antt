@@ -11,4 +11,4 @@ pub returns-else-is_null : goal.returns-else-is_null
 returns-else-is_null g c = of_pointer (inr (λ e. false≢true (c.if-is_null.ensures.1 e))) refl
 
 pub returns-then-is_null : goal.returns-then-is_null
-returns-then-is_null g c = read_default g.A.ReaderArena c.in-Some.bytes c.in-Some.is c.default_of.ensures
+returns-then-is_null g c = read_default g.A.ReaderArena c.in-Some.bytes c.in-Some.is c.default_pointer.ensures

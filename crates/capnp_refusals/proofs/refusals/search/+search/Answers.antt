@@ -73,62 +73,62 @@ search_object-returns-in-Err g t c =
     let nl = to_z-of_z w32 c.args.nesting_limit c.ranges.nesting_limit in
     ends_here c.args.demands r c.args.lim.now c.read_object.new.lim c.in-Err.refusal (unread c.args.demands r c.args.lim.now c.read_object.new.lim c.in-Err.refusal (rw nl at c.in-Err.ensures.computed))
 
-pub search_object-returns-in-Err-permit : goal.search_object-returns-in-Err-permit
-search_object-returns-in-Err-permit g t c =
+pub search_object-returns-in-Err-refuse_capability : goal.search_object-returns-in-Err-refuse_capability
+search_object-returns-in-Err-refuse_capability g t c =
     let r : Reading = reading_on g.A.ReaderArena c.args.from.now c.args.at c.args.nesting_limit in
     let nl = to_z-of_z w32 c.args.nesting_limit c.ranges.nesting_limit in
-    ends_here c.args.demands r c.args.lim.now c.read_object.new.lim c.in-Err-permit.refusal (unmet c.args.demands r c.args.lim.now c.read_object.new.lim (object_shape c.in-Ok.object) c.in-Err-permit.refusal (rw nl at c.in-Ok.ensures.computed) (sym c.in-Err-permit.ensures))
+    ends_here c.args.demands r c.args.lim.now c.read_object.new.lim c.in-Err-refuse_capability.refusal (unmet c.args.demands r c.args.lim.now c.read_object.new.lim (object_shape c.in-Ok.object) c.in-Err-refuse_capability.refusal (rw nl at c.in-Ok.ensures.computed) (sym c.in-Err-refuse_capability.ensures))
 
 pub search_object-returns-in-Null : goal.search_object-returns-in-Null
 search_object-returns-in-Null g t c =
     let r : Reading = reading_on g.A.ReaderArena c.args.from.now c.args.at c.args.nesting_limit in
     let nl = to_z-of_z w32 c.args.nesting_limit c.ranges.nesting_limit in
-    leaf_object c.args.demands r c.args.lim.now c.read_object.new.lim c.in-Ok.object _ c.in-Null.is (λ f s y. refl) (rw nl at c.in-Ok.ensures.computed) (sym c.in-Ok-permit.ensures)
+    leaf_object c.args.demands r c.args.lim.now c.read_object.new.lim c.in-Ok.object _ c.in-Null.is (λ f s y. refl) (rw nl at c.in-Ok.ensures.computed) (sym c.in-Ok-refuse_capability.ensures)
 
 pub search_object-returns-in-Capability : goal.search_object-returns-in-Capability
 search_object-returns-in-Capability g t c =
     let r : Reading = reading_on g.A.ReaderArena c.args.from.now c.args.at c.args.nesting_limit in
     let nl = to_z-of_z w32 c.args.nesting_limit c.ranges.nesting_limit in
-    leaf_object c.args.demands r c.args.lim.now c.read_object.new.lim c.in-Ok.object _ c.in-Capability.is (λ f s y. refl) (rw nl at c.in-Ok.ensures.computed) (sym c.in-Ok-permit.ensures)
+    leaf_object c.args.demands r c.args.lim.now c.read_object.new.lim c.in-Ok.object _ c.in-Capability.is (λ f s y. refl) (rw nl at c.in-Ok.ensures.computed) (sym c.in-Ok-refuse_capability.ensures)
 
 pub search_object-returns-in-Flat : goal.search_object-returns-in-Flat
 search_object-returns-in-Flat g t c =
     let r : Reading = reading_on g.A.ReaderArena c.args.from.now c.args.at c.args.nesting_limit in
     let nl = to_z-of_z w32 c.args.nesting_limit c.ranges.nesting_limit in
-    leaf_object c.args.demands r c.args.lim.now c.read_object.new.lim c.in-Ok.object _ c.in-Flat.is (λ f s y. refl) (rw nl at c.in-Ok.ensures.computed) (sym c.in-Ok-permit.ensures)
+    leaf_object c.args.demands r c.args.lim.now c.read_object.new.lim c.in-Ok.object _ c.in-Flat.is (λ f s y. refl) (rw nl at c.in-Ok.ensures.computed) (sym c.in-Ok-refuse_capability.ensures)
 
 pub search_object-returns-in-Struct : goal.search_object-returns-in-Struct
 search_object-returns-in-Struct g t c =
     let r : Reading = reading_on g.A.ReaderArena c.args.from.now c.args.at c.args.nesting_limit in
     let nl = to_z-of_z w32 c.args.nesting_limit c.ranges.nesting_limit in
-    let inner = inner_levels c.args.nesting_limit c.less-inner.result c.ranges.nesting_limit (record { sfits = c.less-inner.type_inv }) c.less-inner.ensures in
+    let inner = inner_levels c.args.nesting_limit c.one_level_less-inner.result c.ranges.nesting_limit (record { sfits = c.one_level_less-inner.type_inv }) c.one_level_less-inner.ensures in
     let object : IsObject c.args.demands.purpose r c.args.lim.now c.read_object.new.lim c.in-Ok.object = rw nl at c.in-Ok.ensures.object in
-    struct_opens c.args.demands r c.args.lim.now c.read_object.new.lim c.in-Ok.object c.in-Struct.start c.in-Struct.size c.from-words.result c.from-pointers.result c.in-Struct.is c.from-words.ensures c.from-pointers.ensures object (rw nl at c.in-Ok.ensures.computed) (sym c.in-Ok-permit.ensures)
+    struct_opens c.args.demands r c.args.lim.now c.read_object.new.lim c.in-Ok.object c.in-Struct.start c.in-Struct.size c.from-words.result c.from-pointers.result c.in-Struct.is c.from-words.ensures c.from-pointers.ensures object (rw nl at c.in-Ok.ensures.computed) (sym c.in-Ok-refuse_capability.ensures)
     ∙ subst (λ n. search_elements c.args.demands c.from-words.result c.from-pointers.result 1 (record r { levels = n; segment = c.in-Struct.start.segment; at = c.in-Struct.start.at }) c.read_object.new.lim ≡ (Ok c.search_elements.result, c.search_elements.new.lim)) inner c.search_elements.ensures
 
 pub search_object-returns-in-Pointers : goal.search_object-returns-in-Pointers
 search_object-returns-in-Pointers g t c =
     let r : Reading = reading_on g.A.ReaderArena c.args.from.now c.args.at c.args.nesting_limit in
     let nl = to_z-of_z w32 c.args.nesting_limit c.ranges.nesting_limit in
-    let inner = inner_levels c.args.nesting_limit c.less-inner.result c.ranges.nesting_limit (record { sfits = c.less-inner.type_inv }) c.less-inner.ensures in
+    let inner = inner_levels c.args.nesting_limit c.one_level_less-inner.result c.ranges.nesting_limit (record { sfits = c.one_level_less-inner.type_inv }) c.one_level_less-inner.ensures in
     let object : IsObject c.args.demands.purpose r c.args.lim.now c.read_object.new.lim c.in-Ok.object = rw nl at c.in-Ok.ensures.object in
-    pointers_open c.args.demands r c.args.lim.now c.read_object.new.lim c.in-Ok.object c.in-Pointers.start c.in-Pointers.count c.in-Pointers.is object (rw nl at c.in-Ok.ensures.computed) (sym c.in-Ok-permit.ensures)
+    pointers_open c.args.demands r c.args.lim.now c.read_object.new.lim c.in-Ok.object c.in-Pointers.start c.in-Pointers.count c.in-Pointers.is object (rw nl at c.in-Ok.ensures.computed) (sym c.in-Ok-refuse_capability.ensures)
     ∙ subst (λ n. search_elements c.args.demands 0 c.in-Pointers.count 1 (record r { levels = n; segment = c.in-Pointers.start.segment; at = c.in-Pointers.start.at }) c.read_object.new.lim ≡ (Ok c.search_elements-in-Pointers.result, c.search_elements-in-Pointers.new.lim)) inner c.search_elements-in-Pointers.ensures
 
 pub search_object-returns-in-Structs : goal.search_object-returns-in-Structs
 search_object-returns-in-Structs g t c =
     let r : Reading = reading_on g.A.ReaderArena c.args.from.now c.args.at c.args.nesting_limit in
     let nl = to_z-of_z w32 c.args.nesting_limit c.ranges.nesting_limit in
-    let inner = inner_levels c.args.nesting_limit c.less-inner.result c.ranges.nesting_limit (record { sfits = c.less-inner.type_inv }) c.less-inner.ensures in
+    let inner = inner_levels c.args.nesting_limit c.one_level_less-inner.result c.ranges.nesting_limit (record { sfits = c.one_level_less-inner.type_inv }) c.one_level_less-inner.ensures in
     let object : IsObject c.args.demands.purpose r c.args.lim.now c.read_object.new.lim c.in-Ok.object = rw nl at c.in-Ok.ensures.object in
-    structs_open c.args.demands r c.args.lim.now c.read_object.new.lim c.in-Ok.object c.in-Structs.start c.in-Structs.size c.in-Structs.count c.from-data.result c.from-each.result c.in-Structs.is c.from-data.ensures c.from-each.ensures object (rw nl at c.in-Ok.ensures.computed) (sym c.in-Ok-permit.ensures)
+    structs_open c.args.demands r c.args.lim.now c.read_object.new.lim c.in-Ok.object c.in-Structs.start c.in-Structs.size c.in-Structs.count c.from-data.result c.from-each.result c.in-Structs.is c.from-data.ensures c.from-each.ensures object (rw nl at c.in-Ok.ensures.computed) (sym c.in-Ok-refuse_capability.ensures)
     ∙ rw inner at c.search_elements-in-Structs.ensures
 
 pub search_object-search_elements-requires-in-Structs : goal.search_object-search_elements-requires-in-Structs
 search_object-search_elements-requires-in-Structs g t c =
     let r : Reading = reading_on g.A.ReaderArena c.args.from.now c.args.at c.args.nesting_limit in
     let nl = to_z-of_z w32 c.args.nesting_limit c.ranges.nesting_limit in
-    let inner = inner_levels c.args.nesting_limit c.less-inner.result c.ranges.nesting_limit (record { sfits = c.less-inner.type_inv }) c.less-inner.ensures in
+    let inner = inner_levels c.args.nesting_limit c.one_level_less-inner.result c.ranges.nesting_limit (record { sfits = c.one_level_less-inner.type_inv }) c.one_level_less-inner.ensures in
     let object : IsObject c.args.demands.purpose r c.args.lim.now c.read_object.new.lim c.in-Ok.object = rw nl at c.in-Ok.ensures.object in
     let inside = structs_inside c.args.demands.purpose r c.args.lim.now c.read_object.new.lim c.in-Ok.object c.in-Structs.start c.in-Structs.size c.in-Structs.count c.from-data.result c.from-each.result c.in-Structs.is c.from-data.ensures c.from-each.ensures object in
     let level = structs_level c.args.demands.purpose r c.args.lim.now c.read_object.new.lim c.in-Ok.object c.in-Structs.start c.in-Structs.size c.in-Structs.count c.in-Structs.is object in

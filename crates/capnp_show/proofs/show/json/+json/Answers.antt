@@ -73,7 +73,7 @@ pub json_object-returns-in-Flat : goal.json_object-returns-in-Flat
 json_object-returns-in-Flat g t c =
     let r : Reading = reading g.A.ReaderArena c.args.from in
     let room = flat_room r c.in-Flat.start c.in-Flat.size c.in-Flat.count (subst (IsObjectRead r) c.in-Flat.is c.requires) in
-    λ plain. rw c.in-Flat.is (push_after c.args.json.now c.write_start_of.new.self c.push_flat.new.self ((c.in_ok-write_start_of.ensures plain).1) plain (rw (flat_same r c.in-Flat.start c.in-Flat.size c.in-Flat.count room.held) at c.push_flat.ensures))
+    λ plain. rw c.in-Flat.is (push_after c.args.json.now c.write_start_of.new.self c.push_primitive_list.new.self ((c.in_ok-write_start_of.ensures plain).1) plain (rw (flat_same r c.in-Flat.start c.in-Flat.size c.in-Flat.count room.held) at c.push_primitive_list.ensures))
 
 pub json_object-returns-in-Struct : goal.json_object-returns-in-Struct
 json_object-returns-in-Struct g t c =
@@ -102,7 +102,7 @@ pub json_struct-returns-in_err-push_data : goal.json_struct-returns-in_err-push_
 json_struct-returns-in_err-push_data g t c =
     let r : Reading = reading g.A.ReaderArena c.args.start in
     let d : ℕ = c.args.size.data_words in
-    let bytes = struct_data r c.args.start.place d c.from-words.result c.bytes_at-data.result.now c.args.start.held (omega (arith, c.requires.inside)) c.from-words.ensures c.bytes_at-data.ensures c.are_bytes.ensures in
+    let bytes = struct_data r c.args.start.place d c.from-words.result c.bytes_at-data.result.now c.args.start.held (omega (arith, c.requires.inside)) c.from-words.ensures c.bytes_at-data.ensures c.bytes_are_below_256.ensures in
     λ plain.
     push_stops c.args.json.now _ _ _ c.from_residual.ensures.1 (adds_as (ap (λ bs. member (codes "data") (in_quotes (encode_lower bs)) ++ codes ",") bytes) c.in_err-push_data.ensures)
     (within_longer c.args.depth false c.args.size.pointers (place_past r d) (add (data_member (words_from r d) ++ codes ",") (shown_json c.args.json.now)))
@@ -111,8 +111,8 @@ pub json_struct-returns : goal.json_struct-returns
 json_struct-returns g t c =
     let r : Reading = reading g.A.ReaderArena c.args.start in
     let d : ℕ = c.args.size.data_words in
-    let bytes = struct_data r c.args.start.place d c.from-words.result c.bytes_at-data.result.now c.args.start.held (omega (arith, c.requires.inside)) c.from-words.ensures c.bytes_at-data.ensures c.are_bytes.ensures in
-    let at = c.pointer_after-first.ensures (omega (arith, c.from-words.ensures, c.requires.inside, c.args.start.held.1, c.args.start.held.2)) ∙ ap (place_past r) c.from-words.ensures in
+    let bytes = struct_data r c.args.start.place d c.from-words.result c.bytes_at-data.result.now c.args.start.held (omega (arith, c.requires.inside)) c.from-words.ensures c.bytes_at-data.ensures c.bytes_are_below_256.ensures in
+    let at = c.pointer_past-first.ensures (omega (arith, c.from-words.ensures, c.requires.inside, c.args.start.held.1, c.args.start.held.2)) ∙ ap (place_past r) c.from-words.ensures in
     λ plain.
     let begun = push_shows c.args.json.now c.push_data.new.self plain (adds_as (ap (λ bs. member (codes "data") (in_quotes (encode_lower bs)) ++ codes ",") bytes) c.in_ok-push_data.ensures) in
     shows_then (array_within c.args.depth false c.args.size.pointers) (place_past r d) _ _ at begun (rw c.from.ensures at c.json_pointers.ensures)
@@ -153,7 +153,7 @@ pub json_pointers-returns-in_err-json_pointer : goal.json_pointers-returns-in_er
 json_pointers-returns-in_err-json_pointer g t c =
     let r : Reading = reading g.A.ReaderArena c.args.first in
     let i : ℕ = c.loop-i.i in
-    let at = c.pointer_after.ensures (omega (arith, c.loop-i-test.true, c.requires.inside, c.args.first.held.1, c.args.first.held.2)) in
+    let at = c.pointer_past.ensures (omega (arith, c.loop-i-test.true, c.requires.inside, c.args.first.held.1, c.args.first.held.2)) in
     λ plain.
     let (kept, so_far) = c.loop-i.invariant plain in
     let whole = each_whole c.args.depth c.args.count i c.args.are_elements r (shown_json c.args.json.now) (shown_json c.loop-i.json) (omega (arith, c.if-depth-eq0.false)) c.loop-i-test.true so_far in
@@ -165,7 +165,7 @@ pub json_pointers-loop-i-preserved : goal.json_pointers-loop-i-preserved
 json_pointers-loop-i-preserved g t c =
     let r : Reading = reading g.A.ReaderArena c.args.first in
     let i : ℕ = c.loop-i.i in
-    let at = c.pointer_after.ensures (omega (arith, c.loop-i-test.true, c.requires.inside, c.args.first.held.1, c.args.first.held.2)) in
+    let at = c.pointer_past.ensures (omega (arith, c.loop-i-test.true, c.requires.inside, c.args.first.held.1, c.args.first.held.2)) in
     λ plain.
     let (kept, so_far) = c.loop-i.invariant plain in
     let entered = (c.in_ok-len.ensures (still_plain c.loop-i.json c.push_comma.new.self kept)).1 in
@@ -274,7 +274,7 @@ json_elements-returns-in_err-json_struct g t c =
     let i : ℕ = c.loop-i.i in
     let below = array_within c.args.depth in
     let room = row_inside c.args.first.place.at c.args.count i c.total.result d q _ c.requires.inside c.loop-i-test.true c.total.ensures in
-    let at = c.pointer_after-element.ensures (omega (arith, room, c.args.first.held.1, c.args.first.held.2)) ∙ ap (λ w. place_past r (i * w)) c.total.ensures in
+    let at = c.pointer_past-element.ensures (omega (arith, room, c.args.first.held.1, c.args.first.held.2)) ∙ ap (λ w. place_past r (i * w)) c.total.ensures in
     λ plain.
     let (kept, so_far) = c.loop-i.invariant plain in
     let whole = elements_whole below d q c.args.count i r (shown_json c.args.json.now) (shown_json c.loop-i.json) c.loop-i-test.true so_far in
@@ -299,7 +299,7 @@ json_elements-loop-i-preserved g t c =
     let i : ℕ = c.loop-i.i in
     let below = array_within c.args.depth in
     let room = row_inside c.args.first.place.at c.args.count i c.total.result d q _ c.requires.inside c.loop-i-test.true c.total.ensures in
-    let at = c.pointer_after-element.ensures (omega (arith, room, c.args.first.held.1, c.args.first.held.2)) ∙ ap (λ w. place_past r (i * w)) c.total.ensures in
+    let at = c.pointer_past-element.ensures (omega (arith, room, c.args.first.held.1, c.args.first.held.2)) ∙ ap (λ w. place_past r (i * w)) c.total.ensures in
     λ plain.
     let (kept, so_far) = c.loop-i.invariant plain in
     let entered = (c.in_ok-len.ensures (still_plain c.loop-i.json c.push_comma.new.self kept)).1 in
@@ -317,7 +317,7 @@ json_elements-json_struct-requires g t c κs within =
     let q : ℕ = c.args.size.pointers in
     let i : ℕ = c.loop-i.i in
     let room = row_inside c.args.first.place.at c.args.count i c.total.result d q _ c.requires.inside c.loop-i-test.true c.total.ensures in
-    let at = c.pointer_after-element.ensures (omega (arith, room, c.args.first.held.1, c.args.first.held.2)) ∙ ap (λ w. place_past r (i * w)) c.total.ensures in
+    let at = c.pointer_past-element.ensures (omega (arith, room, c.args.first.held.1, c.args.first.held.2)) ∙ ap (λ w. place_past r (i * w)) c.total.ensures in
     let there = row_inside c.args.first.place.at c.args.count i (d + q) d q _ c.requires.inside c.loop-i-test.true refl in
     (omega (arith, c.decreases), (within, subst (λ (z : Reading). z.at + (d + q) ≤ length (segment_read z)) (sym at) there))
 

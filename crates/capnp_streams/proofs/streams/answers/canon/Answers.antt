@@ -20,11 +20,11 @@ returns-in-Some-clause-answer g c =
     let value' = of_whole (λ path. IsValueAt (message (g.S.ReaderSegments.segments c.args.segments)) c.args.task.limits path t) (path_indexes c.args.task.path) none
     (rw (c.new-source.ensures.words, c.new-source.ensures.nesting) at value) in
     answer_written _ _ _ _ _ _ (written_words c.args.task.hex c.args.form (words_of c.in-Some.words.now)) c.write_canonical_words.ensures
-    c.if_written.ensures.written c.if_written.ensures.failed (refl, (t, value', few, ap (written_words c.args.task.hex c.args.form) is))
+    c.result_if_written.ensures.written c.result_if_written.ensures.failed (refl, (t, value', few, ap (written_words c.args.task.hex c.args.form) is))
 
 pub returns-in-Some-clause-memory : goal.returns-in-Some-clause-memory
 returns-in-Some-clause-memory g c =
-    memory_counted _ _ _ (Canon c.args.form) _ c.requires.there refl (written_uncounted (Canon c.args.form) _ _ _ c.if_written.ensures.written c.if_written.ensures.failed)
+    memory_counted _ _ _ (Canon c.args.form) _ c.requires.there refl (written_uncounted (Canon c.args.form) _ _ _ c.result_if_written.ensures.written c.result_if_written.ensures.failed)
 
 pub returns-clause-answer : goal.returns-clause-answer
 returns-clause-answer g c = rw c.new-source.ensures.words at c.canon_copy.ensures.answer

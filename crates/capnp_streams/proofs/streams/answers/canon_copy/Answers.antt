@@ -18,13 +18,13 @@ returns-in-Ok-clause-answer g c =
     let same : words_of c.canonical_bytes-words.result.now ≡ encoding (trim t) = cc in
     let few : length (encoding (trim t)) ≤ max_segment_words = omega (arith, ap length same, words c.canonical_bytes-words.result.now, c.canonical_bytes-words.ensures.short) in
     answer_written _ _ _ _ _ _ (written_words c.args.task.hex c.args.form (encoding (trim t))) (rw same at c.write_canonical_words-written.ensures)
-    c.if_written.ensures.written c.if_written.ensures.failed (refl, (t, value, few, refl))
+    c.result_if_written.ensures.written c.result_if_written.ensures.failed (refl, (t, value, few, refl))
 
 pub returns-in-Ok-clause-memory : goal.returns-in-Ok-clause-memory
 returns-in-Ok-clause-memory g c =
     let here : c.args.memory.now.allocator ≡ Some c.in-Some.allocator = search rules in
     memory_counted _ _ _ (Canon c.args.form) _ refl (rw here (c.into_allocator.ensures.refusals ∙ c.in-Ok.ensures.granted))
-    (written_uncounted (Canon c.args.form) _ _ _ c.if_written.ensures.written c.if_written.ensures.failed)
+    (written_uncounted (Canon c.args.form) _ _ _ c.result_if_written.ensures.written c.result_if_written.ensures.failed)
 
 pub returns-in-Err-clause-answer : goal.returns-in-Err-clause-answer
 returns-in-Err-clause-answer g c = answer_refuses _ _ _ _ (or_memory (rw c.requires.nesting at c.in-Err.ensures.refused))

@@ -9,17 +9,17 @@ use Rattle.capnp_streams.proofs.streams.answers.digest.Goals as goal
 
 pub returns-in-Ok-clause-answer : goal.returns-in-Ok-clause-answer
 returns-in-Ok-clause-answer g c =
-    answer_written _ _ _ _ _ _ (hex_line c.in-Ok.digest) c.write_hex_line.ensures c.if_written.ensures.written c.if_written.ensures.failed
-    (refl, (c.in-Ok.digest, (rw c.in-Ok.is at c.digest_asked-digest.ensures.digest), refl))
+    answer_written _ _ _ _ _ _ (hex_line c.in-Ok.digest) c.write_hex_line.ensures c.result_if_written.ensures.written c.result_if_written.ensures.failed
+    (refl, (c.in-Ok.digest, (rw c.in-Ok.is at c.digest_for_task-digest.ensures.digest), refl))
 
 pub returns-in-Ok-clause-memory : goal.returns-in-Ok-clause-memory
 returns-in-Ok-clause-memory g c =
     let here : c.args.memory.now.allocator ≡ Some c.in-Some.allocator = search rules in
-    memory_counted _ _ _ Digest _ refl (rw here (rw c.in-Ok.is at c.digest_asked-digest.ensures.kept))
-    (written_uncounted Digest _ _ _ c.if_written.ensures.written c.if_written.ensures.failed)
+    memory_counted _ _ _ Digest _ refl (rw here (rw c.in-Ok.is at c.digest_for_task-digest.ensures.kept))
+    (written_uncounted Digest _ _ _ c.result_if_written.ensures.written c.result_if_written.ensures.failed)
 
 pub returns-in-Err-clause-answer : goal.returns-in-Err-clause-answer
-returns-in-Err-clause-answer g c = answer_refuses _ _ _ _ (or_memory (rw c.in-Err.is at c.digest_asked-digest.ensures.refused))
+returns-in-Err-clause-answer g c = answer_refuses _ _ _ _ (or_memory (rw c.in-Err.is at c.digest_for_task-digest.ensures.refused))
 
 pub returns-in-Err-clause-memory : goal.returns-in-Err-clause-memory
 returns-in-Err-clause-memory g c =
@@ -27,5 +27,5 @@ returns-in-Err-clause-memory g c =
     record {
       there = refl;
       kept = tt;
-      counted = rw here (copy_counted _ c.args.task.limits (path_indexes c.args.task.path) (rw c.in-Err.is at c.digest_asked-digest.ensures.refused));
+      counted = rw here (copy_counted _ c.args.task.limits (path_indexes c.args.task.path) (rw c.in-Err.is at c.digest_for_task-digest.ensures.refused));
     }

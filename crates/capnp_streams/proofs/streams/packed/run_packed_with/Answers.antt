@@ -26,5 +26,5 @@ returns-clause-refused g c =
 pub returns-in-Ok-clause-refused : goal.returns-in-Ok-clause-refused
 returns-in-Ok-clause-refused g c =
     let done = rw c.in-Ok.is at c.run_with-answered.ensures.done in
-    fails_behind _ _ _ _ c.in-Ok.summary c.stop_after-in-Err-finish.result c.new-input.ensures.remaining done
-    c.stop_after-in-Err-finish.ensures.answered c.stop_after-in-Err-finish.ensures.byte c.stop_after-in-Err-finish.ensures.fault
+    fails_behind _ _ _ _ c.in-Ok.summary c.stop_after-in-Err-is_whole_at_end.result c.new-input.ensures.remaining done
+    c.stop_after-in-Err-is_whole_at_end.ensures.answered c.stop_after-in-Err-is_whole_at_end.ensures.byte c.stop_after-in-Err-is_whole_at_end.ensures.fault

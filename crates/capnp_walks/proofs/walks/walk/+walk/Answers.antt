@@ -92,7 +92,7 @@ pub walk_object-returns-in-Struct : goal.walk_object-returns-in-Struct
 walk_object-returns-in-Struct g t c =
     let r : Reading = reading_on g.A.ReaderArena c.args.from.now c.args.at c.args.nesting_limit in
     let nl = to_z-of_z w32 c.args.nesting_limit c.ranges.nesting_limit in
-    let inner = inner_levels c.args.nesting_limit c.less-inner.result c.ranges.nesting_limit (record { sfits = c.less-inner.type_inv }) c.less-inner.ensures in
+    let inner = inner_levels c.args.nesting_limit c.one_level_less-inner.result c.ranges.nesting_limit (record { sfits = c.one_level_less-inner.type_inv }) c.one_level_less-inner.ensures in
     let object : IsObject Value r c.args.lim.now c.read_object.new.lim c.in-Ok.object = rw nl at c.in-Ok.ensures.object in
     struct_opens into_array c.args.parent r (c.args.objects.now, c.args.count.now) (c.add_object.new.objects, c.add_object.new.count) c.args.lim.now c.read_object.new.lim c.in-Ok.object c.in-Struct.start c.in-Struct.size c.from-words.result c.from-pointers.result c.in-Struct.is c.from-words.ensures c.from-pointers.ensures object c.add_object.ensures
     ∙ subst (λ n. walk_elements into_array c.args.count.now c.from-words.result c.from-pointers.result 1 (record r { levels = n; segment = c.in-Struct.start.segment; at = c.in-Struct.start.at }) (c.add_object.new.objects, c.add_object.new.count) c.read_object.new.lim ≡ (Ok ((c.walk_elements.new.objects, c.walk_elements.new.count), c.walk_elements.result), c.walk_elements.new.lim)) inner c.walk_elements.ensures
@@ -101,7 +101,7 @@ pub walk_object-returns-in-Pointers : goal.walk_object-returns-in-Pointers
 walk_object-returns-in-Pointers g t c =
     let r : Reading = reading_on g.A.ReaderArena c.args.from.now c.args.at c.args.nesting_limit in
     let nl = to_z-of_z w32 c.args.nesting_limit c.ranges.nesting_limit in
-    let inner = inner_levels c.args.nesting_limit c.less-inner.result c.ranges.nesting_limit (record { sfits = c.less-inner.type_inv }) c.less-inner.ensures in
+    let inner = inner_levels c.args.nesting_limit c.one_level_less-inner.result c.ranges.nesting_limit (record { sfits = c.one_level_less-inner.type_inv }) c.one_level_less-inner.ensures in
     let object : IsObject Value r c.args.lim.now c.read_object.new.lim c.in-Ok.object = rw nl at c.in-Ok.ensures.object in
     pointers_open into_array c.args.parent r (c.args.objects.now, c.args.count.now) (c.add_object.new.objects, c.add_object.new.count) c.args.lim.now c.read_object.new.lim c.in-Ok.object c.in-Pointers.start c.in-Pointers.pointers c.in-Pointers.is object c.add_object.ensures
     ∙ subst (λ n. walk_elements into_array c.args.count.now 0 c.in-Pointers.pointers 1 (record r { levels = n; segment = c.in-Pointers.start.segment; at = c.in-Pointers.start.at }) (c.add_object.new.objects, c.add_object.new.count) c.read_object.new.lim ≡ (Ok ((c.walk_elements-in-Pointers.new.objects, c.walk_elements-in-Pointers.new.count), c.walk_elements-in-Pointers.result), c.walk_elements-in-Pointers.new.lim)) inner c.walk_elements-in-Pointers.ensures
@@ -110,7 +110,7 @@ pub walk_object-returns-in-Structs : goal.walk_object-returns-in-Structs
 walk_object-returns-in-Structs g t c =
     let r : Reading = reading_on g.A.ReaderArena c.args.from.now c.args.at c.args.nesting_limit in
     let nl = to_z-of_z w32 c.args.nesting_limit c.ranges.nesting_limit in
-    let inner = inner_levels c.args.nesting_limit c.less-inner.result c.ranges.nesting_limit (record { sfits = c.less-inner.type_inv }) c.less-inner.ensures in
+    let inner = inner_levels c.args.nesting_limit c.one_level_less-inner.result c.ranges.nesting_limit (record { sfits = c.one_level_less-inner.type_inv }) c.one_level_less-inner.ensures in
     let object : IsObject Value r c.args.lim.now c.read_object.new.lim c.in-Ok.object = rw nl at c.in-Ok.ensures.object in
     structs_open into_array c.args.parent r (c.args.objects.now, c.args.count.now) (c.add_object.new.objects, c.add_object.new.count) c.args.lim.now c.read_object.new.lim c.in-Ok.object c.in-Structs.start c.in-Structs.size c.in-Structs.elements c.from-data.result c.from-each.result c.in-Structs.is c.from-data.ensures c.from-each.ensures object c.add_object.ensures
     ∙ rw inner at c.walk_elements-in-Structs.ensures
@@ -119,7 +119,7 @@ pub walk_object-walk_elements-requires-in-Structs : goal.walk_object-walk_elemen
 walk_object-walk_elements-requires-in-Structs g t c =
     let r : Reading = reading_on g.A.ReaderArena c.args.from.now c.args.at c.args.nesting_limit in
     let nl = to_z-of_z w32 c.args.nesting_limit c.ranges.nesting_limit in
-    let inner = inner_levels c.args.nesting_limit c.less-inner.result c.ranges.nesting_limit (record { sfits = c.less-inner.type_inv }) c.less-inner.ensures in
+    let inner = inner_levels c.args.nesting_limit c.one_level_less-inner.result c.ranges.nesting_limit (record { sfits = c.one_level_less-inner.type_inv }) c.one_level_less-inner.ensures in
     let object : IsObject Value r c.args.lim.now c.read_object.new.lim c.in-Ok.object = rw nl at c.in-Ok.ensures.object in
     let inside = structs_inside Value r c.args.lim.now c.read_object.new.lim c.in-Ok.object c.in-Structs.start c.in-Structs.size c.in-Structs.elements c.from-data.result c.from-each.result c.in-Structs.is c.from-data.ensures c.from-each.ensures object in
     let level = structs_level Value r c.args.lim.now c.read_object.new.lim c.in-Ok.object c.in-Structs.start c.in-Structs.size c.in-Structs.elements c.in-Structs.is object in

@@ -21,9 +21,9 @@ empty_when o (suc n) h e = let some : IsSome o = h.1 (omega arith) in absurd (fa
 pub returns-then-not-branch : goal.returns-then-not-branch
 returns-then-not-branch g c =
     let S : Segments = message (g.A.ReaderArena.segments c.args.arena.now) in
-    let M0 : Segments = rows_of c.take.new.self in
+    let M0 : Segments = rows_of c.try_mark.new.self in
     let M : Segments = rows_of c.loop-spot.marks in
-    let only : OnlyRoot M0 = λ u q. omega (arith, (c.take.ensures.taken c.if-not-take.false).marks u q, c.requires.blank u q) in
+    let only : OnlyRoot M0 = λ u q. omega (arith, (c.try_mark.ensures.taken c.if-not-try_mark.false).marks u q, c.requires.blank u q) in
     let J = c.pop.new.self.items in (
       λ no. absurd (false≢true no),
       λ (t, f). let F : Counting = times (root ∷ cover S 0 0 t) in
@@ -47,9 +47,9 @@ loop-spot-preserved g c =
 pub returns : goal.returns
 returns g c =
     let S : Segments = message (g.A.ReaderArena.segments c.args.arena.now) in
-    let M0 : Segments = rows_of c.take.new.self in
+    let M0 : Segments = rows_of c.try_mark.new.self in
     let M : Segments = rows_of c.loop-spot.marks in
-    let only : OnlyRoot M0 = λ u q. omega (arith, (c.take.ensures.taken c.if-not-take.false).marks u q, c.requires.blank u q) in
+    let only : OnlyRoot M0 = λ u q. omega (arith, (c.try_mark.ensures.taken c.if-not-try_mark.false).marks u q, c.requires.blank u q) in
     let is : c.pop.result ≡ None = search rules in
     let none : c.loop-spot.pending.items ≡ [] = nil_from_length c.loop-spot.pending.items (omega (arith, empty_when c.pop.result c.loop-spot.pending.len c.pop.ensures.variant is, c.loop-spot.pending.ok.0)) in
     let inv = c.loop-spot.invariant in

@@ -8,8 +8,8 @@ use Rattle.capnp_arena.proofs.PutLemmas.{put_below, put_made, put_named, put_roo
 use Rattle.capnp_arena.proofs.RowsLemmas.{length_shown}
 use Rattle.capnp_arena.proofs.arena.builder_arena_impl.BuilderArenaImpl.allocate_segment.Goals as goal
 
-pub put_last-requires-clause-few : goal.put_last-requires-clause-few
-put_last-requires-clause-few g c =
+pub push_segment-requires-clause-few : goal.push_segment-requires-clause-few
+push_segment-requires-clause-few g c =
     let seg = g.A.Segment.Segment in
     let f = g.A.Allocator.first_in_arena in
     let b = c.args.self.now in
@@ -20,35 +20,35 @@ returns-clause-made g c =
     let seg = g.A.Segment.Segment in
     let f = g.A.Allocator.first_in_arena in
     let b = c.args.self.now in
-    put_made seg c.put_last.result (arena_rows seg f b.listed b.apart) (arena_rows seg f c.put_last.new.self.listed c.put_last.new.self.apart) _ c.put_last.ensures.put
+    put_made seg c.push_segment.result (arena_rows seg f b.listed b.apart) (arena_rows seg f c.push_segment.new.self.listed c.push_segment.new.self.apart) _ c.push_segment.ensures.put
 
 pub returns-clause-least : goal.returns-clause-least
 returns-clause-least g c =
     let seg = g.A.Segment.Segment in
     let f = g.A.Allocator.first_in_arena in
     let b = c.args.self.now in
-    put_room seg (λ n. c.args.min ≤ n) c.put_last.result (arena_rows seg f b.listed b.apart) (arena_rows seg f c.put_last.new.self.listed c.put_last.new.self.apart) _ c.in_ok-segment.ensures.fresh.1 c.put_last.ensures.put
+    put_room seg (λ n. c.args.min ≤ n) c.push_segment.result (arena_rows seg f b.listed b.apart) (arena_rows seg f c.push_segment.new.self.listed c.push_segment.new.self.apart) _ c.in_ok-segment.ensures.fresh.1 c.push_segment.ensures.put
 
 pub returns-clause-size : goal.returns-clause-size
 returns-clause-size g c =
     let seg = g.A.Segment.Segment in
     let f = g.A.Allocator.first_in_arena in
     let b = c.args.self.now in
-    put_room seg (λ n. IsTrue (g.A.Allocator.offers b.allocator c.args.min n)) c.put_last.result (arena_rows seg f b.listed b.apart) (arena_rows seg f c.put_last.new.self.listed c.put_last.new.self.apart) _ c.in_ok-segment.ensures.size c.put_last.ensures.put
+    put_room seg (λ n. IsTrue (g.A.Allocator.offers b.allocator c.args.min n)) c.push_segment.result (arena_rows seg f b.listed b.apart) (arena_rows seg f c.push_segment.new.self.listed c.push_segment.new.self.apart) _ c.in_ok-segment.ensures.size c.push_segment.ensures.put
 
 pub returns-clause-granted : goal.returns-clause-granted
 returns-clause-granted g c =
     let seg = g.A.Segment.Segment in
     let f = g.A.Allocator.first_in_arena in
     let b = c.args.self.now in
-    IfOk-equal c.put_last.result _ _ _ c.put_last.ensures.counted.granted c.in_ok-segment.ensures.counted
+    IfOk-equal c.push_segment.result _ _ _ c.push_segment.ensures.counted.granted c.in_ok-segment.ensures.counted
 
 pub returns-clause-room : goal.returns-clause-room
 returns-clause-room g c =
     let seg = g.A.Segment.Segment in
     let f = g.A.Allocator.first_in_arena in
     let b = c.args.self.now in
-    put_below seg c.put_last.result (arena_rows seg f b.listed b.apart) (arena_rows seg f c.put_last.new.self.listed c.put_last.new.self.apart) _ c.put_last.ensures.put c.put_last.ensures.refused
+    put_below seg c.push_segment.result (arena_rows seg f b.listed b.apart) (arena_rows seg f c.push_segment.new.self.listed c.push_segment.new.self.apart) _ c.push_segment.ensures.put c.push_segment.ensures.refused
 
 pub returns-clause-many : goal.returns-clause-many
 returns-clause-many g c many =
@@ -61,31 +61,31 @@ pub returns-clause-large : goal.returns-clause-large
 returns-clause-large g c few more = absurd (omega (arith, more, c.in_ok-segment.ensures.fresh.1, c.in_ok-segment.ensures.fresh.2))
 
 pub returns-clause-first : goal.returns-clause-first
-returns-clause-first g c none first sure = c.put_last.ensures.first none first
+returns-clause-first g c none first sure = c.push_segment.ensures.first none first
 
 pub returns-clause-named : goal.returns-clause-named
 returns-clause-named g c =
     let seg = g.A.Segment.Segment in
     let f = g.A.Allocator.first_in_arena in
     let b = c.args.self.now in
-    put_named c.put_last.result (length (shown seg (arena_rows seg f b.listed b.apart))) c.args.min (g.A.Allocator.refusals c.put_last.new.self.allocator) (omega (arith, length_shown seg (arena_rows seg f b.listed b.apart), c.len.ensures, c.if-len-ge-MAX_SEGMENTS.false)) (omega (arith, c.in_ok-segment.ensures.fresh.1, c.in_ok-segment.ensures.fresh.2)) c.in_ok-segment.ensures.counted c.put_last.ensures.counted.named c.put_last.ensures.counted.counted
+    put_named c.push_segment.result (length (shown seg (arena_rows seg f b.listed b.apart))) c.args.min (g.A.Allocator.refusals c.push_segment.new.self.allocator) (omega (arith, length_shown seg (arena_rows seg f b.listed b.apart), c.len.ensures, c.if-len-ge-MAX_SEGMENTS.false)) (omega (arith, c.in_ok-segment.ensures.fresh.1, c.in_ok-segment.ensures.fresh.2)) c.in_ok-segment.ensures.counted c.push_segment.ensures.counted.named c.push_segment.ensures.counted.counted
 
 pub returns-clause-refused : goal.returns-clause-refused
 returns-clause-refused g c =
     let seg = g.A.Segment.Segment in
     let f = g.A.Allocator.first_in_arena in
     let b = c.args.self.now in
-    put_same seg (shown seg) c.put_last.result (arena_rows seg f b.listed b.apart) (arena_rows seg f c.put_last.new.self.listed c.put_last.new.self.apart) c.put_last.ensures.refused
+    put_same seg (shown seg) c.push_segment.result (arena_rows seg f b.listed b.apart) (arena_rows seg f c.push_segment.new.self.listed c.push_segment.new.self.apart) c.push_segment.ensures.refused
 
 pub returns-clause-refused_room : goal.returns-clause-refused_room
 returns-clause-refused_room g c =
     let seg = g.A.Segment.Segment in
     let f = g.A.Allocator.first_in_arena in
     let b = c.args.self.now in
-    put_same seg (capacity_at seg) c.put_last.result (arena_rows seg f b.listed b.apart) (arena_rows seg f c.put_last.new.self.listed c.put_last.new.self.apart) c.put_last.ensures.refused
+    put_same seg (capacity_at seg) c.push_segment.result (arena_rows seg f b.listed b.apart) (arena_rows seg f c.push_segment.new.self.listed c.push_segment.new.self.apart) c.push_segment.ensures.refused
 
 pub returns-clause-offers : goal.returns-clause-offers
-returns-clause-offers g c = c.put_last.ensures.counted.offers ∙ c.allocate_segment.ensures.offers
+returns-clause-offers g c = c.push_segment.ensures.counted.offers ∙ c.allocate_segment.ensures.offers
 
 pub returns-in_err-segment-clause-made : goal.returns-in_err-segment-clause-made
 returns-in_err-segment-clause-made g c = let p = err_from_is_err_and c.from_residual.result c.from_residual.ensures.1 in rw p.1 tt

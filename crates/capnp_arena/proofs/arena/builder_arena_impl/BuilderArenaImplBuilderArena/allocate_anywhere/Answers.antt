@@ -14,40 +14,40 @@ no_fit : {old mid : View} (amount k : ℕ) → mid ≡ old → IsFirstFit old am
 no_fit {old} amount k same fit full = fit_not_full old amount k fit full
 
 -- A search for a segment with room leaves the view unchanged.
-pub take-at-requires-clause-there : goal.take-at-requires-clause-there
-take-at-requires-clause-there g c =
+pub allocate_fitting-at-requires-clause-there : goal.allocate_fitting-at-requires-clause-there
+allocate_fitting-at-requires-clause-there g c =
     let found = shown g.A.Segment.Segment (arena_rows g.A.Segment.Segment g.A.Allocator.first_in_arena c.first_fit.new.self.listed c.first_fit.new.self.apart) in
     subst (λ n. c.in-Some.id < n) (ap (λ (v : View). length v.words) (sym c.first_fit.ensures.same) ∙ length-message found) c.in-Some.ensures.fit.0
 
-pub take-at-requires-clause-fits : goal.take-at-requires-clause-fits
-take-at-requires-clause-fits g c =
+pub allocate_fitting-at-requires-clause-fits : goal.allocate_fitting-at-requires-clause-fits
+allocate_fitting-at-requires-clause-fits g c =
     let id = c.in-Some.id in
     subst (λ (v : View). length (segment v.words id) + c.args.amount ≤ v.room id) (sym c.first_fit.ensures.same) c.in-Some.ensures.fit.1
 
 pub returns-in-Some-clause-taken : goal.returns-in-Some-clause-taken
-returns-in-Some-clause-taken g c = fit_taken c.in-Some.id c.args.amount c.first_fit.ensures.same c.in-Some.ensures.fit c.take-at.ensures.at c.take-at.ensures.taken
+returns-in-Some-clause-taken g c = fit_taken c.in-Some.id c.args.amount c.first_fit.ensures.same c.in-Some.ensures.fit c.allocate_fitting-at.ensures.at c.allocate_fitting-at.ensures.taken
 
 pub returns-in-Some-clause-first : goal.returns-in-Some-clause-first
-returns-in-Some-clause-first g c = fit_found c.in-Some.id c.args.amount c.first_fit.ensures.same c.in-Some.ensures.fit c.take-at.ensures.at c.take-at.ensures.taken
+returns-in-Some-clause-first g c = fit_found c.in-Some.id c.args.amount c.first_fit.ensures.same c.in-Some.ensures.fit c.allocate_fitting-at.ensures.at c.allocate_fitting-at.ensures.taken
 
 pub returns-in-Some-clause-another : goal.returns-in-Some-clause-another
 returns-in-Some-clause-another g c full =
-    absurd (fit_another c.in-Some.id c.args.amount c.first_fit.ensures.same c.in-Some.ensures.fit c.take-at.ensures.at c.take-at.ensures.taken full)
+    absurd (fit_another c.in-Some.id c.args.amount c.first_fit.ensures.same c.in-Some.ensures.fit c.allocate_fitting-at.ensures.at c.allocate_fitting-at.ensures.taken full)
 
 pub returns-in-Some-clause-room : goal.returns-in-Some-clause-room
 returns-in-Some-clause-room g c k below =
     let at : View → ℕ = λ v. v.room k in
-    ap at c.take-at.ensures.taken ∙ ap at c.first_fit.ensures.same
+    ap at c.allocate_fitting-at.ensures.taken ∙ ap at c.first_fit.ensures.same
 
 pub returns-in-Some-clause-granted : goal.returns-in-Some-clause-granted
-returns-in-Some-clause-granted g c = fit_granted c.in-Some.id c.args.amount c.first_fit.ensures.same c.in-Some.ensures.fit c.take-at.ensures.at c.take-at.ensures.taken
+returns-in-Some-clause-granted g c = fit_granted c.in-Some.id c.args.amount c.first_fit.ensures.same c.in-Some.ensures.fit c.allocate_fitting-at.ensures.at c.allocate_fitting-at.ensures.taken
 
 pub returns-in-Some-clause-many : goal.returns-in-Some-clause-many
 returns-in-Some-clause-many g c full _ =
-    absurd (fit_another c.in-Some.id c.args.amount c.first_fit.ensures.same c.in-Some.ensures.fit c.take-at.ensures.at c.take-at.ensures.taken full)
+    absurd (fit_another c.in-Some.id c.args.amount c.first_fit.ensures.same c.in-Some.ensures.fit c.allocate_fitting-at.ensures.at c.allocate_fitting-at.ensures.taken full)
 
 pub returns-in-Some-clause-large : goal.returns-in-Some-clause-large
-returns-in-Some-clause-large g c more _ = absurd (omega (arith, more, c.take-at.ensures.small))
+returns-in-Some-clause-large g c more _ = absurd (omega (arith, more, c.allocate_fitting-at.ensures.small))
 
 pub returns-in_ok-id-in-None : goal.returns-in_ok-id-in-None
 returns-in_ok-id-in-None g c =

@@ -7,7 +7,7 @@ use Rattle.capnp_arena.proofs.arena.row.Row.copy_from.Goals as goal
 
 pub copy_words-requires-clause-room : goal.copy_words-requires-clause-room
 copy_words-requires-clause-room g c =
-    omega (arith, c.requires.inside, c.part-copied.ensures.count, ap length c.allocated_mut.ensures.now, allocated_whole g.S.Segment c.args.self.now)
+    omega (arith, c.requires.inside, c.word_range-copied.ensures.count, ap length c.allocated_mut.ensures.now, allocated_whole g.S.Segment c.args.self.now)
 
 pub returns : goal.returns
 returns g c =
@@ -18,8 +18,8 @@ returns g c =
       words =
           ap words_of (over g.S.Segment r ws (c.copy_words.auto.bytes ∙ ap length same))
           ∙ c.copy_words.ensures
-          ∙ ap (λ bs. overwritten (words_of bs) c.args.at (words_of c.part-copied.result.now)) same
-          ∙ ap (overwritten (words_of (allocated g.S.Segment r)) c.args.at) (c.part-copied.ensures.words ∙ ap (λ bs. take c.args.n (drop c.args.from (words_of bs))) c.allocated.ensures);
+          ∙ ap (λ bs. overwritten (words_of bs) c.args.at (words_of c.word_range-copied.result.now)) same
+          ∙ ap (overwritten (words_of (allocated g.S.Segment r)) c.args.at) (c.word_range-copied.ensures.words ∙ ap (λ bs. take c.args.n (drop c.args.from (words_of bs))) c.allocated.ensures);
       used = refl;
       bound = refl;
       capacity = same_capacity g.S.Segment r ws;

@@ -31,7 +31,7 @@ pub returns-then-has_room-clause-taken : goal.returns-then-has_room-clause-taken
 returns-then-has_room-clause-taken g c =
     let seg = g.S.Segment in
     let b = c.args.self.now in
-    (c.take.ensures.at ∙ sym (first_used seg b.there b.first b.others.items c.args.id c.if-id-eq0.true c.requires), first_written seg (λ ws. ws ++ replicate c.args.amount 0) b.there b.first c.take.new.self b.others.items c.args.id c.if-id-eq0.true c.requires c.take.ensures.taken)
+    (c.allocate_fitting.ensures.at ∙ sym (first_used seg b.there b.first b.others.items c.args.id c.if-id-eq0.true c.requires), first_written seg (λ ws. ws ++ replicate c.args.amount 0) b.there b.first c.allocate_fitting.new.self b.others.items c.args.id c.if-id-eq0.true c.requires c.allocate_fitting.ensures.taken)
 
 pub returns-then-has_room-clause-none : goal.returns-then-has_room-clause-none
 returns-then-has_room-clause-none g c none =
@@ -41,7 +41,7 @@ pub returns-then-has_room-clause-room : goal.returns-then-has_room-clause-room
 returns-then-has_room-clause-room g c =
     let seg = g.S.Segment in
     let b = c.args.self.now in
-    first_kept seg b.there b.first c.take.new.self b.others.items c.take.ensures.capacity
+    first_kept seg b.there b.first c.allocate_fitting.new.self b.others.items c.allocate_fitting.ensures.capacity
 
 pub returns-else-has_room-clause-exactly : goal.returns-else-has_room-clause-exactly
 returns-else-has_room-clause-exactly g c =
@@ -73,8 +73,8 @@ allocate_in-requires g c =
     let b = c.args.self.now in
     subst (λ rows. c.args.id - 1 < length rows) (sym c.deref_mut.ensures.value) (other_there g.S.Segment b.there b.first b.others.items c.args.id (omega (arith, c.if-id-eq0.false)) c.requires)
 
-pub take-requires : goal.take-requires
-take-requires g c =
+pub allocate_fitting-requires : goal.allocate_fitting-requires
+allocate_fitting-requires g c =
     c.has_room.ensures.0 c.if-has_room.true
 
 pub returns-else-has_room-clause-taken : goal.returns-else-has_room-clause-taken

@@ -5,25 +5,25 @@ use Rattle.capnp_objects.specs.Metered.{answer, onward, refuse_if}
 use Rattle.capnp_objects.proofs.Expecting.{entered_expected}
 use Rattle.capnp_objects.proofs.source.landing.Entrance.enter_expected.Goals as goal
 
-pub returns-in-Some-name_of_misfit : goal.returns-in-Some-name_of_misfit
-returns-in-Some-name_of_misfit g c =
+pub returns-in-Some-mismatch_error : goal.returns-in-Some-mismatch_error
+returns-in-Some-mismatch_error g c =
     let object = c.in_ok-object.ensures in
     record {
       computed =
-          entered_expected c.args.expected (entered_from g.A.ReaderArena c.args.self) (found_target c.args.self.found) c.args.lim.now c.enter.new.lim c.in_ok-object.object (sym c.name_of_kind.ensures ∙ c.in-None.is) object.computed object.held
-          ∙ ap (λ o. onward (λ _. answer (object_shape c.in_ok-object.object)) (refuse_if o c.enter.new.lim)) (sym c.name_of_misfit.ensures ∙ c.in-Some-name_of_misfit.is);
+          entered_expected c.args.expected (entered_from g.A.ReaderArena c.args.self) (found_target c.args.self.found) c.args.lim.now c.enter.new.lim c.in_ok-object.object (sym c.kind_error.ensures ∙ c.in-None.is) object.computed object.held
+          ∙ ap (λ o. onward (λ _. answer (object_shape c.in_ok-object.object)) (refuse_if o c.enter.new.lim)) (sym c.mismatch_error.ensures ∙ c.in-Some-mismatch_error.is);
       held = tt;
       few = tt;
       at_hand = tt;
     }
 
-pub returns-in-None-name_of_misfit : goal.returns-in-None-name_of_misfit
-returns-in-None-name_of_misfit g c =
+pub returns-in-None-mismatch_error : goal.returns-in-None-mismatch_error
+returns-in-None-mismatch_error g c =
     let object = c.in_ok-object.ensures in
     record {
       computed =
-          entered_expected c.args.expected (entered_from g.A.ReaderArena c.args.self) (found_target c.args.self.found) c.args.lim.now c.enter.new.lim c.in_ok-object.object (sym c.name_of_kind.ensures ∙ c.in-None.is) object.computed object.held
-          ∙ ap (λ o. onward (λ _. answer (object_shape c.in_ok-object.object)) (refuse_if o c.enter.new.lim)) (sym c.name_of_misfit.ensures ∙ c.in-None-name_of_misfit.is);
+          entered_expected c.args.expected (entered_from g.A.ReaderArena c.args.self) (found_target c.args.self.found) c.args.lim.now c.enter.new.lim c.in_ok-object.object (sym c.kind_error.ensures ∙ c.in-None.is) object.computed object.held
+          ∙ ap (λ o. onward (λ _. answer (object_shape c.in_ok-object.object)) (refuse_if o c.enter.new.lim)) (sym c.mismatch_error.ensures ∙ c.in-None-mismatch_error.is);
       held = object.held;
       few = object.few;
       at_hand = object.at_hand;

@@ -8,7 +8,7 @@ returns-then-n-gt0 g c =
     let inside : c.in_ok-n.n ≤ length c.read.new.to = c.in_ok-n.ensures.bound in
     let most : c.in_ok-n.n ≤ c.args.left + 1 = search rules in
     let long : length (take c.in_ok-n.n c.read.new.to) ≡ c.in_ok-n.n = omega (arith, length-take c.in_ok-n.n c.read.new.to, inside) in
-    let both = takes_raw c.args.left c.in_ok-n.n _ _ _ _ _ _ c.requires.zeros c.requires.place c.raw_behind-self.ensures long c.if-n-gt0.true most c.in_ok-n.ensures.bytes.0 in
+    let both = takes_raw c.args.left c.in_ok-n.n _ _ _ _ _ _ c.requires.zeros c.requires.place c.place_after_raw-self.ensures long c.if-n-gt0.true most c.in_ok-n.ensures.bytes.0 in
     record {
       bound = search rules;
       bytes = rw (take-append-le c.in_ok-n.n c.read.new.to _ inside) both.0;

@@ -5,7 +5,7 @@ use Rattle.capnp_packing.proofs.packing.unpacking_input.UnpackingInput.unpack_ah
 
 pub returns : goal.returns
 returns g c =
-    let leads = rw c.ahead.ensures at c.unpack_words-progress.ensures.leads in
+    let leads = rw c.buffer.ensures at c.unpack_words-progress.ensures.leads in
     let both = takes Tag _ _ _ _ _ _ leads c.consume.ensures.bytes in
     record {
       some = omega (arith, c.unpack_words-progress.ensures.some);

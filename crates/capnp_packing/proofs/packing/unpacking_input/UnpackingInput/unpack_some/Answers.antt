@@ -37,5 +37,5 @@ returns-in-Raw g c = some_later g.R.Input c.read_raw.result c.args.self.now c.lo
 
 pub returns : goal.returns
 returns g c =
-    some_later g.R.Input (Ok c.give_zeros.result) c.args.self.now c.loop-self.self c.give_zeros.new.self c.give_zeros.new.to c.loop-self.invariant.none c.loop-self.invariant.works c.loop-self.invariant.told
-    (ahead_some g.R.Input c.give_zeros.result c.loop-self.self c.give_zeros.new.self c.give_zeros.new.to c.give_zeros.ensures)
+    some_later g.R.Input (Ok c.write_due_zeros.result) c.args.self.now c.loop-self.self c.write_due_zeros.new.self c.write_due_zeros.new.to c.loop-self.invariant.none c.loop-self.invariant.works c.loop-self.invariant.told
+    (ahead_some g.R.Input c.write_due_zeros.result c.loop-self.self c.write_due_zeros.new.self c.write_due_zeros.new.to c.write_due_zeros.ensures)

@@ -6,8 +6,8 @@ use Rattle.capnp_readers.proofs.readers.list_reader.ListReader.get_struct_elemen
 
 pub returns-clause-value : goal.returns-clause-value
 returns-clause-value g c =
-    let made = c.element_within.ensures in
-    element_value g.A.ReaderArena c.args.self.now c.args.index c.element_within.result c.requires.range made.element made.source (first_of (search rules, grind (arith, common_steps)))
+    let made = c.element_with_limit.ensures in
+    element_value g.A.ReaderArena c.args.self.now c.args.index c.element_with_limit.result c.requires.range made.element made.source (first_of (search rules, grind (arith, common_steps)))
 
 pub returns-clause-number : goal.returns-clause-number
-returns-clause-number g c = element_alone g.A.ReaderArena c.args.self.now c.args.index c.element_within.result c.requires.range c.requires.size c.are_bytes.ensures c.element_within.ensures.element
+returns-clause-number g c = element_alone g.A.ReaderArena c.args.self.now c.args.index c.element_with_limit.result c.requires.range c.requires.size c.bytes_are_below_256.ensures c.element_with_limit.ensures.element

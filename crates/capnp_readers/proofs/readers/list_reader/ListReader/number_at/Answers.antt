@@ -21,4 +21,4 @@ returns-clause-little_endian g c =
 pub returns-clause-number : goal.returns-clause-number
 returns-clause-number g c =
     let within = number_within g.A.ReaderArena c.args.self.now c.requires.range g.T.Primitive.positive c.requires.wide c.step_bits-step.ensures in
-    low_number g.A.ReaderArena c.args.self.now c.args.index g.T.Primitive.BYTES c.requires.range g.T.Primitive.positive g.T.Primitive.small c.requires.wide c.are_bytes.ensures (omega (arith, within.0, within.1)) (returns-clause-little_endian g c)
+    low_number g.A.ReaderArena c.args.self.now c.args.index g.T.Primitive.BYTES c.requires.range g.T.Primitive.positive g.T.Primitive.small c.requires.wide c.bytes_are_below_256.ensures (omega (arith, within.0, within.1)) (returns-clause-little_endian g c)

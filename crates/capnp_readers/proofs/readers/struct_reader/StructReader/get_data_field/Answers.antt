@@ -16,7 +16,7 @@ returns-then-offset-self-clause-value g c = λ t shows.
     let self = c.args.self.now in
     let n = g.T.Primitive.BYTES in
     let inside = bytes_inside self.bits n c.args.offset (rw c.BYTES-n.ensures at c.if-offset-self.true) in
-    field_value g.A.ReaderArena n c.args.offset self t g.T.Primitive.positive g.T.Primitive.small g.T.Primitive.divides c.are_bytes.ensures
+    field_value g.A.ReaderArena n c.args.offset self t g.T.Primitive.positive g.T.Primitive.small g.T.Primitive.divides c.bytes_are_below_256.ensures
     (λ within. rw c.BYTES-n.ensures at c.load.ensures.little_endian) (λ beyond. absurd (beyond inside)) shows
 
 pub returns-else-offset-self-clause-value : goal.returns-else-offset-self-clause-value
@@ -24,7 +24,7 @@ returns-else-offset-self-clause-value g c = λ t shows.
     let self = c.args.self.now in
     let n = g.T.Primitive.BYTES in
     let never = λ (h : IsInside self.bits (8 * n) c.args.offset). (let there = inside_bytes self.bits n c.args.offset g.T.Primitive.positive h in let no : ⊥ = omega (arith, there, rw c.BYTES-n.ensures at c.if-offset-self.false) in no) in
-    field_value g.A.ReaderArena n c.args.offset self t g.T.Primitive.positive g.T.Primitive.small g.T.Primitive.divides c.are_bytes.ensures
+    field_value g.A.ReaderArena n c.args.offset self t g.T.Primitive.positive g.T.Primitive.small g.T.Primitive.divides c.bytes_are_below_256.ensures
     (λ within. absurd (never within)) (λ beyond. ap g.T.Primitive.bits_of c.zero.ensures ∙ g.met.T.Zero.no_bits) shows
 
 pub returns-then-offset-self-clause-number : goal.returns-then-offset-self-clause-number
@@ -32,11 +32,11 @@ returns-then-offset-self-clause-number g c =
     let self = c.args.self.now in
     let n = g.T.Primitive.BYTES in
     let inside = bytes_inside self.bits n c.args.offset (rw c.BYTES-n.ensures at c.if-offset-self.true) in
-    field_alone g.A.ReaderArena n c.args.offset self g.T.Primitive.positive c.are_bytes.ensures (λ within. rw c.BYTES-n.ensures at c.load.ensures.little_endian) (λ beyond. absurd (beyond inside))
+    field_alone g.A.ReaderArena n c.args.offset self g.T.Primitive.positive c.bytes_are_below_256.ensures (λ within. rw c.BYTES-n.ensures at c.load.ensures.little_endian) (λ beyond. absurd (beyond inside))
 
 pub returns-else-offset-self-clause-number : goal.returns-else-offset-self-clause-number
 returns-else-offset-self-clause-number g c =
     let self = c.args.self.now in
     let n = g.T.Primitive.BYTES in
     let never = λ (h : IsInside self.bits (8 * n) c.args.offset). (let there = inside_bytes self.bits n c.args.offset g.T.Primitive.positive h in let no : ⊥ = omega (arith, there, rw c.BYTES-n.ensures at c.if-offset-self.false) in no) in
-    field_alone g.A.ReaderArena n c.args.offset self g.T.Primitive.positive c.are_bytes.ensures (λ within. absurd (never within)) (λ beyond. ap g.T.Primitive.bits_of c.zero.ensures ∙ g.met.T.Zero.no_bits)
+    field_alone g.A.ReaderArena n c.args.offset self g.T.Primitive.positive c.bytes_are_below_256.ensures (λ within. absurd (never within)) (λ beyond. ap g.T.Primitive.bits_of c.zero.ensures ∙ g.met.T.Zero.no_bits)

@@ -1,0 +1,216 @@
+use Rattle.std.proofs.lemmas.Result.{err_from_is_err_and}
+use Rattle.std.proofs.Common.{◌+◌, ◌*◌, ◌^◌, ◌∙◌, ◌<◌, ◌≤◌, ℕ, length, ap, sym, subst, le_of_eq}
+use Rattle.std.proofs.Common.{le_trans, lt_of_lt_of_le}
+use Rattle.capnp_arena_traits.specs.View.{View}
+use Rattle.capnp_format.specs.Segments.{Segments, segment}
+use Rattle.capnp_format.proofs.Slices.{there}
+use Rattle.capnp_making.proofs.Memory.{keeps_both}
+use Rattle.capnp_contents.proofs.NumberLists.{NumbersMade, numbers_made, numbers_made_anew}
+use Rattle.capnp_contents.proofs.PadRooms.{no_pads}
+use Rattle.capnp_contents.proofs.Kept.{few_after}
+use Rattle.capnp_contents.proofs.Rooms.{same_words}
+use Rattle.capnp_contents.proofs.RowPlaces.{first_fits, near_or_behind, product_fits, rows_fit, some_total}
+use Rattle.capnp_contents.proofs.RowPlaces.{some_words, stands_before, tag_fits, tag_inside}
+use Rattle.capnp_contents.specs.Anew.{OnlyWrites}
+use Rattle.capnp_contents.proofs.StructSteps.{nothing_grown}
+use Rattle.capnp_contents.proofs.TakingWords.{pruned_writes}
+use Rattle.capnp_contents.proofs.WrittenAnew.{keeps_writes, writes_both}
+use Rattle.capnp_contents.proofs.Statements.{copied_numbers, settled_room}
+use Rattle.capnp_contents.proofs.Growing.{grows_again, pruned_grows}
+use Rattle.capnp_making.proofs.Written.{same_grows}
+use Rattle.capnp_contents.proofs.number_lists.widen_numbers_inside.Goals as goal
+
+-- The room is inside its segment, which has fewer than 2^29 words.
+pub overflow_add-first : goal.overflow_add-first
+overflow_add-first g c =
+    let (T, room, tagged) = c.in_ok-room.ensures.begun in
+    let v : ℕ = c.in_ok-room.room.segment in
+    let now = c.allocate_struct_list.new.arena in
+    record {
+      fits = tag_fits c.in_ok-room.room.at c.in_ok-room.room.pads
+          (c.args.old.count * (c.args.size.data_words + c.args.size.pointers))
+          room.0.room (tagged.words v) (g.met.A.BuilderArena.within now v)
+          (g.met.A.BuilderArena.small now v);
+    }
+
+pub overflow_add-first-2 : goal.overflow_add-first-2
+overflow_add-first-2 g c =
+    let (T, room, tagged) = c.in_ok-room.ensures.begun in
+    let v : ℕ = c.in_ok-room.room.segment in
+    let now = c.allocate_struct_list.new.arena in
+    record {
+      fits = first_fits c.in_ok-room.room.at c.in_ok-room.room.pads
+          (c.args.old.count * (c.args.size.data_words + c.args.size.pointers))
+          room.0.room (tagged.words v) (g.met.A.BuilderArena.within now v)
+          (g.met.A.BuilderArena.small now v);
+    }
+
+-- The old segments have no fewer words than before.
+pub allocate_struct_list-requires-clause-there : goal.allocate_struct_list-requires-clause-there
+allocate_struct_list-requires-clause-there g c =
+    there (g.A.BuilderArena.view c.args.arena.now).words c.args.id c.args.at c.requires.place
+
+pub allocate_struct_list-requires-clause-few : goal.allocate_struct_list-requires-clause-few
+allocate_struct_list-requires-clause-few g c = λ none. absurd (some_words c.args.size.pointers c.requires.data none)
+
+-- The new words are fewer than a segment has.
+pub overflow_mul-shape : goal.overflow_mul-shape
+overflow_mul-shape g c = record { fits = product_fits c.args.old.count c.total-2.ensures c.requires.small }
+
+pub copy_numbers-requires-clause-inside : goal.copy_numbers-requires-clause-inside
+copy_numbers-requires-clause-inside g c =
+    let (T, room, tagged) = c.in_ok-room.ensures.begun in
+    let s : ℕ = c.args.old.segment in
+    le_trans c.requires.inside (le_trans (room.0.grows.words s) (le_of_eq (sym (tagged.words s))))
+
+pub copy_numbers-requires-clause-to : goal.copy_numbers-requires-clause-to
+copy_numbers-requires-clause-to g c =
+    let (T, room, tagged) = c.in_ok-room.ensures.begun in
+    rows_fit c.in_ok-room.room.at c.in_ok-room.room.pads room.0.room (tagged.words c.in_ok-room.room.segment)
+    (ap (λ n. c.args.old.count * n) c.total.ensures)
+
+pub copy_numbers-requires-clause-apart : goal.copy_numbers-requires-clause-apart
+copy_numbers-requires-clause-apart g c = λ e.
+    (let (T, room, tagged) = c.in_ok-room.ensures.begun in
+    let S : Segments = (g.A.BuilderArena.view c.args.arena.now).words in
+    stands_before c.in_ok-room.room.pads c.requires.inside (ap (λ s. length (segment S s)) e) room.0.behind)
+
+pub copy_numbers-requires-clause-some : goal.copy_numbers-requires-clause-some
+copy_numbers-requires-clause-some g c = subst (λ n. 0 < n) (sym c.total.ensures)
+    (some_total c.args.size.pointers c.requires.data)
+
+-- The new words come after the pointer, if they are in its segment.
+pub point_to_object-requires-clause-place : goal.point_to_object-requires-clause-place
+point_to_object-requires-clause-place g c =
+    let (T, room, tagged) = c.in_ok-room.ensures.begun in
+    let id : ℕ = c.args.id in
+    lt_of_lt_of_le c.requires.place (le_trans (room.0.grows.words id)
+    (le_of_eq (sym (c.copy_numbers.ensures.copied.words id ∙ tagged.words id))))
+
+pub point_to_object-requires-clause-inside : goal.point_to_object-requires-clause-inside
+point_to_object-requires-clause-inside g c =
+    let (T, room, tagged) = c.in_ok-room.ensures.begun in
+    let v : ℕ = c.in_ok-room.room.segment in
+    tag_inside c.in_ok-room.room.at c.in_ok-room.room.pads
+    (c.args.old.count * (c.args.size.data_words + c.args.size.pointers))
+    room.0.room (tagged.words v) (le_of_eq (sym (c.copy_numbers.ensures.copied.words v)))
+
+pub point_to_object-requires-clause-apart : goal.point_to_object-requires-clause-apart
+point_to_object-requires-clause-apart g c = λ e.
+    (let (T, room, tagged) = c.in_ok-room.ensures.begun in
+    let S : Segments = (g.A.BuilderArena.view c.args.arena.now).words in
+    lt_of_lt_of_le c.requires.place
+    (subst (λ s. length (segment S s) ≤ c.in_ok-room.room.at) e room.0.behind))
+
+pub point_to_object-requires-clause-near : goal.point_to_object-requires-clause-near
+point_to_object-requires-clause-near g c = let (T, room, tagged) = c.in_ok-room.ensures.begun in near_or_behind room.1
+
+pub point_to_object-requires-clause-few : goal.point_to_object-requires-clause-few
+point_to_object-requires-clause-few g c =
+    subst (λ n. c.args.old.count * n < 2 ^ 29) (sym c.total-2.ensures) c.requires.small
+
+-- The refusal is that of the allocation.
+pub returns-in_err-room-clause-refused : goal.returns-in_err-room-clause-refused
+returns-in_err-room-clause-refused g c =
+    let p = err_from_is_err_and c.from_residual.result c.from_residual.ensures.1 in rw p.1
+    c.in_err-room.ensures.room.refused
+
+pub returns-in_err-room-clause-full : goal.returns-in_err-room-clause-full
+returns-in_err-room-clause-full g c =
+    let p = err_from_is_err_and c.from_residual.result c.from_residual.ensures.1 in
+    rw (p.1, p.2) c.in_err-room.ensures.room.full
+
+pub returns-in_err-room-clause-few : goal.returns-in_err-room-clause-few
+returns-in_err-room-clause-few g c = c.allocate_struct_list.ensures.room.few
+
+pub returns-clause-made : goal.returns-clause-made
+returns-clause-made g c =
+    let s : View = g.A.BuilderArena.view c.args.arena.now in
+    let b : View = g.A.BuilderArena.view c.allocate_struct_list.new.arena in
+    let d : View = g.A.BuilderArena.view c.copy_numbers.new.arena in
+    let r : View = g.A.BuilderArena.view c.point_to_object.new.arena in
+    let z : View = g.A.BuilderArena.view c.zero_if_inside.new.arena in
+    let q : View = g.A.BuilderArena.view c.zero_pads.new.arena in
+    let (T, room, tagged) = c.in_ok-room.ensures.begun in
+    let (o, settled, shaped, segment_of, start_of) = settled_room c.point_to_object.ensures.settled in
+    let first : OnlyWrites b d = record { limits = c.copy_numbers.ensures.limits; segments = c.copy_numbers.ensures.copied.segments; words = c.copy_numbers.ensures.copied.words } in
+    let set : OnlyWrites d r = record { limits = c.point_to_object.ensures.limits; segments = settled.segments; words = settled.words } in
+    let zeroed = pruned_writes r z c.zero_if_inside.ensures.limits c.zero_if_inside.ensures.pruned in
+    let cleared = pruned_writes z q c.zero_pads.ensures.limits c.zero_pads.ensures.pruned in
+    let last = writes_both d r q set (writes_both r z q zeroed cleared) in
+    let steps : NumbersMade s.words T b.words d.words r.words z.words q.words c.args.id c.args.at c.args.old c.args.size c.in_ok-room.room = record {
+      place = c.requires.place;
+      room = room;
+      tagged = tagged;
+      copied = rw c.total.ensures at (copied_numbers c.copy_numbers.ensures.copied);
+      settled = rw c.total-2.ensures at (settled_room c.point_to_object.ensures.settled);
+      object_zeroed = rw c.words_of_numbers.ensures.value at c.zero_if_inside.ensures.zeroed;
+      pads_zeroed = rw c.pointer_word-pointer.ensures at c.zero_pads.ensures.zeroed;
+    } in
+    record {
+      remade = numbers_made s.words T b.words d.words r.words z.words q.words c.args.id c.args.at c.args.old c.args.size c.in_ok-room.room c.requires.kind.0 c.requires.kind.1 c.requires.data steps;
+      anew = numbers_made_anew s b d r z q T c.args.id c.args.at c.args.old c.args.size c.in_ok-room.room c.requires.kind.0 c.requires.kind.1 c.requires.data steps (record {
+        kept = c.in_ok-room.ensures.room.granted;
+        taken = c.in_ok-room.ensures.room.words;
+        behind = c.in_ok-room.ensures.room.behind;
+        first = first;
+        last = last;
+      });
+      granted = keeps_both s b q (le_trans room.0.grows.segments (le_of_eq (sym tagged.segments)))
+          c.in_ok-room.ensures.room.granted (keeps_writes b q (writes_both b d q first last));
+      memory = tt;
+      refused = tt;
+    }
+
+pub returns-in_err-room-clause-made : goal.returns-in_err-room-clause-made
+returns-in_err-room-clause-made g c =
+    let p = err_from_is_err_and c.from_residual.result c.from_residual.ensures.1 in
+    let e = c.in_err-room.ensures.room in
+    rw (p.1, p.2) (record {
+      remade = tt;
+      anew = tt;
+      granted = tt;
+      memory = e.memory;
+      refused = λ t i. nothing_grown (g.A.BuilderArena.view c.args.arena.now).words (g.A.BuilderArena.view c.allocate_struct_list.new.arena).words e.refused;
+    })
+
+-- The words of the list are allocated, and at most one pad.
+pub returns-clause-few : goal.returns-clause-few
+returns-clause-few g c =
+    let B : Segments = (g.A.BuilderArena.view c.allocate_struct_list.new.arena).words in
+    let D : Segments = (g.A.BuilderArena.view c.copy_numbers.new.arena).words in
+    let R : Segments = (g.A.BuilderArena.view c.point_to_object.new.arena).words in
+    let Z : Segments = (g.A.BuilderArena.view c.zero_if_inside.new.arena).words in
+    let Q : Segments = (g.A.BuilderArena.view c.zero_pads.new.arena).words in
+    let (b, settled, shaped, segment_of, start_of) = settled_room c.point_to_object.ensures.settled in
+    let copied = same_words B D c.copy_numbers.ensures.copied.segments c.copy_numbers.ensures.copied.words in
+    let set = same_words D R settled.segments settled.words in
+    let zeroed = same_words R Z c.zero_if_inside.ensures.pruned.segments c.zero_if_inside.ensures.pruned.words in
+    let cleared = same_words Z Q c.zero_pads.ensures.pruned.segments c.zero_pads.ensures.pruned.words in
+    few_after _ _ _ _ c.allocate_struct_list.ensures.room.few (cleared ∙ zeroed ∙ set ∙ copied)
+
+pub returns-in_err-room-clause-fits : goal.returns-in_err-room-clause-fits
+returns-in_err-room-clause-fits g c =
+    let p = err_from_is_err_and c.from_residual.result c.from_residual.ensures.1 in rw p.1 (λ h.
+    (let v : View = g.A.BuilderArena.view c.args.arena.now in
+    let n : ℕ = 1 + c.args.old.count * (c.args.size.data_words + c.args.size.pointers) in
+    (c.in_err-room.ensures.room.fits c.args.id 0 (no_pads v c.args.id n c.args.id h)).0))
+
+-- No segment becomes shorter.
+pub returns-clause-grows : goal.returns-clause-grows
+returns-clause-grows g c =
+    let S : Segments = (g.A.BuilderArena.view c.args.arena.now).words in
+    let B : Segments = (g.A.BuilderArena.view c.allocate_struct_list.new.arena).words in
+    let D : Segments = (g.A.BuilderArena.view c.copy_numbers.new.arena).words in
+    let R : Segments = (g.A.BuilderArena.view c.point_to_object.new.arena).words in
+    let Z : Segments = (g.A.BuilderArena.view c.zero_if_inside.new.arena).words in
+    let Q : Segments = (g.A.BuilderArena.view c.zero_pads.new.arena).words in
+    let (T, room, tagged) = c.in_ok-room.ensures.begun in
+    let (o, settled, shaped, segment_of, start_of) = settled_room c.point_to_object.ensures.settled in
+    let copied = c.copy_numbers.ensures.copied in
+    let tag = same_grows T B (record { segments = tagged.segments; words = tagged.words }) in
+    let copy = same_grows B D (record { segments = copied.segments; words = copied.words }) in
+    let set = same_grows D R (record { segments = settled.segments; words = settled.words }) in
+    let zeroed = grows_again R Z Q (pruned_grows c.zero_if_inside.ensures.pruned) (pruned_grows c.zero_pads.ensures.pruned) in
+    let written = grows_again B D Q copy (grows_again D R Q set zeroed) in
+    grows_again S T Q room.0.grows (grows_again T B Q tag written)
