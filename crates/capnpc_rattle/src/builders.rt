@@ -1,12 +1,7 @@
 //! Generates builders.
 
-use crate::building as templates;
-use crate::copying::{write_copy, write_list_copy};
+use crate::calls::write_call;
 use crate::fields::{is_in_data, push_skip_comment, type_of};
-use crate::getters::{
-    write_enum_getter, write_has, write_list_getter, write_number_getter, write_opening,
-    write_structs_opening, write_which,
-};
 use crate::imports::Kind;
 use crate::model::{
     Base, Default, Field, FieldKind, NO_DISCRIMINANT, Node, NodeKind, Slot, Struct,
@@ -14,12 +9,12 @@ use crate::model::{
 use crate::names::{BUILDER_WORDS, VARIANT_WORDS, capitalized};
 use crate::output::{File, Output};
 use crate::setters::{
-    begin_call, write_bytes, write_capability, write_group, write_list, write_number, write_struct,
-    write_structs, write_void,
+    access, begin_call, put_enum, put_number, write_copy, write_group, write_making,
 };
 use crate::slots::add_fields;
 use crate::text::{Names, Text, Values};
 use crate::writing::Module;
+use crate::{building as templates, calls};
 use std::alloc::{AllocError, Global};
 
 /// A crate of builders as it is generated.
@@ -95,9 +90,7 @@ impl<'m> Builders<'m> {
     // Notes the sections of a struct, if its text names them.
     fn note_size(&self, module: &mut Module, node: &Node, body: &Text) {
         let mut size = Text::new(self.alloc);
-        size.push(" ");
-        size.push(node.module.as_str());
-        size.push("_size");
+        size.push_all(&[" ", node.module.as_str(), "_size"]);
         if body.as_str().contains(size.as_str()) {
             module.sizes.note(self.alloc, size.as_str().trim_start());
         }
@@ -118,31 +111,43 @@ impl<'m> Builders<'m> {
     // Writes the calls of a struct's fields, and that of its union.
     fn write_calls(&mut self, module: &mut Module, node: &'m Node, it: &Struct) {
         let mut names = Names::new(self.alloc);
-        let owner = self.owner(node).module.as_str();
         for field in it.fields.iter() {
-            let mut name = Text::new(self.alloc);
-            name.push(field.snake.as_str());
-            names.push_unique(self.alloc, BUILDER_WORDS, &mut name);
-            let mut values = Values::new(self.alloc);
-            values.put("full", node.full.as_str());
-            values.put("owner", owner);
-            values.put("reading", self.reading);
-            values.put("name", field.name.as_str());
-            values.put_text("snake", name);
-            values.put("spec", field.spec.as_str());
+            let mut values = self.values_of(node);
+            self.put_name(field, &mut names, &mut values);
             put_tag(field, it, &mut values);
             self.write_field(module, field, &mut values);
         }
         self.output.note(names.has_failed());
         if it.members > 0 {
-            let mut values = Values::new(self.alloc);
-            values.put("owner", owner);
-            values.put("reading", self.reading);
+            let mut values = self.values_of(node);
             values.put("spec", it.tag.as_str());
+            values.put("module", it.which.as_str());
             values.put_number("index", u64::from(it.tag_offset));
             values.put_number("count", u64::from(it.members));
-            write_which(module, it.which.as_str(), &mut values);
+            module.specs.add(self.alloc, it.tag.as_str());
+            module.numbers.note(self.alloc, it.which.as_str());
+            write_call(module, calls::WHICH, &mut values);
         }
+    }
+
+    // What the calls of a struct's fields have in common.
+    fn values_of(&self, node: &'m Node) -> Values {
+        let mut values = Values::new(self.alloc);
+        values.put("full", node.full.as_str());
+        values.put("owner", self.owner(node).module.as_str());
+        values.put("reading", self.reading);
+        values.put("reads", templates::READS);
+        values
+    }
+
+    // Puts the names of a field. `names` are those of the fields before it.
+    fn put_name(&self, field: &Field, names: &mut Names, values: &mut Values) {
+        let mut name = Text::new(self.alloc);
+        name.push(field.snake.as_str());
+        names.push_unique(self.alloc, BUILDER_WORDS, &mut name);
+        values.put("name", field.name.as_str());
+        values.put_text("snake", name);
+        values.put("spec", field.spec.as_str());
     }
 
     // Writes the module of an enum.
@@ -203,7 +208,7 @@ impl<'m> Builders<'m> {
         let mut slots = Names::new(self.alloc);
         self.add_slots(id, &mut slots);
         self.output.note(slots.has_failed());
-        write_group(self.alloc, module, &slots, values);
+        write_group(module, &slots, values);
     }
 
     // Adds the parts of the struct that the fields of a group are, and those of the groups in it.
@@ -239,12 +244,12 @@ impl<'m> Builders<'m> {
         values.put_text("of", self.output.type_name(slot.of));
         values.put_number("index", u64::from(slot.offset));
         let is_void = slot.of.lists == 0 && slot.of.base == Base::Void;
-        if is_void && !is_member(values) {
+        if is_void && field.discriminant == NO_DISCRIMINANT {
             return;
         }
         begin_call(module, field.ordinal, slot.of, values);
         if is_void {
-            write_void(module, values);
+            write_call(module, calls::SET_VOID, values);
         } else if is_in_data(slot.of) {
             self.write_data(module, slot, values);
         } else {
@@ -254,61 +259,28 @@ impl<'m> Builders<'m> {
 
     // Writes the calls of a number, a bit or an enum.
     fn write_data(&self, module: &mut Module, slot: &Slot, values: &mut Values) {
-        values.put_number("bits", slot.of.base.bits());
         module.specs.add(self.alloc, values.get("spec"));
-        let Some(node) = self.output.node(slot.of.id) else {
-            write_number(module, slot, None, values);
-            write_number_getter(module, slot, values);
-            return;
-        };
-        if let NodeKind::Enum(names) = &node.kind {
-            values.put_number("count", names.len() as u64);
+        put_number(slot, values);
+        if let Some(node) = self.output.node(slot.of.id) {
+            put_enum(module, node, values);
         }
-        let name = type_of(self.alloc, node);
-        write_number(
-            module,
-            slot,
-            Some((node.module.as_str(), name.as_str())),
-            values,
-        );
-        write_enum_getter(module, slot, node.module.as_str(), name.as_str(), values);
+        values.put_lines(access(slot));
+        write_call(module, calls::SET_NUMBER, values);
+        write_call(module, calls::GET_NUMBER, values);
     }
 
     // Writes the calls of a pointer.
     fn write_pointer(&self, module: &mut Module, slot: &Slot, values: &mut Values) {
         let of = slot.of;
-        let has_default = matches!(slot.default, Default::Words(_));
-        match (of.lists, of.base, self.output.node(of.id)) {
-            (0, Base::Text | Base::Data, _) => write_bytes(module, of.base, values),
-            (0, Base::Interface, _) => write_capability(module, values),
-            (0, Base::Struct, Some(node)) => {
-                self.put_inner(module, node, values);
-                write_struct(module, values);
-                if !has_default {
-                    write_opening(module, values);
-                }
-            }
-            (1, Base::Struct, Some(node)) => {
-                self.put_inner(module, node, values);
-                write_structs(module, values);
-                if !has_default {
-                    write_structs_opening(module, values);
-                }
-            }
-            (0, _, _) => {}
-            _ => {
-                write_list(module, of, values);
-                if !has_default {
-                    write_list_getter(module, values);
-                }
-            }
+        if of.lists <= 1
+            && of.base == Base::Struct
+            && let Some(node) = self.output.node(of.id)
+        {
+            self.put_inner(module, node, values);
         }
-        if of.lists > 0 {
-            write_list_copy(module, of, values);
-        } else {
-            write_copy(module, of.base, values);
-        }
-        write_has(module, values);
+        write_making(module, slot, values);
+        write_copy(module, of, values);
+        write_call(module, calls::HAS, values);
     }
 
     // Puts what the calls of a struct, or of a list of structs, have in their contracts.
@@ -317,42 +289,44 @@ impl<'m> Builders<'m> {
             module.put_path(node.module.as_str(), values);
             values.put("inner", node.module.as_str());
             let mut size = Text::new(self.alloc);
-            size.push(node.module.as_str());
-            size.push("_size");
+            size.push_all(&[node.module.as_str(), "_size"]);
             module.sizes.note(self.alloc, size.as_str());
             put_sections(inner, values);
         }
     }
 }
 
-/// Whether a field is a member of a union.
-pub fn is_member(values: &Values) -> bool {
-    values.get("kind") == "Member"
-}
-
-// Puts the sections of a struct, and how many words they have.
+// Puts the sections of a struct, how many words they have, and how many of it a list can have.
 fn put_sections(it: &Struct, values: &mut Values) {
     let data = u64::from(it.data_words);
     let pointers = u64::from(it.pointers);
+    let words = data.saturating_add(pointers);
     values.put_number("data", data);
     values.put_number("pointers", pointers);
-    values.put_number("words", data.saturating_add(pointers));
+    values.put_number("words", words);
+    values.put_filled("few_structs", few_structs(words));
+}
+
+// What a list of structs that have this many words each needs.
+fn few_structs(words: u64) -> &'static str {
+    if words == 0 {
+        "count < 2 ^ 30"
+    } else {
+        "count * ~words~ < 2 ^ 29"
+    }
 }
 
 // Puts what the calls of a member of a union have that another field's calls don't have.
 fn put_tag(field: &Field, it: &Struct, values: &mut Values) {
     if field.discriminant == NO_DISCRIMINANT {
-        values.put("kind", "Field");
+        values.put_lines(calls::FIELD);
         return;
     }
-    values.put("kind", "Member");
-    values.put("end_of_kind", "Member");
-    values.put("suffix", "_member");
-    values.put("tag_arg", "tag, ");
-    values.put_number("tag_offset", u64::from(it.tag_offset));
-    values.put_number("tag_bit", u64::from(it.tag_offset).saturating_mul(16));
+    let offset = u64::from(it.tag_offset);
+    values.put_number("tag_offset", offset);
+    values.put_number("tag_bit", offset.saturating_mul(16));
     values.put_number("tag", u64::from(field.discriminant));
-    values.put_filled("tagged", "(tagged ~tag_offset~ ~tag~) ");
+    values.put_lines(calls::MEMBER);
 }
 
 // Puts the arms of the function that returns the number of an enum. `values` has its type.

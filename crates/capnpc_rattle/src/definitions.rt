@@ -38,8 +38,7 @@ fn reserve_own_names(alloc: Global, node: &Node, taken: &mut Names) {
 // Takes the name that begins with `start` and ends with `end`.
 fn reserve_name(alloc: Global, start: &str, end: &str, taken: &mut Names) {
     let mut name = Text::new(alloc);
-    name.push(start);
-    name.push(end);
+    name.push_all(&[start, end]);
     taken.note(alloc, name.as_str());
 }
 
@@ -97,8 +96,7 @@ fn has_value(slot: &Slot) -> bool {
 // Returns the name of a definition that no other has: `start`, `end`, and as many `_` as that takes.
 fn unique_definition_name(start: &str, end: &str, taken: &mut Names, noted: &mut Noted) -> String {
     let mut name = Text::new(noted.alloc());
-    name.push(start);
-    name.push(end);
+    name.push_all(&[start, end]);
     taken.push_unique(noted.alloc(), SPEC_WORDS, &mut name);
     noted.string_or_note(name)
 }

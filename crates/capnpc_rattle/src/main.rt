@@ -5,17 +5,17 @@
 
 mod builders;
 mod building;
-mod copying;
+mod calls;
 mod defaults;
 mod definitions;
 mod fields;
-mod getters;
 mod imports;
 mod model;
 mod modules;
 mod names;
 mod noted;
 mod output;
+mod parts;
 mod readers;
 mod request;
 mod setters;

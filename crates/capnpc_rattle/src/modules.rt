@@ -36,8 +36,7 @@ fn name_which(node: &mut Node, taken: &mut Names, noted: &mut Noted) {
 // Returns the name of a module that no other has: `start`, `end`, and as many `_` as that takes.
 fn unique_module_name(start: &str, end: &str, taken: &mut Names, noted: &mut Noted) -> String {
     let mut name = Text::new(noted.alloc());
-    name.push(start);
-    name.push(end);
+    name.push_all(&[start, end]);
     taken.push_unique(noted.alloc(), MODULE_WORDS, &mut name);
     noted.string_or_note(name)
 }

@@ -80,16 +80,22 @@ impl<'m> Readers<'m> {
         }
         self.output.finish(&mut module, node.full.as_str());
         if it.members > 0 {
-            values.put_filled("about", "Which member of ~full~ is set");
-            let members = member_names(self.alloc, it);
-            self.output.note(members.has_failed());
-            self.write_names(
-                it.which.as_str(),
-                "Which",
-                values.get("about"),
-                members.as_slice(),
-            );
+            self.write_members(node, it);
         }
+    }
+
+    // Writes the module of a union's members.
+    fn write_members(&mut self, node: &Node, it: &Struct) {
+        let mut about = Text::new(self.alloc);
+        about.push_all(&["Which member of ", node.full.as_str(), " is set"]);
+        let members = member_names(self.alloc, it);
+        self.output.note(about.has_failed() || members.has_failed());
+        self.write_names(
+            it.which.as_str(),
+            "Which",
+            about.as_str(),
+            members.as_slice(),
+        );
     }
 
     // Writes the getters of a struct.
@@ -109,19 +115,16 @@ impl<'m> Readers<'m> {
         let mut values = Values::new(self.alloc);
         values.put("full", node.full.as_str());
         values.put("spec", it.tag.as_str());
-        values.put_filled("about", "Which member of ~full~ is set.");
-        values.put("type", "ℕ");
         values.put_text(
             "value",
             field_bits_definition(self.alloc, it.tag_offset, 16),
         );
         values.put_number("index", u64::from(it.tag_offset));
         values.put_number("count", u64::from(it.members));
-        values.put_filled("read", "value::get_number(&self.reader, ~index~)");
+        values.put_lines(templates::WHICH);
         self.define(module, templates::DEFINITION, &values);
         module.begin();
         module.body.push("    /// Returns which member is set.\n");
-        values.put("call", "which");
         write_enum_getter_named(self.alloc, module, it.which.as_str(), "Which", &mut values);
     }
 
@@ -243,10 +246,8 @@ impl<'m> Readers<'m> {
         values: &mut Values,
     ) {
         let mut default = Values::new(self.alloc);
-        default.put("full", values.get("full"));
-        default.put("name", values.get("name"));
         default.put("spec", spec);
-        default.put_filled("about", "The default value of ~full~.~name~, as a message");
+        default.put("about", values.get("about"));
         default.put_text("value", list_of_bytes(self.alloc, words));
         self.define(module, templates::DEFAULT, &default);
         values.put("default", spec);
@@ -280,28 +281,21 @@ impl<'m> Readers<'m> {
 
     // Writes the getter of a pointer, from its name on, and the call that says whether it is null.
     fn write_pointer(&self, module: &mut Module, of: Type, values: &mut Values) {
-        if of.lists <= 1 && of.base == Base::Struct {
-            if let Some(node) = self.output.node(of.id) {
-                module.put_path(node.module.as_str(), values);
-            }
+        if of.lists <= 1
+            && of.base == Base::Struct
+            && let Some(node) = self.output.node(of.id)
+        {
+            module.put_path(node.module.as_str(), values);
         }
         if of.lists > 0 {
             write_list(module, of, values);
         } else {
             write_pointer_getter(module, of.base, values);
         }
-        let mut has = Values::new(self.alloc);
-        has.put("name", values.get("name"));
-        has.put("snake", values.get("snake"));
-        has.put("index", values.get("index"));
-        has.put_filled("call", "has_~snake~");
-        has.put("gives", "bool");
-        module.body.push_filled(
-            "\n    /// Whether the pointer of ~name~ is not null.\n",
-            &has,
-        );
-        module.push_signature(false, &has);
-        module.body.push_filled(templates::HAS, &has);
+        values.put_lines(templates::HAS_PARTS);
+        module.body.push_filled(templates::HAS_ABOUT, values);
+        module.push_signature(false, values);
+        module.body.push_filled(templates::HAS, values);
     }
 }
 
@@ -313,14 +307,7 @@ fn put_variants(alloc: Global, names: &[String], values: &mut Values) {
     let mut arms = Text::new(alloc);
     let mut numbers = Text::new(alloc);
     for (i, name) in names.iter().enumerate() {
-        let mut variant = capitalized(alloc, name.as_str());
-        taken.push_unique(alloc, VARIANT_WORDS, &mut variant);
-        let mut row = Values::new(alloc);
-        row.put("name", name.as_str());
-        row.put_text("variant", variant);
-        row.put("type", values.get("type"));
-        row.put("module", values.get("module"));
-        row.put_number("number", i as u64);
+        let row = variant_of(alloc, name.as_str(), i as u64, &mut taken, values);
         variants.push_filled("    /// ~name~ @~number~\n    ~variant~,\n", &row);
         arms.push_filled("        ~number~ => Ok(~type~::~variant~),\n", &row);
         numbers.push_filled("~module~_number ~variant~ = ~number~\n", &row);
@@ -333,38 +320,52 @@ fn put_variants(alloc: Global, names: &[String], values: &mut Values) {
     values.put_text("names", list);
 }
 
+// The words of a variant. `taken` are the variants before it, and `values` has the enum's type and
+// module.
+fn variant_of(
+    alloc: Global,
+    name: &str,
+    number: u64,
+    taken: &mut Names,
+    values: &Values,
+) -> Values {
+    let mut variant = capitalized(alloc, name);
+    taken.push_unique(alloc, VARIANT_WORDS, &mut variant);
+    let mut row = Values::new(alloc);
+    row.put("name", name);
+    row.put_text("variant", variant);
+    row.put("type", values.get("type"));
+    row.put("module", values.get("module"));
+    row.put_number("number", number);
+    row
+}
+
 // Puts the type and the definition of a field of a data section, and what reads it.
 fn put_number_field(alloc: Global, slot: &Slot, values: &mut Values) {
     let base = slot.of.base;
-    values.put("type", "ℕ");
-    values.put("kind", number_kind(base));
     values.put_number("bits", base.bits());
     values.put_text(
         "stored",
         field_bits_definition(alloc, slot.offset, base.bits()),
     );
+    values.put("rust", base.rust_type().unwrap_or("()"));
     if let Default::Number { literal, bits } = &slot.default {
-        values.put("sense", "≢");
         values.put("literal", literal.as_str());
         values.put_number("mask", *bits);
-        values.put("rust", base.rust_type().unwrap_or("()"));
-        if base == Base::Bool {
-            values.put_filled("value", "~stored~");
-            values.put_filled("read", "value::get_bool_or(&self.reader, ~index~, true)");
-        } else {
-            values.put_filled("value", "bit_xor (~stored~) ~mask~");
-            values.put_filled("read", templates::NUMBER_OR);
-        }
-    } else {
-        values.put("sense", "≡");
-        values.put_filled("value", "~stored~");
-        values.put_filled("read", "value::get_~kind~(&self.reader, ~index~)");
     }
+    values.put_lines(number_parts(slot));
 }
 
-// What the function is called that reads a number or a bit.
-fn number_kind(base: Base) -> &'static str {
-    if base == Base::Bool { "bool" } else { "number" }
+// The parts of a field of a data section.
+fn number_parts(slot: &Slot) -> &'static str {
+    let is_bool = slot.of.base == Base::Bool;
+    let has_default = matches!(slot.default, Default::Number { .. });
+    match (is_bool, has_default) {
+        (true, true) => templates::BOOL_OR,
+        (true, false) => templates::BOOL_PARTS,
+        (false, true) => templates::NUMBER_OR,
+        (false, false) => templates::NUMBER_PARTS,
+    }
 }
 
 // The template of a number, or a bit.
@@ -381,37 +382,32 @@ fn number_getter_template(base: Base) -> &'static str {
 // Puts the type and the definition of a field of a pointer section; of a text or data also what
 // reads it.
 fn put_pointer_field(alloc: Global, slot: &Slot, values: &mut Values) {
-    let of = slot.of;
-    if of.lists > 0 || (of.base != Base::Text && of.base != Base::Data) {
-        values.put("type", "Tree");
-        values.put_filled("value", "child ~index~ t");
-        return;
-    }
-    values.put("type", "List ℕ");
-    values.put("kind", bytes_kind(of.base));
-    values.put("bytes", bytes_definition(of.base));
     if let Default::Bytes(bytes) = &slot.default {
         values.put_text("numbers", list_of_bytes(alloc, bytes.as_slice()));
         values.put_text("literal", byte_string_literal(alloc, bytes.as_slice()));
-        values.put_filled("value", "~kind~_or (~numbers~) (child ~index~ t)");
-        values.put_filled("read", templates::BYTES_OR);
-    } else {
-        values.put_filled("value", "~bytes~ (child ~index~ t)");
-        values.put_filled("read", templates::BYTES);
+    }
+    let has_default = matches!(slot.default, Default::Bytes(_));
+    values.put_lines(pointer_parts(slot.of, has_default));
+    values.put_filled("read", bytes_read(has_default));
+}
+
+// The parts of a field of a pointer section.
+fn pointer_parts(of: Type, has_default: bool) -> &'static str {
+    match (of.lists, of.base, has_default) {
+        (0, Base::Text, true) => templates::TEXT_OR,
+        (0, Base::Text, false) => templates::TEXT_PARTS,
+        (0, Base::Data, true) => templates::DATA_OR,
+        (0, Base::Data, false) => templates::DATA_PARTS,
+        _ => templates::TREE_PARTS,
     }
 }
 
-// What functions of texts and of data are called.
-fn bytes_kind(base: Base) -> &'static str {
-    if base == Base::Text { "text" } else { "data" }
-}
-
-// The definition of the bytes of a text, or of data.
-fn bytes_definition(base: Base) -> &'static str {
-    if base == Base::Text {
-        "text_bytes"
+// What reads a text or data.
+fn bytes_read(has_default: bool) -> &'static str {
+    if has_default {
+        templates::BYTES_OR
     } else {
-        "list_numbers"
+        templates::BYTES
     }
 }
 
@@ -498,25 +494,23 @@ fn write_list(module: &mut Module, of: Type, values: &mut Values) {
     values.put("get", function);
     values.put("reader", reader);
     values.put("element", of.base.rust_type().unwrap_or("()"));
-    values.put_filled("gives", list_getter_result(function));
+    values.put_lines(list_parts(function));
     let has_default = !values.get("default").is_empty();
-    let of_structs = function == "get_structs";
-    values.put(
-        "list",
-        if of_structs {
-            "r.list.reader"
-        } else {
-            "r.reader"
-        },
+    values.put_filled(
+        "end",
+        list_getter_end(function == "get_structs", has_default),
     );
-    values.put_filled("end", list_getter_end(of_structs, has_default));
     module.push_signature(true, values);
-    let template = if has_default {
+    module.body.push_filled(list_template(has_default), values);
+}
+
+// The template of such a getter.
+fn list_template(has_default: bool) -> &'static str {
+    if has_default {
         templates::LIST_OR
     } else {
         templates::LIST
-    };
-    module.body.push_filled(template, values);
+    }
 }
 
 // How such a getter ends.
@@ -529,12 +523,12 @@ fn list_getter_end(of_structs: bool, has_default: bool) -> &'static str {
     }
 }
 
-// What the getter of a list returns.
-fn list_getter_result(function: &str) -> &'static str {
+// What the getter of a list returns, and how that names the list.
+fn list_parts(function: &str) -> &'static str {
     match function {
-        "get_structs" => "Result<~path~Readers<'a, A>, ErrorKind>",
-        "get_numbers" => "Result<~reader~<'a, A, ~element~>, ErrorKind>",
-        _ => "Result<~reader~<'a, A>, ErrorKind>",
+        "get_structs" => templates::STRUCTS_PARTS,
+        "get_numbers" => templates::NUMBERS_PARTS,
+        _ => templates::POINTERS_PARTS,
     }
 }
 

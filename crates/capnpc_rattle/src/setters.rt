@@ -1,13 +1,13 @@
-//! Writes the calls of builders that change a field.
+//! Writes the calls of a builder's field.
 
-use crate::builders::is_member;
-use crate::building as templates;
-use crate::fields::{begin_comment, element_size};
-use crate::model::{Base, Default, Slot, Type};
+use crate::calls;
+use crate::calls::write_call;
+use crate::fields::{begin_comment, element_size, list_kind, type_of};
+use crate::model::{Base, Default, Node, NodeKind, Slot, Type};
+use crate::parts::part;
 use crate::slots::{slot_items, slot_list};
 use crate::text::{Names, Values};
 use crate::writing::Module;
-use std::alloc::Global;
 
 /// Begins the calls of a field with its comment. Those of any pointer have comments of their own.
 pub fn begin_call(module: &mut Module, ordinal: Option<u16>, of: Type, values: &Values) {
@@ -17,295 +17,133 @@ pub fn begin_call(module: &mut Module, ordinal: Option<u16>, of: Type, values: &
     }
 }
 
-/// Writes the call that sets a number, a bit or an enum. `named` has the module and the name of an
-/// enum. Of a number with a sign, the bits are stored.
-pub fn write_number(
-    module: &mut Module,
-    slot: &Slot,
-    named: Option<(&str, &str)>,
-    values: &mut Values,
-) {
-    values.put("argument", "value");
-    values.put("value_type", slot.of.base.rust_type().unwrap_or("()"));
-    if let Some((of, name)) = named {
-        put_enum(module, of, name, values);
-        module.body.push(if is_member(values) {
-            templates::MEMBER_OF_CALL
-        } else {
-            templates::NUMBER_OF_CALL
-        });
+/// Puts what the calls of a number, a bit or an enum have in their contracts, and what they call.
+/// Of a number with a sign, the bits are stored.
+pub fn put_number(slot: &Slot, values: &mut Values) {
+    let base = slot.of.base;
+    values.put_number("bits", base.bits());
+    values.put_number("bit", u64::from(slot.offset).saturating_mul(base.bits()));
+    values.put("rust", base.rust_type().unwrap_or("()"));
+    if let Default::Number { literal, bits } = &slot.default {
+        values.put("literal", literal.as_str());
+        values.put_number("mask", *bits);
     }
-    put_stored(slot, values);
-    values.put_filled("start", "pub fn set_~snake~<A: BuilderArena>");
-    values.put_filled("params", "self, arena: &mut A, value: ~value_type~");
-    module.push_builder_signature(values.get("params"), values);
-    module.push_filled(templates::THERE, values);
-    module.body.push(templates::GROWS);
-    module.push_filled(templates::FIELD, values);
-    module.body.push(templates::WRITES);
-    begin_body(module, values);
-    values.put_filled("call", "value::~function~~suffix~");
-    values.put_filled(
-        "args",
-        "arena, self.place, ~tag_arg~~index~, ~argument~~default~",
-    );
-    module.push_call("", values.get("call"), values.get("args"), ";\n");
-    module.body.push("    }\n");
+    values.put_lines(kind_of_number(base));
 }
 
-// Puts what the call of an enum has in its contract: its type, and its number.
-fn put_enum(module: &mut Module, of: &str, name: &str, values: &mut Values) {
+// The types of the calls of a number, a bit or an enum, and what is stored for `value`, if the
+// field has no default value.
+fn kind_of_number(base: Base) -> &'static str {
+    match base {
+        Base::Bool => calls::BOOL,
+        Base::Enum => "",
+        _ if base.has_sign() => calls::SIGNED,
+        _ => calls::UNSIGNED,
+    }
+}
+
+/// How a number, a bit or an enum is stored and read, after its calls' other parts are put.
+pub fn access(slot: &Slot) -> &'static str {
+    let is_bool = slot.of.base == Base::Bool;
+    let has_default = matches!(slot.default, Default::Number { .. });
+    match (is_bool, has_default) {
+        (true, true) => calls::BOOL_OR,
+        (true, false) => calls::BOOL_ACCESS,
+        (false, true) => calls::NUMBER_OR,
+        (false, false) => calls::NUMBER_ACCESS,
+    }
+}
+
+/// Puts what the calls of an enum have in their contracts, and writes what the prover needs for the
+/// first of them.
+pub fn put_enum(module: &mut Module, node: &Node, values: &mut Values) {
     let alloc = module.alloc();
+    let of = node.module.as_str();
     module.numbers.note(alloc, of);
     module.put_path(of, values);
-    values.put("enum", of);
-    values.put("type", name);
-    values.put_filled("value_type", "~path~~type~");
-    values.put_filled("argument", "~path~number(value)");
-}
-
-// Puts the call that writes a number, and what it stores. `values` has the argument.
-fn put_stored(slot: &Slot, values: &mut Values) {
-    let base = slot.of.base;
-    let bit = u64::from(slot.offset).saturating_mul(base.bits());
-    values.put_number("bit", bit);
-    let Default::Number { literal, bits } = &slot.default else {
-        let function = if base == Base::Bool {
-            "set_bool"
-        } else {
-            "set_number"
-        };
-        values.put("function", function);
-        values.put_filled("stored", stored(base));
-        return;
-    };
-    if base == Base::Bool {
-        values.put("function", "set_bool_default_true");
-        values.put("stored", "(cond value 0 1)");
-        return;
+    values.put("module", of);
+    values.put_text("type", type_of(alloc, node));
+    if let NodeKind::Enum(names) = &node.kind {
+        values.put_number("count", names.len() as u64);
     }
-    values.put("function", "set_number_or");
-    values.put("literal", literal.as_str());
-    values.put_filled("default", ", ~literal~");
-    values.put_number("mask", *bits);
-    values.put_filled("plain", stored(base));
-    values.put_filled("stored", "(bit_xor ~plain~ ~mask~)");
+    values.put_lines(calls::ENUM);
+    module.push_filled(part(values.get("of_call")), values);
 }
 
-// The number that is stored for `value`, if the field has no default value.
-fn stored(base: Base) -> &'static str {
-    match base {
-        Base::Bool => "(cond value 1 0)",
-        Base::Enum => "(~enum~_number value)",
-        _ if base.has_sign() => "(int~bits~_bits value)",
-        _ => "value",
+/// Writes the calls that set a pointer or make what it leads to, and those that return that for
+/// writing.
+pub fn write_making(module: &mut Module, slot: &Slot, values: &mut Values) {
+    let size = element_size(slot.of);
+    values.put("size", size);
+    values.put("size_number", size_number(size));
+    let (making, opening) = making(slot.of);
+    if !making.is_empty() {
+        write_call(module, making, values);
+    }
+    if !opening.is_empty() && !matches!(slot.default, Default::Words(_)) {
+        write_call(module, opening, values);
     }
 }
 
-/// Begins the body of a call: a member of a union has a tag.
-pub fn begin_body(module: &mut Module, values: &Values) {
-    module.body.push("    {\n");
-    if is_member(values) {
-        module.push_filled(templates::TAG, values);
+// The call that sets a pointer or makes what it leads to, and the call that returns that for
+// writing; nothing if there is none.
+fn making(of: Type) -> (&'static str, &'static str) {
+    match (of.lists, of.base) {
+        (0, Base::Text) => (calls::SET_TEXT, ""),
+        (0, Base::Data) => (calls::SET_DATA, ""),
+        (0, Base::Interface) => (calls::SET_CAPABILITY, ""),
+        (0, Base::Struct) => (calls::INIT_STRUCT, calls::OPEN_STRUCT),
+        (0, _) => ("", ""),
+        (1, Base::Struct) => (calls::INIT_STRUCTS, calls::OPEN_STRUCTS),
+        _ => (calls::INIT_LIST, calls::OPEN_LIST),
     }
-}
-
-/// Writes the call of a member of a union that has no value.
-pub fn write_void(module: &mut Module, values: &mut Values) {
-    values.put_filled("start", "pub fn set_~snake~<A: BuilderArena>");
-    module.push_builder_signature("self, arena: &mut A", values);
-    module.push_filled(templates::THERE, values);
-    module.body.push(templates::GROWS);
-    module.push_filled(templates::TAGGED, values);
-    module.body.push(templates::WRITES);
-    begin_body(module, values);
-    module
-        .body
-        .push("        value::set_tag(arena, self.place, tag);\n    }\n");
-}
-
-/// Writes the call that sets a text or data.
-pub fn write_bytes(module: &mut Module, base: Base, values: &mut Values) {
-    if base == Base::Text {
-        values.put("bytes", "text");
-        values.put("few", "length text.now + 1 < 2 ^ 29");
-        values.put("tree", "Flat 2 (text.now ++ 0 ∷ [])");
-        values.put("all_words", "(words_for 2 (length text.now + 1))");
-        values.put_filled("call", "value::set_text~suffix~");
-    } else {
-        values.put("bytes", "contents");
-        values.put("few", "length contents.now < 2 ^ 29");
-        values.put("tree", "Flat 2 contents.now");
-        values.put("all_words", "(words_for 2 (length contents.now))");
-        values.put_filled("call", "value::set_data~suffix~");
-    }
-    values.put_filled("start", "pub fn set_~snake~<A: BuilderArena>");
-    values.put_filled("params", "self, arena: &mut A, ~bytes~: &[u8]");
-    values.put("end", " -> Result<(), ErrorKind>");
-    module.push_builder_signature(values.get("params"), values);
-    module.push_filled(templates::THERE_AND_FEW, values);
-    write_object(module, values);
-    write_child(module, values);
-    begin_body(module, values);
-    values.put_filled("args", "arena, self.place, ~tag_arg~~index~, ~bytes~");
-    module.push_call("", values.get("call"), values.get("args"), "\n    }\n");
-}
-
-/// Writes the call that makes a new struct.
-pub fn write_struct(module: &mut Module, values: &mut Values) {
-    values.put("builder", "Builder");
-    values.put_filled("tree", "zero_struct ~inner~_size");
-    values.put_filled("all_words", "~words~");
-    values.put_filled("start", "pub fn init_~snake~<A: BuilderArena>");
-    values.put_filled("end", " -> Result<~path~Builder, ErrorKind>");
-    module.push_builder_signature("self, arena: &mut A", values);
-    module.push_filled(templates::THERE, values);
-    write_object(module, values);
-    module.push_filled(templates::STRUCT_THERE, values);
-    module.push_filled(templates::STRUCT_MADE, values);
-    write_child(module, values);
-    begin_body(module, values);
-    values.put_filled("call", "value::init_struct~suffix~");
-    values.put_filled("args", "arena, self.place, ~tag_arg~~index~, ~path~SIZE");
-    module.push_call("match ", values.get("call"), values.get("args"), " {\n");
-    module.push_filled(templates::BUILT, values);
-}
-
-/// Writes the call that makes a new list of structs.
-pub fn write_structs(module: &mut Module, values: &mut Values) {
-    values.put("builder", "Builders");
-    values.put_filled("tree", "zero_structs count ~inner~_size");
-    if values.get("words") == "0" {
-        values.put("few", "count < 2 ^ 30");
-    } else {
-        values.put_filled("few", "count * ~words~ < 2 ^ 29");
-    }
-    values.put_filled("all_words", "(1 + count * ~words~)");
-    values.put_filled("start", "pub fn init_~snake~<A: BuilderArena>");
-    values.put_filled("end", " -> Result<~path~Builders, ErrorKind>");
-    module.push_builder_signature("self, arena: &mut A, count: u32", values);
-    module.push_filled(templates::THERE_AND_FEW, values);
-    write_object(module, values);
-    module.push_filled(templates::STRUCTS_THERE, values);
-    module.push_filled(templates::STRUCTS_MADE, values);
-    write_child(module, values);
-    begin_body(module, values);
-    values.put_filled("call", "value::init_struct_list~suffix~");
-    values.put_filled(
-        "args",
-        "arena, self.place, ~tag_arg~~index~, count, ~path~SIZE",
-    );
-    module.push_call("match ", values.get("call"), values.get("args"), " {\n");
-    module.push_filled(templates::BUILT, values);
-}
-
-/// Writes the call that makes a new list whose elements aren't structs.
-pub fn write_list(module: &mut Module, of: Type, values: &mut Values) {
-    values.put("size", element_size(of));
-    values.put("few", "count < 2 ^ 29");
-    values.put_number("size_number", size_number(element_size(of)));
-    values.put_filled("tree", "zero_list ~size_number~ count");
-    values.put_filled("all_words", "(list_words ~size_number~ count)");
-    values.put_filled("start", "pub fn init_~snake~<A: BuilderArena>");
-    values.put("end", " -> Result<ListPlace, ErrorKind>");
-    module.push_builder_signature("self, arena: &mut A, count: u32", values);
-    module.push_filled(templates::THERE_AND_FEW, values);
-    write_object(module, values);
-    module.push_filled(templates::LIST_THERE, values);
-    module.push_filled(templates::LIST_MADE, values);
-    write_child(module, values);
-    begin_body(module, values);
-    values.put_filled("call", "value::init_list~suffix~");
-    values.put_filled(
-        "args",
-        "arena, self.place, ~tag_arg~~index~, ElementSize::~size~, count",
-    );
-    module.push_call("", values.get("call"), values.get("args"), "\n    }\n");
 }
 
 // The number of an element size.
-fn size_number(size: &str) -> u64 {
+fn size_number(size: &str) -> &'static str {
     match size {
-        "Void" => 0,
-        "Bit" => 1,
-        "Byte" => 2,
-        "TwoBytes" => 3,
-        "FourBytes" => 4,
-        "EightBytes" => 5,
-        _ => 6,
+        "Void" => "0",
+        "Bit" => "1",
+        "Byte" => "2",
+        "TwoBytes" => "3",
+        "FourBytes" => "4",
+        "EightBytes" => "5",
+        _ => "6",
     }
 }
 
-// Writes what the call of an object ensures of the message, and that no segment becomes shorter.
-fn write_object(module: &mut Module, values: &mut Values) {
-    if !is_member(values) {
-        module.push_filled(templates::OBJECT, values);
-    }
-    module.body.push(templates::GROWS);
-}
-
-// Writes what the call of an object ensures of the struct that it is in.
-fn write_child(module: &mut Module, values: &Values) {
-    if is_member(values) {
-        module.push_filled(templates::MEMBER, values);
-        module.push_filled(templates::ALLOCATES, values);
-    } else {
-        module.push_filled(templates::CHILD, values);
+/// Writes the call that copies a value, if there is one.
+pub fn write_copy(module: &mut Module, of: Type, values: &mut Values) {
+    let (function, reader) = list_kind(of);
+    values.put("reader", reader);
+    values.put("element", of.base.rust_type().unwrap_or("()"));
+    let copied = copied(of, function);
+    if !copied.is_empty() {
+        values.put_lines(copied);
+        write_call(module, calls::COPY, values);
     }
 }
 
-/// Writes the call that sets a capability.
-pub fn write_capability(module: &mut Module, values: &mut Values) {
-    values.put_filled("start", "pub fn set_~snake~<A: BuilderArena>");
-    module.push_builder_signature("self, arena: &mut A, capability: u32", values);
-    module.push_filled(templates::THERE, values);
-    module.body.push(templates::GROWS);
-    module.push_filled(templates::CAPABILITY, values);
-    module.body.push(templates::WRITES);
-    begin_body(module, values);
-    values.put_filled("call", "value::set_capability~suffix~");
-    values.put_filled("args", "arena, self.place, ~tag_arg~~index~, capability");
-    module.push_call("", values.get("call"), values.get("args"), ";\n");
-    module.body.push("    }\n");
+// What the call that copies a value puts; nothing if there is no such call. `function` reads lists
+// of this kind.
+fn copied(of: Type, function: &str) -> &'static str {
+    match (of.lists, of.base, function) {
+        (0, Base::Struct, _) => calls::COPY_STRUCT,
+        (0, Base::AnyPointer, _) => calls::COPY_POINTER,
+        (0, _, _) => "",
+        (_, _, "get_structs") => calls::COPY_STRUCTS,
+        (_, _, "get_numbers") => calls::COPY_NUMBERS,
+        _ => calls::COPY_POINTERS,
+    }
 }
 
 /// Writes the calls of a group: one returns its builder, and one makes its fields zero before that.
-pub fn write_group(alloc: Global, module: &mut Module, slots: &Names, values: &mut Values) {
-    values.put_filled("end", " -> ~path~Builder");
-    values.put_filled("start", "pub fn get_~snake~");
-    module.begin();
-    module.push_filled("    /// ~name~ :group\n", values);
-    module.push_builder_signature("self", values);
-    module.push_filled(templates::GROUP, values);
-    values.put_filled("start", "pub fn init_~snake~<A: BuilderArena>");
+pub fn write_group(module: &mut Module, slots: &Names, values: &mut Values) {
+    write_call(module, calls::GET_GROUP, values);
+    let alloc = module.alloc();
     values.put_text("slots", slot_list(alloc, slots));
     values.put_text("items", slot_items(alloc, slots));
-    if is_member(values) {
-        values.put("zeroes", "begins { BeginsGroup");
-        values.put("replaces", "ReplacesGroup");
-    } else {
-        values.put("zeroes", "zeroes { ZeroesSlots");
-        values.put("replaces", "ReplacesSlots");
-    }
-    module.begin();
-    module.push_filled(templates::GROUP_ABOUT, values);
-    module.push_builder_signature("self, arena: &mut A", values);
-    module.push_filled(templates::THERE, values);
-    module.body.push(templates::GROWS);
-    module.push_filled(templates::ZEROES, values);
-    write_zeroes(module, values);
-}
-
-// Writes the body of the call that makes the fields of a group zero. `values` has its parts, `items`.
-fn write_zeroes(module: &mut Module, values: &mut Values) {
-    begin_body(module, values);
-    let is_empty = values.get("items").is_empty();
-    if !is_empty {
-        module.push_array("let slots = ", values.get("items"));
-    }
+    let is_empty = slots.as_slice().is_empty();
     values.put("array", if is_empty { "&[]" } else { "&slots" });
-    values.put_filled("call", "groups::zero_slots~suffix~");
-    values.put_filled("args", "arena, self.place, ~tag_arg~~array~");
-    module.push_call("", values.get("call"), values.get("args"), ";\n");
-    module.push_filled(templates::GROUP_END, values);
+    write_call(module, calls::INIT_GROUP, values);
 }

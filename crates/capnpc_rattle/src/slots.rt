@@ -59,9 +59,7 @@ pub fn slot_list(alloc: Global, slots: &Names) -> Text {
         } else if !list.as_str().is_empty() {
             list.push(" ");
         }
-        list.push("Slot.");
-        list.push(slot.as_str());
-        list.push(" ∷");
+        list.push_all(&["Slot.", slot.as_str(), " ∷"]);
     }
     list.push(if list.as_str().is_empty() {
         "[]"
@@ -79,11 +77,7 @@ pub fn slot_items(alloc: Global, slots: &Names) -> Text {
         if !items.as_str().is_empty() {
             items.push(", ");
         }
-        items.push("Slot::");
-        items.push(kind);
-        items.push("(");
-        items.push(offset);
-        items.push(")");
+        items.push_all(&["Slot::", kind, "(", offset, ")"]);
     }
     items
 }

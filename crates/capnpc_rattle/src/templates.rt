@@ -97,8 +97,78 @@ pub const SIGNED: &str =
     }
 ";
 
-/// How a number with a default value is read.
-pub const NUMBER_OR: &str = "value::get_number_or::<A, ~rust~>(&self.reader, ~index~, ~literal~)";
+/// What a number puts.
+pub const NUMBER_PARTS: &str = "type=ℕ
+value=~stored~
+read=value::get_number(&self.reader, ~index~)";
+
+/// What a number with a default value puts.
+pub const NUMBER_OR: &str = "type=ℕ
+value=bit_xor (~stored~) ~mask~
+read=value::get_number_or::<A, ~rust~>(&self.reader, ~index~, ~literal~)";
+
+/// What a bit puts.
+pub const BOOL_PARTS: &str = "type=ℕ
+sense=≡
+value=~stored~
+read=value::get_bool(&self.reader, ~index~)";
+
+/// What a bit that is set by default puts.
+pub const BOOL_OR: &str = "type=ℕ
+sense=≢
+value=~stored~
+read=value::get_bool_or(&self.reader, ~index~, true)";
+
+/// What a text puts.
+pub const TEXT_PARTS: &str = "type=List ℕ
+kind=text
+value=text_bytes (child ~index~ t)";
+
+/// What a text with a default value puts.
+pub const TEXT_OR: &str = "type=List ℕ
+kind=text
+value=text_or (~numbers~) (child ~index~ t)";
+
+/// What data puts.
+pub const DATA_PARTS: &str = "type=List ℕ
+kind=data
+value=list_numbers (child ~index~ t)";
+
+/// What data with a default value puts.
+pub const DATA_OR: &str = "type=List ℕ
+kind=data
+value=data_or (~numbers~) (child ~index~ t)";
+
+/// What another pointer puts.
+pub const TREE_PARTS: &str = "type=Tree
+value=child ~index~ t";
+
+/// What a list of structs puts.
+pub const STRUCTS_PARTS: &str = "list=r.list.reader
+gives=Result<~path~Readers<'a, A>, ErrorKind>";
+
+/// What a list of numbers puts.
+pub const NUMBERS_PARTS: &str = "list=r.reader
+gives=Result<~reader~<'a, A, ~element~>, ErrorKind>";
+
+/// What another list puts.
+pub const POINTERS_PARTS: &str = "list=r.reader
+gives=Result<~reader~<'a, A>, ErrorKind>";
+
+/// What the call puts that says which member of a union is set.
+pub const WHICH: &str = "about=Which member of ~full~ is set.
+type=ℕ
+read=value::get_number(&self.reader, ~index~)
+call=which";
+
+/// What the call puts that says whether a pointer is set.
+pub const HAS_PARTS: &str = "call=has_~snake~
+gives=bool";
+
+/// The comment of this call.
+pub const HAS_ABOUT: &str = "
+    /// Whether the pointer of ~name~ is not null.
+";
 
 /// A bit.
 pub const BOOL: &str = "        ensures { (t : Tree) → ShowsStructOf A.ReaderArena self.now.reader t
@@ -331,7 +401,7 @@ abbrev pub ~spec~ : Tree → ~type~
 
 /// The definition of the default value of a struct or a list.
 pub const DEFAULT: &str = "
--- ~about~
+-- The default value of ~about~, as a message
 abbrev pub ~spec~ : List ℕ
 ~spec~ = ~value~
 ";

@@ -162,6 +162,15 @@ impl Values {
         self.put_text(word, text);
     }
 
+    /// Adds words: each line is a word, `=`, and a template, which is filled with the words before it.
+    pub fn put_lines(&mut self, lines: &'static str) {
+        for line in lines.lines() {
+            if let Some((word, template)) = line.split_once('=') {
+                self.put_filled(word, template);
+            }
+        }
+    }
+
     /// What stands for a word; nothing if it isn't there.
     pub fn get(&self, word: &str) -> &str {
         match self.values.iter().rev().find(|it| it.word == word) {

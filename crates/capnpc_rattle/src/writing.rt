@@ -174,8 +174,7 @@ impl Module {
         }
         self.modules.note(self.alloc, other);
         let mut path = Text::new(self.alloc);
-        path.push(other);
-        path.push("::");
+        path.push_all(&[other, "::"]);
         values.put_text("path", path);
     }
 
@@ -297,9 +296,7 @@ fn push_module_import_lines(to: &mut Text, modules: &[String]) {
             to.push("\n   ");
             column = 3;
         }
-        to.push(" ");
-        to.push(module.as_str());
-        to.push(",");
+        to.push_all(&[" ", module.as_str(), ","]);
         column = column.saturating_add(width);
     }
     to.push("\n};\n");
@@ -313,8 +310,7 @@ fn push_imports(alloc: Global, to: &mut Text, body: &str, table: &str, start: &s
             let mut found = Text::new(alloc);
             let count = push_needed_names(&mut found, body, rows);
             if count > 0 {
-                to.push(start);
-                to.push(module);
+                to.push_all(&[start, module]);
                 push_import_end(to, found.as_str(), count, dot);
             }
         }
@@ -353,7 +349,9 @@ fn push_import_end(to: &mut Text, names: &str, count: u64, dot: &str) {
         return;
     }
     let breaks = dot == "::" && names.len() > 72;
-    to.push(if breaks { "{\n    " } else { "{" });
-    to.push(names);
-    to.push(if breaks { ",\n};\n" } else { "};\n" });
+    if breaks {
+        to.push_all(&["{\n    ", names, ",\n};\n"]);
+    } else {
+        to.push_all(&["{", names, "};\n"]);
+    }
 }
