@@ -37,7 +37,7 @@ use Rattle.capnp_edits.specs.Paths.{EndValue, PointerTo, ElementOf, found, IsEle
 use Rattle.capnp_edits.specs.declared.edit.tasks.Task.{Task}
 use Rattle.capnp_edits.specs.declared.edit.tasks.Task.TheVariants.{Make, Point, InStruct, Write, Search, CopyRoot}
 use Rattle.capnp_edits.specs.declared.edit.tasks.NewObject.{NewObject}
-use Rattle.capnp_edits.specs.declared.edit.tasks.NewObject.TheVariants.{ZeroStruct}
+use Rattle.capnp_edits.specs.declared.edit.tasks.NewObject.TheVariants.{ZeroStruct, ZeroList, ZeroStructs, ZeroText, Text, Data}
 use Rattle.capnp_edits.specs.declared.edit.tasks.Number.{Number}
 use Rattle.capnp_edits.specs.declared.edit.tasks.Part.{Part}
 use Rattle.capnp_edits.specs.declared.edit.tasks.Part.TheVariants.{ListElement, TextByte, DataByte}
@@ -45,11 +45,11 @@ use Rattle.capnp_edits.specs.declared.edit.tasks.StructChange.{StructChange}
 use Rattle.capnp_edits.specs.declared.edit.tasks.StructChange.TheVariants.{Bits, Content}
 use Rattle.capnp_edits.specs.declared.edit.path.PathEnd.TheVariants.{Pointer as AtPointer, Element as AtElement}
 use Rattle.capnp_edits.specs.Tasks.{task_of}
-use Rattle.capnp_edits.specs.Edits.{refusal_of, bits_of, value_of, Effect, becomes, denied, struct_with, effect_of_task, is_of_path, DoesAt, LeavesEffect, are_written, are_outside, PutsBits, EditTakes, IsApplied, refusals_after}
+use Rattle.capnp_edits.specs.Edits.{struct_changed, refusal_of, bits_of, value_of, Effect, becomes, denied, struct_with, effect_of_task, is_of_path, HasEffect, are_written, are_outside, PutsBits, EditTakes, IsApplied, refusals_after}
 use Rattle.capnp_edits.specs.Steps.{DoesThere, IsDoneAt, LeadsThere}
 use Rattle.capnp_edits.proofs.Steps.{first, same_some, struct_of}
 use Rattle.capnp_edits.proofs.Taken.{KeepsLengths, writes}
-use Rattle.capnp_edits.proofs.Ways.{as_it_stands, is_allocated, is_denied, is_done, is_not_allocated, leads_nowhere, leads_to, struct_changed, takes}
+use Rattle.capnp_edits.proofs.Ways.{DoesAt, yielded, is_allocated, is_denied, is_done, is_not_allocated, leads_nowhere, leads_to, takes}
 use Rattle.capnp_edits.proofs.Walks.{found-append, update-append}
 
 -- From S to R the task is done at a pointer, with outcome r, for each value t that the pointer
@@ -140,8 +140,20 @@ structs_words_are n size =
     let q = size.pointers in
     ap (λ m. 1 + m * (d + q)) (sym (count-zero_elements d q n)) ∙ (let e : 1 + element_count (zero_elements d q n) * (d + q) ≡ 1 + element_count (zero_elements d q n) * (d + q) + word_count_elements (zero_elements d q n) = omega (arith, none_in d q n) in e)
 
--- where a new struct without words leads
-pub struct_leads : {A : Type 0} (result : Result A ErrorKind) (c : CallAt) (size : StructSize) → (size.data_words + size.pointers ≡ 0 → OnOk result (word_at c.new.words c.segment c.at ≡ struct_word (2 ^ 30 - 1) 0 0)) → OnOk result (LeadsThere c (ZeroStruct size))
+-- where a new object leads
+abbrev pub Leads : CallAt → NewObject → Type 0
+Leads c (ZeroStruct size) = size.data_words + size.pointers ≡ 0 → word_at c.new.words c.segment c.at ≡ struct_word (2 ^ 30 - 1) 0 0
+Leads c object = LeadsToEnd c (word_count (value_of object))
+
+empty_leads : (c : CallAt) (object : NewObject) → Leads c object → word_count (value_of object) ≡ 0 → LeadsThere c object
+empty_leads c (ZeroStruct size) h none = h (struct_words size ∙ none)
+empty_leads c (ZeroList size n) h none = λ room. h (omega (arith, room, none))
+empty_leads c (ZeroStructs n size) h none = λ room. h (omega (arith, room, none))
+empty_leads c (ZeroText n) h none = λ room. h (omega (arith, room, none))
+empty_leads c (Text bytes) h none = λ room. h (omega (arith, room, none))
+empty_leads c (Data bytes) h none = λ room. h (omega (arith, room, none))
+
+pub struct_leads : {A : Type 0} (result : Result A ErrorKind) (c : CallAt) (size : StructSize) → (size.data_words + size.pointers ≡ 0 → OnOk result (word_at c.new.words c.segment c.at ≡ struct_word (2 ^ 30 - 1) 0 0)) → OnOk result (Leads c (ZeroStruct size))
 struct_leads (Ok x) c size h = h
 struct_leads (Err k) c size h = tt
 
@@ -152,25 +164,25 @@ leads_behind (Err k) c n some h = tt
 
 -- a call that makes an object
 pub object_made : {A : Type 0} (result : Result A ErrorKind) (old new : View) (place : PointerPlace) (object : NewObject) (n : ℕ) → n ≡ word_count (value_of object) →
-    MakesObject result (call_at place.segment place.word old new) (value_of object) n → OnOk result (LeadsThere (call_at place.segment place.word old new) object) → IsDoneAt old new (AtPointer place) (Make object) (refusal_of result)
+    MakesObject result (call_at place.segment place.word old new) (value_of object) n → OnOk result (Leads (call_at place.segment place.word old new) object) → IsDoneAt old new (AtPointer place) (Make object) (refusal_of result)
 object_made result old new place object n is made leads =
     value_made result old new place object (subst (MakesObject result (call_at place.segment place.word old new) (value_of object)) is made) leads
   where
     value_made : {A : Type 0} (result : Result A ErrorKind) (old new : View) (place : PointerPlace) (object : NewObject) → MakesObject result (call_at place.segment place.word old new) (value_of object) (word_count (value_of object)) →
-        OnOk result (LeadsThere (call_at place.segment place.word old new) object) → IsDoneAt old new (AtPointer place) (Make object) (refusal_of result)
+        OnOk result (Leads (call_at place.segment place.word old new) object) → IsDoneAt old new (AtPointer place) (Make object) (refusal_of result)
     value_made (Ok x) old new place object made leads = record {
-      done = λ t stored. record { left = Some (value_of object); leaves = as_it_stands (is_allocated Null (value_of object) refl refl refl); stands = made.made t stored };
+      done = λ t stored. (Some (value_of object), yielded (is_allocated Null (value_of object) refl refl refl), made.made t stored);
       counted = ap (λ (v : View). v.refusals) made.memory.granted.0;
       named = λ k e. absurd (cc);
       fits = λ room k e. absurd (cc);
       nowhere = λ e. absurd (cc);
-      taken = λ some. record { taken = made.memory.taken; behind = made.behind; leads = leads; memory = made.memory.granted };
+      taken = λ some. record { taken = made.memory.taken; behind = made.behind; leads = empty_leads (call_at place.segment place.word old new) object leads; memory = made.memory.granted };
     }
     value_made (Err k) old new place object made leads =
         let n : ℕ = word_count (value_of object) in
         let why : IsRefusedFor old new n k = made.memory.named in
         record {
-          done = λ t stored. record { left = Some Null; leaves = as_it_stands (is_not_allocated Null (value_of object) k refl (of_memory old new n k why) refl refl); stands = made.refused t stored };
+          done = λ t stored. (Some Null, yielded (is_not_allocated Null (value_of object) k refl (of_memory old new n k why) refl refl), made.refused t stored);
           counted = counted old new n k why;
           named = λ j e. inr (subst (IsRefusedFor old new n) (same_some k j e) why);
           fits = λ room j e. absurd (let h = made.memory.fits room in cc);
@@ -182,7 +194,7 @@ object_made result old new place object n is made leads =
 pub pointed : (old new : View) (place : PointerPlace) (i : Option ℕ) (u : Tree) → ((t : Tree) → effect_of_task (Point i) (PointerTo t) ≡ becomes u) → Puts old.words new.words place.segment place.word u → KeepsLimits old new → KeepsLengths old.words new.words →
     IsDoneAt old new (AtPointer place) (Point i) None
 pointed old new place i u makes puts limits lengths = record {
-  done = λ t stored. record { left = Some u; leaves = as_it_stands (is_done u (makes t) refl refl); stands = puts t stored };
+  done = λ t stored. (Some u, yielded (is_done u (makes t) refl refl), puts t stored);
   counted = ap (λ (v : View). v.refusals) limits;
   named = λ k e. absurd (cc);
   fits = λ room k e. absurd (cc);
@@ -204,10 +216,10 @@ part_done result old new place part does lengths limits named kept = record {
 
 -- what is made replaces the value at its place
 pub done_at : {S R : Segments} {place : PointerPlace} {making : Effect} {t : Tree} {r : Option ErrorKind} (u : Tree) → making ≡ becomes u → r ≡ None → IsReplaced S R place.segment place.word t u → DoesAt S R place making t r
-done_at u makes done stands = record { left = Some u; leaves = as_it_stands (is_done u makes done refl); stands = stands }
+done_at u makes done stands = (Some u, yielded (is_done u makes done refl), stands)
 
 pub denied_at : {S R : Segments} {place : PointerPlace} {making : Effect} {t : Tree} {r : Option ErrorKind} (k : ErrorKind) → making ≡ denied k → r ≡ Some k → R ≡ S → DoesAt S R place making t r
-denied_at k denies named same = record { left = None; leaves = as_it_stands (is_denied k denies named refl); stands = same }
+denied_at k denies named same = (None, yielded (is_denied k denies named refl), same)
 
 -- a field that the struct has, or doesn't have
 field_there : (n : Number) (ws : List ℕ) (ts : Trees) → (bits_of n).start + (bits_of n).bits ≤ 64 * length ws → struct_changed (Bits n) (Struct ws ts) ≡ becomes (struct_with (bits_of n) (Struct ws ts))
@@ -258,9 +270,9 @@ no_struct a (Content source) (Structs d q es) none = refl
 -- an edit at a pointer
 at_pointer : (S R : Segments) (e : Edit) (place : PointerPlace) (making : Effect) (r : Option ErrorKind) (t x : Tree) → made (task_of e.op) (PointerTo x) ≡ making → PathLeads S (node 0 0 t) (map step_of e.path.now) (node place.segment place.word x) →
     found t (map step_of e.path.now) ≡ Some (PointerTo x) → IsForest S t → DoesAt S R place making x r → (u : Tree) × IsForest R u × EditTakes e r t u
-at_pointer S R e place making r t x makes leads end_value forest does = stands does.left (subst (λ m. LeavesEffect m r does.left) (sym makes) does.leaves) does.stands
+at_pointer S R e place making r t x makes leads end_value forest does = stands does.0 (subst (λ m. HasEffect m r does.0) (sym makes) does.1) does.2
   where
-    stands : (o : Option Tree) → LeavesEffect (made (task_of e.op) (PointerTo x)) r o → MatchOption o (R ≡ S) (IsReplaced S R place.segment place.word x) → (u : Tree) × IsForest R u × EditTakes e r t u
+    stands : (o : Option Tree) → HasEffect (made (task_of e.op) (PointerTo x)) r o → MatchOption o (R ≡ S) (IsReplaced S R place.segment place.word x) → (u : Tree) × IsForest R u × EditTakes e r t u
     stands (Some y) left replaced = (update t (map step_of e.path.now) y, forest_updated S R t (map step_of e.path.now) place.segment place.word x y forest leads replaced, takes e r t (leads_to (PointerTo x) (Some y) end_value left refl))
     stands None left same = (t, subst (λ Q. IsForest Q t) (sym same) forest, takes e r t (leads_to (PointerTo x) None end_value left refl))
 
@@ -302,12 +314,12 @@ at_element S R e s n r t f ws ts is wide stored end_value forest makes (are_writ
     ap (λ p. update t p y) f.path_is ∙ update-append t f.front (Element f.index ∷ []) list y f.end_value in (
       update t f.front (Structs d q (put_struct f.elements f.index y)),
       forest_updated S R t f.front f.list_segment f.list_at list (Structs d q (put_struct f.elements f.index y)) forest f.leads replaced,
-      takes e r t (leads_to (ElementOf (Struct ws ts)) (Some y) end_value (as_it_stands (is_done y (makes ∙ field_there n ws ts within) done refl)) (sym same)),
+      takes e r t (leads_to (ElementOf (Struct ws ts)) (Some y) end_value (yielded (is_done y (makes ∙ field_there n ws ts within) done refl)) (sym same)),
     )
 at_element S R e s n r t f ws ts is wide stored end_value forest makes (are_outside far named same) =
     let g = bits_of n in
     let past : 64 * length ws < g.start + g.bits = rw wide far in
-    (t, subst (λ Q. IsForest Q t) (sym same) forest, takes e r t (leads_to (ElementOf (Struct ws ts)) None end_value (as_it_stands (is_denied NoSuchPlace (makes ∙ field_past n ws ts past) named refl)) refl))
+    (t, subst (λ Q. IsForest Q t) (sym same) forest, takes e r t (leads_to (ElementOf (Struct ws ts)) None end_value (yielded (is_denied NoSuchPlace (makes ∙ field_past n ws ts past) named refl)) refl))
 
 -- what is at the end of a path that leads to an element
 pub element_end : (S : Segments) (e : Edit) (s : ExistingStruct) (t : Tree) (f : IsElementFound S 0 0 t (map step_of e.path.now) s) (ws : List ℕ) (ts : Trees) → struct_at f.elements f.index ≡ Struct ws ts → found t (map step_of e.path.now) ≡ Some (ElementOf (Struct ws ts))
@@ -340,13 +352,13 @@ none_made (Search sought default) t other = refl
 none_made (CopyRoot c) t other = refl
 
 -- a task that changes no struct leaves an element of a list unchanged
-pub element_kept : (S : Segments) (s : ExistingStruct) (task : Task) (r : Option ErrorKind) → ((change : StructChange) → task ≡ InStruct change → ⊥) → DoesThere S S (AtElement s) task r
-element_kept S s (InStruct change) r other = absurd (other change refl)
-element_kept S s (Make object) r other = refl
-element_kept S s (Point i) r other = refl
-element_kept S s (Write part) r other = refl
-element_kept S s (Search sought default) r other = refl
-element_kept S s (CopyRoot c) r other = refl
+pub element_kept : (v : View) (s : ExistingStruct) (task : Task) (r : Option ErrorKind) → ((change : StructChange) → task ≡ InStruct change → ⊥) → DoesThere v v (AtElement s) task r
+element_kept v s (InStruct change) r other = absurd (other change refl)
+element_kept v s (Make object) r other = refl
+element_kept v s (Point i) r other = refl
+element_kept v s (Write part) r other = refl
+element_kept v s (Search sought default) r other = refl
+element_kept v s (CopyRoot c) r other = refl
 
 pub none_applied : (S : Segments) (e : Edit) (s : ExistingStruct) (task : Task) → task_of e.op ≡ Some task → ((change : StructChange) → task ≡ InStruct change → ⊥) → ((t : Tree) → IsStored S 0 0 t → IsElementFound S 0 0 t (map step_of e.path.now) s) →
     IsApplied (EditTakes e (Some NoSuchPlace)) S S
@@ -354,14 +366,14 @@ none_applied S e s task is_task other leads t forest =
     let f = leads t (forest_stored S t forest) in
     let (ws, ts, is) = element_struct f.elements f.index f.counts in
     let x : Tree = Struct ws ts in
-    (t, forest, takes e (Some NoSuchPlace) t (leads_to (ElementOf x) None (element_end S e s t f ws ts is) (as_it_stands (is_denied NoSuchPlace (ap (λ o. made o (ElementOf x)) is_task ∙ none_made task x other) refl refl)) refl))
+    (t, forest, takes e (Some NoSuchPlace) t (leads_to (ElementOf x) None (element_end S e s t f ws ts is) (yielded (is_denied NoSuchPlace (ap (λ o. made o (ElementOf x)) is_task ∙ none_made task x other) refl refl)) refl))
 
 -- an edit whose numbers are out of range
 pub out_applied : (S : Segments) (e : Edit) → task_of e.op ≡ None → IsApplied (EditTakes e (Some NoSuchPlace)) S S
 out_applied S e out t forest = (t, forest, end (found t (map step_of e.path.now)) refl)
   where
     end : (o : Option EndValue) → found t (map step_of e.path.now) ≡ o → EditTakes e (Some NoSuchPlace) t t
-    end (Some end_value) is = takes e (Some NoSuchPlace) t (leads_to end_value None is (as_it_stands (is_denied NoSuchPlace (ap (λ x. made x end_value) out) refl refl)) refl)
+    end (Some end_value) is = takes e (Some NoSuchPlace) t (leads_to end_value None is (yielded (is_denied NoSuchPlace (ap (λ x. made x end_value) out) refl refl)) refl)
     end None is = takes e (Some NoSuchPlace) t (leads_nowhere is refl refl)
 
 -- an edit whose path leads nowhere

@@ -1,5 +1,6 @@
 -- What is written in lists, texts and data.
-use Rattle.std.proofs.Common.{◌≡◌, ℕ, zero, suc, ◌+◌, ◌-◌, ◌*◌, ◌^◌, ◌<◌, ◌≤◌, Bool, true, false, cond, ◌&&◌, nat_eq, nat_le, nat_lt, List, length, Option, Some, None, Result, Ok, Err, refl, sym, ap, ◌∙◌, subst, arith}
+use Rattle.std.proofs.Common.{◌≡◌, ℕ, zero, suc, ◌+◌, ◌-◌, ◌*◌, ◌^◌, ◌<◌, ◌≤◌, Bool, true, false, cond, ◌&&◌, nat_eq, nat_le, List, length, Option, Some, None, Result, Ok, Err, refl, sym, ap, ◌∙◌, subst, arith}
+use Rattle.std.specs.Option.{option_map_or}
 use Rattle.std.proofs.lemmas.Bool.{eqb-true}
 use Rattle.std.proofs.lemmas.Bool.Decides.{nat_tests}
 use Rattle.capnp_words.specs.declared.error.ErrorKind.{ErrorKind}
@@ -27,11 +28,11 @@ use Rattle.capnp_builders.proofs.FoundLists.{found_inside}
 use Rattle.capnp_edits.specs.declared.edit.tasks.Task.TheVariants.{Write}
 use Rattle.capnp_edits.specs.declared.edit.tasks.Part.TheVariants.{ListElement, TextByte, DataByte}
 use Rattle.capnp_edits.specs.Tasks.{is_number}
-use Rattle.capnp_edits.specs.Edits.{becomes, denied, struct_with, with_lowest, nowhere, if_reached, DoesAt, PutsElement, element_put, element_past, no_list, list_denied, PutsByte, byte_put, byte_past, no_bytes_there, bytes_denied}
+use Rattle.capnp_edits.specs.Edits.{becomes, denied, struct_with, with_lowest, elements_of, data_length, text_length, if_reached, refusal_of, PutsElement, element_put, element_past, no_list, list_denied, PutsByte, byte_put, byte_past, no_bytes_there, bytes_denied}
 use Rattle.capnp_edits.specs.declared.edit.tasks.Number.{Number}
 use Rattle.capnp_edits.proofs.Steps.{first, second, chosen}
 use Rattle.capnp_edits.proofs.Applied.{Does, done_at, denied_at, element_struct, element_width_stored}
-use Rattle.capnp_edits.proofs.Ways.{part_written}
+use Rattle.capnp_edits.proofs.Ways.{DoesAt, part_written}
 use Rattle.capnp_edits.proofs.Fields.{number_parts}
 
 -- The number of elements or bytes of what a search found: none if it found a null pointer.
@@ -47,71 +48,68 @@ elements_in looked = count_of (λ l. l.count) looked
 abbrev length_in : Result (Option ExistingBytes) ErrorKind → Result ℕ ErrorKind
 length_in looked = count_of (λ b. b.length) looked
 
--- if f depends only on the number of elements of a list, its result is the same for the list
--- anywhere
-list_fits : {B : Type 0} (f : Result (Option ExistingList) ErrorKind → B) → ((l k : ExistingList) → l.count ≡ k.count → f (Ok (Some l)) ≡ f (Ok (Some k))) → (m : Option ErrorKind) (l k : ExistingList) → l.count ≡ k.count → f (unless m l) ≡ f (unless m k)
-list_fits f alike None l k e = alike l k e
-list_fits f alike (Some x) l k e = refl
+-- what a search finds at any target has as many elements or bytes as the value
+list_fits : (m : Option ErrorKind) (l : ExistingList) → elements_in (unless m l) ≡ option_map_or Err m (Ok l.count)
+list_fits None l = refl
+list_fits (Some k) l = refl
 
-pub list_anywhere : {B : Type 0} (f : Result (Option ExistingList) ErrorKind → B) → ((l k : ExistingList) → l.count ≡ k.count → f (Ok (Some l)) ≡ f (Ok (Some k))) → (a b : Target) (size : ElementSize) (t : Tree) → f (list_in a size t) ≡ f (list_in b size t)
-list_anywhere f alike a b size Null = refl
-list_anywhere f alike a b size (Capability i) = refl
-list_anywhere f alike a b size (Struct ws ts) = refl
-list_anywhere f alike a b size (Flat s ns) = list_fits f alike (plain_misfit size (size_of s)) (plain_list a (size_of s) (length ns)) (plain_list b (size_of s) (length ns)) refl
-list_anywhere f alike a b size (Pointers ts) = list_fits f alike (plain_misfit size Pointer) (plain_list a Pointer (count ts)) (plain_list b Pointer (count ts)) refl
-list_anywhere f alike a b size (Structs d q es) = list_fits f alike (structs_misfit size d q) (struct_list a d q (element_count es)) (struct_list b d q (element_count es)) refl
+list_counted : (a : Target) (size : ElementSize) (t : Tree) → elements_in (list_in a size t) ≡ elements_of size t
+list_counted a size Null = refl
+list_counted a size (Capability i) = refl
+list_counted a size (Struct ws ts) = refl
+list_counted a size (Flat s ns) = list_fits (plain_misfit size (size_of s)) (plain_list a (size_of s) (length ns))
+list_counted a size (Pointers ts) = list_fits (plain_misfit size Pointer) (plain_list a Pointer (count ts))
+list_counted a size (Structs d q es) = list_fits (structs_misfit size d q) (struct_list a d q (element_count es))
 
-bytes_fit : {B : Type 0} (f : Result (Option ExistingBytes) ErrorKind → B) → ((b c : ExistingBytes) → b.length ≡ c.length → f (Ok (Some b)) ≡ f (Ok (Some c))) → (x : Bool) (a b : Target) (n : ℕ) (k : ErrorKind) →
-    f (cond x (Ok (Some (bytes_at a n))) (Err k)) ≡ f (cond x (Ok (Some (bytes_at b n))) (Err k))
-bytes_fit f alike true a b n k = alike (bytes_at a n) (bytes_at b n) refl
-bytes_fit f alike false a b n k = refl
+bytes_fit : (x : Bool) (b : ExistingBytes) (k : ErrorKind) → length_in (cond x (Ok (Some b)) (Err k)) ≡ cond x (Ok b.length) (Err k)
+bytes_fit true b k = refl
+bytes_fit false b k = refl
 
-either : {B : Type 0} (f : Result (Option ExistingBytes) ErrorKind → B) (x : Bool) (r q : Result (Option ExistingBytes) ErrorKind) (k : ErrorKind) → f r ≡ f q → f (cond x r (Err k)) ≡ f (cond x q (Err k))
-either f true r q k e = e
-either f false r q k e = refl
+data_counted : (a : Target) (t : Tree) → length_in (data_in a t) ≡ data_length t
+data_counted a Null = refl
+data_counted a (Capability i) = refl
+data_counted a (Struct ws ts) = refl
+data_counted a (Flat s ns) = bytes_fit (nat_eq s 2) (bytes_at a (length ns)) ExistingListPointerIsNotByteSized
+data_counted a (Pointers ts) = refl
+data_counted a (Structs d q es) = refl
 
-pub data_anywhere : {B : Type 0} (f : Result (Option ExistingBytes) ErrorKind → B) → ((b c : ExistingBytes) → b.length ≡ c.length → f (Ok (Some b)) ≡ f (Ok (Some c))) → (a b : Target) (t : Tree) → f (data_in a t) ≡ f (data_in b t)
-data_anywhere f alike a b Null = refl
-data_anywhere f alike a b (Capability i) = refl
-data_anywhere f alike a b (Struct ws ts) = refl
-data_anywhere f alike a b (Flat s ns) = bytes_fit f alike (nat_eq s 2) a b (length ns) ExistingListPointerIsNotByteSized
-data_anywhere f alike a b (Pointers ts) = refl
-data_anywhere f alike a b (Structs d q es) = refl
+text_counted : (a : Target) (t : Tree) → length_in (text_in a t) ≡ text_length t
+text_counted a Null = refl
+text_counted a (Capability i) = refl
+text_counted a (Struct ws ts) = refl
+text_counted a (Flat s ns) = of_bytes (nat_eq s 2)
+  where
+    of_bytes : (x : Bool) → length_in (cond x (cond (ends_in_zero ns) (Ok (Some (bytes_at a (length ns - 1)))) (Err TextBlobMissingNULTerminator)) (Err ExistingListPointerIsNotByteSized))
+        ≡ cond x (cond (ends_in_zero ns) (Ok (length ns - 1)) (Err TextBlobMissingNULTerminator)) (Err ExistingListPointerIsNotByteSized)
+    of_bytes true = bytes_fit (ends_in_zero ns) (bytes_at a (length ns - 1)) TextBlobMissingNULTerminator
+    of_bytes false = refl
+text_counted a (Pointers ts) = refl
+text_counted a (Structs d q es) = refl
 
-pub text_anywhere : {B : Type 0} (f : Result (Option ExistingBytes) ErrorKind → B) → ((b c : ExistingBytes) → b.length ≡ c.length → f (Ok (Some b)) ≡ f (Ok (Some c))) → (a b : Target) (t : Tree) → f (text_in a t) ≡ f (text_in b t)
-text_anywhere f alike a b Null = refl
-text_anywhere f alike a b (Capability i) = refl
-text_anywhere f alike a b (Struct ws ts) = refl
-text_anywhere f alike a b (Flat s ns) =
-    either f (nat_eq s 2) (cond (ends_in_zero ns) (Ok (Some (bytes_at a (length ns - 1)))) (Err TextBlobMissingNULTerminator)) (cond (ends_in_zero ns) (Ok (Some (bytes_at b (length ns - 1)))) (Err TextBlobMissingNULTerminator)) ExistingListPointerIsNotByteSized (bytes_fit f alike (ends_in_zero ns) a b (length ns - 1) TextBlobMissingNULTerminator)
-text_anywhere f alike a b (Pointers ts) = refl
-text_anywhere f alike a b (Structs d q es) = refl
+-- such a search is refused with the same error
+counted_refusal : {A : Type 0} (number : A → ℕ) (q : Result (Option A) ErrorKind) → refusal_of q ≡ refusal_of (count_of number q)
+counted_refusal number (Ok (Some x)) = refl
+counted_refusal number (Ok None) = refl
+counted_refusal number (Err k) = refl
 
-same_count : (n m : ℕ) → ◌≡◌ {A = Result ℕ ErrorKind} (Ok n) (Ok m) → n ≡ m
-same_count n m e = cc
+pub list_refusal_of : (a : Target) (size : ElementSize) (t : Tree) → refusal_of (list_in a size t) ≡ refusal_of (elements_of size t)
+list_refusal_of a size t = counted_refusal (λ (l : ExistingList). l.count) (list_in a size t) ∙ ap refusal_of (list_counted a size t)
 
-same_err_count : (k l : ErrorKind) → ◌≡◌ {A = Result ℕ ErrorKind} (Err k) (Err l) → k ≡ l
-same_err_count k l e = cc
+pub data_refusal_of : (a : Target) (t : Tree) → refusal_of (data_in a t) ≡ refusal_of (data_length t)
+data_refusal_of a t = counted_refusal (λ (b : ExistingBytes). b.length) (data_in a t) ∙ ap refusal_of (data_counted a t)
+
+pub text_refusal_of : (a : Target) (t : Tree) → refusal_of (text_in a t) ≡ refusal_of (text_length t)
+text_refusal_of a t = counted_refusal (λ (b : ExistingBytes). b.length) (text_in a t) ∙ ap refusal_of (text_counted a t)
 
 -- the result of writing element i of the n that a search found
-reached : {A : Type 0} (number : A → ℕ) (u : Tree) (i n : ℕ) (q : Result (Option A) ErrorKind) → count_of number q ≡ Ok n → if_reached number i u q ≡ cond (nat_lt i n) (becomes u) (denied NoSuchPlace)
-reached number u i n (Ok (Some x)) is_n = ap (λ m. cond (nat_lt i m) (becomes u) (denied NoSuchPlace)) (same_count (number x) n is_n)
-reached number u i n (Ok None) is_n = sym (second i n (becomes u) (denied NoSuchPlace) (omega (arith, same_count 0 n is_n)))
-reached number u i n (Err k) is_n = absurd (cc is_n)
+reached_done : (S R : Segments) (place : PointerPlace) (t u : Tree) (i n : ℕ) (q : Result ℕ ErrorKind) → q ≡ Ok n → i < n → IsReplaced S R place.segment place.word t u → DoesAt S R place (if_reached i u q) t None
+reached_done S R place t u i n q is_n l replaced = done_at u (ap (if_reached i u) is_n ∙ first i n (becomes u) (denied NoSuchPlace) l) refl replaced
 
-reached_done : {A : Type 0} (number : A → ℕ) (S R : Segments) (place : PointerPlace) (t u : Tree) (i n : ℕ) (q : Result (Option A) ErrorKind) → count_of number q ≡ Ok n → i < n → IsReplaced S R place.segment place.word t u → DoesAt S R place (if_reached number i u q) t None
-reached_done number S R place t u i n q is_n l replaced = done_at u (reached number u i n q is_n ∙ first i n (becomes u) (denied NoSuchPlace) l) refl replaced
+reached_past : (S : Segments) (place : PointerPlace) (t u : Tree) (i n : ℕ) (q : Result ℕ ErrorKind) → q ≡ Ok n → n ≤ i → DoesAt S S place (if_reached i u q) t (Some NoSuchPlace)
+reached_past S place t u i n q is_n l = denied_at NoSuchPlace (ap (if_reached i u) is_n ∙ second i n (becomes u) (denied NoSuchPlace) l) refl refl
 
-reached_past : {A : Type 0} (number : A → ℕ) (S : Segments) (place : PointerPlace) (t u : Tree) (i n : ℕ) (q : Result (Option A) ErrorKind) → count_of number q ≡ Ok n → n ≤ i → DoesAt S S place (if_reached number i u q) t (Some NoSuchPlace)
-reached_past number S place t u i n q is_n l = denied_at NoSuchPlace (reached number u i n q is_n ∙ second i n (becomes u) (denied NoSuchPlace) l) refl refl
-
-not_reached : {A : Type 0} (number : A → ℕ) (u : Tree) (i : ℕ) (k : ErrorKind) (q : Result (Option A) ErrorKind) → count_of number q ≡ Err k → if_reached number i u q ≡ denied k
-not_reached number u i k (Ok (Some x)) is_k = absurd (cc is_k)
-not_reached number u i k (Ok None) is_k = absurd (cc is_k)
-not_reached number u i k (Err l) is_k = ap denied (same_err_count l k is_k)
-
-reached_denied : {A : Type 0} (number : A → ℕ) (S : Segments) (place : PointerPlace) (t u : Tree) (i : ℕ) (k : ErrorKind) (q : Result (Option A) ErrorKind) → count_of number q ≡ Err k → DoesAt S S place (if_reached number i u q) t (Some k)
-reached_denied number S place t u i k q is_k = denied_at k (not_reached number u i k q is_k) refl refl
+reached_denied : (S : Segments) (place : PointerPlace) (t u : Tree) (i : ℕ) (k : ErrorKind) (q : Result ℕ ErrorKind) → q ≡ Err k → DoesAt S S place (if_reached i u q) t (Some k)
+reached_denied S place t u i k q is_k = denied_at k (ap (if_reached i u) is_k) refl refl
 
 -- elements that aren't structs are at least as wide as the numbers or bits that are expected
 plain_wide : (expected found : ElementSize) → plain_misfit expected found ≡ None → element_bits (size_number expected) ≤ element_bits (size_number found)
@@ -265,58 +263,58 @@ element_does S R place n r looked inside range is_found puts t stored = does (is
     parts : (1 ≤ size_number n.size) × (size_number n.size ≤ 5) × (n.value < 2 ^ element_bits (size_number n.size))
     parts = number_parts n.size n.value range
 
-    counted : looked ≡ list_in (target S place.segment place.word) n.size t → elements_in (list_in nowhere n.size t) ≡ elements_in looked
-    counted found = list_anywhere elements_in (λ l k e. ap Ok e) nowhere (target S place.segment place.word) n.size t ∙ ap elements_in (sym found)
+    counted : looked ≡ list_in (target S place.segment place.word) n.size t → elements_of n.size t ≡ elements_in looked
+    counted found = sym (list_counted (target S place.segment place.word) n.size t) ∙ ap elements_in (sym found)
 
     does : looked ≡ list_in (target S place.segment place.word) n.size t → PutsElement S R looked n r → DoesAt S R place (part_written (ListElement n) t) t r
     does found (element_put l is_l less done written) = rw done (
-        reached_done (λ (l : ExistingList). l.count) S R place t (with_lowest n.index w n.value t) n.index l.count (list_in nowhere n.size t) (counted found ∙ ap elements_in is_l) less
+        reached_done S R place t (with_lowest n.index w n.value t) n.index l.count (elements_of n.size t) (counted found ∙ ap elements_in is_l) less
         (list_written S R place.segment place.word n.size t l n.index n.value parts.0 parts.1 parts.2 (sym is_l ∙ found) stored less written))
     does found (element_past l is_l past named kept) = rw (named, kept) (
-        reached_past (λ (l : ExistingList). l.count) S place t (with_lowest n.index w n.value t) n.index l.count (list_in nowhere n.size t) (counted found ∙ ap elements_in is_l)
+        reached_past S place t (with_lowest n.index w n.value t) n.index l.count (elements_of n.size t) (counted found ∙ ap elements_in is_l)
         (past (found_inside S place.segment place.word n.size t l (there S place.segment place.word inside) stored (sym found ∙ is_l)) (found_wide S place.segment place.word n.size t l parts.0 parts.1 (sym is_l ∙ found) stored)))
     does found (no_list is_none named kept) = rw (named, kept) (
-        reached_past (λ (l : ExistingList). l.count) S place t (with_lowest n.index w n.value t) n.index 0 (list_in nowhere n.size t) (counted found ∙ ap elements_in is_none) (omega arith))
+        reached_past S place t (with_lowest n.index w n.value t) n.index 0 (elements_of n.size t) (counted found ∙ ap elements_in is_none) (omega arith))
     does found (list_denied k is_k named kept) = rw (named, kept) (
-        reached_denied (λ (l : ExistingList). l.count) S place t (with_lowest n.index w n.value t) n.index k (list_in nowhere n.size t) (counted found ∙ ap elements_in is_k))
+        reached_denied S place t (with_lowest n.index w n.value t) n.index k (elements_of n.size t) (counted found ∙ ap elements_in is_k))
 
 -- what a search for bytes shows, and how byte i of them is written
-record Looks (look : Target → Tree → Result (Option ExistingBytes) ErrorKind) (i v : ℕ) : Type 0 where
-  long : (a b : Target) (t : Tree) → length_in (look a t) ≡ length_in (look b t)
+record Looks (look : Target → Tree → Result (Option ExistingBytes) ErrorKind) (lengths : Tree → Result ℕ ErrorKind) (i v : ℕ) : Type 0 where
+  long : (a : Target) (t : Tree) → length_in (look a t) ≡ lengths t
   inside : (S : Segments) (s p : ℕ) (t : Tree) (b : ExistingBytes) → s < length S → IsStored S s p t → look (target S s p) t ≡ Ok (Some b) → AreBytesInside S b
   written : (S R : Segments) (s p : ℕ) (t : Tree) (b : ExistingBytes) → Ok (Some b) ≡ look (target S s p) t → IsStored S s p t → i < b.length → R ≡ with_field S b.segment (8 * (8 * b.start + i)) 8 v → IsReplaced S R s p t (with_lowest i 8 v t)
 
-byte_does : (S R : Segments) (place : PointerPlace) (i v : ℕ) (look : Target → Tree → Result (Option ExistingBytes) ErrorKind) (r : Option ErrorKind) (looked : Result (Option ExistingBytes) ErrorKind) (t : Tree) →
-    IsPlace S place.segment place.word → Looks look i v → IsStored S place.segment place.word t → looked ≡ look (target S place.segment place.word) t → PutsByte S R looked (record { size = Byte; index = i; value = v }) r →
-    DoesAt S R place (if_reached (λ b. b.length) i (with_lowest i 8 v t) (look nowhere t)) t r
-byte_does S R place i v look r looked t inside looks stored found puts = does puts
+byte_does : (S R : Segments) (place : PointerPlace) (i v : ℕ) (look : Target → Tree → Result (Option ExistingBytes) ErrorKind) (lengths : Tree → Result ℕ ErrorKind) (r : Option ErrorKind) (looked : Result (Option ExistingBytes) ErrorKind) (t : Tree) →
+    IsPlace S place.segment place.word → Looks look lengths i v → IsStored S place.segment place.word t → looked ≡ look (target S place.segment place.word) t → PutsByte S R looked (record { size = Byte; index = i; value = v }) r →
+    DoesAt S R place (if_reached i (with_lowest i 8 v t) (lengths t)) t r
+byte_does S R place i v look lengths r looked t inside looks stored found puts = does puts
   where
-    counted : length_in (look nowhere t) ≡ length_in looked
-    counted = looks.long nowhere (target S place.segment place.word) t ∙ ap length_in (sym found)
+    counted : lengths t ≡ length_in looked
+    counted = sym (looks.long (target S place.segment place.word) t) ∙ ap length_in (sym found)
 
-    does : PutsByte S R looked (record { size = Byte; index = i; value = v }) r → DoesAt S R place (if_reached (λ b. b.length) i (with_lowest i 8 v t) (look nowhere t)) t r
+    does : PutsByte S R looked (record { size = Byte; index = i; value = v }) r → DoesAt S R place (if_reached i (with_lowest i 8 v t) (lengths t)) t r
     does (byte_put b is_b less done written) = rw done (
-        reached_done (λ (b : ExistingBytes). b.length) S R place t (with_lowest i 8 v t) i b.length (look nowhere t) (counted ∙ ap length_in is_b) less
+        reached_done S R place t (with_lowest i 8 v t) i b.length (lengths t) (counted ∙ ap length_in is_b) less
         (looks.written S R place.segment place.word t b (sym is_b ∙ found) stored less written))
     does (byte_past b is_b past named kept) = rw (named, kept) (
-        reached_past (λ (b : ExistingBytes). b.length) S place t (with_lowest i 8 v t) i b.length (look nowhere t) (counted ∙ ap length_in is_b)
+        reached_past S place t (with_lowest i 8 v t) i b.length (lengths t) (counted ∙ ap length_in is_b)
         (past (looks.inside S place.segment place.word t b (there S place.segment place.word inside) stored (sym found ∙ is_b))))
     does (no_bytes_there is_none named kept) = rw (named, kept) (
-        reached_past (λ (b : ExistingBytes). b.length) S place t (with_lowest i 8 v t) i 0 (look nowhere t) (counted ∙ ap length_in is_none) (omega arith))
+        reached_past S place t (with_lowest i 8 v t) i 0 (lengths t) (counted ∙ ap length_in is_none) (omega arith))
     does (bytes_denied k is_k named kept) = rw (named, kept) (
-        reached_denied (λ (b : ExistingBytes). b.length) S place t (with_lowest i 8 v t) i k (look nowhere t) (counted ∙ ap length_in is_k))
+        reached_denied S place t (with_lowest i 8 v t) i k (lengths t) (counted ∙ ap length_in is_k))
 
 pub text_does : (S R : Segments) (place : PointerPlace) (i v : ℕ) (r : Option ErrorKind) (looked : Result (Option ExistingBytes) ErrorKind) → IsPlace S place.segment place.word → v < 256 →
     ((t : Tree) → IsStored S place.segment place.word t → looked ≡ text_in (target S place.segment place.word) t) → PutsByte S R looked (record { size = Byte; index = i; value = v }) r → Does S R place (Write (TextByte i v)) r
 text_does S R place i v r looked inside small is_found puts t stored =
-    byte_does S R place i v text_in r looked t inside
-    (record { long = text_anywhere length_in (λ b c e. ap Ok e); inside = text_inside; written = λ S R s p t b is_b stored less written. text_written_at S R s p t b i v is_b stored less small written }) stored (is_found t stored) puts
+    byte_does S R place i v text_in text_length r looked t inside
+    (record { long = text_counted; inside = text_inside; written = λ S R s p t b is_b stored less written. text_written_at S R s p t b i v is_b stored less small written }) stored (is_found t stored) puts
 
 pub data_does : (S R : Segments) (place : PointerPlace) (i v : ℕ) (r : Option ErrorKind) (looked : Result (Option ExistingBytes) ErrorKind) → IsPlace S place.segment place.word → v < 256 →
     ((t : Tree) → IsStored S place.segment place.word t → looked ≡ data_in (target S place.segment place.word) t) → PutsByte S R looked (record { size = Byte; index = i; value = v }) r → Does S R place (Write (DataByte i v)) r
 data_does S R place i v r looked inside small is_found puts t stored =
-    byte_does S R place i v data_in r looked t inside
-    (record { long = data_anywhere length_in (λ b c e. ap Ok e); inside = data_inside; written = λ S R s p t b is_b stored less written. data_written_at S R s p t b i v is_b stored less small written }) stored (is_found t stored) puts
+    byte_does S R place i v data_in data_length r looked t inside
+    (record { long = data_counted; inside = data_inside; written = λ S R s p t b is_b stored less written. data_written_at S R s p t b i v is_b stored less small written }) stored (is_found t stored) puts
 
 -- a search that was done and found something
 pub is_found : {A : Type 0} (r : Result (Option A) ErrorKind) (o : Option A) (x : A) → r ≡ Ok o → o ≡ Some x → r ≡ Ok (Some x)

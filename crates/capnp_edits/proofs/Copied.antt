@@ -1,23 +1,22 @@
 -- What a copy from another message leaves, and what it is refused for.
-use Rattle.std.proofs.Common.{◌≡◌, inl, inr, ◌⊎◌, ℕ, ◌+◌, ◌≤◌, Bool, true, false, cond, not, ◌&&◌, ◌||◌, nat_eq, nat_lt, length, Option, Some, None, Result, Ok, Err, IfOk, IfErr, OnOk, OnErr, refl, sym, ap, ◌∙◌, subst, arith, IsOk}
+use Rattle.std.proofs.Common.{◌≡◌, inl, inr, ◌⊎◌, ℕ, ◌+◌, ◌≤◌, Bool, true, false, cond, nat_eq, nat_lt, length, Option, Some, None, Result, Ok, Err, IfOk, IfErr, OnOk, OnErr, refl, sym, ap, ◌∙◌, subst, arith, IsOk}
 use Rattle.std.specs.Prelude.{MatchOption}
 use Rattle.std.proofs.lemmas.Bool.{cases_lt, false≢true}
 use Rattle.capnp_words.specs.Meter.{Meter}
 use Rattle.capnp_words.specs.declared.error.ErrorKind.{ErrorKind}
-use Rattle.capnp_words.specs.declared.error.ErrorKind.TheVariants.{AllocationFailed, FoundBitListWhereStructListWasExpected, InvalidSegmentId, MessageContainsListWithIncompatibleElementType, MessageContainsNonListPointerWhereListPointerWasExpected, MessageContainsNonStructPointerWhereStructPointerWasExpected, MessageContainsOutOfBoundsPointer, MessageIsTooDeeplyNestedOrContainsCycles, NestingLimitExceeded, NoSuchPlace, ReadLimitExceeded}
+use Rattle.capnp_words.specs.declared.error.ErrorKind.TheVariants.{AllocationFailed, FoundBitListWhereStructListWasExpected, InvalidSegmentId, MessageContainsNonListPointerWhereListPointerWasExpected, MessageContainsNonStructPointerWhereStructPointerWasExpected, MessageContainsOutOfBoundsPointer, MessageIsTooDeeplyNestedOrContainsCycles, NestingLimitExceeded, NoSuchPlace, ReadLimitExceeded}
 use Rattle.capnp_words.specs.declared.wire_pointer.ElementSize.TheVariants.{Void}
 use Rattle.capnp_arena_traits.specs.View.{View}
 use Rattle.capnp_arena_traits.specs.Checks.{misplaced}
 use Rattle.capnp_arena_traits.specs.declared.arena.reader_arena.ReaderArena.{Ghosts}
 use Rattle.capnp_format.specs.Canonical.{word_count}
-use Rattle.capnp_format.specs.Numbers.{element_bits}
 use Rattle.capnp_format.specs.Segments.{Segments, Target, segment, AreWords}
 use Rattle.capnp_format.specs.Word.{kind, element_size}
 use Rattle.capnp_format.specs.Tree.{Tree, Null}
 use Rattle.capnp_making.specs.Memory.{KeepsMemory, SpendsMemory}
 use Rattle.capnp_making.proofs.Memory.{not_the_allocator}
 use Rattle.capnp_making.specs.Stored.{Puts}
-use Rattle.capnp_objects.specs.Expected.{Expectation, struct_expected, list_expected, HasExpected, narrow_elements, RefusesExpected, no_level, unfollowed, of_another_kind, stopped, misfits}
+use Rattle.capnp_objects.specs.Expected.{Expectation, struct_expected, list_expected, HasExpected, RefusesExpected, no_level, unfollowed, of_another_kind, stopped, misfits}
 use Rattle.capnp_objects.specs.Outcomes.{Reads}
 use Rattle.capnp_objects.specs.Reading.{Reading}
 use Rattle.capnp_objects.specs.Refusals.{Refused, here as stops_here, Unfollowed, no_target}
@@ -49,15 +48,15 @@ use Rattle.capnp_edits.specs.declared.edit.copying.Copying.{Copying}
 use Rattle.capnp_edits.specs.declared.edit.copying.Wanted.{Wanted}
 use Rattle.capnp_edits.specs.declared.edit.copying.Wanted.TheVariants.{Value, Struct as AStruct, List as AList}
 use Rattle.capnp_edits.specs.declared.edit.tasks.Task.TheVariants.{CopyRoot}
-use Rattle.capnp_edits.specs.Sources.{root_of, once_at_root, as_wanted, HasRoot, Copies, IsRootless, IsUnreadable, RefusesWanted, HasNothingToCopy, Sections, ListElements, LeadsToStruct, LeadsToList, OfWanted}
+use Rattle.capnp_edits.specs.Sources.{any_list, root_of, once_at_root, as_wanted, HasRoot, Copies, IsRootless, IsUnreadable, RefusesWanted, HasNothingToCopy, Sections, LeadsToStruct, OfWanted}
 use Rattle.capnp_edits.specs.Edits.{refusal_of, is_of_path, refusals_after}
 use Rattle.capnp_edits.specs.Steps.{result_of, CopiesWhole, IsDoneAt}
 use Rattle.capnp_edits.proofs.Applied.{Does, of_allocation, of_no_place, named_refusal, never_refused}
 use Rattle.capnp_edits.proofs.CopiedStruct.{CanBeCopiedAs, struct_there_given, struct_at, struct_reads, struct_refused, struct_given, struct_fits}
-use Rattle.capnp_edits.proofs.CopiedList.{elements_read, list_there_given, list_at, list_reads, list_refused, list_given, list_small, list_fits}
-use Rattle.capnp_edits.proofs.ListReads.{list_read_as}
+use Rattle.capnp_edits.proofs.CopiedList.{as_any, as_list, elements_read, list_there_given, list_at, list_reads, list_refused, list_given, list_small, list_fits}
+use Rattle.capnp_edits.proofs.ListReads.{ListElements, LeadsToList, OfElements, of_elements, to_elements, list_read_as}
 use Rattle.capnp_edits.proofs.Steps.{same_some}
-use Rattle.capnp_edits.proofs.Ways.{as_it_stands, is_copied, is_not_copied, is_unread}
+use Rattle.capnp_edits.proofs.Ways.{yielded, is_copied, is_not_copied, is_unread}
 use Rattle.capnp_making.specs.Near.{HasOwnRoom}
 use Rattle.capnp_words.specs.Names.{is_allocation_name}
 
@@ -68,13 +67,13 @@ IsRootReader g source from m = HasRoot source × (read_by g from ≡ root_of sou
 -- What a copy from another message leaves at a place: the copy; null, if it is refused; or the
 -- place unchanged, if there is nothing to copy.
 root_copied : {S R : Segments} {place : PointerPlace} {c : Copying} {r : Option ErrorKind} (u : Tree) → Copies c u → r ≡ None → Puts S R place.segment place.word u → Does S R place (CopyRoot c) r
-root_copied {c = c} u copied done puts t stored = record { left = Some u; leaves = as_it_stands (is_copied c u refl copied done refl); stands = puts t stored }
+root_copied {c = c} u copied done puts t stored = (Some u, yielded (is_copied c u refl copied done refl), puts t stored)
 
-root_not_copied : {S R : Segments} {place : PointerPlace} {c : Copying} {r : Option ErrorKind} (k : ErrorKind) → ((j : ErrorKind) → HasNothingToCopy c.source c.wanted j → ⊥) → (is_allocation_name k ≡ true) ⊎ IsUnreadable c k → r ≡ Some k → Puts S R place.segment place.word Null → Does S R place (CopyRoot c) r
-root_not_copied {c = c} k some why named puts t stored = record { left = Some Null; leaves = as_it_stands (is_not_copied c k refl some why named refl); stands = puts t stored }
+root_not_copied : {S R : Segments} {place : PointerPlace} {r : Option ErrorKind} (c : Copying) (k : ErrorKind) → ((j : ErrorKind) → HasNothingToCopy c.source c.wanted j → ⊥) → (is_allocation_name k ≡ true) ⊎ IsUnreadable c k → r ≡ Some k → Puts S R place.segment place.word Null → Does S R place (CopyRoot c) r
+root_not_copied c k some why named puts t stored = (Some Null, yielded (is_not_copied c k refl some why named refl), puts t stored)
 
-pub root_unread : {S R : Segments} {place : PointerPlace} {c : Copying} {r : Option ErrorKind} (k : ErrorKind) → HasNothingToCopy c.source c.wanted k → r ≡ Some k → R ≡ S → Does S R place (CopyRoot c) r
-root_unread {c = c} k why named same t stored = record { left = None; leaves = as_it_stands (is_unread c k refl why named refl); stands = same }
+pub root_unread : {S R : Segments} {place : PointerPlace} {r : Option ErrorKind} (c : Copying) (k : ErrorKind) → HasNothingToCopy c.source c.wanted k → r ≡ Some k → R ≡ S → Does S R place (CopyRoot c) r
+root_unread c k why named same t stored = (None, yielded (is_unread c k refl why named refl), same)
 
 -- The root means a value whose copy fits after the words of segment id.
 abbrev pub FitsBehind : View → ℕ → Copying → Type 0
@@ -110,20 +109,36 @@ value_refused b id at old new r m m' k (inl (lacks, large)) =
 value_refused b id at old new r m m' k (inr (inl refused)) = inr refused
 value_refused b id at old new r m m' k (inr (inr none)) = absurd none
 
-copy_refused_as : (w : Wanted) (b : Bool) (id at : ℕ) (old new : View) (r : Reading) (m m' : Meter) (k : ErrorKind) → OfWanted w r (copy_call (form_of b) (call_at id at old new) m m') (λ o d. RefusesToCopy o d k) →
+-- P holds for the original of what is wanted, and the call that copies it.
+abbrev Wants : Wanted → Reading → CopyCall → (Original Tree → CopyCall → Type 0) → Type 0
+Wants Value r c P = P (value_original r) c
+Wants AStruct r c P = OfWanted AStruct r c P
+Wants AList r c P = OfElements r c P
+
+wants_of : (w : Wanted) (r : Reading) (c : CopyCall) (P : Original Tree → CopyCall → Type 0) → OfWanted w r c P → Wants w r c P
+wants_of Value r c P h = h
+wants_of AStruct r c P h = h
+wants_of AList r c P h = to_elements r c P h
+
+of_wants : (w : Wanted) (r : Reading) (c : CopyCall) (P : Original Tree → CopyCall → Type 0) → Wants w r c P → OfWanted w r c P
+of_wants Value r c P h = h
+of_wants AStruct r c P h = h
+of_wants AList r c P h = of_elements r c P h
+
+copy_refused_as : (w : Wanted) (b : Bool) (id at : ℕ) (old new : View) (r : Reading) (m m' : Meter) (k : ErrorKind) → Wants w r (copy_call (form_of b) (call_at id at old new) m m') (λ o d. RefusesToCopy o d k) →
     (is_allocation_name k ≡ true) ⊎ Refused (form_of b) r m m' k
 copy_refused_as Value b id at old new r m m' k refuses = value_refused b id at old new r m m' k refuses
 copy_refused_as AStruct b id at old new r m m' k (s, leads, refuses) = struct_refused b id at old new r m m' s k leads refuses
 copy_refused_as AList b id at old new r m m' k (l, n, leads, refuses) = list_refused b id at old new r m n m' l k leads refuses
 
-copy_nowhere_as : (w : Wanted) (b : Bool) (id at : ℕ) (old new : View) (r : Reading) (m m' : Meter) (k : ErrorKind) → OfWanted w r (copy_call (form_of b) (call_at id at old new) m m') (λ o d. RefusesToCopy o d k) → k ≡ NoSuchPlace → ⊥
+copy_nowhere_as : (w : Wanted) (b : Bool) (id at : ℕ) (old new : View) (r : Reading) (m m' : Meter) (k : ErrorKind) → Wants w r (copy_call (form_of b) (call_at id at old new) m m') (λ o d. RefusesToCopy o d k) → k ≡ NoSuchPlace → ⊥
 copy_nowhere_as w b id at old new r m m' k refuses e = elim (copy_refused_as w b id at old new r m m' k refuses) [
   | inl memory ↦ of_no_place k memory e
   | inr refused ↦ not_for_place (subst (λ y. Refused (form_of b) r m m' y) e refused)
 ]
 
 copy_fits_as : (w : Wanted) (c : Copying) (id at : ℕ) (old new : View) (r : Reading) (m m' : Meter) (k : ErrorKind) → c.wanted ≡ w → (c.wanted ≡ AList → AreWords r.segments) →
-    CanBeCopiedAs c r m (length (segment old.words id)) (old.room id) → OfWanted w r (copy_call (form_of c.canonicalize) (call_at id at old new) m m') (λ o d. RefusesToCopy o d k) → ⊥
+    CanBeCopiedAs c r m (length (segment old.words id)) (old.room id) → Wants w r (copy_call (form_of c.canonicalize) (call_at id at old new) m m') (λ o d. RefusesToCopy o d k) → ⊥
 copy_fits_as Value c id at old new r m m' k is small can (inl (lacks, large)) =
     let same : can.value ≡ can.copied = same_some can.value can.copied (subst (λ w. as_wanted w can.value ≡ Some can.copied) is can.is_wanted) in
     omega (arith, can.fits, value_beyond (form_of c.canonicalize) r (length (segment old.words id)) (old.room id) large can.value can.cost can.means, ap (λ t. word_count (kept (form_of c.canonicalize) t)) same)
@@ -145,26 +160,26 @@ pub record Tried {A : Type 0} (result : Result A ErrorKind) (c : Copying) (old n
   pub root : HasRoot c.source
   pub after : Meter
   pub done : IfOk result (λ x. IsDone c after old.words new.words place)
-  pub copies : OfWanted c.wanted (root_of c.source) (copy_call (form_of c.canonicalize) (call_at place.segment place.word old new) (once_at_root c.source) after) (Says (refusal_of result))
+  pub copies : Wants c.wanted (root_of c.source) (copy_call (form_of c.canonicalize) (call_at place.segment place.word old new) (once_at_root c.source) after) (Says (refusal_of result))
 
 -- if Q follows from P for each original and call, it does so for what is wanted at a place
-wanted_so : (w : Wanted) (r : Reading) (c : CopyCall) (P Q : Original Tree → CopyCall → Type 0) → ((o : Original Tree) (d : CopyCall) → P o d → Q o d) → OfWanted w r c P → OfWanted w r c Q
+wanted_so : (w : Wanted) (r : Reading) (c : CopyCall) (P Q : Original Tree → CopyCall → Type 0) → ((o : Original Tree) (d : CopyCall) → P o d → Q o d) → Wants w r c P → Wants w r c Q
 wanted_so Value r c P Q so h = so _ _ h
 wanted_so AStruct r c P Q so (s, leads, h) = (s, leads, so _ _ h)
 wanted_so AList r c P Q so (l, m, leads, h) = (l, m, leads, so _ _ h)
 
 tried_refused : {A : Type 0} (k : ErrorKind) (c : Copying) (old new : View) (place : PointerPlace) (tried : Tried {A = A} (Err k) c old new place) →
-    OfWanted c.wanted (root_of c.source) (copy_call (form_of c.canonicalize) (call_at place.segment place.word old new) (once_at_root c.source) tried.after) (λ o d. RefusesToCopy o d k)
+    Wants c.wanted (root_of c.source) (copy_call (form_of c.canonicalize) (call_at place.segment place.word old new) (once_at_root c.source) tried.after) (λ o d. RefusesToCopy o d k)
 tried_refused k c old new place tried = wanted_so c.wanted (root_of c.source) _ (Says (Some k)) (λ o d. RefusesToCopy o d k) (λ o d h. h.1) tried.copies
 
 -- if what is wanted was found, there is something to copy
-found_wanted : (w : Wanted) (r : Reading) (d : CopyCall) (So : Original Tree → CopyCall → Type 0) → OfWanted w r d So → (m : Meter) (k : ErrorKind) → RefusesWanted w r d.before m k → ⊥
+found_wanted : (w : Wanted) (r : Reading) (d : CopyCall) (So : Original Tree → CopyCall → Type 0) → Wants w r d So → (m : Meter) (k : ErrorKind) → RefusesWanted w r d.before m k → ⊥
 found_wanted Value r d So h m k withheld = withheld
 found_wanted AStruct r d So (s, leads, h) m k withheld = not_withheld struct_expected r d.before m k (struct_there_given leads) withheld
-found_wanted AList r d So (l, n, leads, h) m k withheld = not_withheld (list_expected Void) r d.before m k (list_there_given leads) withheld
+found_wanted AList r d So (l, n, leads, h) m k withheld = not_withheld (list_expected Void) r d.before m k (list_there_given leads) (as_list withheld)
 
 something_to_copy : (c : Copying) (call : CallAt) (after : Meter) (So : Original Tree → CopyCall → Type 0) → HasRoot c.source →
-    OfWanted c.wanted (root_of c.source) (copy_call (form_of c.canonicalize) call (once_at_root c.source) after) So → (k : ErrorKind) → HasNothingToCopy c.source c.wanted k → ⊥
+    Wants c.wanted (root_of c.source) (copy_call (form_of c.canonicalize) call (once_at_root c.source) after) So → (k : ErrorKind) → HasNothingToCopy c.source c.wanted k → ⊥
 something_to_copy c call after So has found k (inl rootless) = rootless.0 has
 something_to_copy c call after So has found k (inr (root, (m, withheld))) = found_wanted c.wanted (root_of c.source) (copy_call (form_of c.canonicalize) call (once_at_root c.source) after) So found m k withheld
 
@@ -174,7 +189,7 @@ tried_done (Ok x) c old new place tried cleared =
     let (t, w, reads, is, puts) = tried.done in
     root_copied (kept (form_of c.canonicalize) w) (record { root = tried.root; value = t; after = tried.after; is_read = reads; copied = w; is_wanted = is; is_kept = refl }) refl puts
 tried_done (Err k) c old new place tried cleared =
-    root_not_copied k (something_to_copy c (call_at place.segment place.word old new) tried.after (λ o d. Says (Some k) o d) tried.root tried.copies) (elim (copy_refused_as c.wanted c.canonicalize place.segment place.word old new (root_of c.source) (once_at_root c.source) tried.after k (tried_refused k c old new place tried)) [
+    root_not_copied c k (something_to_copy c (call_at place.segment place.word old new) tried.after (λ o d. Says (Some k) o d) tried.root tried.copies) (elim (copy_refused_as c.wanted c.canonicalize place.segment place.word old new (root_of c.source) (once_at_root c.source) tried.after k (tried_refused k c old new place tried)) [
       | inl memory ↦ inl memory
       | inr refused ↦ inr (tried.root, (tried.after, refused))
     ]) refl cleared
@@ -184,7 +199,7 @@ copy_counted (Ok x) old new keeps spends = ap (λ (v : View). v.refusals) keeps.
 copy_counted (Err k) old new keeps spends = spends.2
 
 pub tried_taken : {A : Type 0} (result : Result A ErrorKind) (c : Copying) (old new : View) (place : PointerPlace) → Tried result c old new place → CopiesWhole (call_at place.segment place.word old new) c (refusal_of result)
-tried_taken result c old new place tried = inr (tried.after, tried.copies)
+tried_taken result c old new place tried = inr (tried.after, of_wants c.wanted (root_of c.source) _ (Says (refusal_of result)) tried.copies)
 
 pub tried_fits : {A : Type 0} (result : Result A ErrorKind) (c : Copying) (old new : View) (place : PointerPlace) → Tried result c old new place → FitsBehind old place.segment c → IsOk result
 tried_fits (Ok x) c old new place tried fits = refl
@@ -201,10 +216,10 @@ value_tried result c r m m' old new place is is_r is_m has done refused taken = 
         (h.value, h.value, subst (λ y. Reads (form_of c.canonicalize) (root_of c.source) y m' h.value) is_m (subst (λ y. Reads (form_of c.canonicalize) y m m' h.value) is_r h.is_read), ap (λ w. as_wanted w h.value) is, h.put)
     good (Err k) h = tt
 
-    copies : OfWanted c.wanted (root_of c.source) (copy_call (form_of c.canonicalize) (call_at place.segment place.word old new) (once_at_root c.source) m') (Says (refusal_of result))
+    copies : Wants c.wanted (root_of c.source) (copy_call (form_of c.canonicalize) (call_at place.segment place.word old new) (once_at_root c.source) m') (Says (refusal_of result))
     copies =
         let ch : Meter → CopyCall = λ y. copy_call (form_of c.canonicalize) (call_at place.segment place.word old new) y m' in
-        subst (λ w. OfWanted w (root_of c.source) (ch (once_at_root c.source)) (Says (refusal_of result))) (sym is)
+        subst (λ w. Wants w (root_of c.source) (ch (once_at_root c.source)) (Says (refusal_of result))) (sym is)
         (subst (λ y. Says (refusal_of result) (value_original (root_of c.source)) (ch y)) is_m (subst (λ y. Says (refusal_of result) (value_original y) (ch m)) is_r (says result (value_original r) (ch m) done taken refused)))
 
 -- the copy of the struct that the root leads to
@@ -221,8 +236,8 @@ struct_tried result c s m' old new place is has leads done refused taken = recor
         (t, h.value, reads, ap (λ w. as_wanted w t) is ∙ wanted ∙ ap Some (sym same), h.put)
     good (Err k) h = tt
 
-    copies : OfWanted c.wanted (root_of c.source) (copy_call (form_of c.canonicalize) (call_at place.segment place.word old new) (once_at_root c.source) m') (Says (refusal_of result))
-    copies = subst (λ w. OfWanted w (root_of c.source) (copy_call (form_of c.canonicalize) (call_at place.segment place.word old new) (once_at_root c.source) m') (Says (refusal_of result))) (sym is) (s, leads, says result (sections_original s.words s.first s.pointers) (copy_call (form_of c.canonicalize) (call_at place.segment place.word old new) s.limiter m') done taken refused)
+    copies : Wants c.wanted (root_of c.source) (copy_call (form_of c.canonicalize) (call_at place.segment place.word old new) (once_at_root c.source) m') (Says (refusal_of result))
+    copies = subst (λ w. Wants w (root_of c.source) (copy_call (form_of c.canonicalize) (call_at place.segment place.word old new) (once_at_root c.source) m') (Says (refusal_of result))) (sym is) (s, leads, says result (sections_original s.words s.first s.pointers) (copy_call (form_of c.canonicalize) (call_at place.segment place.word old new) s.limiter m') done taken refused)
 
 -- the copy of the list that the root leads to
 list_tried : {A : Type 0} (result : Result A ErrorKind) (c : Copying) (l : ListElements) (m m' : Meter) (old new : View) (place : PointerPlace) → c.wanted ≡ AList → HasRoot c.source →
@@ -237,8 +252,8 @@ list_tried result c l m m' old new place is has leads done refused taken = recor
         (u, h.value, reads, ap (λ w. as_wanted w u) is ∙ wanted, h.put)
     good (Err k) h = tt
 
-    copies : OfWanted c.wanted (root_of c.source) (copy_call (form_of c.canonicalize) (call_at place.segment place.word old new) (once_at_root c.source) m') (Says (refusal_of result))
-    copies = subst (λ w. OfWanted w (root_of c.source) (copy_call (form_of c.canonicalize) (call_at place.segment place.word old new) (once_at_root c.source) m') (Says (refusal_of result))) (sym is) (l, m, leads, says result (list_original l.size l.sections l.count l.first) (copy_call (form_of c.canonicalize) (call_at place.segment place.word old new) m m') done taken refused)
+    copies : Wants c.wanted (root_of c.source) (copy_call (form_of c.canonicalize) (call_at place.segment place.word old new) (once_at_root c.source) m') (Says (refusal_of result))
+    copies = subst (λ w. Wants w (root_of c.source) (copy_call (form_of c.canonicalize) (call_at place.segment place.word old new) (once_at_root c.source) m') (Says (refusal_of result))) (sym is) (l, m, leads, says result (list_original l.size l.sections l.count l.first) (copy_call (form_of c.canonicalize) (call_at place.segment place.word old new) m m') done taken refused)
 
 -- A call without a default reads the pointer itself.
 own_pointer : {A : Type 0} (g : Ghosts A) (expected : Expectation) (from p : PointerReader A g) → IsRead g (record { from = from; expected = expected; default = None }) (Ok p) → p ≡ from
@@ -292,7 +307,7 @@ pub struct_unread : {A : Type 0} (g : Ghosts A) (c : Copying) (from : PointerRea
 struct_unread g c from m m' k is here refused = unread_as g c struct_expected from m m' k (λ r i j h. subst (λ w. RefusesWanted w r i j k) (sym is) h) here refused
 
 pub list_unread : {A : Type 0} (g : Ghosts A) (c : Copying) (from : PointerReader A g) (m m' : Meter) (k : ErrorKind) → c.wanted ≡ AList → IsRootReader g c.source from m → IsRefused g (record { from = from; expected = list_expected Void; default = None }) m m' k → HasNothingToCopy c.source c.wanted k
-list_unread g c from m m' k is here refused = unread_as g c (list_expected Void) from m m' k (λ r i j h. subst (λ w. RefusesWanted w r i j k) (sym is) h) here refused
+list_unread g c from m m' k is here refused = unread_as g c (list_expected Void) from m m' k (λ r i j h. subst (λ w. RefusesWanted w r i j k) (sym is) (as_any h)) here refused
 
 pub struct_found : {A : Type 0} (g : Ghosts A) (c : Copying) (from : PointerReader A g) (m : Meter) (v : View) (id : ℕ) → c.wanted ≡ AStruct → IsRootReader g c.source from m → FitsBehind v id c → WhereRead g (record { from = from; expected = struct_expected; default = None }) (λ p. HasExpected struct_expected (read_by g p) m)
 struct_found g c from m v id is here fits =
@@ -339,24 +354,20 @@ other_withheld expected r m m' k levels kinds fits (misfits a level kind o other
 other_kind : (w : ℕ) → IsOther (struct_expected.another_kind w)
 other_kind w = other_of (nat_eq (kind w) 0) None (Some MessageContainsNonStructPointerWhereStructPointerWasExpected) tt refl
 
-other_list : (w : ℕ) → IsOther ((list_expected Void).another_kind w)
+other_list : (w : ℕ) → IsOther (any_list.another_kind w)
 other_list w = other_of (nat_eq (kind w) 1) None (Some MessageContainsNonListPointerWhereListPointerWasExpected) tt refl
-
-other_narrow : (n : ℕ) → IsOther (narrow_elements Void n)
-other_narrow n =
-    other_of (nat_eq n 1 && true) (Some FoundBitListWhereStructListWasExpected) _ refl (other_of (nat_lt (element_bits n) 0 || false && not (nat_eq n 6)) (Some MessageContainsListWithIncompatibleElementType) None refl tt)
 
 other_unwanted : (w : Wanted) (r : Reading) (m m' : Meter) (k : ErrorKind) → RefusesWanted w r m m' k → is_of_call k ≡ false
 other_unwanted Value r m m' k h = absurd h
 other_unwanted AStruct r m m' k h = other_withheld struct_expected r m m' k (λ n. other_of (nat_eq n 0) (Some MessageIsTooDeeplyNestedOrContainsCycles) None refl tt) other_kind (λ S a. tt) h
 other_unwanted AList r m m' k h =
-    other_withheld (list_expected Void) r m m' k (λ n. other_of (nat_eq n 0) (Some NestingLimitExceeded) None refl tt) other_list (λ S a. other_of (nat_eq (element_size a.word) 7) None (narrow_elements Void (element_size a.word)) tt (other_narrow (element_size a.word))) h
+    other_withheld any_list r m m' k (λ n. other_of (nat_eq n 0) (Some NestingLimitExceeded) None refl tt) other_list (λ S a. other_of (nat_eq (element_size a.word) 1) (Some FoundBitListWhereStructListWasExpected) None refl tt) h
 
 -- what can be copied is neither missing nor unreadable
 wanted_there : (w : Wanted) (c : Copying) (r : Reading) (m m' : Meter) (used room : ℕ) (k : ErrorKind) → c.wanted ≡ w → CanBeCopiedAs c r m used room → RefusesWanted w r m m' k → ⊥
 wanted_there Value c r m m' used room k is can h = h
 wanted_there AStruct c r m m' used room k is can h = not_withheld struct_expected r m m' k (struct_given c r m used room is can) h
-wanted_there AList c r m m' used room k is can h = not_withheld (list_expected Void) r m m' k (list_given c r m used room is can) h
+wanted_there AList c r m m' used room k is can h = not_withheld (list_expected Void) r m m' k (list_given c r m used room is can) (as_list h)
 
 pub copied_or_refused : (c : Copying) (u : Tree) (k : ErrorKind) → Copies c u → HasNothingToCopy c.source c.wanted k ⊎ IsUnreadable c k → ⊥
 copied_or_refused c u k good (inl (inl rootless)) = rootless.0 good.root
@@ -411,7 +422,7 @@ copy_nowhere None call c copies e = absurd (cc)
 copy_nowhere (Some k) call c (inl h) e = h.1
 copy_nowhere (Some k) call c (inr (m, h)) e =
     absurd (copy_nowhere_as c.wanted c.canonicalize call.segment call.at call.old call.new (root_of c.source) (once_at_root c.source) m k
-    (wanted_so c.wanted (root_of c.source) _ (Says (Some k)) (λ o d. RefusesToCopy o d k) (λ o d x. x.1) h) (same_some k NoSuchPlace e))
+    (wanted_so c.wanted (root_of c.source) _ (Says (Some k)) (λ o d. RefusesToCopy o d k) (λ o d x. x.1) (wants_of c.wanted (root_of c.source) _ (Says (Some k)) h)) (same_some k NoSuchPlace e))
 
 -- a call that copies what a root leads to
 pub root_done : {A : Type 0} (result : Result A ErrorKind) (old new : View) (place : PointerPlace) (c : Copying) → Does old.words new.words place (CopyRoot c) (refusal_of result) → new.refusals ≡ refusals_after (refusal_of result) old.refusals →

@@ -4,7 +4,7 @@ use Rattle.std.proofs.lemmas.Bool.{ne_eqb}
 use lib.IntN.{pos, ◌-ℤ◌}
 use Rattle.capnp_words.specs.Meter.{Meter, Affords}
 use Rattle.capnp_words.specs.declared.error.ErrorKind.{ErrorKind}
-use Rattle.capnp_words.specs.declared.error.ErrorKind.TheVariants.{MessageContainsNonListPointerWhereListPointerWasExpected, NestingLimitExceeded}
+use Rattle.capnp_words.specs.declared.error.ErrorKind.TheVariants.{FoundBitListWhereStructListWasExpected, MessageContainsNonListPointerWhereListPointerWasExpected, NestingLimitExceeded}
 use Rattle.capnp_words.specs.declared.wire_pointer.ElementSize.{ElementSize}
 use Rattle.capnp_words.specs.declared.wire_pointer.ElementSize.TheVariants.{Void, Bit, Byte, TwoBytes, FourBytes, EightBytes, Pointer, InlineComposite}
 use Rattle.capnp_words.specs.declared.wire_pointer.StructSize.{StructSize}
@@ -19,7 +19,7 @@ use Rattle.capnp_format.specs.Word.{kind, offset_bits, data_words, pointer_count
 use Rattle.capnp_format.proofs.Bounds.{leads_word}
 use Rattle.capnp_format.proofs.Sound.{at_some}
 use Rattle.capnp_objects.specs.Demands.{tag, own_charge, Meets}
-use Rattle.capnp_objects.specs.Expected.{list_expected, HasExpected, null_pointer, fitting, narrow_elements}
+use Rattle.capnp_objects.specs.Expected.{list_expected, HasExpected, null_pointer, fitting, narrow_elements, RefusesExpected, no_level, unfollowed, of_another_kind, stopped, misfits}
 use Rattle.capnp_objects.specs.Faults.{LeadsTo, child_at}
 use Rattle.capnp_objects.specs.Outcomes.{Reads, ReadsAll, ReadsElements, Entered, MeansThere}
 use Rattle.capnp_objects.specs.Reading.{Reading, word_of, words_from, tag_size}
@@ -46,11 +46,11 @@ use Rattle.capnp_copies.proofs.Originals.{exceeding, list_words, refused_words}
 use Rattle.capnp_edits.specs.declared.edit.copying.Copying.{Copying}
 use Rattle.capnp_edits.specs.declared.edit.copying.Wanted.TheVariants.{List as AList}
 use Rattle.capnp_words.specs.Names.{is_allocation_name}
-use Rattle.capnp_edits.specs.Sources.{as_wanted, ListElements, LeadsToList, no_list, a_plain_list, a_struct_list}
+use Rattle.capnp_edits.specs.Sources.{any_list, as_wanted}
 use Rattle.capnp_edits.proofs.Applied.{of_allocation}
 use Rattle.capnp_edits.proofs.CopiedStruct.{CanBeCopiedAs}
 use Rattle.capnp_objects.proofs.Levels.{level_less}
-use Rattle.capnp_edits.proofs.ListReads.{ReadsList, RefusedList, as_list_read, list_refused_as}
+use Rattle.capnp_edits.proofs.ListReads.{ListElements, LeadsToList, no_list, a_plain_list, a_struct_list, ReadsList, RefusedList, as_list_read, list_refused_as}
 use Rattle.capnp_edits.proofs.Steps.{same_some}
 use Rattle.capnp_objects.proofs.Followed.{leads_to, entered_leads}
 use Rattle.capnp_objects.proofs.Shorthands.{RefusedAll, RefusedElements}
@@ -240,6 +240,32 @@ structs_meet r d q es c (a, m, k, some, o, claims, t, fits, all, g) =
       };
       cost = omega (arith, own_structs_there S a m (element_count es) d q o.is_list o.is_size o.counts t, g);
     }
+
+-- what isn't a list for `get_list` of Void isn't a list, or is one of bits
+list_or_bits : (w : ℕ) → w ≤ 7 → cond (nat_eq w 7) None (narrow_elements Void w) ≡ cond (nat_eq w 1) (Some FoundBitListWhereStructListWasExpected) None
+list_or_bits zero l = refl
+list_or_bits (suc zero) l = refl
+list_or_bits (suc (suc zero)) l = refl
+list_or_bits (suc (suc (suc zero))) l = refl
+list_or_bits (suc (suc (suc (suc zero)))) l = refl
+list_or_bits (suc (suc (suc (suc (suc zero))))) l = refl
+list_or_bits (suc (suc (suc (suc (suc (suc zero)))))) l = refl
+list_or_bits (suc (suc (suc (suc (suc (suc (suc zero))))))) l = refl
+list_or_bits (suc (suc (suc (suc (suc (suc (suc (suc n)))))))) l = absurd (omega arith)
+
+pub as_any : {r : Reading} {m m' : Meter} {k : ErrorKind} → RefusesExpected (list_expected Void) r m m' k → RefusesExpected any_list r m m' k
+as_any (no_level some deep same) = no_level some deep same
+as_any (unfollowed level h) = unfollowed level h
+as_any (of_another_kind a level follows other paid) = of_another_kind a level follows other paid
+as_any (stopped level kind h) = stopped level kind h
+as_any (misfits a level kind o other) = misfits a level kind o (sym (list_or_bits (element_size a.word) (omega arith)) ∙ other)
+
+pub as_list : {r : Reading} {m m' : Meter} {k : ErrorKind} → RefusesExpected any_list r m m' k → RefusesExpected (list_expected Void) r m m' k
+as_list (no_level some deep same) = no_level some deep same
+as_list (unfollowed level h) = unfollowed level h
+as_list (of_another_kind a level follows other paid) = of_another_kind a level follows other paid
+as_list (stopped level kind h) = stopped level kind h
+as_list (misfits a level kind o other) = misfits a level kind o (list_or_bits (element_size a.word) (omega arith) ∙ other)
 
 level_there : (n : ℕ) → 0 < n → (list_expected Void).too_deep n ≡ None
 level_there n l = ap (λ b. cond b (Some NestingLimitExceeded) None) (ne_eqb n 0 (λ e. omega (arith, e, l)))

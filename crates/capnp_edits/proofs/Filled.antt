@@ -1,7 +1,6 @@
 -- Content of another message's struct, copied over a struct that a pointer leads to or that is an
 -- element of a list.
 use Rattle.std.proofs.Common.{◌≡◌, ◌⊎◌, inl, inr, ℕ, zero, suc, pred, min, ◌+◌, ◌*◌, ◌<◌, List, [], ◌∷◌, length, Option, Some, None, IsSomeAnd, Result, Ok, Err, IsOk, IfOk, IfErr, OnErr, true, refl, sym, ap, ap₂, ◌∙◌, subst, arith, map}
-use Rattle.std.specs.Prelude.{MatchOption, ⊤}
 use Rattle.capnp_words.specs.Meter.{Meter}
 use Rattle.capnp_words.specs.declared.error.ErrorKind.{ErrorKind}
 use Rattle.capnp_words.specs.declared.error.ErrorKind.TheVariants.{NoSuchPlace}
@@ -9,14 +8,14 @@ use Rattle.capnp_arena_traits.specs.View.{View, KeepsLimits}
 use Rattle.capnp_arena_traits.specs.declared.arena.reader_arena.ReaderArena.{Ghosts}
 use Rattle.capnp_format.specs.Bytes.{words_of}
 use Rattle.capnp_format.specs.Forest.{IsForest, target}
-use Rattle.capnp_format.specs.Segments.{Segments, Target}
+use Rattle.capnp_format.specs.Segments.{Target}
 use Rattle.capnp_format.specs.Tree.{Tree, Null, Capability, Struct, Flat, Pointers, Structs, Trees, no_trees, count}
 use Rattle.capnp_format.specs.Word.{data_words, pointer_count}
 use Rattle.capnp_making.specs.Memory.{refusals_for}
 use Rattle.capnp_contents.specs.declared.existing.ExistingStruct.{ExistingStruct}
 use Rattle.capnp_contents.specs.Existing.{struct_in}
 use Rattle.capnp_format.specs.Path.{Element, update, put_struct, struct_at}
-use Rattle.capnp_making.specs.Stored.{IsStored, IsReplaced}
+use Rattle.capnp_making.specs.Stored.{IsStored}
 use Rattle.capnp_making.proofs.Replaced.{forest_stored, forest_updated, stored_within}
 use Rattle.capnp_objects.specs.Outcomes.{ReadsAll}
 use Rattle.capnp_objects.specs.Reading.{Reading, place_past}
@@ -44,6 +43,9 @@ use Rattle.capnp_copies.specs.Growth.{TakesAtMost}
 use Rattle.capnp_copies.specs.Originals.{children_original}
 use Rattle.capnp_builders.specs.StructValues.{data_of}
 use Rattle.capnp_copies.proofs.Growth.{none_taken, all_taken}
+use Rattle.capnp_copies.proofs.FilledChildren.{no_child}
+use Rattle.capnp_copies.specs.Changes.{CopiesChildren}
+use Rattle.capnp_words.specs.Names.{is_allocation_name}
 use Rattle.capnp_builders.specs.Content.{TakesContent, StopsAtContent, ContentFits, pointers_copied}
 use Rattle.capnp_builders.specs.Content.{up_to}
 use Rattle.capnp_builders.specs.Places.{struct_place}
@@ -60,37 +62,30 @@ use Rattle.capnp_edits.specs.declared.edit.tasks.StructChange.{StructChange}
 use Rattle.capnp_edits.specs.declared.edit.tasks.StructChange.TheVariants.{Bits, Content}
 use Rattle.capnp_edits.specs.Tasks.{task_of}
 use Rattle.capnp_edits.specs.Paths.{found, IsElementFound, ElementOf, step_of}
-use Rattle.capnp_edits.specs.Sources.{root_of, once_at_root, HasRoot, Sections, LeadsToStruct, no_struct, a_struct, ContentRead, HasNothingToCopy, IsNextUnreadable}
-use Rattle.capnp_edits.specs.Edits.{refusal_of, bits_of, fills, is_of_path, PutsBits, FillsAt, all_filled, first_filled, none_filled, refusals_after, IsApplied, EditTakes, DoesAt}
-use Rattle.capnp_edits.specs.Steps.{DoesThere, FillsThere, IsStructAt, StopsFilling, FitsAt, IsRefusedAt, AllocatesAt, IsDoneAt, result_of}
+use Rattle.capnp_edits.specs.Sources.{root_of, once_at_root, Sections, LeadsToStruct, no_struct, a_struct, ContentRead, HasNothingToCopy, IsNextUnreadable}
+use Rattle.capnp_edits.specs.Edits.{struct_changed, refusal_of, bits_of, fills, is_of_path, PutsBits, are_written, are_outside, refusals_after, IsApplied, EditTakes}
+use Rattle.capnp_edits.specs.Steps.{DoesThere, FillsAt, Filling, IsStructAt, FitsAt, IsRefusedAt, AllocatesAt, IsDoneAt}
 use Rattle.capnp_edits.specs.declared.edit.path.PathEnd.TheVariants.{Pointer as AtPointer, Element as AtElement}
-use Rattle.capnp_edits.proofs.Taken.{bits_lengths, copy_taken, writes}
+use Rattle.capnp_edits.proofs.Taken.{bits_lengths, writes}
 use Rattle.capnp_edits.proofs.Applied.{made, of_allocation, of_no_place, of_place, named_refusal, none_counted, kept_nowhere, refused_there, never_refused, denied_at, no_struct as is_none, written_at, element_struct, element_end, applied_bits}
 use Rattle.capnp_edits.proofs.Copied.{IsRootReader, where_read}
 use Rattle.capnp_edits.proofs.CopiedStruct.{struct_at as source_at, struct_there_given, whole_words, whole_bits}
 use Rattle.capnp_edits.proofs.Steps.{same_some, first, struct_of}
 use Rattle.capnp_edits.proofs.Walks.{update-append}
-use Rattle.capnp_edits.proofs.Ways.{as_it_stands, is_filled, is_half_filled, is_not_filled, leads_to, struct_changed, takes}
+use Rattle.capnp_edits.proofs.Ways.{DoesAt, yielded, is_filled, is_half_filled, is_not_filled, leads_to, takes}
 use Rattle.capnp_objects.proofs.Followed.{entered_leads}
-
--- Why content isn't copied over a struct, or not all of it; and the words that it takes.
-abbrev pub IsContentRefused : View → View → StructPlace → Source → ErrorKind → Type 0
-IsContentRefused old new place source k = (HasNothingToCopy source AStruct k × (new ≡ old)) ⊎ StopsFilling old new place source k
 
 -- The pointers that the source's struct and a struct of q pointers in segment id both have can be
 -- read, and the words of what they mean fit after those of that segment.
 abbrev pub ContentFitsBehind : View → ℕ → Source → ℕ → Type 0
 ContentFitsBehind v id source q = (all : ContentRead source) × (count all.children ≡ min q all.from.pointers) × HasOwnRoom v id (word_count_all all.children)
 
-abbrev pub TakesForContentFrom : View → View → StructPlace → Source → Option ErrorKind → Type 0
-TakesForContentFrom old new place source r =
-    (IsSomeAnd r (HasNothingToCopy source AStruct) × (new ≡ old)) ⊎
-    ((s : Sections) × (m : Meter) × LeadsToStruct (root_of source) (once_at_root source) s × TakesAtMost (result_of r) (children_original s.first (min place.pointers s.pointers)) (pointers_copied place old new s.limiter m) ×
-    MatchOption r (0 < place.bits + place.pointers → FillsThere old new place s m) (λ k. ⊤))
-
 -- the reader v has the sections of the source's struct
+abbrev sections_read : {A : Type 0} (g : Ghosts A) → StructReader A g → Meter → Sections
+sections_read g v n = record { words = words_of v.content.now; first = pointers_read g v; pointers = v.pointer_count; limiter = n }
+
 record SourceStruct {A : Type 0} (g : Ghosts A) (source : Source) (v : StructReader A g) (n : Meter) : Type 0 where
-  leads : LeadsToStruct (root_of source) (once_at_root source) (record { words = words_of v.content.now; first = pointers_read g v; pointers = v.pointer_count; limiter = n })
+  leads : LeadsToStruct (root_of source) (once_at_root source) (sections_read g v n)
   bits : v.bits ≡ 64 * length (words_of v.content.now)
 
 source_struct : {A : Type 0} (g : Ghosts A) (source : Source) (from : PointerReader A g) (v : StructReader A g) (m n : Meter) → IsRootReader g source from m → length v.content.now ≡ bytes_for v.bits →
@@ -99,143 +94,104 @@ source_struct g source from v m n opened long read =
     let there : IsStructRead g from m n v = where_read g struct_expected from (λ p. IsStructRead g p m n v) read in
     let all = whole_words v.content.now v.bits long (whole_bits g from m n v there) in
     let leads : LeadsToStruct (read_by g from) m (record { words = data_of g v; first = pointers_read g v; pointers = v.pointer_count; limiter = n }) = source_at g from m n v long there in
-    let of_words : LeadsToStruct (read_by g from) m (record { words = words_of v.content.now; first = pointers_read g v; pointers = v.pointer_count; limiter = n }) =
+    let of_words : LeadsToStruct (read_by g from) m (sections_read g v n) =
     subst (λ w. LeadsToStruct (read_by g from) m (record { words = w; first = pointers_read g v; pointers = v.pointer_count; limiter = n })) all.0 leads in
     record {
       leads =
-          subst (λ y. LeadsToStruct (root_of source) y (record { words = words_of v.content.now; first = pointers_read g v; pointers = v.pointer_count; limiter = n })) opened.2
-          (subst (λ r. LeadsToStruct r m (record { words = words_of v.content.now; first = pointers_read g v; pointers = v.pointer_count; limiter = n })) opened.1 of_words);
+          subst (λ y. LeadsToStruct (root_of source) y (sections_read g v n)) opened.2
+          (subst (λ r. LeadsToStruct r m (sections_read g v n)) opened.1 of_words);
       bits = all.1;
     }
 
-abbrev content_read : {A : Type 0} (g : Ghosts A) (source : Source) (v : StructReader A g) (n m' : Meter) (ts : Trees) → HasRoot source → SourceStruct g source v n → ReadsAll plain (pointers_read g v) n m' ts → ContentRead source
-content_read g source v n m' ts root s are_read = record {
-  root = root;
-  from = record { words = words_of v.content.now; first = pointers_read g v; pointers = v.pointer_count; limiter = n };
-  leads = s.leads;
-  after = m';
+-- what was read of the source's struct: the values ts of the first pointers
+abbrev content_read : {old new : View} {place : StructPlace} {source : Source} {r : Option ErrorKind} (f : Filling old new place source r) (m : Meter) (ts : Trees) → ReadsAll plain f.from.first f.from.limiter m ts → ContentRead source
+content_read f m ts are_read = record {
+  root = f.root;
+  from = f.from;
+  leads = f.leads;
+  after = m;
   children = ts;
   are_read = are_read;
-  bytes = v.content.now;
-  are_words = refl;
+  bytes = f.bytes;
+  are_words = f.are_words;
 }
+
+abbrev all_read : {old new : View} {place : StructPlace} {source : Source} → Filling old new place source None → ContentRead source
+all_read f = content_read f f.after f.copies.children f.copies.are_read
+
+abbrev first_read : {old new : View} {place : StructPlace} {source : Source} {k : ErrorKind} → Filling old new place source (Some k) → ContentRead source
+first_read f = content_read f f.copies.between f.copies.first f.copies.are_read
+
+-- why not all pointers are copied
+why_stopped : {old new : View} {place : StructPlace} {source : Source} {k : ErrorKind} (f : Filling old new place source (Some k)) → (is_allocation_name k ≡ true) ⊎ IsNextUnreadable source (first_read f) k
+why_stopped {old} {new} {place} {source} {k} f = elim f.copies.why [
+  | inl h ↦ inl (of_allocation f.taken new (length new.words) (h.0.0 + 1) k h.0.2.0.0)
+  | inr h ↦ inr (f.after, h)
+]
 
 -- what copying over a struct leaves
 pub fill_done : {A B : Type 0} (result : Result B ErrorKind) (g : Ghosts A) (source : Source) (from : PointerReader A g) (v : StructReader A g) (m n m' : Meter) (old new : View) (place : StructPlace) → IsRootReader g source from m →
     length v.content.now ≡ bytes_for v.bits → WhereRead g (record { from = from; expected = struct_expected; default = None }) (λ p. IsStructRead g p m n v) → IfOk result (λ x. TakesContent g v place (pointers_copied place old new n m')) →
-    IfErr result (StopsAtContent g v place (pointers_copied place old new n m')) → FillsAt old.words new.words place source (refusal_of result)
-fill_done (Ok x) g source from v m n m' old new place opened long read (mid, taking, copies) refused =
+    IfErr result (StopsAtContent g v place (pointers_copied place old new n m')) → TakesAtMost result (children_original (pointers_read g v) (min place.pointers v.pointer_count)) (pointers_copied place old new n m') → FillsAt old new place source (refusal_of result)
+fill_done (Ok x) g source from v m n m' old new place opened long read (mid, taking, copies) refused few =
     let s = source_struct g source from v m n opened long read in
-    all_filled (record {
-      content = content_read g source v n m' copies.children opened.0 s copies.are_read;
-      taken = mid.words;
-      takes = rw (← s.bits) taking.cleared;
-      filled = new.words;
-      fills_first = copies.made;
-    }) copies.counts refl refl
-fill_done (Err k) g source from v m n m' old new place opened long read copied (mid, taking, stops) =
+    inr (record { root = opened.0; from = sections_read g v n; leads = s.leads; bytes = v.content.now; are_words = refl; taken = mid; limits = taking.limits; takes = rw (← s.bits) taking.cleared; after = m'; copies = copies; few = few })
+fill_done (Err k) g source from v m n m' old new place opened long read copied (mid, taking, stops) few =
     let s = source_struct g source from v m n opened long read in
-    first_filled (record {
-      content = content_read g source v n stops.between stops.first opened.0 s stops.are_read;
-      taken = mid.words;
-      takes = rw (← s.bits) taking.cleared;
-      filled = stops.filled;
-      fills_first = stops.made;
-    }) k stops.fewer stops.cleared (elim stops.why [
-      | inl h ↦ inl (of_allocation mid new (length new.words) (h.0.0 + 1) k h.0.2.0.0)
-      | inr h ↦ inr (m', h)
-    ]) refl
+    inr (record { root = opened.0; from = sections_read g v n; leads = s.leads; bytes = v.content.now; are_words = refl; taken = mid; limits = taking.limits; takes = rw (← s.bits) taking.cleared; after = m'; copies = stops; few = few })
 
 pub fill_counted : {A B : Type 0} (result : Result B ErrorKind) (g : Ghosts A) (v : StructReader A g) (n m' : Meter) (old new : View) (place : StructPlace) → IfOk result (λ x. TakesContent g v place (pointers_copied place old new n m')) →
     IfErr result (StopsAtContent g v place (pointers_copied place old new n m')) → new.refusals ≡ refusals_after (refusal_of result) old.refusals
 fill_counted (Ok x) g v n m' old new place (mid, taking, copies) refused = ap (λ (y : View). y.refusals) copies.memory.0 ∙ ap (λ (y : View). y.refusals) taking.limits
 fill_counted (Err k) g v n m' old new place copied (mid, taking, stops) = stops.memory.2 ∙ ap (refusals_for k) (ap (λ (y : View). y.refusals) taking.limits)
 
-pub fill_named : {A B : Type 0} (result : Result B ErrorKind) (g : Ghosts A) (source : Source) (from : PointerReader A g) (v : StructReader A g) (m n m' : Meter) (old new : View) (place : StructPlace) → IsRootReader g source from m →
-    length v.content.now ≡ bytes_for v.bits → WhereRead g (record { from = from; expected = struct_expected; default = None }) (λ p. IsStructRead g p m n v) → IfErr result (StopsAtContent g v place (pointers_copied place old new n m')) →
-    IfErr result (IsContentRefused old new place source)
-fill_named (Ok x) g source from v m n m' old new place opened long read refused = tt
-fill_named (Err k) g source from v m n m' old new place opened long read (mid, taking, stops) =
-    let s = source_struct g source from v m n opened long read in
-    inr (record {
-      content = content_read g source v n stops.between stops.first opened.0 s stops.are_read;
-      fewer = stops.fewer;
-      taken = mid;
-      limits = taking.limits;
-      takes = rw (← s.bits) taking.cleared;
-      after = m';
-      why = stops.why;
-    })
-
-pub fill_taken : {A B : Type 0} (result : Result B ErrorKind) (g : Ghosts A) (source : Source) (from : PointerReader A g) (v : StructReader A g) (m n m' : Meter) (old new : View) (place : StructPlace) → IsRootReader g source from m →
-    length v.content.now ≡ bytes_for v.bits → WhereRead g (record { from = from; expected = struct_expected; default = None }) (λ p. IsStructRead g p m n v) → TakesAtMost result (children_original (pointers_read g v) (min place.pointers v.pointer_count)) (pointers_copied place old new n m') →
-    IfOk result (λ x. TakesContent g v place (pointers_copied place old new n m')) → TakesForContentFrom old new place source (refusal_of result)
-fill_taken result g source from v m n m' old new place opened long read taken copied =
-    let s = source_struct g source from v m n opened long read in
-    inr (
-      record { words = words_of v.content.now; first = pointers_read g v; pointers = v.pointer_count; limiter = n },
-      m',
-      s.leads,
-      copy_taken result (children_original (pointers_read g v) (min place.pointers v.pointer_count)) (pointers_copied place old new n m') taken,
-      filled_there result copied,
-    )
-  where
-    filled_there : {B : Type 0} (q : Result B ErrorKind) → IfOk q (λ x. TakesContent g v place (pointers_copied place old new n m')) →
-        MatchOption (refusal_of q) (0 < place.bits + place.pointers → FillsThere old new place (record { words = words_of v.content.now; first = pointers_read g v; pointers = v.pointer_count; limiter = n }) m') (λ k. ⊤)
-    filled_there (Ok x) (mid, taking, copies) =
-        let s = source_struct g source from v m n opened long read in
-        λ some. record { bytes = v.content.now; are_words = refl; taken = mid; limits = taking.limits; takes = rw (← s.bits) taking.cleared; copies = copies }
-    filled_there (Err k) none = tt
-
--- why it is refused at the struct itself
-pub refused_there_too : {A : Type 0} (result : Result A ErrorKind) (old new : View) (e : ExistingStruct) (source : Source) → IfErr result (IsContentRefused old new (struct_place e) source) → IfErr result (λ k. IsRefusedAt old new (InStruct (Content source)) k (AtElement e))
-refused_there_too (Ok x) old new e source why = tt
-refused_there_too (Err k) old new e source why = (e, refl, why)
-
 -- a refusal with NoSuchPlace changes nothing
-pub fill_nowhere : {A : Type 0} (result : Result A ErrorKind) (old new : View) (e : ExistingStruct) (source : Source) → IfErr result (λ k. IsRefusedAt old new (InStruct (Content source)) k (AtElement e)) → refusal_of result ≡ Some NoSuchPlace → new ≡ old
-fill_nowhere (Ok x) old new e source why n = absurd (cc)
-fill_nowhere (Err k) old new e source (x, is, inl h) n = h.1
-fill_nowhere (Err k) old new e source (x, is, inr stops) n =
+pub fill_nowhere : (r : Option ErrorKind) (old new : View) (place : StructPlace) (source : Source) → FillsAt old new place source r → r ≡ Some NoSuchPlace → new ≡ old
+fill_nowhere None old new place source filled n = absurd (cc)
+fill_nowhere (Some k) old new place source (inl h) n = h.1
+fill_nowhere (Some k) old new place source (inr f) n =
     let nowhere : k ≡ NoSuchPlace = same_some k NoSuchPlace n in
-    absurd (elim stops.why [
-      | inl h ↦ of_no_place k (of_allocation stops.taken new (length new.words) (h.0.0 + 1) k h.0.2.0.0) nowhere
-      | inr refused ↦ not_for_place (subst (λ y. Refused plain (place_past stops.content.from.first (count stops.content.children)) stops.content.after stops.after y) nowhere refused)
+    absurd (elim (why_stopped f) [
+      | inl memory ↦ of_no_place k memory nowhere
+      | inr (m, refused) ↦ not_for_place (subst (λ y. Refused plain (place_past f.from.first (count f.copies.first)) f.copies.between m y) nowhere refused)
     ])
 
 -- copying content over a struct without words changes nothing
-pub fill_nothing : {A : Type 0} (g : Ghosts A) (source : Source) (from : PointerReader A g) (v : StructReader A g) (m n : Meter) (S : Segments) (e : ExistingStruct) → IsRootReader g source from m → length v.content.now ≡ bytes_for v.bits →
-    WhereRead g (record { from = from; expected = struct_expected; default = None }) (λ p. IsStructRead g p m n v) → e.size.data_words + e.size.pointers ≡ 0 → FillsAt S S (struct_place e) source None
-fill_nothing g source from v m n S e opened long read empty =
+pub fill_nothing : {A : Type 0} (g : Ghosts A) (source : Source) (from : PointerReader A g) (v : StructReader A g) (m n : Meter) (old : View) (e : ExistingStruct) → IsRootReader g source from m → length v.content.now ≡ bytes_for v.bits →
+    WhereRead g (record { from = from; expected = struct_expected; default = None }) (λ p. IsStructRead g p m n v) → e.size.data_words + e.size.pointers ≡ 0 → FillsAt old old (struct_place e) source None
+fill_nothing g source from v m n old e opened long read empty =
     let s = source_struct g source from v m n opened long read in
     let no_data : e.size.data_words ≡ 0 = omega (arith, empty) in
     let no_pointers : e.size.pointers ≡ 0 = omega (arith, empty) in
-    all_filled (record {
-      content = content_read g source v n n no_trees opened.0 s (read_none plain (pointers_read g v) n);
-      taken = S;
+    let none : 0 ≡ min e.size.pointers v.pointer_count = omega (arith, no_pointers) in
+    inr (record {
+      root = opened.0;
+      from = sections_read g v n;
+      leads = s.leads;
+      bytes = v.content.now;
+      are_words = refl;
+      taken = old;
+      limits = refl;
       takes = rw (no_data, no_pointers) refl;
-      filled = S;
-      fills_first = refl;
-    }) (omega (arith, no_pointers)) refl refl
+      after = n;
+      copies = subst (λ i. CopiesChildren (pointers_read g v) i (pointers_copied (struct_place e) old old n n)) none (no_child (pointers_read g v) plain (struct_place e).segment (struct_place e).pointers_at old n);
+      few = all_taken none (none_taken (pointers_read g v) plain (struct_place e).segment old n);
+    })
 
-pub nothing_taken : {A : Type 0} (g : Ghosts A) (source : Source) (from : PointerReader A g) (v : StructReader A g) (m n : Meter) (old : View) (e : ExistingStruct) → IsRootReader g source from m → length v.content.now ≡ bytes_for v.bits →
-    WhereRead g (record { from = from; expected = struct_expected; default = None }) (λ p. IsStructRead g p m n v) → e.size.data_words + e.size.pointers ≡ 0 → TakesForContentFrom old old (struct_place e) source None
-nothing_taken g source from v m n old e opened long read empty =
-    let s = source_struct g source from v m n opened long read in
-    let no_pointers : e.size.pointers ≡ 0 = omega (arith, empty) in
-    inr (
-      record { words = words_of v.content.now; first = pointers_read g v; pointers = v.pointer_count; limiter = n },
-      n,
-      s.leads,
-      all_taken (omega (arith, no_pointers)) (none_taken (pointers_read g v) plain (struct_place e).segment old n),
-      λ some. absurd (let words : 0 < 64 * e.size.data_words + e.size.pointers = some in omega (arith, words, empty)),
-    )
+-- bits that are written, or that the struct doesn't have
+bits_put : (old new : View) (e : ExistingStruct) (n : Number) (r : Option ErrorKind) → PutsBits old.words new.words e (bits_of n) r → DoesThere old new (AtElement e) (InStruct (Bits n)) r
+bits_put old new e n r (are_written starts ends done written) = inl (starts, ends, done, written)
+bits_put old new e n r (are_outside past named same) = inr (past, named, same)
+
+puts_bits : (old new : View) (e : ExistingStruct) (n : Number) (r : Option ErrorKind) → DoesThere old new (AtElement e) (InStruct (Bits n)) r → PutsBits old.words new.words e (bits_of n) r
+puts_bits old new e n r (inl (starts, ends, done, written)) = are_written starts ends done written
+puts_bits old new e n r (inr (past, named, same)) = are_outside past named same
 
 -- how a call changes a struct
 pub bits_changed : {A : Type 0} (result : Result A ErrorKind) (old new : View) (e : ExistingStruct) (n : Number) → PutsBits old.words new.words e (bits_of n) (refusal_of result) → KeepsLimits old new → IfErr result (λ k. k ≡ NoSuchPlace) →
     OnErr result (new ≡ old) → IsDoneAt old new (AtElement e) (InStruct (Bits n)) (refusal_of result)
 bits_changed result old new e n puts limits named kept = record {
-  done = puts;
+  done = bits_put old new e n (refusal_of result) puts;
   counted = none_counted result old.refusals new.refusals (ap (λ (v : View). v.refusals) limits) (of_place result named);
   named = λ k. refused_there result old new (λ j. ⊥) k (of_place result named) kept;
   fits = λ room k e. named_refusal result (λ j. is_of_path j ≡ true) k (of_place result named) e;
@@ -243,67 +199,58 @@ bits_changed result old new e n puts limits named kept = record {
   taken = λ some. (e, refl, writes old new limits (bits_lengths old.words new.words e (bits_of n) (refusal_of result) puts));
 }
 
-pub content_changed : {A : Type 0} (result : Result A ErrorKind) (old new : View) (e : ExistingStruct) (source : Source) → FillsAt old.words new.words (struct_place e) source (refusal_of result) → new.refusals ≡ refusals_after (refusal_of result) old.refusals →
-    IfErr result (λ k. IsRefusedAt old new (InStruct (Content source)) k (AtElement e)) → AllocatesAt old new (InStruct (Content source)) (refusal_of result) (AtElement e) → (FitsAt old (InStruct (Content source)) (AtElement e) → IsOk result) →
-    IsDoneAt old new (AtElement e) (InStruct (Content source)) (refusal_of result)
-content_changed result old new e source filled counted why taken fits = record {
+pub content_changed : {A : Type 0} (result : Result A ErrorKind) (old new : View) (e : ExistingStruct) (source : Source) → FillsAt old new (struct_place e) source (refusal_of result) → new.refusals ≡ refusals_after (refusal_of result) old.refusals →
+    (FitsAt old (InStruct (Content source)) (AtElement e) → IsOk result) → IsDoneAt old new (AtElement e) (InStruct (Content source)) (refusal_of result)
+content_changed result old new e source filled counted fits = record {
   done = filled;
   counted = counted;
-  named = λ k is. inr (named_refusal result (λ j. IsRefusedAt old new (InStruct (Content source)) j (AtElement e)) k why is);
+  named = λ k is. inr (e, refl, subst (FillsAt old new (struct_place e) source) is filled);
   fits = λ room k is. named_refusal result (λ j. is_of_path j ≡ true) k (never_refused result (fits room)) is;
-  nowhere = fill_nowhere result old new e source why;
-  taken = λ some. taken;
+  nowhere = fill_nowhere (refusal_of result) old new (struct_place e) source filled;
+  taken = λ some. (e, refl, filled);
 }
 
 -- at a struct that a pointer leads to
-filled_struct : (S R : Segments) (place : PointerPlace) (source : Source) (r : Option ErrorKind) (ws : List ℕ) (ts : Trees) → IsStored S place.segment place.word (Struct ws ts) →
-    FillsAt S R (struct_place (struct_of (target S place.segment place.word).segment (target S place.segment place.word).start (length ws) (count ts))) source r → DoesAt S R place (struct_changed (Content source) (Struct ws ts)) (Struct ws ts) r
-filled_struct S R place source r ws ts stored (all_filled f counts same done) =
+filled_struct : (old new : View) (place : PointerPlace) (source : Source) (r : Option ErrorKind) (ws : List ℕ) (ts : Trees) → IsStored old.words place.segment place.word (Struct ws ts) →
+    FillsAt old new (struct_place (struct_of (target old.words place.segment place.word).segment (target old.words place.segment place.word).start (length ws) (count ts))) source r →
+    DoesAt old.words new.words place (struct_changed (Content source) (Struct ws ts)) (Struct ws ts) r
+filled_struct old new place source r ws ts stored (inl (unread, same)) = filled_none r unread
+  where
+    filled_none : (q : Option ErrorKind) → IsSomeAnd q (HasNothingToCopy source AStruct) → DoesAt old.words new.words place (struct_changed (Content source) (Struct ws ts)) (Struct ws ts) q
+    filled_none (Some k) why = (None, yielded (is_not_filled source (length ws) (count ts) k refl why refl refl), ap (λ (v : View). v.words) same)
+    filled_none None why = absurd why
+filled_struct old new place source None ws ts stored (inr f) =
     let (vs, holds, replaced, leads) =
-    content_taken S f.taken f.filled place.segment place.word ws ts f.content.children (struct_place (struct_of (target S place.segment place.word).segment (target S place.segment place.word).start (length ws) (count ts))) (64 * length f.content.from.words) f.content.bytes stored refl f.takes f.fills_first (omega (arith, counts)) in
-    let u : Tree = Struct vs (up_to (count ts) f.content.children) in
-    record {
-      left = Some u;
-      leaves =
-          as_it_stands (is_filled source (length ws) (count ts) u refl
-          (f.content, (vs, holds, refl), counts) done refl);
-      stands = subst (λ Q. IsReplaced S Q place.segment place.word (Struct ws ts) u) (sym same) replaced;
-    }
-filled_struct S R place source r ws ts stored (first_filled f k fewer null why named) =
+    content_taken old.words f.taken.words new.words place.segment place.word ws ts f.copies.children (struct_place (struct_of (target old.words place.segment place.word).segment (target old.words place.segment place.word).start (length ws) (count ts))) (64 * length f.from.words) f.bytes stored refl f.takes f.copies.made (omega (arith, f.copies.counts)) in
+    let u : Tree = Struct vs (up_to (count ts) f.copies.children) in
+    (Some u, yielded (is_filled source (length ws) (count ts) u refl (all_read f, (vs, holds, refl), f.copies.counts) refl refl), replaced)
+filled_struct old new place source (Some k) ws ts stored (inr f) =
     let (vs, holds, replaced, leads) =
-    content_stopped S f.taken f.filled R place.segment place.word ws ts f.content.children (struct_place (struct_of (target S place.segment place.word).segment (target S place.segment place.word).start (length ws) (count ts))) (64 * length f.content.from.words) f.content.bytes stored refl f.takes f.fills_first (omega (arith, fewer)) null in
-    let u : Tree = Struct vs (up_to (count ts) f.content.children) in
-    record {
-      left = Some u;
-      leaves =
-          as_it_stands (is_half_filled source (length ws) (count ts) k u refl
-          (f.content, (vs, holds, refl), fewer, why) named refl);
-      stands = replaced;
-    }
-filled_struct S R place source r ws ts stored (none_filled k unread same named) =
-    record { left = None; leaves = as_it_stands (is_not_filled source (length ws) (count ts) k refl unread named refl); stands = same }
+    content_stopped old.words f.taken.words f.copies.filled new.words place.segment place.word ws ts f.copies.first (struct_place (struct_of (target old.words place.segment place.word).segment (target old.words place.segment place.word).start (length ws) (count ts))) (64 * length f.from.words) f.bytes stored refl f.takes f.copies.made (omega (arith, f.copies.fewer)) f.copies.cleared in
+    let u : Tree = Struct vs (up_to (count ts) f.copies.first) in
+    (Some u, yielded (is_half_filled source (length ws) (count ts) k u refl (first_read f, (vs, holds, refl), f.copies.fewer, why_stopped f) refl refl), replaced)
 
-filled_value : (S R : Segments) (place : PointerPlace) (source : Source) (r : Option ErrorKind) (e : ExistingStruct) (t : Tree) → Some e ≡ struct_in (target S place.segment place.word) t → FillsAt S R (struct_place e) source r → IsStored S place.segment place.word t →
-    DoesAt S R place (struct_changed (Content source) t) t r
-filled_value S R place source r e (Struct ws ts) is_e h stored =
-    let a = target S place.segment place.word in
-    filled_struct S R place source r ws ts stored (subst (λ x. FillsAt S R (struct_place x) source r) (same_some e (struct_of a.segment a.start (length ws) (count ts)) is_e) h)
-filled_value S R place source r e Null is_e h stored = absurd (cc)
-filled_value S R place source r e (Capability j) is_e h stored = absurd (cc)
-filled_value S R place source r e (Flat size ns) is_e h stored = absurd (cc)
-filled_value S R place source r e (Pointers ts) is_e h stored = absurd (cc)
-filled_value S R place source r e (Structs d q es) is_e h stored = absurd (cc)
+filled_value : (old new : View) (place : PointerPlace) (source : Source) (r : Option ErrorKind) (e : ExistingStruct) (t : Tree) → Some e ≡ struct_in (target old.words place.segment place.word) t → FillsAt old new (struct_place e) source r → IsStored old.words place.segment place.word t →
+    DoesAt old.words new.words place (struct_changed (Content source) t) t r
+filled_value old new place source r e (Struct ws ts) is_e h stored =
+    let a = target old.words place.segment place.word in
+    filled_struct old new place source r ws ts stored (subst (λ x. FillsAt old new (struct_place x) source r) (same_some e (struct_of a.segment a.start (length ws) (count ts)) is_e) h)
+filled_value old new place source r e Null is_e h stored = absurd (cc)
+filled_value old new place source r e (Capability j) is_e h stored = absurd (cc)
+filled_value old new place source r e (Flat size ns) is_e h stored = absurd (cc)
+filled_value old new place source r e (Pointers ts) is_e h stored = absurd (cc)
+filled_value old new place source r e (Structs d q es) is_e h stored = absurd (cc)
 
 -- a change of the struct that a pointer leads to
-changed_at : (S R : Segments) (place : PointerPlace) (change : StructChange) (r : Option ErrorKind) (e : ExistingStruct) (t : Tree) → Some e ≡ struct_in (target S place.segment place.word) t → DoesThere S R (AtElement e) (InStruct change) r → IsStored S place.segment place.word t →
-    DoesAt S R place (struct_changed change t) t r
-changed_at S R place (Bits n) r e t is_e h stored = written_at S R place n r e t is_e h stored
-changed_at S R place (Content source) r e t is_e h stored = filled_value S R place source r e t is_e h stored
+changed_at : (old new : View) (place : PointerPlace) (change : StructChange) (r : Option ErrorKind) (e : ExistingStruct) (t : Tree) → Some e ≡ struct_in (target old.words place.segment place.word) t → DoesThere old new (AtElement e) (InStruct change) r → IsStored old.words place.segment place.word t →
+    DoesAt old.words new.words place (struct_changed change t) t r
+changed_at old new place (Bits n) r e t is_e h stored = written_at old.words new.words place n r e t is_e (puts_bits old new e n r h) stored
+changed_at old new place (Content source) r e t is_e h stored = filled_value old new place source r e t is_e h stored
 
 -- what a change of that struct is refused for, what it takes, and the room for it
 refused_at : (old new : View) (place : PointerPlace) (change : StructChange) (k : ErrorKind) (e : ExistingStruct) → IsStructAt old.words (AtPointer place) e → IsRefusedAt old new (InStruct change) k (AtElement e) → IsRefusedAt old new (InStruct change) k (AtPointer place)
 refused_at old new place (Bits n) k e there h = h
-refused_at old new place (Content source) k e there (x, is, h) = (e, there, subst (λ y. IsContentRefused old new (struct_place y) source k) is h)
+refused_at old new place (Content source) k e there (x, is, h) = (e, there, subst (λ y. FillsAt old new (struct_place y) source (Some k)) is h)
 
 fits_at : (old : View) (place : PointerPlace) (change : StructChange) (e : ExistingStruct) → IsStructAt old.words (AtPointer place) e → FitsAt old (InStruct change) (AtPointer place) → FitsAt old (InStruct change) (AtElement e)
 fits_at old place (Bits n) e there room = tt
@@ -311,17 +258,28 @@ fits_at old place (Content source) e there room = λ x is. subst (λ (y : Existi
 
 takes_at : (old new : View) (place : PointerPlace) (change : StructChange) (r : Option ErrorKind) (e : ExistingStruct) → IsStructAt old.words (AtPointer place) e → AllocatesAt old new (InStruct change) r (AtElement e) → AllocatesAt old new (InStruct change) r (AtPointer place)
 takes_at old new place (Bits n) r e there (x, is, h) = (e, there, h)
-takes_at old new place (Content source) r e there (x, is, h) = (e, there, subst (λ (y : ExistingStruct). TakesForContentFrom old new (struct_place y) source r) is h)
+takes_at old new place (Content source) r e there (x, is, h) = (e, there, subst (λ (y : ExistingStruct). FillsAt old new (struct_place y) source r) is h)
 
-pub change_done : (old new : View) (place : PointerPlace) (change : StructChange) (r : Option ErrorKind) (e : ExistingStruct) → IsStructAt old.words (AtPointer place) e → IsDoneAt old new (AtElement e) (InStruct change) r → IsDoneAt old new (AtPointer place) (InStruct change) r
-change_done old new place change r e there changed = record {
-  done = λ t stored. changed_at old.words new.words place change r e t (there t stored) changed.done stored;
-  counted = changed.counted;
-  named = λ k is. elim (changed.named k is) [ inl h ↦ inl h | inr h ↦ inr (refused_at old new place change k e there h) ];
-  fits = λ room. changed.fits (fits_at old place change e there room);
-  nowhere = changed.nowhere;
-  taken = λ some. takes_at old new place change r e there (changed.taken some);
-}
+found_struct : (a : Target) (t : Tree) (e : ExistingStruct) → Some e ≡ struct_in a t → (ws : List ℕ) × (ts : Trees) × (t ≡ Struct ws ts) × (e ≡ struct_of a.segment a.start (length ws) (count ts))
+found_struct a (Struct ws ts) e is_e = (ws, ts, refl, same_some e (struct_of a.segment a.start (length ws) (count ts)) is_e)
+found_struct a Null e is_e = absurd (cc)
+found_struct a (Capability j) e is_e = absurd (cc)
+found_struct a (Flat size ns) e is_e = absurd (cc)
+found_struct a (Pointers ts) e is_e = absurd (cc)
+found_struct a (Structs d q es) e is_e = absurd (cc)
+
+pub change_done : (old new : View) (place : PointerPlace) (change : StructChange) (r : Option ErrorKind) (e : ExistingStruct) → ((t : Tree) → IsStored old.words place.segment place.word t → Some e ≡ struct_in (target old.words place.segment place.word) t) →
+    IsDoneAt old new (AtElement e) (InStruct change) r → IsDoneAt old new (AtPointer place) (InStruct change) r
+change_done old new place change r e found changed =
+    let there : IsStructAt old.words (AtPointer place) e = λ t stored. found_struct (target old.words place.segment place.word) t e (found t stored) in
+    record {
+      done = λ t stored. changed_at old new place change r e t (found t stored) changed.done stored;
+      counted = changed.counted;
+      named = λ k is. elim (changed.named k is) [ inl h ↦ inl h | inr h ↦ inr (refused_at old new place change k e there h) ];
+      fits = λ room. changed.fits (fits_at old place change e there room);
+      nowhere = changed.nowhere;
+      taken = λ some. takes_at old new place change r e there (changed.taken some);
+    }
 
 -- a change of a struct that isn't there
 pub nothing_changed : (v : View) (place : PointerPlace) (change : StructChange) → ((t : Tree) → IsStored v.words place.segment place.word t → None ≡ struct_in (target v.words place.segment place.word) t) → IsDoneAt v v (AtPointer place) (InStruct change) (Some NoSuchPlace)
@@ -335,9 +293,10 @@ nothing_changed v place change none = record {
 }
 
 -- at an element of a list
-filled_element : (S R : Segments) (e : Edit) (s : ExistingStruct) (source : Source) (r : Option ErrorKind) → task_of e.op ≡ Some (InStruct (Content source)) → ((t : Tree) → IsStored S 0 0 t → IsElementFound S 0 0 t (map step_of e.path.now) s) →
-    FillsAt S R (struct_place s) source r → IsApplied (EditTakes e r) S R
-filled_element S R e s source r is leads h t forest =
+filled_element : (old new : View) (e : Edit) (s : ExistingStruct) (source : Source) (r : Option ErrorKind) → task_of e.op ≡ Some (InStruct (Content source)) → ((t : Tree) → IsStored old.words 0 0 t → IsElementFound old.words 0 0 t (map step_of e.path.now) s) →
+    FillsAt old new (struct_place s) source r → IsApplied (EditTakes e r) old.words new.words
+filled_element old new e s source r is leads h t forest =
+    let S = old.words in
     let stored = forest_stored S t forest in
     let f = leads t stored in
     let d : ℕ = s.size.data_words in
@@ -348,52 +307,52 @@ filled_element S R e s source r is leads h t forest =
     let long = element_long S f.list_segment f.list_at d q f.elements f.index ws ts there f.counts at in
     let end_value = element_end S e s t f ws ts at in
     let makes : made (task_of e.op) (ElementOf (Struct ws ts)) ≡ fills source d q = ap (λ o. made o (ElementOf (Struct ws ts))) is ∙ ap₂ (fills source) long.0 long.1 in
-    done_there stored f ws ts at there end_value makes h
+    done_there r f ws ts at there end_value makes h
   where
-    done_there : (stored : IsStored S 0 0 t) (f : IsElementFound S 0 0 t (map step_of e.path.now) s) (ws : List ℕ) (ts : Trees) → struct_at f.elements f.index ≡ Struct ws ts →
-        IsStored S f.list_segment f.list_at (Structs s.size.data_words s.size.pointers f.elements) → found t (map step_of e.path.now) ≡ Some (ElementOf (Struct ws ts)) →
-        made (task_of e.op) (ElementOf (Struct ws ts)) ≡ fills source s.size.data_words s.size.pointers → FillsAt S R (struct_place s) source r → (u : Tree) × IsForest R u × EditTakes e r t u
-    done_there stored f ws ts at there end_value makes (all_filled h counts same done) =
+    done_there : (z : Option ErrorKind) (f : IsElementFound old.words 0 0 t (map step_of e.path.now) s) (ws : List ℕ) (ts : Trees) → struct_at f.elements f.index ≡ Struct ws ts →
+        IsStored old.words f.list_segment f.list_at (Structs s.size.data_words s.size.pointers f.elements) → found t (map step_of e.path.now) ≡ Some (ElementOf (Struct ws ts)) →
+        made (task_of e.op) (ElementOf (Struct ws ts)) ≡ fills source s.size.data_words s.size.pointers → FillsAt old new (struct_place s) source z → (u : Tree) × IsForest new.words u × EditTakes e z t u
+    done_there None f ws ts at there end_value makes (inr h) =
         let d : ℕ = s.size.data_words in
         let q : ℕ = s.size.pointers in
         let list : Tree = Structs d q f.elements in
         let (vs, holds, replaced) =
-        element_content_taken S h.taken h.filled f.list_segment f.list_at d q f.elements f.index ws ts h.content.children (struct_place s) (64 * length h.content.from.words) h.content.bytes there f.counts at
-        (ap₂ (λ (u b : ℕ). struct_place (record { segment = u; start = b; size = s.size })) f.segment_is f.start_is) h.takes h.fills_first (omega (arith, counts)) in
-        let y : Tree = Struct vs (up_to q h.content.children) in
-        let now : IsReplaced S R f.list_segment f.list_at list (Structs d q (put_struct f.elements f.index y)) = subst (λ Q. IsReplaced S Q f.list_segment f.list_at list (Structs d q (put_struct f.elements f.index y))) (sym same) replaced in
+        element_content_taken old.words h.taken.words new.words f.list_segment f.list_at d q f.elements f.index ws ts h.copies.children (struct_place s) (64 * length h.from.words) h.bytes there f.counts at
+        (ap₂ (λ (u b : ℕ). struct_place (record { segment = u; start = b; size = s.size })) f.segment_is f.start_is) h.takes h.copies.made (omega (arith, h.copies.counts)) in
+        let y : Tree = Struct vs (up_to q h.copies.children) in
         let path : update t (map step_of e.path.now) y ≡ update t f.front (Structs d q (put_struct f.elements f.index y)) =
         ap (λ p. update t p y) f.path_is ∙ update-append t f.front (Element f.index ∷ []) list y f.end_value in (
           update t f.front (Structs d q (put_struct f.elements f.index y)),
-          forest_updated S R t f.front f.list_segment f.list_at list (Structs d q (put_struct f.elements f.index y)) forest f.leads now,
-          takes e r t (leads_to (ElementOf (Struct ws ts)) (Some y) end_value
-              (as_it_stands (is_filled source d q y makes
-              (h.content, (vs, holds, refl), counts) done refl)) (sym path)),
+          forest_updated old.words new.words t f.front f.list_segment f.list_at list (Structs d q (put_struct f.elements f.index y)) forest f.leads replaced,
+          takes e None t (leads_to (ElementOf (Struct ws ts)) (Some y) end_value
+              (yielded (is_filled source d q y makes
+              (all_read h, (vs, holds, refl), h.copies.counts) refl refl)) (sym path)),
         )
-    done_there stored f ws ts at there end_value makes (first_filled h k fewer null why named) =
+    done_there (Some k) f ws ts at there end_value makes (inr h) =
         let d : ℕ = s.size.data_words in
         let q : ℕ = s.size.pointers in
         let list : Tree = Structs d q f.elements in
         let (vs, holds, replaced) =
-        element_content_stopped S h.taken h.filled R f.list_segment f.list_at d q f.elements f.index ws ts h.content.children (struct_place s) (64 * length h.content.from.words) h.content.bytes there f.counts at
-        (ap₂ (λ (u b : ℕ). struct_place (record { segment = u; start = b; size = s.size })) f.segment_is f.start_is) h.takes h.fills_first (omega (arith, fewer)) null in
-        let y : Tree = Struct vs (up_to q h.content.children) in
+        element_content_stopped old.words h.taken.words h.copies.filled new.words f.list_segment f.list_at d q f.elements f.index ws ts h.copies.first (struct_place s) (64 * length h.from.words) h.bytes there f.counts at
+        (ap₂ (λ (u b : ℕ). struct_place (record { segment = u; start = b; size = s.size })) f.segment_is f.start_is) h.takes h.copies.made (omega (arith, h.copies.fewer)) h.copies.cleared in
+        let y : Tree = Struct vs (up_to q h.copies.first) in
         let path : update t (map step_of e.path.now) y ≡ update t f.front (Structs d q (put_struct f.elements f.index y)) =
         ap (λ p. update t p y) f.path_is ∙ update-append t f.front (Element f.index ∷ []) list y f.end_value in (
           update t f.front (Structs d q (put_struct f.elements f.index y)),
-          forest_updated S R t f.front f.list_segment f.list_at list (Structs d q (put_struct f.elements f.index y)) forest f.leads replaced,
-          takes e r t (leads_to (ElementOf (Struct ws ts)) (Some y) end_value
-              (as_it_stands (is_half_filled source d q k y makes
-              (h.content, (vs, holds, refl), fewer, why) named refl)) (sym path)),
+          forest_updated old.words new.words t f.front f.list_segment f.list_at list (Structs d q (put_struct f.elements f.index y)) forest f.leads replaced,
+          takes e (Some k) t (leads_to (ElementOf (Struct ws ts)) (Some y) end_value
+              (yielded (is_half_filled source d q k y makes
+              (first_read h, (vs, holds, refl), h.copies.fewer, why_stopped h) refl refl)) (sym path)),
         )
-    done_there stored f ws ts at there end_value makes (none_filled k unread same named) =
-        (t, subst (λ Q. IsForest Q t) (sym same) forest, takes e r t (leads_to (ElementOf (Struct ws ts)) None end_value (as_it_stands (is_not_filled source s.size.data_words s.size.pointers k makes unread named refl)) refl))
+    done_there (Some k) f ws ts at there end_value makes (inl (unread, same)) =
+        (t, subst (λ (v : View). IsForest v.words t) (sym same) forest, takes e (Some k) t (leads_to (ElementOf (Struct ws ts)) None end_value (yielded (is_not_filled source s.size.data_words s.size.pointers k makes unread refl refl)) refl))
+    done_there None f ws ts at there end_value makes (inl (unread, same)) = absurd unread
 
 -- a change of an element
-pub element_applied : (S R : Segments) (e : Edit) (s : ExistingStruct) (change : StructChange) (r : Option ErrorKind) → task_of e.op ≡ Some (InStruct change) → ((t : Tree) → IsStored S 0 0 t → IsElementFound S 0 0 t (map step_of e.path.now) s) → DoesThere S R (AtElement s) (InStruct change) r →
-    IsApplied (EditTakes e r) S R
-element_applied S R e s (Bits n) r is leads h = applied_bits S R e s n r is leads h
-element_applied S R e s (Content source) r is leads h = filled_element S R e s source r is leads h
+pub element_applied : (old new : View) (e : Edit) (s : ExistingStruct) (change : StructChange) (r : Option ErrorKind) → task_of e.op ≡ Some (InStruct change) → ((t : Tree) → IsStored old.words 0 0 t → IsElementFound old.words 0 0 t (map step_of e.path.now) s) →
+    DoesThere old new (AtElement s) (InStruct change) r → IsApplied (EditTakes e r) old.words new.words
+element_applied old new e s (Bits n) r is leads h = applied_bits old.words new.words e s n r is leads (puts_bits old new s n r h)
+element_applied old new e s (Content source) r is leads h = filled_element old new e s source r is leads h
 
 -- a place leads to at most one struct
 same_struct : {r : Reading} {m : Meter} {s z : Sections} → LeadsToStruct r m s → LeadsToStruct r m z → 0 < s.pointers → (s.first ≡ z.first) × (s.limiter ≡ z.limiter) × (s.pointers ≡ z.pointers)

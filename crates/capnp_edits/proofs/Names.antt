@@ -2,7 +2,7 @@
 -- NoSuchPlace.
 use Rattle.std.proofs.Common.{◌-◌, ◌≡◌, inl, inr, ℕ, zero, suc, ◌^◌, Bool, true, false, cond, ◌&&◌, nat_eq, nat_le, nat_lt, length, Option, Some, None, Result, Ok, Err, refl, sym, ap, ◌∙◌}
 use Rattle.capnp_words.specs.declared.error.ErrorKind.{ErrorKind}
-use Rattle.capnp_words.specs.declared.error.ErrorKind.TheVariants.{ExistingListPointerIsNotByteSized, ExistingListValueIsIncompatibleWithExpectedType, InvalidSegmentId, MessageContainsOutOfBoundsPointer, MessageTooLarge, NoSuchPlace, TextBlobMissingNULTerminator}
+use Rattle.capnp_words.specs.declared.error.ErrorKind.TheVariants.{ExistingListPointerIsNotByteSized, ExistingListValueIsIncompatibleWithExpectedType, ExistingPointerIsNotAList, FoundStructListWhereBitListWasExpected, InvalidSegmentId, MessageContainsOutOfBoundsPointer, MessageTooLarge, NoSuchPlace, TextBlobMissingNULTerminator}
 use Rattle.capnp_words.specs.declared.wire_pointer.ElementSize.{ElementSize}
 use Rattle.capnp_words.specs.declared.wire_pointer.ElementSize.TheVariants.{Void, Bit, Byte, TwoBytes, FourBytes, EightBytes, Pointer, InlineComposite}
 use Rattle.capnp_words.specs.declared.wire_pointer.StructSize.{StructSize}
@@ -18,6 +18,7 @@ use Rattle.capnp_objects.specs.Wanted.{Form}
 use Rattle.capnp_objects.proofs.Followed.{or_named, far_named, follow, is_named, followed_at, existing, far_steps}
 use Rattle.capnp_contents.specs.Opening.{struct_opened}
 use Rattle.capnp_contents.specs.Widened.{limited, list_widened}
+use Rattle.capnp_edits.specs.Edits.{is_of_path}
 
 -- Whether a result is the refusal NoSuchPlace.
 abbrev pub is_nowhere : {A : Type 0} → Result A ErrorKind → Bool
@@ -61,6 +62,15 @@ is_unfound_at (Err k) = is_unfound k
 abbrev names_unfound : Option ErrorKind → Bool
 names_unfound None = true
 names_unfound (Some k) = is_unfound k
+
+pub unfound_of_path : (k : ErrorKind) → is_unfound k ≡ true → is_of_path k ≡ true
+unfound_of_path ExistingListPointerIsNotByteSized e = refl
+unfound_of_path ExistingListValueIsIncompatibleWithExpectedType e = refl
+unfound_of_path ExistingPointerIsNotAList e = refl
+unfound_of_path FoundStructListWhereBitListWasExpected e = refl
+unfound_of_path MessageContainsOutOfBoundsPointer e = refl
+unfound_of_path TextBlobMissingNULTerminator e = refl
+unfound_of_path k e = absurd (cc)
 
 pub unfound_name : {A : Type 0} (q : Result A ErrorKind) (k : ErrorKind) → is_unfound_at q ≡ true → q ≡ Err k → is_unfound k ≡ true
 unfound_name q k e is = sym (ap is_unfound_at is) ∙ e

@@ -6,7 +6,7 @@ use Rattle.std.proofs.lemmas.Bool.{cases_lt}
 use Rattle.std.proofs.lemmas.Bool.Decides.{nat_tests}
 use Rattle.std.specs.Borrow.{Bor}
 use Rattle.capnp_words.specs.declared.error.ErrorKind.{ErrorKind}
-use Rattle.capnp_words.specs.declared.error.ErrorKind.TheVariants.{ExistingPointerIsNotAList, FoundBitListWhereStructListWasExpected, MessageContainsNonStructPointerWhereStructPointerWasExpected, MessageContainsOutOfBoundsPointer, NoSuchPlace, UnknownPointerType}
+use Rattle.capnp_words.specs.declared.error.ErrorKind.TheVariants.{ExistingPointerIsNotAList, MessageContainsOutOfBoundsPointer, NoSuchPlace}
 use Rattle.capnp_words.specs.Meter.{unused}
 use Rattle.capnp_words.specs.Sizes.{size_number}
 use Rattle.capnp_words.specs.declared.wire_pointer.ElementSize.{ElementSize}
@@ -52,18 +52,19 @@ use Rattle.capnp_builders.specs.Found.{list_given, bytes_given, FindsList, Finds
 use Rattle.capnp_builders.specs.Opening.{IsStructGiven, IsListGiven, OpensList, FindsStruct, FindsStructs, StructFindFits, StructsFindFits}
 use Rattle.capnp_edits.specs.declared.edit.path.PathEnd.TheVariants.{Pointer as AtPointer}
 use Rattle.capnp_edits.specs.declared.edit.tasks.Task.TheVariants.{Search}
+use Rattle.capnp_edits.specs.declared.edit.tasks.NewObject.TheVariants.{ZeroStruct}
 use Rattle.capnp_edits.specs.declared.edit.tasks.Sought.{Sought}
 use Rattle.capnp_edits.specs.declared.edit.tasks.Sought.TheVariants.{Struct as ForStruct, List as ForList, StructList as ForStructs, Text as ForText, Data as ForData}
 use Rattle.capnp_edits.specs.Tasks.{is_small_default, is_in_range}
-use Rattle.capnp_edits.specs.Edits.{refusal_of, Effect, allocates, becomes, nowhere, effect_of_search, looked_for, with_default, default_for, is_of_path, HasEffect, DoesAt}
+use Rattle.capnp_edits.specs.Edits.{refusal_of, Effect, allocates, becomes, elements_of, data_length, text_length, effect_of_search, looked_for, with_default, default_for, is_of_path, HasEffect}
 use Rattle.capnp_builders.proofs.FoundLists.{GivesFoundList}
 use Rattle.capnp_builders.proofs.FoundBytes.{GivesFoundBytes}
-use Rattle.capnp_edits.specs.Steps.{FitsAt, IsOpeningRefused, IsRefusedAt, FindsSought, OpeningHasRoom, OpensThere, IsDoneAt, result_of}
+use Rattle.capnp_edits.specs.Steps.{FitsAt, IsOpeningRefused, IsRefusedAt, FindsSought, OpeningHasRoom, LeadsThere, IsDoneAt, result_of}
 use Rattle.capnp_edits.proofs.Applied.{Does, never_refused, of_allocation, of_no_place, denied_at}
-use Rattle.capnp_edits.proofs.Contents.{list_anywhere, data_anywhere, text_anywhere}
-use Rattle.capnp_edits.proofs.Names.{elsewhere, struct_elsewhere, structs_elsewhere, list_elsewhere, data_elsewhere, text_elsewhere, fault_elsewhere, unfound_name, list_unfound, data_unfound, text_unfound}
+use Rattle.capnp_edits.proofs.Contents.{list_refusal_of, data_refusal_of, text_refusal_of}
+use Rattle.capnp_edits.proofs.Names.{unfound_of_path, elsewhere, struct_elsewhere, structs_elsewhere, list_elsewhere, data_elsewhere, text_elsewhere, fault_elsewhere, unfound_name, list_unfound, data_unfound, text_unfound}
 use Rattle.capnp_edits.proofs.Steps.{same_some}
-use Rattle.capnp_edits.proofs.Ways.{Way, as_it_stands, default_dropped, default_put, is_allocated, is_denied, is_done, is_not_allocated, yielded}
+use Rattle.capnp_edits.proofs.Ways.{DoesAt, Way, yielded, default_dropped, default_put, is_allocated, is_denied, is_done, is_not_allocated}
 use Rattle.capnp_contents.proofs.Listed.{same_tree}
 use Rattle.capnp_builders.proofs.Openings.{same_error}
 
@@ -105,7 +106,7 @@ struct_so : (result : Result StructPlace ErrorKind) (size : StructSize) → Does
 struct_so result size c t stored h = opened_so result size IsStructGiven c t (struct_opened size t) h
 
 -- a value that is only looked for stays
-kept_so : {A B : Type 0} (q : Result (Option A) ErrorKind) (result : Result B ErrorKind) (c : CallAt) (t : Tree) → IsStored c.old.words c.segment c.at t → refusal_of result ≡ refusal_of q → c.new ≡ c.old →
+kept_so : {A B : Type 0} (q : Result A ErrorKind) (result : Result B ErrorKind) (c : CallAt) (t : Tree) → IsStored c.old.words c.segment c.at t → refusal_of result ≡ refusal_of q → c.new ≡ c.old →
     DoesAs c.old.words c.new.words (place_in c) (effect_of_search (λ x. becomes t) q) t (refusal_of result)
 kept_so (Ok x) result c t stored e same =
     record { left = Some t; yields = is_done t refl e refl; stands = subst (λ Q. IsReplaced c.old.words Q c.segment c.at t t) (sym (same_words same)) (stays c.old.words c.segment c.at t stored) }
@@ -129,33 +130,33 @@ bytes_refusal id (Ok (Some b)) = refl
 bytes_refusal id (Ok None) = refl
 bytes_refusal id (Err k) = refl
 
-list_named : (result : Result ListPlace ErrorKind) (size : ElementSize) (c : CallAt) (t : Tree) → GivesFoundList size result c t → refusal_of result ≡ refusal_of (list_in nowhere size t)
+list_named : (result : Result ListPlace ErrorKind) (size : ElementSize) (c : CallAt) (t : Tree) → GivesFoundList size result c t → refusal_of result ≡ refusal_of (elements_of size t)
 list_named result size c t h =
     let a : Target = target c.old.words c.segment c.at in
-    ap refusal_of h.0 ∙ list_refusal c.segment (list_in a size t) ∙ list_anywhere refusal_of (λ l k e. refl) a nowhere size t
+    ap refusal_of h.0 ∙ list_refusal c.segment (list_in a size t) ∙ list_refusal_of a size t
 
-data_named : (result : Result ExistingBytes ErrorKind) (c : CallAt) (t : Tree) → GivesFoundBytes data_in result c t → refusal_of result ≡ refusal_of (data_in nowhere t)
+data_named : (result : Result ExistingBytes ErrorKind) (c : CallAt) (t : Tree) → GivesFoundBytes data_in result c t → refusal_of result ≡ refusal_of (data_length t)
 data_named result c t h =
     let a : Target = target c.old.words c.segment c.at in
-    ap refusal_of h.0 ∙ bytes_refusal c.segment (data_in a t) ∙ data_anywhere refusal_of (λ b d e. refl) a nowhere t
+    ap refusal_of h.0 ∙ bytes_refusal c.segment (data_in a t) ∙ data_refusal_of a t
 
-text_named : (result : Result ExistingBytes ErrorKind) (c : CallAt) (t : Tree) → GivesFoundBytes text_in result c t → refusal_of result ≡ refusal_of (text_in nowhere t)
+text_named : (result : Result ExistingBytes ErrorKind) (c : CallAt) (t : Tree) → GivesFoundBytes text_in result c t → refusal_of result ≡ refusal_of (text_length t)
 text_named result c t h =
     let a : Target = target c.old.words c.segment c.at in
-    ap refusal_of h.0 ∙ bytes_refusal c.segment (text_in a t) ∙ text_anywhere refusal_of (λ b d e. refl) a nowhere t
+    ap refusal_of h.0 ∙ bytes_refusal c.segment (text_in a t) ∙ text_refusal_of a t
 
 list_so : (result : Result ListPlace ErrorKind) (size : ElementSize) → DoesSo (GivesFoundList size result) (looked_for (ForList size)) result
-list_so result size c t stored h = kept_so (list_in nowhere size t) result c t stored (list_named result size c t h) h.1
+list_so result size c t stored h = kept_so (elements_of size t) result c t stored (list_named result size c t h) h.1
 
 data_so : (result : Result ExistingBytes ErrorKind) → DoesSo (GivesFoundBytes data_in result) (looked_for ForData) result
-data_so result c t stored h = kept_so (data_in nowhere t) result c t stored (data_named result c t h) h.1
+data_so result c t stored h = kept_so (data_length t) result c t stored (data_named result c t h) h.1
 
 text_so : (result : Result ExistingBytes ErrorKind) → DoesSo (GivesFoundBytes text_in result) (looked_for ForText) result
-text_so result c t stored h = kept_so (text_in nowhere t) result c t stored (text_named result c t h) h.1
+text_so result c t stored h = kept_so (text_length t) result c t stored (text_named result c t h) h.1
 
 -- what is done with the value that is there
 as_stands : (S R : Segments) (place : PointerPlace) (m : Effect) (t : Tree) (r : Option ErrorKind) → DoesAs S R place m t r → DoesAt S R place m t r
-as_stands S R place m t r d = record { left = d.left; leaves = as_it_stands d.yields; stands = d.stands }
+as_stands S R place m t r d = (d.left, yielded d.yields, d.stands)
 
 -- what is done with a default's value, which first replaces null
 replaced_if : (S M R : Segments) (place : PointerPlace) (d : Tree) (left : Option Tree) → IsReplaced S M place.segment place.word Null d → MatchOption left (R ≡ M) (IsReplaced M R place.segment place.word d) → IsReplaced S R place.segment place.word Null (unwrap_or left d)
@@ -173,14 +174,13 @@ null_does : {B : Type 0} (result : Result B ErrorKind) (used : DefaultUse) (made
 null_does result ignored made_of P c stored does h = as_stands c.old.words c.new.words (place_in c) (made_of Null) Null (refusal_of result) (does c Null stored h)
 null_does result (is_denied_by k) made_of P c stored does h = denied_at k refl (ap refusal_of h.0) (same_words h.1)
 null_does result (is_copied_from bytes) made_of P c stored does (inl on) =
-    let then = does (record c { old = on.0 }) on.1 on.2.replaced.stored on.3 in
-    record {
-      left = Some (unwrap_or then.left on.1);
-      leaves = default_put bytes made_of on.1 (refusal_of result) then.left (on.2.meant.0, on.2.meant.1, on.2.plain) then.yields;
-      stands = replaced_if c.old.words on.0.words c.new.words (place_in c) on.1 then.left on.2.replaced then.stands;
-    }
+    let then = does (record c { old = on.0 }) on.1 on.2.replaced.stored on.3 in (
+      Some (unwrap_or then.left on.1),
+      default_put bytes made_of on.1 (refusal_of result) then.left (on.2.meant.0, on.2.meant.1, on.2.plain) then.yields,
+      replaced_if c.old.words on.0.words c.new.words (place_in c) on.1 then.left on.2.replaced then.stands,
+    )
 null_does (Err k) (is_copied_from bytes) made_of P c stored does (inr drops) =
-    record { left = Some Null; leaves = default_dropped bytes made_of k (dropped_name bytes c.segment c.at c.old c.new k drops.named); stands = drops.replaced }
+    (Some Null, default_dropped bytes made_of k (dropped_name bytes c.segment c.at c.old c.new k drops.named), drops.replaced)
 null_does (Ok x) (is_copied_from bytes) made_of P c stored does (inr drops) = absurd drops
 
 -- a default is used only for null
@@ -371,17 +371,17 @@ yields_so (Err k) r t e = (None, yielded (is_denied k refl e refl))
 
 list_found : (result : Result ListPlace ErrorKind) (size : ElementSize) (c : CallAt) (t : Tree) → GivesFoundList size result c t → FindsSought (ForList size) (refusal_of result) c t
 list_found result size c t h =
-    let (o, yields) = yields_so (list_in nowhere size t) (refusal_of result) t (list_named result size c t h) in
+    let (o, yields) = yields_so (elements_of size t) (refusal_of result) t (list_named result size c t h) in
     (o, yields, h.1)
 
 data_found : (result : Result ExistingBytes ErrorKind) (c : CallAt) (t : Tree) → GivesFoundBytes data_in result c t → FindsSought ForData (refusal_of result) c t
 data_found result c t h =
-    let (o, yields) = yields_so (data_in nowhere t) (refusal_of result) t (data_named result c t h) in
+    let (o, yields) = yields_so (data_length t) (refusal_of result) t (data_named result c t h) in
     (o, yields, h.1)
 
 text_found : (result : Result ExistingBytes ErrorKind) (c : CallAt) (t : Tree) → GivesFoundBytes text_in result c t → FindsSought ForText (refusal_of result) c t
 text_found result c t h =
-    let (o, yields) = yields_so (text_in nowhere t) (refusal_of result) t (text_named result c t h) in
+    let (o, yields) = yields_so (text_length t) (refusal_of result) t (text_named result c t h) in
     (o, yields, h.1)
 
 -- The room for what is opened is what the call requires: for null, the room for a new struct.
@@ -410,11 +410,19 @@ struct_room : (size : StructSize) (default : Option (Bor (List ℕ))) (v : View)
 struct_room size default v place (t, stored, fits) =
     (t, stored, fits_with (object_default default t) v place.segment place.word _ (λ m. OpeningFits m place.segment place.word size) (λ m h. opened_fits m place.segment place.word size h.0 h.1 h.2 h.3 h.4) fits)
 
--- a struct without words replaces null
+-- a struct without words replaces null: its pointer has offset -1
+abbrev OpensThere : CallAt → Sought → Option (Bor (List ℕ)) → Option ErrorKind → Type 0
+OpensThere c (ForStruct size) default r = word_at c.old.words c.segment c.at ≡ 0 → IsIgnoredDefault default → size.data_words + size.pointers ≡ 0 → r ≡ None → word_at c.new.words c.segment c.at ≡ struct_word (2 ^ 30 - 1) 0 0
+OpensThere c sought default r = ⊤
+
 opens_there : {B : Type 0} (result : Result B ErrorKind) (c : CallAt) (size : StructSize) (default : Option (Bor (List ℕ))) →
     (word_at c.old.words c.segment c.at ≡ 0 → IsIgnoredDefault default → size.data_words + size.pointers ≡ 0 → OnOk result (word_at c.new.words c.segment c.at ≡ struct_word (2 ^ 30 - 1) 0 0)) → OpensThere c (ForStruct size) default (refusal_of result)
 opens_there (Ok x) c size default empty = λ null none nothing e. empty null none nothing
 opens_there (Err k) c size default empty = λ null none nothing e. absurd (cc)
+
+opens_at : (c : CallAt) (sought : Sought) (default : Option (Bor (List ℕ))) (r : Option ErrorKind) → OpensThere c sought default r → (size : StructSize) → sought ≡ ForStruct size → word_at c.old.words c.segment c.at ≡ 0 → IsIgnoredDefault default → r ≡ None →
+    size.data_words + size.pointers ≡ 0 → LeadsThere c (ZeroStruct size)
+opens_at c sought default r opens size is null plain done none = subst (λ s. OpensThere c s default r) is opens null plain none done
 
 -- what a call leaves, refused or not
 search_done : {B : Type 0} (result : Result B ErrorKind) (sought : Sought) (default : Option (Bor (List ℕ))) (c : CallAt) → Does c.old.words c.new.words (place_in c) (Search sought default) (refusal_of result) → OnOk result (KeepsMemory c.old c.new) →
@@ -426,7 +434,7 @@ search_done (Ok x) sought default c does granted memory why fits finds opens = r
   named = λ k e. absurd (cc);
   fits = λ room k e. absurd (cc);
   nowhere = λ e. absurd (cc);
-  taken = λ some. (opens, finds);
+  taken = λ some. (opens_at c sought default None opens, finds);
 }
 search_done (Err k) sought default c does granted memory why fits finds opens = record {
   done = does;
@@ -434,7 +442,7 @@ search_done (Err k) sought default c does granted memory why fits finds opens = 
   named = λ j e. inr (subst (IsSearchRefused sought c default) (same_some k j e) (refused_so sought c default k why));
   fits = λ room j e. subst (λ x. is_of_path x ≡ true) (same_some k j e) (fits room);
   nowhere = λ e. never_nowhere sought c default k why (same_some k NoSuchPlace e);
-  taken = λ some. (opens, finds);
+  taken = λ some. (opens_at c sought default (Some k) opens, finds);
 }
 
 -- If a default's value has no fault and fits, the search is refused only for what is found.
@@ -449,13 +457,6 @@ data_name k c t h = unfound_name (data_in (target c.old.words c.segment c.at) t)
 
 text_name : (k : ErrorKind) → NamedSo (GivesFoundBytes text_in (Err k)) k
 text_name k c t h = unfound_name (text_in (target c.old.words c.segment c.at) t) k (text_unfound (target c.old.words c.segment c.at) t) (bytes_err c.segment (text_in (target c.old.words c.segment c.at) t) k h.0)
-
-unfound_place : (k : ErrorKind) → is_unfound k ≡ true → is_of_path k ≡ true
-unfound_place FoundBitListWhereStructListWasExpected e = refl
-unfound_place MessageContainsNonStructPointerWhereStructPointerWasExpected e = refl
-unfound_place NoSuchPlace e = refl
-unfound_place UnknownPointerType e = refl
-unfound_place k e = e
 
 -- the copy of a default isn't refused if it can be made
 never_dropped : (bytes : List ℕ) (id at : ℕ) (old new : View) (k : ErrorKind) → CanBeCopied (value_original (default_root bytes)) of_default (unused None) old id → RefusesDefault bytes (call_at id at old new) k → ⊥
@@ -473,10 +474,10 @@ used_fits B k of_null bytes [] P c plain name room h = ap is_of_path (same_error
 used_fits B k of_null bytes (x ∷ xs) P c plain name room h = by_first (nat_eq x 0) of_null plain h
   where
     by_first : (b : Bool) (used : DefaultUse) → IsDenied used → WithDefault {B = B} (cond b used (is_copied_from bytes)) c Null P (Err k) → is_of_path k ≡ true
-    by_first true ignored d g = unfound_place k (name c Null g)
+    by_first true ignored d g = unfound_of_path k (name c Null g)
     by_first true (is_denied_by j) d g = ap is_of_path (same_error k j g.0) ∙ d
     by_first true (is_copied_from other) d g = absurd d
-    by_first false used d (inl on) = unfound_place k (name (record c { old = on.0 }) on.1 on.3)
+    by_first false used d (inl on) = unfound_of_path k (name (record c { old = on.0 }) on.1 on.3)
     by_first false used d (inr drops) = absurd (never_dropped bytes c.segment c.at c.old c.new k room drops.named)
 
 found_fits : {B : Type 0} (result : Result B ErrorKind) (of_null : DefaultUse) (default : Option (Bor (List ℕ))) (P : Result B ErrorKind → CallAt → Tree → Type 0) (c : CallAt) → IsPlace c.old.words c.segment c.at → ((bytes : List ℕ) → IsDenied of_null) →
@@ -484,12 +485,12 @@ found_fits : {B : Type 0} (result : Result B ErrorKind) (of_null : DefaultUse) (
     ((word_at c.old.words c.segment c.at ≡ 0 → ⊥) → IfErr result (λ k. is_unfound k ≡ true)) → DefaultFits default c.old c.segment → IfErr result (λ k. is_of_path k ≡ true)
 found_fits (Ok x) of_null default P c there plain name found set room = tt
 found_fits {B} (Err k) of_null default P c there plain name found set room = elim (cases_lt 0 (word_at c.old.words c.segment c.at)) [
-  | inl some ↦ unfound_place k (set (λ null. absurd (omega (arith, some, null))))
+  | inl some ↦ unfound_of_path k (set (λ null. absurd (omega (arith, some, null))))
   | inr none ↦ at_null default room (found Null (null_stored c.old.words c.segment c.at there (omega (arith, none))))
 ]
   where
     at_null : (default : Option (Bor (List ℕ))) → DefaultFits default c.old c.segment → WithDefault {B = B} (default_use of_null default Null) c Null (P (Err k)) (Err k) → is_of_path k ≡ true
-    at_null None fits h = unfound_place k (name k c Null h)
+    at_null None fits h = unfound_of_path k (name k c Null h)
     at_null (Some d) fits h = used_fits B k of_null d.now (words_of d.now) (P (Err k)) c (plain d.now) (name k) fits.1 h
 
 -- why any call is refused

@@ -27,12 +27,12 @@ use Rattle.capnp_edits.proofs.Walks.{found-append}
 -- an edit at its place
 pub step_at : (old new : View) (edit : Edit) (there : PathEnd) (task : Task) (r : Option ErrorKind) → task_of edit.op ≡ Some task → 1 ≤ length (segment old.words 0) → IsApplied (EditTakes edit r) old.words new.words → new.refusals ≡ refusals_after r old.refusals →
     ((t : Tree) → IsStored old.words 0 0 t → IsPathFound old.words (record { segment = 0; word = 0 }) t (map step_of edit.path.now) (Some there)) → ((k : ErrorKind) → r ≡ Some k → ((is_of_path k ≡ true) × (new ≡ old)) ⊎ IsRefusedAt old new task k there) →
-    (FitsAt old task there → (k : ErrorKind) → r ≡ Some k → is_of_path k ≡ true) → (r ≡ Some NoSuchPlace → new ≡ old) → ((r ≡ Some NoSuchPlace → ⊥) → AllocatesAt old new task r there) → DoesThere old.words new.words there task r → IsStep old new edit r
+    (FitsAt old task there → (k : ErrorKind) → r ≡ Some k → is_of_path k ≡ true) → (r ≡ Some NoSuchPlace → new ≡ old) → ((r ≡ Some NoSuchPlace → ⊥) → AllocatesAt old new task r there) → DoesThere old new there task r → IsStep old new edit r
 step_at old new edit there task r is root applied counted leads named fits nowhere taken done = record {
   applied = applied;
   counted = counted;
   path_end = Some there;
-  done = subst (λ o. IfSome o (λ x. DoesThere old.words new.words there x r)) (sym is) done;
+  done = subst (λ o. IfSome o (λ x. DoesThere old new there x r)) (sym is) done;
   leads = leads;
   missing = λ e. absurd (cc);
   out_of_range = λ e. absurd (no_task task (sym is ∙ e));
@@ -51,7 +51,7 @@ of_missing : (k : ErrorKind) → Some NoSuchPlace ≡ Some k → is_of_path k �
 of_missing k e = sym (ap is_of_path (same_some NoSuchPlace k e))
 
 pub nothing_done : (v : View) (edit : Edit) (place : Option PathEnd) → IsApplied (EditTakes edit (Some NoSuchPlace)) v.words v.words → ((t : Tree) → IsStored v.words 0 0 t → IsPathFound v.words (record { segment = 0; word = 0 }) t (map step_of edit.path.now) place) →
-    IfSome place (λ there. IfSome (task_of edit.op) (λ task. DoesThere v.words v.words there task (Some NoSuchPlace))) → IsStep v v edit (Some NoSuchPlace)
+    IfSome place (λ there. IfSome (task_of edit.op) (λ task. DoesThere v v there task (Some NoSuchPlace))) → IsStep v v edit (Some NoSuchPlace)
 nothing_done v edit place applied leads done = record {
   applied = applied;
   counted = refl;

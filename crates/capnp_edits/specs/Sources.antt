@@ -1,13 +1,13 @@
 -- What is copied from another message.
-use Rattle.std.specs.Prelude.{ℕ, pred, ◌+◌, ◌≤◌, ◌≡◌, ◌⊎◌, true, false}
+use Rattle.std.specs.Prelude.{ℕ, pred, ◌+◌, ◌≡◌, ◌≢◌, ◌⊎◌, true, false}
 use Rattle.std.specs.Prelude.{if◌then◌else◌, nat_eq, List, [], map, Option, Some, None}
 use Rattle.capnp_words.specs.Meter.{Meter, Affords, less, unused}
 use Rattle.capnp_words.specs.declared.error.ErrorKind.{ErrorKind}
-use Rattle.capnp_words.specs.declared.error.ErrorKind.TheVariants.{InvalidSegmentId, ReadLimitExceeded}
-use Rattle.capnp_words.specs.declared.wire_pointer.StructSize.{StructSize}
-use Rattle.capnp_words.specs.declared.wire_pointer.ElementSize.{ElementSize}
-use Rattle.capnp_words.specs.declared.wire_pointer.ElementSize.TheVariants.{Void, InlineComposite}
-use Rattle.capnp_words.specs.Sizes.{size_number}
+use Rattle.capnp_words.specs.declared.error.ErrorKind.TheVariants.{FoundBitListWhereStructListWasExpected}
+use Rattle.capnp_words.specs.declared.error.ErrorKind.TheVariants.{InvalidSegmentId, NestingLimitExceeded}
+use Rattle.capnp_words.specs.declared.error.ErrorKind.TheVariants.{MessageContainsNonListPointerWhereListPointerWasExpected}
+use Rattle.capnp_words.specs.declared.error.ErrorKind.TheVariants.{ReadLimitExceeded}
+use Rattle.capnp_words.specs.declared.wire_pointer.ElementSize.TheVariants.{Void}
 use Rattle.capnp_format.specs.Bytes.{message, words_of}
 use Rattle.capnp_format.specs.Segments.{Target, segment, words_at}
 use Rattle.capnp_format.specs.Tree.{Tree, Null, Struct, Flat, Pointers, Structs, Trees, no_trees}
@@ -15,17 +15,19 @@ use Rattle.capnp_format.specs.Tree.{count}
 use Rattle.capnp_format.specs.Word.{kind, offset_bits, data_words, pointer_count, element_size, list_count}
 use Rattle.capnp_arena_traits.specs.Checks.{Holds, misplaced}
 use Rattle.capnp_arena_traits.specs.Limits.{whole}
-use Rattle.capnp_objects.specs.Demands.{IsStructList, tag}
-use Rattle.capnp_objects.specs.Expected.{struct_expected, list_expected, RefusesExpected}
+use Rattle.capnp_objects.specs.Demands.{tag}
+use Rattle.capnp_objects.specs.Expected.{Expectation, struct_expected, RefusesExpected}
 use Rattle.capnp_objects.specs.Faults.{child_at}
 use Rattle.capnp_objects.specs.Outcomes.{Reads, ReadsAll, Entered}
 use Rattle.capnp_objects.specs.Reading.{Reading, word_of, place_past, tag_size}
 use Rattle.capnp_objects.specs.Refusals.{Refused}
 use Rattle.capnp_objects.specs.Source.{levels}
 use Rattle.capnp_objects.specs.Wanted.{plain}
+use Rattle.capnp_contents.specs.Existing.{size_of}
 use Rattle.capnp_copies.specs.Changes.{CopyCall}
 use Rattle.capnp_copies.specs.Forms.{form_of, kept}
-use Rattle.capnp_copies.specs.Originals.{Original, value_original, sections_original, list_original}
+use Rattle.capnp_copies.specs.Originals.{Original, value_original, sections_original}
+use Rattle.capnp_copies.specs.Originals.{list_original, numbers_original}
 use Rattle.capnp_edits.specs.declared.edit.Source.{Source}
 use Rattle.capnp_edits.specs.declared.edit.copying.Copying.{Copying}
 use Rattle.capnp_edits.specs.declared.edit.copying.Wanted.{Wanted}
@@ -74,11 +76,22 @@ IsRootless source k =
     k ≡ misplaced (root_of source).segments 0 (InvalidSegmentId 0))
     × (Holds (root_of source).segments 0 0 1 → k ≡ ReadLimitExceeded)
 
--- What is wanted isn't found at r, which `get_struct`, or `get_list` of Void, refuses with k.
+-- A list, but not of bits: what `get_list` with the size `Void` expects.
+abbrev pub any_list : Expectation
+any_list = record {
+  too_deep = λ n. if nat_eq n 0 then Some NestingLimitExceeded else None;
+  null_default = None;
+  another_kind = λ w. if nat_eq (kind w) 1 then None
+      else Some MessageContainsNonListPointerWhereListPointerWasExpected;
+  misfit = λ S a. if nat_eq (element_size a.word) 1 then Some FoundBitListWhereStructListWasExpected
+      else None;
+}
+
+-- What is wanted isn't found at r, which `get_struct` or `get_list` refuses with k.
 abbrev pub RefusesWanted : Wanted → Reading → Meter → Meter → ErrorKind → Type 0
 RefusesWanted Value r m m' k = ⊥
 RefusesWanted AStruct r m m' k = RefusesExpected struct_expected r m m' k
-RefusesWanted AList r m m' k = RefusesExpected (list_expected Void) r m m' k
+RefusesWanted AList r m m' k = RefusesExpected any_list r m m' k
 
 -- There is nothing to copy, which is refused with k: the root isn't reached, or what is wanted
 -- isn't found there.
@@ -123,37 +136,6 @@ pub data LeadsToStruct (r : Reading) (m : Meter) (s : Sections) : Type 0 where
       s.pointers ≡ pointer_count a.word →
       LeadsToStruct r m s
 
--- The elements of a list: their size, the sections of each if they are structs, their number, and
--- the place of the first one.
-pub record ListElements : Type 0 where
-  pub size : ElementSize
-  pub sections : StructSize
-  pub count : ℕ
-  pub first : Reading
-
--- r leads to the list l, whose own words are charged from m to m'. Null is an empty list of void.
-pub data LeadsToList (r : Reading) (m m' : Meter) (l : ListElements) : Type 0 where
-  no_list : word_of r ≡ 0 → l.size ≡ Void → l.count ≡ 0 → m' ≡ m → LeadsToList r m m' l
-  a_plain_list :
-      (a : Target) →
-      Entered ForValue r m m' a →
-      kind a.word ≡ 1 →
-      element_size a.word ≡ size_number l.size →
-      size_number l.size ≤ 6 →
-      nat_eq (size_number l.size) 1 ≡ false →
-      l.first ≡ child_at r a (pred r.levels) a.start →
-      l.count ≡ list_count a.word →
-      LeadsToList r m m' l
-  a_struct_list :
-      (a : Target) →
-      Entered ForValue r m m' a →
-      IsStructList a.word →
-      l.size ≡ InlineComposite →
-      l.sections ≡ tag_size r.segments a →
-      l.first ≡ child_at r a (pred r.levels) (a.start + 1) →
-      l.count ≡ offset_bits (tag r.segments a) →
-      LeadsToList r m m' l
-
 -- What is read of a source's struct to copy its content: its sections, the values of its first
 -- pointers, and its data section as bytes.
 pub record ContentRead (source : Source) : Type 0 where
@@ -171,11 +153,22 @@ abbrev pub IsNextUnreadable : (source : Source) → ContentRead source → Error
 IsNextUnreadable source c k =
     (m : Meter) × Refused plain (place_past c.from.first (count c.children)) c.after m k
 
+-- The list at the target a, to which the pointer of r leads.
+abbrev pub list_at : Reading → Target → Original Tree
+list_at r a =
+    let structs = nat_eq (element_size a.word) 7 in
+    list_original (size_of (element_size a.word)) (tag_size r.segments a)
+    (if structs then offset_bits (tag r.segments a) else list_count a.word)
+    (child_at r a (pred r.levels) (if structs then a.start + 1 else a.start))
+
 -- `Says` holds for the original that is wanted at r and the call that copies it: for the original
--- of a whole value; or for that of a struct or a list, once what leads to it is charged.
+-- of a whole value; or for that of a struct or a list, once what leads to it is charged. Null is an
+-- empty struct, or an empty list of void.
 abbrev pub OfWanted : Wanted → Reading → CopyCall → (Original Tree → CopyCall → Type 0) → Type 0
 OfWanted Value r c Says = Says (value_original r) c
 OfWanted AStruct r c Says = (s : Sections) × LeadsToStruct r c.before s ×
     Says (sections_original s.words s.first s.pointers) (record c { before = s.limiter })
-OfWanted AList r c Says = (l : ListElements) × (m : Meter) × LeadsToList r c.before m l ×
-    Says (list_original l.size l.sections l.count l.first) (record c { before = m })
+OfWanted AList r c Says =
+    ((word_of r ≡ 0) × ((first : Reading) × Says (numbers_original Void 0 first) c)) ⊎
+    ((a : Target) × (m : Meter) × Entered ForValue r c.before m a × (kind a.word ≡ 1) ×
+    (element_size a.word ≢ 1) × Says (list_at r a) (record c { before = m }))

@@ -1,42 +1,42 @@
 -- Steps: what one edit does with a message and the arena that holds it, and edits in order.
-use Rattle.std.specs.Prelude.{MatchOption, ◌≡◌, ◌⊎◌, ⊤, ℕ, min, ◌+◌, ◌-◌, ◌*◌, ◌^◌, ◌<◌, true, List, []}
+use Rattle.std.specs.Prelude.{MatchOption, ◌≡◌, ◌⊎◌, ⊤, ℕ, min, ◌<◌, ◌≤◌, ◌+◌, ◌-◌, ◌*◌, ◌^◌, true, List, []}
 use Rattle.std.specs.Prelude.{◌∷◌, length, map, Option, Some, None, IfSome, IsSomeAnd, Result, Ok, Err}
+use Rattle.std.specs.Option.{option_map_or}
 use Rattle.std.specs.Borrow.{Bor}
 use Rattle.capnp_words.specs.Meter.{Meter}
 use Rattle.capnp_words.specs.declared.error.ErrorKind.{ErrorKind}
 use Rattle.capnp_words.specs.declared.error.ErrorKind.TheVariants.{NoSuchPlace}
+use Rattle.capnp_arena_traits.specs.Taking.{IsAllocationRefusal}
 use Rattle.capnp_arena_traits.specs.View.{View, KeepsLimits}
 use Rattle.capnp_format.specs.Bytes.{words_of}
 use Rattle.capnp_format.specs.Canonical.{word_count, word_count_all}
 use Rattle.capnp_format.specs.Forest.{target}
-use Rattle.capnp_format.specs.Segments.{AreWords, Segments, segment, word_at}
+use Rattle.capnp_format.specs.Segments.{Segments, segment, word_at}
 use Rattle.capnp_format.specs.Word.{struct_word}
-use Rattle.capnp_format.specs.Tree.{Tree, Null, count}
-use Rattle.capnp_contents.specs.Existing.{struct_in}
+use Rattle.capnp_format.specs.Tree.{Tree, Null, Struct, Trees, count}
+use Rattle.capnp_words.specs.declared.wire_pointer.StructSize.{StructSize}
+use Rattle.capnp_words.specs.Sizes.{sized}
+use Rattle.capnp_making.specs.Fields.{with_field}
 use Rattle.capnp_making.specs.Makes.{CallAt, call_at}
-use Rattle.capnp_making.specs.Memory.{HasRoom, IsRefusedFor, KeepsMemory, SpendsMemory}
+use Rattle.capnp_making.specs.Memory.{HasRoom, KeepsMemory, SpendsMemory, refusals_for}
 use Rattle.capnp_making.specs.Memory.{ComesAfter, TakesWords, start_of}
-use Rattle.capnp_making.specs.Near.{HasOwnRoom, LeadsToEnd}
-use Rattle.capnp_making.specs.Stored.{IsStored}
+use Rattle.capnp_making.specs.Near.{HasOwnRoom}
+use Rattle.capnp_making.specs.Stored.{IsReplaced, IsStored}
 use Rattle.capnp_making.specs.Zeroed.{IsPruned}
 use Rattle.capnp_contents.specs.declared.existing.ExistingStruct.{ExistingStruct}
-use Rattle.capnp_objects.specs.Reading.{place_past}
-use Rattle.capnp_objects.specs.Refusals.{Refused}
-use Rattle.capnp_objects.specs.Wanted.{plain}
 use Rattle.capnp_objects.specs.declared.pointers.PointerPlace.{PointerPlace}
 use Rattle.capnp_readers.specs.declared.readers.struct_reader.StructPlace.{StructPlace}
-use Rattle.capnp_copies.specs.Changes.{ComesToObject, CopiesChildren, FindsNoRoom, IsTooLarge}
-use Rattle.capnp_copies.specs.Changes.{RefusesToCopy, copy_call}
+use Rattle.capnp_copies.specs.Changes.{CopiesChildren, CopiesFirst, RefusesToCopy, copy_call}
 use Rattle.capnp_copies.specs.Forms.{form_of}
 use Rattle.capnp_copies.specs.Growth.{TakesAtMost}
-use Rattle.capnp_copies.specs.Originals.{children_original, value_original}
+use Rattle.capnp_copies.specs.Originals.{children_original}
 use Rattle.capnp_contents.specs.Anew.{OnlyWrites}
 use Rattle.capnp_contents.specs.Opening.{Opens, struct_opened}
 use Rattle.capnp_contents.specs.Rooms.{HasRoomFor, RefusesToBecome}
 use Rattle.capnp_contents.specs.Widened.{list_widened}
 use Rattle.capnp_builders.specs.Content.{pointers_copied}
-use Rattle.capnp_builders.specs.Defaults.{RefusesDefault, DefaultFits, FitsWithDefault, WithDefault}
-use Rattle.capnp_builders.specs.Defaults.{default_use, ignored, IsIgnoredDefault}
+use Rattle.capnp_builders.specs.Defaults.{RefusesDefault, DefaultCopyFits, FitsWithDefault, WithDefault}
+use Rattle.capnp_builders.specs.Defaults.{default_use, ignored}
 use Rattle.capnp_builders.specs.Kept.{PutsCopy}
 use Rattle.capnp_builders.specs.Content.{TakesBytes}
 use Rattle.capnp_builders.specs.Places.{struct_place}
@@ -59,26 +59,18 @@ use Rattle.capnp_edits.specs.declared.edit.path.PathEnd.TheVariants.{Pointer as 
 use Rattle.capnp_edits.specs.declared.edit.path.PathEnd.TheVariants.{Element as AtElement}
 use Rattle.capnp_edits.specs.Paths.{PointerTo, step_of, IsPathFound}
 use Rattle.capnp_edits.specs.Sources.{root_of, once_at_root, Sections, LeadsToStruct}
-use Rattle.capnp_edits.specs.Sources.{ContentRead, Copies, HasNothingToCopy}
+use Rattle.capnp_edits.specs.Sources.{ContentRead, Copies, HasNothingToCopy, HasRoot}
 use Rattle.capnp_edits.specs.Sources.{OfWanted}
 use Rattle.capnp_edits.specs.Edits.{is_of_path, refusals_after, value_of, looked_for, HasEffect, place_of}
-use Rattle.capnp_edits.specs.Edits.{DoesAt, FillsAt, PutsBits, bits_of, default_for, effect_of_task, IsApplied, EditTakes}
+use Rattle.capnp_edits.specs.Edits.{bits_of, default_for, effect_of_task, IsApplied, EditTakes}
 use Rattle.capnp_builders.specs.declared.builders.PointerBuilder.{PointerBuilder}
 
--- If the new object has no words: a pointer to a struct has offset -1, and one to a list leads to
--- the end of its segment's words.
+-- Where a new object without words is: a pointer to a struct has offset -1, and one to a list leads
+-- to the end of its segment's words, unless these are more than the segment has room for.
 abbrev pub LeadsThere : CallAt → NewObject → Type 0
-LeadsThere c (ZeroStruct size) = size.data_words + size.pointers ≡ 0 →
-    word_at c.new.words c.segment c.at ≡ struct_word (2 ^ 30 - 1) 0 0
-LeadsThere c object = LeadsToEnd c (word_count (value_of object))
-
--- If a struct without words replaces null, its pointer has offset -1.
-abbrev pub OpensThere : CallAt → Sought → Option (Bor (List ℕ)) → Option ErrorKind → Type 0
-OpensThere c (ForStruct size) default r =
-    word_at c.old.words c.segment c.at ≡ 0 → IsIgnoredDefault default →
-    size.data_words + size.pointers ≡ 0 → r ≡ None →
-    word_at c.new.words c.segment c.at ≡ struct_word (2 ^ 30 - 1) 0 0
-OpensThere c sought default r = ⊤
+LeadsThere c (ZeroStruct size) = word_at c.new.words c.segment c.at ≡ struct_word (2 ^ 30 - 1) 0 0
+LeadsThere c object = let a = target c.new.words c.segment c.at in HasOwnRoom c.old c.segment 0 →
+    (a.segment ≡ c.segment) × (a.start ≡ length (segment c.old.words c.segment))
 
 -- From old to new an object is made at a pointer, after all words that were there. It takes exactly
 -- its own words, and every segment has as much room as before.
@@ -86,14 +78,16 @@ pub record TakesForObject (old new : View) (place : PointerPlace) (object : NewO
   pub taken : TakesWords old new place.segment (word_count (value_of object))
   pub behind : ComesAfter old place.segment (word_count (value_of object))
       (start_of (target new.words place.segment place.word))
-  pub leads : LeadsThere (call_at place.segment place.word old new) object
+  pub leads : word_count (value_of object) ≡ 0 →
+      LeadsThere (call_at place.segment place.word old new) object
   pub memory : KeepsMemory old new
 
 -- e is the struct at the end of a path, if there is one: an element of a list, or what a pointer
 -- leads to, if it holds a value.
 abbrev pub IsStructAt : Segments → PathEnd → ExistingStruct → Type 0
 IsStructAt S (AtPointer place) e = (t : Tree) → IsStored S place.segment place.word t →
-    Some e ≡ struct_in (target S place.segment place.word) t
+    let a = target S place.segment place.word in (ws : List ℕ) × (ts : Trees) × (t ≡ Struct ws ts) ×
+    (e ≡ record { segment = a.segment; start = a.start; size = sized (length ws) (count ts) })
 IsStructAt S (AtElement x) e = e ≡ x
 
 -- An outcome as the result of a call.
@@ -112,6 +106,34 @@ CopiesWhole call c r =
     ((m : Meter) × OfWanted c.wanted (root_of c.source)
     (copy_call (form_of c.canonicalize) call (once_at_root c.source) m)
     (λ o d. TakesAtMost (result_of r) o d × MatchOption r (PutsCopy o d) (RefusesToCopy o d)))
+
+-- From old to new the content of a source's struct is copied over a struct, with outcome r. The
+-- struct takes the data (until `taken`). Then the pointers that both structs have are copied; or
+-- only the first ones, because the copy of one is refused. The copies take at most as many words as
+-- reading costs, and their landing pads.
+pub record Filling (old new : View) (place : StructPlace) (source : Source) (r : Option ErrorKind)
+    : Type 0 where
+  pub root : HasRoot source
+  pub from : Sections
+  pub leads : LeadsToStruct (root_of source) (once_at_root source) from
+  pub bytes : List ℕ
+  pub are_words : words_of bytes ≡ from.words
+  pub taken : View
+  pub limits : KeepsLimits old taken
+  pub takes : TakesBytes old.words taken.words place (64 * length from.words) bytes
+  pub after : Meter
+  pub copies : let call = pointers_copied place taken new from.limiter after in
+      MatchOption r (CopiesChildren from.first (min place.pointers from.pointers) call)
+      (CopiesFirst from.first (min place.pointers from.pointers) call)
+  pub few : TakesAtMost (result_of r)
+      (children_original from.first (min place.pointers from.pointers))
+      (pointers_copied place old new from.limiter after)
+
+-- From old to new the content of a source's struct is copied over a struct, with outcome r; or
+-- there is no struct to copy, and nothing is changed.
+abbrev pub FillsAt : View → View → StructPlace → Source → Option ErrorKind → Type 0
+FillsAt old new place source r =
+    (IsSomeAnd r (HasNothingToCopy source AStruct) × (new ≡ old)) ⊎ Filling old new place source r
 
 -- Room.
 
@@ -142,33 +164,15 @@ FitsAt old (Search (ForStruct size) default) (AtPointer place) =
     OpeningHasRoom (struct_opened size) default old place
 FitsAt old (Search (ForStructs size) default) (AtPointer place) =
     OpeningHasRoom (list_widened size.data_words size.pointers) default old place
-FitsAt old (Search sought default) (AtPointer place) = DefaultFits default old place.segment
+FitsAt old (Search sought default) (AtPointer place) =
+    IfSome default (λ d. (8 ≤ length d.now) × DefaultCopyFits d.now old place.segment)
 FitsAt old (CopyRoot c) (AtPointer place) =
-    (u : Tree) × Copies c u × (c.wanted ≡ AList → AreWords (root_of c.source).segments) ×
+    (u : Tree) × Copies c u ×
+    (c.wanted ≡ AList → (s p : ℕ) → word_at (root_of c.source).segments s p < 2 ^ 64) ×
     HasOwnRoom old place.segment (word_count u)
 FitsAt old task there = ⊤
 
 -- Refusals.
-
--- A struct takes the data of a source's struct. Then the copy of one of the pointers that both
--- structs have is refused with k: the arena has no room for an object of its value, or it can't be
--- read.
-pub record StopsFilling (old new : View) (place : StructPlace) (source : Source) (k : ErrorKind)
-    : Type 0 where
-  pub content : ContentRead source
-  pub fewer : count content.children < min place.pointers content.from.pointers
-  pub taken : View
-  pub limits : KeepsLimits old taken
-  pub takes : TakesBytes old.words taken.words place (64 * length content.from.words) content.bytes
-  pub after : Meter
-  pub why :
-      (ComesToObject (value_original (place_past content.from.first (count content.children))) plain
-      content.after after
-      (λ n all. FindsNoRoom (pointers_copied place taken new content.from.limiter after) k n
-      (content.are_read.cost + all))
-      × IsTooLarge (children_original content.from.first (min place.pointers content.from.pointers))
-      (pointers_copied place taken new content.from.limiter after))
-      ⊎ Refused plain (place_past content.from.first (count content.children)) content.after after k
 
 -- What is looked for isn't opened, which is refused with k: nothing is changed; or memory is
 -- refused for what becomes of a struct or a list of structs.
@@ -186,11 +190,11 @@ IsOpeningRefused sought c k = c.new ≡ c.old
 -- copy of the default is refused.
 abbrev pub IsRefusedAt : View → View → Task → ErrorKind → PathEnd → Type 0
 IsRefusedAt old new (Make object) k (AtPointer place) =
-    IsRefusedFor old new (word_count (value_of object)) k
+    IsAllocationRefusal old new (length old.words) (word_count (value_of object) + 1) k ×
+    (new ≡ record old { words = new.words; refusals = new.refusals })
 IsRefusedAt old new (InStruct (Content source)) k there =
     (e : ExistingStruct) × IsStructAt old.words there e ×
-    ((HasNothingToCopy source AStruct k × (new ≡ old)) ⊎
-    StopsFilling old new (struct_place e) source k)
+    FillsAt old new (struct_place e) source (Some k)
 IsRefusedAt old new (Search sought None) k (AtPointer place) =
     IsOpeningRefused sought (call_at place.segment place.word old new) k
 IsRefusedAt old new (Search sought (Some default)) k (AtPointer place) =
@@ -204,17 +208,6 @@ IsRefusedAt old new task k there = ⊥
 
 -- Words that are allocated.
 
--- From old to new a struct takes the data of a source's struct, and then the pointers that both
--- structs have are copied; their values are where the builder's call puts them.
-pub record FillsThere (old new : View) (place : StructPlace) (s : Sections) (m : Meter) : Type 0 where
-  pub bytes : List ℕ
-  pub are_words : words_of bytes ≡ s.words
-  pub taken : View
-  pub limits : KeepsLimits old taken
-  pub takes : TakesBytes old.words taken.words place (64 * length s.words) bytes
-  pub copies : CopiesChildren s.first (min place.pointers s.pointers)
-      (pointers_copied place taken new s.limiter m)
-
 -- What is looked for is found where t is, with outcome r. A struct or a list of structs is opened,
 -- but null isn't a list of structs; a list, a text or data is only found, and nothing is changed.
 abbrev pub FindsSought : Sought → Option ErrorKind → CallAt → Tree → Type 0
@@ -225,23 +218,19 @@ FindsSought (ForStructs size) r c t =
 FindsSought sought r c t = (o : Option Tree) × HasEffect (looked_for sought t) r o × (c.new ≡ c.old)
 
 -- From old to new a task with outcome r takes the words that the contract of the builder's call
--- states for its place. A refused object takes none, nor does a change of bits. Content takes only
--- those of the copies of the pointers that both structs have.
+-- states for its place. A refused object takes none, nor does a change of bits. If a struct without
+-- words replaces null, its pointer has offset -1.
 abbrev pub AllocatesAt : View → View → Task → Option ErrorKind → PathEnd → Type 0
 AllocatesAt old new (Make object) None (AtPointer place) = TakesForObject old new place object
 AllocatesAt old new (Make object) (Some k) (AtPointer place) = IsPruned old.words new.words
 AllocatesAt old new (InStruct (Bits n)) r there =
     (e : ExistingStruct) × IsStructAt old.words there e × OnlyWrites old new
 AllocatesAt old new (InStruct (Content source)) r there =
-    (e : ExistingStruct) × IsStructAt old.words there e ×
-    ((IsSomeAnd r (HasNothingToCopy source AStruct) × (new ≡ old)) ⊎
-    ((s : Sections) × (m : Meter) × LeadsToStruct (root_of source) (once_at_root source) s ×
-    TakesAtMost (result_of r) (children_original s.first (min e.size.pointers s.pointers))
-    (pointers_copied (struct_place e) old new s.limiter m) ×
-    MatchOption r (0 < 64 * e.size.data_words + e.size.pointers →
-    FillsThere old new (struct_place e) s m) (λ k. ⊤)))
+    (e : ExistingStruct) × IsStructAt old.words there e × FillsAt old new (struct_place e) source r
 AllocatesAt old new (Search sought default) r (AtPointer place) =
-    OpensThere (call_at place.segment place.word old new) sought default r ×
+    ((size : StructSize) → sought ≡ ForStruct size → word_at old.words place.segment place.word ≡ 0 →
+    default_use ignored default Null ≡ ignored → r ≡ None → size.data_words + size.pointers ≡ 0 →
+    LeadsThere (call_at place.segment place.word old new) (ZeroStruct size)) ×
     ((t : Tree) → IsStored old.words place.segment place.word t →
     WithDefault (default_for sought default t) (call_at place.segment place.word old new) t
     (FindsSought sought r) (result_of r))
@@ -251,21 +240,30 @@ AllocatesAt old new task r there = OnlyWrites old new
 
 -- Calls at a place.
 
--- From S to R a task is done at the end of a path, with outcome r. Words that the value there
--- doesn't hold stay unchanged.
-abbrev pub DoesThere : Segments → Segments → PathEnd → Task → Option ErrorKind → Type 0
-DoesThere S R (AtPointer place) task r = (t : Tree) → IsStored S place.segment place.word t →
-    DoesAt S R place (effect_of_task task (PointerTo t)) t r
-DoesThere S R (AtElement e) (InStruct (Bits n)) r = PutsBits S R e (bits_of n) r
-DoesThere S R (AtElement e) (InStruct (Content source)) r = FillsAt S R (struct_place e) source r
-DoesThere S R (AtElement e) task r = R ≡ S
+-- From old to new a task is done at the end of a path, with outcome r: what it leaves replaces the
+-- value of the pointer there, if anything is changed; or the bits or the content of the element
+-- there are written. A number is refused if the data section doesn't have its bits. Words that the
+-- value there doesn't hold stay unchanged.
+abbrev pub DoesThere : View → View → PathEnd → Task → Option ErrorKind → Type 0
+DoesThere old new (AtPointer place) task r =
+    (t : Tree) → IsStored old.words place.segment place.word t → (left : Option Tree) ×
+    HasEffect (effect_of_task task (PointerTo t)) r left × MatchOption left
+    (new.words ≡ old.words) (IsReplaced old.words new.words place.segment place.word t)
+DoesThere old new (AtElement e) (InStruct (Bits n)) r =
+    let f = bits_of n in let bits = 64 * e.size.data_words in
+    ((f.start < bits) × (f.start + f.bits ≤ bits) × (r ≡ None) ×
+    (new.words ≡ with_field old.words e.segment (64 * e.start + f.start) f.bits f.value))
+    ⊎ ((bits < f.start + f.bits) × (r ≡ Some NoSuchPlace) × (new.words ≡ old.words))
+DoesThere old new (AtElement e) (InStruct (Content source)) r =
+    FillsAt old new (struct_place e) source r
+DoesThere old new (AtElement e) task r = new.words ≡ old.words
 
 -- From old to new a call does a task that is in range, at the end of a path, with outcome r. It
 -- states what the task leaves; the count of refused memory requests; why it is refused, which if
 -- there is room is only for what is at the end of the path; and which words it takes.
 pub record IsDoneAt (old new : View) (there : PathEnd) (task : Task) (r : Option ErrorKind)
     : Type 0 where
-  pub done : DoesThere old.words new.words there task r
+  pub done : DoesThere old new there task r
   pub counted : new.refusals ≡ refusals_after r old.refusals
   pub named : (k : ErrorKind) → r ≡ Some k → ((is_of_path k ≡ true) × (new ≡ old)) ⊎
       IsRefusedAt old new task k there
@@ -288,10 +286,10 @@ pub record IsDoneBy {A : Type 0} (view : A → View) (old new : PointerBuilder A
 -- path is, never for memory if that has room, and takes words as that call does.
 pub record IsStep (old new : View) (edit : Edit) (r : Option ErrorKind) : Type 0 where
   pub applied : IsApplied (EditTakes edit r) old.words new.words
-  pub counted : new.refusals ≡ refusals_after r old.refusals
+  pub counted : new.refusals ≡ option_map_or (λ k. refusals_for k old.refusals) r old.refusals
   pub path_end : Option PathEnd
   pub done : IfSome path_end (λ there. IfSome (task_of edit.op)
-      (λ task. DoesThere old.words new.words there task r))
+      (λ task. DoesThere old new there task r))
   pub leads : (t : Tree) → IsStored old.words 0 0 t →
       IsPathFound old.words (record { segment = 0; word = 0 }) t (map step_of edit.path.now) path_end
   pub missing : path_end ≡ None → r ≡ Some NoSuchPlace

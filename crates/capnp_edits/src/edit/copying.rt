@@ -62,9 +62,8 @@ pub(crate) fn copy_root<A: BuilderArena>(
     copying: Copying<'_>,
 ) -> Result<(), ErrorKind>
     requires { IsThere (built A.view pointer.old) }
-    ensures done { DoesThere (A.view pointer.old.arena.now).words
-        (A.view pointer.new.arena.now).words (AtPointer (place_of pointer.old))
-        (CopyRoot copying.entry) (refusal_of result) }
+    ensures done { DoesThere (A.view pointer.old.arena.now) (A.view pointer.new.arena.now)
+        (AtPointer (place_of pointer.old)) (CopyRoot copying.entry) (refusal_of result) }
     ensures counted { (A.view pointer.new.arena.now).refusals
         ≡ refusals_after (refusal_of result) (A.view pointer.old.arena.now).refusals }
     ensures taken { CopiesWhole (calling A.view pointer.old pointer.new) copying.entry

@@ -101,6 +101,7 @@ fn put_element<A: BuilderArena>(
     }
 }
 
+#[tactic(auto, using(crate::proofs::Names::unfound_of_path))]
 /// Writes `number` into the lowest bits of an element of the list in `found`. If `found` is a
 /// refusal, returns it; refuses with `NoSuchPlace` if there is no list, or it has no such element.
 fn set_element<A: BuilderArena>(
@@ -130,6 +131,7 @@ fn set_element<A: BuilderArena>(
     }
 }
 
+#[tactic(auto, using(crate::proofs::Names::unfound_of_path))]
 /// Writes `value` to byte `index` of the text or data in `found`. If `found` is a refusal, returns
 /// it; refuses with `NoSuchPlace` if there is no such byte.
 fn write_byte<A: BuilderArena>(

@@ -1,6 +1,6 @@
 //! Edits of a struct: writes to its data section, and copies of the content of another message's
 //! struct.
-ghost use Rattle.std.specs.Prelude.{◌≡◌, ◌+◌, None, true, IsOk, IfErr, IfSome};
+ghost use Rattle.std.specs.Prelude.{◌≡◌, ◌+◌, None, true, IsOk, IfSome};
 ghost use Rattle.capnp_contents.specs.Existing.{IsStructInside};
 ghost use Rattle.capnp_readers.specs.Readers.{IsStructPlace};
 ghost use Rattle.capnp_builders.specs.Places.{struct_place};
@@ -8,8 +8,8 @@ ghost use Rattle.capnp_edits.specs.declared.edit.path.PathEnd.TheVariants.{Eleme
 ghost use Rattle.capnp_edits.specs.declared.edit.tasks.StructChange.TheVariants.{Content};
 ghost use Rattle.capnp_edits.specs.declared.edit.tasks.Task.TheVariants.{InStruct};
 ghost use Rattle.capnp_edits.specs.Tasks.{is_in_range};
-ghost use Rattle.capnp_edits.specs.Edits.{refusal_of, FillsAt, refusals_after};
-ghost use Rattle.capnp_edits.specs.Steps.{FitsAt, IsDoneAt, IsRefusedAt, AllocatesAt};
+ghost use Rattle.capnp_edits.specs.Edits.{refusal_of, refusals_after};
+ghost use Rattle.capnp_edits.specs.Steps.{FillsAt, FitsAt, IsDoneAt};
 
 use crate::edit::Source;
 use crate::edit::copying::read_source_root;
@@ -51,14 +51,10 @@ pub(crate) fn copy_content<A: BuilderArena>(
     source: Source<'_>,
 ) -> Result<(), ErrorKind>
     requires { IsStructInside (A.view arena.old).words parent }
-    ensures filled { FillsAt (A.view arena.old).words (A.view arena.new).words
-        (struct_place parent) source.entry (refusal_of result) }
+    ensures filled { FillsAt (A.view arena.old) (A.view arena.new) (struct_place parent)
+        source.entry (refusal_of result) }
     ensures counted { (A.view arena.new).refusals ≡ refusals_after (refusal_of result)
         (A.view arena.old).refusals }
-    ensures named { IfErr result (λ k. IsRefusedAt (A.view arena.old) (A.view arena.new)
-        (InStruct (Content source.entry)) k (AtElement parent)) }
-    ensures taken { AllocatesAt (A.view arena.old) (A.view arena.new)
-        (InStruct (Content source.entry)) (refusal_of result) (AtElement parent) }
     ensures fits { FitsAt (A.view arena.old) (InStruct (Content source.entry)) (AtElement parent)
         → IsOk result }
 {

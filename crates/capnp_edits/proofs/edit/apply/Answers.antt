@@ -26,7 +26,7 @@ pub returns-in_default-task_of : goal.returns-in_default-task_of
 returns-in_default-task_of g c =
     let v = g.A.BuilderArena.view c.args.arena.now in
     nothing_done v c.args.edit.now (Some c.in-Some.end) (out_applied v.words c.args.edit.now (sym c.in_default-task_of.ensures)) c.in-Some.ensures.found
-    (subst (λ o. IfSome o (λ task. DoesThere v.words v.words c.in-Some.end task (Some NoSuchPlace))) c.in_default-task_of.ensures tt)
+    (subst (λ o. IfSome o (λ task. DoesThere v v c.in-Some.end task (Some NoSuchPlace))) c.in_default-task_of.ensures tt)
 
 pub returns-in-Pointer : goal.returns-in-Pointer
 returns-in-Pointer g c =
@@ -53,7 +53,7 @@ returns-in-InStruct g c =
     let is : task_of e.op ≡ Some (InStruct change) = sym c.in-Some-task_of.ensures ∙ ap Some c.in-InStruct.is in
     let leads : (t : Tree) → IsStored old.words 0 0 t → IsPathFound old.words (record { segment = 0; word = 0 }) t (map step_of e.path.now) (Some (AtElement there)) =
     λ t stored. subst (IsPathFound old.words (record { segment = 0; word = 0 }) t (map step_of e.path.now)) (ap Some c.in-Element.is) (c.in-Some.ensures.found t stored) in
-    step_at old new e (AtElement there) (InStruct change) (refusal_of c.change_struct.result) is (c.has_words.ensures.enough.0 c.if-not-has_words.false) (element_applied old.words new.words e there change _ is leads done.done) done.counted leads
+    step_at old new e (AtElement there) (InStruct change) (refusal_of c.change_struct.result) is (c.has_words.ensures.enough.0 c.if-not-has_words.false) (element_applied old new e there change _ is leads done.done) done.counted leads
     done.named done.fits done.nowhere done.taken done.done
 
 pub returns-in_default-task : goal.returns-in_default-task
@@ -64,8 +64,8 @@ returns-in_default-task g c =
     let leads : (t : Tree) → IsStored v.words 0 0 t → IsPathFound v.words (record { segment = 0; word = 0 }) t (map step_of e.path.now) (Some (AtElement there)) =
     λ t stored. subst (IsPathFound v.words (record { segment = 0; word = 0 }) t (map step_of e.path.now)) (ap Some c.in-Element.is) (c.in-Some.ensures.found t stored) in
     nothing_done v e (Some (AtElement there)) (none_applied v.words e there c.in-Some-task_of.task (sym c.in-Some-task_of.ensures) c.in_default-task.not-InStruct leads) leads
-    (subst (λ o. IfSome o (λ task. DoesThere v.words v.words (AtElement there) task (Some NoSuchPlace))) c.in-Some-task_of.ensures
-    (element_kept v.words there c.in-Some-task_of.task (Some NoSuchPlace) c.in_default-task.not-InStruct))
+    (subst (λ o. IfSome o (λ task. DoesThere v v (AtElement there) task (Some NoSuchPlace))) c.in-Some-task_of.ensures
+    (element_kept v there c.in-Some-task_of.task (Some NoSuchPlace) c.in_default-task.not-InStruct))
 
 pub edit_pointer-requires-clause-range : goal.edit_pointer-requires-clause-range
 edit_pointer-requires-clause-range g c = task_in_range c.args.edit.now.op c.in-Some-task_of.task (sym c.in-Some-task_of.ensures)

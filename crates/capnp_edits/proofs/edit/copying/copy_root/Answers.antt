@@ -10,7 +10,7 @@ use Rattle.capnp_edits.proofs.edit.copying.copy_root.Goals.{After-set_struct, Af
 pub returns-in_err-root-clause-done : goal.returns-in_err-root-clause-done
 returns-in_err-root-clause-done g c =
     let p = err_from_is_err_and c.from_residual.result c.from_residual.ensures.1 in
-    rw (p.1, p.2) (root_unread _ (inl c.in_err-root.ensures.refused) refl refl)
+    rw (p.1, p.2) (root_unread c.args.copying _ (inl c.in_err-root.ensures.refused) refl refl)
 
 pub returns-in_err-root-clause-taken : goal.returns-in_err-root-clause-taken
 returns-in_err-root-clause-taken g c =
@@ -54,7 +54,7 @@ returns-in_ok-value-in-Struct-clause-fits g c = tried_fits c.set_struct.result c
 pub returns-in_err-value-in-Struct-clause-done : goal.returns-in_err-value-in-Struct-clause-done
 returns-in_err-value-in-Struct-clause-done g c =
     let p = err_from_is_err_and c.from_residual-in_err-value-in-Struct.result c.from_residual-in_err-value-in-Struct.ensures.1 in
-    rw (p.1, p.2) (root_unread _ (struct_unread _ c.args.copying c.in_ok-root.root _ _ _ c.in-Struct.is c.in_ok-root.ensures.found c.in_err-value-in-Struct.ensures.refused) refl refl)
+    rw (p.1, p.2) (root_unread c.args.copying _ (struct_unread _ c.args.copying c.in_ok-root.root _ _ _ c.in-Struct.is c.in_ok-root.ensures.found c.in_err-value-in-Struct.ensures.refused) refl refl)
 
 pub returns-in_err-value-in-Struct-clause-counted : goal.returns-in_err-value-in-Struct-clause-counted
 returns-in_err-value-in-Struct-clause-counted g c =
@@ -90,7 +90,7 @@ returns-in_ok-list-in-List-clause-fits g c = tried_fits c.set_list.result c.args
 pub returns-in_err-list-in-List-clause-done : goal.returns-in_err-list-in-List-clause-done
 returns-in_err-list-in-List-clause-done g c =
     let p = err_from_is_err_and c.from_residual-in_err-list-in-List.result c.from_residual-in_err-list-in-List.ensures.1 in
-    rw (p.1, p.2) (root_unread _ (list_unread _ c.args.copying c.in_ok-root.root _ _ _ c.in-List.is c.in_ok-root.ensures.found c.in_err-list-in-List.ensures.refused) refl refl)
+    rw (p.1, p.2) (root_unread c.args.copying _ (list_unread _ c.args.copying c.in_ok-root.root _ _ _ c.in-List.is c.in_ok-root.ensures.found c.in_err-list-in-List.ensures.refused) refl refl)
 
 pub returns-in_err-list-in-List-clause-counted : goal.returns-in_err-list-in-List-clause-counted
 returns-in_err-list-in-List-clause-counted g c =

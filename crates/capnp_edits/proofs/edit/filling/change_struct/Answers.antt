@@ -24,4 +24,4 @@ returns-in-Content g c =
     let new = g.A.BuilderArena.view c.copy_content.new.arena in
     let e = c.copy_content.ensures in
     subst (λ change. IsDoneAt old new (AtElement c.args.parent) (InStruct change) (refusal_of c.copy_content.result)) (sym c.in-Content.is)
-    (content_changed c.copy_content.result old new c.args.parent c.in-Content.source e.filled e.counted e.named e.taken e.fits)
+    (content_changed c.copy_content.result old new c.args.parent c.in-Content.source e.filled e.counted e.fits)
