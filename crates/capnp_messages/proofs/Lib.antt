@@ -16,3 +16,5 @@ pub mod ExtentLemmas
 pub mod PathLemmas
 pub mod PartLemmas
 pub mod MessagePartLemmas
+pub mod FittingLemmas
+pub mod OutgrownLemmas

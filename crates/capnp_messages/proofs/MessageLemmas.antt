@@ -52,12 +52,6 @@ value_of {S} {limits} {r} {m} {after} {t} root read =
       covered = covers_root limits.traversal_limit_in_words there.cost root.covers.covered there.covers;
     }
 
--- the copy of what a root leads to is the canonical words of the value of its message
-pub copy_of : {S : Segments} {limits : ReaderOptions} {r : Reading} {m after : Meter} {words : Segments} →
-    AtRoot S limits r m → (t : Tree) × Reads canonical r m after t × (words ≡ encoding (trim t) ∷ []) →
-    (t : Tree) × IsValueOf S limits t × (words ≡ encoding (trim t) ∷ [])
-copy_of root (t, read, is_made) = (t, value_of root read, is_made)
-
 -- if the copy of what the root leads to is refused, so is the message
 pub copy_refused : {S : Segments} {limits : ReaderOptions} {r : Reading} {m : Meter} {old new : ℕ} {k : ErrorKind} →
     AtRoot S limits r m → LacksMemoryOr old new k (RefusesCopy r m.left max_segment_words k) →

@@ -16,3 +16,4 @@ pub mod Parts
 pub mod EndValues
 pub mod PathEnds
 pub mod MessageParts
+pub mod Fitting

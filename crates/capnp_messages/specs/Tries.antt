@@ -1,8 +1,9 @@
 -- The room in which a canonical copy is tried.
-use Rattle.std.specs.Prelude.{◌≡◌, ℕ, ◌+◌, ◌*◌, ◌<◌, ◌≤◌, zero, suc, min, if◌then◌else◌, Bool, IsTrue}
+use Rattle.std.specs.Prelude.{◌≡◌, ℕ, ◌+◌, ◌*◌, ◌<◌, ◌≤◌, zero, suc, min, if◌then◌else◌, Bool, IsTrue, length}
 use Rattle.capnp_arena_traits.specs.Allocations.{max_segment_words}
 use Rattle.capnp_arena_traits.specs.View.{View}
 use Rattle.capnp_format.specs.Canonical.{trim, word_count}
+use Rattle.capnp_format.specs.Segments.{segment}
 use Rattle.capnp_format.specs.Tree.{Tree}
 use Rattle.capnp_framing.specs.Reading.{total}
 use Rattle.capnp_objects.specs.Outcomes.{MeansThere}
@@ -31,6 +32,15 @@ pub record IsMadeByFirstTry (r : Reading) (offers : ℕ → ℕ → Bool) (refus
   pub try : ℕ
   pub asked : IsTrue (offers (room_of_try (words_read r) try) (made.room 0))
   pub before : (j : ℕ) → j < try → NeedsMoreRoom r (room_of_try (words_read r) j)
+  pub granted : made.refusals ≡ refusals
+
+-- As `IsMadeByFirstTry`, for a source of `words` words, by the words that were made: what each
+-- earlier try requests is less than these.
+pub record IsFirstTry (words : ℕ) (offers : ℕ → ℕ → Bool) (refusals : ℕ) (made : View)
+    : Type 0 where
+  pub try : ℕ
+  pub asked : IsTrue (offers (room_of_try words try) (made.room 0))
+  pub before : (j : ℕ) → j < try → room_of_try words j < length (segment made.words 0)
   pub granted : made.refusals ≡ refusals
 
 -- A segment of `room` words can be requested.

@@ -4,16 +4,17 @@ use Rattle.std.proofs.lemmas.Bool.{false≢true}
 use Rattle.capnp_words.specs.declared.error.ErrorKind.{ErrorKind}
 use Rattle.capnp_words.specs.declared.error.ErrorKind.TheVariants.{AllocationFailed}
 use Rattle.capnp_format.specs.Segments.{Segments}
+use Rattle.capnp_format.specs.Tree.{Tree}
 use Rattle.capnp_arena.specs.declared.arena.reader_arena_impl.ReaderOptions.{ReaderOptions}
 use Rattle.capnp_objects.specs.declared.pointers.sizes.MessageSize.{MessageSize}
 use Rattle.capnp_messages.specs.Copies.{LacksMemoryOr}
 use Rattle.capnp_messages.specs.MessageParts.{RefusesPart, part_size}
-use Rattle.capnp_messages.specs.Messages.{RefusesCanon}
+use Rattle.capnp_messages.specs.Messages.{IsValueOf, RefusesCanon}
 use Rattle.capnp_messages.specs.declared.messages.command.Command.{Command}
 use Rattle.capnp_messages.specs.declared.messages.command.Command.TheVariants.{Canon, Check, Size, Digest, Validate}
 use Rattle.capnp_messages.proofs.AnsweredLemmas.{answer_refused, canon_refused, size_refused}
 use Rattle.capnp_messages.proofs.MessagePartLemmas.{part_granted}
-use Rattle.capnp_streams.specs.Asked.{HasAskedAnswer, HasCopyAt, HasSizeAt, HasSomeSizeAt, RefusesAsked, RefusesCopyAt, RefusesSizeAt}
+use Rattle.capnp_streams.specs.Asked.{HasAskedAnswer, HasCopyAt, HasSizeAt, HasSomeSizeAt, IsValueAt, RefusesAsked, RefusesCopyAt, RefusesSizeAt}
 use Rattle.capnp_streams.specs.Paths.{path_indexes}
 use Rattle.capnp_streams.specs.declared.streams.task.Task.{Task}
 
@@ -26,6 +27,10 @@ of_whole F (i ∷ path) none holds = absurd (omega (arith, none))
 pub of_part : (F G : List ℕ → Type 0) (path : List ℕ) → ((i : ℕ) (rest : List ℕ) → G (i ∷ rest) → F (i ∷ rest)) → 0 < length path → G path → F path
 of_part F G [] same some holds = absurd (omega (arith, some))
 of_part F G (i ∷ path) same some holds = same i path holds
+
+-- the value of the whole
+pub value_whole : (S : Segments) (limits : ReaderOptions) (path : List ℕ) (t : Tree) → length path ≡ 0 → IsValueOf S limits t → IsValueAt S limits path t
+value_whole S limits path t none = of_whole (λ p. IsValueOf S limits t → IsValueAt S limits p t) path none (λ h. h)
 
 -- why a copy of the whole wasn't made
 pub refused_whole : (S : Segments) (limits : ReaderOptions) (path : List ℕ) (old new : ℕ) (k : ErrorKind) → length path ≡ 0 →

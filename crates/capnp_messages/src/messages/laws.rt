@@ -19,7 +19,7 @@ ghost use Rattle.capnp_objects.specs.declared.pointers.canonical_fault.Canonical
 ghost use Rattle.capnp_objects.specs.declared.pointers.sizes.MessageSize.{MessageSize};
 ghost use Rattle.capnp_messages.specs.CanonicalMessages.{IsCanonicalMessage, IsCanonicalOf};
 ghost use Rattle.capnp_messages.specs.Check.{check, plain_value};
-ghost use Rattle.capnp_messages.specs.Canonicalize.{OutgrowsSegment, canonicalize};
+ghost use Rattle.capnp_messages.specs.Canonicalize.{OutgrowsSegment, canonical_value, canonicalize};
 ghost use Rattle.capnp_messages.specs.Messages.{IsReadable, IsValueOf, RefusesCanon, message_size};
 
 pub use parts::parts_found;
@@ -41,9 +41,12 @@ pub fn canonical_frames()
 
 /// The canonical copy of a message is a function of its segments and the limits: `canonicalize`
 /// returns words exactly if the message means a value without capabilities within both limits and
-/// the value's canonical words fit a segment, and then it returns these words.
+/// the value's canonical words fit a segment, and then it returns these words (`words`). The value
+/// is what `canonical_value` returns (`value`).
 pub fn copies_computed()
-    ensures { (S : Segments) (limits : ReaderOptions) (words : List ℕ)
+    ensures value { (S : Segments) (limits : ReaderOptions) (t : Tree)
+        → (canonical_value S limits ≡ Ok t) ↔ IsValueOf S limits t }
+    ensures words { (S : Segments) (limits : ReaderOptions) (words : List ℕ)
         → (canonicalize S limits ≡ Ok words) ↔ ((t : Tree) × IsValueOf S limits t
         × (1 + word_count (trim t) ≤ max_segment_words) × (words ≡ encoding (trim t))) }
 {}

@@ -1,14 +1,16 @@
 //! Makes a canonical copy of a whole message, tests it for canonical form, and measures it, for any
 //! type that holds the message's segments.
-ghost use Rattle.std.specs.Prelude.{◌≡◌, ◌⊎◌, ◌↔◌, [], IsOk, IfOk, IfSome, IfNone, IfErr, IsNone, IsTrue};
+ghost use Rattle.std.specs.Prelude.{◌≡◌, ◌⊎◌, ◌↔◌, [], Ok, IsOk, IfOk, IfSome, IfNone, IfErr, IsNone, IsTrue};
 ghost use Rattle.std.specs.Bool.{OnFalse, OnTrue};
 ghost use Rattle.capnp_format.specs.Bytes.{message};
 ghost use Rattle.capnp_format.specs.Tree.{Tree};
 ghost use Rattle.capnp_arena_traits.specs.Allocations.{one_more};
 ghost use Rattle.capnp_messages.specs.Copies.{HoldsCanonicalWords, LacksMemoryOr};
+ghost use Rattle.capnp_framing.specs.Reading.{total};
 ghost use Rattle.capnp_messages.specs.CanonicalMessages.{IsCanonicalMessage};
+ghost use Rattle.capnp_messages.specs.Canonicalize.{IsRefusalOf, canonical_value};
 ghost use Rattle.capnp_messages.specs.Check.{check};
-ghost use Rattle.capnp_messages.specs.Tries.{IsMadeByFirstTry, IsSegmentRoom, NeedsMoreRoom};
+ghost use Rattle.capnp_messages.specs.Tries.{IsFirstTry, IsSegmentRoom, NeedsMoreRoom};
 ghost use Rattle.capnp_messages.specs.Messages.{HasSizeOf, HasSizeWithin, IsCanonicalWithin, IsFaultOf, IsValueOf, RefusesCanon, RefusesCheck, RefusesSize, arena_limits, message_size, root_within};
 
 use super::canonical_copy::{canonicalize_pointer, canonicalize_reached_into};
@@ -37,17 +39,16 @@ pub fn canonicalize<A: Allocator, S: ReaderSegments>(
     source: &ReaderArenaImpl<S>,
     traversal_limit_in_words: Option<usize>,
 ) -> Result<BuilderArenaImpl<A>, (ErrorKind, A)>
-    ensures copied { IfOk result (λ made. (t : Tree) × IsValueOf
+    ensures copied { IfOk result (λ made. (t : Tree) × (canonical_value
         (message (⟦<ReaderArenaImpl<S> as ReaderArena>⟧.segments source.now))
-        (arena_limits source.now.nesting_limit traversal_limit_in_words) t
+        (arena_limits source.now.nesting_limit traversal_limit_in_words) ≡ Ok t)
         × HoldsCanonicalWords (⟦<BuilderArenaImpl<A> as BuilderArena>⟧.view made) t) }
-    ensures tries { IfOk result (λ made. IsMadeByFirstTry (root_within
-        (message (⟦<ReaderArenaImpl<S> as ReaderArena>⟧.segments source.now))
-        (arena_limits source.now.nesting_limit traversal_limit_in_words))
+    ensures tries { IfOk result (λ made. IsFirstTry
+        (total (message (⟦<ReaderArenaImpl<S> as ReaderArena>⟧.segments source.now)))
         (A.offers allocator) (A.refusals allocator)
         (⟦<BuilderArenaImpl<A> as BuilderArena>⟧.view made)) }
     ensures refused { IfErr result
-        (λ e. LacksMemoryOr (A.refusals allocator) (A.refusals e.1) e.0 (RefusesCanon
+        (λ e. LacksMemoryOr (A.refusals allocator) (A.refusals e.1) e.0 (IsRefusalOf
         (message (⟦<ReaderArenaImpl<S> as ReaderArena>⟧.segments source.now))
         (arena_limits source.now.nesting_limit traversal_limit_in_words) e.0)) }
 {

@@ -1,5 +1,6 @@
 use Rattle.std.proofs.Common.{rules, inl, inr, refl, IsOk}
-use Rattle.std.proofs.lemmas.Result.{IfErr-weaker}
+use Rattle.std.proofs.lemmas.Result.{IfErr-weaker, IfOk-weaker}
+use Rattle.capnp_messages.proofs.CanonicalizeLemmas.{both_ok, by_first_try, or_relation, value_if}
 use Rattle.capnp_layout.specs.Messages.{segments_in}
 use Rattle.capnp_layout.proofs.RunLemmas.{refuses_segments}
 use Rattle.capnp_layout.proofs.tool.canon.canonicalize_root.Goals as goal
@@ -10,10 +11,13 @@ returns-in-Err-clause-refused g c =
 
 pub returns-in-Ok-clause-refused : goal.returns-in-Ok-clause-refused
 returns-in-Ok-clause-refused g c =
-    IfErr-weaker c.canonicalize.result _ _ (λ e. refuses_segments c.args.options (segments_in c.args.source)) (rw (c.new-arena.ensures.words, c.new-arena.ensures.nesting) at c.canonicalize.ensures.refused)
+    IfErr-weaker c.canonicalize.result _ _ (λ e no. refuses_segments c.args.options (segments_in c.args.source) (or_relation no)) (rw (c.new-arena.ensures.words, c.new-arena.ensures.nesting) at c.canonicalize.ensures.refused)
 
 pub returns-in-Ok-clause-value : goal.returns-in-Ok-clause-value
-returns-in-Ok-clause-value g c = rw (c.new-arena.ensures.words, c.new-arena.ensures.nesting) at c.canonicalize.ensures.copied
+returns-in-Ok-clause-value g c =
+    IfOk-weaker c.canonicalize.result _ _ (λ made (t, is, words). (t, value_if is, words)) (rw (c.new-arena.ensures.words, c.new-arena.ensures.nesting) at c.canonicalize.ensures.copied)
 
 pub returns-in-Ok-clause-tries : goal.returns-in-Ok-clause-tries
-returns-in-Ok-clause-tries g c = rw (c.new-arena.ensures.words, c.new-arena.ensures.nesting) at c.canonicalize.ensures.tries
+returns-in-Ok-clause-tries g c =
+    both_ok c.canonicalize.result (rw (c.new-arena.ensures.words, c.new-arena.ensures.nesting) at c.canonicalize.ensures.copied) (rw c.new-arena.ensures.words at c.canonicalize.ensures.tries)
+    (λ made (t, is, words) tries. by_first_try {limits = c.args.options} t (value_if is) words tries)
