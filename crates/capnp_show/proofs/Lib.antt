@@ -10,3 +10,5 @@ pub mod Grows
 pub mod Steps
 pub mod Elements
 pub mod Ends
+pub mod ShownLines
+pub mod ComparedLines

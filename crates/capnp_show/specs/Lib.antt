@@ -4,3 +4,4 @@ pub mod Numbers
 pub mod Adding
 pub mod Shown
 pub mod ShownParts
+pub mod Compared

@@ -1,13 +1,20 @@
 //! Compares the values of two messages.
-ghost use Rattle.std.specs.Prelude.{◌≡◌, ◌≤◌, false, true, length, Ok, IfSome, IsNone, OnOk};
+ghost use Rattle.std.specs.Prelude.{◌≡◌, ◌≢◌, ◌≤◌, ◌↔◌, [], false, true, length, Ok, Err, IfSome, IsNone, IfOk, IfErr, OnOk};
+ghost use Rattle.capnp_format.specs.Bytes.{message};
+ghost use Rattle.capnp_format.specs.Segments.{AreWords};
+ghost use Rattle.capnp_format.specs.Tree.{Tree};
 ghost use Rattle.capnp_arena_traits.specs.Limits.{IsSmall};
 ghost use Rattle.capnp_framing.specs.Writing.{IsUnwritten};
+ghost use Rattle.capnp_objects.specs.Source.{levels};
+ghost use Rattle.capnp_messages.specs.Messages.{IsReadable};
+ghost use Rattle.capnp_show.specs.Compared.{ComparesLines, HasLineOf};
 ghost use Rattle.capnp_show.specs.Show.{PrintsAtMost, PrintsSome};
+ghost use Rattle.capnp_show.specs.ShownParts.{HasShortLine, IsShownPart};
 
 use super::json::{Json, Search};
 use super::message::write_json;
 use super::text::{Ended, MOST_BYTES, Text, text_prefix};
-use capnp_arena::arena::{ReaderArenaImpl, ReaderOptions, ReaderSegments};
+use capnp_arena::arena::{ReaderArena, ReaderArenaImpl, ReaderOptions, ReaderSegments};
 use capnp_framing::devices::{DeviceFault, Output, write_all};
 use capnp_words::read_limiter::ReadLimiter;
 use std::alloc::Global;
@@ -38,8 +45,8 @@ struct Difference {
 /// `message`, `number` and the path to the first object whose text differs; `<` and its text in
 /// `left`; `>` and its text in `right`. Of a text, at most 1,024 bytes are written, and then two dots.
 ///
-/// A pointer that can't be read has the name of its refusal in the line. So equal lines are equal
-/// values only if both messages are sound (`validate` of `capnp_messages`).
+/// A pointer that can't be read has the name of its refusal in the line. If both messages are sound
+/// (`validate` of `capnp_messages`), they are the same exactly if their values are equal.
 ///
 /// Refusals: `AllocationFailed` if memory runs out, and `TooLong` if a line would have more than
 /// `MOST_BYTES` bytes, and then nothing is written; `WriteFailed` if the output fails. Takes memory
@@ -60,10 +67,21 @@ pub fn compare_messages<S: ReaderSegments + Drop, T: ReaderSegments + Drop, W: O
     ensures told { result ≡ Ok false → PrintsSome W.Output output.old output.new }
     ensures bounded { OnOk result (PrintsAtMost W.Output MOST_BYTES output.old output.new) }
     ensures works { OnOk result (W.has_failed output.new ≡ false) }
+    ensures exactly { (l : IsReadable (message (S.segments left)) limits)
+        (r : IsReadable (message (T.segments right)) limits)
+        → AreWords (message (S.segments left)) → AreWords (message (T.segments right))
+        → IfOk result (λ is_same. is_same ≡ true ↔ l.value ≡ r.value) }
+    ensures granted { (l : IsReadable (message (S.segments left)) limits)
+        (r : IsReadable (message (T.segments right)) limits) → l.value ≡ r.value
+        → HasShortLine l.value → IfErr result (λ e. e ≡ CompareFault.AllocationFailed) }
+    ensures failed { result ≡ Err CompareFault.WriteFailed → W.has_failed output.new ≡ true }
+    ensures unwritten { IfErr result (λ e. e ≢ CompareFault.WriteFailed
+        → IsUnwritten W.Output output.old output.new) }
 {
     let left = ReaderArenaImpl::new(left, limits);
     let right = ReaderArenaImpl::new(right, limits);
-    match difference_of(alloc, limits, &left, &right)? {
+    let found = difference_of(alloc, limits, &left, &right)?;
+    match found {
         None => Ok(true),
         Some(difference) => {
             let text = text_of_difference(alloc, limits, number, difference, &left, &right)?;
@@ -79,6 +97,9 @@ fn write_text<W: Output>(output: &mut W, text: &Text) -> Result<(), CompareFault
     ensures some { OnOk result (PrintsSome W.Output output.old output.new) }
     ensures bounded { OnOk result (PrintsAtMost W.Output MOST_BYTES output.old output.new) }
     ensures works { OnOk result (W.has_failed output.new ≡ false) }
+    ensures failed { result ≡ Err CompareFault.WriteFailed → W.has_failed output.new ≡ true }
+    ensures unwritten { IfErr result (λ e. e ≢ CompareFault.WriteFailed
+        → IsUnwritten W.Output output.old output.new) }
 {
     let bytes = text.bytes();
     if bytes.is_empty() {
@@ -96,9 +117,18 @@ fn difference_of<S: ReaderSegments, T: ReaderSegments>(
     limits: ReaderOptions,
     left: &ReaderArenaImpl<S>,
     right: &ReaderArenaImpl<T>,
-) -> Result<Option<Difference>, CompareFault> {
-    let left = line_of(alloc, limits, None, left)?;
-    let right = line_of(alloc, limits, None, right)?;
+) -> Result<Option<Difference>, CompareFault>
+    ensures lines { (t u : Tree) → left.now.nesting_limit ≡ limits.nesting_limit
+        → right.now.nesting_limit ≡ limits.nesting_limit
+        → IsShownPart (message (⟦<ReaderArenaImpl<S> as ReaderArena>⟧.segments left.now)) limits
+        [] (levels limits.nesting_limit) t
+        → IsShownPart (message (⟦<ReaderArenaImpl<T> as ReaderArena>⟧.segments right.now)) limits
+        [] (levels limits.nesting_limit) u
+        → ComparesLines result t u }
+    ensures refused { IfErr result (λ e. e ≢ CompareFault.WriteFailed) }
+{
+    let left = line_of(alloc, limits, left)?;
+    let right = line_of(alloc, limits, right)?;
     Ok(compare_lines(left.text.bytes(), right.text.bytes()))
 }
 
@@ -136,17 +166,48 @@ fn begins_object(line: &[u8], at: usize) -> bool {
     matches!(line.get(at), Some(b'n' | b'{'))
 }
 
-/// The line of a message; if something is looked for, up to the end of the object that is found.
+/// The number of levels that the nesting limit allows. No value that can be read is nested more
+/// deeply.
+fn levels_of(limits: ReaderOptions) -> u32
+    ensures { result ≡ levels limits.nesting_limit }
+{
+    limits.nesting_limit.max(0) as u32
+}
+
+/// The line of a message.
 fn line_of<S: ReaderSegments>(
     alloc: Global,
     limits: ReaderOptions,
-    search: Option<Search>,
     arena: &ReaderArenaImpl<S>,
-) -> Result<Json, CompareFault> {
+) -> Result<Json, CompareFault>
+    ensures line { (t : Tree) → arena.now.nesting_limit ≡ limits.nesting_limit
+        → IsShownPart (message (⟦<ReaderArenaImpl<S> as ReaderArena>⟧.segments arena.now)) limits
+        [] (levels limits.nesting_limit) t
+        → HasLineOf result t }
+    ensures refused { IfErr result (λ e. e ≢ CompareFault.WriteFailed) }
+{
     let lim = ReadLimiter::new(limits.traversal_limit_in_words);
     let mut json = Json::new(alloc, lim, false);
-    json.search = search;
-    match write_json(arena, 0, 0, &[], u32::MAX, &mut json) {
+    match write_json(arena, 0, 0, &[], levels_of(limits), &mut json) {
+        Ok(()) => Ok(json),
+        Err(Ended::Full) => Err(CompareFault::TooLong),
+        Err(_) => Err(CompareFault::AllocationFailed),
+    }
+}
+
+/// The line of a message up to the end of the object that `search` finds.
+fn line_to<S: ReaderSegments>(
+    alloc: Global,
+    limits: ReaderOptions,
+    search: Search,
+    arena: &ReaderArenaImpl<S>,
+) -> Result<Json, CompareFault>
+    ensures { IfErr result (λ e. e ≢ CompareFault.WriteFailed) }
+{
+    let lim = ReadLimiter::new(limits.traversal_limit_in_words);
+    let mut json = Json::new(alloc, lim, false);
+    json.search = Some(search);
+    match write_json(arena, 0, 0, &[], levels_of(limits), &mut json) {
         Ok(()) | Err(Ended::Found) => Ok(json),
         Err(Ended::Full) => Err(CompareFault::TooLong),
         Err(Ended::NoMemory) => Err(CompareFault::AllocationFailed),
@@ -161,10 +222,12 @@ fn text_of_difference<S: ReaderSegments, T: ReaderSegments>(
     difference: Difference,
     left: &ReaderArenaImpl<S>,
     right: &ReaderArenaImpl<T>,
-) -> Result<Text, CompareFault> {
+) -> Result<Text, CompareFault>
+    ensures { IfErr result (λ e. e ≢ CompareFault.WriteFailed) }
+{
     let Difference { at, latest } = difference;
-    let left = line_of(alloc, limits, Some(Search::new(alloc, at, latest)), left)?;
-    let right = line_of(alloc, limits, Some(Search::new(alloc, at, latest)), right)?;
+    let left = line_to(alloc, limits, Search::new(alloc, at, latest), left)?;
+    let right = line_to(alloc, limits, Search::new(alloc, at, latest), right)?;
     let mut text = Text::new(alloc);
     match push_difference(&mut text, number, &left, &right) {
         Ok(()) => Ok(text),

@@ -1,10 +1,11 @@
 //! A message as one line of JSON.
-ghost use Rattle.std.specs.Prelude.{◌≡◌, ◌+◌, ◌*◌, ◌≤◌, ◌≢◌, true, false, codes, length, [], None, Ok};
+ghost use Rattle.std.specs.Prelude.{◌≡◌, ◌+◌, ◌*◌, ◌≤◌, ◌≢◌, true, false, codes, length, [], None, Ok, OnOk};
 ghost use Rattle.capnp_objects.specs.Enter.{object_shape};
 ghost use Rattle.capnp_objects.specs.Reading.{segment_read};
 ghost use Rattle.capnp_objects.specs.Pointers.{reading};
 ghost use Rattle.capnp_messages.specs.Parts.{PathEnd};
 ghost use Rattle.capnp_messages.specs.PathEnds.{IsObjectRead, end_read, end_result};
+ghost use Rattle.capnp_show.specs.Adding.{max_text};
 ghost use Rattle.capnp_show.specs.Shown.{IsPlain, Shows, add, array_within, show_elements, show_end};
 ghost use Rattle.capnp_show.specs.Shown.{show_object, show_refusal, show_struct, show_structs, show_within, shown_json};
 
@@ -131,16 +132,20 @@ impl Json {
 
     /// Writes what comes after the root.
     pub(super) fn write_tail(&mut self) -> Result<(), Ended>
-        ensures { IsPlain self.old → Shows result self.new (add (codes "\n") (shown_json self.old)) }
+        ensures shows { IsPlain self.old
+            → Shows result self.new (add (codes "\n") (shown_json self.old)) }
+        ensures fits { OnOk result (length self.new.text.bytes.items ≤ max_text) }
     {
         if self.has_places {
-            return self.text.push(b"}\n");
+            return self.text.push_last_bytes(b"}\n");
         }
-        self.text.push(b"\n")
+        self.text.push_last_bytes(b"\n")
     }
 
     /// Replaces the line by one that says that it is cut.
-    pub(super) fn write_cut(&mut self) -> Result<(), Ended> {
+    pub(super) fn write_cut(&mut self) -> Result<(), Ended>
+        ensures { OnOk result (self.new.text.bytes.items ≡ codes "{\"cut\":\"length\"}\n") }
+    {
         self.text.truncate(0);
         self.text.push(CUT_OBJECT)
     }

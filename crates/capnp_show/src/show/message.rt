@@ -1,16 +1,16 @@
 //! Shows one message.
-ghost use Rattle.std.specs.Prelude.{◌≡◌, ◌++◌, ◌≤◌, codes, length, false, true, Ok, IfOk, OnOk};
+ghost use Rattle.std.specs.Prelude.{◌≡◌, ◌≤◌, codes, length, false, true, Ok, Err, IfOk, IfErr, OnOk};
 ghost use Rattle.capnp_words.specs.Meter.{Meter};
 ghost use Rattle.capnp_format.specs.Bytes.{message};
 ghost use Rattle.capnp_format.specs.Tree.{Tree};
 ghost use Rattle.capnp_arena_traits.specs.Limits.{IsSmall};
-ghost use Rattle.capnp_framing.specs.Writing.{Prints};
+ghost use Rattle.capnp_framing.specs.Writing.{IsUnwritten, Prints};
 ghost use Rattle.capnp_objects.specs.Source.{levels};
 ghost use Rattle.capnp_messages.specs.Parts.{PathEnd, part};
-ghost use Rattle.capnp_show.specs.Line.{value_line};
+ghost use Rattle.capnp_show.specs.Adding.{max_text};
 ghost use Rattle.capnp_show.specs.Show.{PrintsAtMost};
 ghost use Rattle.capnp_show.specs.Shown.{IsPlain, Shows, add, show_end, shown_json};
-ghost use Rattle.capnp_show.specs.ShownParts.{IsShownPart};
+ghost use Rattle.capnp_show.specs.ShownParts.{HasShortLine, IsShownPart, shown_line};
 
 use super::json::{Json, json_end};
 use super::lines::{Lines, show_element, show_pointer};
@@ -72,10 +72,13 @@ pub fn show_message<S: ReaderSegments + Drop, W: Output>(
     ensures works { OnOk result (W.has_failed output.new ≡ false) }
     ensures value { (t : Tree) → showing.json ≡ true → showing.values ≡ true
         → IsShownPart (message (S.segments segments)) limits path.now showing.depth t
-        → OnOk result (Prints W.Output output.old output.new (value_line t ++ codes "\n")) }
+        → OnOk result (Prints W.Output output.old output.new (shown_line t)) }
     ensures sound { (t : Tree) → showing.json ≡ true → showing.values ≡ true
-        → IsShownPart (message (S.segments segments)) limits path.now showing.depth t
+        → IsShownPart (message (S.segments segments)) limits path.now showing.depth t → HasShortLine t
         → IfOk result (λ is_sound. is_sound ≡ true) }
+    ensures failed { result ≡ Err ShowFault.WriteFailed → W.has_failed output.new ≡ true }
+    ensures unwritten { result ≡ Err ShowFault.AllocationFailed
+        → IsUnwritten W.Output output.old output.new }
 {
     let count = segments.len() as u64;
     let arena = ReaderArenaImpl::new(segments, limits);
@@ -97,6 +100,8 @@ fn write<W: Output>(output: &mut W, text: &[u8]) -> Result<(), ShowFault>
     ensures written { OnOk result (Prints W.Output output.old output.new text.now) }
     ensures bounded { OnOk result (PrintsAtMost W.Output MOST_BYTES output.old output.new) }
     ensures works { OnOk result (W.has_failed output.new ≡ false) }
+    ensures refused { IfErr result (λ e. (e ≡ ShowFault.WriteFailed)
+        × (W.has_failed output.new ≡ true)) }
 {
     match write_all(output, text) {
         Ok(()) => Ok(()),
@@ -113,7 +118,9 @@ fn lines_of<S: ReaderSegments>(
     count: u64,
     path: &[u32],
     arena: &ReaderArenaImpl<S>,
-) -> Result<Lines, ShowFault> {
+) -> Result<Lines, ShowFault>
+    ensures { IfErr result (λ e. e ≡ ShowFault.AllocationFailed) }
+{
     let lim = ReadLimiter::new(limits.traversal_limit_in_words);
     let mut lines = Lines::new(alloc, lim, showing);
     let ended = match write_lines(arena, number, count, path, &mut lines) {
@@ -153,11 +160,12 @@ fn json_of<S: ReaderSegments>(
     path: &[u32],
     arena: &ReaderArenaImpl<S>,
 ) -> Result<Json, ShowFault>
-    ensures { (t : Tree) → showing.values ≡ true
+    ensures shown { (t : Tree) → showing.values ≡ true
         → IsShownPart (message (⟦<ReaderArenaImpl<S> as ReaderArena>⟧.segments arena.now))
         limits path.now showing.depth t → arena.now.nesting_limit ≡ limits.nesting_limit
-        → IfOk result (λ json. (json.text.bytes.items ≡ value_line t ++ codes "\n")
-        × (json.is_sound ≡ true)) }
+        → IfOk result (λ json. (json.text.bytes.items ≡ shown_line t)
+        × (HasShortLine t → json.is_sound ≡ true)) }
+    ensures refused { IfErr result (λ e. e ≡ ShowFault.AllocationFailed) }
 {
     let lim = ReadLimiter::new(limits.traversal_limit_in_words);
     let mut json = Json::new(alloc, lim, !showing.values);
@@ -169,7 +177,10 @@ fn json_of<S: ReaderSegments>(
 }
 
 /// Returns the line that says that a message isn't shown, since its line would be too long.
-fn cut_line(mut json: Json) -> Result<Json, ShowFault> {
+fn cut_line(mut json: Json) -> Result<Json, ShowFault>
+    ensures line { IfOk result (λ cut. cut.text.bytes.items ≡ codes "{\"cut\":\"length\"}\n") }
+    ensures refused { IfErr result (λ e. e ≡ ShowFault.AllocationFailed) }
+{
     match json.write_cut() {
         Ok(()) => Ok(json),
         Err(_) => Err(ShowFault::AllocationFailed),
@@ -185,11 +196,12 @@ pub(super) fn write_json<S: ReaderSegments>(
     depth: u32,
     json: &mut Json,
 ) -> Result<(), Ended>
-    ensures { (e : PathEnd) (m : Meter) → IsPlain json.old
+    ensures shows { (e : PathEnd) (m : Meter) → IsPlain json.old
         → part (message (⟦<ReaderArenaImpl<S> as ReaderArena>⟧.segments arena.now))
         (levels arena.now.nesting_limit) path.now json.old.lim ≡ (Ok e, m)
         → Shows result json.new
         (add (codes "\n") (show_end depth e (record (shown_json json.old) { lim = m }))) }
+    ensures fits { OnOk result (length json.new.text.bytes.items ≤ max_text) }
 {
     json.write_head(number, count, arena.size_in_words() as u64)?;
     let end = read_part(arena, path, &mut json.lim);

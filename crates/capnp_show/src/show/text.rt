@@ -2,7 +2,7 @@
 ghost use Rattle.std.specs.Prelude.{◌≡◌, ◌≤◌, ◌<◌, ◌+◌, ◌++◌, ◌∷◌, [], false, true, take, drop, vec_len, length, IfErr, MatchOption, OnOk};
 ghost use Rattle.std.specs.Fmt.{decimal};
 ghost use Rattle.hex.specs.Hex.{encode_lower};
-ghost use Rattle.capnp_show.specs.Adding.{Adds};
+ghost use Rattle.capnp_show.specs.Adding.{Adds, max_text};
 ghost use Rattle.capnp_show.specs.Line.{ends_control, escape, escaped, has_control_after, in_quotes};
 ghost use Rattle.capnp_show.specs.Line.{is_control, is_plain_text, reads_as_text, without_last};
 
@@ -86,6 +86,7 @@ impl Text {
     fn push_within(&mut self, most: usize, bytes: &[u8]) -> Result<(), Ended>
         requires { most ≤ 67108864 }
         ensures added { OnOk result (self.new.bytes.items ≡ self.old.bytes.items ++ bytes.now) }
+        ensures fits { OnOk result (length self.new.bytes.items ≤ most) }
         ensures full { IfErr result (λ e. e ≡ Ended.Full
             → most < length (self.old.bytes.items ++ bytes.now)) }
     {
@@ -103,6 +104,14 @@ impl Text {
         ensures { Adds result self.old.bytes.items self.new.bytes.items bytes.now }
     {
         self.push_within(MOST_BYTES - KEPT, bytes)
+    }
+
+    /// Adds the `last` bytes, and leaves `KEPT` bytes free.
+    pub(super) fn push_last_bytes(&mut self, last: &[u8]) -> Result<(), Ended>
+        ensures adds { Adds result self.old.bytes.items self.new.bytes.items last.now }
+        ensures fits { OnOk result (length self.new.bytes.items ≤ max_text) }
+    {
+        self.push_within(MOST_BYTES - KEPT, last)
     }
 
     /// Adds `bytes` to the end of the text, also to the bytes that were kept free.

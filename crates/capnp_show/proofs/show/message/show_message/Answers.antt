@@ -8,14 +8,14 @@ pub returns-then-showing-clause-value : goal.returns-then-showing-clause-value
 returns-then-showing-clause-value g c =
     λ t json values part.
     let there = subst (λ (S : Segments). IsShownPart S c.args.limits c.args.path.now c.args.showing.depth t) (sym c.new-arena.ensures.words) part in
-    let line = c.in_ok-json.ensures t values there c.new-arena.ensures.nesting in
+    let line = c.in_ok-json.ensures.shown t values there c.new-arena.ensures.nesting in
     subst (λ (xs : List ℕ). Prints g.W.Output c.args.output.now c.write.new.output xs) (c.bytes.ensures.value ∙ line.0) c.in_ok-write.ensures.written
 
 pub returns-then-showing-clause-sound : goal.returns-then-showing-clause-sound
 returns-then-showing-clause-sound g c =
-    λ t json values part.
+    λ t json values part short.
     let there = subst (λ (S : Segments). IsShownPart S c.args.limits c.args.path.now c.args.showing.depth t) (sym c.new-arena.ensures.words) part in
-    (c.in_ok-json.ensures t values there c.new-arena.ensures.nesting).1
+    (c.in_ok-json.ensures.shown t values there c.new-arena.ensures.nesting).1 short
 
 pub returns-clause-value : goal.returns-clause-value
 returns-clause-value g c = λ t json. absurd (cc (sym c.if-showing.false ∙ json))
