@@ -1,5 +1,6 @@
 """Writes a program that copies messages: it reads each field by generated readers, writes it by generated builders, and prints
 the copy as hex digits. Some structs and lists it copies as a whole, and some it opens again after it has made them."""
+from printer import arms
 from schema import BITS, RUST, always, has_default, kind, members
 
 HEAD = '''//! Copies each message of standard input, by generated readers and builders, and prints the copy as hex digits.
@@ -35,16 +36,15 @@ fn pointer_of(list: ListPlace, index: u32) -> StructPlace {{
 MAIN = '''
 fn main(rt: HostRuntime) -> anyhow::Result<()> {{
     let mut input = ReaderInput::new(rt.reader());
-    for _ in 0..1_000_000 {{
+    for i in 0..1_000_000_u32 {{
         let Some(segments) = read(rt.alloc(), &mut input, 8_388_608)? else {{
             return Ok(());
         }};
         let from = ReaderArenaImpl::new(segments, ReaderOptions::default());
         let mut lim = ReadLimiter::new(None);
         let mut built = empty_message(rt.alloc())?;
-        let root = {module}::Reader::root(&from, &mut lim)?;
-        let to = {building}::{module}::Builder::init_root(&mut built)?;
-        copy_{module}(root, to, &mut built, &mut lim, 64)?;
+        match i % {count} {{
+{arms}        }}
         let made = built.get_segments_for_output()?;
         let mut output = MemoryOutput::new(rt.alloc());
         write(&mut output, &made)?;
@@ -56,8 +56,13 @@ fn main(rt: HostRuntime) -> anyhow::Result<()> {{
     Ok(())
 }}
 '''
+ARM = '''            {which} => {{
+                let root = {module}::Reader::root(&from, &mut lim)?;
+                let to = {building}::{module}::Builder::init_root(&mut built)?;
+                copy_{module}(root, to, &mut built, &mut lim, 64)?;
+            }}
+'''
 SIZES = {'void': 'Void', 'bool': 'Bit', 'int8': 'Byte', 'uint8': 'Byte', 'int16': 'TwoBytes', 'uint16': 'TwoBytes', 'enum': 'TwoBytes', 'int32': 'FourBytes', 'uint32': 'FourBytes', 'float32': 'FourBytes', 'int64': 'EightBytes', 'uint64': 'EightBytes', 'float64': 'EightBytes'}
-
 
 
 class Copier:
@@ -155,10 +160,11 @@ class Copier:
                 f') -> anyhow::Result<()> {{\n    let _ = (&r, &to, &lim);\n    if depth == 0 {{\n        return Ok(());\n    }}\n{"".join(body)}    Ok(())\n}}\n')
 
 
-def program(schema, reading, building, root):
-    """The text of the program for messages whose root is the struct `root`."""
+def program(schema, reading, building, roots):
+    """The text of the program for messages whose roots are these structs in turn."""
     copier = Copier(schema, reading, building)
     structs = [node for node in schema.written if 'struct' in node]
     functions = ''.join(copier.function(node) for node in structs)
     modules = sorted({node['module'] for node in structs} | {node['which'] for node in structs if 'which' in node})
-    return HEAD.format(reading=reading, modules=', '.join(modules)) + functions + MAIN.format(module=schema.find(root)['module'], building=building)
+    tried = arms(ARM, [schema.find(it) for it in roots], building=building)
+    return HEAD.format(reading=reading, modules=', '.join(modules)) + functions + MAIN.format(count=len(roots), arms=tried)

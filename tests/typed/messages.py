@@ -1,11 +1,12 @@
 """Random schemas and random messages, and what is compared: what a program prints by generated readers, with what `capnp
 decode` prints."""
+import multiprocessing.pool
 import random
 import re
 import struct
 import subprocess
 
-from schema import BITS, NO_DISCRIMINANT, always, has_default, kind, members, name_of, parsed, unquoted, values
+from schema import BITS, NO_DISCRIMINANT, always, has_default, kind, members, name_of, parsed, unquoted
 
 NUMBERS = [name for name in BITS if name != 'enum']
 SHOWN = {'void': 'Void', 'bool': 'Bool', 'text': 'Text', 'data': 'Data', 'float32': 'Float32', 'float64': 'Float64'}
@@ -154,16 +155,21 @@ class RandomValues:
         return f'({", ".join(shown)})'
 
 
-def frames(schema, root, count, seed):
-    """The frames of random messages. `capnp encode` doesn't take each text that `capnp decode` would print: those are left
-    out."""
+def frames(schema, roots, count, seed):
+    """The frames of random messages, whose roots are these structs in turn."""
     make = RandomValues(schema, seed)
-    found = []
-    for _ in range(count):
-        run = subprocess.run(['capnp', 'encode', schema.path, root], input=make.struct(schema.find(root), 4).encode(), stdout=subprocess.PIPE, stderr=subprocess.DEVNULL)
-        if not run.returncode:
-            found.append(run.stdout)
-    return found
+    texts = [make.struct(schema.find(roots[i % len(roots)]), 4) for i in range(count)]
+
+    def encoded(i):
+        return subprocess.run(['capnp', 'encode', schema.path, roots[i % len(roots)]], input=texts[i].encode(), stdout=subprocess.PIPE, check=True).stdout
+
+    return every(encoded, range(count))
+
+
+def every(of, them):
+    """What a function returns for each of them, which calls other programs."""
+    with multiprocessing.pool.ThreadPool() as pool:
+        return pool.map(of, them)
 
 
 class Difference(Exception):
@@ -183,11 +189,10 @@ class Compared:
             names = [name_of(it) for it in self.schema.declared(of)['enum']['enumerants']]
             same = ours == (str(names.index(theirs)) if theirs in names else theirs)
         elif what.startswith('float'):
-            # `capnp decode` prints as many digits as it takes, but of old versions of it only 8
+            # `capnp decode` prints as many digits as it takes, but old versions of it at most 8 of a Float32
             form, size = ('<f', 4) if what == 'float32' else ('<d', 8)
-            ours = struct.unpack(form, int(ours).to_bytes(size, 'little'))[0]
-            theirs = struct.unpack(form, struct.pack(form, float(theirs)))[0]
-            same = ours == theirs or what == 'float32' and f'{ours:.7g}' == f'{theirs:.7g}'
+            ours, theirs = struct.unpack(form, int(ours).to_bytes(size, 'little'))[0], float(theirs)
+            same = ours == struct.unpack(form, struct.pack(form, theirs))[0] or what == 'float32' and float(f'{ours:.8g}') == theirs
         else:
             same = ours == theirs
         if not same:
@@ -238,15 +243,15 @@ class Compared:
             raise Difference(where, ours, 'nothing')
 
 
-def compared(schema, root, ours, theirs):
-    """The numbers of messages and of fields that are the same, and the first difference or None."""
+def compared(schema, roots, ours, theirs):
+    """The numbers of messages and of fields that are the same, and the first difference or None. The messages are texts, and their
+    roots these structs in turn."""
     compare = Compared(schema)
-    ours, theirs = list(values(ours)), list(values(theirs))
     if len(ours) != len(theirs):
         return 0, 0, f'{len(ours)} messages instead of {len(theirs)}'
     for i, (one, other) in enumerate(zip(ours, theirs)):
         try:
-            compare.struct(schema.find(root), parsed(one), parsed(other), f'message {i}')
+            compare.struct(schema.find(roots[i % len(roots)]), parsed(one), parsed(other), f'message {i}')
         except Difference as found:
             return i, compare.fields, ' '.join(map(str, found.args))
     return len(ours), compare.fields, None

@@ -24,18 +24,23 @@ fn print_bytes(rt: &impl Print, bytes: &[u8]) -> anyhow::Result<()> {{
 MAIN = '''
 fn main(rt: HostRuntime) -> anyhow::Result<()> {{
     let mut input = ReaderInput::new(rt.reader());
-    for _ in 0..1_000_000 {{
+    for i in 0..1_000_000_u32 {{
         let Some(segments) = read(rt.alloc(), &mut input, 8_388_608)? else {{
             return Ok(());
         }};
         let arena = ReaderArenaImpl::new(segments, ReaderOptions::default());
         let mut lim = ReadLimiter::new(None);
-        let root = {module}::Reader::root(&arena, &mut lim)?;
-        print_{module}(&rt, root, &mut lim, 64)?;
+        match i % {count} {{
+{arms}        }}
         println!(&rt; "")?;
     }}
     Ok(())
 }}
+'''
+ARM = '''            {which} => {{
+                let root = {module}::Reader::root(&arena, &mut lim)?;
+                print_{module}(&rt, root, &mut lim, 64)?;
+            }}
 '''
 
 
@@ -126,10 +131,15 @@ class Printer:
                 f'    let _ = (&r, &lim);\n{"".join(body)}    print!(rt; ")")?;\n    Ok(())\n}}\n')
 
 
-def program(schema, crate, root):
-    """The text of the program for messages whose root is the struct `root`."""
+def arms(arm, roots, **names):
+    """The arms of a match: what a program does with a message whose root is each of these structs in turn."""
+    return ''.join(arm.format(which=i if i + 1 < len(roots) else '_', module=root['module'], **names) for i, root in enumerate(roots))
+
+
+def program(schema, crate, roots):
+    """The text of the program for messages whose roots are these structs in turn."""
     printer = Printer(schema)
     structs = [node for node in schema.written if 'struct' in node]
     functions = ''.join(printer.function(node) for node in structs)
     modules = sorted({node['module'] for node in schema.written if node['module'] + '::' in functions} | {node['which'] for node in structs if 'which' in node})
-    return HEAD.format(crate=crate, modules=', '.join(modules)) + functions + MAIN.format(module=schema.find(root)['module'])
+    return HEAD.format(crate=crate, modules=', '.join(modules)) + functions + MAIN.format(count=len(roots), arms=arms(ARM, [schema.find(it) for it in roots]))

@@ -1,24 +1,34 @@
 #!/usr/bin/env python3
 """Tests `capnpc-rattle`, and what it generates.
 
-    run.py [--schemas N] [--structs S] [--messages M]
+    run.py [--schemas N] [--structs S] [--messages M] [--jobs J] [--unproved] [PART..]
 
-- For `schema.capnp` and `addressbook.capnp` it writes the crates `schema_reading`, `addressbook_reading` and
-  `addressbook_building`, byte for byte. It reads its own input by the first of them.
-- The readers and the builders of `fields.capnp`, and of N random schemas (by default 2) of S structs (by default 8), are proved
-  at the first check, without a proof.
-- A program over these readers prints M random messages of each (by default 200), made by `capnp encode`, as `capnp decode`
-  prints them. Another copies them, by readers and builders: `capnp decode` prints the copies as it prints the messages, and C++
-  makes the same canonical words of both.
-- The readers of an old version of a random schema, without the last fields of its structs, and those of the new one read
-  messages of each other.
-- Planted bugs in the readers and the builders of `fields.capnp`, one for each kind of field, are refused by a clause of that
-  field.
+The parts, by default all of them:
+
+- `ours`: for `schema.capnp` and `addressbook.capnp` the generator writes the crates `schema_reading`, `addressbook_reading` and
+  `addressbook_building`, byte for byte.
+- `fields`: the readers and the builders of `fields.capnp` are proved at the first check, without a proof. A program over the
+  readers prints M random messages (by default 200), made by `capnp encode`, as `capnp decode` prints them. Another copies them,
+  by readers and builders: `capnp decode` prints the copies as it prints the messages, and C++ makes the same canonical words of
+  both.
+- `bugs`: planted bugs in the readers and the builders of `fields.capnp`, one of each kind for each kind of field, are refused by
+  a clause of that field's call.
+- `random`: like `fields`, for N random schemas (by default 2) of S structs (by default 8). Each struct in turn is the root of a
+  message.
+- `versions`: the readers of an old version of a random schema, without the last fields of its structs, and those of the new one
+  print messages of each other.
+
+With `--unproved` it only runs the programs, and with `--messages 0` it only proves.
+
+For each crate it prints how many functions were proved, and in how many processor seconds; and what a call costs, by its name and
+the kind of its field: the processor seconds between the end of the proof before it and the end of its own. So this is without
+loading the libraries. It is measured with one job (`--jobs`, by default 1).
 
 The gate must have built the libraries of the crates below. If the generator isn't built from its current sources, its first run
 proves and builds it. The last line is `N passed, M failed`."""
 import argparse
 import filecmp
+import os
 import pathlib
 import re
 import resource
@@ -30,7 +40,7 @@ import tempfile
 import copier
 import messages
 import printer
-from schema import Schema, described, kind
+from schema import NO_DISCRIMINANT, Schema, described, kind, values
 
 TOP = pathlib.Path(__file__).resolve().parents[2]
 sys.path.insert(0, str(TOP / 'tools'))
@@ -40,57 +50,69 @@ from libraries import Crates
 READERS = 'capnp_format capnp_words capnp_arena_traits capnp_objects capnp_readers typed_reading'
 PROGRAM = 'capnp_format capnp_words capnp_arena_traits capnp_arena capnp_framing capnp_objects capnp_readers typed_reading'
 BUILT_ON = 'capnp_making capnp_contents capnp_copies capnp_builders typed_building'
-# The planted bugs: what is wrong, the kind of field, a part of its call, and what takes the place of that.
+PARTS = 'ours', 'fields', 'bugs', 'random', 'versions'
+# A line of `rattle check --progress`.
+CHECKED = re.compile(r'checked (\S+), \d+ of \d+$')
+# What some kinds of fields are called where costs are printed.
+GROUPED = {kind: 'signed number' for kind in ('int8', 'int16', 'int32', 'int64')}
+GROUPED |= {kind: 'number' for kind in ('uint8', 'uint16', 'uint32', 'uint64', 'float32', 'float64')}
+# Two arms of a match, which name numbers.
+READER_ARMS = r'(\d+) => Ok\((\w+::\w+)\)(,\s+)(\d+) => Ok\((\w+::\w+)\)'
+# The planted bugs: what is wrong, the kind of field, what the names of its calls begin with, a part of the call, and what takes the
+# place of that.
 READER_BUGS = (
-    ('offset', 'uint32', r'value::get_number\(&self\.reader, (\d+)\)', lambda n: f'value::get_number(&self.reader, {int(n) + 1})'),
-    ('width', 'uint64', r'value::get_number\(&self\.reader, (\d+)\)', lambda n: f'u64::from(value::get_number::<A, u32>(&self.reader, {2 * int(n)}))'),
-    ('sign', 'int8', r'value::get_number\(&self\.reader, (\d+)\)', lambda n: f'value::get_number::<A, u8>(&self.reader, {n}).min(127).cast_signed()'),
-    ('default', 'uint8', r'value::get_number_or::<A, u8>\(&self\.reader, (\d+), \d+\)', lambda n: f'value::get_number(&self.reader, {n})'),
-    ('mask', 'int16', r'value::get_number_or::<A, i16>\(&self\.reader, (\d+), -300\)', lambda n: f'value::get_number_or::<A, i16>(&self.reader, {n}, 300)'),
-    ('sense', 'bool', r'value::get_bool\(&self\.reader, (\d+)\)', lambda n: f'!value::get_bool(&self.reader, {n})'),
-    ('default', 'text', r'value::get_text_or\(&self\.reader, (\d+), default, lim\)', lambda n: f'value::get_text_or(&self.reader, {n}, b"", lim)'),
-    ('type', 'data', r'value::get_data\(&self\.reader, (\d+), lim\)', lambda n: f'value::get_text(&self.reader, {n}, lim)'),
-    ('index', 'struct', r'value::get_struct\(&self\.reader, (\d+), lim\)', lambda n: f'value::get_struct(&self.reader, {int(n) + 1}, lim)'),
-    ('default', 'struct', r'value::get_struct_or\(&self\.reader, (\d+), default, lim\)', lambda n: f'value::get_struct(&self.reader, {n}, lim)'),
-    ('default', 'list', r'list::get_numbers_or\(&self\.reader, (\d+), default, lim\)', lambda n: f'list::get_numbers(&self.reader, {n}, lim)'),
-    ('element', 'list', r'list::get_texts\(&self\.reader, (\d+), lim\)', lambda n: f'list::get_texts(&self.reader, {int(n) + 1}, lim)'),
-    ('offset', 'enum', r'of_number\(value::get_number\(&self\.reader, (\d+)\)\)', lambda n: f'of_number(value::get_number(&self.reader, {int(n) + 1}))'),
-    ('refusal', 'text', r'value::get_text\(&self\.reader, \d+, lim\)', lambda n: 'Err(ErrorKind::ReadLimitExceeded)'),
-    ('refusal', 'list', r'list::get_numbers\(&self\.reader, \d+, lim\)', lambda n: 'Err(ErrorKind::ReadLimitExceeded)'),
+    ('offset', 'uint32', 'get', r'value::get_number\(&self\.reader, (\d+)\)', lambda n: f'value::get_number(&self.reader, {int(n) + 1})'),
+    ('width', 'uint64', 'get', r'value::get_number\(&self\.reader, (\d+)\)', lambda n: f'u64::from(value::get_number::<A, u32>(&self.reader, {2 * int(n)}))'),
+    ('sign', 'int8', 'get', r'value::get_number\(&self\.reader, (\d+)\)', lambda n: f'value::get_number::<A, u8>(&self.reader, {n}).min(127).cast_signed()'),
+    ('default', 'uint8', 'get', r'value::get_number_or::<A, u8>\(&self\.reader, (\d+), \d+\)', lambda n: f'value::get_number(&self.reader, {n})'),
+    ('mask', 'int16', 'get', r'value::get_number_or::<A, i16>\(&self\.reader, (\d+), -300\)', lambda n: f'value::get_number_or::<A, i16>(&self.reader, {n}, 300)'),
+    ('sense', 'bool', 'get', r'value::get_bool\(&self\.reader, (\d+)\)', lambda n: f'!value::get_bool(&self.reader, {n})'),
+    ('default', 'text', 'get', r'value::get_text_or\(&self\.reader, (\d+), default, lim\)', lambda n: f'value::get_text_or(&self.reader, {n}, b"", lim)'),
+    ('type', 'data', 'get', r'value::get_data\(&self\.reader, (\d+), lim\)', lambda n: f'value::get_text(&self.reader, {n}, lim)'),
+    ('index', 'struct', 'get', r'value::get_struct\(&self\.reader, (\d+), lim\)', lambda n: f'value::get_struct(&self.reader, {int(n) + 1}, lim)'),
+    ('default', 'struct', 'get', r'value::get_struct_or\(&self\.reader, (\d+), default, lim\)', lambda n: f'value::get_struct(&self.reader, {n}, lim)'),
+    ('default', 'list', 'get', r'list::get_numbers_or\(&self\.reader, (\d+), default, lim\)', lambda n: f'list::get_numbers(&self.reader, {n}, lim)'),
+    ('index', 'list', 'get', r'list::get_texts\(&self\.reader, (\d+), lim\)', lambda n: f'list::get_texts(&self.reader, {int(n) + 1}, lim)'),
+    ('offset', 'enum', 'get', r'of_number\(value::get_number\(&self\.reader, (\d+)\)\)', lambda n: f'of_number(value::get_number(&self.reader, {int(n) + 1}))'),
+    ('refusal', 'text', 'get', r'value::get_text\(&self\.reader, \d+, lim\)', lambda n: 'Err(ErrorKind::ReadLimitExceeded)'),
+    ('refusal', 'list', 'get', r'list::get_numbers\(&self\.reader, \d+, lim\)', lambda n: 'Err(ErrorKind::ReadLimitExceeded)'),
+    ('offset', 'union', '', r'of_number\(value::get_number\(&self\.reader, (\d+)\)\)', lambda n: f'of_number(value::get_number(&self.reader, {int(n) + 1}))'),
+    ('arm', 'variants', '', READER_ARMS, lambda first, one, between, second, other: f'{first} => Ok({other}){between}{second} => Ok({one})'),
+    ('arm', 'members', '', READER_ARMS, lambda first, one, between, second, other: f'{first} => Ok({other}){between}{second} => Ok({one})'),
 )
 BUILDER_BUGS = (
-    ('offset', 'uint32', r'value::set_number\(arena, self\.place, (\d+), value\)', lambda n: f'value::set_number(arena, self.place, {int(n) - 1}, value)'),
-    ('value', 'uint64', r'value::set_number\(arena, self\.place, (\d+), value\)', lambda n: f'value::set_number(arena, self.place, {n}, value & 0xffff)'),
-    ('default', 'uint8', r'value::set_number_or\(arena, self\.place, (\d+), value, \d+\)', lambda n: f'value::set_number(arena, self.place, {n}, value)'),
-    ('mask', 'uint16', r'value::set_number_or\(arena, self\.place, (\d+), value, 8080\)', lambda n: f'value::set_number_or(arena, self.place, {n}, value, 8081)'),
-    ('mask', 'int16', r'value::set_number_or\(arena, self\.place, (\d+), value, -300\)', lambda n: f'value::set_number_or(arena, self.place, {n}, value, 300)'),
-    ('sign', 'int8', r'value::set_number\(arena, self\.place, (\d+), value\)', lambda n: f'value::set_number(arena, self.place, {n}, value.saturating_abs())'),
-    ('sense', 'bool', r'value::set_bool\(arena, self\.place, (\d+), value\)', lambda n: f'value::set_bool(arena, self.place, {n}, !value)'),
-    ('bytes', 'text', r'value::set_text\(arena, self\.place, (\d+), text\)', lambda n: f'value::set_text(arena, self.place, {n}, b"")'),
-    ('type', 'data', r'value::set_data\(arena, self\.place, (\d+), contents\)', lambda n: f'value::set_data(arena, self.place, {int(n) - 1}, contents)'),
-    ('index', 'struct', r'value::init_struct\(arena, self\.place, (\d+), ', lambda n: f'value::init_struct(arena, self.place, {int(n) - 1}, '),
-    ('element', 'list', r'ElementSize::TwoBytes', lambda n: 'ElementSize::FourBytes'),
-    ('count', 'list', r', count\)', lambda n: ', 0 * count)'),
-    ('number', 'enum', r'::number\(value\)', lambda n: '::number(value).min(1)'),
-    ('refusal', 'text', r'value::set_text\(arena, self\.place, \d+, text\)', lambda n: 'Err(ErrorKind::AllocationFailed)'),
-    ('tag', 'void', r'number: (\d+),', lambda n: f'number: {int(n) + 1},'),
-    ('tag', 'float64', r'value::set_number_member\(arena, self\.place, tag, (\d+), value\)', lambda n: f'value::set_number(arena, self.place, {n}, value)'),
-    ('capability', 'interface', r'value::set_capability\(arena, self\.place, (\d+), capability\)', lambda n: f'value::set_capability(arena, self.place, {n}, 0)'),
-    ('part', 'group', r'Slot::(?:Bit|Byte|FourBytes)\((\d+)\)', lambda n: f'Slot::Bit({n})'),
-    ('place', 'group', r'Builder \{ place: self\.place \}', lambda n: 'Builder { place: StructPlace { segment: 0, ..self.place } }'),
-    ('copy', 'list', r'copying::set_list_from\(arena, self\.place, (\d+)', lambda n: f'copying::set_list_from(arena, self.place, {int(n) - 1}'),
-    ('copy', 'struct', r'copying::set_struct_from\(arena, self\.place, (\d+)', lambda n: f'copying::set_struct_from(arena, self.place, {int(n) - 1}'),
-    ('copy', 'anyPointer', r'copying::set_pointer_from\(arena, self\.place, (\d+)', lambda n: f'copying::set_pointer_from(arena, self.place, {int(n) - 1}'),
-)
-BUILDER_READ_BUGS = (
-    ('offset read', 'uint32', r'reading::get_number\(arena, self\.place, (\d+)\)', lambda n: f'reading::get_number(arena, self.place, {int(n) - 1})'),
-    ('default read', 'int16', r'reading::get_number_or::<A, i16>\(arena, self\.place, (\d+), -300\)', lambda n: f'reading::get_number(arena, self.place, {n})'),
-    ('sense read', 'bool', r'reading::get_bool\(arena, self\.place, (\d+)\)', lambda n: f'!reading::get_bool(arena, self.place, {n})'),
-    ('offset read', 'enum', r'reading::get_number\(arena, self\.place, (\d+)\)', lambda n: f'reading::get_number(arena, self.place, {int(n) - 1})'),
-    ('index read', 'text', r'reading::has\(arena, self\.place, (\d+)\)', lambda n: f'reading::has(arena, self.place, {int(n) + 1})'),
-    ('index opened', 'struct', r'opening::get_struct\(arena, self\.place, (\d+)', lambda n: f'opening::get_struct(arena, self.place, {int(n) - 1}'),
-    ('index opened', 'list', r'opening::get_struct_list\(arena, self\.place, (\d+)', lambda n: f'opening::get_struct_list(arena, self.place, {int(n) - 1}'),
-    ('size read', 'list', r'(opening::get_list\(arena, self\.place, \d+, ElementSize::)TwoBytes', lambda n: f'{n}FourBytes'),
+    ('offset', 'uint32', 'set init', r'value::set_number\(arena, self\.place, (\d+), value\)', lambda n: f'value::set_number(arena, self.place, {int(n) - 1}, value)'),
+    ('value', 'uint64', 'set init', r'value::set_number\(arena, self\.place, (\d+), value\)', lambda n: f'value::set_number(arena, self.place, {n}, value & 0xffff)'),
+    ('default', 'uint8', 'set init', r'value::set_number_or\(arena, self\.place, (\d+), value, \d+\)', lambda n: f'value::set_number(arena, self.place, {n}, value)'),
+    ('mask', 'uint16', 'set init', r'value::set_number_or\(arena, self\.place, (\d+), value, 8080\)', lambda n: f'value::set_number_or(arena, self.place, {n}, value, 8081)'),
+    ('mask', 'int16', 'set init', r'value::set_number_or\(arena, self\.place, (\d+), value, -300\)', lambda n: f'value::set_number_or(arena, self.place, {n}, value, 300)'),
+    ('sign', 'int8', 'set init', r'value::set_number\(arena, self\.place, (\d+), value\)', lambda n: f'value::set_number(arena, self.place, {n}, value.saturating_abs())'),
+    ('sense', 'bool', 'set init', r'value::set_bool\(arena, self\.place, (\d+), value\)', lambda n: f'value::set_bool(arena, self.place, {n}, !value)'),
+    ('bytes', 'text', 'set init', r'value::set_text\(arena, self\.place, (\d+), text\)', lambda n: f'value::set_text(arena, self.place, {n}, b"")'),
+    ('type', 'data', 'set init', r'value::set_data\(arena, self\.place, (\d+), contents\)', lambda n: f'value::set_data(arena, self.place, {int(n) - 1}, contents)'),
+    ('index', 'struct', 'set init', r'value::init_struct\(arena, self\.place, (\d+), ', lambda n: f'value::init_struct(arena, self.place, {int(n) - 1}, '),
+    ('element', 'list', 'set init', r'ElementSize::TwoBytes', lambda n: 'ElementSize::FourBytes'),
+    ('count', 'list', 'set init', r', count\)', lambda n: ', 0 * count)'),
+    ('number', 'enum', 'set init', r'::number\(value\)', lambda n: '::number(value).min(1)'),
+    ('refusal', 'text', 'set init', r'value::set_text\(arena, self\.place, \d+, text\)', lambda n: 'Err(ErrorKind::AllocationFailed)'),
+    ('tag', 'void', 'set init', r'number: (\d+),', lambda n: f'number: {int(n) + 1},'),
+    ('tag', 'float64', 'set init', r'value::set_number_member\(arena, self\.place, tag, (\d+), value\)', lambda n: f'value::set_number(arena, self.place, {n}, value)'),
+    ('capability', 'interface', 'set init', r'value::set_capability\(arena, self\.place, (\d+), capability\)', lambda n: f'value::set_capability(arena, self.place, {n}, 0)'),
+    ('part', 'group', 'set init', r'Slot::(?:Bit|Byte|FourBytes)\((\d+)\)', lambda n: f'Slot::Bit({n})'),
+    ('place', 'group', 'set init', r'Builder \{ place: self\.place \}', lambda n: 'Builder { place: StructPlace { segment: 0, ..self.place } }'),
+    ('copy', 'list', 'set init', r'copying::set_list_from\(arena, self\.place, (\d+)', lambda n: f'copying::set_list_from(arena, self.place, {int(n) - 1}'),
+    ('copy', 'struct', 'set init', r'copying::set_struct_from\(arena, self\.place, (\d+)', lambda n: f'copying::set_struct_from(arena, self.place, {int(n) - 1}'),
+    ('copy', 'anyPointer', 'set init', r'copying::set_pointer_from\(arena, self\.place, (\d+)', lambda n: f'copying::set_pointer_from(arena, self.place, {int(n) - 1}'),
+    ('offset read', 'uint32', 'get has', r'reading::get_number\(arena, self\.place, (\d+)\)', lambda n: f'reading::get_number(arena, self.place, {int(n) - 1})'),
+    ('default read', 'int16', 'get has', r'reading::get_number_or::<A, i16>\(arena, self\.place, (\d+), -300\)', lambda n: f'reading::get_number(arena, self.place, {n})'),
+    ('sense read', 'bool', 'get has', r'reading::get_bool\(arena, self\.place, (\d+)\)', lambda n: f'!reading::get_bool(arena, self.place, {n})'),
+    ('offset read', 'enum', 'get has', r'reading::get_number\(arena, self\.place, (\d+)\)', lambda n: f'reading::get_number(arena, self.place, {int(n) - 1})'),
+    ('index read', 'text', 'get has', r'reading::has\(arena, self\.place, (\d+)\)', lambda n: f'reading::has(arena, self.place, {int(n) + 1})'),
+    ('index opened', 'struct', 'get has', r'opening::get_struct\(arena, self\.place, (\d+)', lambda n: f'opening::get_struct(arena, self.place, {int(n) - 1}'),
+    ('index opened', 'list', 'get has', r'opening::get_struct_list\(arena, self\.place, (\d+)', lambda n: f'opening::get_struct_list(arena, self.place, {int(n) - 1}'),
+    ('size read', 'list', 'get has', r'(opening::get_list\(arena, self\.place, \d+, ElementSize::)TwoBytes', lambda n: f'{n}FourBytes'),
+    ('offset read', 'union', '', r'reading::get_number\(arena, self\.place, (\d+)\)', lambda n: f'reading::get_number(arena, self.place, {int(n) - 1})'),
+    ('arm', 'variants', '', r'(\w+::\w+) => (\d+)(,\s+)(\w+::\w+) => (\d+)', lambda one, first, between, other, second: f'{one} => {second}{between}{other} => {first}'),
 )
 
 
@@ -131,24 +153,48 @@ def add(folder, line):
         listed.write(line + '\n')
 
 
+def processor_seconds(process):
+    """The processor seconds that a running process has used."""
+    fields = pathlib.Path(f'/proc/{process}/stat').read_text(encoding='utf-8').rpartition(')')[2].split()
+    return (int(fields[11]) + int(fields[12])) / os.sysconf('SC_CLK_TCK')
+
+
 def run_rattle(folder, name, command, *words):
-    """Runs a command of the checker for a crate, and returns whether it is proved, and what the checker says."""
+    """Runs a command of the checker for a crate. Returns whether it succeeds, what it says, and for each function whose proof it
+    ends with how many processor seconds it had used then."""
     crates = Crates(pathlib.Path(folder))
-    command = [f'{crates.kit}/bin/rattle', command, *crates.words(name), *words]
-    run = subprocess.run(command, cwd=crates.top / 'crates' / name, stdin=subprocess.DEVNULL, stdout=subprocess.PIPE, stderr=subprocess.STDOUT, encoding='utf-8', errors='replace')
-    return run.returncode == 0, run.stdout
+    given = list(crates.words(name))
+    if '--crate-checked' in words:
+        # what was checked already isn't checked over the built logic
+        at = given.index('--logic-built')
+        del given[at:at + 2]
+    command = [f'{crates.kit}/bin/rattle', command, *given, *words]
+    said, ended = [], []
+    with subprocess.Popen(command, cwd=crates.top / 'crates' / name, stdin=subprocess.DEVNULL, stdout=subprocess.PIPE, stderr=subprocess.STDOUT, encoding='utf-8', errors='replace') as run:
+        for line in run.stdout:
+            if checked := CHECKED.match(line):
+                ended.append((checked[1], processor_seconds(run.pid)))
+            else:
+                said.append(line)
+    return run.returncode == 0, ''.join(said), ended
+
+
+def prove(folder, name, jobs):
+    """Proves a crate in one check, and keeps that in `out/whole`."""
+    (pathlib.Path(folder) / 'crates' / name / 'out').mkdir()
+    return run_rattle(folder, name, 'check', '--progress', '--jobs', str(jobs), '-o', 'out/whole')
 
 
 def build(folder, name):
-    """Proves a crate, and leaves its library."""
+    """Builds the library of a crate that is proved."""
     library = Crates(pathlib.Path(folder)).rlib(name)
-    library.parent.mkdir(parents=True)
-    return run_rattle(folder, name, 'build', '-o', str(library))
+    library.parent.mkdir()
+    return run_rattle(folder, name, 'build', '--crate-checked', 'out/whole', '-o', str(library))
 
 
-def check(folder, name, function):
-    """Proves a function."""
-    return run_rattle(folder, name, 'check', '--incremental', 'out/checked', '--only', function)
+def check(folder, name, jobs, functions):
+    """Checks some functions."""
+    return run_rattle(folder, name, 'check', '--jobs', str(jobs), *(word for function in functions for word in ('--only', function)))
 
 
 def same_as_ours(counts, path):
@@ -169,133 +215,225 @@ def prover_seconds():
     return used.ru_utime + used.ru_stime
 
 
-class Generated:
-    """The generated readers and builders of a schema, in a repository of their own, and programs over them."""
+class Costs:
+    """What the proofs of calls cost: lists of seconds, by the first word of the call's name, and by that with the kind of its
+    field."""
 
-    def __init__(self, folder, text, stem):
+    def __init__(self, schema, ended):
+        self.of = {}
+        kinds = {node['module']: kinds_of_calls(node) for node in schema.written}
+        for (_, before), (function, seconds) in zip(ended, ended[1:]):
+            _, module, *_, call = function.split('::')
+            if what := kinds.get(module, {}).get(call):
+                name = call.partition('_')[0]
+                for of in (name, f'{name} {what}'):
+                    self.of.setdefault(of, []).append(seconds - before)
+
+    def __str__(self):
+        return '; '.join(f'{call} {sum(of) / len(of):.2f} (of {len(of)}, at most {max(of):.2f})' for call, of in sorted(self.of.items()))
+
+
+def kinds_of_calls(node):
+    """The kind of the field of each call of a struct."""
+    found = {'which': 'union'}
+    for field in node.get('fields', ()):
+        what = GROUPED.get(kind(field['slot']['type']), kind(field['slot']['type'])) if 'slot' in field else 'group'
+        what += ' member' if field['discriminantValue'] != NO_DISCRIMINANT else ''
+        found.update({f'{prefix}_{field["getter"]}': what for prefix in ('get', 'has')})
+        found.update({f'{prefix}_{field["setter"]}': what for prefix in ('get', 'has', 'set', 'init')})
+    return found
+
+
+class Generated:
+    """The generated readers and builders of a schema, in a repository of their own, and programs over them. The roots of messages
+    are structs of the schema in turn."""
+
+    def __init__(self, folder, text, stem, roots=None):
         folder.mkdir(exist_ok=True)
         path = folder / f'{stem}.capnp'
         path.write_text(text, encoding='utf-8')
         self.folder, self.file, self.stem = folder, path.name, stem
         self.crates = tree(folder)
         self.schema = Schema(str(path))
+        self.roots = roots or self.schema.structs()
         generate(str(path), str(self.crates))
         self.readers, self.builders = f'{stem}_reading', f'{stem}_building'
         add(folder, f'{self.readers}: {READERS}')
         add(folder, f'{self.builders}: {READERS} {BUILT_ON} {self.readers}')
-        self.add_program(f'{stem}_printer', printer.program(self.schema, self.readers, 'Root'))
-        self.add_program(f'{stem}_copier', copier.program(self.schema, self.readers, self.builders, 'Root'))
+        self.add_program(f'{stem}_printer', printer.program(self.schema, self.readers, self.roots))
+        self.add_program(f'{stem}_copier', copier.program(self.schema, self.readers, self.builders, self.roots))
 
     def add_program(self, name, text):
         (self.crates / name / 'src').mkdir(parents=True)
         (self.crates / name / 'src/main.rt').write_text(text, encoding='utf-8')
         add(self.folder, f'{name}: {PROGRAM} {BUILT_ON} {self.readers} {self.builders} anyhow')
 
-    def prove(self, name, counts):
-        """Proves a crate, leaves its library, and prints what a function costs."""
+    def prove(self, name, jobs, counts):
+        """Proves a crate, which has no proof, and prints what a call costs. Builds the library of the readers."""
         before = prover_seconds()
-        proved, said = build(self.folder, name)
+        proved, said, ended = prove(self.folder, name, jobs)
         functions, seconds = len(re.findall(r'^(?:fn|struct) .*: proved', said, re.MULTILINE)), prover_seconds() - before
         cost = f'{functions} functions proved in {seconds:.0f} processor seconds, {seconds / max(functions, 1):.2f} each'
-        counts.say(proved, f'{name}: {cost if proved else said}')
+        counts.say(proved and not (self.crates / name / 'proofs').exists(), f'{name}: {cost if proved else said}')
+        if jobs == 1 and ended:
+            print(f'  {ended[0][1]:.1f} seconds until the first is proved; {Costs(self.schema, ended)}', flush=True)
+        if proved and name == self.readers:
+            built, said, _ = build(self.folder, name)
+            if not built:
+                counts.say(False, f'{name}: {said}')
 
     def run(self, program, frames):
-        """The lines that a program prints for these messages. It gets 50 at a time."""
+        """The lines that a program prints for these messages. It gets some 150 at a time: `rt try` takes seconds for each run, which
+        may print 1 MiB."""
+        some = len(self.roots) * max(150 // len(self.roots), 1)
         with tempfile.TemporaryDirectory() as cases:
-            for i in range(0, len(frames), 50):
-                (pathlib.Path(cases) / f'{i:08}').write_bytes(b''.join(frames[i:i + 50]))
-            run = subprocess.run(['rt', 'try', '--cases', cases], cwd=self.crates / f'{self.stem}_{program}', stdout=subprocess.PIPE, stderr=subprocess.PIPE)
-        return [line for line in run.stdout.decode(errors='replace').splitlines() if not line.startswith('== ')]
+            for i in range(0, len(frames), some):
+                (pathlib.Path(cases) / f'{i:08}').write_bytes(b''.join(frames[i:i + some]))
+            run = subprocess.run(['rt', 'try', '--cases', cases], cwd=self.crates / f'{self.stem}_{program}', stdin=subprocess.DEVNULL, stdout=subprocess.PIPE, stderr=subprocess.PIPE)
+        lines = [line for line in run.stdout.decode(errors='replace').splitlines() if not line.startswith('== ')]
+        if len(lines) != len(frames):
+            print(run.stderr.decode(errors='replace')[-3000:])
+        return lines
 
     def decoded(self, frames):
-        """What `capnp decode` prints for these messages."""
-        return subprocess.run(['capnp', 'decode', self.schema.path, 'Root'], input=b''.join(frames), stdout=subprocess.PIPE, check=True).stdout
+        """What `capnp decode` prints for each of these messages."""
+        texts = [None] * len(frames)
+        for i, root in enumerate(self.roots):
+            run = subprocess.run(['capnp', 'decode', self.schema.path, root], input=b''.join(frames[i::len(self.roots)]), stdout=subprocess.PIPE, check=True)
+            texts[i::len(self.roots)] = values(run.stdout.decode())
+        return texts
 
-    def canonical(self, frame):
-        """The canonical words of a message, by C++."""
-        return subprocess.run(['capnp', 'convert', 'binary:canonical', self.schema.path, 'Root'], input=frame, stdout=subprocess.PIPE, check=True).stdout
+    def canonical(self, frames):
+        """The canonical words of each message, by C++."""
+        def words(i):
+            root = self.roots[i % len(self.roots)]
+            return subprocess.run(['capnp', 'convert', 'binary:canonical', self.schema.path, root], input=frames[i], stdout=subprocess.PIPE, check=True).stdout
+
+        return messages.every(words, range(len(frames)))
 
     def read(self, frames, whose, counts):
         """Compares what the readers' program prints with what `capnp decode` prints. `whose` says who wrote the messages."""
-        ours = '\n'.join(self.run('printer', frames))
-        same, fields, difference = messages.compared(self.schema, 'Root', ours, self.decoded(frames).decode())
+        ours = list(values('\n'.join(self.run('printer', frames))))
+        same, fields, difference = messages.compared(self.schema, self.roots, ours, self.decoded(frames))
         counts.say(frames and not difference, f'{self.file}: {same} messages{whose} with {fields} fields' + (f', then {difference}' if difference else ''))
 
     def copy(self, frames, counts):
         """Compares messages with their copies, by readers and builders."""
         copies = [bytes.fromhex(line) for line in self.run('copier', frames)]
-        counts.say(frames and self.decoded(copies) == self.decoded(frames), f'{self.file}: {len(copies)} copies are decoded as the messages')
-        same = sum(self.canonical(copy) == self.canonical(frame) for copy, frame in zip(copies, frames))
-        counts.say(same == len(frames), f'{self.file}: {same} copies have the canonical words of the messages')
+        whole = frames and len(copies) == len(frames)
+        counts.say(whole and self.decoded(copies) == self.decoded(frames), f'{self.file}: {len(copies)} copies are decoded as the messages')
+        same = sum(one == other for one, other in zip(self.canonical(copies), self.canonical(frames)))
+        counts.say(whole and same == len(frames), f'{self.file}: {same} copies have the canonical words of the messages')
 
 
 def calls(made, crate, of, prefixes, what):
-    """The calls of the fields of a kind: the path of each, its file and the text of that, and where the call is in that."""
+    """The calls of the fields of a kind: the path of each, its file and the text of that, and where the call is in that. The kind
+    may also be `union`, for the call that says which member is set; `variants`, for the numbers of an enum; and `members`, for
+    those of a union's members."""
     for node in made.schema.written:
-        for field in node.get('fields', ()):
-            if what == (kind(field['slot']['type']) if 'slot' in field else 'group'):
-                path = made.crates / crate / f'src/{node["module"]}.rt'
-                text = path.read_text(encoding='utf-8')
-                for name in (f'{prefix}_{field["getter" if of == "Reader" else "setter"]}' for prefix in prefixes):
-                    if call := re.search(rf'pub fn {name}[(<]', text):
-                        yield f'{node["module"]}::{of}::{name}', path, text, call.start(), text.index('\n    }\n', call.start())
+        module, fields = node['module'], [it for it in node.get('fields', ()) if what == (kind(it['slot']['type']) if 'slot' in it else 'group')]
+        names = [f'{of}::{prefix}_{field["getter" if of == "Reader" else "setter"]}' for field in fields for prefix in prefixes]
+        if what == 'union' and 'which' in node:
+            names = [f'{of}::which']
+        elif what == 'variants' and 'enum' in node:
+            names = ['of_number' if of == 'Reader' else 'number']
+        elif what == 'members' and 'which' in node:
+            module, names = node['which'], ['of_number']
+        path = made.crates / crate / f'src/{module}.rt'
+        text = path.read_text(encoding='utf-8') if names else ''
+        for name in names:
+            if call := re.search(rf'pub fn {name.split("::")[-1]}[(<]', text):
+                yield f'{module}::{name}', path, call.start(), text.index('\n    }\n' if '::' in name else '\n}\n', call.start())
 
 
-def plant(made, crate, of, prefixes, bugs, counts):
-    """Plants each bug into the first call that it fits."""
-    for wrong, what, pattern, change in bugs:
-        for function, path, text, start, end in calls(made, crate, of, prefixes, what):
-            if call := re.compile(pattern).search(text, start, end):
-                new = change(*call.groups()) if call.groups() else change(None)
-                path.write_text(text[:call.start()] + new + text[call.end():], encoding='utf-8')
-                proved, said = check(made.folder, crate, function)
-                path.write_text(text, encoding='utf-8')
-                counts.say(not proved and 'returns' in said and not re.search(r'\berror\b', said), f'{crate}: a bug in the {wrong} of a field of kind {what}: refused')
+def goals(crate, function, said):
+    """The goals on what a function ensures for which a check found no proof."""
+    found = re.search(rf'^fn {re.escape(f"{crate}::{function}")}: no proof: .* did not prove (.*)', said, re.MULTILINE)
+    return [goal for goal in re.findall('`([^`]*)`', found[1]) if goal.startswith('returns')] if found else []
+
+
+def plant(made, crate, of, bugs, jobs, counts):
+    """Plants each bug into the first call that it fits and that has none yet, and checks these calls: each has to be refused by one
+    of its clauses."""
+    planted, texts = {}, {}
+    for wrong, what, prefixes, pattern, change in bugs:
+        for function, path, start, end in calls(made, crate, of, prefixes.split(), what):
+            text = texts.setdefault(path, path.read_text(encoding='utf-8'))
+            if function not in planted and (call := re.compile(pattern).search(text, start, end)):
+                planted[function] = wrong, what, path, call.span(), change(*(call.groups() or [None]))
                 break
         else:
             counts.say(False, f'{crate}: no field of kind {what} for a bug in its {wrong}')
+    for path, text in texts.items():
+        # from the last one on, so that the others stay where they are
+        for (start, end), new in sorted(((span, new) for _, _, to, span, new in planted.values() if to == path), reverse=True):
+            text = text[:start] + new + text[end:]
+        path.write_text(text, encoding='utf-8')
+    _, said, _ = check(made.folder, crate, jobs, planted)
+    for function, (wrong, what, *_) in planted.items():
+        left = goals(crate, function, said)
+        counts.say(left, f'{crate}: a bug in the {wrong} of a field of kind {what}, {function}: ' + (f'refused, {", ".join(left)}' if left else 'not refused by a clause'))
+    for path, text in texts.items():
+        path.write_text(text, encoding='utf-8')
+    if re.search(r'\berror\b', said):
+        print(said)
 
 
-def trip(folder, text, stem, count, counts, seed=0):
-    """Proves what is generated for a schema, and prints and copies random messages by it. Returns the crates."""
-    made = Generated(folder, text, stem)
-    made.prove(made.readers, counts)
-    frames = messages.frames(made.schema, 'Root', count, seed)
-    made.read(frames, '', counts)
-    made.prove(made.builders, counts)
-    made.copy(frames, counts)
-    return made
+def trip(made, count, seed, jobs, counts):
+    """Prints and copies random messages of a schema, and proves what is generated for it. With 0 jobs it proves nothing."""
+    if count:
+        frames = messages.frames(made.schema, made.roots, count, seed)
+        made.read(frames, '', counts)
+        made.copy(frames, counts)
+    if jobs:
+        made.prove(made.readers, jobs, counts)
+        made.prove(made.builders, jobs, counts)
 
 
-def versions(folder, structs, count, counts):
+def versions(folder, structs, count, jobs, counts):
     """Proves the readers of an old and of a new version of a schema, and prints messages of each by the readers of the other."""
     texts = messages.RandomSchema(1000, structs, 10)
-    new, old = (Generated(folder / stem, text, stem) for stem, text in (('new', texts.text), ('old', texts.old)))
+    new, old = (Generated(folder / stem, text, stem, texts.structs) for stem, text in (('new', texts.text), ('old', texts.old)))
     for made, other in ((new, old), (old, new)):
-        made.prove(made.readers, counts)
-        made.read(messages.frames(other.schema, 'Root', count, 0), f' of {other.file}', counts)
+        if count:
+            made.read(messages.frames(other.schema, other.roots, count, 0), f' of {other.file}', counts)
+        if jobs:
+            made.prove(made.readers, jobs, counts)
+
+
+def fields(folder, parts, count, jobs, counts):
+    """The parts about `fields.capnp`."""
+    made = Generated(folder, (TOP / 'tests/typed/fields.capnp').read_text(encoding='utf-8'), 'fields', ['Root'])
+    if 'fields' in parts:
+        trip(made, count, 0, jobs, counts)
+    if 'bugs' in parts and jobs:
+        if not Crates(folder).rlib(made.readers).is_dir():
+            made.prove(made.readers, jobs, counts)
+        plant(made, made.readers, 'Reader', READER_BUGS, jobs, counts)
+        plant(made, made.builders, 'Builder', BUILDER_BUGS, jobs, counts)
 
 
 def main():
     arguments = argparse.ArgumentParser(description=__doc__, formatter_class=argparse.RawDescriptionHelpFormatter)
-    arguments.add_argument('--schemas', type=int, default=2)
-    arguments.add_argument('--structs', type=int, default=8)
-    arguments.add_argument('--messages', type=int, default=200)
+    for name, number in (('schemas', 2), ('structs', 8), ('messages', 200), ('jobs', 1)):
+        arguments.add_argument(f'--{name}', type=int, default=number)
+    arguments.add_argument('--unproved', action='store_true')
+    arguments.add_argument('parts', nargs='*', metavar='PART')
     given = arguments.parse_args()
-    counts = Counts()
-    same_as_ours(counts, described())
-    same_as_ours(counts, str(TOP / 'tests/typed/addressbook.capnp'))
-    with tempfile.TemporaryDirectory() as there:
-        folder = pathlib.Path(there)
-        made = trip(folder, (TOP / 'tests/typed/fields.capnp').read_text(encoding='utf-8'), 'fields', given.messages, counts)
-        plant(made, made.readers, 'Reader', ['get'], READER_BUGS, counts)
-        plant(made, made.builders, 'Builder', ['set', 'init'], BUILDER_BUGS, counts)
-        plant(made, made.builders, 'Builder', ['get', 'has'], BUILDER_READ_BUGS, counts)
-    for seed in range(given.schemas):
-        with tempfile.TemporaryDirectory() as there:
-            trip(pathlib.Path(there), messages.RandomSchema(seed, given.structs, 10).text, f'random{seed}', given.messages, counts, seed)
-    with tempfile.TemporaryDirectory() as there:
-        versions(pathlib.Path(there), given.structs, given.messages, counts)
+    if unknown := set(given.parts) - set(PARTS):
+        arguments.error(f'there is no part {unknown.pop()}')
+    parts, jobs, counts = given.parts or PARTS, 0 if given.unproved else given.jobs, Counts()
+    if 'ours' in parts:
+        same_as_ours(counts, described())
+        same_as_ours(counts, str(TOP / 'tests/typed/addressbook.capnp'))
+    with tempfile.TemporaryDirectory() as folder:
+        if 'fields' in parts or 'bugs' in parts:
+            fields(pathlib.Path(folder) / 'fields', parts, given.messages, jobs, counts)
+        for seed in range(given.schemas if 'random' in parts else 0):
+            text = messages.RandomSchema(seed, given.structs, 10).text
+            trip(Generated(pathlib.Path(folder) / f'random{seed}', text, f'random{seed}'), given.messages, seed, jobs, counts)
+        if 'versions' in parts:
+            versions(pathlib.Path(folder), given.structs, given.messages, jobs, counts)
     print(f'{counts.passed} passed, {counts.failed} failed')
     return 1 if counts.failed or not counts.passed else 0
 

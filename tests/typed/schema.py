@@ -172,6 +172,10 @@ class Schema:
         run = subprocess.run(['capnp', 'eval', self.path, f'{name}Default'], stdout=subprocess.PIPE, check=True)
         return parsed(run.stdout.decode())
 
+    def structs(self):
+        """The names of the structs."""
+        return [node['full'] for node in self.written if 'struct' in node and node['struct'].get('isGroup') != 'true']
+
     def find(self, full):
         """The declaration with this name."""
         return next(node for node in self.written if node['full'] == full)
