@@ -54,7 +54,7 @@ fn nothing_is_asked(rt: HostRuntime) {
 /// If words fit in no segment, the arena requests a segment of exactly this many words, and then
 /// the segment's row.
 #[test]
-fn words_elsewhere(rt: HostRuntime) {
+fn full_arena_asks_for_exact_segment(rt: HostRuntime) {
     let heap = HeapAllocator::new(rt.alloc(), 4);
     let mut arena = BuilderArenaImpl::new(rt.alloc(), NotingAllocator::new(rt.alloc(), heap));
     assert!(rt; take(&mut arena, 3) == Ok((0, 0)));

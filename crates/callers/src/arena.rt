@@ -93,7 +93,7 @@ pub fn try_append<A: BuilderArena>(arena: &mut A, id: u32, word: u64) -> Option<
 }
 
 /// Zeroes all allocated words of segment `id`.
-pub fn clear<A: BuilderArena>(arena: &mut A, id: u32)
+pub fn zero_segment<A: BuilderArena>(arena: &mut A, id: u32)
     requires { id < length (A.segments arena.old) }
     ensures words { A.segments arena.new ≡ slice_set (A.segments arena.old) id
         (replicate (length (slice_index_or (A.segments arena.old) id [])) 0) }

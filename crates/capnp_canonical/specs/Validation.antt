@@ -7,7 +7,7 @@ use Rattle.capnp_messages.specs.Extents.{HasExtent, validate}
 use Rattle.capnp_messages.specs.declared.messages.validation.MessageExtent.{MessageExtent}
 use Rattle.capnp_canonical.specs.declared.refusal.Refusal.{Refusal}
 use Rattle.capnp_canonical.specs.declared.refusal.Refusal.TheVariants.{Layout}
-use Rattle.capnp_canonical.specs.declared.extent.SoundMessage.{SoundMessage}
+use Rattle.capnp_canonical.specs.declared.validation.SoundMessage.{SoundMessage}
 
 -- The number, or 0 if there is none.
 abbrev pub or_zero : Option ℕ → ℕ

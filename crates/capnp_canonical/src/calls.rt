@@ -160,7 +160,7 @@ fn copy_small<S: ReaderSegments>(
 
 /// Like `copy_on_heap`, but if the message is canonical already, writes its own segment instead of
 /// a copy.
-fn copy_large<S: ReaderSegments>(
+fn copy_unless_canonical<S: ReaderSegments>(
     alloc: Global,
     form: Form,
     source: &ReaderArenaImpl<S>,
@@ -204,7 +204,7 @@ pub fn copy<S: ReaderSegments + Drop>(
     if source.size_in_words() < SMALL / 8 {
         copy_small(alloc, form, &source, limits.traversal_limit_in_words, to)
     } else {
-        copy_large(alloc, form, &source, limits.traversal_limit_in_words, to)
+        copy_unless_canonical(alloc, form, &source, limits.traversal_limit_in_words, to)
     }
 }
 

@@ -30,7 +30,6 @@ ghost use Rattle.capnp_canonical.specs.Texts.{PutsText, IsTextOf};
 
 mod calls;
 mod digest;
-mod extent;
 mod fault;
 mod frames;
 mod locating;
@@ -41,6 +40,7 @@ mod parts;
 mod refusal;
 mod segment_exports;
 mod segments;
+mod validation;
 mod walk_exports;
 mod word_exports;
 mod words;
@@ -48,7 +48,6 @@ mod words;
 use calls::Limits;
 use capnp_messages::messages::Form;
 use capnp_packing::packing::Place;
-use extent::{NOT_SOUND, SoundMessage, validate_frame};
 use fault::{Fault, NO_FAULT};
 use frames::{
     check_frame, copy_frame, digest_frame, frame_size, frame_size_from_prefix, size_frame,
@@ -57,6 +56,7 @@ use locating::{BrokenPointer, NO_POINTER, locate_in_frame};
 use names::{name_of_number, put_text, text_of_reason};
 use packed::{Unpacking, unpack, unpack_further};
 use std::alloc::Global;
+use validation::{NOT_SOUND, SoundMessage, validate_frame};
 
 /// Makes a canonical copy of the message whose frame is at the front of `frame`, writes the copy to
 /// the front of `to`, as a frame of one segment, and stores the number of bytes written in

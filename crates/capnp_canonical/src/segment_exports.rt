@@ -11,10 +11,10 @@ ghost use Rattle.capnp_canonical.specs.Locating.{PointerIs, no_pointer};
 ghost use Rattle.capnp_canonical.specs.Numbers.{wanted_room};
 
 use crate::calls::Limits;
-use crate::extent::{NOT_SOUND, SoundMessage, validate_segments};
 use crate::fault::{Fault, NO_FAULT};
 use crate::locating::{BrokenPointer, NO_POINTER, locate_in_segments};
 use crate::segments::{check_segments, copy_segments, digest_segments, size_segments};
+use crate::validation::{NOT_SOUND, SoundMessage, validate_segments};
 use capnp_messages::messages::Form;
 use std::alloc::Global;
 

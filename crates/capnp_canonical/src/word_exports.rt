@@ -11,9 +11,9 @@ ghost use Rattle.capnp_canonical.specs.Locating.{PointerIs, no_pointer};
 ghost use Rattle.capnp_canonical.specs.Numbers.{wanted_room};
 
 use crate::calls::Limits;
-use crate::extent::{NOT_SOUND, SoundMessage, validate_words};
 use crate::fault::{Fault, NO_FAULT};
 use crate::locating::{BrokenPointer, NO_POINTER, locate_in_words};
+use crate::validation::{NOT_SOUND, SoundMessage, validate_words};
 use crate::words::{check_words, copy_words, digest_words, size_words};
 use std::alloc::Global;
 

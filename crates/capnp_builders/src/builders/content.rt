@@ -33,7 +33,7 @@ pub(crate) fn write_content<A: BuilderArena>(
     let bit = 8 * place.byte + u64::from(whole) * 8;
     let left = place.bits % 8;
     if left > 0 {
-        let byte = byte_at(bytes, bits, whole);
+        let byte = content_byte(bytes, bits, whole);
         write_bits(arena, place.segment, bit, left, byte);
     }
 }
@@ -68,7 +68,7 @@ fn write_bytes<A: BuilderArena>(arena: &mut A, place: StructPlace, bytes: &[u8],
     let both = count.min(bits / 8);
     copy_bytes(arena, id, start, &bytes[..both as usize]);
     if both < count {
-        let byte = byte_at(bytes, bits, both);
+        let byte = content_byte(bytes, bits, both);
         let next = start + u64::from(both);
         set_number(arena, id, next, byte);
         zero_bytes(arena, id, next + 1, count - both - 1);
@@ -125,7 +125,7 @@ fn write_bits<A: BuilderArena>(arena: &mut A, id: u32, start: u64, count: u32, b
 }
 
 /// Returns byte `index` of the `bits` bits of data in `bytes`. Bits beyond these `bits` bits are 0.
-fn byte_at(bytes: &[u8], bits: u32, index: u32) -> u8
+fn content_byte(bytes: &[u8], bits: u32, index: u32) -> u8
     requires long { length bytes.now ≡ bytes_for bits }
     ensures { result ≡ content_byte bits bytes.now index }
 {

@@ -176,7 +176,7 @@ fn run_command<A: Allocator, W: Output>(
 ///
 /// - `Canon`: the canonical words of the message's value as lower case hex digits, each word's
 ///   lowest byte first.
-/// - `Check`: `canonicalize_root` if the canonical words of a value are at the message's root, otherwise
+/// - `Check`: `canonical` if the canonical words of a value are at the message's root, otherwise
 ///   `not canonical`.
 /// - `Size`: `words N caps M`, the numbers of words and capabilities that the root leads to,
 ///   without landing pads, in decimal digits.
@@ -241,7 +241,7 @@ pub fn run_with<A: Allocator, R: Input, W: Output>(
 ///
 /// - `Canon`: the canonical words of the message's value as lower case hex digits, each word's
 ///   lowest byte first ("Canonicalization").
-/// - `Check`: `canonicalize_root` if the canonical words of a value are at the root, with the first object
+/// - `Check`: `canonical` if the canonical words of a value are at the root, with the first object
 ///   right after the root pointer, otherwise `not canonical`. Ignores other segments, and words
 ///   after the canonical ones.
 /// - `Size`: `words N caps M`, the numbers of words and capabilities that the root leads to,

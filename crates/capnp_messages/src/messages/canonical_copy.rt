@@ -98,8 +98,8 @@ fn canonicalize_to_root<A: BuilderArena, B: ReaderArena>(
     Ok(lim)
 }
 
-/// Like `canonicalize_to_root`, but the copy has to fit in the message's only segment, which has room for at
-/// least `room` words. Refuses with `MessageTooLarge(room)` if the copy doesn't fit.
+/// Like `canonicalize_to_root`, but the copy has to fit in the message's only segment, which has room
+/// for at least `room` words. Refuses with `MessageTooLarge(room)` if the copy doesn't fit.
 fn canonicalize_to_segment<A: Allocator, B: ReaderArena>(
     arena: &mut BuilderArenaImpl<A>,
     from: Reached<'_, B>,

@@ -84,17 +84,17 @@ pub fn show_message<S: ReaderSegments + Drop, W: Output>(
     let arena = ReaderArenaImpl::new(segments, limits);
     if showing.json {
         let json = json_of(alloc, showing, limits, number, count, path, &arena)?;
-        write(output, json.text.bytes())?;
+        write_text(output, json.text.bytes())?;
         Ok(json.is_sound)
     } else {
         let lines = lines_of(alloc, showing, limits, number, count, path, &arena)?;
-        write(output, lines.text.bytes())?;
+        write_text(output, lines.text.bytes())?;
         Ok(lines.is_sound)
     }
 }
 
 /// Writes the text of a message.
-fn write<W: Output>(output: &mut W, text: &[u8]) -> Result<(), ShowFault>
+fn write_text<W: Output>(output: &mut W, text: &[u8]) -> Result<(), ShowFault>
     requires works { W.has_failed output.old ≡ false }
     requires short { length text.now ≤ MOST_BYTES }
     ensures written { OnOk result (Prints W.Output output.old output.new text.now) }

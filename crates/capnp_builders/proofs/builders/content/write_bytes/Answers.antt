@@ -25,7 +25,7 @@ zero_bytes-requires g c =
     wrote_front old one id start c.args.bits n bytes c.copy_bytes.ensures (λ j. omega (arith, c.type_inv.bytes j)) (omega (arith, c.min-both.ensures)) (omega (arith, c.min-both.ensures, c.requires.long)) in
     let two : View = g.A.BuilderArena.view c.set_number.new.arena in
     let next : Wrote old two id start (content_byte c.args.bits bytes) (suc n) =
-    wrote_next old one two id start (content_byte c.args.bits bytes) n c.from.result c.byte_at-byte.result front c.set_number.ensures.written c.from.ensures c.byte_at-byte.ensures in
+    wrote_next old one two id start (content_byte c.args.bits bytes) n c.from.result c.content_byte-byte.result front c.set_number.ensures.written c.from.ensures c.content_byte-byte.ensures in
     record { inside = omega (arith, wrote_long old two id start (content_byte c.args.bits bytes) (suc n) next, c.requires.inside.1, c.if-both-count.true, c.from.ensures) }
 
 pub returns-then-both-count : goal.returns-then-both-count
@@ -40,7 +40,7 @@ returns-then-both-count g c =
     wrote_front old one id start c.args.bits n bytes c.copy_bytes.ensures (λ j. omega (arith, c.type_inv.bytes j)) (omega (arith, c.min-both.ensures)) (omega (arith, c.min-both.ensures, c.requires.long)) in
     let two : View = g.A.BuilderArena.view c.set_number.new.arena in
     let next : Wrote old two id start (content_byte c.args.bits bytes) (suc n) =
-    wrote_next old one two id start (content_byte c.args.bits bytes) n c.from.result c.byte_at-byte.result front c.set_number.ensures.written c.from.ensures c.byte_at-byte.ensures in
+    wrote_next old one two id start (content_byte c.args.bits bytes) n c.from.result c.content_byte-byte.result front c.set_number.ensures.written c.from.ensures c.content_byte-byte.ensures in
     wrote_rest old two (g.A.BuilderArena.view c.zero_bytes.new.arena) id start c.args.bits n (c.args.place.bits / 8) c.from.result bytes next c.zero_bytes.ensures c.from.ensures (omega (arith, c.min-both.ensures, c.if-both-count.true)) c.if-both-count.true
 
 pub returns-else-both-count : goal.returns-else-both-count

@@ -20,5 +20,5 @@ returns-then-left-gt0 g c =
     let place : StructPlace = c.args.place in
     let written : Segments = with_fields old.words place.segment (fields_from (8 * place.byte) 8 (content_byte c.args.bits c.args.bytes.now)) (place.bits / 8) in
     c.write_bits.ensures
-    ∙ ap (λ (v : View). record v { words = with_fields v.words place.segment (fields_from (8 * place.byte + c.from.result * 8) 1 (λ j. c.byte_at-byte.result / 2 ^ j % 2)) (place.bits % 8) }) c.write_bytes.ensures
-    ∙ ap₂ (λ (n x : ℕ). record old { words = with_fields written place.segment (fields_from (8 * place.byte + n * 8) 1 (λ j. x / 2 ^ j % 2)) (place.bits % 8) }) c.from.ensures c.byte_at-byte.ensures
+    ∙ ap (λ (v : View). record v { words = with_fields v.words place.segment (fields_from (8 * place.byte + c.from.result * 8) 1 (λ j. c.content_byte-byte.result / 2 ^ j % 2)) (place.bits % 8) }) c.write_bytes.ensures
+    ∙ ap₂ (λ (n x : ℕ). record old { words = with_fields written place.segment (fields_from (8 * place.byte + n * 8) 1 (λ j. x / 2 ^ j % 2)) (place.bits % 8) }) c.from.ensures c.content_byte-byte.ensures

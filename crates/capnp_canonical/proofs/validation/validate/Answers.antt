@@ -5,7 +5,7 @@ use Rattle.capnp_arena.specs.declared.arena.reader_arena_impl.ReaderOptions.{Rea
 use Rattle.capnp_canonical.specs.Calls.{limits_of}
 use Rattle.capnp_canonical.specs.Validation.{ExtentIs, RefusesExtent}
 use Rattle.capnp_canonical.specs.declared.refusal.Refusal.TheVariants.{Layout}
-use Rattle.capnp_canonical.proofs.extent.validate.Goals as goal
+use Rattle.capnp_canonical.proofs.validation.validate.Goals as goal
 
 pub returns-in-Ok-clause-extent : goal.returns-in-Ok-clause-extent
 returns-in-Ok-clause-extent g c =

@@ -7,7 +7,7 @@ use Rattle.capnp_canonical.specs.Calls.{table_bytes}
 use Rattle.capnp_canonical.specs.declared.refusal.Refusal.TheVariants.{NoRoom}
 use Rattle.capnp_canonical.proofs.CallLemmas.{copy_bytes, fills_weaker, fit_segment}
 use Rattle.capnp_framing.proofs.ReadingLemmas.{bytes-length}
-use Rattle.capnp_canonical.proofs.calls.copy_large.Goals as goal
+use Rattle.capnp_canonical.proofs.calls.copy_unless_canonical.Goals as goal
 
 pub returns-in-Some-clause-copied : goal.returns-in-Some-clause-copied
 returns-in-Some-clause-copied g c =
