@@ -299,74 +299,74 @@ static void capnp_messages_messages_message_fault_canonical_fault__69d27097(u8 *
 static NEVER void capnp_objects_source_follow_far_1e87a151ef20e12e(u8 *a_1, u8 *a_2, u64 a_3, u8 *a_4);
 static struct s_i8_i32 capnp_objects_pointers_canonical_test_children_1e87a151ef20e12e(u8 *a_1, u32 a_2, u32 a_3, u32 a_4, u32 a_5, u8 *a_6);
 static NEVER struct s_i8_i32 capnp_objects_pointers_canonical_test_list_1e87a151ef20e12e(u8 *a_1, u32 a_2, u64 a_3, u32 a_4, u32 a_5, u8 *a_6);
-static struct s_i8_i32 capnp_objects_pointers_canonical_test_rows_1e87a151ef20e12e(u8 *a_1, u32 a_2, u16 a_3, u16 a_4, u32 a_5, u32 a_6, u8 *a_7);
+static struct s_i8_i32 capnp_objects_pointers_canonical_test_elements_1e87a151ef20e12e(u8 *a_1, u32 a_2, u16 a_3, u16 a_4, u32 a_5, u32 a_6, u8 *a_7);
 static void capnp_messages_messages_message_fault_canonical_fault__a918d90e(u8 *a_1, u8 *a_2, u8 *a_3);
 static NEVER void capnp_objects_source_follow_far_9fb2c9fcfadbb7fb(u8 *a_1, u8 *a_2, u64 a_3, u8 *a_4);
 static struct s_i8_i32 capnp_objects_pointers_canonical_test_children_9fb2c9fcfadbb7fb(u8 *a_1, u32 a_2, u32 a_3, u32 a_4, u32 a_5, u8 *a_6);
 static NEVER struct s_i8_i32 capnp_objects_pointers_canonical_test_list_9fb2c9fcfadbb7fb(u8 *a_1, u32 a_2, u64 a_3, u32 a_4, u32 a_5, u8 *a_6);
-static struct s_i8_i32 capnp_objects_pointers_canonical_test_rows_9fb2c9fcfadbb7fb(u8 *a_1, u32 a_2, u16 a_3, u16 a_4, u32 a_5, u32 a_6, u8 *a_7);
-static void capnp_messages_messages_canonical_copy_copy_in_room_cb_721220e4(u8 *a_1, u8 *a_2, u8 *a_3, u8 a_4, u64 a_5);
-static void capnp_messages_messages_canonical_copy_make_root_bd7e3_417a977a(u8 *a_1, u8 *a_2);
+static struct s_i8_i32 capnp_objects_pointers_canonical_test_elements_9fb2c9fcfadbb7fb(u8 *a_1, u32 a_2, u16 a_3, u16 a_4, u32 a_5, u32 a_6, u8 *a_7);
+static void capnp_messages_messages_canonical_copy_canonicalize_re_6dfc056f(u8 *a_1, u8 *a_2, u8 *a_3, u8 a_4, u64 a_5);
+static void capnp_messages_messages_canonical_copy_allocate_root_b_dce31d60(u8 *a_1, u8 *a_2);
 static NEVER COLD u8 std_alloc_vec_Vec_grow_amortized_aae383c1cebb016e(u8 *a_1);
 static struct s_i8_i32 capnp_arena_arena_builder_arena_impl_BuilderArenaImplB_8d7f3a67(u8 *a_1, u32 a_2, u32 a_3);
 static NEVER COLD struct s_i8_i32 capnp_arena_arena_rows_allocate_in_96bc33dd2dacd45a(u8 *a_1, u64 a_2, u32 a_3);
-static NEVER COLD u32 capnp_arena_arena_rows_take_in_96bc33dd2dacd45a(u8 *a_1, u64 a_2, u32 a_3);
+static NEVER COLD u32 capnp_arena_arena_rows_allocate_fitting_in_96bc33dd2dacd45a(u8 *a_1, u64 a_2, u32 a_3);
 static NEVER void capnp_copies_copy_copy_object_bb831e3ac151dd45(u8 *a_1, u8 *a_2, u32 a_3, u32 a_4, u8 *a_5, u8 *a_6, u8 a_7);
 static NEVER COLD u8 *capnp_arena_arena_rows_Rows_other_mut_96bc33dd2dacd45a(u8 *a_1, u32 a_2);
 static void capnp_arena_arena_builder_arena_impl_BuilderArenaImplB_a1412319(u8 *a_1, u8 *a_2, u32 a_3);
-static NEVER struct s_i8_i32 capnp_arena_arena_bounds_first_by_bounds_96bc33dd2dacd45a(u8 *a_1, u64 a_2, u32 a_3);
+static NEVER struct s_i8_i32 capnp_arena_arena_bounds_first_fit_by_bounds_96bc33dd2dacd45a(u8 *a_1, u64 a_2, u32 a_3);
 static void capnp_arena_traits_arena_writing_copy_words_22521b95e02b6c38(u8 *a_1, u32 a_2, u32 a_3, u8 *a_4, u64 a_5);
 static struct s_i16_i16 capnp_copies_widths_least_widths(u8 *a_1, u32 a_2, u32 a_3, u16 a_4, u16 a_5);
 static u64 capnp_words_words_used_words_in(u8 *a_1, u64 a_2, u64 a_3);
-static NEVER u64 capnp_words_lanes_end_of_blocks(u8 *a_1, u64 a_2);
+static NEVER u64 capnp_words_lanes_used_words_bound(u8 *a_1, u64 a_2);
 static void capnp_making_making_make_struct_list_22521b95e02b6c38(u8 *a_1, u8 *a_2, u32 a_3, u32 a_4, u32 a_5, u16 a_6, u16 a_7);
 static void capnp_copies_copy_elements_put_words_22521b95e02b6c38(u8 *a_1, u32 a_2, u32 a_3, u8 *a_4, u64 a_5);
 static NEVER COLD u64 capnp_arena_arena_rows_word_in_96bc33dd2dacd45a(u8 *a_1, u64 a_2, u32 a_3);
 static NEVER COLD void capnp_making_landing_follow_22521b95e02b6c38(u8 *a_1, u8 *a_2, u32 a_3, u32 a_4);
 static NEVER COLD void capnp_making_landing_follow_far_22521b95e02b6c38(u8 *a_1, u8 *a_2, u64 a_3);
-static NEVER COLD void capnp_making_zeroing_zero_landed_22521b95e02b6c38(u8 *a_1, u8 *a_2);
+static NEVER COLD void capnp_making_zeroing_zero_target_22521b95e02b6c38(u8 *a_1, u8 *a_2);
 static void capnp_making_zeroing_zero_pointers_22521b95e02b6c38(u8 *a_1, u32 a_2, u32 a_3, u32 a_4);
-static void capnp_making_zeroing_zero_part_22521b95e02b6c38(u8 *a_1, u32 a_2, u32 a_3, u64 a_4);
+static void capnp_making_zeroing_zero_if_inside_22521b95e02b6c38(u8 *a_1, u32 a_2, u32 a_3, u64 a_4);
 static NEVER COLD void capnp_making_zeroing_zero_far_pads_22521b95e02b6c38(u8 *a_1, u64 a_2);
-static NEVER void capnp_copies_copy_children_copy_row_bb831e3ac151dd45(u8 *a_1, u8 *a_2, u32 a_3, u32 a_4, u8 *a_5, u32 a_6, u8 *a_7, u8 a_8);
-static void capnp_arena_arena_builder_arena_impl_output_apart_96bc_5127cbe3(u8 *a_1, u8 *a_2);
+static NEVER void capnp_copies_copy_children_copy_children_out_of_line_b_91aa9a64(u8 *a_1, u8 *a_2, u32 a_3, u32 a_4, u8 *a_5, u32 a_6, u8 *a_7, u8 a_8);
+static void capnp_arena_arena_builder_arena_impl_output_of_rows_96_10a5969e(u8 *a_1, u8 *a_2);
 static NEVER COLD u8 std_alloc_vec_Vec_grow_amortized_0e5e43add44bc681(u8 *a_1);
 static void sha2_Digest_digest_8314f5c2d9589b12(u8 *a_1, u8 *a_2, u64 a_3);
 static void sha2_block256_Core256_update(u8 *a_1, u8 *a_2, u64 a_3);
 static void sha2_block256_compress(u8 *a_1, u8 *a_2);
 static NEVER void capnp_messages_messages_whole_digest_digest_of_copy_0b_1636f703(u8 *a_1, u8 *a_2, u8 a_3, u64 a_4);
 static void capnp_messages_messages_whole_canonicalize_0bffad402b9f9127(u8 *a_1, u8 *a_2, u8 a_3, u64 a_4);
-static void capnp_messages_messages_canonical_copy_copy_reached_wi_6bfc6208(u8 *a_1, u8 *a_2, u8 *a_3);
-static void capnp_messages_messages_canonical_copy_make_root_a36f5_b8201421(u8 *a_1, u8 *a_2, u32 a_3);
+static void capnp_messages_messages_canonical_copy_canonicalize_re_1a840a57(u8 *a_1, u8 *a_2, u8 *a_3);
+static void capnp_messages_messages_canonical_copy_allocate_root_a_37f0c9a9(u8 *a_1, u8 *a_2, u32 a_3);
 static NEVER COLD u8 std_alloc_vec_Vec_grow_amortized_22cacb0e3deea15e(u8 *a_1);
 static NEVER void capnp_copies_copy_copy_object_a062206830695632(u8 *a_1, u8 *a_2, u32 a_3, u32 a_4, u8 *a_5, u8 *a_6, u8 a_7);
 static void capnp_arena_arena_builder_arena_impl_BuilderArenaImplB_78fb6fbb(u8 *a_1, u8 *a_2, u32 a_3);
-static NEVER struct s_i8_i32 capnp_arena_arena_bounds_first_by_bounds_e469ead029109f04(u8 *a_1, u64 a_2, u32 a_3);
+static NEVER struct s_i8_i32 capnp_arena_arena_bounds_first_fit_by_bounds_e469ead029109f04(u8 *a_1, u64 a_2, u32 a_3);
 static void capnp_arena_traits_arena_writing_copy_words_c985307b501351a7(u8 *a_1, u32 a_2, u32 a_3, u8 *a_4, u64 a_5);
 static void capnp_making_making_make_struct_list_c985307b501351a7(u8 *a_1, u8 *a_2, u32 a_3, u32 a_4, u32 a_5, u16 a_6, u16 a_7);
 static void capnp_copies_copy_elements_put_words_c985307b501351a7(u8 *a_1, u32 a_2, u32 a_3, u8 *a_4, u64 a_5);
 static NEVER COLD void capnp_making_landing_follow_c985307b501351a7(u8 *a_1, u8 *a_2, u32 a_3, u32 a_4);
 static NEVER COLD void capnp_making_landing_follow_far_c985307b501351a7(u8 *a_1, u8 *a_2, u64 a_3);
-static NEVER COLD void capnp_making_zeroing_zero_landed_c985307b501351a7(u8 *a_1, u8 *a_2);
+static NEVER COLD void capnp_making_zeroing_zero_target_c985307b501351a7(u8 *a_1, u8 *a_2);
 static void capnp_making_zeroing_zero_pointers_c985307b501351a7(u8 *a_1, u32 a_2, u32 a_3, u32 a_4);
-static void capnp_making_zeroing_zero_part_c985307b501351a7(u8 *a_1, u32 a_2, u32 a_3, u64 a_4);
+static void capnp_making_zeroing_zero_if_inside_c985307b501351a7(u8 *a_1, u32 a_2, u32 a_3, u64 a_4);
 static NEVER COLD void capnp_making_zeroing_zero_far_pads_c985307b501351a7(u8 *a_1, u64 a_2);
-static NEVER void capnp_copies_copy_children_copy_row_a062206830695632(u8 *a_1, u8 *a_2, u32 a_3, u32 a_4, u8 *a_5, u32 a_6, u8 *a_7, u8 a_8);
+static NEVER void capnp_copies_copy_children_copy_children_out_of_line_a_ed7c55cb(u8 *a_1, u8 *a_2, u32 a_3, u32 a_4, u8 *a_5, u32 a_6, u8 *a_7, u8 a_8);
 static struct s_p_i64 capnp_messages_messages_writing_canonical_bytes_a36f54_8211b040(u8 *a_1);
-static NEVER void capnp_arena_arena_builder_arena_impl_give_back_others__c35bd785(u8 *a_1);
+static NEVER void capnp_arena_arena_builder_arena_impl_deallocate_others_70ba8108(u8 *a_1);
 static NEVER void core_slice_edits_mirror_88712faee6672b50(u8 *a_1, u8 *a_2, u64 a_3);
 static void capnp_arena_arena_builder_arena_impl_BuilderArenaImpl__1592d6b0(u8 *a_1);
-static NEVER void capnp_arena_arena_builder_arena_impl_give_back_others__f61dbe69(u8 *a_1);
+static NEVER void capnp_arena_arena_builder_arena_impl_deallocate_others_a537bde4(u8 *a_1);
 static NEVER void core_slice_edits_mirror_240280a245146760(u8 *a_1, u8 *a_2, u64 a_3);
 static void capnp_messages_messages_path_read_part_00d4c403870f9587(u8 *a_1, u8 *a_2, u8 *a_3, u64 a_4, u8 *a_5);
 static NEVER void capnp_messages_messages_part_digest_digest_of_part_cop_fe6d1bcd(u8 *a_1, u8 *a_2, u8 *a_3, u64 a_4, u8 a_5, u64 a_6);
-static void capnp_messages_messages_canonical_copy_copy_in_room_c7_f345250d(u8 *a_1, u8 *a_2, u8 *a_3, u8 a_4, u64 a_5);
+static void capnp_messages_messages_canonical_copy_canonicalize_re_24edc8c2(u8 *a_1, u8 *a_2, u8 *a_3, u8 a_4, u64 a_5);
 static NEVER void capnp_copies_copy_copy_object_16a328db692f51d4(u8 *a_1, u8 *a_2, u32 a_3, u32 a_4, u8 *a_5, u8 *a_6, u8 a_7);
-static NEVER void capnp_copies_copy_children_copy_row_16a328db692f51d4(u8 *a_1, u8 *a_2, u32 a_3, u32 a_4, u8 *a_5, u32 a_6, u8 *a_7, u8 a_8);
+static NEVER void capnp_copies_copy_children_copy_children_out_of_line_1_9222051e(u8 *a_1, u8 *a_2, u32 a_3, u32 a_4, u8 *a_5, u32 a_6, u8 *a_7, u8 a_8);
 static NEVER void capnp_messages_messages_whole_digest_digest_of_copy_93_5bac36ae(u8 *a_1, u8 *a_2, u8 a_3, u64 a_4);
-static void capnp_messages_messages_canonical_copy_copy_reached_wi_26a086d2(u8 *a_1, u8 *a_2, u8 *a_3);
+static void capnp_messages_messages_canonical_copy_canonicalize_re_52be4be5(u8 *a_1, u8 *a_2, u8 *a_3);
 static NEVER void capnp_copies_copy_copy_object_254e276be25f6293(u8 *a_1, u8 *a_2, u32 a_3, u32 a_4, u8 *a_5, u8 *a_6, u8 a_7);
-static NEVER void capnp_copies_copy_children_copy_row_254e276be25f6293(u8 *a_1, u8 *a_2, u32 a_3, u32 a_4, u8 *a_5, u32 a_6, u8 *a_7, u8 a_8);
+static NEVER void capnp_copies_copy_children_copy_children_out_of_line_2_29c958c2(u8 *a_1, u8 *a_2, u32 a_3, u32 a_4, u8 *a_5, u32 a_6, u8 *a_7, u8 a_8);
 static void capnp_messages_messages_path_read_part_2204359a6e9fa1dc(u8 *a_1, u8 *a_2, u8 *a_3, u64 a_4, u8 *a_5);
 static NEVER void capnp_messages_messages_part_digest_digest_of_part_cop_7f945947(u8 *a_1, u8 *a_2, u8 *a_3, u64 a_4, u8 a_5, u64 a_6);
 static void capnp_refusals_refusals_search_search_object_1e87a151ef20e12e(u8 *a_1, u8 a_2, u8 a_3, u8 *a_4, u32 a_5, u32 a_6, u8 *a_7);
@@ -396,8 +396,8 @@ static void capnp_walks_walks_walk_walk_object_1e87a151ef20e12e(u8 *a_1, u8 *a_2
 static void capnp_walks_walks_walk_walk_elements_1e87a151ef20e12e(u8 *a_1, u8 *a_2, u64 a_3, u32 a_4, u32 a_5, u32 a_6, u8 *a_7, u64 a_8, u8 *a_9, u8 *a_10);
 static NEVER void capnp_walks_walks_walk_walk_pointers_1e87a151ef20e12e(u8 *a_1, u8 *a_2, u64 a_3, u32 a_4, u32 a_5, u8 *a_6, u64 a_7, u8 *a_8, u8 *a_9);
 static void capnp_canonical_frames_copy_frame(u8 *a_1, u8 a_2, u8 *a_3, u64 a_4, u32 a_5, u64 a_6, u8 *a_7, u64 a_8);
-static void capnp_messages_messages_canonical_copy_copy_in_room_d7_f7ca895a(u8 *a_1, u8 *a_2, u8 *a_3, u8 a_4, u64 a_5);
-static void capnp_messages_messages_canonical_copy_make_root_22c9f_7fa15447(u8 *a_1, u8 *a_2);
+static void capnp_messages_messages_canonical_copy_canonicalize_re_7b7b520a(u8 *a_1, u8 *a_2, u8 *a_3, u8 a_4, u64 a_5);
+static void capnp_messages_messages_canonical_copy_allocate_root_2_96ca7a6b(u8 *a_1, u8 *a_2);
 static struct s_i8_i32 capnp_arena_arena_builder_arena_impl_BuilderArenaImplB_03ad5b8c(u8 *a_1, u32 a_2, u32 a_3);
 static NEVER void capnp_copies_copy_copy_object_fbcdcd82a40718a5(u8 *a_1, u8 *a_2, u32 a_3, u32 a_4, u8 *a_5, u8 *a_6, u8 a_7);
 static void capnp_arena_arena_builder_arena_impl_BuilderArenaImplB_8823a97b(u8 *a_1, u8 *a_2, u32 a_3);
@@ -406,20 +406,20 @@ static void capnp_making_making_make_struct_list_ecdd2dea505d7548(u8 *a_1, u8 *a
 static void capnp_copies_copy_elements_put_words_ecdd2dea505d7548(u8 *a_1, u32 a_2, u32 a_3, u8 *a_4, u64 a_5);
 static NEVER COLD void capnp_making_landing_follow_ecdd2dea505d7548(u8 *a_1, u8 *a_2, u32 a_3, u32 a_4);
 static NEVER COLD void capnp_making_landing_follow_far_ecdd2dea505d7548(u8 *a_1, u8 *a_2, u64 a_3);
-static NEVER COLD void capnp_making_zeroing_zero_landed_ecdd2dea505d7548(u8 *a_1, u8 *a_2);
+static NEVER COLD void capnp_making_zeroing_zero_target_ecdd2dea505d7548(u8 *a_1, u8 *a_2);
 static void capnp_making_zeroing_zero_pointers_ecdd2dea505d7548(u8 *a_1, u32 a_2, u32 a_3, u32 a_4);
-static void capnp_making_zeroing_zero_part_ecdd2dea505d7548(u8 *a_1, u32 a_2, u32 a_3, u64 a_4);
+static void capnp_making_zeroing_zero_if_inside_ecdd2dea505d7548(u8 *a_1, u32 a_2, u32 a_3, u64 a_4);
 static NEVER COLD void capnp_making_zeroing_zero_far_pads_ecdd2dea505d7548(u8 *a_1, u64 a_2);
-static NEVER void capnp_copies_copy_children_copy_row_fbcdcd82a40718a5(u8 *a_1, u8 *a_2, u32 a_3, u32 a_4, u8 *a_5, u32 a_6, u8 *a_7, u8 a_8);
+static NEVER void capnp_copies_copy_children_copy_children_out_of_line_f_8938dd05(u8 *a_1, u8 *a_2, u32 a_3, u32 a_4, u8 *a_5, u32 a_6, u8 *a_7, u8 a_8);
 static NEVER void capnp_canonical_calls_copy_on_heap_00d4c403870f9587(u8 *a_1, u8 a_2, u8 *a_3, u8 a_4, u64 a_5, u8 *a_6, u64 a_7);
 static void capnp_arena_arena_builder_arena_impl_BuilderArenaImpl__3689a9cb(u8 *a_1);
 static void capnp_arena_arena_builder_arena_impl_BuilderArenaImpl__94c8bd1d(u8 *a_1);
-static NEVER void capnp_arena_arena_builder_arena_impl_give_back_others__c27fdc7d(u8 *a_1);
+static NEVER void capnp_arena_arena_builder_arena_impl_deallocate_others_eb4af5f0(u8 *a_1);
 static NEVER void capnp_canonical_parts_copy_part_on_heap_00d4c403870f9587(u8 *a_1, u8 *a_2, u8 *a_3, u64 a_4, u8 a_5, u64 a_6, u8 *a_7, u64 a_8);
 static void capnp_canonical_segments_copy_segments(u8 *a_1, u8 a_2, u8 *a_3, u64 a_4, u32 a_5, u64 a_6, u8 *a_7, u64 a_8);
-static void capnp_messages_messages_canonical_copy_copy_in_room_0b_f9dc17a7(u8 *a_1, u8 *a_2, u8 *a_3, u8 a_4, u64 a_5);
+static void capnp_messages_messages_canonical_copy_canonicalize_re_a538a7e4(u8 *a_1, u8 *a_2, u8 *a_3, u8 a_4, u64 a_5);
 static NEVER void capnp_copies_copy_copy_object_d68d0e19952c1ff4(u8 *a_1, u8 *a_2, u32 a_3, u32 a_4, u8 *a_5, u8 *a_6, u8 a_7);
-static NEVER void capnp_copies_copy_children_copy_row_d68d0e19952c1ff4(u8 *a_1, u8 *a_2, u32 a_3, u32 a_4, u8 *a_5, u32 a_6, u8 *a_7, u8 a_8);
+static NEVER void capnp_copies_copy_children_copy_children_out_of_line_d_7af0432e(u8 *a_1, u8 *a_2, u32 a_3, u32 a_4, u8 *a_5, u32 a_6, u8 *a_7, u8 a_8);
 static NEVER void capnp_canonical_calls_copy_on_heap_2204359a6e9fa1dc(u8 *a_1, u8 a_2, u8 *a_3, u8 a_4, u64 a_5, u8 *a_6, u64 a_7);
 static NEVER void capnp_canonical_parts_copy_part_on_heap_2204359a6e9fa1dc(u8 *a_1, u8 *a_2, u8 *a_3, u64 a_4, u8 a_5, u64 a_6, u8 *a_7, u64 a_8);
 static void capnp_walks_walks_walk_walk_object_4d6e045afdcb38e0(u8 *a_1, u8 *a_2, u32 a_3, u64 a_4, u32 a_5, u8 *a_6, u64 a_7, u8 *a_8, u8 *a_9);
@@ -429,20 +429,20 @@ static NEVER void capnp_walks_walks_walk_walk_pointers_4d6e045afdcb38e0(u8 *a_1,
 static void capnp_messages_messages_message_fault_canonical_fault__ee00a110(u8 *a_1, u8 *a_2, u8 *a_3);
 static struct s_i8_i32 capnp_objects_pointers_canonical_test_children_4d6e045afdcb38e0(u8 *a_1, u32 a_2, u32 a_3, u32 a_4, u32 a_5, u8 *a_6);
 static NEVER struct s_i8_i32 capnp_objects_pointers_canonical_test_list_4d6e045afdcb38e0(u8 *a_1, u32 a_2, u64 a_3, u32 a_4, u32 a_5, u8 *a_6);
-static struct s_i8_i32 capnp_objects_pointers_canonical_test_rows_4d6e045afdcb38e0(u8 *a_1, u32 a_2, u16 a_3, u16 a_4, u32 a_5, u32 a_6, u8 *a_7);
-static void capnp_messages_messages_canonical_copy_copy_in_room_ad_f42481be(u8 *a_1, u8 *a_2, u8 *a_3, u8 a_4, u64 a_5);
+static struct s_i8_i32 capnp_objects_pointers_canonical_test_elements_4d6e045afdcb38e0(u8 *a_1, u32 a_2, u16 a_3, u16 a_4, u32 a_5, u32 a_6, u8 *a_7);
+static void capnp_messages_messages_canonical_copy_canonicalize_re_81788e4b(u8 *a_1, u8 *a_2, u8 *a_3, u8 a_4, u64 a_5);
 static NEVER void capnp_copies_copy_copy_object_71f845ce3aa9b0ff(u8 *a_1, u8 *a_2, u32 a_3, u32 a_4, u8 *a_5, u8 *a_6, u8 a_7);
-static NEVER void capnp_copies_copy_children_copy_row_71f845ce3aa9b0ff(u8 *a_1, u8 *a_2, u32 a_3, u32 a_4, u8 *a_5, u32 a_6, u8 *a_7, u8 a_8);
+static NEVER void capnp_copies_copy_children_copy_children_out_of_line_7_a11106f1(u8 *a_1, u8 *a_2, u32 a_3, u32 a_4, u8 *a_5, u32 a_6, u8 *a_7, u8 a_8);
 static NEVER void capnp_canonical_calls_copy_on_heap_767a861cc050e0a5(u8 *a_1, u8 *a_2, u8 a_3, u64 a_4, u8 *a_5, u64 a_6);
 static void capnp_messages_messages_whole_canonicalize_7a947658af00c805(u8 *a_1, u8 *a_2, u8 a_3, u64 a_4);
-static void capnp_messages_messages_canonical_copy_copy_reached_wi_2d087135(u8 *a_1, u8 *a_2, u8 *a_3);
+static void capnp_messages_messages_canonical_copy_canonicalize_re_e0e98643(u8 *a_1, u8 *a_2, u8 *a_3);
 static NEVER void capnp_copies_copy_copy_object_b6c0503bf8b72334(u8 *a_1, u8 *a_2, u32 a_3, u32 a_4, u8 *a_5, u8 *a_6, u8 a_7);
-static NEVER void capnp_copies_copy_children_copy_row_b6c0503bf8b72334(u8 *a_1, u8 *a_2, u32 a_3, u32 a_4, u8 *a_5, u32 a_6, u8 *a_7, u8 a_8);
+static NEVER void capnp_copies_copy_children_copy_children_out_of_line_b_1b5716fc(u8 *a_1, u8 *a_2, u32 a_3, u32 a_4, u8 *a_5, u32 a_6, u8 *a_7, u8 a_8);
 static void capnp_messages_messages_path_read_part_767a861cc050e0a5(u8 *a_1, u8 *a_2, u8 *a_3, u64 a_4, u8 *a_5);
 static NEVER void capnp_canonical_parts_copy_part_on_heap_767a861cc050e0a5(u8 *a_1, u8 *a_2, u8 *a_3, u64 a_4, u8 a_5, u64 a_6, u8 *a_7, u64 a_8);
-static void capnp_messages_messages_canonical_copy_copy_in_room_7b_d7db6ad1(u8 *a_1, u8 *a_2, u8 *a_3, u8 a_4, u64 a_5);
+static void capnp_messages_messages_canonical_copy_canonicalize_re_63622a58(u8 *a_1, u8 *a_2, u8 *a_3, u8 a_4, u64 a_5);
 static NEVER void capnp_copies_copy_copy_object_c26ab664f60a1cef(u8 *a_1, u8 *a_2, u32 a_3, u32 a_4, u8 *a_5, u8 *a_6, u8 a_7);
-static NEVER void capnp_copies_copy_children_copy_row_c26ab664f60a1cef(u8 *a_1, u8 *a_2, u32 a_3, u32 a_4, u8 *a_5, u32 a_6, u8 *a_7, u8 a_8);
+static NEVER void capnp_copies_copy_children_copy_children_out_of_line_c_595e9a2a(u8 *a_1, u8 *a_2, u32 a_3, u32 a_4, u8 *a_5, u32 a_6, u8 *a_7, u8 a_8);
 static NEVER void capnp_messages_messages_whole_digest_digest_of_copy_7a_eb2656e7(u8 *a_1, u8 *a_2, u8 a_3, u64 a_4);
 static NEVER void capnp_messages_messages_part_digest_digest_of_part_cop_28a1a4c7(u8 *a_1, u8 *a_2, u8 *a_3, u64 a_4, u8 a_5, u64 a_6);
 static void capnp_refusals_refusals_search_search_object_4d6e045afdcb38e0(u8 *a_1, u8 a_2, u8 a_3, u8 *a_4, u32 a_5, u32 a_6, u8 *a_7);
@@ -1743,9 +1743,9 @@ l_arm_bb:;
     goto l_return_pr;
 l_join_1x:;
     if (r_68_1 == 0u) { r_us = r_ll; r_1x = 0u; goto l_return_pr; }
-    struct s_i8_i32 r_qx = capnp_objects_pointers_canonical_test_rows_1e87a151ef20e12e(a_1, r_ll, t_xg, r_py, t_c8, r_y0_1, a_6);
-    r_us = r_qx.f1;
-    r_1x = r_qx.f0;
+    struct s_i8_i32 r_37 = capnp_objects_pointers_canonical_test_elements_1e87a151ef20e12e(a_1, r_ll, t_xg, r_py, t_c8, r_y0_1, a_6);
+    r_us = r_37.f1;
+    r_1x = r_37.f0;
     goto l_return_pr;
 l_arm_um:;
     u64 r_qw_5 = ld64(r_xz);
@@ -1764,8 +1764,8 @@ l_return_pr:;
     return r_i6;
 }
 
-/* capnp_objects::pointers::canonical::test_rows::<#1e87a151ef20e12e> */
-static struct s_i8_i32 capnp_objects_pointers_canonical_test_rows_1e87a151ef20e12e(u8 *a_1, u32 a_2, u16 a_3, u16 a_4, u32 a_5, u32 a_6, u8 *a_7)
+/* capnp_objects::pointers::canonical::test_elements::<#1e87a151ef20e12e> */
+static struct s_i8_i32 capnp_objects_pointers_canonical_test_elements_1e87a151ef20e12e(u8 *a_1, u32 a_2, u16 a_3, u16 a_4, u32 a_5, u32 a_6, u8 *a_7)
 {
     u32 r_m2;
     u32 r_m2_1;
@@ -3069,9 +3069,9 @@ l_arm_bb:;
     goto l_return_pr;
 l_join_1x:;
     if (r_68_1 == 0u) { r_us = r_ll; r_1x = 0u; goto l_return_pr; }
-    struct s_i8_i32 r_sx = capnp_objects_pointers_canonical_test_rows_9fb2c9fcfadbb7fb(a_1, r_ll, t_xg, r_py, t_c8, r_y0_1, a_6);
-    r_us = r_sx.f1;
-    r_1x = r_sx.f0;
+    struct s_i8_i32 r_f7_1 = capnp_objects_pointers_canonical_test_elements_9fb2c9fcfadbb7fb(a_1, r_ll, t_xg, r_py, t_c8, r_y0_1, a_6);
+    r_us = r_f7_1.f1;
+    r_1x = r_f7_1.f0;
     goto l_return_pr;
 l_arm_um:;
     u64 r_qw_5 = ld64(r_xz);
@@ -3090,8 +3090,8 @@ l_return_pr:;
     return r_i6;
 }
 
-/* capnp_objects::pointers::canonical::test_rows::<#9fb2c9fcfadbb7fb> */
-static struct s_i8_i32 capnp_objects_pointers_canonical_test_rows_9fb2c9fcfadbb7fb(u8 *a_1, u32 a_2, u16 a_3, u16 a_4, u32 a_5, u32 a_6, u8 *a_7)
+/* capnp_objects::pointers::canonical::test_elements::<#9fb2c9fcfadbb7fb> */
+static struct s_i8_i32 capnp_objects_pointers_canonical_test_elements_9fb2c9fcfadbb7fb(u8 *a_1, u32 a_2, u16 a_3, u16 a_4, u32 a_5, u32 a_6, u8 *a_7)
 {
     u32 r_m2;
     u32 r_m2_1;
@@ -3192,8 +3192,8 @@ l_return_pr:;
     return r_i6;
 }
 
-/* capnp_messages::messages::canonical_copy::copy_in_room::<#cb78deba3774796d> */
-static void capnp_messages_messages_canonical_copy_copy_in_room_cb_721220e4(u8 *a_1, u8 *a_2, u8 *a_3, u8 a_4, u64 a_5)
+/* capnp_messages::messages::canonical_copy::canonicalize_reached_into::<#cb78deba3774796d> */
+static void capnp_messages_messages_canonical_copy_canonicalize_re_6dfc056f(u8 *a_1, u8 *a_2, u8 *a_3, u8 a_4, u64 a_5)
 {
     A(8) u8 slot_1[32];
     A(8) u8 slot_2[64];
@@ -3285,7 +3285,7 @@ static void capnp_messages_messages_canonical_copy_copy_in_room_cb_721220e4(u8 *
     r_br = ld16(away(a_3, 72ull));
     r_br_1 = ld16(away(a_3, 74ull));
     memset(slot_6, 0u, 24);
-    capnp_messages_messages_canonical_copy_make_root_bd7e3_417a977a(slot_6, a_2);
+    capnp_messages_messages_canonical_copy_allocate_root_b_dce31d60(slot_6, a_2);
     if ((u8)(ld8(slot_6) & 1)) goto l_then_yd;
     goto l_join_zk;
 l_common_68:;
@@ -3324,7 +3324,7 @@ l_join_zk:;
     capnp_making_landing_follow_22521b95e02b6c38(slot_1, a_2, 0u, 0u);
     st64(r_lz, 0ull);
     if (!(ld8(slot_1) == 1u)) goto l_capnp_8g;
-    capnp_making_zeroing_zero_landed_22521b95e02b6c38(a_2, (slot_1 + 8));
+    capnp_making_zeroing_zero_target_22521b95e02b6c38(a_2, (slot_1 + 8));
     if (!((r_qw_2 & 3ull) == 2ull)) goto l_capnp_8g;
     capnp_making_zeroing_zero_far_pads_22521b95e02b6c38(a_2, r_qw_2);
 l_capnp_8g:;
@@ -3354,8 +3354,8 @@ l_loop_jc:;
     goto l_capnp_ev;
 l_else_wj:;
     if (!(ld64(away(away(r_2b_1, r_z6), 0xfffffffffffffff8ull)) == 0ull)) { r_hk = r_u7; goto l_capnp_ev; }
-    u64 r_jw = capnp_words_lanes_end_of_blocks(r_2b_1, r_z6);
-    r_nm_1 = r_jw;
+    u64 r_qz = capnp_words_lanes_used_words_bound(r_2b_1, r_z6);
+    r_nm_1 = r_qz;
 l_loop_jc_1:;
     if (r_nm_1 == 0ull) { r_hk = 0ull; goto l_capnp_ev; }
     u64 r_0f_1 = (r_nm_1 + 0xffffffffffffffffull);
@@ -3375,8 +3375,8 @@ l_loop_jc_2:;
     goto l_capnp_sa;
 l_else_wj_1:;
     if (!(ld64(away(away(r_2b_2, r_z6_4), 0xfffffffffffffff8ull)) == 0ull)) { r_zw = r_u7_1; goto l_capnp_sa; }
-    u64 r_jw_1 = capnp_words_lanes_end_of_blocks(r_2b_2, r_z6_4);
-    r_nm_3 = r_jw_1;
+    u64 r_qz_1 = capnp_words_lanes_used_words_bound(r_2b_2, r_z6_4);
+    r_nm_3 = r_qz_1;
 l_loop_jc_3:;
     if (r_nm_3 == 0ull) { r_zw = 0ull; goto l_capnp_sa; }
     u64 r_0f_3 = (r_nm_3 + 0xffffffffffffffffull);
@@ -3472,7 +3472,7 @@ l_capnp_am:;
     st32((slot_2 + 48), (r_5k + (u32)r_br));
     st32((slot_2 + 52), 0u);
     st32(t_6c_1, r_5k_2);
-    capnp_copies_copy_children_copy_row_bb831e3ac151dd45(slot_1, a_2, r_wt, (r_29 + r_4r_1), slot_2, r_az, slot_4, 1u);
+    capnp_copies_copy_children_copy_children_out_of_line_b_91aa9a64(slot_1, a_2, r_wt, (r_29 + r_4r_1), slot_2, r_az, slot_4, 1u);
     r_2b_4 = ld8(slot_1);
     r_qh_1 = ld8((slot_1 + 8));
     r_ip_1 = ld32((slot_1 + 12));
@@ -3553,8 +3553,8 @@ l_join_0b:;
     goto l_common_68;
 }
 
-/* capnp_messages::messages::canonical_copy::make_root::<#bd7e3d3a11634cb6> */
-static void capnp_messages_messages_canonical_copy_make_root_bd7e3_417a977a(u8 *a_1, u8 *a_2)
+/* capnp_messages::messages::canonical_copy::allocate_root::<#bd7e3d3a11634cb6> */
+static void capnp_messages_messages_canonical_copy_allocate_root_b_dce31d60(u8 *a_1, u8 *a_2)
 {
     u8 *r_yf;
     u8 r_mp;
@@ -3710,9 +3710,9 @@ static NEVER COLD struct s_i8_i32 capnp_arena_arena_rows_allocate_in_96bc33dd2da
     u32 r_1x;
     u8 *r_8z = away(a_1, (a_2 * 24ull));
     if (((u64)ld32(away(r_8z, 16ull)) + (u64)a_3) > (u64)(ld64(away(r_8z, 8ull)) >> 3ull)) { r_us = 0u; r_1x = 0u; goto l_join_pr; }
-    u32 r_ni = capnp_arena_arena_rows_take_in_96bc33dd2dacd45a(a_1, a_2, a_3);
+    u32 r_zk = capnp_arena_arena_rows_allocate_fitting_in_96bc33dd2dacd45a(a_1, a_2, a_3);
     r_us = 1u;
-    r_1x = r_ni;
+    r_1x = r_zk;
 l_join_pr:;
     struct s_i8_i32 r_9l = (struct s_i8_i32){ 0 };
     r_9l.f0 = r_us;
@@ -3721,8 +3721,8 @@ l_join_pr:;
     return r_i6;
 }
 
-/* capnp_arena::arena::rows::take_in::<#96bc33dd2dacd45a> */
-static NEVER COLD u32 capnp_arena_arena_rows_take_in_96bc33dd2dacd45a(u8 *a_1, u64 a_2, u32 a_3)
+/* capnp_arena::arena::rows::allocate_fitting_in::<#96bc33dd2dacd45a> */
+static NEVER COLD u32 capnp_arena_arena_rows_allocate_fitting_in_96bc33dd2dacd45a(u8 *a_1, u64 a_2, u32 a_3)
 {
     u8 *r_zn = away(away(a_1, (a_2 * 24ull)), 16ull);
     u32 r_yf = ld32(r_zn);
@@ -4483,8 +4483,8 @@ l_loop_jc:;
     goto l_capnp_fc;
 l_else_wj:;
     if (!(ld64(away(away(r_c0_1, r_z6_3), 0xfffffffffffffff8ull)) == 0ull)) { r_ev = r_q7_1; goto l_capnp_fc; }
-    u64 r_jw = capnp_words_lanes_end_of_blocks(r_c0_1, r_z6_3);
-    r_nm_1 = r_jw;
+    u64 r_qz = capnp_words_lanes_used_words_bound(r_c0_1, r_z6_3);
+    r_nm_1 = r_qz;
 l_loop_jc_1:;
     if (r_nm_1 == 0ull) { r_ev = 0ull; goto l_capnp_fc; }
     u64 r_0f_1 = (r_nm_1 + 0xffffffffffffffffull);
@@ -4503,8 +4503,8 @@ l_loop_jc_2:;
     goto l_capnp_kv;
 l_else_wj_1:;
     if (!(ld64(away(away(r_c0_2, r_z6_7), 0xfffffffffffffff8ull)) == 0ull)) { r_mh = r_y6; goto l_capnp_kv; }
-    u64 r_jw_1 = capnp_words_lanes_end_of_blocks(r_c0_2, r_z6_7);
-    r_nm_3 = r_jw_1;
+    u64 r_qz_1 = capnp_words_lanes_used_words_bound(r_c0_2, r_z6_7);
+    r_nm_3 = r_qz_1;
 l_loop_jc_3:;
     if (r_nm_3 == 0ull) { r_mh = 0ull; goto l_capnp_kv; }
     u64 r_0f_3 = (r_nm_3 + 0xffffffffffffffffull);
@@ -4650,7 +4650,7 @@ l_capnp_am:;
     st32((slot_2 + 48), (r_az + r_gx));
     st32((slot_2 + 52), 0u);
     st32((slot_2 + 56), r_4w);
-    capnp_copies_copy_children_copy_row_bb831e3ac151dd45(slot_1, a_2, r_ne, (r_29 + r_4r_5), slot_2, r_ib, a_6, a_7);
+    capnp_copies_copy_children_copy_children_out_of_line_b_91aa9a64(slot_1, a_2, r_ne, (r_29 + r_4r_5), slot_2, r_ib, a_6, a_7);
     r_t8 = ld8(slot_1);
     r_hg = ld8((slot_1 + 8));
     r_lc_8 = ld32((slot_1 + 12));
@@ -5201,7 +5201,7 @@ l_arm_v3:;
     st32(r_c4_6, (r_5b + ((u32)r_ep_4 & 65535u)));
     st32(r_bk_1, 0u);
     st32(r_6c_2, r_s1);
-    capnp_copies_copy_children_copy_row_bb831e3ac151dd45(slot_1, a_2, sink_rg, (r_az_2 + r_2g_5), slot_2, r_az_3, a_6, a_7);
+    capnp_copies_copy_children_copy_children_out_of_line_b_91aa9a64(slot_1, a_2, sink_rg, (r_az_2 + r_2g_5), slot_2, r_az_3, a_6, a_7);
     r_2b_2 = ld8(slot_1);
     r_qh = ld8(r_x5_14);
     r_ip = ld32(r_k0_5);
@@ -5589,8 +5589,8 @@ l_loop_jc_4:;
     goto l_capnp_fc_1;
 l_else_wj_2:;
     if (!(ld64(away(away(r_c0_12, r_z6_59), 0xfffffffffffffff8ull)) == 0ull)) { r_ev_1 = r_q7_3; goto l_capnp_fc_1; }
-    u64 r_jw_2 = capnp_words_lanes_end_of_blocks(r_c0_12, r_z6_59);
-    r_nm_7 = r_jw_2;
+    u64 r_qz_2 = capnp_words_lanes_used_words_bound(r_c0_12, r_z6_59);
+    r_nm_7 = r_qz_2;
 l_loop_jc_5:;
     if (r_nm_7 == 0ull) { r_ev_1 = 0ull; goto l_capnp_fc_1; }
     u64 r_0f_12 = (r_nm_7 + 0xffffffffffffffffull);
@@ -5610,8 +5610,8 @@ l_loop_jc_6:;
     goto l_capnp_hv;
 l_else_wj_3:;
     if (!(ld64(away(away(r_c0_13, r_z6_63), 0xfffffffffffffff8ull)) == 0ull)) { r_dl = r_ev_1; r_9n = r_y6_3; goto l_capnp_hv; }
-    u64 r_jw_3 = capnp_words_lanes_end_of_blocks(r_c0_13, r_z6_63);
-    r_nm_9 = r_jw_3;
+    u64 r_qz_3 = capnp_words_lanes_used_words_bound(r_c0_13, r_z6_63);
+    r_nm_9 = r_qz_3;
 l_loop_jc_7:;
     if (r_nm_9 == 0ull) { r_dl = r_ev_1; r_9n = 0ull; goto l_capnp_hv; }
     u64 r_0f_14 = (r_nm_9 + 0xffffffffffffffffull);
@@ -5745,7 +5745,7 @@ l_capnp_5c:;
     st32(r_c4_10, (r_5b_1 + ((u32)r_ep_6 & 65535u)));
     st32(r_bk_2, 0u);
     st32(r_6c_4, r_s1_1);
-    capnp_copies_copy_children_copy_row_bb831e3ac151dd45(slot_1, a_2, r_wt_2, (r_29_2 + r_4r_12), slot_2, r_az_4, a_6, a_7);
+    capnp_copies_copy_children_copy_children_out_of_line_b_91aa9a64(slot_1, a_2, r_wt_2, (r_29_2 + r_4r_12), slot_2, r_az_4, a_6, a_7);
     r_2b_8 = ld8(slot_1);
     r_qh_2 = ld8(r_x5_21);
     r_ip_2 = ld32(r_k0_10);
@@ -5851,20 +5851,20 @@ static void capnp_arena_arena_builder_arena_impl_BuilderArenaImplB_a1412319(u8 *
     u32 r_yf_1 = ld32(r_2g);
     if (!(((u64)r_yf_1 + (u64)a_3) > (u64)(ld64(away(a_2, 64ull)) >> 3ull))) { r_zv = r_yf_1; goto l_then_pp; }
     r_o8 = away(a_2, 88ull);
-    struct s_i8_i32 r_vy = capnp_arena_arena_bounds_first_by_bounds_96bc33dd2dacd45a(ldp(r_o8), ld64(away(a_2, 96ull)), a_3);
-    r_ll = (r_vy.f1 + 1u);
-    if (!(r_vy.f0 == 1u)) goto l_arm_90;
-    if (!(r_ll == 0u)) goto l_else_ls;
+    struct s_i8_i32 r_wr = capnp_arena_arena_bounds_first_fit_by_bounds_96bc33dd2dacd45a(ldp(r_o8), ld64(away(a_2, 96ull)), a_3);
+    r_ll = (r_wr.f1 + 1u);
+    if (!(r_wr.f0 == 1u)) goto l_arm_90;
+    if (!(r_ll == 0u)) goto l_else_35;
     r_zv = ld32(r_2g);
 l_then_pp:;
     st32(r_2g, (r_zv + a_3));
     r_oh = 0u;
     r_yv = r_zv;
     goto l_join_iz;
-l_else_ls:;
-    u32 r_vq = capnp_arena_arena_rows_take_in_96bc33dd2dacd45a(ldp(r_o8), ((u64)r_ll + 0xffffffffffffffffull), a_3);
+l_else_35:;
+    u32 r_sd = capnp_arena_arena_rows_allocate_fitting_in_96bc33dd2dacd45a(ldp(r_o8), ((u64)r_ll + 0xffffffffffffffffull), a_3);
     r_oh = r_ll;
-    r_yv = r_vq;
+    r_yv = r_sd;
     goto l_join_iz;
 l_arm_90:;
     if (!(u8)(ld8(r_yf) & 1)) { r_zm = 0u; r_fq_1 = 0ull; goto l_join_el; }
@@ -5929,7 +5929,7 @@ l_arm_7m:;
     r_yv = 0u;
     goto l_join_iz;
 l_else_91:;
-    capnp_arena_arena_rows_take_in_96bc33dd2dacd45a(ldp(away(a_2, 88ull)), ((r_fq_1 & 0xffffffffull) + 0xffffffffffffffffull), a_3);
+    capnp_arena_arena_rows_allocate_fitting_in_96bc33dd2dacd45a(ldp(away(a_2, 88ull)), ((r_fq_1 & 0xffffffffull) + 0xffffffffffffffffull), a_3);
     r_oh = r_wt;
     r_yv = 0u;
     goto l_join_iz;
@@ -5949,8 +5949,8 @@ l_join_iz:;
     goto l_common_8p;
 }
 
-/* capnp_arena::arena::bounds::first_by_bounds::<#96bc33dd2dacd45a> */
-static NEVER struct s_i8_i32 capnp_arena_arena_bounds_first_by_bounds_96bc33dd2dacd45a(u8 *a_1, u64 a_2, u32 a_3)
+/* capnp_arena::arena::bounds::first_fit_by_bounds::<#96bc33dd2dacd45a> */
+static NEVER struct s_i8_i32 capnp_arena_arena_bounds_first_fit_by_bounds_96bc33dd2dacd45a(u8 *a_1, u64 a_2, u32 a_3)
 {
     u8 r_0f;
     u64 r_7l;
@@ -6137,8 +6137,8 @@ l_loop_jc:;
     goto l_capnp_k4;
 l_else_wj:;
     if (!(ld64(away(away(r_8z, r_z6), 0xfffffffffffffff8ull)) == 0ull)) { r_xk = r_u7_1; goto l_capnp_k4; }
-    u64 r_jw = capnp_words_lanes_end_of_blocks(r_8z, r_z6);
-    r_nm_1 = r_jw;
+    u64 r_qz = capnp_words_lanes_used_words_bound(r_8z, r_z6);
+    r_nm_1 = r_qz;
 l_loop_jc_1:;
     if (r_nm_1 == 0ull) { r_xk = 0ull; goto l_capnp_k4; }
     u64 r_0f_1 = (r_nm_1 + 0xffffffffffffffffull);
@@ -6161,8 +6161,8 @@ l_loop_jc_2:;
     goto l_capnp_6t;
 l_else_wj_1:;
     if (!(ld64(away(away(r_8z_1, r_z6_3), 0xfffffffffffffff8ull)) == 0ull)) { r_ie = r_u7_3; goto l_capnp_6t; }
-    u64 r_jw_1 = capnp_words_lanes_end_of_blocks(r_8z_1, r_z6_3);
-    r_nm_3 = r_jw_1;
+    u64 r_qz_1 = capnp_words_lanes_used_words_bound(r_8z_1, r_z6_3);
+    r_nm_3 = r_qz_1;
 l_loop_jc_3:;
     if (r_nm_3 == 0ull) { r_ie = 0ull; goto l_capnp_6t; }
     u64 r_0f_3 = (r_nm_3 + 0xffffffffffffffffull);
@@ -6205,8 +6205,8 @@ l_loop_jc:;
     goto l_capnp_91;
 l_else_wj:;
     if (!(ld64(away(away(r_8z, r_v8), 0xfffffffffffffff8ull)) == 0ull)) { r_z1 = a_3; goto l_capnp_91; }
-    u64 r_jw = capnp_words_lanes_end_of_blocks(r_8z, r_v8);
-    r_nm_1 = r_jw;
+    u64 r_qz = capnp_words_lanes_used_words_bound(r_8z, r_v8);
+    r_nm_1 = r_qz;
 l_loop_jc_1:;
     if (r_nm_1 == 0ull) { r_z1 = 0ull; goto l_capnp_91; }
     u64 r_0f_1 = (r_nm_1 + 0xffffffffffffffffull);
@@ -6216,8 +6216,8 @@ l_capnp_91:;
     return r_z1;
 }
 
-/* capnp_words::lanes::end_of_blocks */
-static NEVER u64 capnp_words_lanes_end_of_blocks(u8 *a_1, u64 a_2)
+/* capnp_words::lanes::used_words_bound */
+static NEVER u64 capnp_words_lanes_used_words_bound(u8 *a_1, u64 a_2)
 {
     u64 t_rn;
     u64 r_ur;
@@ -6642,8 +6642,8 @@ l_join_s8:;
     return;
 }
 
-/* capnp_making::zeroing::zero_landed::<#22521b95e02b6c38> */
-static NEVER COLD void capnp_making_zeroing_zero_landed_22521b95e02b6c38(u8 *a_1, u8 *a_2)
+/* capnp_making::zeroing::zero_target::<#22521b95e02b6c38> */
+static NEVER COLD void capnp_making_zeroing_zero_target_22521b95e02b6c38(u8 *a_1, u8 *a_2)
 {
     u64 r_tp;
     u32 r_5k;
@@ -6813,7 +6813,7 @@ l_join_if:;
     r_8r = away(a_1, 72ull);
 l_arm_w5:;
     if (r_lc_3 > (u64)ld32(r_8r)) goto l_join_68;
-    if (!((r_y6_1 != 0ull) ? (t_c8 != 0u) : 0u)) goto l_capnp_oj;
+    if (!((r_y6_1 != 0ull) ? (t_c8 != 0u) : 0u)) goto l_capnp_de;
     r_zz = (r_5k_1 + 1u);
     r_2f = 0u;
 l_join_mh:;
@@ -6821,8 +6821,8 @@ l_join_mh:;
     capnp_making_zeroing_zero_pointers_22521b95e02b6c38(a_1, r_5k, r_w0, t_12);
     u32 r_ff = (r_2f + 1u);
     if (!(r_ff == t_c8)) { r_zz = (r_w0 + t_12); r_2f = r_ff; goto l_join_mh; }
-l_capnp_oj:;
-    capnp_making_zeroing_zero_part_22521b95e02b6c38(a_1, r_5k, r_5k_1, r_c4);
+l_capnp_de:;
+    capnp_making_zeroing_zero_if_inside_22521b95e02b6c38(a_1, r_5k, r_5k_1, r_c4);
     goto l_join_68;
 l_arm_dt:;
     capnp_making_zeroing_zero_pointers_22521b95e02b6c38(a_1, r_5k, r_5k_1, (u32)r_ij);
@@ -6961,7 +6961,7 @@ l_else_lz:;
 l_capnp_66:;
     st64((r_y4 + (i64)(r_9i)), 0ull);
     if (!(ld8(slot_1) == 1u)) goto l_capnp_o8;
-    capnp_making_zeroing_zero_landed_22521b95e02b6c38(a_1, r_x5);
+    capnp_making_zeroing_zero_target_22521b95e02b6c38(a_1, r_x5);
     if (!((r_4x & 3ull) == 2ull)) goto l_capnp_o8;
     capnp_making_zeroing_zero_far_pads_22521b95e02b6c38(a_1, r_4x);
 l_capnp_o8:;
@@ -6971,8 +6971,8 @@ l_join_68:;
     return;
 }
 
-/* capnp_making::zeroing::zero_part::<#22521b95e02b6c38> */
-static void capnp_making_zeroing_zero_part_22521b95e02b6c38(u8 *a_1, u32 a_2, u32 a_3, u64 a_4)
+/* capnp_making::zeroing::zero_if_inside::<#22521b95e02b6c38> */
+static void capnp_making_zeroing_zero_if_inside_22521b95e02b6c38(u8 *a_1, u32 a_2, u32 a_3, u64 a_4)
 {
     u64 r_7l;
     u64 r_o7;
@@ -7082,8 +7082,8 @@ l_capnp_68:;
     return;
 }
 
-/* capnp_copies::copy::children::copy_row::<#bb831e3ac151dd45> */
-static NEVER void capnp_copies_copy_children_copy_row_bb831e3ac151dd45(u8 *a_1, u8 *a_2, u32 a_3, u32 a_4, u8 *a_5, u32 a_6, u8 *a_7, u8 a_8)
+/* capnp_copies::copy::children::copy_children_out_of_line::<#bb831e3ac151dd45> */
+static NEVER void capnp_copies_copy_children_copy_children_out_of_line_b_91aa9a64(u8 *a_1, u8 *a_2, u32 a_3, u32 a_4, u8 *a_5, u32 a_6, u8 *a_7, u8 a_8)
 {
     A(8) u8 slot_1[24];
     A(8) u8 slot_2[64];
@@ -7507,8 +7507,8 @@ l_loop_jc:;
     goto l_capnp_bk;
 l_else_wj:;
     if (!(ld64(away(away(r_2b_1, r_z6_7), 0xfffffffffffffff8ull)) == 0ull)) { r_p3 = r_q7; goto l_capnp_bk; }
-    u64 r_jw = capnp_words_lanes_end_of_blocks(r_2b_1, r_z6_7);
-    r_nm_2 = r_jw;
+    u64 r_qz = capnp_words_lanes_used_words_bound(r_2b_1, r_z6_7);
+    r_nm_2 = r_qz;
 l_loop_jc_1:;
     if (r_nm_2 == 0ull) { r_p3 = 0ull; goto l_capnp_bk; }
     u64 r_0f_3 = (r_nm_2 + 0xffffffffffffffffull);
@@ -7528,8 +7528,8 @@ l_loop_jc_2:;
     goto l_capnp_hv;
 l_else_wj_1:;
     if (!(ld64(away(away(r_2b_2, r_z6_11), 0xfffffffffffffff8ull)) == 0ull)) { r_dl = r_p3; r_9n = r_y6; goto l_capnp_hv; }
-    u64 r_jw_1 = capnp_words_lanes_end_of_blocks(r_2b_2, r_z6_11);
-    r_nm_4 = r_jw_1;
+    u64 r_qz_1 = capnp_words_lanes_used_words_bound(r_2b_2, r_z6_11);
+    r_nm_4 = r_qz_1;
 l_loop_jc_3:;
     if (r_nm_4 == 0ull) { r_dl = r_p3; r_9n = 0ull; goto l_capnp_hv; }
     u64 r_0f_5 = (r_nm_4 + 0xffffffffffffffffull);
@@ -7664,7 +7664,7 @@ l_capnp_5c:;
     st32(r_c4_1, (r_5b + ((u32)r_ep & 65535u)));
     st32(r_bk, 0u);
     st32(r_6c_1, r_53);
-    capnp_copies_copy_children_copy_row_bb831e3ac151dd45(slot_1, a_2, sink_7v, (r_29 + r_4r_2), slot_2, r_az, a_7, a_8);
+    capnp_copies_copy_children_copy_children_out_of_line_b_91aa9a64(slot_1, a_2, sink_7v, (r_29 + r_4r_2), slot_2, r_az, a_7, a_8);
     r_2b_5 = ld8(slot_1);
     r_qh = ld8(r_x5_4);
     r_ip = ld32(r_k0_2);
@@ -7721,8 +7721,8 @@ l_capnp_9c:;
     return;
 }
 
-/* capnp_arena::arena::builder_arena_impl::output_apart::<#96bc33dd2dacd45a> */
-static void capnp_arena_arena_builder_arena_impl_output_apart_96bc_5127cbe3(u8 *a_1, u8 *a_2)
+/* capnp_arena::arena::builder_arena_impl::output_of_rows::<#96bc33dd2dacd45a> */
+static void capnp_arena_arena_builder_arena_impl_output_of_rows_96_10a5969e(u8 *a_1, u8 *a_2)
 {
     A(8) u8 slot_1[1];
     A(8) u8 slot_2[24];
@@ -8549,7 +8549,7 @@ l_capnp_4o:;
     stp(slot_1, r_xw_2);
     st64((slot_1 + 8), r_38_2);
     st64((slot_1 + 16), r_38_3);
-    capnp_arena_arena_builder_arena_impl_give_back_others__c35bd785(slot_1);
+    capnp_arena_arena_builder_arena_impl_deallocate_others_70ba8108(slot_1);
     goto l_capnp_f6;
 l_else_ci:;
     if (r_ts) goto l_core_at;
@@ -8680,7 +8680,7 @@ l_arm_3f:;
     st32((slot_2 + 60), 0u);
     memset(slot_2, 0u, 16);
     st32(t_5q, r_yf);
-    capnp_messages_messages_canonical_copy_copy_reached_wi_6bfc6208(slot_1, slot_2, slot_3);
+    capnp_messages_messages_canonical_copy_canonicalize_re_1a840a57(slot_1, slot_2, slot_3);
     u8 r_r5 = ld8(slot_1);
     u32 r_z4 = ld32((slot_1 + 8));
     u32 r_uq = ld32((slot_1 + 12));
@@ -8708,8 +8708,8 @@ l_join_6f:;
     return;
 }
 
-/* capnp_messages::messages::canonical_copy::copy_reached_with::<#4b3bb88258272932> */
-static void capnp_messages_messages_canonical_copy_copy_reached_wi_6bfc6208(u8 *a_1, u8 *a_2, u8 *a_3)
+/* capnp_messages::messages::canonical_copy::canonicalize_reached::<#4b3bb88258272932> */
+static void capnp_messages_messages_canonical_copy_canonicalize_re_1a840a57(u8 *a_1, u8 *a_2, u8 *a_3)
 {
     A(8) u8 slot_1[1];
     A(8) u8 slot_2[32];
@@ -8854,7 +8854,7 @@ static void capnp_messages_messages_canonical_copy_copy_reached_wi_6bfc6208(u8 *
     u32 r_yf;
     u64 r_24_1;
     u32 r_ff_1;
-    struct s_i8_i32 r_r6;
+    struct s_i8_i32 r_kj;
     u64 r_1k;
     u64 r_61;
     u64 r_9s;
@@ -9016,7 +9016,7 @@ l_loop_xs:;
     memset(r_c4, 0u, 32);
     stp(r_l1, slot_1);
     memset(r_k5, 0u, 16);
-    capnp_messages_messages_canonical_copy_make_root_a36f5_b8201421(slot_8, slot_6, r_m4);
+    capnp_messages_messages_canonical_copy_allocate_root_a_37f0c9a9(slot_8, slot_6, r_m4);
     if (!(ld8(slot_8) == 1u)) goto l_join_dw;
     r_r5 = ld8(r_x5_9);
     r_uq = ld32(r_k0_2);
@@ -9032,13 +9032,13 @@ l_loop_xs:;
     r_38_5 = ld64(r_x5);
     r_ts = (ld64(r_6c_1) == 0ull);
     if (!(u8)(ld8(r_1e_1) & 1)) goto l_else_ci;
-    if (r_ts) goto l_capnp_yy;
+    if (r_ts) goto l_capnp_wd;
     rattle_dealloc(r_xw_1);
-l_capnp_yy:;
+l_capnp_wd:;
     stp(slot_2, r_xw_2);
     st64(r_x5_10, r_38_3);
     st64(r_zd_9, r_38_4);
-    capnp_arena_arena_builder_arena_impl_give_back_others__c35bd785(slot_2);
+    capnp_arena_arena_builder_arena_impl_deallocate_others_70ba8108(slot_2);
     goto l_capnp_f6;
 l_else_ci:;
     if (r_ts) goto l_core_at;
@@ -9132,7 +9132,7 @@ l_join_dw:;
     capnp_making_landing_follow_c985307b501351a7(slot_2, slot_7, 0u, 0u);
     st64(r_lz_1, 0ull);
     if (!(ld8(slot_2) == 1u)) goto l_capnp_8g;
-    capnp_making_zeroing_zero_landed_c985307b501351a7(slot_7, r_x5_7);
+    capnp_making_zeroing_zero_target_c985307b501351a7(slot_7, r_x5_7);
     if (!((r_qw_5 & 3ull) == 2ull)) goto l_capnp_8g;
     capnp_making_zeroing_zero_far_pads_c985307b501351a7(slot_7, r_qw_5);
 l_capnp_8g:;
@@ -9156,8 +9156,8 @@ l_loop_jc:;
     goto l_capnp_5d;
 l_else_08:;
     if (!(ld64(r_l7) == 0ull)) { r_wx = r_u7; goto l_capnp_5d; }
-    u64 r_se = capnp_words_lanes_end_of_blocks(r_2b, r_z6);
-    r_nm_1 = r_se;
+    u64 r_r2_1 = capnp_words_lanes_used_words_bound(r_2b, r_z6);
+    r_nm_1 = r_r2_1;
 l_loop_jc_1:;
     if (r_nm_1 == 0ull) { r_wx = 0ull; goto l_capnp_5d; }
     u64 r_0f_1 = (r_nm_1 + 0xffffffffffffffffull);
@@ -9174,8 +9174,8 @@ l_loop_jc_2:;
     goto l_capnp_sa;
 l_else_08_1:;
     if (!(ld64(r_l7_1) == 0ull)) { r_zw = r_u7_1; goto l_capnp_sa; }
-    u64 r_se_1 = capnp_words_lanes_end_of_blocks(r_2b_1, r_z6_2);
-    r_nm_3 = r_se_1;
+    u64 r_r2_2 = capnp_words_lanes_used_words_bound(r_2b_1, r_z6_2);
+    r_nm_3 = r_r2_2;
 l_loop_jc_3:;
     if (r_nm_3 == 0ull) { r_zw = 0ull; goto l_capnp_sa; }
     u64 r_0f_3 = (r_nm_3 + 0xffffffffffffffffull);
@@ -9194,17 +9194,17 @@ l_join_s3:;
     r_3q = away(r_lz_2, 24ull);
     r_yf = ld32(r_3q);
     r_24_1 = (u64)r_yf;
-    if ((r_24_1 + (u64)r_68) > (u64)(ld64(away(r_lz_2, 8ull)) >> 3ull)) goto l_capnp_xr;
+    if ((r_24_1 + (u64)r_68) > (u64)(ld64(away(r_lz_2, 8ull)) >> 3ull)) goto l_capnp_z3;
     st32(r_3q, (r_yf + r_68));
     r_1k = r_24_1;
     r_61 = (((u64)(r_zw << 48ull) | ((u64)(r_wx << 32ull) & 0xffff00000000ull)) | (u64)((u32)(r_yf << 2u) + 0xfffffffcu));
     r_9s = 0ull;
     goto l_capnp_xw;
-l_capnp_xr:;
+l_capnp_z3:;
     r_ff_1 = (r_68 + 1u);
-    r_r6 = capnp_arena_arena_bounds_first_by_bounds_e469ead029109f04(r_lz_2, ld64(r_zd_2), r_ff_1);
-    if (!(r_r6.f0 == 1u)) goto l_arm_b7;
-    u64 t_24 = (u64)r_r6.f1;
+    r_kj = capnp_arena_arena_bounds_first_fit_by_bounds_e469ead029109f04(r_lz_2, ld64(r_zd_2), r_ff_1);
+    if (!(r_kj.f0 == 1u)) goto l_arm_b7;
+    u64 t_24 = (u64)r_kj.f1;
     u8 *r_2b_4 = away(r_lz_2, (u64)(t_24 << 5ull));
     u8 *r_3q_1 = away(r_2b_4, 24ull);
     u32 r_yf_1 = ld32(r_3q_1);
@@ -9262,7 +9262,7 @@ l_capnp_5c:;
     st32(r_c4_1, r_w0);
     st32(r_bk, 0u);
     st32(t_6c, r_5k_2);
-    capnp_copies_copy_children_copy_row_a062206830695632(slot_2, slot_7, r_wt, (r_29 + r_4r_1), slot_3, r_az, slot_5, 1u);
+    capnp_copies_copy_children_copy_children_out_of_line_a_ed7c55cb(slot_2, slot_7, r_wt, (r_29 + r_4r_1), slot_3, r_az, slot_5, 1u);
     r_2b_7 = ld8(slot_2);
     r_qh_1 = ld8(r_x5_4);
     r_ip_1 = ld32(r_k0);
@@ -9392,13 +9392,13 @@ l_capnp_gc:;
 l_arm_04:;
     r_ts_20 = (r_38_17 == 0ull);
     if (!(u8)(r_r5_7 & 1)) goto l_else_ci_1;
-    if (r_ts_20) goto l_capnp_yy_1;
+    if (r_ts_20) goto l_capnp_wd_1;
     rattle_dealloc(r_xw_3);
-l_capnp_yy_1:;
+l_capnp_wd_1:;
     stp(slot_2, r_xw_4);
     st64(r_x5_8, r_38_19);
     st64(r_zd_7, r_38_20);
-    capnp_arena_arena_builder_arena_impl_give_back_others__c35bd785(slot_2);
+    capnp_arena_arena_builder_arena_impl_deallocate_others_70ba8108(slot_2);
     goto l_capnp_jm;
 l_else_ci_1:;
     if (r_ts_20) goto l_core_at_1;
@@ -9483,8 +9483,8 @@ l_after_3i:;
     goto l_loop_xs;
 }
 
-/* capnp_messages::messages::canonical_copy::make_root::<#a36f54a6c3481657> */
-static void capnp_messages_messages_canonical_copy_make_root_a36f5_b8201421(u8 *a_1, u8 *a_2, u32 a_3)
+/* capnp_messages::messages::canonical_copy::allocate_root::<#a36f54a6c3481657> */
+static void capnp_messages_messages_canonical_copy_allocate_root_a_37f0c9a9(u8 *a_1, u8 *a_2, u32 a_3)
 {
     A(1) u8 slot_1[1];
     u8 *r_xz;
@@ -9750,7 +9750,7 @@ static NEVER void capnp_copies_copy_copy_object_a062206830695632(u8 *a_1, u8 *a_
     u32 r_ff_1;
     u8 *r_08_3;
     u64 r_52_10;
-    struct s_i8_i32 r_mm;
+    struct s_i8_i32 r_nt_1;
     u8 *r_py_1;
     u64 r_38_7;
     u64 sink_4g;
@@ -9763,7 +9763,7 @@ static NEVER void capnp_copies_copy_copy_object_a062206830695632(u8 *a_1, u8 *a_
     u32 r_ff_2;
     u8 *r_08_4;
     u64 r_52_13;
-    struct s_i8_i32 r_mm_1;
+    struct s_i8_i32 r_nt_2;
     u8 *r_py_2;
     u64 r_38_9;
     u64 sink_4f;
@@ -9949,7 +9949,7 @@ static NEVER void capnp_copies_copy_copy_object_a062206830695632(u8 *a_1, u8 *a_
     u64 r_24_43;
     u32 r_ff_5;
     u64 r_52_25;
-    struct s_i8_i32 r_mm_2;
+    struct s_i8_i32 r_nt_3;
     u8 *r_py_3;
     u64 r_38_19;
     u64 sink_yk;
@@ -9989,7 +9989,7 @@ static NEVER void capnp_copies_copy_copy_object_a062206830695632(u8 *a_1, u8 *a_
     u32 r_yf_15;
     u32 r_ff_6;
     u64 r_52_31;
-    struct s_i8_i32 r_mm_3;
+    struct s_i8_i32 r_nt_4;
     u8 *r_py_4;
     u64 r_38_23;
     u64 r_8m;
@@ -10289,8 +10289,8 @@ l_loop_jc:;
     goto l_capnp_fc;
 l_else_wj:;
     if (!(ld64(away(away(r_c0_1, r_z6_3), 0xfffffffffffffff8ull)) == 0ull)) { r_ev = r_q7_1; goto l_capnp_fc; }
-    u64 r_jw = capnp_words_lanes_end_of_blocks(r_c0_1, r_z6_3);
-    r_nm_1 = r_jw;
+    u64 r_qz = capnp_words_lanes_used_words_bound(r_c0_1, r_z6_3);
+    r_nm_1 = r_qz;
 l_loop_jc_1:;
     if (r_nm_1 == 0ull) { r_ev = 0ull; goto l_capnp_fc; }
     u64 r_0f_1 = (r_nm_1 + 0xffffffffffffffffull);
@@ -10309,8 +10309,8 @@ l_loop_jc_2:;
     goto l_capnp_kv;
 l_else_wj_1:;
     if (!(ld64(away(away(r_c0_2, r_z6_7), 0xfffffffffffffff8ull)) == 0ull)) { r_mh = r_y6; goto l_capnp_kv; }
-    u64 r_jw_1 = capnp_words_lanes_end_of_blocks(r_c0_2, r_z6_7);
-    r_nm_3 = r_jw_1;
+    u64 r_qz_1 = capnp_words_lanes_used_words_bound(r_c0_2, r_z6_7);
+    r_nm_3 = r_qz_1;
 l_loop_jc_3:;
     if (r_nm_3 == 0ull) { r_mh = 0ull; goto l_capnp_kv; }
     u64 r_0f_3 = (r_nm_3 + 0xffffffffffffffffull);
@@ -10403,7 +10403,7 @@ l_capnp_am:;
     st32((slot_2 + 48), (r_az + r_gx));
     st32((slot_2 + 52), 0u);
     st32((slot_2 + 56), r_4w);
-    capnp_copies_copy_children_copy_row_a062206830695632(slot_1, a_2, r_t8, (r_29 + r_qt), slot_2, r_ib, a_6, a_7);
+    capnp_copies_copy_children_copy_children_out_of_line_a_ed7c55cb(slot_1, a_2, r_t8, (r_29 + r_qt), slot_2, r_ib, a_6, a_7);
     r_t8_1 = ld8(slot_1);
     r_hg = ld8((slot_1 + 8));
     r_lc_9 = ld32((slot_1 + 12));
@@ -10507,13 +10507,13 @@ l_arm_i3_1:;
     r_ff_1 = (r_12_3 + 1u);
     r_08_3 = away(a_2, 16ull);
     r_52_10 = ld64(r_08_3);
-    if (r_52_10 == 0ull) goto l_capnp_6t;
+    if (r_52_10 == 0ull) goto l_capnp_io;
     if (!(((u64)ld32(away(r_lz_13, 24ull)) + (u64)r_ff_1) > (u64)(ld64(away(r_lz_13, 8ull)) >> 3ull))) { r_py_1 = r_lz_13; r_38_7 = 0ull; goto l_capnp_k1; }
-l_capnp_6t:;
-    r_mm = capnp_arena_arena_bounds_first_by_bounds_e469ead029109f04(r_lz_13, r_52_10, r_ff_1);
-    if (!(r_mm.f0 == 1u)) goto l_arm_xh;
+l_capnp_io:;
+    r_nt_1 = capnp_arena_arena_bounds_first_fit_by_bounds_e469ead029109f04(r_lz_13, r_52_10, r_ff_1);
+    if (!(r_nt_1.f0 == 1u)) goto l_arm_xh;
     r_py_1 = ldp(r_rq_12);
-    r_38_7 = (u64)r_mm.f1;
+    r_38_7 = (u64)r_nt_1.f1;
     goto l_capnp_k1;
 l_arm_xh:;
     if (ld64(r_08_3) > 0xfffffffeull) { r_5k_2 = 1u; r_qp = 27u; r_7u = 0u; r_pz = 0xffffffffffffffffull; goto l_join_1g; }
@@ -10589,13 +10589,13 @@ l_arm_i3:;
     r_ff_2 = (r_12_1 + 1u);
     r_08_4 = away(a_2, 16ull);
     r_52_13 = ld64(r_08_4);
-    if (r_52_13 == 0ull) goto l_capnp_6t_1;
+    if (r_52_13 == 0ull) goto l_capnp_io_1;
     if (!(((u64)ld32(away(r_lz, 24ull)) + (u64)r_ff_2) > (u64)(ld64(away(r_lz, 8ull)) >> 3ull))) { r_py_2 = r_lz; r_38_9 = 0ull; goto l_capnp_k1_1; }
-l_capnp_6t_1:;
-    r_mm_1 = capnp_arena_arena_bounds_first_by_bounds_e469ead029109f04(r_lz, r_52_13, r_ff_2);
-    if (!(r_mm_1.f0 == 1u)) goto l_arm_xh_1;
+l_capnp_io_1:;
+    r_nt_2 = capnp_arena_arena_bounds_first_fit_by_bounds_e469ead029109f04(r_lz, r_52_13, r_ff_2);
+    if (!(r_nt_2.f0 == 1u)) goto l_arm_xh_1;
     r_py_2 = ldp(r_rq_7);
-    r_38_9 = (u64)r_mm_1.f1;
+    r_38_9 = (u64)r_nt_2.f1;
     goto l_capnp_k1_1;
 l_arm_xh_1:;
     if (ld64(r_08_4) > 0xfffffffeull) { r_5k_2 = 1u; r_qp = 27u; r_7u = 0u; r_pz = 0xffffffffffffffffull; goto l_join_1g; }
@@ -10835,7 +10835,7 @@ l_arm_zo:;
     st32(r_c4_6, (r_5b + ((u32)r_ep_4 & 65535u)));
     st32(r_bk_1, 0u);
     st32(r_6c_2, r_s1);
-    capnp_copies_copy_children_copy_row_a062206830695632(slot_1, a_2, r_wt_2, (r_az_2 + r_4r_9), slot_2, r_az_3, a_6, a_7);
+    capnp_copies_copy_children_copy_children_out_of_line_a_ed7c55cb(slot_1, a_2, r_wt_2, (r_az_2 + r_4r_9), slot_2, r_az_3, a_6, a_7);
     r_2b_29 = ld8(slot_1);
     r_qh = ld8(r_x5_11);
     r_ip = ld32(r_k0_4);
@@ -11057,13 +11057,13 @@ l_arm_p5_1:;
 l_arm_x1:;
     r_ff_5 = (r_12_5 + 1u);
     r_52_25 = ld64(r_08_7);
-    if (r_52_25 == 0ull) goto l_capnp_6t_2;
+    if (r_52_25 == 0ull) goto l_capnp_io_2;
     if (!(((u64)ld32(away(r_lz_49, 24ull)) + (u64)r_ff_5) > (u64)(ld64(away(r_lz_49, 8ull)) >> 3ull))) { r_py_3 = r_lz_49; r_38_19 = 0ull; goto l_capnp_k1_2; }
-l_capnp_6t_2:;
-    r_mm_2 = capnp_arena_arena_bounds_first_by_bounds_e469ead029109f04(r_lz_49, r_52_25, r_ff_5);
-    if (!(r_mm_2.f0 == 1u)) goto l_arm_u6;
+l_capnp_io_2:;
+    r_nt_3 = capnp_arena_arena_bounds_first_fit_by_bounds_e469ead029109f04(r_lz_49, r_52_25, r_ff_5);
+    if (!(r_nt_3.f0 == 1u)) goto l_arm_u6;
     r_py_3 = ldp(r_rq_14);
-    r_38_19 = (u64)r_mm_2.f1;
+    r_38_19 = (u64)r_nt_3.f1;
     goto l_capnp_k1_2;
 l_arm_u6:;
     if (ld64(r_08_7) > 0xfffffffeull) { r_2b_32 = 27u; r_qh_1 = 0xffffffffffffffffull; goto l_capnp_no_1; }
@@ -11167,8 +11167,8 @@ l_loop_jc_4:;
     goto l_capnp_fc_1;
 l_else_wj_2:;
     if (!(ld64(away(away(r_c0_12, r_z6_56), 0xfffffffffffffff8ull)) == 0ull)) { r_ev_1 = r_q7_3; goto l_capnp_fc_1; }
-    u64 r_jw_2 = capnp_words_lanes_end_of_blocks(r_c0_12, r_z6_56);
-    r_nm_7 = r_jw_2;
+    u64 r_qz_2 = capnp_words_lanes_used_words_bound(r_c0_12, r_z6_56);
+    r_nm_7 = r_qz_2;
 l_loop_jc_5:;
     if (r_nm_7 == 0ull) { r_ev_1 = 0ull; goto l_capnp_fc_1; }
     u64 r_0f_7 = (r_nm_7 + 0xffffffffffffffffull);
@@ -11188,8 +11188,8 @@ l_loop_jc_6:;
     goto l_capnp_hv;
 l_else_wj_3:;
     if (!(ld64(away(away(r_c0_13, r_z6_60), 0xfffffffffffffff8ull)) == 0ull)) { r_dl = r_ev_1; r_9n = r_y6_3; goto l_capnp_hv; }
-    u64 r_jw_3 = capnp_words_lanes_end_of_blocks(r_c0_13, r_z6_60);
-    r_nm_9 = r_jw_3;
+    u64 r_qz_3 = capnp_words_lanes_used_words_bound(r_c0_13, r_z6_60);
+    r_nm_9 = r_qz_3;
 l_loop_jc_7:;
     if (r_nm_9 == 0ull) { r_dl = r_ev_1; r_9n = 0ull; goto l_capnp_hv; }
     u64 r_0f_9 = (r_nm_9 + 0xffffffffffffffffull);
@@ -11220,13 +11220,13 @@ l_join_bs_1:;
 l_arm_x1_1:;
     r_ff_6 = (r_68_5 + 1u);
     r_52_31 = ld64(r_08_7);
-    if (r_52_31 == 0ull) goto l_capnp_6t_3;
+    if (r_52_31 == 0ull) goto l_capnp_io_3;
     if (!(((u64)ld32(away(r_lz_60, 24ull)) + (u64)r_ff_6) > (u64)(ld64(away(r_lz_60, 8ull)) >> 3ull))) { r_py_4 = r_lz_60; r_38_23 = 0ull; goto l_capnp_k1_3; }
-l_capnp_6t_3:;
-    r_mm_3 = capnp_arena_arena_bounds_first_by_bounds_e469ead029109f04(r_lz_60, r_52_31, r_ff_6);
-    if (!(r_mm_3.f0 == 1u)) goto l_arm_u6_1;
+l_capnp_io_3:;
+    r_nt_4 = capnp_arena_arena_bounds_first_fit_by_bounds_e469ead029109f04(r_lz_60, r_52_31, r_ff_6);
+    if (!(r_nt_4.f0 == 1u)) goto l_arm_u6_1;
     r_py_4 = ldp(r_rq_14);
-    r_38_23 = (u64)r_mm_3.f1;
+    r_38_23 = (u64)r_nt_4.f1;
     goto l_capnp_k1_3;
 l_arm_u6_1:;
     if (ld64(r_08_7) > 0xfffffffeull) { r_bz = 1u; r_r3 = 27u; r_n9 = 0u; r_1s = 0xffffffffffffffffull; goto l_capnp_57; }
@@ -11295,7 +11295,7 @@ l_capnp_5c:;
     st32(r_c4_10, (r_5b_1 + ((u32)r_ep_7 & 65535u)));
     st32(r_bk_2, 0u);
     st32(r_6c_4, r_s1_1);
-    capnp_copies_copy_children_copy_row_a062206830695632(slot_1, a_2, r_wt_4, (r_29_2 + r_4r_13), slot_2, r_az_4, a_6, a_7);
+    capnp_copies_copy_children_copy_children_out_of_line_a_ed7c55cb(slot_1, a_2, r_wt_4, (r_29_2 + r_4r_13), slot_2, r_az_4, a_6, a_7);
     r_2b_49 = ld8(slot_1);
     r_qh_2 = ld8(r_x5_16);
     r_ip_1 = ld32(r_k0_7);
@@ -11374,7 +11374,7 @@ static void capnp_arena_arena_builder_arena_impl_BuilderArenaImplB_78fb6fbb(u8 *
     u8 *r_lz;
     u8 *r_08;
     u64 r_52;
-    struct s_i8_i32 r_2k;
+    struct s_i8_i32 r_me;
     u64 sink_zz;
     u64 sink_4j;
     u64 sink_vm;
@@ -11384,13 +11384,13 @@ static void capnp_arena_arena_builder_arena_impl_BuilderArenaImplB_78fb6fbb(u8 *
     r_lz = ldp(r_rq);
     r_08 = away(a_2, 16ull);
     r_52 = ld64(r_08);
-    if (r_52 == 0ull) goto l_capnp_so;
+    if (r_52 == 0ull) goto l_capnp_wz;
     if (!(((u64)ld32(away(r_lz, 24ull)) + (u64)a_3) > (u64)(ld64(away(r_lz, 8ull)) >> 3ull))) { r_py = r_lz; r_38 = 0ull; goto l_join_k1; }
-l_capnp_so:;
-    r_2k = capnp_arena_arena_bounds_first_by_bounds_e469ead029109f04(r_lz, r_52, a_3);
-    if (!(r_2k.f0 == 1u)) goto l_arm_nn;
+l_capnp_wz:;
+    r_me = capnp_arena_arena_bounds_first_fit_by_bounds_e469ead029109f04(r_lz, r_52, a_3);
+    if (!(r_me.f0 == 1u)) goto l_arm_nn;
     r_py = ldp(r_rq);
-    r_38 = (u64)r_2k.f1;
+    r_38 = (u64)r_me.f1;
     goto l_join_k1;
 l_arm_nn:;
     if (ld64(r_08) > 0xfffffffeull) { sink_4j = 0x1b00000000ull; sink_vm = 0xffffffffffffffffull; goto l_arm_bx; }
@@ -11422,8 +11422,8 @@ l_join_k1:;
     goto l_common_8p;
 }
 
-/* capnp_arena::arena::bounds::first_by_bounds::<#e469ead029109f04> */
-static NEVER struct s_i8_i32 capnp_arena_arena_bounds_first_by_bounds_e469ead029109f04(u8 *a_1, u64 a_2, u32 a_3)
+/* capnp_arena::arena::bounds::first_fit_by_bounds::<#e469ead029109f04> */
+static NEVER struct s_i8_i32 capnp_arena_arena_bounds_first_fit_by_bounds_e469ead029109f04(u8 *a_1, u64 a_2, u32 a_3)
 {
     u8 r_0f;
     u64 r_7l;
@@ -11568,7 +11568,7 @@ static void capnp_making_making_make_struct_list_c985307b501351a7(u8 *a_1, u8 *a
     u32 r_z3;
     u8 *r_08;
     u64 r_52_1;
-    struct s_i8_i32 r_mm_1;
+    struct s_i8_i32 r_nt;
     u8 *r_py;
     u64 r_38;
     u64 sink_k1;
@@ -11596,13 +11596,13 @@ l_arm_zj:;
     r_z3 = (r_cb + 2u);
     r_08 = away(a_2, 16ull);
     r_52_1 = ld64(r_08);
-    if (r_52_1 == 0ull) goto l_capnp_6t;
+    if (r_52_1 == 0ull) goto l_capnp_io;
     if (!(((u64)ld32(away(r_lz, 24ull)) + (u64)r_z3) > (u64)(ld64(away(r_lz, 8ull)) >> 3ull))) { r_py = r_lz; r_38 = 0ull; goto l_capnp_k1; }
-l_capnp_6t:;
-    r_mm_1 = capnp_arena_arena_bounds_first_by_bounds_e469ead029109f04(r_lz, r_52_1, r_z3);
-    if (!(r_mm_1.f0 == 1u)) goto l_arm_eg;
+l_capnp_io:;
+    r_nt = capnp_arena_arena_bounds_first_fit_by_bounds_e469ead029109f04(r_lz, r_52_1, r_z3);
+    if (!(r_nt.f0 == 1u)) goto l_arm_eg;
     r_py = ldp(r_rq);
-    r_38 = (u64)r_mm_1.f1;
+    r_38 = (u64)r_nt.f1;
     goto l_capnp_k1;
 l_arm_eg:;
     if (ld64(r_08) > 0xfffffffeull) { sink_s0 = 1u; sink_zk = 0x1b00000000ull; sink_x4 = 0xffffffffffffffffull; goto l_common_ma; }
@@ -11836,8 +11836,8 @@ l_join_s8:;
     return;
 }
 
-/* capnp_making::zeroing::zero_landed::<#c985307b501351a7> */
-static NEVER COLD void capnp_making_zeroing_zero_landed_c985307b501351a7(u8 *a_1, u8 *a_2)
+/* capnp_making::zeroing::zero_target::<#c985307b501351a7> */
+static NEVER COLD void capnp_making_zeroing_zero_target_c985307b501351a7(u8 *a_1, u8 *a_2)
 {
     u64 r_tp;
     u32 r_5k;
@@ -11956,7 +11956,7 @@ l_capnp_qm:;
     r_c4 = (((u64)(r_az_1 + t_12) * (u64)t_c8) + 1ull);
     if (!r_qc_2) goto l_join_68;
     if ((r_c4 + (u64)r_5k_1) > (u64)ld32(away(away(ldp(away(a_1, 8ull)), (u64)(r_24_2 << 5ull)), 24ull))) goto l_join_68;
-    if (!((r_y6_1 != 0ull) ? (t_c8 != 0u) : 0u)) goto l_capnp_mb;
+    if (!((r_y6_1 != 0ull) ? (t_c8 != 0u) : 0u)) goto l_capnp_t7;
     r_h5 = (r_5k_1 + 1u);
     r_zs = 0u;
 l_join_q9:;
@@ -11964,8 +11964,8 @@ l_join_q9:;
     capnp_making_zeroing_zero_pointers_c985307b501351a7(a_1, r_5k, r_w0, t_12);
     u32 r_ff = (r_zs + 1u);
     if (!(r_ff == t_c8)) { r_h5 = (r_w0 + t_12); r_zs = r_ff; goto l_join_q9; }
-l_capnp_mb:;
-    capnp_making_zeroing_zero_part_c985307b501351a7(a_1, r_5k, r_5k_1, r_c4);
+l_capnp_t7:;
+    capnp_making_zeroing_zero_if_inside_c985307b501351a7(a_1, r_5k, r_5k_1, r_c4);
     goto l_join_68;
 l_arm_v1:;
     capnp_making_zeroing_zero_pointers_c985307b501351a7(a_1, r_5k, r_5k_1, (u32)r_ij);
@@ -12052,7 +12052,7 @@ l_join_at:;
     capnp_making_landing_follow_c985307b501351a7(slot_1, a_1, a_2, r_7m);
     st64(r_a7, 0ull);
     if (!(ld8(slot_1) == 1u)) goto l_capnp_o8;
-    capnp_making_zeroing_zero_landed_c985307b501351a7(a_1, r_x5);
+    capnp_making_zeroing_zero_target_c985307b501351a7(a_1, r_x5);
     if (!((r_qw & 3ull) == 2ull)) goto l_capnp_o8;
     capnp_making_zeroing_zero_far_pads_c985307b501351a7(a_1, r_qw);
 l_capnp_o8:;
@@ -12062,8 +12062,8 @@ l_join_68:;
     return;
 }
 
-/* capnp_making::zeroing::zero_part::<#c985307b501351a7> */
-static void capnp_making_zeroing_zero_part_c985307b501351a7(u8 *a_1, u32 a_2, u32 a_3, u64 a_4)
+/* capnp_making::zeroing::zero_if_inside::<#c985307b501351a7> */
+static void capnp_making_zeroing_zero_if_inside_c985307b501351a7(u8 *a_1, u32 a_2, u32 a_3, u64 a_4)
 {
     u64 r_7l;
     u64 r_7l_1;
@@ -12133,8 +12133,8 @@ l_capnp_68:;
     return;
 }
 
-/* capnp_copies::copy::children::copy_row::<#a062206830695632> */
-static NEVER void capnp_copies_copy_children_copy_row_a062206830695632(u8 *a_1, u8 *a_2, u32 a_3, u32 a_4, u8 *a_5, u32 a_6, u8 *a_7, u8 a_8)
+/* capnp_copies::copy::children::copy_children_out_of_line::<#a062206830695632> */
+static NEVER void capnp_copies_copy_children_copy_children_out_of_line_a_ed7c55cb(u8 *a_1, u8 *a_2, u32 a_3, u32 a_4, u8 *a_5, u32 a_6, u8 *a_7, u8 a_8)
 {
     A(8) u8 slot_1[24];
     A(8) u8 slot_2[64];
@@ -12206,7 +12206,7 @@ static NEVER void capnp_copies_copy_children_copy_row_a062206830695632(u8 *a_1, 
     u64 r_24_1;
     u32 r_ff;
     u64 r_52_3;
-    struct s_i8_i32 r_mm;
+    struct s_i8_i32 r_nt;
     u8 *r_py;
     u64 r_38;
     u64 sink_yk;
@@ -12247,7 +12247,7 @@ static NEVER void capnp_copies_copy_children_copy_row_a062206830695632(u8 *a_1, 
     u32 r_yf_3;
     u32 r_ff_1;
     u64 r_52_9;
-    struct s_i8_i32 r_mm_1;
+    struct s_i8_i32 r_nt_1;
     u8 *r_py_1;
     u64 r_38_4;
     u64 r_8m;
@@ -12390,13 +12390,13 @@ l_arm_5g:;
 l_arm_x1:;
     r_ff = (r_12 + 1u);
     r_52_3 = ld64(r_08_2);
-    if (r_52_3 == 0ull) goto l_capnp_6t;
+    if (r_52_3 == 0ull) goto l_capnp_io;
     if (!(((u64)ld32(away(r_lz, 24ull)) + (u64)r_ff) > (u64)(ld64(away(r_lz, 8ull)) >> 3ull))) { r_py = r_lz; r_38 = 0ull; goto l_capnp_k1; }
-l_capnp_6t:;
-    r_mm = capnp_arena_arena_bounds_first_by_bounds_e469ead029109f04(r_lz, r_52_3, r_ff);
-    if (!(r_mm.f0 == 1u)) goto l_arm_nn;
+l_capnp_io:;
+    r_nt = capnp_arena_arena_bounds_first_fit_by_bounds_e469ead029109f04(r_lz, r_52_3, r_ff);
+    if (!(r_nt.f0 == 1u)) goto l_arm_nn;
     r_py = ldp(r_rq_2);
-    r_38 = (u64)r_mm.f1;
+    r_38 = (u64)r_nt.f1;
     goto l_capnp_k1;
 l_arm_nn:;
     if (ld64(r_08_2) > 0xfffffffeull) { r_7k = 0xffffffffffffffffull; r_zq = 27u; goto l_arm_i0; }
@@ -12500,8 +12500,8 @@ l_loop_jc:;
     goto l_capnp_bk;
 l_else_wj:;
     if (!(ld64(away(away(r_2b_8, r_z6_6), 0xfffffffffffffff8ull)) == 0ull)) { r_p3 = r_q7; goto l_capnp_bk; }
-    u64 r_jw = capnp_words_lanes_end_of_blocks(r_2b_8, r_z6_6);
-    r_nm_2 = r_jw;
+    u64 r_qz = capnp_words_lanes_used_words_bound(r_2b_8, r_z6_6);
+    r_nm_2 = r_qz;
 l_loop_jc_1:;
     if (r_nm_2 == 0ull) { r_p3 = 0ull; goto l_capnp_bk; }
     u64 r_0f_2 = (r_nm_2 + 0xffffffffffffffffull);
@@ -12521,8 +12521,8 @@ l_loop_jc_2:;
     goto l_capnp_hv;
 l_else_wj_1:;
     if (!(ld64(away(away(r_2b_9, r_z6_10), 0xfffffffffffffff8ull)) == 0ull)) { r_dl = r_p3; r_9n = r_y6; goto l_capnp_hv; }
-    u64 r_jw_1 = capnp_words_lanes_end_of_blocks(r_2b_9, r_z6_10);
-    r_nm_4 = r_jw_1;
+    u64 r_qz_1 = capnp_words_lanes_used_words_bound(r_2b_9, r_z6_10);
+    r_nm_4 = r_qz_1;
 l_loop_jc_3:;
     if (r_nm_4 == 0ull) { r_dl = r_p3; r_9n = 0ull; goto l_capnp_hv; }
     u64 r_0f_4 = (r_nm_4 + 0xffffffffffffffffull);
@@ -12553,13 +12553,13 @@ l_join_s3:;
 l_arm_x1_1:;
     r_ff_1 = (r_68 + 1u);
     r_52_9 = ld64(r_08_2);
-    if (r_52_9 == 0ull) goto l_capnp_6t_1;
+    if (r_52_9 == 0ull) goto l_capnp_io_1;
     if (!(((u64)ld32(away(r_lz_11, 24ull)) + (u64)r_ff_1) > (u64)(ld64(away(r_lz_11, 8ull)) >> 3ull))) { r_py_1 = r_lz_11; r_38_4 = 0ull; goto l_capnp_k1_1; }
-l_capnp_6t_1:;
-    r_mm_1 = capnp_arena_arena_bounds_first_by_bounds_e469ead029109f04(r_lz_11, r_52_9, r_ff_1);
-    if (!(r_mm_1.f0 == 1u)) goto l_arm_u6;
+l_capnp_io_1:;
+    r_nt_1 = capnp_arena_arena_bounds_first_fit_by_bounds_e469ead029109f04(r_lz_11, r_52_9, r_ff_1);
+    if (!(r_nt_1.f0 == 1u)) goto l_arm_u6;
     r_py_1 = ldp(r_rq_2);
-    r_38_4 = (u64)r_mm_1.f1;
+    r_38_4 = (u64)r_nt_1.f1;
     goto l_capnp_k1_1;
 l_arm_u6:;
     if (ld64(r_08_2) > 0xfffffffeull) { r_bz = 1u; r_r3 = 27u; r_n9 = 0u; r_1s = 0xffffffffffffffffull; goto l_capnp_57; }
@@ -12628,7 +12628,7 @@ l_capnp_5c:;
     st32(r_c4_1, (r_5b + ((u32)r_ep & 65535u)));
     st32(r_bk, 0u);
     st32(r_6c_1, r_53);
-    capnp_copies_copy_children_copy_row_a062206830695632(slot_1, a_2, r_wt, (r_29 + r_4r_3), slot_2, r_az, a_7, a_8);
+    capnp_copies_copy_children_copy_children_out_of_line_a_ed7c55cb(slot_1, a_2, r_wt, (r_29 + r_4r_3), slot_2, r_az, a_7, a_8);
     r_2b_17 = ld8(slot_1);
     r_qh = ld8(r_x5_3);
     r_ip = ld32(r_k0_1);
@@ -12761,8 +12761,8 @@ l_return_hj:;
     return r_yq;
 }
 
-/* capnp_arena::arena::builder_arena_impl::give_back_others::<#a36f54a6c3481657> */
-static NEVER void capnp_arena_arena_builder_arena_impl_give_back_others__c35bd785(u8 *a_1)
+/* capnp_arena::arena::builder_arena_impl::deallocate_others::<#a36f54a6c3481657> */
+static NEVER void capnp_arena_arena_builder_arena_impl_deallocate_others_70ba8108(u8 *a_1)
 {
     A(8) u8 slot_1[32];
     u8 *r_mb;
@@ -12873,7 +12873,7 @@ static void capnp_arena_arena_builder_arena_impl_BuilderArenaImpl__1592d6b0(u8 *
     stp(slot_1, r_rv_1);
     st64((slot_1 + 8), r_qw_2);
     st64((slot_1 + 16), r_qw_3);
-    capnp_arena_arena_builder_arena_impl_give_back_others__f61dbe69(slot_1);
+    capnp_arena_arena_builder_arena_impl_deallocate_others_a537bde4(slot_1);
     goto l_capnp_f6;
 l_else_at:;
     if (r_qw_3 == 0ull) goto l_capnp_f6;
@@ -12914,8 +12914,8 @@ l_std_68:;
     return;
 }
 
-/* capnp_arena::arena::builder_arena_impl::give_back_others::<#bd7e3d3a11634cb6> */
-static NEVER void capnp_arena_arena_builder_arena_impl_give_back_others__f61dbe69(u8 *a_1)
+/* capnp_arena::arena::builder_arena_impl::deallocate_others::<#bd7e3d3a11634cb6> */
+static NEVER void capnp_arena_arena_builder_arena_impl_deallocate_others_a537bde4(u8 *a_1)
 {
     A(8) u8 slot_1[24];
     u8 *r_mb;
@@ -13501,7 +13501,7 @@ static NEVER void capnp_messages_messages_part_digest_digest_of_part_cop_fe6d1bc
 l_capnp_vx:;
     st64(slot_4, (u64)r_r5);
     memcpy((slot_4 + 8), (slot_2 + 16), 72);
-    capnp_messages_messages_canonical_copy_copy_reached_wi_6bfc6208(slot_3, slot_4, slot_1);
+    capnp_messages_messages_canonical_copy_canonicalize_re_1a840a57(slot_3, slot_4, slot_1);
     r_r5_1 = ld8(slot_3);
     r_r5_2 = ld8((slot_3 + 8));
     r_uq_1 = ld32((slot_3 + 12));
@@ -13544,7 +13544,7 @@ l_capnp_4o:;
     stp(slot_1, r_xw_2);
     st64((slot_1 + 8), r_38_4);
     st64((slot_1 + 16), r_38_5);
-    capnp_arena_arena_builder_arena_impl_give_back_others__c35bd785(slot_1);
+    capnp_arena_arena_builder_arena_impl_deallocate_others_70ba8108(slot_1);
     goto l_capnp_f6;
 l_else_ci:;
     if (r_ts) goto l_core_at;
@@ -13629,8 +13629,8 @@ l_join_zd:;
     return;
 }
 
-/* capnp_messages::messages::canonical_copy::copy_in_room::<#c79b7ceea08baf5c> */
-static void capnp_messages_messages_canonical_copy_copy_in_room_c7_f345250d(u8 *a_1, u8 *a_2, u8 *a_3, u8 a_4, u64 a_5)
+/* capnp_messages::messages::canonical_copy::canonicalize_reached_into::<#c79b7ceea08baf5c> */
+static void capnp_messages_messages_canonical_copy_canonicalize_re_24edc8c2(u8 *a_1, u8 *a_2, u8 *a_3, u8 a_4, u64 a_5)
 {
     A(8) u8 slot_1[32];
     A(8) u8 slot_2[64];
@@ -13722,7 +13722,7 @@ static void capnp_messages_messages_canonical_copy_copy_in_room_c7_f345250d(u8 *
     r_br = ld16(away(a_3, 72ull));
     r_br_1 = ld16(away(a_3, 74ull));
     memset(slot_6, 0u, 24);
-    capnp_messages_messages_canonical_copy_make_root_bd7e3_417a977a(slot_6, a_2);
+    capnp_messages_messages_canonical_copy_allocate_root_b_dce31d60(slot_6, a_2);
     if ((u8)(ld8(slot_6) & 1)) goto l_then_yd;
     goto l_join_zk;
 l_common_68:;
@@ -13761,7 +13761,7 @@ l_join_zk:;
     capnp_making_landing_follow_22521b95e02b6c38(slot_1, a_2, 0u, 0u);
     st64(r_lz, 0ull);
     if (!(ld8(slot_1) == 1u)) goto l_capnp_8g;
-    capnp_making_zeroing_zero_landed_22521b95e02b6c38(a_2, (slot_1 + 8));
+    capnp_making_zeroing_zero_target_22521b95e02b6c38(a_2, (slot_1 + 8));
     if (!((r_qw_2 & 3ull) == 2ull)) goto l_capnp_8g;
     capnp_making_zeroing_zero_far_pads_22521b95e02b6c38(a_2, r_qw_2);
 l_capnp_8g:;
@@ -13791,8 +13791,8 @@ l_loop_jc:;
     goto l_capnp_ev;
 l_else_wj:;
     if (!(ld64(away(away(r_2b_1, r_z6), 0xfffffffffffffff8ull)) == 0ull)) { r_hk = r_u7; goto l_capnp_ev; }
-    u64 r_jw = capnp_words_lanes_end_of_blocks(r_2b_1, r_z6);
-    r_nm_1 = r_jw;
+    u64 r_qz = capnp_words_lanes_used_words_bound(r_2b_1, r_z6);
+    r_nm_1 = r_qz;
 l_loop_jc_1:;
     if (r_nm_1 == 0ull) { r_hk = 0ull; goto l_capnp_ev; }
     u64 r_0f_1 = (r_nm_1 + 0xffffffffffffffffull);
@@ -13812,8 +13812,8 @@ l_loop_jc_2:;
     goto l_capnp_sa;
 l_else_wj_1:;
     if (!(ld64(away(away(r_2b_2, r_z6_4), 0xfffffffffffffff8ull)) == 0ull)) { r_zw = r_u7_1; goto l_capnp_sa; }
-    u64 r_jw_1 = capnp_words_lanes_end_of_blocks(r_2b_2, r_z6_4);
-    r_nm_3 = r_jw_1;
+    u64 r_qz_1 = capnp_words_lanes_used_words_bound(r_2b_2, r_z6_4);
+    r_nm_3 = r_qz_1;
 l_loop_jc_3:;
     if (r_nm_3 == 0ull) { r_zw = 0ull; goto l_capnp_sa; }
     u64 r_0f_3 = (r_nm_3 + 0xffffffffffffffffull);
@@ -13909,7 +13909,7 @@ l_capnp_am:;
     st32((slot_2 + 48), (r_5k + (u32)r_br));
     st32((slot_2 + 52), 0u);
     st32(t_6c_1, r_5k_2);
-    capnp_copies_copy_children_copy_row_16a328db692f51d4(slot_1, a_2, r_wt, (r_29 + r_4r_1), slot_2, r_az, slot_4, 1u);
+    capnp_copies_copy_children_copy_children_out_of_line_1_9222051e(slot_1, a_2, r_wt, (r_29 + r_4r_1), slot_2, r_az, slot_4, 1u);
     r_2b_4 = ld8(slot_1);
     r_qh_1 = ld8((slot_1 + 8));
     r_ip_1 = ld32((slot_1 + 12));
@@ -14743,8 +14743,8 @@ l_loop_jc:;
     goto l_capnp_fc;
 l_else_wj:;
     if (!(ld64(away(away(r_c0_1, r_z6_3), 0xfffffffffffffff8ull)) == 0ull)) { r_ev = r_q7_1; goto l_capnp_fc; }
-    u64 r_jw = capnp_words_lanes_end_of_blocks(r_c0_1, r_z6_3);
-    r_nm_1 = r_jw;
+    u64 r_qz = capnp_words_lanes_used_words_bound(r_c0_1, r_z6_3);
+    r_nm_1 = r_qz;
 l_loop_jc_1:;
     if (r_nm_1 == 0ull) { r_ev = 0ull; goto l_capnp_fc; }
     u64 r_0f_1 = (r_nm_1 + 0xffffffffffffffffull);
@@ -14763,8 +14763,8 @@ l_loop_jc_2:;
     goto l_capnp_kv;
 l_else_wj_1:;
     if (!(ld64(away(away(r_c0_2, r_z6_7), 0xfffffffffffffff8ull)) == 0ull)) { r_mh = r_y6; goto l_capnp_kv; }
-    u64 r_jw_1 = capnp_words_lanes_end_of_blocks(r_c0_2, r_z6_7);
-    r_nm_3 = r_jw_1;
+    u64 r_qz_1 = capnp_words_lanes_used_words_bound(r_c0_2, r_z6_7);
+    r_nm_3 = r_qz_1;
 l_loop_jc_3:;
     if (r_nm_3 == 0ull) { r_mh = 0ull; goto l_capnp_kv; }
     u64 r_0f_3 = (r_nm_3 + 0xffffffffffffffffull);
@@ -14910,7 +14910,7 @@ l_capnp_am:;
     st32((slot_2 + 48), (r_az + r_gx));
     st32((slot_2 + 52), 0u);
     st32((slot_2 + 56), r_4w);
-    capnp_copies_copy_children_copy_row_16a328db692f51d4(slot_1, a_2, r_ne, (r_29 + r_4r_5), slot_2, r_ib, a_6, a_7);
+    capnp_copies_copy_children_copy_children_out_of_line_1_9222051e(slot_1, a_2, r_ne, (r_29 + r_4r_5), slot_2, r_ib, a_6, a_7);
     r_t8 = ld8(slot_1);
     r_hg = ld8((slot_1 + 8));
     r_lc_8 = ld32((slot_1 + 12));
@@ -15461,7 +15461,7 @@ l_arm_v3:;
     st32(r_c4_6, (r_5b + ((u32)r_ep_4 & 65535u)));
     st32(r_bk_1, 0u);
     st32(r_6c_2, r_s1);
-    capnp_copies_copy_children_copy_row_16a328db692f51d4(slot_1, a_2, sink_rg, (r_az_2 + r_2g_5), slot_2, r_az_3, a_6, a_7);
+    capnp_copies_copy_children_copy_children_out_of_line_1_9222051e(slot_1, a_2, sink_rg, (r_az_2 + r_2g_5), slot_2, r_az_3, a_6, a_7);
     r_2b_2 = ld8(slot_1);
     r_qh = ld8(r_x5_14);
     r_ip = ld32(r_k0_5);
@@ -15849,8 +15849,8 @@ l_loop_jc_4:;
     goto l_capnp_fc_1;
 l_else_wj_2:;
     if (!(ld64(away(away(r_c0_12, r_z6_59), 0xfffffffffffffff8ull)) == 0ull)) { r_ev_1 = r_q7_3; goto l_capnp_fc_1; }
-    u64 r_jw_2 = capnp_words_lanes_end_of_blocks(r_c0_12, r_z6_59);
-    r_nm_7 = r_jw_2;
+    u64 r_qz_2 = capnp_words_lanes_used_words_bound(r_c0_12, r_z6_59);
+    r_nm_7 = r_qz_2;
 l_loop_jc_5:;
     if (r_nm_7 == 0ull) { r_ev_1 = 0ull; goto l_capnp_fc_1; }
     u64 r_0f_12 = (r_nm_7 + 0xffffffffffffffffull);
@@ -15870,8 +15870,8 @@ l_loop_jc_6:;
     goto l_capnp_hv;
 l_else_wj_3:;
     if (!(ld64(away(away(r_c0_13, r_z6_63), 0xfffffffffffffff8ull)) == 0ull)) { r_dl = r_ev_1; r_9n = r_y6_3; goto l_capnp_hv; }
-    u64 r_jw_3 = capnp_words_lanes_end_of_blocks(r_c0_13, r_z6_63);
-    r_nm_9 = r_jw_3;
+    u64 r_qz_3 = capnp_words_lanes_used_words_bound(r_c0_13, r_z6_63);
+    r_nm_9 = r_qz_3;
 l_loop_jc_7:;
     if (r_nm_9 == 0ull) { r_dl = r_ev_1; r_9n = 0ull; goto l_capnp_hv; }
     u64 r_0f_14 = (r_nm_9 + 0xffffffffffffffffull);
@@ -16005,7 +16005,7 @@ l_capnp_5c:;
     st32(r_c4_10, (r_5b_1 + ((u32)r_ep_6 & 65535u)));
     st32(r_bk_2, 0u);
     st32(r_6c_4, r_s1_1);
-    capnp_copies_copy_children_copy_row_16a328db692f51d4(slot_1, a_2, r_wt_2, (r_29_2 + r_4r_12), slot_2, r_az_4, a_6, a_7);
+    capnp_copies_copy_children_copy_children_out_of_line_1_9222051e(slot_1, a_2, r_wt_2, (r_29_2 + r_4r_12), slot_2, r_az_4, a_6, a_7);
     r_2b_8 = ld8(slot_1);
     r_qh_2 = ld8(r_x5_21);
     r_ip_2 = ld32(r_k0_10);
@@ -16076,8 +16076,8 @@ l_join_1g:;
     goto l_common_9c;
 }
 
-/* capnp_copies::copy::children::copy_row::<#16a328db692f51d4> */
-static NEVER void capnp_copies_copy_children_copy_row_16a328db692f51d4(u8 *a_1, u8 *a_2, u32 a_3, u32 a_4, u8 *a_5, u32 a_6, u8 *a_7, u8 a_8)
+/* capnp_copies::copy::children::copy_children_out_of_line::<#16a328db692f51d4> */
+static NEVER void capnp_copies_copy_children_copy_children_out_of_line_1_9222051e(u8 *a_1, u8 *a_2, u32 a_3, u32 a_4, u8 *a_5, u32 a_6, u8 *a_7, u8 a_8)
 {
     A(8) u8 slot_1[24];
     A(8) u8 slot_2[64];
@@ -16501,8 +16501,8 @@ l_loop_jc:;
     goto l_capnp_bk;
 l_else_wj:;
     if (!(ld64(away(away(r_2b_1, r_z6_7), 0xfffffffffffffff8ull)) == 0ull)) { r_p3 = r_q7; goto l_capnp_bk; }
-    u64 r_jw = capnp_words_lanes_end_of_blocks(r_2b_1, r_z6_7);
-    r_nm_2 = r_jw;
+    u64 r_qz = capnp_words_lanes_used_words_bound(r_2b_1, r_z6_7);
+    r_nm_2 = r_qz;
 l_loop_jc_1:;
     if (r_nm_2 == 0ull) { r_p3 = 0ull; goto l_capnp_bk; }
     u64 r_0f_3 = (r_nm_2 + 0xffffffffffffffffull);
@@ -16522,8 +16522,8 @@ l_loop_jc_2:;
     goto l_capnp_hv;
 l_else_wj_1:;
     if (!(ld64(away(away(r_2b_2, r_z6_11), 0xfffffffffffffff8ull)) == 0ull)) { r_dl = r_p3; r_9n = r_y6; goto l_capnp_hv; }
-    u64 r_jw_1 = capnp_words_lanes_end_of_blocks(r_2b_2, r_z6_11);
-    r_nm_4 = r_jw_1;
+    u64 r_qz_1 = capnp_words_lanes_used_words_bound(r_2b_2, r_z6_11);
+    r_nm_4 = r_qz_1;
 l_loop_jc_3:;
     if (r_nm_4 == 0ull) { r_dl = r_p3; r_9n = 0ull; goto l_capnp_hv; }
     u64 r_0f_5 = (r_nm_4 + 0xffffffffffffffffull);
@@ -16658,7 +16658,7 @@ l_capnp_5c:;
     st32(r_c4_1, (r_5b + ((u32)r_ep & 65535u)));
     st32(r_bk, 0u);
     st32(r_6c_1, r_53);
-    capnp_copies_copy_children_copy_row_16a328db692f51d4(slot_1, a_2, sink_7v, (r_29 + r_4r_2), slot_2, r_az, a_7, a_8);
+    capnp_copies_copy_children_copy_children_out_of_line_1_9222051e(slot_1, a_2, sink_7v, (r_29 + r_4r_2), slot_2, r_az, a_7, a_8);
     r_2b_5 = ld8(slot_1);
     r_qh = ld8(r_x5_4);
     r_ip = ld32(r_k0_2);
@@ -16809,7 +16809,7 @@ l_capnp_bv:;
     st32((slot_2 + 60), 0u);
     memset(slot_2, 0u, 16);
     st32(t_5q, r_yf);
-    capnp_messages_messages_canonical_copy_copy_reached_wi_26a086d2(slot_1, slot_2, slot_3);
+    capnp_messages_messages_canonical_copy_canonicalize_re_52be4be5(slot_1, slot_2, slot_3);
     u8 r_r5 = ld8(slot_1);
     r_z4 = ld32((slot_1 + 8));
     r_uq = ld32((slot_1 + 12));
@@ -16851,7 +16851,7 @@ l_capnp_4o:;
     stp(slot_1, r_xw_2);
     st64((slot_1 + 8), r_38_3);
     st64((slot_1 + 16), r_38_4);
-    capnp_arena_arena_builder_arena_impl_give_back_others__c35bd785(slot_1);
+    capnp_arena_arena_builder_arena_impl_deallocate_others_70ba8108(slot_1);
     goto l_capnp_f6;
 l_else_ci:;
     if (r_ts_1) goto l_core_at;
@@ -16936,8 +16936,8 @@ l_join_zd:;
     return;
 }
 
-/* capnp_messages::messages::canonical_copy::copy_reached_with::<#e33111b274e9e42d> */
-static void capnp_messages_messages_canonical_copy_copy_reached_wi_26a086d2(u8 *a_1, u8 *a_2, u8 *a_3)
+/* capnp_messages::messages::canonical_copy::canonicalize_reached::<#e33111b274e9e42d> */
+static void capnp_messages_messages_canonical_copy_canonicalize_re_52be4be5(u8 *a_1, u8 *a_2, u8 *a_3)
 {
     A(8) u8 slot_1[1];
     A(8) u8 slot_2[32];
@@ -17082,7 +17082,7 @@ static void capnp_messages_messages_canonical_copy_copy_reached_wi_26a086d2(u8 *
     u32 r_yf;
     u64 r_24_1;
     u32 r_ff_1;
-    struct s_i8_i32 r_r6;
+    struct s_i8_i32 r_kj;
     u64 r_1k;
     u64 r_61;
     u64 r_9s;
@@ -17244,7 +17244,7 @@ l_loop_xs:;
     memset(r_c4, 0u, 32);
     stp(r_l1, slot_1);
     memset(r_k5, 0u, 16);
-    capnp_messages_messages_canonical_copy_make_root_a36f5_b8201421(slot_8, slot_6, r_m4);
+    capnp_messages_messages_canonical_copy_allocate_root_a_37f0c9a9(slot_8, slot_6, r_m4);
     if (!(ld8(slot_8) == 1u)) goto l_join_dw;
     r_r5 = ld8(r_x5_9);
     r_uq = ld32(r_k0_2);
@@ -17260,13 +17260,13 @@ l_loop_xs:;
     r_38_5 = ld64(r_x5);
     r_ts = (ld64(r_6c_1) == 0ull);
     if (!(u8)(ld8(r_1e_1) & 1)) goto l_else_ci;
-    if (r_ts) goto l_capnp_yy;
+    if (r_ts) goto l_capnp_wd;
     rattle_dealloc(r_xw_1);
-l_capnp_yy:;
+l_capnp_wd:;
     stp(slot_2, r_xw_2);
     st64(r_x5_10, r_38_3);
     st64(r_zd_9, r_38_4);
-    capnp_arena_arena_builder_arena_impl_give_back_others__c35bd785(slot_2);
+    capnp_arena_arena_builder_arena_impl_deallocate_others_70ba8108(slot_2);
     goto l_capnp_f6;
 l_else_ci:;
     if (r_ts) goto l_core_at;
@@ -17360,7 +17360,7 @@ l_join_dw:;
     capnp_making_landing_follow_c985307b501351a7(slot_2, slot_7, 0u, 0u);
     st64(r_lz_1, 0ull);
     if (!(ld8(slot_2) == 1u)) goto l_capnp_8g;
-    capnp_making_zeroing_zero_landed_c985307b501351a7(slot_7, r_x5_7);
+    capnp_making_zeroing_zero_target_c985307b501351a7(slot_7, r_x5_7);
     if (!((r_qw_5 & 3ull) == 2ull)) goto l_capnp_8g;
     capnp_making_zeroing_zero_far_pads_c985307b501351a7(slot_7, r_qw_5);
 l_capnp_8g:;
@@ -17384,8 +17384,8 @@ l_loop_jc:;
     goto l_capnp_5d;
 l_else_08:;
     if (!(ld64(r_l7) == 0ull)) { r_wx = r_u7; goto l_capnp_5d; }
-    u64 r_se = capnp_words_lanes_end_of_blocks(r_2b, r_z6);
-    r_nm_1 = r_se;
+    u64 r_r2_1 = capnp_words_lanes_used_words_bound(r_2b, r_z6);
+    r_nm_1 = r_r2_1;
 l_loop_jc_1:;
     if (r_nm_1 == 0ull) { r_wx = 0ull; goto l_capnp_5d; }
     u64 r_0f_1 = (r_nm_1 + 0xffffffffffffffffull);
@@ -17402,8 +17402,8 @@ l_loop_jc_2:;
     goto l_capnp_sa;
 l_else_08_1:;
     if (!(ld64(r_l7_1) == 0ull)) { r_zw = r_u7_1; goto l_capnp_sa; }
-    u64 r_se_1 = capnp_words_lanes_end_of_blocks(r_2b_1, r_z6_2);
-    r_nm_3 = r_se_1;
+    u64 r_r2_2 = capnp_words_lanes_used_words_bound(r_2b_1, r_z6_2);
+    r_nm_3 = r_r2_2;
 l_loop_jc_3:;
     if (r_nm_3 == 0ull) { r_zw = 0ull; goto l_capnp_sa; }
     u64 r_0f_3 = (r_nm_3 + 0xffffffffffffffffull);
@@ -17422,17 +17422,17 @@ l_join_s3:;
     r_3q_1 = away(r_lz_2, 24ull);
     r_yf = ld32(r_3q_1);
     r_24_1 = (u64)r_yf;
-    if ((r_24_1 + (u64)r_68) > (u64)(ld64(away(r_lz_2, 8ull)) >> 3ull)) goto l_capnp_xr;
+    if ((r_24_1 + (u64)r_68) > (u64)(ld64(away(r_lz_2, 8ull)) >> 3ull)) goto l_capnp_z3;
     st32(r_3q_1, (r_yf + r_68));
     r_1k = r_24_1;
     r_61 = (((u64)(r_zw << 48ull) | ((u64)(r_wx << 32ull) & 0xffff00000000ull)) | (u64)((u32)(r_yf << 2u) + 0xfffffffcu));
     r_9s = 0ull;
     goto l_capnp_xw;
-l_capnp_xr:;
+l_capnp_z3:;
     r_ff_1 = (r_68 + 1u);
-    r_r6 = capnp_arena_arena_bounds_first_by_bounds_e469ead029109f04(r_lz_2, ld64(r_zd_2), r_ff_1);
-    if (!(r_r6.f0 == 1u)) goto l_arm_b7;
-    u64 t_24 = (u64)r_r6.f1;
+    r_kj = capnp_arena_arena_bounds_first_fit_by_bounds_e469ead029109f04(r_lz_2, ld64(r_zd_2), r_ff_1);
+    if (!(r_kj.f0 == 1u)) goto l_arm_b7;
+    u64 t_24 = (u64)r_kj.f1;
     u8 *r_2b_4 = away(r_lz_2, (u64)(t_24 << 5ull));
     u8 *r_3q_2 = away(r_2b_4, 24ull);
     u32 r_yf_1 = ld32(r_3q_2);
@@ -17490,7 +17490,7 @@ l_capnp_5c:;
     st32(r_c4_1, r_w0);
     st32(r_bk, 0u);
     st32(t_6c, r_5k_2);
-    capnp_copies_copy_children_copy_row_254e276be25f6293(slot_2, slot_7, r_wt, (r_29 + r_4r_1), slot_3, r_az, slot_5, 1u);
+    capnp_copies_copy_children_copy_children_out_of_line_2_29c958c2(slot_2, slot_7, r_wt, (r_29 + r_4r_1), slot_3, r_az, slot_5, 1u);
     r_2b_7 = ld8(slot_2);
     r_qh_1 = ld8(r_x5_4);
     r_ip_1 = ld32(r_k0);
@@ -17620,13 +17620,13 @@ l_capnp_gc:;
 l_arm_04:;
     r_ts_20 = (r_38_17 == 0ull);
     if (!(u8)(r_r5_7 & 1)) goto l_else_ci_1;
-    if (r_ts_20) goto l_capnp_yy_1;
+    if (r_ts_20) goto l_capnp_wd_1;
     rattle_dealloc(r_xw_3);
-l_capnp_yy_1:;
+l_capnp_wd_1:;
     stp(slot_2, r_xw_4);
     st64(r_x5_8, r_38_19);
     st64(r_zd_7, r_38_20);
-    capnp_arena_arena_builder_arena_impl_give_back_others__c35bd785(slot_2);
+    capnp_arena_arena_builder_arena_impl_deallocate_others_70ba8108(slot_2);
     goto l_capnp_jm;
 l_else_ci_1:;
     if (r_ts_20) goto l_core_at_1;
@@ -17852,7 +17852,7 @@ static NEVER void capnp_copies_copy_copy_object_254e276be25f6293(u8 *a_1, u8 *a_
     u32 r_ff_1;
     u8 *r_08_3;
     u64 r_52_10;
-    struct s_i8_i32 r_mm;
+    struct s_i8_i32 r_nt_1;
     u8 *r_py_1;
     u64 r_38_7;
     u64 sink_4g;
@@ -17865,7 +17865,7 @@ static NEVER void capnp_copies_copy_copy_object_254e276be25f6293(u8 *a_1, u8 *a_
     u32 r_ff_2;
     u8 *r_08_4;
     u64 r_52_13;
-    struct s_i8_i32 r_mm_1;
+    struct s_i8_i32 r_nt_2;
     u8 *r_py_2;
     u64 r_38_9;
     u64 sink_4f;
@@ -18051,7 +18051,7 @@ static NEVER void capnp_copies_copy_copy_object_254e276be25f6293(u8 *a_1, u8 *a_
     u64 r_24_43;
     u32 r_ff_5;
     u64 r_52_25;
-    struct s_i8_i32 r_mm_2;
+    struct s_i8_i32 r_nt_3;
     u8 *r_py_3;
     u64 r_38_19;
     u64 sink_yk;
@@ -18091,7 +18091,7 @@ static NEVER void capnp_copies_copy_copy_object_254e276be25f6293(u8 *a_1, u8 *a_
     u32 r_yf_15;
     u32 r_ff_6;
     u64 r_52_31;
-    struct s_i8_i32 r_mm_3;
+    struct s_i8_i32 r_nt_4;
     u8 *r_py_4;
     u64 r_38_23;
     u64 r_8m;
@@ -18391,8 +18391,8 @@ l_loop_jc:;
     goto l_capnp_fc;
 l_else_wj:;
     if (!(ld64(away(away(r_c0_1, r_z6_3), 0xfffffffffffffff8ull)) == 0ull)) { r_ev = r_q7_1; goto l_capnp_fc; }
-    u64 r_jw = capnp_words_lanes_end_of_blocks(r_c0_1, r_z6_3);
-    r_nm_1 = r_jw;
+    u64 r_qz = capnp_words_lanes_used_words_bound(r_c0_1, r_z6_3);
+    r_nm_1 = r_qz;
 l_loop_jc_1:;
     if (r_nm_1 == 0ull) { r_ev = 0ull; goto l_capnp_fc; }
     u64 r_0f_1 = (r_nm_1 + 0xffffffffffffffffull);
@@ -18411,8 +18411,8 @@ l_loop_jc_2:;
     goto l_capnp_kv;
 l_else_wj_1:;
     if (!(ld64(away(away(r_c0_2, r_z6_7), 0xfffffffffffffff8ull)) == 0ull)) { r_mh = r_y6; goto l_capnp_kv; }
-    u64 r_jw_1 = capnp_words_lanes_end_of_blocks(r_c0_2, r_z6_7);
-    r_nm_3 = r_jw_1;
+    u64 r_qz_1 = capnp_words_lanes_used_words_bound(r_c0_2, r_z6_7);
+    r_nm_3 = r_qz_1;
 l_loop_jc_3:;
     if (r_nm_3 == 0ull) { r_mh = 0ull; goto l_capnp_kv; }
     u64 r_0f_3 = (r_nm_3 + 0xffffffffffffffffull);
@@ -18505,7 +18505,7 @@ l_capnp_am:;
     st32((slot_2 + 48), (r_az + r_gx));
     st32((slot_2 + 52), 0u);
     st32((slot_2 + 56), r_4w);
-    capnp_copies_copy_children_copy_row_254e276be25f6293(slot_1, a_2, r_t8, (r_29 + r_qt), slot_2, r_ib, a_6, a_7);
+    capnp_copies_copy_children_copy_children_out_of_line_2_29c958c2(slot_1, a_2, r_t8, (r_29 + r_qt), slot_2, r_ib, a_6, a_7);
     r_t8_1 = ld8(slot_1);
     r_hg = ld8((slot_1 + 8));
     r_lc_9 = ld32((slot_1 + 12));
@@ -18609,13 +18609,13 @@ l_arm_i3_1:;
     r_ff_1 = (r_12_3 + 1u);
     r_08_3 = away(a_2, 16ull);
     r_52_10 = ld64(r_08_3);
-    if (r_52_10 == 0ull) goto l_capnp_6t;
+    if (r_52_10 == 0ull) goto l_capnp_io;
     if (!(((u64)ld32(away(r_lz_13, 24ull)) + (u64)r_ff_1) > (u64)(ld64(away(r_lz_13, 8ull)) >> 3ull))) { r_py_1 = r_lz_13; r_38_7 = 0ull; goto l_capnp_k1; }
-l_capnp_6t:;
-    r_mm = capnp_arena_arena_bounds_first_by_bounds_e469ead029109f04(r_lz_13, r_52_10, r_ff_1);
-    if (!(r_mm.f0 == 1u)) goto l_arm_xh;
+l_capnp_io:;
+    r_nt_1 = capnp_arena_arena_bounds_first_fit_by_bounds_e469ead029109f04(r_lz_13, r_52_10, r_ff_1);
+    if (!(r_nt_1.f0 == 1u)) goto l_arm_xh;
     r_py_1 = ldp(r_rq_12);
-    r_38_7 = (u64)r_mm.f1;
+    r_38_7 = (u64)r_nt_1.f1;
     goto l_capnp_k1;
 l_arm_xh:;
     if (ld64(r_08_3) > 0xfffffffeull) { r_5k_2 = 1u; r_qp = 27u; r_7u = 0u; r_pz = 0xffffffffffffffffull; goto l_join_1g; }
@@ -18691,13 +18691,13 @@ l_arm_i3:;
     r_ff_2 = (r_12_1 + 1u);
     r_08_4 = away(a_2, 16ull);
     r_52_13 = ld64(r_08_4);
-    if (r_52_13 == 0ull) goto l_capnp_6t_1;
+    if (r_52_13 == 0ull) goto l_capnp_io_1;
     if (!(((u64)ld32(away(r_lz, 24ull)) + (u64)r_ff_2) > (u64)(ld64(away(r_lz, 8ull)) >> 3ull))) { r_py_2 = r_lz; r_38_9 = 0ull; goto l_capnp_k1_1; }
-l_capnp_6t_1:;
-    r_mm_1 = capnp_arena_arena_bounds_first_by_bounds_e469ead029109f04(r_lz, r_52_13, r_ff_2);
-    if (!(r_mm_1.f0 == 1u)) goto l_arm_xh_1;
+l_capnp_io_1:;
+    r_nt_2 = capnp_arena_arena_bounds_first_fit_by_bounds_e469ead029109f04(r_lz, r_52_13, r_ff_2);
+    if (!(r_nt_2.f0 == 1u)) goto l_arm_xh_1;
     r_py_2 = ldp(r_rq_7);
-    r_38_9 = (u64)r_mm_1.f1;
+    r_38_9 = (u64)r_nt_2.f1;
     goto l_capnp_k1_1;
 l_arm_xh_1:;
     if (ld64(r_08_4) > 0xfffffffeull) { r_5k_2 = 1u; r_qp = 27u; r_7u = 0u; r_pz = 0xffffffffffffffffull; goto l_join_1g; }
@@ -18937,7 +18937,7 @@ l_arm_zo:;
     st32(r_c4_6, (r_5b + ((u32)r_ep_4 & 65535u)));
     st32(r_bk_1, 0u);
     st32(r_6c_2, r_s1);
-    capnp_copies_copy_children_copy_row_254e276be25f6293(slot_1, a_2, r_wt_2, (r_az_2 + r_4r_9), slot_2, r_az_3, a_6, a_7);
+    capnp_copies_copy_children_copy_children_out_of_line_2_29c958c2(slot_1, a_2, r_wt_2, (r_az_2 + r_4r_9), slot_2, r_az_3, a_6, a_7);
     r_2b_29 = ld8(slot_1);
     r_qh = ld8(r_x5_11);
     r_ip = ld32(r_k0_4);
@@ -19159,13 +19159,13 @@ l_arm_p5_1:;
 l_arm_x1:;
     r_ff_5 = (r_12_5 + 1u);
     r_52_25 = ld64(r_08_7);
-    if (r_52_25 == 0ull) goto l_capnp_6t_2;
+    if (r_52_25 == 0ull) goto l_capnp_io_2;
     if (!(((u64)ld32(away(r_lz_49, 24ull)) + (u64)r_ff_5) > (u64)(ld64(away(r_lz_49, 8ull)) >> 3ull))) { r_py_3 = r_lz_49; r_38_19 = 0ull; goto l_capnp_k1_2; }
-l_capnp_6t_2:;
-    r_mm_2 = capnp_arena_arena_bounds_first_by_bounds_e469ead029109f04(r_lz_49, r_52_25, r_ff_5);
-    if (!(r_mm_2.f0 == 1u)) goto l_arm_u6;
+l_capnp_io_2:;
+    r_nt_3 = capnp_arena_arena_bounds_first_fit_by_bounds_e469ead029109f04(r_lz_49, r_52_25, r_ff_5);
+    if (!(r_nt_3.f0 == 1u)) goto l_arm_u6;
     r_py_3 = ldp(r_rq_14);
-    r_38_19 = (u64)r_mm_2.f1;
+    r_38_19 = (u64)r_nt_3.f1;
     goto l_capnp_k1_2;
 l_arm_u6:;
     if (ld64(r_08_7) > 0xfffffffeull) { r_2b_32 = 27u; r_qh_1 = 0xffffffffffffffffull; goto l_capnp_no_1; }
@@ -19269,8 +19269,8 @@ l_loop_jc_4:;
     goto l_capnp_fc_1;
 l_else_wj_2:;
     if (!(ld64(away(away(r_c0_12, r_z6_56), 0xfffffffffffffff8ull)) == 0ull)) { r_ev_1 = r_q7_3; goto l_capnp_fc_1; }
-    u64 r_jw_2 = capnp_words_lanes_end_of_blocks(r_c0_12, r_z6_56);
-    r_nm_7 = r_jw_2;
+    u64 r_qz_2 = capnp_words_lanes_used_words_bound(r_c0_12, r_z6_56);
+    r_nm_7 = r_qz_2;
 l_loop_jc_5:;
     if (r_nm_7 == 0ull) { r_ev_1 = 0ull; goto l_capnp_fc_1; }
     u64 r_0f_7 = (r_nm_7 + 0xffffffffffffffffull);
@@ -19290,8 +19290,8 @@ l_loop_jc_6:;
     goto l_capnp_hv;
 l_else_wj_3:;
     if (!(ld64(away(away(r_c0_13, r_z6_60), 0xfffffffffffffff8ull)) == 0ull)) { r_dl = r_ev_1; r_9n = r_y6_3; goto l_capnp_hv; }
-    u64 r_jw_3 = capnp_words_lanes_end_of_blocks(r_c0_13, r_z6_60);
-    r_nm_9 = r_jw_3;
+    u64 r_qz_3 = capnp_words_lanes_used_words_bound(r_c0_13, r_z6_60);
+    r_nm_9 = r_qz_3;
 l_loop_jc_7:;
     if (r_nm_9 == 0ull) { r_dl = r_ev_1; r_9n = 0ull; goto l_capnp_hv; }
     u64 r_0f_9 = (r_nm_9 + 0xffffffffffffffffull);
@@ -19322,13 +19322,13 @@ l_join_bs_1:;
 l_arm_x1_1:;
     r_ff_6 = (r_68_5 + 1u);
     r_52_31 = ld64(r_08_7);
-    if (r_52_31 == 0ull) goto l_capnp_6t_3;
+    if (r_52_31 == 0ull) goto l_capnp_io_3;
     if (!(((u64)ld32(away(r_lz_60, 24ull)) + (u64)r_ff_6) > (u64)(ld64(away(r_lz_60, 8ull)) >> 3ull))) { r_py_4 = r_lz_60; r_38_23 = 0ull; goto l_capnp_k1_3; }
-l_capnp_6t_3:;
-    r_mm_3 = capnp_arena_arena_bounds_first_by_bounds_e469ead029109f04(r_lz_60, r_52_31, r_ff_6);
-    if (!(r_mm_3.f0 == 1u)) goto l_arm_u6_1;
+l_capnp_io_3:;
+    r_nt_4 = capnp_arena_arena_bounds_first_fit_by_bounds_e469ead029109f04(r_lz_60, r_52_31, r_ff_6);
+    if (!(r_nt_4.f0 == 1u)) goto l_arm_u6_1;
     r_py_4 = ldp(r_rq_14);
-    r_38_23 = (u64)r_mm_3.f1;
+    r_38_23 = (u64)r_nt_4.f1;
     goto l_capnp_k1_3;
 l_arm_u6_1:;
     if (ld64(r_08_7) > 0xfffffffeull) { r_bz = 1u; r_r3 = 27u; r_n9 = 0u; r_1s = 0xffffffffffffffffull; goto l_capnp_57; }
@@ -19397,7 +19397,7 @@ l_capnp_5c:;
     st32(r_c4_10, (r_5b_1 + ((u32)r_ep_7 & 65535u)));
     st32(r_bk_2, 0u);
     st32(r_6c_4, r_s1_1);
-    capnp_copies_copy_children_copy_row_254e276be25f6293(slot_1, a_2, r_wt_4, (r_29_2 + r_4r_13), slot_2, r_az_4, a_6, a_7);
+    capnp_copies_copy_children_copy_children_out_of_line_2_29c958c2(slot_1, a_2, r_wt_4, (r_29_2 + r_4r_13), slot_2, r_az_4, a_6, a_7);
     r_2b_49 = ld8(slot_1);
     r_qh_2 = ld8(r_x5_16);
     r_ip_1 = ld32(r_k0_7);
@@ -19469,8 +19469,8 @@ l_join_1g:;
     goto l_common_9c;
 }
 
-/* capnp_copies::copy::children::copy_row::<#254e276be25f6293> */
-static NEVER void capnp_copies_copy_children_copy_row_254e276be25f6293(u8 *a_1, u8 *a_2, u32 a_3, u32 a_4, u8 *a_5, u32 a_6, u8 *a_7, u8 a_8)
+/* capnp_copies::copy::children::copy_children_out_of_line::<#254e276be25f6293> */
+static NEVER void capnp_copies_copy_children_copy_children_out_of_line_2_29c958c2(u8 *a_1, u8 *a_2, u32 a_3, u32 a_4, u8 *a_5, u32 a_6, u8 *a_7, u8 a_8)
 {
     A(8) u8 slot_1[24];
     A(8) u8 slot_2[64];
@@ -19542,7 +19542,7 @@ static NEVER void capnp_copies_copy_children_copy_row_254e276be25f6293(u8 *a_1, 
     u64 r_24_1;
     u32 r_ff;
     u64 r_52_3;
-    struct s_i8_i32 r_mm;
+    struct s_i8_i32 r_nt;
     u8 *r_py;
     u64 r_38;
     u64 sink_yk;
@@ -19583,7 +19583,7 @@ static NEVER void capnp_copies_copy_children_copy_row_254e276be25f6293(u8 *a_1, 
     u32 r_yf_3;
     u32 r_ff_1;
     u64 r_52_9;
-    struct s_i8_i32 r_mm_1;
+    struct s_i8_i32 r_nt_1;
     u8 *r_py_1;
     u64 r_38_4;
     u64 r_8m;
@@ -19726,13 +19726,13 @@ l_arm_5g:;
 l_arm_x1:;
     r_ff = (r_12 + 1u);
     r_52_3 = ld64(r_08_2);
-    if (r_52_3 == 0ull) goto l_capnp_6t;
+    if (r_52_3 == 0ull) goto l_capnp_io;
     if (!(((u64)ld32(away(r_lz, 24ull)) + (u64)r_ff) > (u64)(ld64(away(r_lz, 8ull)) >> 3ull))) { r_py = r_lz; r_38 = 0ull; goto l_capnp_k1; }
-l_capnp_6t:;
-    r_mm = capnp_arena_arena_bounds_first_by_bounds_e469ead029109f04(r_lz, r_52_3, r_ff);
-    if (!(r_mm.f0 == 1u)) goto l_arm_nn;
+l_capnp_io:;
+    r_nt = capnp_arena_arena_bounds_first_fit_by_bounds_e469ead029109f04(r_lz, r_52_3, r_ff);
+    if (!(r_nt.f0 == 1u)) goto l_arm_nn;
     r_py = ldp(r_rq_2);
-    r_38 = (u64)r_mm.f1;
+    r_38 = (u64)r_nt.f1;
     goto l_capnp_k1;
 l_arm_nn:;
     if (ld64(r_08_2) > 0xfffffffeull) { r_7k = 0xffffffffffffffffull; r_zq = 27u; goto l_arm_i0; }
@@ -19836,8 +19836,8 @@ l_loop_jc:;
     goto l_capnp_bk;
 l_else_wj:;
     if (!(ld64(away(away(r_2b_8, r_z6_6), 0xfffffffffffffff8ull)) == 0ull)) { r_p3 = r_q7; goto l_capnp_bk; }
-    u64 r_jw = capnp_words_lanes_end_of_blocks(r_2b_8, r_z6_6);
-    r_nm_2 = r_jw;
+    u64 r_qz = capnp_words_lanes_used_words_bound(r_2b_8, r_z6_6);
+    r_nm_2 = r_qz;
 l_loop_jc_1:;
     if (r_nm_2 == 0ull) { r_p3 = 0ull; goto l_capnp_bk; }
     u64 r_0f_2 = (r_nm_2 + 0xffffffffffffffffull);
@@ -19857,8 +19857,8 @@ l_loop_jc_2:;
     goto l_capnp_hv;
 l_else_wj_1:;
     if (!(ld64(away(away(r_2b_9, r_z6_10), 0xfffffffffffffff8ull)) == 0ull)) { r_dl = r_p3; r_9n = r_y6; goto l_capnp_hv; }
-    u64 r_jw_1 = capnp_words_lanes_end_of_blocks(r_2b_9, r_z6_10);
-    r_nm_4 = r_jw_1;
+    u64 r_qz_1 = capnp_words_lanes_used_words_bound(r_2b_9, r_z6_10);
+    r_nm_4 = r_qz_1;
 l_loop_jc_3:;
     if (r_nm_4 == 0ull) { r_dl = r_p3; r_9n = 0ull; goto l_capnp_hv; }
     u64 r_0f_4 = (r_nm_4 + 0xffffffffffffffffull);
@@ -19889,13 +19889,13 @@ l_join_s3:;
 l_arm_x1_1:;
     r_ff_1 = (r_68 + 1u);
     r_52_9 = ld64(r_08_2);
-    if (r_52_9 == 0ull) goto l_capnp_6t_1;
+    if (r_52_9 == 0ull) goto l_capnp_io_1;
     if (!(((u64)ld32(away(r_lz_11, 24ull)) + (u64)r_ff_1) > (u64)(ld64(away(r_lz_11, 8ull)) >> 3ull))) { r_py_1 = r_lz_11; r_38_4 = 0ull; goto l_capnp_k1_1; }
-l_capnp_6t_1:;
-    r_mm_1 = capnp_arena_arena_bounds_first_by_bounds_e469ead029109f04(r_lz_11, r_52_9, r_ff_1);
-    if (!(r_mm_1.f0 == 1u)) goto l_arm_u6;
+l_capnp_io_1:;
+    r_nt_1 = capnp_arena_arena_bounds_first_fit_by_bounds_e469ead029109f04(r_lz_11, r_52_9, r_ff_1);
+    if (!(r_nt_1.f0 == 1u)) goto l_arm_u6;
     r_py_1 = ldp(r_rq_2);
-    r_38_4 = (u64)r_mm_1.f1;
+    r_38_4 = (u64)r_nt_1.f1;
     goto l_capnp_k1_1;
 l_arm_u6:;
     if (ld64(r_08_2) > 0xfffffffeull) { r_bz = 1u; r_r3 = 27u; r_n9 = 0u; r_1s = 0xffffffffffffffffull; goto l_capnp_57; }
@@ -19964,7 +19964,7 @@ l_capnp_5c:;
     st32(r_c4_1, (r_5b + ((u32)r_ep & 65535u)));
     st32(r_bk, 0u);
     st32(r_6c_1, r_53);
-    capnp_copies_copy_children_copy_row_254e276be25f6293(slot_1, a_2, r_wt, (r_29 + r_4r_3), slot_2, r_az, a_7, a_8);
+    capnp_copies_copy_children_copy_children_out_of_line_2_29c958c2(slot_1, a_2, r_wt, (r_29 + r_4r_3), slot_2, r_az, a_7, a_8);
     r_2b_17 = ld8(slot_1);
     r_qh = ld8(r_x5_3);
     r_ip = ld32(r_k0_1);
@@ -20539,7 +20539,7 @@ static NEVER void capnp_messages_messages_part_digest_digest_of_part_cop_7f94594
 l_capnp_vx:;
     st64(slot_4, (u64)r_r5);
     memcpy((slot_4 + 8), (slot_2 + 16), 72);
-    capnp_messages_messages_canonical_copy_copy_reached_wi_26a086d2(slot_3, slot_4, slot_1);
+    capnp_messages_messages_canonical_copy_canonicalize_re_52be4be5(slot_3, slot_4, slot_1);
     r_r5_1 = ld8(slot_3);
     r_r5_2 = ld8((slot_3 + 8));
     r_uq_1 = ld32((slot_3 + 12));
@@ -20582,7 +20582,7 @@ l_capnp_4o:;
     stp(slot_1, r_xw_2);
     st64((slot_1 + 8), r_38_4);
     st64((slot_1 + 16), r_38_5);
-    capnp_arena_arena_builder_arena_impl_give_back_others__c35bd785(slot_1);
+    capnp_arena_arena_builder_arena_impl_deallocate_others_70ba8108(slot_1);
     goto l_capnp_f6;
 l_else_ci:;
     if (r_ts) goto l_core_at;
@@ -26026,12 +26026,12 @@ l_capnp_1r:;
     st32((slot_3 + 56), 0u);
     st32((slot_3 + 60), 0u);
     st32(t_5q, a_5);
-    capnp_messages_messages_canonical_copy_copy_in_room_d7_f7ca895a(slot_2, slot_5, slot_3, 1u, (a_6 + 0xffffffffffffffffull));
+    capnp_messages_messages_canonical_copy_canonicalize_re_7b7b520a(slot_2, slot_5, slot_3, 1u, (a_6 + 0xffffffffffffffffull));
     t_dd = ld8((slot_2 + 1));
     if (!(ld8(slot_2) == 0u)) { r_9h = ld64((slot_2 + 16)); r_2w = ld32((slot_2 + 12)); r_jg = ld8((slot_2 + 8)); goto l_arm_cz; }
     if (!(u8)(t_dd & 1)) goto l_else_ph;
     memset(slot_2, 0u, 40);
-    capnp_arena_arena_builder_arena_impl_output_apart_96bc_5127cbe3(slot_2, r_6c);
+    capnp_arena_arena_builder_arena_impl_output_of_rows_96_10a5969e(slot_2, r_6c);
     r_xw = ldp((slot_2 + 16));
     r_38 = ld64((slot_2 + 24));
     if ((ld8(slot_2) == 0u) ? (ld8((slot_2 + 8)) == 0u) : 0u) goto l_capnp_q4;
@@ -26179,8 +26179,8 @@ l_arm_kw:;
     goto l_common_s8;
 }
 
-/* capnp_messages::messages::canonical_copy::copy_in_room::<#d7bfb2eaef977a9b> */
-static void capnp_messages_messages_canonical_copy_copy_in_room_d7_f7ca895a(u8 *a_1, u8 *a_2, u8 *a_3, u8 a_4, u64 a_5)
+/* capnp_messages::messages::canonical_copy::canonicalize_reached_into::<#d7bfb2eaef977a9b> */
+static void capnp_messages_messages_canonical_copy_canonicalize_re_7b7b520a(u8 *a_1, u8 *a_2, u8 *a_3, u8 a_4, u64 a_5)
 {
     A(8) u8 slot_1[32];
     A(8) u8 slot_2[64];
@@ -26272,7 +26272,7 @@ static void capnp_messages_messages_canonical_copy_copy_in_room_d7_f7ca895a(u8 *
     r_br = ld16(away(a_3, 72ull));
     r_br_1 = ld16(away(a_3, 74ull));
     memset(slot_6, 0u, 24);
-    capnp_messages_messages_canonical_copy_make_root_22c9f_7fa15447(slot_6, a_2);
+    capnp_messages_messages_canonical_copy_allocate_root_2_96ca7a6b(slot_6, a_2);
     if ((u8)(ld8(slot_6) & 1)) goto l_then_yd;
     goto l_join_zk;
 l_common_68:;
@@ -26311,7 +26311,7 @@ l_join_zk:;
     capnp_making_landing_follow_ecdd2dea505d7548(slot_1, a_2, 0u, 0u);
     st64(r_lz, 0ull);
     if (!(ld8(slot_1) == 1u)) goto l_capnp_8g;
-    capnp_making_zeroing_zero_landed_ecdd2dea505d7548(a_2, (slot_1 + 8));
+    capnp_making_zeroing_zero_target_ecdd2dea505d7548(a_2, (slot_1 + 8));
     if (!((r_qw_2 & 3ull) == 2ull)) goto l_capnp_8g;
     capnp_making_zeroing_zero_far_pads_ecdd2dea505d7548(a_2, r_qw_2);
 l_capnp_8g:;
@@ -26341,8 +26341,8 @@ l_loop_jc:;
     goto l_capnp_ev;
 l_else_wj:;
     if (!(ld64(away(away(r_2b_1, r_z6), 0xfffffffffffffff8ull)) == 0ull)) { r_hk = r_u7; goto l_capnp_ev; }
-    u64 r_jw = capnp_words_lanes_end_of_blocks(r_2b_1, r_z6);
-    r_nm_1 = r_jw;
+    u64 r_qz = capnp_words_lanes_used_words_bound(r_2b_1, r_z6);
+    r_nm_1 = r_qz;
 l_loop_jc_1:;
     if (r_nm_1 == 0ull) { r_hk = 0ull; goto l_capnp_ev; }
     u64 r_0f_1 = (r_nm_1 + 0xffffffffffffffffull);
@@ -26362,8 +26362,8 @@ l_loop_jc_2:;
     goto l_capnp_sa;
 l_else_wj_1:;
     if (!(ld64(away(away(r_2b_2, r_z6_4), 0xfffffffffffffff8ull)) == 0ull)) { r_zw = r_u7_1; goto l_capnp_sa; }
-    u64 r_jw_1 = capnp_words_lanes_end_of_blocks(r_2b_2, r_z6_4);
-    r_nm_3 = r_jw_1;
+    u64 r_qz_1 = capnp_words_lanes_used_words_bound(r_2b_2, r_z6_4);
+    r_nm_3 = r_qz_1;
 l_loop_jc_3:;
     if (r_nm_3 == 0ull) { r_zw = 0ull; goto l_capnp_sa; }
     u64 r_0f_3 = (r_nm_3 + 0xffffffffffffffffull);
@@ -26459,7 +26459,7 @@ l_capnp_am:;
     st32((slot_2 + 48), (r_5k + (u32)r_br));
     st32((slot_2 + 52), 0u);
     st32(t_6c_1, r_5k_2);
-    capnp_copies_copy_children_copy_row_fbcdcd82a40718a5(slot_1, a_2, r_wt, (r_29 + r_4r_1), slot_2, r_az, slot_4, 1u);
+    capnp_copies_copy_children_copy_children_out_of_line_f_8938dd05(slot_1, a_2, r_wt, (r_29 + r_4r_1), slot_2, r_az, slot_4, 1u);
     r_2b_4 = ld8(slot_1);
     r_qh_1 = ld8((slot_1 + 8));
     r_ip_1 = ld32((slot_1 + 12));
@@ -26540,8 +26540,8 @@ l_join_0b:;
     goto l_common_68;
 }
 
-/* capnp_messages::messages::canonical_copy::make_root::<#22c9fb090562a228> */
-static void capnp_messages_messages_canonical_copy_make_root_22c9f_7fa15447(u8 *a_1, u8 *a_2)
+/* capnp_messages::messages::canonical_copy::allocate_root::<#22c9fb090562a228> */
+static void capnp_messages_messages_canonical_copy_allocate_root_2_96ca7a6b(u8 *a_1, u8 *a_2)
 {
     u8 *r_yf;
     u8 r_mp;
@@ -27403,8 +27403,8 @@ l_loop_jc:;
     goto l_capnp_fc;
 l_else_wj:;
     if (!(ld64(away(away(r_c0_1, r_z6_3), 0xfffffffffffffff8ull)) == 0ull)) { r_ev = r_q7_1; goto l_capnp_fc; }
-    u64 r_jw = capnp_words_lanes_end_of_blocks(r_c0_1, r_z6_3);
-    r_nm_1 = r_jw;
+    u64 r_qz = capnp_words_lanes_used_words_bound(r_c0_1, r_z6_3);
+    r_nm_1 = r_qz;
 l_loop_jc_1:;
     if (r_nm_1 == 0ull) { r_ev = 0ull; goto l_capnp_fc; }
     u64 r_0f_1 = (r_nm_1 + 0xffffffffffffffffull);
@@ -27423,8 +27423,8 @@ l_loop_jc_2:;
     goto l_capnp_kv;
 l_else_wj_1:;
     if (!(ld64(away(away(r_c0_2, r_z6_7), 0xfffffffffffffff8ull)) == 0ull)) { r_mh = r_y6; goto l_capnp_kv; }
-    u64 r_jw_1 = capnp_words_lanes_end_of_blocks(r_c0_2, r_z6_7);
-    r_nm_3 = r_jw_1;
+    u64 r_qz_1 = capnp_words_lanes_used_words_bound(r_c0_2, r_z6_7);
+    r_nm_3 = r_qz_1;
 l_loop_jc_3:;
     if (r_nm_3 == 0ull) { r_mh = 0ull; goto l_capnp_kv; }
     u64 r_0f_3 = (r_nm_3 + 0xffffffffffffffffull);
@@ -27570,7 +27570,7 @@ l_capnp_am:;
     st32((slot_2 + 48), (r_az + r_gx));
     st32((slot_2 + 52), 0u);
     st32((slot_2 + 56), r_4w);
-    capnp_copies_copy_children_copy_row_fbcdcd82a40718a5(slot_1, a_2, r_ne, (r_29 + r_4r_5), slot_2, r_ib, a_6, a_7);
+    capnp_copies_copy_children_copy_children_out_of_line_f_8938dd05(slot_1, a_2, r_ne, (r_29 + r_4r_5), slot_2, r_ib, a_6, a_7);
     r_t8 = ld8(slot_1);
     r_hg = ld8((slot_1 + 8));
     r_lc_8 = ld32((slot_1 + 12));
@@ -28121,7 +28121,7 @@ l_arm_v3:;
     st32(r_c4_6, (r_5b + ((u32)r_ep_4 & 65535u)));
     st32(r_bk_1, 0u);
     st32(r_6c_2, r_s1);
-    capnp_copies_copy_children_copy_row_fbcdcd82a40718a5(slot_1, a_2, sink_rg, (r_az_2 + r_2g_5), slot_2, r_az_3, a_6, a_7);
+    capnp_copies_copy_children_copy_children_out_of_line_f_8938dd05(slot_1, a_2, sink_rg, (r_az_2 + r_2g_5), slot_2, r_az_3, a_6, a_7);
     r_2b_2 = ld8(slot_1);
     r_qh = ld8(r_x5_14);
     r_ip = ld32(r_k0_5);
@@ -28509,8 +28509,8 @@ l_loop_jc_4:;
     goto l_capnp_fc_1;
 l_else_wj_2:;
     if (!(ld64(away(away(r_c0_12, r_z6_59), 0xfffffffffffffff8ull)) == 0ull)) { r_ev_1 = r_q7_3; goto l_capnp_fc_1; }
-    u64 r_jw_2 = capnp_words_lanes_end_of_blocks(r_c0_12, r_z6_59);
-    r_nm_7 = r_jw_2;
+    u64 r_qz_2 = capnp_words_lanes_used_words_bound(r_c0_12, r_z6_59);
+    r_nm_7 = r_qz_2;
 l_loop_jc_5:;
     if (r_nm_7 == 0ull) { r_ev_1 = 0ull; goto l_capnp_fc_1; }
     u64 r_0f_12 = (r_nm_7 + 0xffffffffffffffffull);
@@ -28530,8 +28530,8 @@ l_loop_jc_6:;
     goto l_capnp_hv;
 l_else_wj_3:;
     if (!(ld64(away(away(r_c0_13, r_z6_63), 0xfffffffffffffff8ull)) == 0ull)) { r_dl = r_ev_1; r_9n = r_y6_3; goto l_capnp_hv; }
-    u64 r_jw_3 = capnp_words_lanes_end_of_blocks(r_c0_13, r_z6_63);
-    r_nm_9 = r_jw_3;
+    u64 r_qz_3 = capnp_words_lanes_used_words_bound(r_c0_13, r_z6_63);
+    r_nm_9 = r_qz_3;
 l_loop_jc_7:;
     if (r_nm_9 == 0ull) { r_dl = r_ev_1; r_9n = 0ull; goto l_capnp_hv; }
     u64 r_0f_14 = (r_nm_9 + 0xffffffffffffffffull);
@@ -28665,7 +28665,7 @@ l_capnp_5c:;
     st32(r_c4_10, (r_5b_1 + ((u32)r_ep_6 & 65535u)));
     st32(r_bk_2, 0u);
     st32(r_6c_4, r_s1_1);
-    capnp_copies_copy_children_copy_row_fbcdcd82a40718a5(slot_1, a_2, r_wt_2, (r_29_2 + r_4r_12), slot_2, r_az_4, a_6, a_7);
+    capnp_copies_copy_children_copy_children_out_of_line_f_8938dd05(slot_1, a_2, r_wt_2, (r_29_2 + r_4r_12), slot_2, r_az_4, a_6, a_7);
     r_2b_8 = ld8(slot_1);
     r_qh_2 = ld8(r_x5_21);
     r_ip_2 = ld32(r_k0_10);
@@ -28765,20 +28765,20 @@ static void capnp_arena_arena_builder_arena_impl_BuilderArenaImplB_8823a97b(u8 *
     u32 r_yf_1 = ld32(r_2g);
     if (!(((u64)r_yf_1 + (u64)a_3) > (u64)(ld64(away(a_2, 64ull)) >> 3ull))) { r_zv = r_yf_1; goto l_then_pp; }
     r_o8 = away(a_2, 88ull);
-    struct s_i8_i32 r_vy = capnp_arena_arena_bounds_first_by_bounds_96bc33dd2dacd45a(ldp(r_o8), ld64(away(a_2, 96ull)), a_3);
-    r_ll = (r_vy.f1 + 1u);
-    if (!(r_vy.f0 == 1u)) goto l_arm_90;
-    if (!(r_ll == 0u)) goto l_else_ls;
+    struct s_i8_i32 r_wr = capnp_arena_arena_bounds_first_fit_by_bounds_96bc33dd2dacd45a(ldp(r_o8), ld64(away(a_2, 96ull)), a_3);
+    r_ll = (r_wr.f1 + 1u);
+    if (!(r_wr.f0 == 1u)) goto l_arm_90;
+    if (!(r_ll == 0u)) goto l_else_35;
     r_zv = ld32(r_2g);
 l_then_pp:;
     st32(r_2g, (r_zv + a_3));
     r_oh = 0u;
     r_yv = r_zv;
     goto l_join_iz;
-l_else_ls:;
-    u32 r_vq = capnp_arena_arena_rows_take_in_96bc33dd2dacd45a(ldp(r_o8), ((u64)r_ll + 0xffffffffffffffffull), a_3);
+l_else_35:;
+    u32 r_sd = capnp_arena_arena_rows_allocate_fitting_in_96bc33dd2dacd45a(ldp(r_o8), ((u64)r_ll + 0xffffffffffffffffull), a_3);
     r_oh = r_ll;
-    r_yv = r_vq;
+    r_yv = r_sd;
     goto l_join_iz;
 l_arm_90:;
     if (!(u8)(ld8(r_yf) & 1)) { r_zm = 0u; r_fq_1 = 0ull; goto l_join_el; }
@@ -28843,7 +28843,7 @@ l_arm_7m:;
     r_yv = 0u;
     goto l_join_iz;
 l_else_91:;
-    capnp_arena_arena_rows_take_in_96bc33dd2dacd45a(ldp(away(a_2, 88ull)), ((r_fq_1 & 0xffffffffull) + 0xffffffffffffffffull), a_3);
+    capnp_arena_arena_rows_allocate_fitting_in_96bc33dd2dacd45a(ldp(away(a_2, 88ull)), ((r_fq_1 & 0xffffffffull) + 0xffffffffffffffffull), a_3);
     r_oh = r_wt;
     r_yv = 0u;
     goto l_join_iz;
@@ -29319,8 +29319,8 @@ l_join_s8:;
     return;
 }
 
-/* capnp_making::zeroing::zero_landed::<#ecdd2dea505d7548> */
-static NEVER COLD void capnp_making_zeroing_zero_landed_ecdd2dea505d7548(u8 *a_1, u8 *a_2)
+/* capnp_making::zeroing::zero_target::<#ecdd2dea505d7548> */
+static NEVER COLD void capnp_making_zeroing_zero_target_ecdd2dea505d7548(u8 *a_1, u8 *a_2)
 {
     u64 r_tp;
     u32 r_5k;
@@ -29490,7 +29490,7 @@ l_join_if:;
     r_8r = away(a_1, 72ull);
 l_arm_w5:;
     if (r_lc_3 > (u64)ld32(r_8r)) goto l_join_68;
-    if (!((r_y6_1 != 0ull) ? (t_c8 != 0u) : 0u)) goto l_capnp_lh;
+    if (!((r_y6_1 != 0ull) ? (t_c8 != 0u) : 0u)) goto l_capnp_88;
     r_sb = (r_5k_1 + 1u);
     r_dn = 0u;
 l_join_6d:;
@@ -29498,8 +29498,8 @@ l_join_6d:;
     capnp_making_zeroing_zero_pointers_ecdd2dea505d7548(a_1, r_5k, r_w0, t_12);
     u32 r_ff = (r_dn + 1u);
     if (!(r_ff == t_c8)) { r_sb = (r_w0 + t_12); r_dn = r_ff; goto l_join_6d; }
-l_capnp_lh:;
-    capnp_making_zeroing_zero_part_ecdd2dea505d7548(a_1, r_5k, r_5k_1, r_c4);
+l_capnp_88:;
+    capnp_making_zeroing_zero_if_inside_ecdd2dea505d7548(a_1, r_5k, r_5k_1, r_c4);
     goto l_join_68;
 l_arm_a4:;
     capnp_making_zeroing_zero_pointers_ecdd2dea505d7548(a_1, r_5k, r_5k_1, (u32)r_ij);
@@ -29638,7 +29638,7 @@ l_else_86:;
 l_capnp_66:;
     st64((r_y4 + (i64)(r_9i)), 0ull);
     if (!(ld8(slot_1) == 1u)) goto l_capnp_o8;
-    capnp_making_zeroing_zero_landed_ecdd2dea505d7548(a_1, r_x5);
+    capnp_making_zeroing_zero_target_ecdd2dea505d7548(a_1, r_x5);
     if (!((r_4x & 3ull) == 2ull)) goto l_capnp_o8;
     capnp_making_zeroing_zero_far_pads_ecdd2dea505d7548(a_1, r_4x);
 l_capnp_o8:;
@@ -29648,8 +29648,8 @@ l_join_68:;
     return;
 }
 
-/* capnp_making::zeroing::zero_part::<#ecdd2dea505d7548> */
-static void capnp_making_zeroing_zero_part_ecdd2dea505d7548(u8 *a_1, u32 a_2, u32 a_3, u64 a_4)
+/* capnp_making::zeroing::zero_if_inside::<#ecdd2dea505d7548> */
+static void capnp_making_zeroing_zero_if_inside_ecdd2dea505d7548(u8 *a_1, u32 a_2, u32 a_3, u64 a_4)
 {
     u64 r_7l;
     u64 r_o7;
@@ -29759,8 +29759,8 @@ l_capnp_68:;
     return;
 }
 
-/* capnp_copies::copy::children::copy_row::<#fbcdcd82a40718a5> */
-static NEVER void capnp_copies_copy_children_copy_row_fbcdcd82a40718a5(u8 *a_1, u8 *a_2, u32 a_3, u32 a_4, u8 *a_5, u32 a_6, u8 *a_7, u8 a_8)
+/* capnp_copies::copy::children::copy_children_out_of_line::<#fbcdcd82a40718a5> */
+static NEVER void capnp_copies_copy_children_copy_children_out_of_line_f_8938dd05(u8 *a_1, u8 *a_2, u32 a_3, u32 a_4, u8 *a_5, u32 a_6, u8 *a_7, u8 a_8)
 {
     A(8) u8 slot_1[24];
     A(8) u8 slot_2[64];
@@ -30184,8 +30184,8 @@ l_loop_jc:;
     goto l_capnp_bk;
 l_else_wj:;
     if (!(ld64(away(away(r_2b_1, r_z6_7), 0xfffffffffffffff8ull)) == 0ull)) { r_p3 = r_q7; goto l_capnp_bk; }
-    u64 r_jw = capnp_words_lanes_end_of_blocks(r_2b_1, r_z6_7);
-    r_nm_2 = r_jw;
+    u64 r_qz = capnp_words_lanes_used_words_bound(r_2b_1, r_z6_7);
+    r_nm_2 = r_qz;
 l_loop_jc_1:;
     if (r_nm_2 == 0ull) { r_p3 = 0ull; goto l_capnp_bk; }
     u64 r_0f_3 = (r_nm_2 + 0xffffffffffffffffull);
@@ -30205,8 +30205,8 @@ l_loop_jc_2:;
     goto l_capnp_hv;
 l_else_wj_1:;
     if (!(ld64(away(away(r_2b_2, r_z6_11), 0xfffffffffffffff8ull)) == 0ull)) { r_dl = r_p3; r_9n = r_y6; goto l_capnp_hv; }
-    u64 r_jw_1 = capnp_words_lanes_end_of_blocks(r_2b_2, r_z6_11);
-    r_nm_4 = r_jw_1;
+    u64 r_qz_1 = capnp_words_lanes_used_words_bound(r_2b_2, r_z6_11);
+    r_nm_4 = r_qz_1;
 l_loop_jc_3:;
     if (r_nm_4 == 0ull) { r_dl = r_p3; r_9n = 0ull; goto l_capnp_hv; }
     u64 r_0f_5 = (r_nm_4 + 0xffffffffffffffffull);
@@ -30341,7 +30341,7 @@ l_capnp_5c:;
     st32(r_c4_1, (r_5b + ((u32)r_ep & 65535u)));
     st32(r_bk, 0u);
     st32(r_6c_1, r_53);
-    capnp_copies_copy_children_copy_row_fbcdcd82a40718a5(slot_1, a_2, sink_7v, (r_29 + r_4r_2), slot_2, r_az, a_7, a_8);
+    capnp_copies_copy_children_copy_children_out_of_line_f_8938dd05(slot_1, a_2, sink_7v, (r_29 + r_4r_2), slot_2, r_az, a_7, a_8);
     r_2b_5 = ld8(slot_1);
     r_qh = ld8(r_x5_4);
     r_ip = ld32(r_k0_2);
@@ -30513,7 +30513,7 @@ l_capnp_4o:;
     stp(slot_1, r_rv_2);
     st64((slot_1 + 8), r_qw_2);
     st64((slot_1 + 16), r_qw_3);
-    capnp_arena_arena_builder_arena_impl_give_back_others__c35bd785(slot_1);
+    capnp_arena_arena_builder_arena_impl_deallocate_others_70ba8108(slot_1);
     goto l_capnp_f6;
 l_else_ci:;
     if (r_ts) goto l_core_at;
@@ -30592,7 +30592,7 @@ static void capnp_arena_arena_builder_arena_impl_BuilderArenaImpl__94c8bd1d(u8 *
     stp(slot_1, r_rv_1);
     st64((slot_1 + 8), r_qw_2);
     st64((slot_1 + 16), r_qw_3);
-    capnp_arena_arena_builder_arena_impl_give_back_others__c27fdc7d(slot_1);
+    capnp_arena_arena_builder_arena_impl_deallocate_others_eb4af5f0(slot_1);
     goto l_capnp_f6;
 l_else_at:;
     if (r_qw_3 == 0ull) goto l_capnp_f6;
@@ -30633,8 +30633,8 @@ l_std_68:;
     return;
 }
 
-/* capnp_arena::arena::builder_arena_impl::give_back_others::<#22c9fb090562a228> */
-static NEVER void capnp_arena_arena_builder_arena_impl_give_back_others__c27fdc7d(u8 *a_1)
+/* capnp_arena::arena::builder_arena_impl::deallocate_others::<#22c9fb090562a228> */
+static NEVER void capnp_arena_arena_builder_arena_impl_deallocate_others_eb4af5f0(u8 *a_1)
 {
     A(8) u8 slot_1[24];
     u8 *r_mb;
@@ -30736,7 +30736,7 @@ static NEVER void capnp_canonical_parts_copy_part_on_heap_00d4c403870f9587(u8 *a
 l_capnp_vx:;
     st64(slot_4, (u64)r_r5);
     memcpy((slot_4 + 8), (slot_2 + 16), 72);
-    capnp_messages_messages_canonical_copy_copy_reached_wi_6bfc6208(slot_3, slot_4, slot_1);
+    capnp_messages_messages_canonical_copy_canonicalize_re_1a840a57(slot_3, slot_4, slot_1);
     r_r5_2 = ld8((slot_3 + 8));
     r_uq_1 = ld32((slot_3 + 12));
     r_38_1 = ld64((slot_3 + 16));
@@ -30943,12 +30943,12 @@ l_capnp_o7:;
     st32((slot_3 + 56), 0u);
     st32((slot_3 + 60), 0u);
     st32(t_5q, a_5);
-    capnp_messages_messages_canonical_copy_copy_in_room_0b_f9dc17a7(slot_2, slot_5, slot_3, 1u, (a_6 + 0xffffffffffffffffull));
+    capnp_messages_messages_canonical_copy_canonicalize_re_a538a7e4(slot_2, slot_5, slot_3, 1u, (a_6 + 0xffffffffffffffffull));
     t_dd = ld8((slot_2 + 1));
     if (!(ld8(slot_2) == 0u)) { r_9h = ld64((slot_2 + 16)); r_2w = ld32((slot_2 + 12)); r_jg = ld8((slot_2 + 8)); goto l_arm_cz; }
     if (!(u8)(t_dd & 1)) goto l_else_26;
     memset(slot_2, 0u, 40);
-    capnp_arena_arena_builder_arena_impl_output_apart_96bc_5127cbe3(slot_2, r_6c);
+    capnp_arena_arena_builder_arena_impl_output_of_rows_96_10a5969e(slot_2, r_6c);
     r_xw = ldp((slot_2 + 16));
     r_38 = ld64((slot_2 + 24));
     if ((ld8(slot_2) == 0u) ? (ld8((slot_2 + 8)) == 0u) : 0u) goto l_capnp_q4;
@@ -31092,8 +31092,8 @@ l_common_s8:;
     return;
 }
 
-/* capnp_messages::messages::canonical_copy::copy_in_room::<#0b6a2a8be84047b6> */
-static void capnp_messages_messages_canonical_copy_copy_in_room_0b_f9dc17a7(u8 *a_1, u8 *a_2, u8 *a_3, u8 a_4, u64 a_5)
+/* capnp_messages::messages::canonical_copy::canonicalize_reached_into::<#0b6a2a8be84047b6> */
+static void capnp_messages_messages_canonical_copy_canonicalize_re_a538a7e4(u8 *a_1, u8 *a_2, u8 *a_3, u8 a_4, u64 a_5)
 {
     A(8) u8 slot_1[32];
     A(8) u8 slot_2[64];
@@ -31185,7 +31185,7 @@ static void capnp_messages_messages_canonical_copy_copy_in_room_0b_f9dc17a7(u8 *
     r_br = ld16(away(a_3, 72ull));
     r_br_1 = ld16(away(a_3, 74ull));
     memset(slot_6, 0u, 24);
-    capnp_messages_messages_canonical_copy_make_root_22c9f_7fa15447(slot_6, a_2);
+    capnp_messages_messages_canonical_copy_allocate_root_2_96ca7a6b(slot_6, a_2);
     if ((u8)(ld8(slot_6) & 1)) goto l_then_yd;
     goto l_join_zk;
 l_common_68:;
@@ -31224,7 +31224,7 @@ l_join_zk:;
     capnp_making_landing_follow_ecdd2dea505d7548(slot_1, a_2, 0u, 0u);
     st64(r_lz, 0ull);
     if (!(ld8(slot_1) == 1u)) goto l_capnp_8g;
-    capnp_making_zeroing_zero_landed_ecdd2dea505d7548(a_2, (slot_1 + 8));
+    capnp_making_zeroing_zero_target_ecdd2dea505d7548(a_2, (slot_1 + 8));
     if (!((r_qw_2 & 3ull) == 2ull)) goto l_capnp_8g;
     capnp_making_zeroing_zero_far_pads_ecdd2dea505d7548(a_2, r_qw_2);
 l_capnp_8g:;
@@ -31254,8 +31254,8 @@ l_loop_jc:;
     goto l_capnp_ev;
 l_else_wj:;
     if (!(ld64(away(away(r_2b_1, r_z6), 0xfffffffffffffff8ull)) == 0ull)) { r_hk = r_u7; goto l_capnp_ev; }
-    u64 r_jw = capnp_words_lanes_end_of_blocks(r_2b_1, r_z6);
-    r_nm_1 = r_jw;
+    u64 r_qz = capnp_words_lanes_used_words_bound(r_2b_1, r_z6);
+    r_nm_1 = r_qz;
 l_loop_jc_1:;
     if (r_nm_1 == 0ull) { r_hk = 0ull; goto l_capnp_ev; }
     u64 r_0f_1 = (r_nm_1 + 0xffffffffffffffffull);
@@ -31275,8 +31275,8 @@ l_loop_jc_2:;
     goto l_capnp_sa;
 l_else_wj_1:;
     if (!(ld64(away(away(r_2b_2, r_z6_4), 0xfffffffffffffff8ull)) == 0ull)) { r_zw = r_u7_1; goto l_capnp_sa; }
-    u64 r_jw_1 = capnp_words_lanes_end_of_blocks(r_2b_2, r_z6_4);
-    r_nm_3 = r_jw_1;
+    u64 r_qz_1 = capnp_words_lanes_used_words_bound(r_2b_2, r_z6_4);
+    r_nm_3 = r_qz_1;
 l_loop_jc_3:;
     if (r_nm_3 == 0ull) { r_zw = 0ull; goto l_capnp_sa; }
     u64 r_0f_3 = (r_nm_3 + 0xffffffffffffffffull);
@@ -31372,7 +31372,7 @@ l_capnp_am:;
     st32((slot_2 + 48), (r_5k + (u32)r_br));
     st32((slot_2 + 52), 0u);
     st32(t_6c_1, r_5k_2);
-    capnp_copies_copy_children_copy_row_d68d0e19952c1ff4(slot_1, a_2, r_wt, (r_29 + r_4r_1), slot_2, r_az, slot_4, 1u);
+    capnp_copies_copy_children_copy_children_out_of_line_d_7af0432e(slot_1, a_2, r_wt, (r_29 + r_4r_1), slot_2, r_az, slot_4, 1u);
     r_2b_4 = ld8(slot_1);
     r_qh_1 = ld8((slot_1 + 8));
     r_ip_1 = ld32((slot_1 + 12));
@@ -32206,8 +32206,8 @@ l_loop_jc:;
     goto l_capnp_fc;
 l_else_wj:;
     if (!(ld64(away(away(r_c0_1, r_z6_3), 0xfffffffffffffff8ull)) == 0ull)) { r_ev = r_q7_1; goto l_capnp_fc; }
-    u64 r_jw = capnp_words_lanes_end_of_blocks(r_c0_1, r_z6_3);
-    r_nm_1 = r_jw;
+    u64 r_qz = capnp_words_lanes_used_words_bound(r_c0_1, r_z6_3);
+    r_nm_1 = r_qz;
 l_loop_jc_1:;
     if (r_nm_1 == 0ull) { r_ev = 0ull; goto l_capnp_fc; }
     u64 r_0f_1 = (r_nm_1 + 0xffffffffffffffffull);
@@ -32226,8 +32226,8 @@ l_loop_jc_2:;
     goto l_capnp_kv;
 l_else_wj_1:;
     if (!(ld64(away(away(r_c0_2, r_z6_7), 0xfffffffffffffff8ull)) == 0ull)) { r_mh = r_y6; goto l_capnp_kv; }
-    u64 r_jw_1 = capnp_words_lanes_end_of_blocks(r_c0_2, r_z6_7);
-    r_nm_3 = r_jw_1;
+    u64 r_qz_1 = capnp_words_lanes_used_words_bound(r_c0_2, r_z6_7);
+    r_nm_3 = r_qz_1;
 l_loop_jc_3:;
     if (r_nm_3 == 0ull) { r_mh = 0ull; goto l_capnp_kv; }
     u64 r_0f_3 = (r_nm_3 + 0xffffffffffffffffull);
@@ -32373,7 +32373,7 @@ l_capnp_am:;
     st32((slot_2 + 48), (r_az + r_gx));
     st32((slot_2 + 52), 0u);
     st32((slot_2 + 56), r_4w);
-    capnp_copies_copy_children_copy_row_d68d0e19952c1ff4(slot_1, a_2, r_ne, (r_29 + r_4r_5), slot_2, r_ib, a_6, a_7);
+    capnp_copies_copy_children_copy_children_out_of_line_d_7af0432e(slot_1, a_2, r_ne, (r_29 + r_4r_5), slot_2, r_ib, a_6, a_7);
     r_t8 = ld8(slot_1);
     r_hg = ld8((slot_1 + 8));
     r_lc_8 = ld32((slot_1 + 12));
@@ -32924,7 +32924,7 @@ l_arm_v3:;
     st32(r_c4_6, (r_5b + ((u32)r_ep_4 & 65535u)));
     st32(r_bk_1, 0u);
     st32(r_6c_2, r_s1);
-    capnp_copies_copy_children_copy_row_d68d0e19952c1ff4(slot_1, a_2, sink_rg, (r_az_2 + r_2g_5), slot_2, r_az_3, a_6, a_7);
+    capnp_copies_copy_children_copy_children_out_of_line_d_7af0432e(slot_1, a_2, sink_rg, (r_az_2 + r_2g_5), slot_2, r_az_3, a_6, a_7);
     r_2b_2 = ld8(slot_1);
     r_qh = ld8(r_x5_14);
     r_ip = ld32(r_k0_5);
@@ -33312,8 +33312,8 @@ l_loop_jc_4:;
     goto l_capnp_fc_1;
 l_else_wj_2:;
     if (!(ld64(away(away(r_c0_12, r_z6_59), 0xfffffffffffffff8ull)) == 0ull)) { r_ev_1 = r_q7_3; goto l_capnp_fc_1; }
-    u64 r_jw_2 = capnp_words_lanes_end_of_blocks(r_c0_12, r_z6_59);
-    r_nm_7 = r_jw_2;
+    u64 r_qz_2 = capnp_words_lanes_used_words_bound(r_c0_12, r_z6_59);
+    r_nm_7 = r_qz_2;
 l_loop_jc_5:;
     if (r_nm_7 == 0ull) { r_ev_1 = 0ull; goto l_capnp_fc_1; }
     u64 r_0f_12 = (r_nm_7 + 0xffffffffffffffffull);
@@ -33333,8 +33333,8 @@ l_loop_jc_6:;
     goto l_capnp_hv;
 l_else_wj_3:;
     if (!(ld64(away(away(r_c0_13, r_z6_63), 0xfffffffffffffff8ull)) == 0ull)) { r_dl = r_ev_1; r_9n = r_y6_3; goto l_capnp_hv; }
-    u64 r_jw_3 = capnp_words_lanes_end_of_blocks(r_c0_13, r_z6_63);
-    r_nm_9 = r_jw_3;
+    u64 r_qz_3 = capnp_words_lanes_used_words_bound(r_c0_13, r_z6_63);
+    r_nm_9 = r_qz_3;
 l_loop_jc_7:;
     if (r_nm_9 == 0ull) { r_dl = r_ev_1; r_9n = 0ull; goto l_capnp_hv; }
     u64 r_0f_14 = (r_nm_9 + 0xffffffffffffffffull);
@@ -33468,7 +33468,7 @@ l_capnp_5c:;
     st32(r_c4_10, (r_5b_1 + ((u32)r_ep_6 & 65535u)));
     st32(r_bk_2, 0u);
     st32(r_6c_4, r_s1_1);
-    capnp_copies_copy_children_copy_row_d68d0e19952c1ff4(slot_1, a_2, r_wt_2, (r_29_2 + r_4r_12), slot_2, r_az_4, a_6, a_7);
+    capnp_copies_copy_children_copy_children_out_of_line_d_7af0432e(slot_1, a_2, r_wt_2, (r_29_2 + r_4r_12), slot_2, r_az_4, a_6, a_7);
     r_2b_8 = ld8(slot_1);
     r_qh_2 = ld8(r_x5_21);
     r_ip_2 = ld32(r_k0_10);
@@ -33539,8 +33539,8 @@ l_join_1g:;
     goto l_common_9c;
 }
 
-/* capnp_copies::copy::children::copy_row::<#d68d0e19952c1ff4> */
-static NEVER void capnp_copies_copy_children_copy_row_d68d0e19952c1ff4(u8 *a_1, u8 *a_2, u32 a_3, u32 a_4, u8 *a_5, u32 a_6, u8 *a_7, u8 a_8)
+/* capnp_copies::copy::children::copy_children_out_of_line::<#d68d0e19952c1ff4> */
+static NEVER void capnp_copies_copy_children_copy_children_out_of_line_d_7af0432e(u8 *a_1, u8 *a_2, u32 a_3, u32 a_4, u8 *a_5, u32 a_6, u8 *a_7, u8 a_8)
 {
     A(8) u8 slot_1[24];
     A(8) u8 slot_2[64];
@@ -33964,8 +33964,8 @@ l_loop_jc:;
     goto l_capnp_bk;
 l_else_wj:;
     if (!(ld64(away(away(r_2b_1, r_z6_7), 0xfffffffffffffff8ull)) == 0ull)) { r_p3 = r_q7; goto l_capnp_bk; }
-    u64 r_jw = capnp_words_lanes_end_of_blocks(r_2b_1, r_z6_7);
-    r_nm_2 = r_jw;
+    u64 r_qz = capnp_words_lanes_used_words_bound(r_2b_1, r_z6_7);
+    r_nm_2 = r_qz;
 l_loop_jc_1:;
     if (r_nm_2 == 0ull) { r_p3 = 0ull; goto l_capnp_bk; }
     u64 r_0f_3 = (r_nm_2 + 0xffffffffffffffffull);
@@ -33985,8 +33985,8 @@ l_loop_jc_2:;
     goto l_capnp_hv;
 l_else_wj_1:;
     if (!(ld64(away(away(r_2b_2, r_z6_11), 0xfffffffffffffff8ull)) == 0ull)) { r_dl = r_p3; r_9n = r_y6; goto l_capnp_hv; }
-    u64 r_jw_1 = capnp_words_lanes_end_of_blocks(r_2b_2, r_z6_11);
-    r_nm_4 = r_jw_1;
+    u64 r_qz_1 = capnp_words_lanes_used_words_bound(r_2b_2, r_z6_11);
+    r_nm_4 = r_qz_1;
 l_loop_jc_3:;
     if (r_nm_4 == 0ull) { r_dl = r_p3; r_9n = 0ull; goto l_capnp_hv; }
     u64 r_0f_5 = (r_nm_4 + 0xffffffffffffffffull);
@@ -34121,7 +34121,7 @@ l_capnp_5c:;
     st32(r_c4_1, (r_5b + ((u32)r_ep & 65535u)));
     st32(r_bk, 0u);
     st32(r_6c_1, r_53);
-    capnp_copies_copy_children_copy_row_d68d0e19952c1ff4(slot_1, a_2, sink_7v, (r_29 + r_4r_2), slot_2, r_az, a_7, a_8);
+    capnp_copies_copy_children_copy_children_out_of_line_d_7af0432e(slot_1, a_2, sink_7v, (r_29 + r_4r_2), slot_2, r_az, a_7, a_8);
     r_2b_5 = ld8(slot_1);
     r_qh = ld8(r_x5_4);
     r_ip = ld32(r_k0_2);
@@ -34249,7 +34249,7 @@ l_capnp_bv:;
     st32((slot_2 + 60), 0u);
     memset(slot_2, 0u, 16);
     st32(t_5q, r_yf);
-    capnp_messages_messages_canonical_copy_copy_reached_wi_26a086d2(slot_1, slot_2, slot_3);
+    capnp_messages_messages_canonical_copy_canonicalize_re_52be4be5(slot_1, slot_2, slot_3);
     r_z4 = ld32((slot_1 + 8));
     r_uq = ld32((slot_1 + 12));
     r_38 = ld64((slot_1 + 16));
@@ -34369,7 +34369,7 @@ static NEVER void capnp_canonical_parts_copy_part_on_heap_2204359a6e9fa1dc(u8 *a
 l_capnp_vx:;
     st64(slot_4, (u64)r_r5);
     memcpy((slot_4 + 8), (slot_2 + 16), 72);
-    capnp_messages_messages_canonical_copy_copy_reached_wi_26a086d2(slot_3, slot_4, slot_1);
+    capnp_messages_messages_canonical_copy_canonicalize_re_52be4be5(slot_3, slot_4, slot_1);
     r_r5_2 = ld8((slot_3 + 8));
     r_uq_1 = ld32((slot_3 + 12));
     r_38_1 = ld64((slot_3 + 16));
@@ -36172,9 +36172,9 @@ l_arm_bb:;
     goto l_return_pr;
 l_join_1x:;
     if (r_68_1 == 0u) { r_us = r_ll; r_1x = 0u; goto l_return_pr; }
-    struct s_i8_i32 r_s7 = capnp_objects_pointers_canonical_test_rows_4d6e045afdcb38e0(a_1, r_ll, t_xg, r_py, t_c8, r_y0_1, a_6);
-    r_us = r_s7.f1;
-    r_1x = r_s7.f0;
+    struct s_i8_i32 r_ma = capnp_objects_pointers_canonical_test_elements_4d6e045afdcb38e0(a_1, r_ll, t_xg, r_py, t_c8, r_y0_1, a_6);
+    r_us = r_ma.f1;
+    r_1x = r_ma.f0;
     goto l_return_pr;
 l_arm_um:;
     u64 r_qw_5 = ld64(r_xz);
@@ -36193,8 +36193,8 @@ l_return_pr:;
     return r_i6;
 }
 
-/* capnp_objects::pointers::canonical::test_rows::<#4d6e045afdcb38e0> */
-static struct s_i8_i32 capnp_objects_pointers_canonical_test_rows_4d6e045afdcb38e0(u8 *a_1, u32 a_2, u16 a_3, u16 a_4, u32 a_5, u32 a_6, u8 *a_7)
+/* capnp_objects::pointers::canonical::test_elements::<#4d6e045afdcb38e0> */
+static struct s_i8_i32 capnp_objects_pointers_canonical_test_elements_4d6e045afdcb38e0(u8 *a_1, u32 a_2, u16 a_3, u16 a_4, u32 a_5, u32 a_6, u8 *a_7)
 {
     u32 r_m2;
     u32 r_m2_1;
@@ -36295,8 +36295,8 @@ l_return_pr:;
     return r_i6;
 }
 
-/* capnp_messages::messages::canonical_copy::copy_in_room::<#ad8a3247c4474ee1> */
-static void capnp_messages_messages_canonical_copy_copy_in_room_ad_f42481be(u8 *a_1, u8 *a_2, u8 *a_3, u8 a_4, u64 a_5)
+/* capnp_messages::messages::canonical_copy::canonicalize_reached_into::<#ad8a3247c4474ee1> */
+static void capnp_messages_messages_canonical_copy_canonicalize_re_81788e4b(u8 *a_1, u8 *a_2, u8 *a_3, u8 a_4, u64 a_5)
 {
     A(8) u8 slot_1[32];
     A(8) u8 slot_2[64];
@@ -36388,7 +36388,7 @@ static void capnp_messages_messages_canonical_copy_copy_in_room_ad_f42481be(u8 *
     r_br = ld16(away(a_3, 72ull));
     r_br_1 = ld16(away(a_3, 74ull));
     memset(slot_6, 0u, 24);
-    capnp_messages_messages_canonical_copy_make_root_22c9f_7fa15447(slot_6, a_2);
+    capnp_messages_messages_canonical_copy_allocate_root_2_96ca7a6b(slot_6, a_2);
     if ((u8)(ld8(slot_6) & 1)) goto l_then_yd;
     goto l_join_zk;
 l_common_68:;
@@ -36427,7 +36427,7 @@ l_join_zk:;
     capnp_making_landing_follow_ecdd2dea505d7548(slot_1, a_2, 0u, 0u);
     st64(r_lz, 0ull);
     if (!(ld8(slot_1) == 1u)) goto l_capnp_8g;
-    capnp_making_zeroing_zero_landed_ecdd2dea505d7548(a_2, (slot_1 + 8));
+    capnp_making_zeroing_zero_target_ecdd2dea505d7548(a_2, (slot_1 + 8));
     if (!((r_qw_2 & 3ull) == 2ull)) goto l_capnp_8g;
     capnp_making_zeroing_zero_far_pads_ecdd2dea505d7548(a_2, r_qw_2);
 l_capnp_8g:;
@@ -36457,8 +36457,8 @@ l_loop_jc:;
     goto l_capnp_ev;
 l_else_wj:;
     if (!(ld64(away(away(r_2b_1, r_z6), 0xfffffffffffffff8ull)) == 0ull)) { r_hk = r_u7; goto l_capnp_ev; }
-    u64 r_jw = capnp_words_lanes_end_of_blocks(r_2b_1, r_z6);
-    r_nm_1 = r_jw;
+    u64 r_qz = capnp_words_lanes_used_words_bound(r_2b_1, r_z6);
+    r_nm_1 = r_qz;
 l_loop_jc_1:;
     if (r_nm_1 == 0ull) { r_hk = 0ull; goto l_capnp_ev; }
     u64 r_0f_1 = (r_nm_1 + 0xffffffffffffffffull);
@@ -36478,8 +36478,8 @@ l_loop_jc_2:;
     goto l_capnp_sa;
 l_else_wj_1:;
     if (!(ld64(away(away(r_2b_2, r_z6_4), 0xfffffffffffffff8ull)) == 0ull)) { r_zw = r_u7_1; goto l_capnp_sa; }
-    u64 r_jw_1 = capnp_words_lanes_end_of_blocks(r_2b_2, r_z6_4);
-    r_nm_3 = r_jw_1;
+    u64 r_qz_1 = capnp_words_lanes_used_words_bound(r_2b_2, r_z6_4);
+    r_nm_3 = r_qz_1;
 l_loop_jc_3:;
     if (r_nm_3 == 0ull) { r_zw = 0ull; goto l_capnp_sa; }
     u64 r_0f_3 = (r_nm_3 + 0xffffffffffffffffull);
@@ -36575,7 +36575,7 @@ l_capnp_am:;
     st32((slot_2 + 48), (r_5k + (u32)r_br));
     st32((slot_2 + 52), 0u);
     st32(t_6c_1, r_5k_2);
-    capnp_copies_copy_children_copy_row_71f845ce3aa9b0ff(slot_1, a_2, r_wt, (r_29 + r_4r_1), slot_2, r_az, slot_4, 1u);
+    capnp_copies_copy_children_copy_children_out_of_line_7_a11106f1(slot_1, a_2, r_wt, (r_29 + r_4r_1), slot_2, r_az, slot_4, 1u);
     r_2b_4 = ld8(slot_1);
     r_qh_1 = ld8((slot_1 + 8));
     r_ip_1 = ld32((slot_1 + 12));
@@ -37409,8 +37409,8 @@ l_loop_jc:;
     goto l_capnp_fc;
 l_else_wj:;
     if (!(ld64(away(away(r_c0_1, r_z6_3), 0xfffffffffffffff8ull)) == 0ull)) { r_ev = r_q7_1; goto l_capnp_fc; }
-    u64 r_jw = capnp_words_lanes_end_of_blocks(r_c0_1, r_z6_3);
-    r_nm_1 = r_jw;
+    u64 r_qz = capnp_words_lanes_used_words_bound(r_c0_1, r_z6_3);
+    r_nm_1 = r_qz;
 l_loop_jc_1:;
     if (r_nm_1 == 0ull) { r_ev = 0ull; goto l_capnp_fc; }
     u64 r_0f_1 = (r_nm_1 + 0xffffffffffffffffull);
@@ -37429,8 +37429,8 @@ l_loop_jc_2:;
     goto l_capnp_kv;
 l_else_wj_1:;
     if (!(ld64(away(away(r_c0_2, r_z6_7), 0xfffffffffffffff8ull)) == 0ull)) { r_mh = r_y6; goto l_capnp_kv; }
-    u64 r_jw_1 = capnp_words_lanes_end_of_blocks(r_c0_2, r_z6_7);
-    r_nm_3 = r_jw_1;
+    u64 r_qz_1 = capnp_words_lanes_used_words_bound(r_c0_2, r_z6_7);
+    r_nm_3 = r_qz_1;
 l_loop_jc_3:;
     if (r_nm_3 == 0ull) { r_mh = 0ull; goto l_capnp_kv; }
     u64 r_0f_3 = (r_nm_3 + 0xffffffffffffffffull);
@@ -37576,7 +37576,7 @@ l_capnp_am:;
     st32((slot_2 + 48), (r_az + r_gx));
     st32((slot_2 + 52), 0u);
     st32((slot_2 + 56), r_4w);
-    capnp_copies_copy_children_copy_row_71f845ce3aa9b0ff(slot_1, a_2, r_ne, (r_29 + r_4r_5), slot_2, r_ib, a_6, a_7);
+    capnp_copies_copy_children_copy_children_out_of_line_7_a11106f1(slot_1, a_2, r_ne, (r_29 + r_4r_5), slot_2, r_ib, a_6, a_7);
     r_t8 = ld8(slot_1);
     r_hg = ld8((slot_1 + 8));
     r_lc_8 = ld32((slot_1 + 12));
@@ -38127,7 +38127,7 @@ l_arm_v3:;
     st32(r_c4_6, (r_5b + ((u32)r_ep_4 & 65535u)));
     st32(r_bk_1, 0u);
     st32(r_6c_2, r_s1);
-    capnp_copies_copy_children_copy_row_71f845ce3aa9b0ff(slot_1, a_2, sink_rg, (r_az_2 + r_2g_5), slot_2, r_az_3, a_6, a_7);
+    capnp_copies_copy_children_copy_children_out_of_line_7_a11106f1(slot_1, a_2, sink_rg, (r_az_2 + r_2g_5), slot_2, r_az_3, a_6, a_7);
     r_2b_2 = ld8(slot_1);
     r_qh = ld8(r_x5_14);
     r_ip = ld32(r_k0_5);
@@ -38515,8 +38515,8 @@ l_loop_jc_4:;
     goto l_capnp_fc_1;
 l_else_wj_2:;
     if (!(ld64(away(away(r_c0_12, r_z6_59), 0xfffffffffffffff8ull)) == 0ull)) { r_ev_1 = r_q7_3; goto l_capnp_fc_1; }
-    u64 r_jw_2 = capnp_words_lanes_end_of_blocks(r_c0_12, r_z6_59);
-    r_nm_7 = r_jw_2;
+    u64 r_qz_2 = capnp_words_lanes_used_words_bound(r_c0_12, r_z6_59);
+    r_nm_7 = r_qz_2;
 l_loop_jc_5:;
     if (r_nm_7 == 0ull) { r_ev_1 = 0ull; goto l_capnp_fc_1; }
     u64 r_0f_12 = (r_nm_7 + 0xffffffffffffffffull);
@@ -38536,8 +38536,8 @@ l_loop_jc_6:;
     goto l_capnp_hv;
 l_else_wj_3:;
     if (!(ld64(away(away(r_c0_13, r_z6_63), 0xfffffffffffffff8ull)) == 0ull)) { r_dl = r_ev_1; r_9n = r_y6_3; goto l_capnp_hv; }
-    u64 r_jw_3 = capnp_words_lanes_end_of_blocks(r_c0_13, r_z6_63);
-    r_nm_9 = r_jw_3;
+    u64 r_qz_3 = capnp_words_lanes_used_words_bound(r_c0_13, r_z6_63);
+    r_nm_9 = r_qz_3;
 l_loop_jc_7:;
     if (r_nm_9 == 0ull) { r_dl = r_ev_1; r_9n = 0ull; goto l_capnp_hv; }
     u64 r_0f_14 = (r_nm_9 + 0xffffffffffffffffull);
@@ -38671,7 +38671,7 @@ l_capnp_5c:;
     st32(r_c4_10, (r_5b_1 + ((u32)r_ep_6 & 65535u)));
     st32(r_bk_2, 0u);
     st32(r_6c_4, r_s1_1);
-    capnp_copies_copy_children_copy_row_71f845ce3aa9b0ff(slot_1, a_2, r_wt_2, (r_29_2 + r_4r_12), slot_2, r_az_4, a_6, a_7);
+    capnp_copies_copy_children_copy_children_out_of_line_7_a11106f1(slot_1, a_2, r_wt_2, (r_29_2 + r_4r_12), slot_2, r_az_4, a_6, a_7);
     r_2b_8 = ld8(slot_1);
     r_qh_2 = ld8(r_x5_21);
     r_ip_2 = ld32(r_k0_10);
@@ -38742,8 +38742,8 @@ l_join_1g:;
     goto l_common_9c;
 }
 
-/* capnp_copies::copy::children::copy_row::<#71f845ce3aa9b0ff> */
-static NEVER void capnp_copies_copy_children_copy_row_71f845ce3aa9b0ff(u8 *a_1, u8 *a_2, u32 a_3, u32 a_4, u8 *a_5, u32 a_6, u8 *a_7, u8 a_8)
+/* capnp_copies::copy::children::copy_children_out_of_line::<#71f845ce3aa9b0ff> */
+static NEVER void capnp_copies_copy_children_copy_children_out_of_line_7_a11106f1(u8 *a_1, u8 *a_2, u32 a_3, u32 a_4, u8 *a_5, u32 a_6, u8 *a_7, u8 a_8)
 {
     A(8) u8 slot_1[24];
     A(8) u8 slot_2[64];
@@ -39167,8 +39167,8 @@ l_loop_jc:;
     goto l_capnp_bk;
 l_else_wj:;
     if (!(ld64(away(away(r_2b_1, r_z6_7), 0xfffffffffffffff8ull)) == 0ull)) { r_p3 = r_q7; goto l_capnp_bk; }
-    u64 r_jw = capnp_words_lanes_end_of_blocks(r_2b_1, r_z6_7);
-    r_nm_2 = r_jw;
+    u64 r_qz = capnp_words_lanes_used_words_bound(r_2b_1, r_z6_7);
+    r_nm_2 = r_qz;
 l_loop_jc_1:;
     if (r_nm_2 == 0ull) { r_p3 = 0ull; goto l_capnp_bk; }
     u64 r_0f_3 = (r_nm_2 + 0xffffffffffffffffull);
@@ -39188,8 +39188,8 @@ l_loop_jc_2:;
     goto l_capnp_hv;
 l_else_wj_1:;
     if (!(ld64(away(away(r_2b_2, r_z6_11), 0xfffffffffffffff8ull)) == 0ull)) { r_dl = r_p3; r_9n = r_y6; goto l_capnp_hv; }
-    u64 r_jw_1 = capnp_words_lanes_end_of_blocks(r_2b_2, r_z6_11);
-    r_nm_4 = r_jw_1;
+    u64 r_qz_1 = capnp_words_lanes_used_words_bound(r_2b_2, r_z6_11);
+    r_nm_4 = r_qz_1;
 l_loop_jc_3:;
     if (r_nm_4 == 0ull) { r_dl = r_p3; r_9n = 0ull; goto l_capnp_hv; }
     u64 r_0f_5 = (r_nm_4 + 0xffffffffffffffffull);
@@ -39324,7 +39324,7 @@ l_capnp_5c:;
     st32(r_c4_1, (r_5b + ((u32)r_ep & 65535u)));
     st32(r_bk, 0u);
     st32(r_6c_1, r_53);
-    capnp_copies_copy_children_copy_row_71f845ce3aa9b0ff(slot_1, a_2, sink_7v, (r_29 + r_4r_2), slot_2, r_az, a_7, a_8);
+    capnp_copies_copy_children_copy_children_out_of_line_7_a11106f1(slot_1, a_2, sink_7v, (r_29 + r_4r_2), slot_2, r_az, a_7, a_8);
     r_2b_5 = ld8(slot_1);
     r_qh = ld8(r_x5_4);
     r_ip = ld32(r_k0_2);
@@ -39511,7 +39511,7 @@ l_arm_bp:;
     st64(slot_2, 0ull);
     st64((slot_2 + 8), r_5l);
     st32(t_5q, r_tm);
-    capnp_messages_messages_canonical_copy_copy_reached_wi_2d087135(slot_1, slot_2, slot_3);
+    capnp_messages_messages_canonical_copy_canonicalize_re_e0e98643(slot_1, slot_2, slot_3);
     u8 r_r5 = ld8(slot_1);
     u32 r_z4 = ld32((slot_1 + 8));
     u32 r_uq = ld32((slot_1 + 12));
@@ -39539,8 +39539,8 @@ l_join_6f:;
     return;
 }
 
-/* capnp_messages::messages::canonical_copy::copy_reached_with::<#31450ac7a9874d30> */
-static void capnp_messages_messages_canonical_copy_copy_reached_wi_2d087135(u8 *a_1, u8 *a_2, u8 *a_3)
+/* capnp_messages::messages::canonical_copy::canonicalize_reached::<#31450ac7a9874d30> */
+static void capnp_messages_messages_canonical_copy_canonicalize_re_e0e98643(u8 *a_1, u8 *a_2, u8 *a_3)
 {
     A(8) u8 slot_1[1];
     A(8) u8 slot_2[32];
@@ -39685,7 +39685,7 @@ static void capnp_messages_messages_canonical_copy_copy_reached_wi_2d087135(u8 *
     u32 r_yf;
     u64 r_24_1;
     u32 r_ff_1;
-    struct s_i8_i32 r_r6;
+    struct s_i8_i32 r_kj;
     u64 r_1k;
     u64 r_61;
     u64 r_9s;
@@ -39847,7 +39847,7 @@ l_loop_xs:;
     memset(r_c4, 0u, 32);
     stp(r_l1, slot_1);
     memset(r_k5, 0u, 16);
-    capnp_messages_messages_canonical_copy_make_root_a36f5_b8201421(slot_8, slot_6, r_m4);
+    capnp_messages_messages_canonical_copy_allocate_root_a_37f0c9a9(slot_8, slot_6, r_m4);
     if (!(ld8(slot_8) == 1u)) goto l_join_dw;
     r_r5 = ld8(r_x5_9);
     r_uq = ld32(r_k0_2);
@@ -39863,13 +39863,13 @@ l_loop_xs:;
     r_38_5 = ld64(r_x5);
     r_ts = (ld64(r_6c_1) == 0ull);
     if (!(u8)(ld8(r_1e_1) & 1)) goto l_else_ci;
-    if (r_ts) goto l_capnp_yy;
+    if (r_ts) goto l_capnp_wd;
     rattle_dealloc(r_xw_1);
-l_capnp_yy:;
+l_capnp_wd:;
     stp(slot_2, r_xw_2);
     st64(r_x5_10, r_38_3);
     st64(r_zd_9, r_38_4);
-    capnp_arena_arena_builder_arena_impl_give_back_others__c35bd785(slot_2);
+    capnp_arena_arena_builder_arena_impl_deallocate_others_70ba8108(slot_2);
     goto l_capnp_f6;
 l_else_ci:;
     if (r_ts) goto l_core_at;
@@ -39963,7 +39963,7 @@ l_join_dw:;
     capnp_making_landing_follow_c985307b501351a7(slot_2, slot_7, 0u, 0u);
     st64(r_lz_1, 0ull);
     if (!(ld8(slot_2) == 1u)) goto l_capnp_8g;
-    capnp_making_zeroing_zero_landed_c985307b501351a7(slot_7, r_x5_7);
+    capnp_making_zeroing_zero_target_c985307b501351a7(slot_7, r_x5_7);
     if (!((r_qw_5 & 3ull) == 2ull)) goto l_capnp_8g;
     capnp_making_zeroing_zero_far_pads_c985307b501351a7(slot_7, r_qw_5);
 l_capnp_8g:;
@@ -39987,8 +39987,8 @@ l_loop_jc:;
     goto l_capnp_5d;
 l_else_08:;
     if (!(ld64(r_l7) == 0ull)) { r_wx = r_u7; goto l_capnp_5d; }
-    u64 r_se = capnp_words_lanes_end_of_blocks(r_2b, r_z6);
-    r_nm_1 = r_se;
+    u64 r_r2_1 = capnp_words_lanes_used_words_bound(r_2b, r_z6);
+    r_nm_1 = r_r2_1;
 l_loop_jc_1:;
     if (r_nm_1 == 0ull) { r_wx = 0ull; goto l_capnp_5d; }
     u64 r_0f_1 = (r_nm_1 + 0xffffffffffffffffull);
@@ -40005,8 +40005,8 @@ l_loop_jc_2:;
     goto l_capnp_sa;
 l_else_08_1:;
     if (!(ld64(r_l7_1) == 0ull)) { r_zw = r_u7_1; goto l_capnp_sa; }
-    u64 r_se_1 = capnp_words_lanes_end_of_blocks(r_2b_1, r_z6_2);
-    r_nm_3 = r_se_1;
+    u64 r_r2_2 = capnp_words_lanes_used_words_bound(r_2b_1, r_z6_2);
+    r_nm_3 = r_r2_2;
 l_loop_jc_3:;
     if (r_nm_3 == 0ull) { r_zw = 0ull; goto l_capnp_sa; }
     u64 r_0f_3 = (r_nm_3 + 0xffffffffffffffffull);
@@ -40025,17 +40025,17 @@ l_join_s3:;
     r_3q = away(r_lz_2, 24ull);
     r_yf = ld32(r_3q);
     r_24_1 = (u64)r_yf;
-    if ((r_24_1 + (u64)r_68) > (u64)(ld64(away(r_lz_2, 8ull)) >> 3ull)) goto l_capnp_xr;
+    if ((r_24_1 + (u64)r_68) > (u64)(ld64(away(r_lz_2, 8ull)) >> 3ull)) goto l_capnp_z3;
     st32(r_3q, (r_yf + r_68));
     r_1k = r_24_1;
     r_61 = (((u64)(r_zw << 48ull) | ((u64)(r_wx << 32ull) & 0xffff00000000ull)) | (u64)((u32)(r_yf << 2u) + 0xfffffffcu));
     r_9s = 0ull;
     goto l_capnp_xw;
-l_capnp_xr:;
+l_capnp_z3:;
     r_ff_1 = (r_68 + 1u);
-    r_r6 = capnp_arena_arena_bounds_first_by_bounds_e469ead029109f04(r_lz_2, ld64(r_zd_2), r_ff_1);
-    if (!(r_r6.f0 == 1u)) goto l_arm_b7;
-    u64 t_24 = (u64)r_r6.f1;
+    r_kj = capnp_arena_arena_bounds_first_fit_by_bounds_e469ead029109f04(r_lz_2, ld64(r_zd_2), r_ff_1);
+    if (!(r_kj.f0 == 1u)) goto l_arm_b7;
+    u64 t_24 = (u64)r_kj.f1;
     u8 *r_2b_4 = away(r_lz_2, (u64)(t_24 << 5ull));
     u8 *r_3q_1 = away(r_2b_4, 24ull);
     u32 r_yf_1 = ld32(r_3q_1);
@@ -40093,7 +40093,7 @@ l_capnp_5c:;
     st32(r_c4_1, r_w0);
     st32(r_bk, 0u);
     st32(t_6c, r_5k_2);
-    capnp_copies_copy_children_copy_row_b6c0503bf8b72334(slot_2, slot_7, r_wt, (r_29 + r_4r_1), slot_3, r_az, slot_5, 1u);
+    capnp_copies_copy_children_copy_children_out_of_line_b_1b5716fc(slot_2, slot_7, r_wt, (r_29 + r_4r_1), slot_3, r_az, slot_5, 1u);
     r_2b_7 = ld8(slot_2);
     r_qh_1 = ld8(r_x5_4);
     r_ip_1 = ld32(r_k0);
@@ -40223,13 +40223,13 @@ l_capnp_gc:;
 l_arm_04:;
     r_ts_20 = (r_38_17 == 0ull);
     if (!(u8)(r_r5_7 & 1)) goto l_else_ci_1;
-    if (r_ts_20) goto l_capnp_yy_1;
+    if (r_ts_20) goto l_capnp_wd_1;
     rattle_dealloc(r_xw_3);
-l_capnp_yy_1:;
+l_capnp_wd_1:;
     stp(slot_2, r_xw_4);
     st64(r_x5_8, r_38_19);
     st64(r_zd_7, r_38_20);
-    capnp_arena_arena_builder_arena_impl_give_back_others__c35bd785(slot_2);
+    capnp_arena_arena_builder_arena_impl_deallocate_others_70ba8108(slot_2);
     goto l_capnp_jm;
 l_else_ci_1:;
     if (r_ts_20) goto l_core_at_1;
@@ -40455,7 +40455,7 @@ static NEVER void capnp_copies_copy_copy_object_b6c0503bf8b72334(u8 *a_1, u8 *a_
     u32 r_ff_1;
     u8 *r_08_3;
     u64 r_52_10;
-    struct s_i8_i32 r_mm;
+    struct s_i8_i32 r_nt_1;
     u8 *r_py_1;
     u64 r_38_7;
     u64 sink_4g;
@@ -40468,7 +40468,7 @@ static NEVER void capnp_copies_copy_copy_object_b6c0503bf8b72334(u8 *a_1, u8 *a_
     u32 r_ff_2;
     u8 *r_08_4;
     u64 r_52_13;
-    struct s_i8_i32 r_mm_1;
+    struct s_i8_i32 r_nt_2;
     u8 *r_py_2;
     u64 r_38_9;
     u64 sink_4f;
@@ -40654,7 +40654,7 @@ static NEVER void capnp_copies_copy_copy_object_b6c0503bf8b72334(u8 *a_1, u8 *a_
     u64 r_24_43;
     u32 r_ff_5;
     u64 r_52_25;
-    struct s_i8_i32 r_mm_2;
+    struct s_i8_i32 r_nt_3;
     u8 *r_py_3;
     u64 r_38_19;
     u64 sink_yk;
@@ -40694,7 +40694,7 @@ static NEVER void capnp_copies_copy_copy_object_b6c0503bf8b72334(u8 *a_1, u8 *a_
     u32 r_yf_15;
     u32 r_ff_6;
     u64 r_52_31;
-    struct s_i8_i32 r_mm_3;
+    struct s_i8_i32 r_nt_4;
     u8 *r_py_4;
     u64 r_38_23;
     u64 r_8m;
@@ -40994,8 +40994,8 @@ l_loop_jc:;
     goto l_capnp_fc;
 l_else_wj:;
     if (!(ld64(away(away(r_c0_1, r_z6_3), 0xfffffffffffffff8ull)) == 0ull)) { r_ev = r_q7_1; goto l_capnp_fc; }
-    u64 r_jw = capnp_words_lanes_end_of_blocks(r_c0_1, r_z6_3);
-    r_nm_1 = r_jw;
+    u64 r_qz = capnp_words_lanes_used_words_bound(r_c0_1, r_z6_3);
+    r_nm_1 = r_qz;
 l_loop_jc_1:;
     if (r_nm_1 == 0ull) { r_ev = 0ull; goto l_capnp_fc; }
     u64 r_0f_1 = (r_nm_1 + 0xffffffffffffffffull);
@@ -41014,8 +41014,8 @@ l_loop_jc_2:;
     goto l_capnp_kv;
 l_else_wj_1:;
     if (!(ld64(away(away(r_c0_2, r_z6_7), 0xfffffffffffffff8ull)) == 0ull)) { r_mh = r_y6; goto l_capnp_kv; }
-    u64 r_jw_1 = capnp_words_lanes_end_of_blocks(r_c0_2, r_z6_7);
-    r_nm_3 = r_jw_1;
+    u64 r_qz_1 = capnp_words_lanes_used_words_bound(r_c0_2, r_z6_7);
+    r_nm_3 = r_qz_1;
 l_loop_jc_3:;
     if (r_nm_3 == 0ull) { r_mh = 0ull; goto l_capnp_kv; }
     u64 r_0f_3 = (r_nm_3 + 0xffffffffffffffffull);
@@ -41108,7 +41108,7 @@ l_capnp_am:;
     st32((slot_2 + 48), (r_az + r_gx));
     st32((slot_2 + 52), 0u);
     st32((slot_2 + 56), r_4w);
-    capnp_copies_copy_children_copy_row_b6c0503bf8b72334(slot_1, a_2, r_t8, (r_29 + r_qt), slot_2, r_ib, a_6, a_7);
+    capnp_copies_copy_children_copy_children_out_of_line_b_1b5716fc(slot_1, a_2, r_t8, (r_29 + r_qt), slot_2, r_ib, a_6, a_7);
     r_t8_1 = ld8(slot_1);
     r_hg = ld8((slot_1 + 8));
     r_lc_9 = ld32((slot_1 + 12));
@@ -41212,13 +41212,13 @@ l_arm_i3_1:;
     r_ff_1 = (r_12_3 + 1u);
     r_08_3 = away(a_2, 16ull);
     r_52_10 = ld64(r_08_3);
-    if (r_52_10 == 0ull) goto l_capnp_6t;
+    if (r_52_10 == 0ull) goto l_capnp_io;
     if (!(((u64)ld32(away(r_lz_13, 24ull)) + (u64)r_ff_1) > (u64)(ld64(away(r_lz_13, 8ull)) >> 3ull))) { r_py_1 = r_lz_13; r_38_7 = 0ull; goto l_capnp_k1; }
-l_capnp_6t:;
-    r_mm = capnp_arena_arena_bounds_first_by_bounds_e469ead029109f04(r_lz_13, r_52_10, r_ff_1);
-    if (!(r_mm.f0 == 1u)) goto l_arm_xh;
+l_capnp_io:;
+    r_nt_1 = capnp_arena_arena_bounds_first_fit_by_bounds_e469ead029109f04(r_lz_13, r_52_10, r_ff_1);
+    if (!(r_nt_1.f0 == 1u)) goto l_arm_xh;
     r_py_1 = ldp(r_rq_12);
-    r_38_7 = (u64)r_mm.f1;
+    r_38_7 = (u64)r_nt_1.f1;
     goto l_capnp_k1;
 l_arm_xh:;
     if (ld64(r_08_3) > 0xfffffffeull) { r_5k_2 = 1u; r_qp = 27u; r_7u = 0u; r_pz = 0xffffffffffffffffull; goto l_join_1g; }
@@ -41294,13 +41294,13 @@ l_arm_i3:;
     r_ff_2 = (r_12_1 + 1u);
     r_08_4 = away(a_2, 16ull);
     r_52_13 = ld64(r_08_4);
-    if (r_52_13 == 0ull) goto l_capnp_6t_1;
+    if (r_52_13 == 0ull) goto l_capnp_io_1;
     if (!(((u64)ld32(away(r_lz, 24ull)) + (u64)r_ff_2) > (u64)(ld64(away(r_lz, 8ull)) >> 3ull))) { r_py_2 = r_lz; r_38_9 = 0ull; goto l_capnp_k1_1; }
-l_capnp_6t_1:;
-    r_mm_1 = capnp_arena_arena_bounds_first_by_bounds_e469ead029109f04(r_lz, r_52_13, r_ff_2);
-    if (!(r_mm_1.f0 == 1u)) goto l_arm_xh_1;
+l_capnp_io_1:;
+    r_nt_2 = capnp_arena_arena_bounds_first_fit_by_bounds_e469ead029109f04(r_lz, r_52_13, r_ff_2);
+    if (!(r_nt_2.f0 == 1u)) goto l_arm_xh_1;
     r_py_2 = ldp(r_rq_7);
-    r_38_9 = (u64)r_mm_1.f1;
+    r_38_9 = (u64)r_nt_2.f1;
     goto l_capnp_k1_1;
 l_arm_xh_1:;
     if (ld64(r_08_4) > 0xfffffffeull) { r_5k_2 = 1u; r_qp = 27u; r_7u = 0u; r_pz = 0xffffffffffffffffull; goto l_join_1g; }
@@ -41540,7 +41540,7 @@ l_arm_zo:;
     st32(r_c4_6, (r_5b + ((u32)r_ep_4 & 65535u)));
     st32(r_bk_1, 0u);
     st32(r_6c_2, r_s1);
-    capnp_copies_copy_children_copy_row_b6c0503bf8b72334(slot_1, a_2, r_wt_2, (r_az_2 + r_4r_9), slot_2, r_az_3, a_6, a_7);
+    capnp_copies_copy_children_copy_children_out_of_line_b_1b5716fc(slot_1, a_2, r_wt_2, (r_az_2 + r_4r_9), slot_2, r_az_3, a_6, a_7);
     r_2b_29 = ld8(slot_1);
     r_qh = ld8(r_x5_11);
     r_ip = ld32(r_k0_4);
@@ -41762,13 +41762,13 @@ l_arm_p5_1:;
 l_arm_x1:;
     r_ff_5 = (r_12_5 + 1u);
     r_52_25 = ld64(r_08_7);
-    if (r_52_25 == 0ull) goto l_capnp_6t_2;
+    if (r_52_25 == 0ull) goto l_capnp_io_2;
     if (!(((u64)ld32(away(r_lz_49, 24ull)) + (u64)r_ff_5) > (u64)(ld64(away(r_lz_49, 8ull)) >> 3ull))) { r_py_3 = r_lz_49; r_38_19 = 0ull; goto l_capnp_k1_2; }
-l_capnp_6t_2:;
-    r_mm_2 = capnp_arena_arena_bounds_first_by_bounds_e469ead029109f04(r_lz_49, r_52_25, r_ff_5);
-    if (!(r_mm_2.f0 == 1u)) goto l_arm_u6;
+l_capnp_io_2:;
+    r_nt_3 = capnp_arena_arena_bounds_first_fit_by_bounds_e469ead029109f04(r_lz_49, r_52_25, r_ff_5);
+    if (!(r_nt_3.f0 == 1u)) goto l_arm_u6;
     r_py_3 = ldp(r_rq_14);
-    r_38_19 = (u64)r_mm_2.f1;
+    r_38_19 = (u64)r_nt_3.f1;
     goto l_capnp_k1_2;
 l_arm_u6:;
     if (ld64(r_08_7) > 0xfffffffeull) { r_2b_32 = 27u; r_qh_1 = 0xffffffffffffffffull; goto l_capnp_no_1; }
@@ -41872,8 +41872,8 @@ l_loop_jc_4:;
     goto l_capnp_fc_1;
 l_else_wj_2:;
     if (!(ld64(away(away(r_c0_12, r_z6_56), 0xfffffffffffffff8ull)) == 0ull)) { r_ev_1 = r_q7_3; goto l_capnp_fc_1; }
-    u64 r_jw_2 = capnp_words_lanes_end_of_blocks(r_c0_12, r_z6_56);
-    r_nm_7 = r_jw_2;
+    u64 r_qz_2 = capnp_words_lanes_used_words_bound(r_c0_12, r_z6_56);
+    r_nm_7 = r_qz_2;
 l_loop_jc_5:;
     if (r_nm_7 == 0ull) { r_ev_1 = 0ull; goto l_capnp_fc_1; }
     u64 r_0f_7 = (r_nm_7 + 0xffffffffffffffffull);
@@ -41893,8 +41893,8 @@ l_loop_jc_6:;
     goto l_capnp_hv;
 l_else_wj_3:;
     if (!(ld64(away(away(r_c0_13, r_z6_60), 0xfffffffffffffff8ull)) == 0ull)) { r_dl = r_ev_1; r_9n = r_y6_3; goto l_capnp_hv; }
-    u64 r_jw_3 = capnp_words_lanes_end_of_blocks(r_c0_13, r_z6_60);
-    r_nm_9 = r_jw_3;
+    u64 r_qz_3 = capnp_words_lanes_used_words_bound(r_c0_13, r_z6_60);
+    r_nm_9 = r_qz_3;
 l_loop_jc_7:;
     if (r_nm_9 == 0ull) { r_dl = r_ev_1; r_9n = 0ull; goto l_capnp_hv; }
     u64 r_0f_9 = (r_nm_9 + 0xffffffffffffffffull);
@@ -41925,13 +41925,13 @@ l_join_bs_1:;
 l_arm_x1_1:;
     r_ff_6 = (r_68_5 + 1u);
     r_52_31 = ld64(r_08_7);
-    if (r_52_31 == 0ull) goto l_capnp_6t_3;
+    if (r_52_31 == 0ull) goto l_capnp_io_3;
     if (!(((u64)ld32(away(r_lz_60, 24ull)) + (u64)r_ff_6) > (u64)(ld64(away(r_lz_60, 8ull)) >> 3ull))) { r_py_4 = r_lz_60; r_38_23 = 0ull; goto l_capnp_k1_3; }
-l_capnp_6t_3:;
-    r_mm_3 = capnp_arena_arena_bounds_first_by_bounds_e469ead029109f04(r_lz_60, r_52_31, r_ff_6);
-    if (!(r_mm_3.f0 == 1u)) goto l_arm_u6_1;
+l_capnp_io_3:;
+    r_nt_4 = capnp_arena_arena_bounds_first_fit_by_bounds_e469ead029109f04(r_lz_60, r_52_31, r_ff_6);
+    if (!(r_nt_4.f0 == 1u)) goto l_arm_u6_1;
     r_py_4 = ldp(r_rq_14);
-    r_38_23 = (u64)r_mm_3.f1;
+    r_38_23 = (u64)r_nt_4.f1;
     goto l_capnp_k1_3;
 l_arm_u6_1:;
     if (ld64(r_08_7) > 0xfffffffeull) { r_bz = 1u; r_r3 = 27u; r_n9 = 0u; r_1s = 0xffffffffffffffffull; goto l_capnp_57; }
@@ -42000,7 +42000,7 @@ l_capnp_5c:;
     st32(r_c4_10, (r_5b_1 + ((u32)r_ep_7 & 65535u)));
     st32(r_bk_2, 0u);
     st32(r_6c_4, r_s1_1);
-    capnp_copies_copy_children_copy_row_b6c0503bf8b72334(slot_1, a_2, r_wt_4, (r_29_2 + r_4r_13), slot_2, r_az_4, a_6, a_7);
+    capnp_copies_copy_children_copy_children_out_of_line_b_1b5716fc(slot_1, a_2, r_wt_4, (r_29_2 + r_4r_13), slot_2, r_az_4, a_6, a_7);
     r_2b_49 = ld8(slot_1);
     r_qh_2 = ld8(r_x5_16);
     r_ip_1 = ld32(r_k0_7);
@@ -42072,8 +42072,8 @@ l_join_1g:;
     goto l_common_9c;
 }
 
-/* capnp_copies::copy::children::copy_row::<#b6c0503bf8b72334> */
-static NEVER void capnp_copies_copy_children_copy_row_b6c0503bf8b72334(u8 *a_1, u8 *a_2, u32 a_3, u32 a_4, u8 *a_5, u32 a_6, u8 *a_7, u8 a_8)
+/* capnp_copies::copy::children::copy_children_out_of_line::<#b6c0503bf8b72334> */
+static NEVER void capnp_copies_copy_children_copy_children_out_of_line_b_1b5716fc(u8 *a_1, u8 *a_2, u32 a_3, u32 a_4, u8 *a_5, u32 a_6, u8 *a_7, u8 a_8)
 {
     A(8) u8 slot_1[24];
     A(8) u8 slot_2[64];
@@ -42145,7 +42145,7 @@ static NEVER void capnp_copies_copy_children_copy_row_b6c0503bf8b72334(u8 *a_1, 
     u64 r_24_1;
     u32 r_ff;
     u64 r_52_3;
-    struct s_i8_i32 r_mm;
+    struct s_i8_i32 r_nt;
     u8 *r_py;
     u64 r_38;
     u64 sink_yk;
@@ -42186,7 +42186,7 @@ static NEVER void capnp_copies_copy_children_copy_row_b6c0503bf8b72334(u8 *a_1, 
     u32 r_yf_3;
     u32 r_ff_1;
     u64 r_52_9;
-    struct s_i8_i32 r_mm_1;
+    struct s_i8_i32 r_nt_1;
     u8 *r_py_1;
     u64 r_38_4;
     u64 r_8m;
@@ -42329,13 +42329,13 @@ l_arm_5g:;
 l_arm_x1:;
     r_ff = (r_12 + 1u);
     r_52_3 = ld64(r_08_2);
-    if (r_52_3 == 0ull) goto l_capnp_6t;
+    if (r_52_3 == 0ull) goto l_capnp_io;
     if (!(((u64)ld32(away(r_lz, 24ull)) + (u64)r_ff) > (u64)(ld64(away(r_lz, 8ull)) >> 3ull))) { r_py = r_lz; r_38 = 0ull; goto l_capnp_k1; }
-l_capnp_6t:;
-    r_mm = capnp_arena_arena_bounds_first_by_bounds_e469ead029109f04(r_lz, r_52_3, r_ff);
-    if (!(r_mm.f0 == 1u)) goto l_arm_nn;
+l_capnp_io:;
+    r_nt = capnp_arena_arena_bounds_first_fit_by_bounds_e469ead029109f04(r_lz, r_52_3, r_ff);
+    if (!(r_nt.f0 == 1u)) goto l_arm_nn;
     r_py = ldp(r_rq_2);
-    r_38 = (u64)r_mm.f1;
+    r_38 = (u64)r_nt.f1;
     goto l_capnp_k1;
 l_arm_nn:;
     if (ld64(r_08_2) > 0xfffffffeull) { r_7k = 0xffffffffffffffffull; r_zq = 27u; goto l_arm_i0; }
@@ -42439,8 +42439,8 @@ l_loop_jc:;
     goto l_capnp_bk;
 l_else_wj:;
     if (!(ld64(away(away(r_2b_8, r_z6_6), 0xfffffffffffffff8ull)) == 0ull)) { r_p3 = r_q7; goto l_capnp_bk; }
-    u64 r_jw = capnp_words_lanes_end_of_blocks(r_2b_8, r_z6_6);
-    r_nm_2 = r_jw;
+    u64 r_qz = capnp_words_lanes_used_words_bound(r_2b_8, r_z6_6);
+    r_nm_2 = r_qz;
 l_loop_jc_1:;
     if (r_nm_2 == 0ull) { r_p3 = 0ull; goto l_capnp_bk; }
     u64 r_0f_2 = (r_nm_2 + 0xffffffffffffffffull);
@@ -42460,8 +42460,8 @@ l_loop_jc_2:;
     goto l_capnp_hv;
 l_else_wj_1:;
     if (!(ld64(away(away(r_2b_9, r_z6_10), 0xfffffffffffffff8ull)) == 0ull)) { r_dl = r_p3; r_9n = r_y6; goto l_capnp_hv; }
-    u64 r_jw_1 = capnp_words_lanes_end_of_blocks(r_2b_9, r_z6_10);
-    r_nm_4 = r_jw_1;
+    u64 r_qz_1 = capnp_words_lanes_used_words_bound(r_2b_9, r_z6_10);
+    r_nm_4 = r_qz_1;
 l_loop_jc_3:;
     if (r_nm_4 == 0ull) { r_dl = r_p3; r_9n = 0ull; goto l_capnp_hv; }
     u64 r_0f_4 = (r_nm_4 + 0xffffffffffffffffull);
@@ -42492,13 +42492,13 @@ l_join_s3:;
 l_arm_x1_1:;
     r_ff_1 = (r_68 + 1u);
     r_52_9 = ld64(r_08_2);
-    if (r_52_9 == 0ull) goto l_capnp_6t_1;
+    if (r_52_9 == 0ull) goto l_capnp_io_1;
     if (!(((u64)ld32(away(r_lz_11, 24ull)) + (u64)r_ff_1) > (u64)(ld64(away(r_lz_11, 8ull)) >> 3ull))) { r_py_1 = r_lz_11; r_38_4 = 0ull; goto l_capnp_k1_1; }
-l_capnp_6t_1:;
-    r_mm_1 = capnp_arena_arena_bounds_first_by_bounds_e469ead029109f04(r_lz_11, r_52_9, r_ff_1);
-    if (!(r_mm_1.f0 == 1u)) goto l_arm_u6;
+l_capnp_io_1:;
+    r_nt_1 = capnp_arena_arena_bounds_first_fit_by_bounds_e469ead029109f04(r_lz_11, r_52_9, r_ff_1);
+    if (!(r_nt_1.f0 == 1u)) goto l_arm_u6;
     r_py_1 = ldp(r_rq_2);
-    r_38_4 = (u64)r_mm_1.f1;
+    r_38_4 = (u64)r_nt_1.f1;
     goto l_capnp_k1_1;
 l_arm_u6:;
     if (ld64(r_08_2) > 0xfffffffeull) { r_bz = 1u; r_r3 = 27u; r_n9 = 0u; r_1s = 0xffffffffffffffffull; goto l_capnp_57; }
@@ -42567,7 +42567,7 @@ l_capnp_5c:;
     st32(r_c4_1, (r_5b + ((u32)r_ep & 65535u)));
     st32(r_bk, 0u);
     st32(r_6c_1, r_53);
-    capnp_copies_copy_children_copy_row_b6c0503bf8b72334(slot_1, a_2, r_wt, (r_29 + r_4r_3), slot_2, r_az, a_7, a_8);
+    capnp_copies_copy_children_copy_children_out_of_line_b_1b5716fc(slot_1, a_2, r_wt, (r_29 + r_4r_3), slot_2, r_az, a_7, a_8);
     r_2b_17 = ld8(slot_1);
     r_qh = ld8(r_x5_3);
     r_ip = ld32(r_k0_1);
@@ -43119,7 +43119,7 @@ static NEVER void capnp_canonical_parts_copy_part_on_heap_767a861cc050e0a5(u8 *a
 l_capnp_vx:;
     st64(slot_4, (u64)r_r5);
     memcpy((slot_4 + 8), (slot_2 + 16), 72);
-    capnp_messages_messages_canonical_copy_copy_reached_wi_2d087135(slot_3, slot_4, slot_1);
+    capnp_messages_messages_canonical_copy_canonicalize_re_e0e98643(slot_3, slot_4, slot_1);
     r_r5_2 = ld8((slot_3 + 8));
     r_uq_1 = ld32((slot_3 + 12));
     r_38_1 = ld64((slot_3 + 16));
@@ -43177,8 +43177,8 @@ l_join_p1:;
     return;
 }
 
-/* capnp_messages::messages::canonical_copy::copy_in_room::<#7b934b00b015fd83> */
-static void capnp_messages_messages_canonical_copy_copy_in_room_7b_d7db6ad1(u8 *a_1, u8 *a_2, u8 *a_3, u8 a_4, u64 a_5)
+/* capnp_messages::messages::canonical_copy::canonicalize_reached_into::<#7b934b00b015fd83> */
+static void capnp_messages_messages_canonical_copy_canonicalize_re_63622a58(u8 *a_1, u8 *a_2, u8 *a_3, u8 a_4, u64 a_5)
 {
     A(8) u8 slot_1[32];
     A(8) u8 slot_2[64];
@@ -43270,7 +43270,7 @@ static void capnp_messages_messages_canonical_copy_copy_in_room_7b_d7db6ad1(u8 *
     r_br = ld16(away(a_3, 72ull));
     r_br_1 = ld16(away(a_3, 74ull));
     memset(slot_6, 0u, 24);
-    capnp_messages_messages_canonical_copy_make_root_bd7e3_417a977a(slot_6, a_2);
+    capnp_messages_messages_canonical_copy_allocate_root_b_dce31d60(slot_6, a_2);
     if ((u8)(ld8(slot_6) & 1)) goto l_then_yd;
     goto l_join_zk;
 l_common_68:;
@@ -43309,7 +43309,7 @@ l_join_zk:;
     capnp_making_landing_follow_22521b95e02b6c38(slot_1, a_2, 0u, 0u);
     st64(r_lz, 0ull);
     if (!(ld8(slot_1) == 1u)) goto l_capnp_8g;
-    capnp_making_zeroing_zero_landed_22521b95e02b6c38(a_2, (slot_1 + 8));
+    capnp_making_zeroing_zero_target_22521b95e02b6c38(a_2, (slot_1 + 8));
     if (!((r_qw_2 & 3ull) == 2ull)) goto l_capnp_8g;
     capnp_making_zeroing_zero_far_pads_22521b95e02b6c38(a_2, r_qw_2);
 l_capnp_8g:;
@@ -43339,8 +43339,8 @@ l_loop_jc:;
     goto l_capnp_ev;
 l_else_wj:;
     if (!(ld64(away(away(r_2b_1, r_z6), 0xfffffffffffffff8ull)) == 0ull)) { r_hk = r_u7; goto l_capnp_ev; }
-    u64 r_jw = capnp_words_lanes_end_of_blocks(r_2b_1, r_z6);
-    r_nm_1 = r_jw;
+    u64 r_qz = capnp_words_lanes_used_words_bound(r_2b_1, r_z6);
+    r_nm_1 = r_qz;
 l_loop_jc_1:;
     if (r_nm_1 == 0ull) { r_hk = 0ull; goto l_capnp_ev; }
     u64 r_0f_1 = (r_nm_1 + 0xffffffffffffffffull);
@@ -43360,8 +43360,8 @@ l_loop_jc_2:;
     goto l_capnp_sa;
 l_else_wj_1:;
     if (!(ld64(away(away(r_2b_2, r_z6_4), 0xfffffffffffffff8ull)) == 0ull)) { r_zw = r_u7_1; goto l_capnp_sa; }
-    u64 r_jw_1 = capnp_words_lanes_end_of_blocks(r_2b_2, r_z6_4);
-    r_nm_3 = r_jw_1;
+    u64 r_qz_1 = capnp_words_lanes_used_words_bound(r_2b_2, r_z6_4);
+    r_nm_3 = r_qz_1;
 l_loop_jc_3:;
     if (r_nm_3 == 0ull) { r_zw = 0ull; goto l_capnp_sa; }
     u64 r_0f_3 = (r_nm_3 + 0xffffffffffffffffull);
@@ -43457,7 +43457,7 @@ l_capnp_am:;
     st32((slot_2 + 48), (r_5k + (u32)r_br));
     st32((slot_2 + 52), 0u);
     st32(t_6c_1, r_5k_2);
-    capnp_copies_copy_children_copy_row_c26ab664f60a1cef(slot_1, a_2, r_wt, (r_29 + r_4r_1), slot_2, r_az, slot_4, 1u);
+    capnp_copies_copy_children_copy_children_out_of_line_c_595e9a2a(slot_1, a_2, r_wt, (r_29 + r_4r_1), slot_2, r_az, slot_4, 1u);
     r_2b_4 = ld8(slot_1);
     r_qh_1 = ld8((slot_1 + 8));
     r_ip_1 = ld32((slot_1 + 12));
@@ -44291,8 +44291,8 @@ l_loop_jc:;
     goto l_capnp_fc;
 l_else_wj:;
     if (!(ld64(away(away(r_c0_1, r_z6_3), 0xfffffffffffffff8ull)) == 0ull)) { r_ev = r_q7_1; goto l_capnp_fc; }
-    u64 r_jw = capnp_words_lanes_end_of_blocks(r_c0_1, r_z6_3);
-    r_nm_1 = r_jw;
+    u64 r_qz = capnp_words_lanes_used_words_bound(r_c0_1, r_z6_3);
+    r_nm_1 = r_qz;
 l_loop_jc_1:;
     if (r_nm_1 == 0ull) { r_ev = 0ull; goto l_capnp_fc; }
     u64 r_0f_1 = (r_nm_1 + 0xffffffffffffffffull);
@@ -44311,8 +44311,8 @@ l_loop_jc_2:;
     goto l_capnp_kv;
 l_else_wj_1:;
     if (!(ld64(away(away(r_c0_2, r_z6_7), 0xfffffffffffffff8ull)) == 0ull)) { r_mh = r_y6; goto l_capnp_kv; }
-    u64 r_jw_1 = capnp_words_lanes_end_of_blocks(r_c0_2, r_z6_7);
-    r_nm_3 = r_jw_1;
+    u64 r_qz_1 = capnp_words_lanes_used_words_bound(r_c0_2, r_z6_7);
+    r_nm_3 = r_qz_1;
 l_loop_jc_3:;
     if (r_nm_3 == 0ull) { r_mh = 0ull; goto l_capnp_kv; }
     u64 r_0f_3 = (r_nm_3 + 0xffffffffffffffffull);
@@ -44458,7 +44458,7 @@ l_capnp_am:;
     st32((slot_2 + 48), (r_az + r_gx));
     st32((slot_2 + 52), 0u);
     st32((slot_2 + 56), r_4w);
-    capnp_copies_copy_children_copy_row_c26ab664f60a1cef(slot_1, a_2, r_ne, (r_29 + r_4r_5), slot_2, r_ib, a_6, a_7);
+    capnp_copies_copy_children_copy_children_out_of_line_c_595e9a2a(slot_1, a_2, r_ne, (r_29 + r_4r_5), slot_2, r_ib, a_6, a_7);
     r_t8 = ld8(slot_1);
     r_hg = ld8((slot_1 + 8));
     r_lc_8 = ld32((slot_1 + 12));
@@ -45009,7 +45009,7 @@ l_arm_v3:;
     st32(r_c4_6, (r_5b + ((u32)r_ep_4 & 65535u)));
     st32(r_bk_1, 0u);
     st32(r_6c_2, r_s1);
-    capnp_copies_copy_children_copy_row_c26ab664f60a1cef(slot_1, a_2, sink_rg, (r_az_2 + r_2g_5), slot_2, r_az_3, a_6, a_7);
+    capnp_copies_copy_children_copy_children_out_of_line_c_595e9a2a(slot_1, a_2, sink_rg, (r_az_2 + r_2g_5), slot_2, r_az_3, a_6, a_7);
     r_2b_2 = ld8(slot_1);
     r_qh = ld8(r_x5_14);
     r_ip = ld32(r_k0_5);
@@ -45397,8 +45397,8 @@ l_loop_jc_4:;
     goto l_capnp_fc_1;
 l_else_wj_2:;
     if (!(ld64(away(away(r_c0_12, r_z6_59), 0xfffffffffffffff8ull)) == 0ull)) { r_ev_1 = r_q7_3; goto l_capnp_fc_1; }
-    u64 r_jw_2 = capnp_words_lanes_end_of_blocks(r_c0_12, r_z6_59);
-    r_nm_7 = r_jw_2;
+    u64 r_qz_2 = capnp_words_lanes_used_words_bound(r_c0_12, r_z6_59);
+    r_nm_7 = r_qz_2;
 l_loop_jc_5:;
     if (r_nm_7 == 0ull) { r_ev_1 = 0ull; goto l_capnp_fc_1; }
     u64 r_0f_12 = (r_nm_7 + 0xffffffffffffffffull);
@@ -45418,8 +45418,8 @@ l_loop_jc_6:;
     goto l_capnp_hv;
 l_else_wj_3:;
     if (!(ld64(away(away(r_c0_13, r_z6_63), 0xfffffffffffffff8ull)) == 0ull)) { r_dl = r_ev_1; r_9n = r_y6_3; goto l_capnp_hv; }
-    u64 r_jw_3 = capnp_words_lanes_end_of_blocks(r_c0_13, r_z6_63);
-    r_nm_9 = r_jw_3;
+    u64 r_qz_3 = capnp_words_lanes_used_words_bound(r_c0_13, r_z6_63);
+    r_nm_9 = r_qz_3;
 l_loop_jc_7:;
     if (r_nm_9 == 0ull) { r_dl = r_ev_1; r_9n = 0ull; goto l_capnp_hv; }
     u64 r_0f_14 = (r_nm_9 + 0xffffffffffffffffull);
@@ -45553,7 +45553,7 @@ l_capnp_5c:;
     st32(r_c4_10, (r_5b_1 + ((u32)r_ep_6 & 65535u)));
     st32(r_bk_2, 0u);
     st32(r_6c_4, r_s1_1);
-    capnp_copies_copy_children_copy_row_c26ab664f60a1cef(slot_1, a_2, r_wt_2, (r_29_2 + r_4r_12), slot_2, r_az_4, a_6, a_7);
+    capnp_copies_copy_children_copy_children_out_of_line_c_595e9a2a(slot_1, a_2, r_wt_2, (r_29_2 + r_4r_12), slot_2, r_az_4, a_6, a_7);
     r_2b_8 = ld8(slot_1);
     r_qh_2 = ld8(r_x5_21);
     r_ip_2 = ld32(r_k0_10);
@@ -45624,8 +45624,8 @@ l_join_1g:;
     goto l_common_9c;
 }
 
-/* capnp_copies::copy::children::copy_row::<#c26ab664f60a1cef> */
-static NEVER void capnp_copies_copy_children_copy_row_c26ab664f60a1cef(u8 *a_1, u8 *a_2, u32 a_3, u32 a_4, u8 *a_5, u32 a_6, u8 *a_7, u8 a_8)
+/* capnp_copies::copy::children::copy_children_out_of_line::<#c26ab664f60a1cef> */
+static NEVER void capnp_copies_copy_children_copy_children_out_of_line_c_595e9a2a(u8 *a_1, u8 *a_2, u32 a_3, u32 a_4, u8 *a_5, u32 a_6, u8 *a_7, u8 a_8)
 {
     A(8) u8 slot_1[24];
     A(8) u8 slot_2[64];
@@ -46049,8 +46049,8 @@ l_loop_jc:;
     goto l_capnp_bk;
 l_else_wj:;
     if (!(ld64(away(away(r_2b_1, r_z6_7), 0xfffffffffffffff8ull)) == 0ull)) { r_p3 = r_q7; goto l_capnp_bk; }
-    u64 r_jw = capnp_words_lanes_end_of_blocks(r_2b_1, r_z6_7);
-    r_nm_2 = r_jw;
+    u64 r_qz = capnp_words_lanes_used_words_bound(r_2b_1, r_z6_7);
+    r_nm_2 = r_qz;
 l_loop_jc_1:;
     if (r_nm_2 == 0ull) { r_p3 = 0ull; goto l_capnp_bk; }
     u64 r_0f_3 = (r_nm_2 + 0xffffffffffffffffull);
@@ -46070,8 +46070,8 @@ l_loop_jc_2:;
     goto l_capnp_hv;
 l_else_wj_1:;
     if (!(ld64(away(away(r_2b_2, r_z6_11), 0xfffffffffffffff8ull)) == 0ull)) { r_dl = r_p3; r_9n = r_y6; goto l_capnp_hv; }
-    u64 r_jw_1 = capnp_words_lanes_end_of_blocks(r_2b_2, r_z6_11);
-    r_nm_4 = r_jw_1;
+    u64 r_qz_1 = capnp_words_lanes_used_words_bound(r_2b_2, r_z6_11);
+    r_nm_4 = r_qz_1;
 l_loop_jc_3:;
     if (r_nm_4 == 0ull) { r_dl = r_p3; r_9n = 0ull; goto l_capnp_hv; }
     u64 r_0f_5 = (r_nm_4 + 0xffffffffffffffffull);
@@ -46206,7 +46206,7 @@ l_capnp_5c:;
     st32(r_c4_1, (r_5b + ((u32)r_ep & 65535u)));
     st32(r_bk, 0u);
     st32(r_6c_1, r_53);
-    capnp_copies_copy_children_copy_row_c26ab664f60a1cef(slot_1, a_2, sink_7v, (r_29 + r_4r_2), slot_2, r_az, a_7, a_8);
+    capnp_copies_copy_children_copy_children_out_of_line_c_595e9a2a(slot_1, a_2, sink_7v, (r_29 + r_4r_2), slot_2, r_az, a_7, a_8);
     r_2b_5 = ld8(slot_1);
     r_qh = ld8(r_x5_4);
     r_ip = ld32(r_k0_2);
@@ -46330,7 +46330,7 @@ l_capnp_4o:;
     stp(slot_1, r_xw_2);
     st64((slot_1 + 8), r_38_2);
     st64((slot_1 + 16), r_38_3);
-    capnp_arena_arena_builder_arena_impl_give_back_others__c35bd785(slot_1);
+    capnp_arena_arena_builder_arena_impl_deallocate_others_70ba8108(slot_1);
     goto l_capnp_f6;
 l_else_ci:;
     if (r_ts) goto l_core_at;
@@ -46499,7 +46499,7 @@ static NEVER void capnp_messages_messages_part_digest_digest_of_part_cop_28a1a4c
 l_capnp_vx:;
     st64(slot_4, (u64)r_r5);
     memcpy((slot_4 + 8), (slot_2 + 16), 72);
-    capnp_messages_messages_canonical_copy_copy_reached_wi_2d087135(slot_3, slot_4, slot_1);
+    capnp_messages_messages_canonical_copy_canonicalize_re_e0e98643(slot_3, slot_4, slot_1);
     r_r5_1 = ld8(slot_3);
     r_r5_2 = ld8((slot_3 + 8));
     r_uq_1 = ld32((slot_3 + 12));
@@ -46542,7 +46542,7 @@ l_capnp_4o:;
     stp(slot_1, r_xw_2);
     st64((slot_1 + 8), r_38_4);
     st64((slot_1 + 16), r_38_5);
-    capnp_arena_arena_builder_arena_impl_give_back_others__c35bd785(slot_1);
+    capnp_arena_arena_builder_arena_impl_deallocate_others_70ba8108(slot_1);
     goto l_capnp_f6;
 l_else_ci:;
     if (r_ts) goto l_core_at;
@@ -49004,12 +49004,12 @@ l_capnp_1r:;
     st32((slot_3 + 56), 0u);
     st32((slot_3 + 60), 0u);
     st32(t_5q, a_3);
-    capnp_messages_messages_canonical_copy_copy_in_room_cb_721220e4(slot_2, slot_5, slot_3, 1u, (a_4 + 0xffffffffffffffffull));
+    capnp_messages_messages_canonical_copy_canonicalize_re_6dfc056f(slot_2, slot_5, slot_3, 1u, (a_4 + 0xffffffffffffffffull));
     t_dd = ld8((slot_2 + 1));
     if (!(ld8(slot_2) == 0u)) { r_pp = ld64((slot_2 + 16)); r_2g = ld32((slot_2 + 12)); r_qb = ld8((slot_2 + 8)); goto l_arm_xm; }
     if (!(u8)(t_dd & 1)) goto l_else_03;
     memset(slot_2, 0u, 40);
-    capnp_arena_arena_builder_arena_impl_output_apart_96bc_5127cbe3(slot_2, r_6c);
+    capnp_arena_arena_builder_arena_impl_output_of_rows_96_10a5969e(slot_2, r_6c);
     r_xw = ldp((slot_2 + 16));
     r_38 = ld64((slot_2 + 24));
     if ((ld8(slot_2) == 0u) ? (ld8((slot_2 + 8)) == 0u) : 0u) goto l_capnp_yi;
@@ -49265,12 +49265,12 @@ l_capnp_ul:;
     st64(slot_5, (u64)r_r5);
     st64((slot_5 + 8), r_38);
     mv64((slot_5 + 16), (slot_4 + 24));
-    capnp_messages_messages_canonical_copy_copy_in_room_cb_721220e4(slot_2, slot_7, slot_5, ld8(slot_3), ld64(r_x5_2));
+    capnp_messages_messages_canonical_copy_canonicalize_re_6dfc056f(slot_2, slot_7, slot_5, ld8(slot_3), ld64(r_x5_2));
     t_dd = ld8((slot_2 + 1));
     if (!(ld8(slot_2) == 0u)) { r_ro = ld8((slot_2 + 8)); goto l_capnp_vr; }
     if (!(u8)(t_dd & 1)) goto l_capnp_xo;
     memset(slot_2, 0u, 40);
-    capnp_arena_arena_builder_arena_impl_output_apart_96bc_5127cbe3(slot_2, r_6c);
+    capnp_arena_arena_builder_arena_impl_output_of_rows_96_10a5969e(slot_2, r_6c);
     r_xw = ldp((slot_2 + 16));
     r_38_2 = ld64((slot_2 + 24));
     if ((ld8(slot_2) == 0u) ? (ld8((slot_2 + 8)) == 0u) : 0u) goto l_capnp_yi;
@@ -49470,12 +49470,12 @@ l_capnp_19:;
     st32((slot_3 + 56), 0u);
     st32((slot_3 + 60), 0u);
     st32(t_5q, a_3);
-    capnp_messages_messages_canonical_copy_copy_in_room_c7_f345250d(slot_2, slot_5, slot_3, 1u, (a_4 + 0xffffffffffffffffull));
+    capnp_messages_messages_canonical_copy_canonicalize_re_24edc8c2(slot_2, slot_5, slot_3, 1u, (a_4 + 0xffffffffffffffffull));
     t_dd = ld8((slot_2 + 1));
     if (!(ld8(slot_2) == 0u)) { r_pp = ld64((slot_2 + 16)); r_2g = ld32((slot_2 + 12)); r_qb = ld8((slot_2 + 8)); goto l_arm_xm; }
     if (!(u8)(t_dd & 1)) goto l_else_t9;
     memset(slot_2, 0u, 40);
-    capnp_arena_arena_builder_arena_impl_output_apart_96bc_5127cbe3(slot_2, r_6c);
+    capnp_arena_arena_builder_arena_impl_output_of_rows_96_10a5969e(slot_2, r_6c);
     r_xw = ldp((slot_2 + 16));
     r_38 = ld64((slot_2 + 24));
     if ((ld8(slot_2) == 0u) ? (ld8((slot_2 + 8)) == 0u) : 0u) goto l_capnp_yi;
@@ -49699,12 +49699,12 @@ l_capnp_ul:;
     st64(slot_5, (u64)r_r5);
     st64((slot_5 + 8), r_38);
     mv64((slot_5 + 16), (slot_4 + 24));
-    capnp_messages_messages_canonical_copy_copy_in_room_c7_f345250d(slot_2, slot_7, slot_5, ld8(slot_3), ld64(r_x5_3));
+    capnp_messages_messages_canonical_copy_canonicalize_re_24edc8c2(slot_2, slot_7, slot_5, ld8(slot_3), ld64(r_x5_3));
     t_dd = ld8((slot_2 + 1));
     if (!(ld8(slot_2) == 0u)) { r_ro = ld8((slot_2 + 8)); goto l_capnp_vr; }
     if (!(u8)(t_dd & 1)) goto l_capnp_0v;
     memset(slot_2, 0u, 40);
-    capnp_arena_arena_builder_arena_impl_output_apart_96bc_5127cbe3(slot_2, r_6c);
+    capnp_arena_arena_builder_arena_impl_output_of_rows_96_10a5969e(slot_2, r_6c);
     r_xw = ldp((slot_2 + 16));
     r_38_2 = ld64((slot_2 + 24));
     if ((ld8(slot_2) == 0u) ? (ld8((slot_2 + 8)) == 0u) : 0u) goto l_capnp_yi;
@@ -51960,12 +51960,12 @@ l_capnp_ul:;
     st64(slot_5, (u64)r_r5);
     st64((slot_5 + 8), r_38);
     mv64((slot_5 + 16), (slot_4 + 24));
-    capnp_messages_messages_canonical_copy_copy_in_room_d7_f7ca895a(slot_2, slot_7, slot_5, ld8(slot_3), ld64(r_x5_2));
+    capnp_messages_messages_canonical_copy_canonicalize_re_7b7b520a(slot_2, slot_7, slot_5, ld8(slot_3), ld64(r_x5_2));
     t_dd = ld8((slot_2 + 1));
     if (!(ld8(slot_2) == 0u)) { r_9h = ld8((slot_2 + 8)); r_2w = ld32((slot_2 + 12)); goto l_arm_cz; }
     if (!(u8)(t_dd & 1)) goto l_capnp_9t;
     memset(slot_2, 0u, 40);
-    capnp_arena_arena_builder_arena_impl_output_apart_96bc_5127cbe3(slot_2, r_6c);
+    capnp_arena_arena_builder_arena_impl_output_of_rows_96_10a5969e(slot_2, r_6c);
     r_xw = ldp((slot_2 + 16));
     r_38_2 = ld64((slot_2 + 24));
     if ((ld8(slot_2) == 0u) ? (ld8((slot_2 + 8)) == 0u) : 0u) goto l_capnp_sw;
@@ -52284,12 +52284,12 @@ l_capnp_ul:;
     st64(slot_5, (u64)r_r5);
     st64((slot_5 + 8), r_38);
     mv64((slot_5 + 16), (slot_4 + 24));
-    capnp_messages_messages_canonical_copy_copy_in_room_0b_f9dc17a7(slot_2, slot_7, slot_5, ld8(slot_3), ld64(r_x5_3));
+    capnp_messages_messages_canonical_copy_canonicalize_re_a538a7e4(slot_2, slot_7, slot_5, ld8(slot_3), ld64(r_x5_3));
     t_dd = ld8((slot_2 + 1));
     if (!(ld8(slot_2) == 0u)) { r_9h = ld8((slot_2 + 8)); r_2w = ld32((slot_2 + 12)); goto l_arm_cz; }
     if (!(u8)(t_dd & 1)) goto l_capnp_gv;
     memset(slot_2, 0u, 40);
-    capnp_arena_arena_builder_arena_impl_output_apart_96bc_5127cbe3(slot_2, r_6c);
+    capnp_arena_arena_builder_arena_impl_output_of_rows_96_10a5969e(slot_2, r_6c);
     r_xw = ldp((slot_2 + 16));
     r_38_2 = ld64((slot_2 + 24));
     if ((ld8(slot_2) == 0u) ? (ld8((slot_2 + 8)) == 0u) : 0u) goto l_capnp_sw;
@@ -52924,12 +52924,12 @@ l_capnp_7p:;
     st32((slot_3 + 56), 0u);
     st32((slot_3 + 60), 0u);
     st32(t_5q, a_3);
-    capnp_messages_messages_canonical_copy_copy_in_room_ad_f42481be(slot_2, slot_5, slot_3, 1u, (a_4 + 0xffffffffffffffffull));
+    capnp_messages_messages_canonical_copy_canonicalize_re_81788e4b(slot_2, slot_5, slot_3, 1u, (a_4 + 0xffffffffffffffffull));
     t_dd = ld8((slot_2 + 1));
     if (!(ld8(slot_2) == 0u)) { r_9h = ld32((slot_2 + 12)); r_2w = ld8((slot_2 + 8)); goto l_arm_cz; }
     if (!(u8)(t_dd & 1)) goto l_else_u4;
     memset(slot_2, 0u, 40);
-    capnp_arena_arena_builder_arena_impl_output_apart_96bc_5127cbe3(slot_2, r_6c);
+    capnp_arena_arena_builder_arena_impl_output_of_rows_96_10a5969e(slot_2, r_6c);
     r_xw_1 = ldp((slot_2 + 16));
     r_38 = ld64((slot_2 + 24));
     if ((ld8(slot_2) == 0u) ? (ld8((slot_2 + 8)) == 0u) : 0u) goto l_capnp_l5;
@@ -53167,12 +53167,12 @@ l_capnp_ul:;
     st64(slot_5, (u64)r_r5);
     st64((slot_5 + 8), r_38);
     mv64((slot_5 + 16), (slot_4 + 24));
-    capnp_messages_messages_canonical_copy_copy_in_room_ad_f42481be(slot_2, slot_7, slot_5, ld8(slot_3), ld64(r_x5_2));
+    capnp_messages_messages_canonical_copy_canonicalize_re_81788e4b(slot_2, slot_7, slot_5, ld8(slot_3), ld64(r_x5_2));
     t_dd = ld8((slot_2 + 1));
     if (!(ld8(slot_2) == 0u)) { r_9h = ld8((slot_2 + 8)); r_2w = ld32((slot_2 + 12)); goto l_arm_cz; }
     if (!(u8)(t_dd & 1)) goto l_else_09;
     memset(slot_2, 0u, 40);
-    capnp_arena_arena_builder_arena_impl_output_apart_96bc_5127cbe3(slot_2, r_6c);
+    capnp_arena_arena_builder_arena_impl_output_of_rows_96_10a5969e(slot_2, r_6c);
     r_xw = ldp((slot_2 + 16));
     r_38_2 = ld64((slot_2 + 24));
     if ((ld8(slot_2) == 0u) ? (ld8((slot_2 + 8)) == 0u) : 0u) goto l_capnp_sw;
@@ -53367,12 +53367,12 @@ l_capnp_7p:;
     st32((slot_3 + 56), 0u);
     st32((slot_3 + 60), 0u);
     st32(t_5q, a_3);
-    capnp_messages_messages_canonical_copy_copy_in_room_7b_d7db6ad1(slot_2, slot_5, slot_3, 1u, (a_4 + 0xffffffffffffffffull));
+    capnp_messages_messages_canonical_copy_canonicalize_re_63622a58(slot_2, slot_5, slot_3, 1u, (a_4 + 0xffffffffffffffffull));
     t_dd = ld8((slot_2 + 1));
     if (!(ld8(slot_2) == 0u)) { r_pp = ld64((slot_2 + 16)); r_2g = ld32((slot_2 + 12)); r_qb = ld8((slot_2 + 8)); goto l_arm_xm; }
     if (!(u8)(t_dd & 1)) goto l_else_qj;
     memset(slot_2, 0u, 40);
-    capnp_arena_arena_builder_arena_impl_output_apart_96bc_5127cbe3(slot_2, r_6c);
+    capnp_arena_arena_builder_arena_impl_output_of_rows_96_10a5969e(slot_2, r_6c);
     r_xw = ldp((slot_2 + 16));
     r_38 = ld64((slot_2 + 24));
     if ((ld8(slot_2) == 0u) ? (ld8((slot_2 + 8)) == 0u) : 0u) goto l_capnp_yi;
@@ -53590,12 +53590,12 @@ l_capnp_ul:;
     st64(slot_5, (u64)r_r5);
     st64((slot_5 + 8), r_38);
     mv64((slot_5 + 16), (slot_4 + 24));
-    capnp_messages_messages_canonical_copy_copy_in_room_7b_d7db6ad1(slot_2, slot_7, slot_5, ld8(slot_3), ld64(r_x5_2));
+    capnp_messages_messages_canonical_copy_canonicalize_re_63622a58(slot_2, slot_7, slot_5, ld8(slot_3), ld64(r_x5_2));
     t_dd = ld8((slot_2 + 1));
     if (!(ld8(slot_2) == 0u)) { r_ro = ld8((slot_2 + 8)); goto l_capnp_vr; }
     if (!(u8)(t_dd & 1)) goto l_capnp_hy;
     memset(slot_2, 0u, 40);
-    capnp_arena_arena_builder_arena_impl_output_apart_96bc_5127cbe3(slot_2, r_6c);
+    capnp_arena_arena_builder_arena_impl_output_of_rows_96_10a5969e(slot_2, r_6c);
     r_xw = ldp((slot_2 + 16));
     r_38_2 = ld64((slot_2 + 24));
     if ((ld8(slot_2) == 0u) ? (ld8((slot_2 + 8)) == 0u) : 0u) goto l_capnp_yi;

@@ -398,10 +398,10 @@ static const u8 g_static_74[11] = "WriteFailed";
 static const u64 switch_table_capnp_objects_pointers_sizes_add_object_7_ce50ad0a[8] = { 0u, 1u, 8u, 16u, 32u, 64u, 0u, 0u };
 static const u64 switch_table_capnp_copies_copy_copy_object_789b5ce0078f2be2[7] = { 0u, 1u, 8u, 16u, 32u, 64u, 0u };
 static const u64 switch_table_capnp_objects_pointers_canonical_test_lis_2e4582d4[6] = { 0u, 1u, 8u, 16u, 32u, 64u };
-static const struct place switch_table_capnp_layout_tool_engine_refuse_05c50f83f81b9c23[35] = { PLACE(g_static_34), PLACE(g_static_35), PLACE(g_static_36), PLACE(g_static_37), PLACE(g_static_38), PLACE(g_static_39), PLACE(g_static_40), PLACE(g_static_41), PLACE(g_static_42), PLACE(g_static_43), PLACE(g_static_44), PLACE(g_static_45), PLACE(g_static_46), PLACE(g_static_47), PLACE(g_static_48), PLACE(g_static_49), PLACE(g_static_50), PLACE(g_static_51), PLACE(g_static_52), PLACE(g_static_53), PLACE(g_static_54), PLACE(g_static_55), PLACE(g_static_56), PLACE(g_static_57), PLACE(g_static_58), PLACE(g_static_59), PLACE(g_static_60), PLACE(g_static_61), PLACE(g_static_62), PLACE(g_static_63), PLACE(g_static_64), PLACE(g_static_65), PLACE(g_static_66), PLACE(g_static_67), PLACE(g_static_68) };
-static const u64 switch_table_capnp_layout_tool_engine_refuse_05c50f83f_f7ef1662[35] = { 16u, 44u, 34u, 33u, 47u, 25u, 48u, 53u, 38u, 38u, 47u, 50u, 16u, 25u, 56u, 56u, 46u, 68u, 49u, 56u, 49u, 60u, 36u, 33u, 41u, 24u, 40u, 15u, 20u, 11u, 17u, 28u, 24u, 20u, 18u };
-static const struct place switch_table_capnp_layout_tool_engine_refuse_05c50f83f_52234d96[7] = { PLACE(g_static_69), PLACE(g_static_70), PLACE(g_static_71), PLACE(g_static_72), PLACE(g_static_73), PLACE(g_static_74), PLACE(g_static_34) };
-static const u64 switch_table_capnp_layout_tool_engine_refuse_05c50f83f_2c76b345[7] = { 10u, 15u, 14u, 9u, 10u, 11u, 16u };
+static const struct place switch_table_capnp_layout_tool_engine_answer_refusal_0_d0ee3ebd[35] = { PLACE(g_static_34), PLACE(g_static_35), PLACE(g_static_36), PLACE(g_static_37), PLACE(g_static_38), PLACE(g_static_39), PLACE(g_static_40), PLACE(g_static_41), PLACE(g_static_42), PLACE(g_static_43), PLACE(g_static_44), PLACE(g_static_45), PLACE(g_static_46), PLACE(g_static_47), PLACE(g_static_48), PLACE(g_static_49), PLACE(g_static_50), PLACE(g_static_51), PLACE(g_static_52), PLACE(g_static_53), PLACE(g_static_54), PLACE(g_static_55), PLACE(g_static_56), PLACE(g_static_57), PLACE(g_static_58), PLACE(g_static_59), PLACE(g_static_60), PLACE(g_static_61), PLACE(g_static_62), PLACE(g_static_63), PLACE(g_static_64), PLACE(g_static_65), PLACE(g_static_66), PLACE(g_static_67), PLACE(g_static_68) };
+static const u64 switch_table_capnp_layout_tool_engine_answer_refusal_0_33537821[35] = { 16u, 44u, 34u, 33u, 47u, 25u, 48u, 53u, 38u, 38u, 47u, 50u, 16u, 25u, 56u, 56u, 46u, 68u, 49u, 56u, 49u, 60u, 36u, 33u, 41u, 24u, 40u, 15u, 20u, 11u, 17u, 28u, 24u, 20u, 18u };
+static const struct place switch_table_capnp_layout_tool_engine_answer_refusal_0_fd87fa01[7] = { PLACE(g_static_69), PLACE(g_static_70), PLACE(g_static_71), PLACE(g_static_72), PLACE(g_static_73), PLACE(g_static_74), PLACE(g_static_34) };
+static const u64 switch_table_capnp_layout_tool_engine_answer_refusal_0_24a7d607[7] = { 10u, 15u, 14u, 9u, 10u, 11u, 16u };
 static const u64 switch_table_main_17[5] = { 1u, 8u, 16u, 32u, 64u };
 
 static NEVER COLD u8 std_alloc_vec_Vec_grow_amortized_fe53b0f2d1658541(u8 *a_1, u64 a_2);
@@ -418,7 +418,7 @@ static NEVER COLD u8 std_alloc_vec_Vec_grow_amortized_8cb459f74eb976cc(u8 *a_1);
 static NEVER void capnp_objects_source_follow_far_70170357b7303457(u8 *a_1, u8 *a_2, u64 a_3, u8 *a_4);
 static struct s_i8_i32 capnp_objects_pointers_canonical_test_children_70170357b7303457(u8 *a_1, u32 a_2, u32 a_3, u32 a_4, u32 a_5, u8 *a_6);
 static NEVER struct s_i8_i32 capnp_objects_pointers_canonical_test_list_70170357b7303457(u8 *a_1, u32 a_2, u64 a_3, u32 a_4, u32 a_5, u8 *a_6);
-static struct s_i8_i32 capnp_objects_pointers_canonical_test_rows_70170357b7303457(u8 *a_1, u32 a_2, u16 a_3, u16 a_4, u32 a_5, u32 a_6, u8 *a_7);
+static struct s_i8_i32 capnp_objects_pointers_canonical_test_elements_70170357b7303457(u8 *a_1, u32 a_2, u16 a_3, u16 a_4, u32 a_5, u32 a_6, u8 *a_7);
 static NEVER COLD void std_io_buffered_BufWriter_write_cold_89ca6214804c96d4(u8 *a_1, u8 *a_2, u8 *a_3, u64 a_4);
 static void std_io_buffered_BufWriter_flush_buf_89ca6214804c96d4(u8 *a_1, u8 *a_2);
 static NEVER u8 capnp_objects_pointers_sizes_add_object_70170357b7303457(u8 *a_1, u32 a_2, u32 a_3, u8 *a_4);
@@ -427,38 +427,38 @@ static NEVER u8 capnp_objects_pointers_sizes_add_pointers_70170357b7303457(u8 *a
 static u8 capnp_messages_text_write_number_05c50f83f81b9c23(u8 *a_1, u64 a_2);
 static u8 capnp_layout_tool_frames_write_number_05c50f83f81b9c23(u8 *a_1, u32 a_2);
 static u8 capnp_layout_tool_writing_write_digits_05c50f83f81b9c23(u8 *a_1, u8 *a_2, u64 a_3);
-static void capnp_layout_tool_framed_frame_in(u8 *a_1, u8 *a_2);
+static void capnp_layout_tool_framed_read_frame(u8 *a_1, u8 *a_2);
 static void capnp_layout_tool_engine_canon_8738c8d4622c75c1(u8 *a_1, u8 *a_2, u8 *a_3, u8 *a_4, u8 a_5, u8 *a_6);
 static NEVER COLD u8 std_alloc_vec_Vec_grow_amortized_044c3d3b74b9c55e(u8 *a_1, u64 a_2);
 static NEVER COLD void capnp_messages_messages_copy_memory_CopySegment_zero_up_to(u8 *a_1, u64 a_2);
 static NEVER COLD struct s_i8_i32 capnp_arena_arena_rows_allocate_in_4426f83c3c99ca57(u8 *a_1, u64 a_2, u32 a_3);
-static NEVER COLD u32 capnp_arena_arena_rows_take_in_4426f83c3c99ca57(u8 *a_1, u64 a_2, u32 a_3);
+static NEVER COLD u32 capnp_arena_arena_rows_allocate_fitting_in_4426f83c3c99ca57(u8 *a_1, u64 a_2, u32 a_3);
 static NEVER void capnp_copies_copy_copy_object_789b5ce0078f2be2(u8 *a_1, u8 *a_2, u32 a_3, u32 a_4, u8 *a_5, u8 *a_6, u8 a_7);
 static NEVER COLD u8 *capnp_arena_arena_rows_Rows_other_mut_4426f83c3c99ca57(u8 *a_1, u32 a_2);
 static struct s_i8_i32 capnp_arena_arena_builder_arena_impl_BuilderArenaImplB_7a3e4931(u8 *a_1, u32 a_2, u32 a_3);
 static void capnp_arena_arena_builder_arena_impl_BuilderArenaImplB_c2fb55cd(u8 *a_1, u8 *a_2, u32 a_3);
-static NEVER struct s_i8_i32 capnp_arena_arena_bounds_first_by_bounds_4426f83c3c99ca57(u8 *a_1, u64 a_2, u32 a_3);
+static NEVER struct s_i8_i32 capnp_arena_arena_bounds_first_fit_by_bounds_4426f83c3c99ca57(u8 *a_1, u64 a_2, u32 a_3);
 static void capnp_arena_traits_arena_writing_copy_words_5460ad12cd8c5480(u8 *a_1, u32 a_2, u32 a_3, u8 *a_4, u64 a_5);
 static u64 capnp_words_words_used_words_in(u8 *a_1, u64 a_2, u64 a_3);
-static NEVER u64 capnp_words_lanes_end_of_blocks(u8 *a_1, u64 a_2);
+static NEVER u64 capnp_words_lanes_used_words_bound(u8 *a_1, u64 a_2);
 static void capnp_copies_copy_elements_put_words_5460ad12cd8c5480(u8 *a_1, u32 a_2, u32 a_3, u8 *a_4, u64 a_5);
 static NEVER COLD u64 capnp_arena_arena_rows_word_in_4426f83c3c99ca57(u8 *a_1, u64 a_2, u32 a_3);
 static NEVER COLD void capnp_making_landing_follow_5460ad12cd8c5480(u8 *a_1, u8 *a_2, u32 a_3, u32 a_4);
 static NEVER COLD void capnp_making_landing_follow_far_5460ad12cd8c5480(u8 *a_1, u8 *a_2, u64 a_3);
-static NEVER COLD void capnp_making_zeroing_zero_landed_5460ad12cd8c5480(u8 *a_1, u8 *a_2);
+static NEVER COLD void capnp_making_zeroing_zero_target_5460ad12cd8c5480(u8 *a_1, u8 *a_2);
 static void capnp_making_zeroing_zero_pointers_5460ad12cd8c5480(u8 *a_1, u32 a_2, u32 a_3, u32 a_4);
-static void capnp_making_zeroing_zero_part_5460ad12cd8c5480(u8 *a_1, u32 a_2, u32 a_3, u64 a_4);
+static void capnp_making_zeroing_zero_if_inside_5460ad12cd8c5480(u8 *a_1, u32 a_2, u32 a_3, u64 a_4);
 static NEVER COLD void capnp_making_zeroing_zero_far_pads_5460ad12cd8c5480(u8 *a_1, u64 a_2);
-static NEVER void capnp_copies_copy_children_copy_row_789b5ce0078f2be2(u8 *a_1, u8 *a_2, u32 a_3, u32 a_4, u8 *a_5, u32 a_6, u8 *a_7, u8 a_8);
+static NEVER void capnp_copies_copy_children_copy_children_out_of_line_7_ae79832a(u8 *a_1, u8 *a_2, u32 a_3, u32 a_4, u8 *a_5, u32 a_6, u8 *a_7, u8 a_8);
 static NEVER COLD u8 std_alloc_vec_Vec_grow_amortized_0e5e43add44bc681(u8 *a_1);
-static NEVER void capnp_arena_arena_builder_arena_impl_give_back_others__160dce61(u8 *a_1, u8 *a_2);
+static NEVER void capnp_arena_arena_builder_arena_impl_deallocate_others_af14abad(u8 *a_1, u8 *a_2);
 static NEVER void core_slice_edits_mirror_e0f4f6844e27f7b4(u8 *a_1, u8 *a_2, u64 a_3);
 static NEVER void capnp_objects_source_follow_far_1e87a151ef20e12e(u8 *a_1, u8 *a_2, u64 a_3, u8 *a_4);
 static struct s_i8_i32 capnp_objects_pointers_canonical_test_children_1e87a151ef20e12e(u8 *a_1, u32 a_2, u32 a_3, u32 a_4, u32 a_5, u8 *a_6);
 static NEVER struct s_i8_i32 capnp_objects_pointers_canonical_test_list_1e87a151ef20e12e(u8 *a_1, u32 a_2, u64 a_3, u32 a_4, u32 a_5, u8 *a_6);
-static struct s_i8_i32 capnp_objects_pointers_canonical_test_rows_1e87a151ef20e12e(u8 *a_1, u32 a_2, u16 a_3, u16 a_4, u32 a_5, u32 a_6, u8 *a_7);
-static u8 capnp_layout_tool_engine_refuse_05c50f83f81b9c23(u8 *a_1, u8 *a_2);
-static u8 layout_tool_complain(u8 *a_1, u64 a_2);
+static struct s_i8_i32 capnp_objects_pointers_canonical_test_elements_1e87a151ef20e12e(u8 *a_1, u32 a_2, u16 a_3, u16 a_4, u32 a_5, u32 a_6, u8 *a_7);
+static u8 capnp_layout_tool_engine_answer_refusal_05c50f83f81b9c23(u8 *a_1, u8 *a_2);
+static u8 layout_tool_print_error(u8 *a_1, u64 a_2);
 
 /* std_alloc::vec::Vec::grow_amortized::<#fe53b0f2d1658541> */
 static NEVER COLD u8 std_alloc_vec_Vec_grow_amortized_fe53b0f2d1658541(u8 *a_1, u64 a_2)
@@ -2111,9 +2111,9 @@ l_arm_bb:;
     goto l_return_pr;
 l_join_1x:;
     if (r_68_1 == 0u) { r_us = r_ll; r_1x = 0u; goto l_return_pr; }
-    struct s_i8_i32 r_ki = capnp_objects_pointers_canonical_test_rows_70170357b7303457(a_1, r_ll, t_xg, r_py, t_c8, r_y0_1, a_6);
-    r_us = r_ki.f1;
-    r_1x = r_ki.f0;
+    struct s_i8_i32 r_f3 = capnp_objects_pointers_canonical_test_elements_70170357b7303457(a_1, r_ll, t_xg, r_py, t_c8, r_y0_1, a_6);
+    r_us = r_f3.f1;
+    r_1x = r_f3.f0;
     goto l_return_pr;
 l_arm_um:;
     u64 r_qw_5 = ld64(r_xz);
@@ -2132,8 +2132,8 @@ l_return_pr:;
     return r_i6;
 }
 
-/* capnp_objects::pointers::canonical::test_rows::<#70170357b7303457> */
-static struct s_i8_i32 capnp_objects_pointers_canonical_test_rows_70170357b7303457(u8 *a_1, u32 a_2, u16 a_3, u16 a_4, u32 a_5, u32 a_6, u8 *a_7)
+/* capnp_objects::pointers::canonical::test_elements::<#70170357b7303457> */
+static struct s_i8_i32 capnp_objects_pointers_canonical_test_elements_70170357b7303457(u8 *a_1, u32 a_2, u16 a_3, u16 a_4, u32 a_5, u32 a_6, u8 *a_7)
 {
     u32 r_m2;
     u32 r_m2_1;
@@ -3677,8 +3677,8 @@ l_return_ri:;
     return r_fk;
 }
 
-/* capnp_layout::tool::framed::frame_in */
-static void capnp_layout_tool_framed_frame_in(u8 *a_1, u8 *a_2)
+/* capnp_layout::tool::framed::read_frame */
+static void capnp_layout_tool_framed_read_frame(u8 *a_1, u8 *a_2)
 {
     A(8) u8 slot_1[128];
     A(8) u8 slot_2[128];
@@ -4253,7 +4253,7 @@ l_arm_v5:;
     capnp_making_landing_follow_5460ad12cd8c5480(slot_2, slot_7, 0u, 0u);
     st64(r_lz_1, 0ull);
     if (!(ld8(slot_2) == 1u)) goto l_arm_f7;
-    capnp_making_zeroing_zero_landed_5460ad12cd8c5480(slot_7, r_x5_8);
+    capnp_making_zeroing_zero_target_5460ad12cd8c5480(slot_7, r_x5_8);
     if (!((r_qw_4 & 3ull) == 2ull)) goto l_arm_f7;
     capnp_making_zeroing_zero_far_pads_5460ad12cd8c5480(slot_7, r_qw_4);
     goto l_arm_f7;
@@ -4354,13 +4354,13 @@ l_arm_2q:;
     stp(slot_3, r_xw_2);
     st64(r_x5_9, r_38_8);
     st64(r_zd_8, r_38_9);
-    if (r_gf == 0ull) goto l_capnp_83;
+    if (r_gf == 0ull) goto l_capnp_ra;
     rattle_dealloc(r_xw_4);
-l_capnp_83:;
+l_capnp_ra:;
     stp(slot_2, r_xw_3);
     st64(r_x5_10, r_38_10);
     st64(r_zd_9, r_38_11);
-    capnp_arena_arena_builder_arena_impl_give_back_others__160dce61(slot_3, slot_2);
+    capnp_arena_arena_builder_arena_impl_deallocate_others_af14abad(slot_3, slot_2);
     goto l_capnp_f6;
 l_else_r8:;
     if (r_38_9 == 0ull) goto l_core_at;
@@ -4715,7 +4715,7 @@ l_capnp_t4:;
     stp(slot_2, r_o2);
     st64((slot_2 + 8), 0ull);
     st64((slot_2 + 16), r_4g);
-    capnp_arena_arena_builder_arena_impl_give_back_others__160dce61(slot_4, slot_2);
+    capnp_arena_arena_builder_arena_impl_deallocate_others_af14abad(slot_4, slot_2);
     memset(slot_3, 0u, 40);
     if (!(r_oa > 1ull)) goto l_join_jj_1;
     if (r_oa > 15ull) goto l_join_ys_1;
@@ -4774,12 +4774,12 @@ l_arm_uu:;
     st32((slot_10 + 8), (r_o4 & 255u));
     st32((slot_10 + 12), r_po);
     st64((slot_10 + 16), r_8d);
-    u8 r_ei = capnp_layout_tool_engine_refuse_05c50f83f81b9c23(a_6, slot_10);
+    u8 r_kn = capnp_layout_tool_engine_answer_refusal_05c50f83f81b9c23(a_6, slot_10);
     r_a1 = r_4x;
     r_dh_1 = r_vb;
     r_n8 = r_67;
     r_lg_1 = r_hd;
-    r_vx = r_ei;
+    r_vx = r_kn;
 l_join_j2:;
     st8(a_1, r_vx);
     mv7((a_1 + 1), slot_9);
@@ -4882,9 +4882,9 @@ static NEVER COLD struct s_i8_i32 capnp_arena_arena_rows_allocate_in_4426f83c3c9
     u32 r_1x;
     u8 *r_8z = away(a_1, (a_2 * 40ull));
     if (((u64)ld32(away(r_8z, 32ull)) + (u64)a_3) > (u64)((ld64(away(r_8z, 24ull)) + ld64(away(r_8z, 8ull))) >> 3ull)) { r_us = 0u; r_1x = 0u; goto l_join_pr; }
-    u32 r_r2 = capnp_arena_arena_rows_take_in_4426f83c3c99ca57(a_1, a_2, a_3);
+    u32 r_g9 = capnp_arena_arena_rows_allocate_fitting_in_4426f83c3c99ca57(a_1, a_2, a_3);
     r_us = 1u;
-    r_1x = r_r2;
+    r_1x = r_g9;
 l_join_pr:;
     struct s_i8_i32 r_9l = (struct s_i8_i32){ 0 };
     r_9l.f0 = r_us;
@@ -4893,8 +4893,8 @@ l_join_pr:;
     return r_i6;
 }
 
-/* capnp_arena::arena::rows::take_in::<#4426f83c3c99ca57> */
-static NEVER COLD u32 capnp_arena_arena_rows_take_in_4426f83c3c99ca57(u8 *a_1, u64 a_2, u32 a_3)
+/* capnp_arena::arena::rows::allocate_fitting_in::<#4426f83c3c99ca57> */
+static NEVER COLD u32 capnp_arena_arena_rows_allocate_fitting_in_4426f83c3c99ca57(u8 *a_1, u64 a_2, u32 a_3)
 {
     u8 *r_8z;
     u8 *r_9j;
@@ -5716,8 +5716,8 @@ l_loop_jc:;
     goto l_capnp_fc;
 l_else_wj:;
     if (!(ld64(away(away(r_c0_1, r_z6_3), 0xfffffffffffffff8ull)) == 0ull)) { r_ev = r_q7_1; goto l_capnp_fc; }
-    u64 r_jw = capnp_words_lanes_end_of_blocks(r_c0_1, r_z6_3);
-    r_nm_1 = r_jw;
+    u64 r_qz = capnp_words_lanes_used_words_bound(r_c0_1, r_z6_3);
+    r_nm_1 = r_qz;
 l_loop_jc_1:;
     if (r_nm_1 == 0ull) { r_ev = 0ull; goto l_capnp_fc; }
     u64 r_0f_1 = (r_nm_1 + 0xffffffffffffffffull);
@@ -5736,8 +5736,8 @@ l_loop_jc_2:;
     goto l_capnp_kv;
 l_else_wj_1:;
     if (!(ld64(away(away(r_c0_2, r_z6_7), 0xfffffffffffffff8ull)) == 0ull)) { r_mh = r_y6; goto l_capnp_kv; }
-    u64 r_jw_1 = capnp_words_lanes_end_of_blocks(r_c0_2, r_z6_7);
-    r_nm_3 = r_jw_1;
+    u64 r_qz_1 = capnp_words_lanes_used_words_bound(r_c0_2, r_z6_7);
+    r_nm_3 = r_qz_1;
 l_loop_jc_3:;
     if (r_nm_3 == 0ull) { r_mh = 0ull; goto l_capnp_kv; }
     u64 r_0f_3 = (r_nm_3 + 0xffffffffffffffffull);
@@ -5887,7 +5887,7 @@ l_capnp_am:;
     st32((slot_2 + 48), (r_az + r_gx));
     st32((slot_2 + 52), 0u);
     st32((slot_2 + 56), r_4w);
-    capnp_copies_copy_children_copy_row_789b5ce0078f2be2(slot_1, a_2, r_ne, (r_29 + r_4r_5), slot_2, r_ib, a_6, a_7);
+    capnp_copies_copy_children_copy_children_out_of_line_7_ae79832a(slot_1, a_2, r_ne, (r_29 + r_4r_5), slot_2, r_ib, a_6, a_7);
     r_t8 = ld8(slot_1);
     r_hg = ld8((slot_1 + 8));
     r_lc_8 = ld32((slot_1 + 12));
@@ -6450,7 +6450,7 @@ l_arm_v3:;
     st32(r_c4_6, (r_5b + ((u32)r_ep_4 & 65535u)));
     st32(r_bk_1, 0u);
     st32(r_6c_2, r_s1);
-    capnp_copies_copy_children_copy_row_789b5ce0078f2be2(slot_1, a_2, sink_rg, (r_az_2 + r_2g_1), slot_2, r_az_3, a_6, a_7);
+    capnp_copies_copy_children_copy_children_out_of_line_7_ae79832a(slot_1, a_2, sink_rg, (r_az_2 + r_2g_1), slot_2, r_az_3, a_6, a_7);
     r_2b_2 = ld8(slot_1);
     r_qh = ld8(r_x5_20);
     r_ip = ld32(r_k0_5);
@@ -6531,8 +6531,8 @@ l_loop_jc_4:;
     goto l_capnp_k4;
 l_else_wj_2:;
     if (!(ld64(away(away(r_c0_11, r_z6_53), 0xfffffffffffffff8ull)) == 0ull)) { r_xk = r_u7_1; goto l_capnp_k4; }
-    u64 r_jw_2 = capnp_words_lanes_end_of_blocks(r_c0_11, r_z6_53);
-    r_nm_6 = r_jw_2;
+    u64 r_qz_2 = capnp_words_lanes_used_words_bound(r_c0_11, r_z6_53);
+    r_nm_6 = r_qz_2;
 l_loop_jc_5:;
     if (r_nm_6 == 0ull) { r_xk = 0ull; goto l_capnp_k4; }
     u64 r_0f_10 = (r_nm_6 + 0xffffffffffffffffull);
@@ -6555,8 +6555,8 @@ l_loop_jc_6:;
     goto l_capnp_8b;
 l_else_wj_3:;
     if (!(ld64(away(away(r_c0_12, r_z6_56), 0xfffffffffffffff8ull)) == 0ull)) { r_a3 = r_u7_3; goto l_capnp_8b; }
-    u64 r_jw_3 = capnp_words_lanes_end_of_blocks(r_c0_12, r_z6_56);
-    r_nm_8 = r_jw_3;
+    u64 r_qz_3 = capnp_words_lanes_used_words_bound(r_c0_12, r_z6_56);
+    r_nm_8 = r_qz_3;
 l_loop_jc_7:;
     if (r_nm_8 == 0ull) { r_a3 = 0ull; goto l_capnp_8b; }
     u64 r_0f_12 = (r_nm_8 + 0xffffffffffffffffull);
@@ -6967,8 +6967,8 @@ l_loop_jc_8:;
     goto l_capnp_fc_1;
 l_else_wj_4:;
     if (!(ld64(away(away(r_c0_15, r_z6_76), 0xfffffffffffffff8ull)) == 0ull)) { r_ev_1 = r_q7_4; goto l_capnp_fc_1; }
-    u64 r_jw_4 = capnp_words_lanes_end_of_blocks(r_c0_15, r_z6_76);
-    r_nm_11 = r_jw_4;
+    u64 r_qz_4 = capnp_words_lanes_used_words_bound(r_c0_15, r_z6_76);
+    r_nm_11 = r_qz_4;
 l_loop_jc_9:;
     if (r_nm_11 == 0ull) { r_ev_1 = 0ull; goto l_capnp_fc_1; }
     u64 r_0f_17 = (r_nm_11 + 0xffffffffffffffffull);
@@ -6988,8 +6988,8 @@ l_loop_jc_10:;
     goto l_capnp_hv;
 l_else_wj_5:;
     if (!(ld64(away(away(r_c0_16, r_z6_80), 0xfffffffffffffff8ull)) == 0ull)) { r_dl = r_ev_1; r_9n = r_y6_3; goto l_capnp_hv; }
-    u64 r_jw_5 = capnp_words_lanes_end_of_blocks(r_c0_16, r_z6_80);
-    r_nm_13 = r_jw_5;
+    u64 r_qz_5 = capnp_words_lanes_used_words_bound(r_c0_16, r_z6_80);
+    r_nm_13 = r_qz_5;
 l_loop_jc_11:;
     if (r_nm_13 == 0ull) { r_dl = r_ev_1; r_9n = 0ull; goto l_capnp_hv; }
     u64 r_0f_19 = (r_nm_13 + 0xffffffffffffffffull);
@@ -7130,7 +7130,7 @@ l_capnp_5c:;
     st32(r_c4_10, (r_5b_1 + ((u32)r_ep_5 & 65535u)));
     st32(r_bk_2, 0u);
     st32(r_6c_4, r_s1_1);
-    capnp_copies_copy_children_copy_row_789b5ce0078f2be2(slot_1, a_2, sink_7v, (r_29_2 + r_4r_11), slot_2, r_az_4, a_6, a_7);
+    capnp_copies_copy_children_copy_children_out_of_line_7_ae79832a(slot_1, a_2, sink_7v, (r_29_2 + r_4r_11), slot_2, r_az_4, a_6, a_7);
     r_2b_6 = ld8(slot_1);
     r_qh_1 = ld8(r_x5_38);
     r_ip_1 = ld32(r_k0_10);
@@ -7267,10 +7267,10 @@ static void capnp_arena_arena_builder_arena_impl_BuilderArenaImplB_c2fb55cd(u8 *
     u64 r_52 = ld64(r_su);
     if (!(((u64)r_yf + (u64)a_3) > (u64)((ld64(away(a_2, 56ull)) + r_52) >> 3ull))) { r_q9 = r_52; r_zh = r_yf; goto l_then_ma; }
     r_yf_1 = away(a_2, 80ull);
-    struct s_i8_i32 r_5h = capnp_arena_arena_bounds_first_by_bounds_4426f83c3c99ca57(ldp(r_yf_1), ld64(away(a_2, 88ull)), a_3);
-    r_ll = (r_5h.f1 + 1u);
-    if (!(r_5h.f0 == 1u)) goto l_arm_90;
-    if (!(r_ll == 0u)) goto l_else_m0;
+    struct s_i8_i32 r_of = capnp_arena_arena_bounds_first_fit_by_bounds_4426f83c3c99ca57(ldp(r_yf_1), ld64(away(a_2, 88ull)), a_3);
+    r_ll = (r_of.f1 + 1u);
+    if (!(r_of.f0 == 1u)) goto l_arm_90;
+    if (!(r_ll == 0u)) goto l_else_6v;
     r_q9 = ld64(r_su);
     r_zh = ld32(r_h6);
 l_then_ma:;
@@ -7283,10 +7283,10 @@ l_capnp_9l:;
     r_oh = 0ull;
     r_yv = r_zh;
     goto l_join_iz;
-l_else_m0:;
-    u32 r_d2 = capnp_arena_arena_rows_take_in_4426f83c3c99ca57(ldp(r_yf_1), ((u64)r_ll + 0xffffffffffffffffull), a_3);
+l_else_6v:;
+    u32 r_97 = capnp_arena_arena_rows_allocate_fitting_in_4426f83c3c99ca57(ldp(r_yf_1), ((u64)r_ll + 0xffffffffffffffffull), a_3);
     r_oh = (u64)r_ll;
-    r_yv = r_d2;
+    r_yv = r_97;
     goto l_join_iz;
 l_arm_90:;
     if (!(u8)(ld8(r_2g) & 1)) goto l_join_el;
@@ -7317,8 +7317,8 @@ l_join_iz:;
     goto l_common_8p;
 }
 
-/* capnp_arena::arena::bounds::first_by_bounds::<#4426f83c3c99ca57> */
-static NEVER struct s_i8_i32 capnp_arena_arena_bounds_first_by_bounds_4426f83c3c99ca57(u8 *a_1, u64 a_2, u32 a_3)
+/* capnp_arena::arena::bounds::first_fit_by_bounds::<#4426f83c3c99ca57> */
+static NEVER struct s_i8_i32 capnp_arena_arena_bounds_first_fit_by_bounds_4426f83c3c99ca57(u8 *a_1, u64 a_2, u32 a_3)
 {
     u8 r_0f;
     u64 r_7l;
@@ -7478,8 +7478,8 @@ l_loop_jc:;
     goto l_capnp_91;
 l_else_wj:;
     if (!(ld64(away(away(r_8z, r_v8), 0xfffffffffffffff8ull)) == 0ull)) { r_z1 = a_3; goto l_capnp_91; }
-    u64 r_jw = capnp_words_lanes_end_of_blocks(r_8z, r_v8);
-    r_nm_1 = r_jw;
+    u64 r_qz = capnp_words_lanes_used_words_bound(r_8z, r_v8);
+    r_nm_1 = r_qz;
 l_loop_jc_1:;
     if (r_nm_1 == 0ull) { r_z1 = 0ull; goto l_capnp_91; }
     u64 r_0f_1 = (r_nm_1 + 0xffffffffffffffffull);
@@ -7489,8 +7489,8 @@ l_capnp_91:;
     return r_z1;
 }
 
-/* capnp_words::lanes::end_of_blocks */
-static NEVER u64 capnp_words_lanes_end_of_blocks(u8 *a_1, u64 a_2)
+/* capnp_words::lanes::used_words_bound */
+static NEVER u64 capnp_words_lanes_used_words_bound(u8 *a_1, u64 a_2)
 {
     u64 t_rn;
     u64 r_ur;
@@ -7789,8 +7789,8 @@ l_join_s8:;
     return;
 }
 
-/* capnp_making::zeroing::zero_landed::<#5460ad12cd8c5480> */
-static NEVER COLD void capnp_making_zeroing_zero_landed_5460ad12cd8c5480(u8 *a_1, u8 *a_2)
+/* capnp_making::zeroing::zero_target::<#5460ad12cd8c5480> */
+static NEVER COLD void capnp_making_zeroing_zero_target_5460ad12cd8c5480(u8 *a_1, u8 *a_2)
 {
     u64 r_tp;
     u32 r_5k;
@@ -7960,7 +7960,7 @@ l_join_v8:;
     r_8r = away(a_1, 64ull);
 l_arm_w5:;
     if (r_lc_3 > (u64)ld32(r_8r)) goto l_join_68;
-    if (!((r_y6_1 != 0ull) ? (t_c8 != 0u) : 0u)) goto l_capnp_3g;
+    if (!((r_y6_1 != 0ull) ? (t_c8 != 0u) : 0u)) goto l_capnp_vj;
     r_rh = (r_5k_1 + 1u);
     r_ls = 0u;
 l_join_in:;
@@ -7968,8 +7968,8 @@ l_join_in:;
     capnp_making_zeroing_zero_pointers_5460ad12cd8c5480(a_1, r_5k, r_w0, t_12);
     u32 r_ff = (r_ls + 1u);
     if (!(r_ff == t_c8)) { r_rh = (r_w0 + t_12); r_ls = r_ff; goto l_join_in; }
-l_capnp_3g:;
-    capnp_making_zeroing_zero_part_5460ad12cd8c5480(a_1, r_5k, r_5k_1, r_c4);
+l_capnp_vj:;
+    capnp_making_zeroing_zero_if_inside_5460ad12cd8c5480(a_1, r_5k, r_5k_1, r_c4);
     goto l_join_68;
 l_arm_sq:;
     capnp_making_zeroing_zero_pointers_5460ad12cd8c5480(a_1, r_5k, r_5k_1, (u32)r_ij);
@@ -8108,7 +8108,7 @@ l_else_l1:;
 l_capnp_66:;
     st64((r_y4 + (i64)(r_9i)), 0ull);
     if (!(ld8(slot_1) == 1u)) goto l_capnp_o8;
-    capnp_making_zeroing_zero_landed_5460ad12cd8c5480(a_1, r_x5);
+    capnp_making_zeroing_zero_target_5460ad12cd8c5480(a_1, r_x5);
     if (!((r_4x & 3ull) == 2ull)) goto l_capnp_o8;
     capnp_making_zeroing_zero_far_pads_5460ad12cd8c5480(a_1, r_4x);
 l_capnp_o8:;
@@ -8118,8 +8118,8 @@ l_join_68:;
     return;
 }
 
-/* capnp_making::zeroing::zero_part::<#5460ad12cd8c5480> */
-static void capnp_making_zeroing_zero_part_5460ad12cd8c5480(u8 *a_1, u32 a_2, u32 a_3, u64 a_4)
+/* capnp_making::zeroing::zero_if_inside::<#5460ad12cd8c5480> */
+static void capnp_making_zeroing_zero_if_inside_5460ad12cd8c5480(u8 *a_1, u32 a_2, u32 a_3, u64 a_4)
 {
     u64 r_7l;
     u64 r_o7;
@@ -8229,8 +8229,8 @@ l_capnp_68:;
     return;
 }
 
-/* capnp_copies::copy::children::copy_row::<#789b5ce0078f2be2> */
-static NEVER void capnp_copies_copy_children_copy_row_789b5ce0078f2be2(u8 *a_1, u8 *a_2, u32 a_3, u32 a_4, u8 *a_5, u32 a_6, u8 *a_7, u8 a_8)
+/* capnp_copies::copy::children::copy_children_out_of_line::<#789b5ce0078f2be2> */
+static NEVER void capnp_copies_copy_children_copy_children_out_of_line_7_ae79832a(u8 *a_1, u8 *a_2, u32 a_3, u32 a_4, u8 *a_5, u32 a_6, u8 *a_7, u8 a_8)
 {
     A(8) u8 slot_1[24];
     A(8) u8 slot_2[64];
@@ -8667,8 +8667,8 @@ l_loop_jc:;
     goto l_capnp_bk;
 l_else_wj:;
     if (!(ld64(away(away(r_2b_1, r_z6_8), 0xfffffffffffffff8ull)) == 0ull)) { r_p3 = r_q7; goto l_capnp_bk; }
-    u64 r_jw = capnp_words_lanes_end_of_blocks(r_2b_1, r_z6_8);
-    r_nm_2 = r_jw;
+    u64 r_qz = capnp_words_lanes_used_words_bound(r_2b_1, r_z6_8);
+    r_nm_2 = r_qz;
 l_loop_jc_1:;
     if (r_nm_2 == 0ull) { r_p3 = 0ull; goto l_capnp_bk; }
     u64 r_0f_3 = (r_nm_2 + 0xffffffffffffffffull);
@@ -8688,8 +8688,8 @@ l_loop_jc_2:;
     goto l_capnp_hv;
 l_else_wj_1:;
     if (!(ld64(away(away(r_2b_2, r_z6_12), 0xfffffffffffffff8ull)) == 0ull)) { r_dl = r_p3; r_9n = r_y6; goto l_capnp_hv; }
-    u64 r_jw_1 = capnp_words_lanes_end_of_blocks(r_2b_2, r_z6_12);
-    r_nm_4 = r_jw_1;
+    u64 r_qz_1 = capnp_words_lanes_used_words_bound(r_2b_2, r_z6_12);
+    r_nm_4 = r_qz_1;
 l_loop_jc_3:;
     if (r_nm_4 == 0ull) { r_dl = r_p3; r_9n = 0ull; goto l_capnp_hv; }
     u64 r_0f_5 = (r_nm_4 + 0xffffffffffffffffull);
@@ -8830,7 +8830,7 @@ l_capnp_5c:;
     st32(r_c4_1, (r_5b + ((u32)r_ep & 65535u)));
     st32(r_bk, 0u);
     st32(r_6c_1, r_53);
-    capnp_copies_copy_children_copy_row_789b5ce0078f2be2(slot_1, a_2, sink_7v, (r_29 + r_4r_2), slot_2, r_az, a_7, a_8);
+    capnp_copies_copy_children_copy_children_out_of_line_7_ae79832a(slot_1, a_2, sink_7v, (r_29 + r_4r_2), slot_2, r_az, a_7, a_8);
     r_2b_5 = ld8(slot_1);
     r_qh = ld8(r_x5_4);
     r_ip = ld32(r_k0_2);
@@ -8927,8 +8927,8 @@ l_arm_m7:;
     goto l_common_57;
 }
 
-/* capnp_arena::arena::builder_arena_impl::give_back_others::<#d296b2bbb7f15f1d> */
-static NEVER void capnp_arena_arena_builder_arena_impl_give_back_others__160dce61(u8 *a_1, u8 *a_2)
+/* capnp_arena::arena::builder_arena_impl::deallocate_others::<#d296b2bbb7f15f1d> */
+static NEVER void capnp_arena_arena_builder_arena_impl_deallocate_others_af14abad(u8 *a_1, u8 *a_2)
 {
     A(8) u8 slot_1[40];
     u8 *r_mb;
@@ -9913,9 +9913,9 @@ l_arm_bb:;
     goto l_return_pr;
 l_join_1x:;
     if (r_68_1 == 0u) { r_us = r_ll; r_1x = 0u; goto l_return_pr; }
-    struct s_i8_i32 r_qx = capnp_objects_pointers_canonical_test_rows_1e87a151ef20e12e(a_1, r_ll, t_xg, r_py, t_c8, r_y0_1, a_6);
-    r_us = r_qx.f1;
-    r_1x = r_qx.f0;
+    struct s_i8_i32 r_37 = capnp_objects_pointers_canonical_test_elements_1e87a151ef20e12e(a_1, r_ll, t_xg, r_py, t_c8, r_y0_1, a_6);
+    r_us = r_37.f1;
+    r_1x = r_37.f0;
     goto l_return_pr;
 l_arm_um:;
     u64 r_qw_5 = ld64(r_xz);
@@ -9934,8 +9934,8 @@ l_return_pr:;
     return r_i6;
 }
 
-/* capnp_objects::pointers::canonical::test_rows::<#1e87a151ef20e12e> */
-static struct s_i8_i32 capnp_objects_pointers_canonical_test_rows_1e87a151ef20e12e(u8 *a_1, u32 a_2, u16 a_3, u16 a_4, u32 a_5, u32 a_6, u8 *a_7)
+/* capnp_objects::pointers::canonical::test_elements::<#1e87a151ef20e12e> */
+static struct s_i8_i32 capnp_objects_pointers_canonical_test_elements_1e87a151ef20e12e(u8 *a_1, u32 a_2, u16 a_3, u16 a_4, u32 a_5, u32 a_6, u8 *a_7)
 {
     u32 r_m2;
     u32 r_m2_1;
@@ -10036,8 +10036,8 @@ l_return_pr:;
     return r_i6;
 }
 
-/* capnp_layout::tool::engine::refuse::<#05c50f83f81b9c23> */
-static u8 capnp_layout_tool_engine_refuse_05c50f83f81b9c23(u8 *a_1, u8 *a_2)
+/* capnp_layout::tool::engine::answer_refusal::<#05c50f83f81b9c23> */
+static u8 capnp_layout_tool_engine_answer_refusal_05c50f83f81b9c23(u8 *a_1, u8 *a_2)
 {
     A(8) u8 slot_1[96];
     u8 r_dh;
@@ -10116,20 +10116,20 @@ l_arm_8s:;
     u64 r_t9_2 = (r_j3 - r_4j);
     if (!(r_t9_2 == 0ull)) { u8 *r_1 = away(r_7u, r_4j); u64 r_2 = r_t9_2; r_7u = r_1; r_j3 = r_2; goto l_join_c8; }
     switch (r_dh) {
-    case 0u: goto l_switch_kf;
-    case 1u: goto l_switch_jg;
+    case 0u: goto l_switch_0w;
+    case 1u: goto l_switch_pw;
     case 2u: { r_w4 = ((u8 *)g_static_33); r_l7 = 9ull; goto l_join_qn; }
     default: goto l_noarm_e1;
     }
 l_noarm_e1:;
     UNREACHABLE();
-l_switch_kf:;
-    r_w4 = ldp((((u8 *)switch_table_capnp_layout_tool_engine_refuse_05c50f83f81b9c23) + (i64)(8 * (u64)r_dd)));
-    r_l7 = ld64((((u8 *)switch_table_capnp_layout_tool_engine_refuse_05c50f83f_f7ef1662) + (i64)(8 * (u64)r_dd)));
+l_switch_0w:;
+    r_w4 = ldp((((u8 *)switch_table_capnp_layout_tool_engine_answer_refusal_0_d0ee3ebd) + (i64)(8 * (u64)r_dd)));
+    r_l7 = ld64((((u8 *)switch_table_capnp_layout_tool_engine_answer_refusal_0_33537821) + (i64)(8 * (u64)r_dd)));
     goto l_join_qn;
-l_switch_jg:;
-    r_w4 = ldp((((u8 *)switch_table_capnp_layout_tool_engine_refuse_05c50f83f_52234d96) + (i64)(8 * (u64)r_dd)));
-    r_l7 = ld64((((u8 *)switch_table_capnp_layout_tool_engine_refuse_05c50f83f_2c76b345) + (i64)(8 * (u64)r_dd)));
+l_switch_pw:;
+    r_w4 = ldp((((u8 *)switch_table_capnp_layout_tool_engine_answer_refusal_0_fd87fa01) + (i64)(8 * (u64)r_dd)));
+    r_l7 = ld64((((u8 *)switch_table_capnp_layout_tool_engine_answer_refusal_0_24a7d607) + (i64)(8 * (u64)r_dd)));
 l_join_qn:;
     r_x5_1 = (slot_1 + 8);
     r_7u_1 = r_w4;
@@ -10208,8 +10208,8 @@ l_capnp_ri:;
     return r_fk;
 }
 
-/* layout_tool::complain */
-static u8 layout_tool_complain(u8 *a_1, u64 a_2)
+/* layout_tool::print_error */
+static u8 layout_tool_print_error(u8 *a_1, u64 a_2)
 {
     A(8) u8 slot_1[1136];
     A(8) u8 slot_2[1176];
@@ -10718,7 +10718,7 @@ int main(int count, char **words)
     u64 r_74;
     u32 r_y0;
     u64 r_0o_1;
-    u8 r_g6_2;
+    u8 r_0d_2;
     u64 r_iu_13;
     u8 *r_a7_46;
     u8 r_s6_1;
@@ -10756,7 +10756,7 @@ int main(int count, char **words)
     u64 r_il_6;
     u64 r_4j_2;
     u8 r_2c_2;
-    u8 r_g6_3;
+    u8 r_0d_3;
     u8 r_s6_2;
     u8 r_z5_1;
     u64 r_iu_15;
@@ -10839,7 +10839,7 @@ int main(int count, char **words)
     u64 r_5n;
     u64 r_lu;
     u32 r_h7;
-    u8 r_g6_4;
+    u8 r_0d_4;
     u8 r_s6_3;
     u8 r_sw_1;
     u8 r_4g;
@@ -11089,7 +11089,7 @@ l_std_zv:;
     st8((slot_2 + 39), 39u);
     st8((slot_2 + 40), 40u);
     if (ld8((slot_2 + (i64)(r_vr))) == 38u) goto l_arm_5s_1;
-    goto l_arm_d8;
+    goto l_arm_ta;
 l_loop_nx:;
     if (r_45) { r_2c = r_z6; r_gs_1 = r_0w; goto l_after_2x; }
     r_2c_1 = r_z6;
@@ -11183,11 +11183,11 @@ l_arm_bi:;
     switch (r_0o) {
     case 1ull: goto l_then_vy;
     case 3ull: goto l_then_3v;
-    default: goto l_arm_gu;
+    default: goto l_arm_hz;
     }
-l_arm_d8:;
-    u8 r_15 = layout_tool_complain(((u8 *)g_static_1), 13ull);
-    r_sv = r_15;
+l_arm_ta:;
+    u8 r_1d = layout_tool_print_error(((u8 *)g_static_1), 13ull);
+    r_sv = r_1d;
     goto l_arm_4z;
 l_then_vy:;
     r_lz = ldp(r_xw_9);
@@ -11292,7 +11292,7 @@ l_capnp_uw:;
 l_then_3v:;
     r_lz_1 = ldp(away(r_xw_9, 24ull));
     r_52_4 = ld64(away(r_xw_9, 32ull));
-    if (r_52_4 == 0ull) goto l_arm_p7;
+    if (r_52_4 == 0ull) goto l_arm_7p;
     r_47_1 = ld8(r_lz_1);
     r_cf = (u32)r_47_1;
     if ((i8)r_47_1 > (i8)255u) { r_t2 = r_cf; goto l_core_dp; }
@@ -11308,14 +11308,14 @@ l_join_zf:;
 l_join_pb:;
     r_t2 = (((u32)(r_to_1 << 6u) | ((u32)(r_to << 12u) | ((u32)(r_cf << 18u) & 0x1c0000u))) | (u32)(u8)(ld8((r_lz_1 + 3)) & 63u));
 l_core_dp:;
-    if (r_t2 == 43u) goto l_arm_p7;
+    if (r_t2 == 43u) goto l_arm_7p;
     switch (r_47_1) {
     case 45u: goto l_then_oe;
     case 43u: goto l_then_oe_1;
     default: { r_j1 = 0ull; r_3n = 0ull; goto l_join_t6; }
     }
 l_then_oe:;
-    if (r_52_4 == 1ull) goto l_arm_p7;
+    if (r_52_4 == 1ull) goto l_arm_7p;
     r_j1_1 = 0ull;
     r_3n_1 = 1ull;
     goto l_join_t6_1;
@@ -11326,18 +11326,18 @@ l_loop_2r:;
     r_3n_1 = r_36_6;
 l_join_t6_1:;
     r_47_5 = ld8((r_lz_1 + (i64)(r_3n_1)));
-    if (!((u8)(r_47_5 + 208u) < 10u)) goto l_arm_gu;
+    if (!((u8)(r_47_5 + 208u) < 10u)) goto l_arm_hz;
     r_b2 = (r_j1_1 * 10ull);
     r_3z = (u64)(u8)(r_47_5 & 15u);
-    if (r_b2 > (r_3z ^ 0xffffffffffffffffull)) goto l_arm_gu;
+    if (r_b2 > (r_3z ^ 0xffffffffffffffffull)) goto l_arm_hz;
     r_lc = (r_b2 + r_3z);
-    if (r_lc > 0x80000000ull) goto l_arm_gu;
+    if (r_lc > 0x80000000ull) goto l_arm_hz;
     goto l_loop_2r;
 l_arm_4m:;
     ph_2n = (0u - (u32)r_lc);
     goto l_arm_54;
 l_then_oe_1:;
-    if (r_52_4 == 1ull) goto l_arm_p7;
+    if (r_52_4 == 1ull) goto l_arm_7p;
     r_j1_2 = 0ull;
     r_3n_2 = 1ull;
     goto l_join_t6_2;
@@ -11348,12 +11348,12 @@ l_loop_w5:;
     r_3n_2 = r_7n_5;
 l_join_t6_2:;
     r_47_6 = ld8((r_lz_1 + (i64)(r_3n_2)));
-    if (!((u8)(r_47_6 + 208u) < 10u)) goto l_arm_gu;
+    if (!((u8)(r_47_6 + 208u) < 10u)) goto l_arm_hz;
     r_b2_1 = (r_j1_2 * 10ull);
     r_3z_1 = (u64)(u8)(r_47_6 & 15u);
-    if (r_b2_1 > (r_3z_1 ^ 0xffffffffffffffffull)) goto l_arm_gu;
+    if (r_b2_1 > (r_3z_1 ^ 0xffffffffffffffffull)) goto l_arm_hz;
     r_lc_1 = (r_b2_1 + r_3z_1);
-    if (r_lc_1 > 0x7fffffffull) goto l_arm_gu;
+    if (r_lc_1 > 0x7fffffffull) goto l_arm_hz;
     goto l_loop_w5;
 l_loop_2r_1:;
     u64 r_36_7 = (r_3n + 1ull);
@@ -11362,12 +11362,12 @@ l_loop_2r_1:;
     r_3n = r_36_7;
 l_join_t6:;
     r_47_7 = ld8((r_lz_1 + (i64)(r_3n)));
-    if (!((u8)(r_47_7 + 208u) < 10u)) goto l_arm_gu;
+    if (!((u8)(r_47_7 + 208u) < 10u)) goto l_arm_hz;
     r_b2_2 = (r_j1 * 10ull);
     r_3z_2 = (u64)(u8)(r_47_7 & 15u);
-    if (r_b2_2 > (r_3z_2 ^ 0xffffffffffffffffull)) goto l_arm_gu;
+    if (r_b2_2 > (r_3z_2 ^ 0xffffffffffffffffull)) goto l_arm_hz;
     r_lc_2 = (r_b2_2 + r_3z_2);
-    if (r_lc_2 > 0x7fffffffull) goto l_arm_gu;
+    if (r_lc_2 > 0x7fffffffull) goto l_arm_hz;
     goto l_loop_2r_1;
 l_arm_d6:;
     ph_2n = (u32)r_8r;
@@ -11461,9 +11461,9 @@ l_capnp_f7:;
     r_ax = r_yl;
     goto l_capnp_ri;
 l_arm_i0:;
-    goto l_arm_gu;
+    goto l_arm_hz;
 l_capnp_ri:;
-    if (!(r_c9 == 1u)) goto l_arm_gu;
+    if (!(r_c9 == 1u)) goto l_arm_hz;
     r_u2 = (u64)r_td;
     struct s_i64_i64 r_ze = rattle_alloc(8192ull, 1ull);
     r_1y = r_ze;
@@ -12103,8 +12103,8 @@ l_arm_15:;
     st32((slot_5 + 8), (u32)r_h3);
     st32((slot_5 + 12), r_bu_1);
     st64((slot_5 + 16), r_g8_1);
-    u8 r_g6 = capnp_layout_tool_engine_refuse_05c50f83f81b9c23(slot_17, slot_5);
-    r_jh_1 = r_g6;
+    u8 r_0d = capnp_layout_tool_engine_answer_refusal_05c50f83f81b9c23(slot_17, slot_5);
+    r_jh_1 = r_0d;
 l_capnp_td:;
     st8(slot_10, r_jh_1);
     stp((slot_10 + 8), slot_1);
@@ -12270,7 +12270,7 @@ l_std_my_2:;
     r_4j = r_38_43;
 l_arm_8s:;
     u64 r_t9_10 = (r_j3_2 - r_4j);
-    if (!(r_t9_10 == 0ull)) { u8 *r_16 = away(r_7u_2, r_4j); u64 r_17 = r_t9_10; r_7u_2 = r_16; r_j3_2 = r_17; goto l_join_c8_2; }
+    if (!(r_t9_10 == 0ull)) { u8 *r_15 = away(r_7u_2, r_4j); u64 r_16 = r_t9_10; r_7u_2 = r_15; r_j3_2 = r_16; goto l_join_c8_2; }
     u8 r_y5 = capnp_messages_text_write_number_05c50f83f81b9c23(slot_17, r_a7_36);
     if ((u8)(r_y5 & 1)) { r_jh_2 = 3u; goto l_capnp_td_1; }
     goto l_arm_qn;
@@ -12306,7 +12306,7 @@ l_std_my_3:;
     r_4j_1 = r_38_44;
 l_arm_8s_1:;
     u64 r_t9_13 = (r_j3_3 - r_4j_1);
-    if (!(r_t9_13 == 0ull)) { u8 *r_18 = away(r_7u_3, r_4j_1); u64 r_19 = r_t9_13; r_7u_3 = r_18; r_j3_3 = r_19; goto l_join_c8_3; }
+    if (!(r_t9_13 == 0ull)) { u8 *r_17 = away(r_7u_3, r_4j_1); u64 r_18 = r_t9_13; r_7u_3 = r_17; r_j3_3 = r_18; goto l_join_c8_3; }
     u8 r_y5_1 = capnp_messages_text_write_number_05c50f83f81b9c23(slot_17, (r_4g_1 & 0xffffffffull));
     if ((u8)(r_y5_1 & 1)) { r_jh_2 = 3u; goto l_capnp_td_1; }
     goto l_arm_qn_1;
@@ -12343,10 +12343,10 @@ l_std_my_4:;
 l_arm_on_2:;
     u64 r_t9_16 = (r_j3_4 - r_fe_2);
     if (r_t9_16 == 0ull) { r_jh_2 = 0u; goto l_capnp_td_1; }
-    u8 *r_20 = away(r_7u_4, r_fe_2);
-    u64 r_21 = r_t9_16;
-    r_7u_4 = r_20;
-    r_j3_4 = r_21;
+    u8 *r_19 = away(r_7u_4, r_fe_2);
+    u64 r_20 = r_t9_16;
+    r_7u_4 = r_19;
+    r_j3_4 = r_20;
     goto l_join_c8_4;
 l_arm_un_2:;
     st8(r_89_1, 1u);
@@ -12357,8 +12357,8 @@ l_arm_uu:;
     st32((slot_5 + 8), (r_o4 & 255u));
     st32((slot_5 + 12), r_67);
     st64((slot_5 + 16), r_hd);
-    u8 r_g6_1 = capnp_layout_tool_engine_refuse_05c50f83f81b9c23(slot_17, slot_5);
-    r_jh_2 = r_g6_1;
+    u8 r_0d_1 = capnp_layout_tool_engine_answer_refusal_05c50f83f81b9c23(slot_17, slot_5);
+    r_jh_2 = r_0d_1;
 l_capnp_td_1:;
     st8(slot_10, r_jh_2);
     stp((slot_10 + 8), slot_1);
@@ -12372,7 +12372,7 @@ l_arm_8y:;
     goto l_arm_1h;
 l_loop_mq:;
     if (r_vt == 0ull) goto l_join_4p;
-    if (ld64(away(r_m1, 8ull)) < 0x800000000ull) { u8 *r_23 = away(r_m1, 24ull); u64 r_25 = (r_vt + 0xffffffffffffffffull); r_m1 = r_23; r_vt = r_25; goto l_loop_mq; }
+    if (ld64(away(r_m1, 8ull)) < 0x800000000ull) { u8 *r_21 = away(r_m1, 24ull); u64 r_23 = (r_vt + 0xffffffffffffffffull); r_m1 = r_21; r_vt = r_23; goto l_loop_mq; }
     r_74 = 0ull;
     r_y0 = 27u;
     r_0o_1 = 0xffffffffffffffffull;
@@ -12442,10 +12442,10 @@ l_std_my_5:;
 l_arm_on_3:;
     u64 r_t9_19 = (r_j3_5 - r_fe_3);
     if (r_t9_19 == 0ull) { r_bk_5 = 0u; goto l_capnp_qu; }
-    u8 *r_26 = away(r_7u_5, r_fe_3);
-    u64 r_27 = r_t9_19;
-    r_7u_5 = r_26;
-    r_j3_5 = r_27;
+    u8 *r_25 = away(r_7u_5, r_fe_3);
+    u64 r_26 = r_t9_19;
+    r_7u_5 = r_25;
+    r_j3_5 = r_26;
     goto l_join_c8_5;
 l_arm_un_3:;
     st8(r_89_1, 1u);
@@ -12467,7 +12467,7 @@ l_arm_1h:;
     st32((slot_3 + 8), r_y0);
     st32((slot_3 + 12), 0u);
     st64((slot_3 + 16), r_0o_1);
-    r_g6_2 = capnp_layout_tool_engine_refuse_05c50f83f81b9c23(slot_17, slot_3);
+    r_0d_2 = capnp_layout_tool_engine_answer_refusal_05c50f83f81b9c23(slot_17, slot_3);
     if (r_jc == 0ull) goto l_std_d0;
     r_iu_13 = 0ull;
 l_join_9n_13:;
@@ -12478,8 +12478,8 @@ l_core_jc_12:;
     u64 r_36_24 = (r_iu_13 + 1ull);
     if (!(r_36_24 == r_jc)) { r_iu_13 = r_36_24; goto l_join_9n_13; }
 l_std_d0:;
-    if (r_6q_1 == 0ull) { r_jh_3 = r_g6_2; goto l_capnp_td_2; }
-    r_s6_1 = r_g6_2;
+    if (r_6q_1 == 0ull) { r_jh_3 = r_0d_2; goto l_capnp_td_2; }
+    r_s6_1 = r_0d_2;
 l_return_f3:;
     rattle_dealloc(r_69);
     r_jh_3 = r_s6_1;
@@ -12494,7 +12494,7 @@ l_arm_xs:;
     st64((slot_3 + 8), r_jc);
     st64((slot_3 + 16), r_6q_1);
     if (r_jc > 1ull) { r_iu_14 = 0ull; goto l_join_9n_14; }
-    goto l_join_ay;
+    goto l_join_e4;
 l_join_9n_14:;
     r_a7_47 = (r_69 + (i64)((r_iu_14 * 24ull)));
     if (ld64((r_a7_47 + 16)) == 0ull) goto l_core_jc_13;
@@ -12505,8 +12505,8 @@ l_core_jc_13:;
     if (r_6q_1 == 0ull) { r_z5_1 = 2u; goto l_capnp_f7_1; }
     r_s6_2 = 2u;
     goto l_return_f3_1;
-l_join_ay:;
-    capnp_layout_tool_framed_frame_in(slot_6, slot_3);
+l_join_e4:;
+    capnp_layout_tool_framed_read_frame(slot_6, slot_3);
     r_x5_47 = (slot_6 + 8);
     if (!(ld8(slot_6) == 0u)) goto l_arm_se;
     memcpy(slot_4, r_x5_47, 176);
@@ -12586,10 +12586,10 @@ l_std_my_6:;
 l_arm_8s_2:;
     u64 r_t9_23 = (r_j3_6 - r_4j_2);
     if (r_t9_23 == 0ull) goto l_arm_0x;
-    u8 *r_28 = away(r_7u_6, r_4j_2);
-    u64 r_30 = r_t9_23;
-    r_7u_6 = r_28;
-    r_j3_6 = r_30;
+    u8 *r_27 = away(r_7u_6, r_4j_2);
+    u64 r_28 = r_t9_23;
+    r_7u_6 = r_27;
+    r_j3_6 = r_28;
     goto l_join_c8_6;
 l_arm_un_4:;
     st8(r_89_1, 1u);
@@ -12613,13 +12613,13 @@ l_arm_se:;
     st32((slot_5 + 8), (u32)ld8((slot_6 + 16)));
     st32((slot_5 + 12), ld32((slot_6 + 20)));
     st64((slot_5 + 16), ld64((slot_6 + 24)));
-    r_g6_3 = capnp_layout_tool_engine_refuse_05c50f83f81b9c23(slot_17, slot_5);
+    r_0d_3 = capnp_layout_tool_engine_answer_refusal_05c50f83f81b9c23(slot_17, slot_5);
     if (r_jc == 0ull) goto l_std_d0_2;
     if (ld64((r_69 + 16)) == 0ull) goto l_std_d0_2;
     rattle_dealloc(ldp(r_69));
 l_std_d0_2:;
-    if (r_6q_1 == 0ull) { r_z5_1 = r_g6_3; goto l_capnp_f7_1; }
-    r_s6_2 = r_g6_3;
+    if (r_6q_1 == 0ull) { r_z5_1 = r_0d_3; goto l_capnp_f7_1; }
+    r_s6_2 = r_0d_3;
 l_return_f3_1:;
     rattle_dealloc(r_69);
     r_z5_1 = r_s6_2;
@@ -12660,7 +12660,7 @@ l_core_jc_14:;
 l_join_s9:;
     memset(slot_4, 0u, 192);
     memset(slot_5, 0u, 184);
-    capnp_layout_tool_framed_frame_in(slot_5, slot_6);
+    capnp_layout_tool_framed_read_frame(slot_5, slot_6);
     r_38_48 = ld64((slot_5 + 8));
     r_38_49 = ld64((slot_5 + 16));
     r_38_50 = ld64((slot_5 + 24));
@@ -12937,10 +12937,10 @@ l_std_my_7:;
 l_arm_on_4:;
     u64 r_t9_26 = (r_j3_7 - r_fe_4);
     if (r_t9_26 == 0ull) { r_2c_3 = 0u; goto l_capnp_2x_1; }
-    u8 *r_31 = away(r_7u_7, r_fe_4);
-    u64 r_32 = r_t9_26;
-    r_7u_7 = r_31;
-    r_j3_7 = r_32;
+    u8 *r_30 = away(r_7u_7, r_fe_4);
+    u64 r_31 = r_t9_26;
+    r_7u_7 = r_30;
+    r_j3_7 = r_31;
     goto l_join_c8_7;
 l_else_qn_1:;
     r_x5_61 = (slot_2 + 8);
@@ -12971,10 +12971,10 @@ l_std_my_8:;
 l_arm_on_5:;
     u64 r_t9_29 = (r_j3_8 - r_fe_5);
     if (r_t9_29 == 0ull) { r_2c_3 = 0u; goto l_capnp_2x_1; }
-    u8 *r_33 = away(r_7u_8, r_fe_5);
-    u64 r_37 = r_t9_29;
-    r_7u_8 = r_33;
-    r_j3_8 = r_37;
+    u8 *r_32 = away(r_7u_8, r_fe_5);
+    u64 r_33 = r_t9_29;
+    r_7u_8 = r_32;
+    r_j3_8 = r_33;
     goto l_join_c8_8;
 l_join_un_1:;
     st8(r_89_1, 1u);
@@ -12992,13 +12992,13 @@ l_arm_e3:;
     st32((slot_7 + 8), (r_dv & 255u));
     st32((slot_7 + 12), r_h7);
     st64((slot_7 + 16), r_lu);
-    r_g6_4 = capnp_layout_tool_engine_refuse_05c50f83f81b9c23(slot_17, slot_7);
+    r_0d_4 = capnp_layout_tool_engine_answer_refusal_05c50f83f81b9c23(slot_17, slot_7);
     if (r_jc == 0ull) goto l_std_2k_2;
     if (ld64((r_69 + 16)) == 0ull) goto l_std_2k_2;
     rattle_dealloc(ldp(r_69));
 l_std_2k_2:;
-    if (r_6q_1 == 0ull) { r_sw_1 = r_g6_4; goto l_capnp_54; }
-    r_s6_3 = r_g6_4;
+    if (r_6q_1 == 0ull) { r_sw_1 = r_0d_4; goto l_capnp_54; }
+    r_s6_3 = r_0d_4;
 l_capnp_f3_1:;
     rattle_dealloc(r_69);
     r_sw_1 = r_s6_3;
@@ -13012,8 +13012,8 @@ l_default_e1:;
 l_arm_q0:;
     if (r_4g == 0u) { r_2g = 2u; goto l_capnp_8g; }
     memset(slot_15, 0u, 24);
-    u8 r_g6_5 = capnp_layout_tool_engine_refuse_05c50f83f81b9c23(slot_17, slot_15);
-    r_2g = r_g6_5;
+    u8 r_0d_5 = capnp_layout_tool_engine_answer_refusal_05c50f83f81b9c23(slot_17, slot_15);
+    r_2g = r_0d_5;
 l_capnp_8g:;
     r_sw_2 = r_2g;
     goto l_capnp_kf;
@@ -13037,14 +13037,14 @@ l_std_ws:;
     if (r_38_57 == r_38_56) goto l_arm_zv;
     c_lseek(0u, (r_38_56 - r_38_57), 1u);
     goto l_arm_zv;
-l_arm_p7:;
-    u8 r_15_1 = layout_tool_complain(((u8 *)g_static_1), 13ull);
-    r_bk_7 = r_15_1;
+l_arm_7p:;
+    u8 r_1d_1 = layout_tool_print_error(((u8 *)g_static_1), 13ull);
+    r_bk_7 = r_1d_1;
     goto l_join_qu_5;
-l_arm_gu:;
-    u8 r_15_2 = layout_tool_complain(((u8 *)g_static_1), 13ull);
-    if (r_0o == 0ull) { r_jx = r_15_2; goto l_std_we_1; }
-    r_bk_7 = r_15_2;
+l_arm_hz:;
+    u8 r_1d_2 = layout_tool_print_error(((u8 *)g_static_1), 13ull);
+    if (r_0o == 0ull) { r_jx = r_1d_2; goto l_std_we_1; }
+    r_bk_7 = r_1d_2;
 l_join_qu_5:;
     r_iu_16 = 0ull;
 l_join_9n_16:;
@@ -13065,7 +13065,7 @@ l_arm_zv:;
     switch (spec_8q) {
     case 0u: { r_2c_4 = spec_8q; goto l_join_2x_1; }
     case 1u: { r_2c_4 = spec_8q; goto l_join_2x_1; }
-    case 2u: goto l_arm_lo;
+    case 2u: goto l_arm_3t;
     case 3u: goto l_arm_qu_1;
     default: goto l_noarm_e1;
     }
@@ -13083,9 +13083,9 @@ l_std_we_2:;
     if (r_38_14 == 0ull) goto l_arm_ef;
     rattle_dealloc(r_xw_9);
     goto l_arm_ef;
-l_arm_lo:;
-    u8 r_80 = layout_tool_complain(((u8 *)g_static_3), 9ull);
-    r_2c_4 = r_80;
+l_arm_3t:;
+    u8 r_0b = layout_tool_print_error(((u8 *)g_static_3), 9ull);
+    r_2c_4 = r_0b;
     goto l_join_2x_1;
 l_arm_qu_1:;
     r_2c_4 = 2u;

@@ -445,8 +445,8 @@ static const u8 g_static_115[28] = "TextBlobMissingNULTerminator";
 static const u8 g_static_116[24] = "TriedToReadFromNullArena";
 static const u8 g_static_117[20] = "UnexpectedFarPointer";
 static const u8 g_static_118[18] = "UnknownPointerType";
-static const u64 switch_table_capnp_streams_streams_arguments_ParsedArg_eef0b6c5[21] = { 6u, 2u, 9u, 2u, 2u, 8u, 6u, 6u, 11u, 5u, 7u, 9u, 7u, 7u, 2u, 4u, 6u, 8u, 7u, 7u, 7u };
-static const struct place switch_table_capnp_streams_streams_arguments_ParsedArg_36011ec0[21] = { PLACE(g_static_7), PLACE(g_static_8), PLACE(g_static_9), PLACE(g_static_10), PLACE(g_static_11), PLACE(g_static_12), PLACE(g_static_13), PLACE(g_static_14), PLACE(g_static_15), PLACE(g_static_16), PLACE(g_static_17), PLACE(g_static_18), PLACE(g_static_19), PLACE(g_static_20), PLACE(g_static_21), PLACE(g_static_22), PLACE(g_static_23), PLACE(g_static_24), PLACE(g_static_25), PLACE(g_static_26), PLACE(g_static_27) };
+static const u64 switch_table_capnp_streams_streams_arguments_ParsedArg_b1d3f072[21] = { 6u, 2u, 9u, 2u, 2u, 8u, 6u, 6u, 11u, 5u, 7u, 9u, 7u, 7u, 2u, 4u, 6u, 8u, 7u, 7u, 7u };
+static const struct place switch_table_capnp_streams_streams_arguments_ParsedArg_b8a47850[21] = { PLACE(g_static_7), PLACE(g_static_8), PLACE(g_static_9), PLACE(g_static_10), PLACE(g_static_11), PLACE(g_static_12), PLACE(g_static_13), PLACE(g_static_14), PLACE(g_static_15), PLACE(g_static_16), PLACE(g_static_17), PLACE(g_static_18), PLACE(g_static_19), PLACE(g_static_20), PLACE(g_static_21), PLACE(g_static_22), PLACE(g_static_23), PLACE(g_static_24), PLACE(g_static_25), PLACE(g_static_26), PLACE(g_static_27) };
 static const u64 switch_table_capnp_objects_pointers_canonical_test_lis_086bba06[6] = { 0u, 1u, 8u, 16u, 32u, 64u };
 static const u64 switch_table_capnp_objects_pointers_sizes_add_object_5_3d258a4b[8] = { 0u, 1u, 8u, 16u, 32u, 64u, 0u, 0u };
 static const u64 switch_table_capnp_copies_copy_copy_object_f743e1513b93edc7[7] = { 0u, 1u, 8u, 16u, 32u, 64u, 0u };
@@ -469,13 +469,13 @@ static NEVER u64 core_slice_words_skip_far_d9bf6fcacf29a880(u8 *a_1, u64 a_2, u6
 static void core_iter_pattern_CharPattern_first_in(u8 *a_1, u8 *a_2, u8 *a_3, u64 a_4);
 static NEVER COLD u8 std_alloc_vec_Vec_grow_amortized_9b6ded5b4b55f6ec(u8 *a_1);
 static NEVER COLD u8 std_alloc_vec_Vec_grow_amortized_07b8a0e284928e0f(u8 *a_1);
-static void capnp_streams_streams_arguments_ParsedArguments_with_argument(u8 *a_1, u8 *a_2, u8 *a_3, u64 a_4);
-static void capnp_streams_streams_arguments_ParsedArguments_with_value_or(u8 *a_1, u8 *a_2, u8 a_3, u8 *a_4, u64 a_5, u8 *a_6);
-static void capnp_streams_streams_path_Path_with_text(u8 *a_1, u8 *a_2, u8 *a_3, u64 a_4);
-static struct s_i8_i32 capnp_streams_streams_arguments_nesting(u8 *a_1, u64 a_2);
-static void capnp_streams_streams_arguments_budget(u8 *a_1, u8 *a_2, u64 a_3);
+static void capnp_streams_streams_arguments_ParsedArguments_parse_argument(u8 *a_1, u8 *a_2, u8 *a_3, u64 a_4);
+static void capnp_streams_streams_arguments_ParsedArguments_parse_value_or(u8 *a_1, u8 *a_2, u8 a_3, u8 *a_4, u64 a_5, u8 *a_6);
+static void capnp_streams_streams_path_Path_with_parsed_index(u8 *a_1, u8 *a_2, u8 *a_3, u64 a_4);
+static struct s_i8_i32 capnp_streams_streams_arguments_parse_levels(u8 *a_1, u64 a_2);
+static void capnp_streams_streams_arguments_parse_number_or_none(u8 *a_1, u8 *a_2, u64 a_3);
 static u8 core_cmp_text_RefStrPartialEq_eq(u8 *a_1, u8 *a_2);
-static void capnp_streams_streams_arguments_ParsedArguments_if_allowed(u8 *a_1, u8 *a_2);
+static void capnp_streams_streams_arguments_ParsedArguments_check__18972e76(u8 *a_1, u8 *a_2);
 static NEVER COLD u8 std_alloc_vec_Vec_grow_amortized_4bfbfd015d35923a(u8 *a_1);
 static struct s_i8_i64 test_support_lines_limit(u8 *a_1, u64 a_2);
 static void capnp_framing_framing_reading_read_into_with_c64c2ae8153823eb(u8 *a_1, u8 *a_2, u8 *a_3, u64 a_4, u8 *a_5);
@@ -483,86 +483,86 @@ static struct s_i8_i64 capnp_packing_packing_unpacking_input_UnpackingInput_u_4e
 static void capnp_packing_packing_place_within_word(u8 *a_1, u8 a_2, u8 a_3);
 static NEVER COLD u8 std_alloc_vec_Vec_grow_amortized_5e63141f0e39c5e0(u8 *a_1);
 static NEVER COLD u8 std_alloc_vec_Vec_grow_amortized_ffd95af9aab10bcd(u8 *a_1, u64 a_2);
-static NEVER COLD void capnp_framing_framing_reading_make_some_room_3691078bae5dd839(u8 *a_1, u8 *a_2, u8 *a_3);
+static NEVER COLD void capnp_framing_framing_reading_grow_3691078bae5dd839(u8 *a_1, u8 *a_2, u8 *a_3);
 static NEVER COLD u8 std_alloc_vec_Vec_grow_amortized_5400d4f5161e8cc6(u8 *a_1);
 static void capnp_streams_streams_answers_answer_67476a7da5902587(u8 *a_1, u8 *a_2, u8 *a_3, u8 *a_4, u8 *a_5);
 static void capnp_messages_messages_message_fault_canonical_fault__490a0445(u8 *a_1, u8 *a_2, u8 *a_3);
 static NEVER void capnp_objects_source_follow_far_5ccc1be374b2e488(u8 *a_1, u8 *a_2, u64 a_3, u8 *a_4);
 static struct s_i8_i32 capnp_objects_pointers_canonical_test_children_5ccc1be374b2e488(u8 *a_1, u32 a_2, u32 a_3, u32 a_4, u32 a_5, u8 *a_6);
 static NEVER struct s_i8_i32 capnp_objects_pointers_canonical_test_list_5ccc1be374b2e488(u8 *a_1, u32 a_2, u64 a_3, u32 a_4, u32 a_5, u8 *a_6);
-static struct s_i8_i32 capnp_objects_pointers_canonical_test_rows_5ccc1be374b2e488(u8 *a_1, u32 a_2, u16 a_3, u16 a_4, u32 a_5, u32 a_6, u8 *a_7);
+static struct s_i8_i32 capnp_objects_pointers_canonical_test_elements_5ccc1be374b2e488(u8 *a_1, u32 a_2, u16 a_3, u16 a_4, u32 a_5, u32 a_6, u8 *a_7);
 static u8 capnp_streams_streams_writing_write_canonical_words_9b_2a2cdd96(u8 *a_1, u8 *a_2, u64 a_3, u8 a_4, u8 a_5);
 static u8 capnp_streams_streams_writing_write_hex_line_9bce7ff2fa667035(u8 *a_1, u8 *a_2, u64 a_3);
 static u8 capnp_framing_devices_writing_write_all_9bce7ff2fa667035(u8 *a_1, u8 *a_2, u64 a_3);
-static void capnp_streams_streams_parts_copy_asked_ad42fe8b34616de5(u8 *a_1, u8 *a_2, u8 *a_3, u8 *a_4);
+static void capnp_streams_streams_parts_canonicalize_for_task_ad42_fb60ad1a(u8 *a_1, u8 *a_2, u8 *a_3, u8 *a_4);
 static void capnp_messages_messages_whole_canonicalize_ad42fe8b34616de5(u8 *a_1, u8 *a_2, u8 *a_3, u8 a_4, u64 a_5);
-static void capnp_messages_messages_canonical_copy_copy_reached_wi_8d1bfcda(u8 *a_1, u8 *a_2, u8 *a_3, u8 *a_4);
+static void capnp_messages_messages_canonical_copy_canonicalize_re_3491092d(u8 *a_1, u8 *a_2, u8 *a_3, u8 *a_4);
 static NEVER COLD u8 std_alloc_vec_Vec_grow_amortized_044c3d3b74b9c55e(u8 *a_1, u64 a_2);
 static NEVER COLD void capnp_messages_messages_copy_memory_CopySegment_zero_up_to(u8 *a_1, u64 a_2);
 static NEVER COLD struct s_i8_i32 capnp_arena_arena_rows_allocate_in_4426f83c3c99ca57(u8 *a_1, u64 a_2, u32 a_3);
-static NEVER COLD u32 capnp_arena_arena_rows_take_in_4426f83c3c99ca57(u8 *a_1, u64 a_2, u32 a_3);
+static NEVER COLD u32 capnp_arena_arena_rows_allocate_fitting_in_4426f83c3c99ca57(u8 *a_1, u64 a_2, u32 a_3);
 static NEVER void capnp_copies_copy_copy_object_f91b20a4a575fbcb(u8 *a_1, u8 *a_2, u32 a_3, u32 a_4, u8 *a_5, u8 *a_6, u8 a_7);
 static NEVER COLD u8 *capnp_arena_arena_rows_Rows_other_mut_4426f83c3c99ca57(u8 *a_1, u32 a_2);
 static struct s_i8_i32 capnp_arena_arena_builder_arena_impl_BuilderArenaImplB_87b91857(u8 *a_1, u32 a_2, u32 a_3);
 static void capnp_arena_arena_builder_arena_impl_BuilderArenaImplB_7b1ceaa0(u8 *a_1, u8 *a_2, u32 a_3);
-static NEVER struct s_i8_i32 capnp_arena_arena_bounds_first_by_bounds_4426f83c3c99ca57(u8 *a_1, u64 a_2, u32 a_3);
+static NEVER struct s_i8_i32 capnp_arena_arena_bounds_first_fit_by_bounds_4426f83c3c99ca57(u8 *a_1, u64 a_2, u32 a_3);
 static void capnp_arena_traits_arena_writing_copy_words_4072c0e2a627e5d6(u8 *a_1, u32 a_2, u32 a_3, u8 *a_4, u64 a_5);
 static struct s_i16_i16 capnp_copies_copy_lists_kept_widths_5ccc1be374b2e488(u8 *a_1, u16 a_2, u16 a_3, u32 a_4, u8 a_5);
 static u64 capnp_words_words_used_words_in(u8 *a_1, u64 a_2, u64 a_3);
-static NEVER u64 capnp_words_lanes_end_of_blocks(u8 *a_1, u64 a_2);
+static NEVER u64 capnp_words_lanes_used_words_bound(u8 *a_1, u64 a_2);
 static void capnp_copies_copy_elements_put_words_4072c0e2a627e5d6(u8 *a_1, u32 a_2, u32 a_3, u8 *a_4, u64 a_5);
 static NEVER COLD u64 capnp_arena_arena_rows_word_in_4426f83c3c99ca57(u8 *a_1, u64 a_2, u32 a_3);
 static NEVER COLD void capnp_making_landing_follow_4072c0e2a627e5d6(u8 *a_1, u8 *a_2, u32 a_3, u32 a_4);
 static NEVER COLD void capnp_making_landing_follow_far_4072c0e2a627e5d6(u8 *a_1, u8 *a_2, u64 a_3);
-static NEVER COLD void capnp_making_zeroing_zero_landed_4072c0e2a627e5d6(u8 *a_1, u8 *a_2);
+static NEVER COLD void capnp_making_zeroing_zero_target_4072c0e2a627e5d6(u8 *a_1, u8 *a_2);
 static void capnp_making_zeroing_zero_pointers_4072c0e2a627e5d6(u8 *a_1, u32 a_2, u32 a_3, u32 a_4);
-static void capnp_making_zeroing_zero_part_4072c0e2a627e5d6(u8 *a_1, u32 a_2, u32 a_3, u64 a_4);
+static void capnp_making_zeroing_zero_if_inside_4072c0e2a627e5d6(u8 *a_1, u32 a_2, u32 a_3, u64 a_4);
 static NEVER COLD void capnp_making_zeroing_zero_far_pads_4072c0e2a627e5d6(u8 *a_1, u64 a_2);
-static NEVER void capnp_copies_copy_children_copy_row_f91b20a4a575fbcb(u8 *a_1, u8 *a_2, u32 a_3, u32 a_4, u8 *a_5, u32 a_6, u8 *a_7, u8 a_8);
+static NEVER void capnp_copies_copy_children_copy_children_out_of_line_f_b6070b37(u8 *a_1, u8 *a_2, u32 a_3, u32 a_4, u8 *a_5, u32 a_6, u8 *a_7, u8 a_8);
 static void capnp_messages_messages_path_read_part_9d3526b9b0726c59(u8 *a_1, u8 *a_2, u8 *a_3, u64 a_4, u8 *a_5);
 static struct s_p_i64 capnp_messages_messages_writing_canonical_bytes_369107_aea7980e(u8 *a_1);
 static NEVER COLD u8 std_alloc_vec_Vec_grow_amortized_0e5e43add44bc681(u8 *a_1);
 static NEVER u8 core_cmp_slices_groups_equal_i8_31_core_cmp_numbers_U8PartialEq(u8 *a_1, u64 a_2, u8 *a_3);
-static NEVER void capnp_arena_arena_builder_arena_impl_give_back_others__e4469f8f(u8 *a_1, u8 *a_2);
+static NEVER void capnp_arena_arena_builder_arena_impl_deallocate_others_74e7ad04(u8 *a_1, u8 *a_2);
 static NEVER void core_slice_edits_mirror_e0f4f6844e27f7b4(u8 *a_1, u8 *a_2, u64 a_3);
 static u8 capnp_messages_text_write_number_9bce7ff2fa667035(u8 *a_1, u64 a_2);
-static void capnp_streams_streams_parts_size_asked_a3cb57cd4b1504b3(u8 *a_1, u8 *a_2, u8 *a_3);
+static void capnp_streams_streams_parts_size_for_task_a3cb57cd4b1504b3(u8 *a_1, u8 *a_2, u8 *a_3);
 static NEVER u8 capnp_objects_pointers_sizes_add_object_5ccc1be374b2e488(u8 *a_1, u32 a_2, u32 a_3, u8 *a_4);
 static NEVER void capnp_objects_source_Source_measure_object_5ccc1be374b2e488(u8 *a_1, u8 *a_2, u8 *a_3, u32 a_4, u8 *a_5);
 static NEVER u8 capnp_objects_pointers_sizes_add_pointers_5ccc1be374b2e488(u8 *a_1, u32 a_2, u32 a_3, u32 a_4, u8 *a_5);
-static void capnp_streams_streams_parts_digest_asked_37ce5737081a64d7(u8 *a_1, u8 *a_2, u8 *a_3, u8 *a_4);
-static void capnp_messages_messages_canonical_copy_copy_in_room_8e_45be7280(u8 *a_1, u8 *a_2, u8 *a_3, u8 a_4, u64 a_5);
+static void capnp_streams_streams_parts_digest_for_task_37ce5737081a64d7(u8 *a_1, u8 *a_2, u8 *a_3, u8 *a_4);
+static void capnp_messages_messages_canonical_copy_canonicalize_re_6a62b637(u8 *a_1, u8 *a_2, u8 *a_3, u8 a_4, u64 a_5);
 static NEVER COLD u8 std_alloc_vec_Vec_grow_amortized_aae383c1cebb016e(u8 *a_1);
 static struct s_i8_i32 capnp_arena_arena_builder_arena_impl_BuilderArenaImplB_8d7f3a67(u8 *a_1, u32 a_2, u32 a_3);
 static NEVER COLD struct s_i8_i32 capnp_arena_arena_rows_allocate_in_96bc33dd2dacd45a(u8 *a_1, u64 a_2, u32 a_3);
-static NEVER COLD u32 capnp_arena_arena_rows_take_in_96bc33dd2dacd45a(u8 *a_1, u64 a_2, u32 a_3);
+static NEVER COLD u32 capnp_arena_arena_rows_allocate_fitting_in_96bc33dd2dacd45a(u8 *a_1, u64 a_2, u32 a_3);
 static NEVER void capnp_copies_copy_copy_object_f743e1513b93edc7(u8 *a_1, u8 *a_2, u32 a_3, u32 a_4, u8 *a_5, u8 *a_6, u8 a_7);
 static NEVER COLD u8 *capnp_arena_arena_rows_Rows_other_mut_96bc33dd2dacd45a(u8 *a_1, u32 a_2);
 static void capnp_arena_arena_builder_arena_impl_BuilderArenaImplB_a1412319(u8 *a_1, u8 *a_2, u32 a_3);
-static NEVER struct s_i8_i32 capnp_arena_arena_bounds_first_by_bounds_96bc33dd2dacd45a(u8 *a_1, u64 a_2, u32 a_3);
+static NEVER struct s_i8_i32 capnp_arena_arena_bounds_first_fit_by_bounds_96bc33dd2dacd45a(u8 *a_1, u64 a_2, u32 a_3);
 static void capnp_arena_traits_arena_writing_copy_words_22521b95e02b6c38(u8 *a_1, u32 a_2, u32 a_3, u8 *a_4, u64 a_5);
 static void capnp_copies_copy_elements_put_words_22521b95e02b6c38(u8 *a_1, u32 a_2, u32 a_3, u8 *a_4, u64 a_5);
 static NEVER COLD u64 capnp_arena_arena_rows_word_in_96bc33dd2dacd45a(u8 *a_1, u64 a_2, u32 a_3);
 static NEVER COLD void capnp_making_landing_follow_22521b95e02b6c38(u8 *a_1, u8 *a_2, u32 a_3, u32 a_4);
 static NEVER COLD void capnp_making_landing_follow_far_22521b95e02b6c38(u8 *a_1, u8 *a_2, u64 a_3);
-static NEVER COLD void capnp_making_zeroing_zero_landed_22521b95e02b6c38(u8 *a_1, u8 *a_2);
+static NEVER COLD void capnp_making_zeroing_zero_target_22521b95e02b6c38(u8 *a_1, u8 *a_2);
 static void capnp_making_zeroing_zero_pointers_22521b95e02b6c38(u8 *a_1, u32 a_2, u32 a_3, u32 a_4);
-static void capnp_making_zeroing_zero_part_22521b95e02b6c38(u8 *a_1, u32 a_2, u32 a_3, u64 a_4);
+static void capnp_making_zeroing_zero_if_inside_22521b95e02b6c38(u8 *a_1, u32 a_2, u32 a_3, u64 a_4);
 static NEVER COLD void capnp_making_zeroing_zero_far_pads_22521b95e02b6c38(u8 *a_1, u64 a_2);
-static NEVER void capnp_copies_copy_children_copy_row_f743e1513b93edc7(u8 *a_1, u8 *a_2, u32 a_3, u32 a_4, u8 *a_5, u32 a_6, u8 *a_7, u8 a_8);
+static NEVER void capnp_copies_copy_children_copy_children_out_of_line_f_f51e9aad(u8 *a_1, u8 *a_2, u32 a_3, u32 a_4, u8 *a_5, u32 a_6, u8 *a_7, u8 a_8);
 static struct s_p_i64 capnp_messages_messages_writing_canonical_bytes_bd7e3d_4a746b72(u8 *a_1);
 static void sha2_Digest_digest_8314f5c2d9589b12(u8 *a_1, u8 *a_2, u64 a_3);
 static void sha2_block256_Core256_update(u8 *a_1, u8 *a_2, u64 a_3);
 static void sha2_block256_compress(u8 *a_1, u8 *a_2);
 static NEVER void capnp_messages_messages_whole_digest_digest_of_copy_ad_90329eb6(u8 *a_1, u8 *a_2, u8 *a_3, u8 a_4, u64 a_5);
 static void capnp_arena_arena_builder_arena_impl_BuilderArenaImpl__1592d6b0(u8 *a_1);
-static NEVER void capnp_arena_arena_builder_arena_impl_give_back_others__f61dbe69(u8 *a_1);
+static NEVER void capnp_arena_arena_builder_arena_impl_deallocate_others_a537bde4(u8 *a_1);
 static NEVER void core_slice_edits_mirror_240280a245146760(u8 *a_1, u8 *a_2, u64 a_3);
 static NEVER void capnp_messages_messages_part_digest_digest_of_part_cop_bd8dbb16(u8 *a_1, u8 *a_2, u8 *a_3, u8 *a_4, u64 a_5, u8 a_6, u64 a_7);
 static void capnp_streams_streams_parts_validate_a3cb57cd4b1504b3(u8 *a_1, u8 *a_2, u8 *a_3);
 static NEVER u8 capnp_objects_pointers_validate_validate_object_5ccc1b_507f75cf(u8 *a_1, u32 a_2, u32 a_3, u8 *a_4);
 static NEVER u8 capnp_objects_pointers_validate_validate_pointers_5ccc_6252bdf3(u8 *a_1, u32 a_2, u32 a_3, u32 a_4, u8 *a_5);
-static void capnp_streams_streams_answers_located_a3cb57cd4b1504b3(u8 *a_1, u8 *a_2, u8 *a_3, u8 *a_4);
+static void capnp_streams_streams_answers_locate_refusal_a3cb57cd4b1504b3(u8 *a_1, u8 *a_2, u8 *a_3, u8 *a_4);
 static void capnp_refusals_refusals_search_search_object_5ccc1be374b2e488(u8 *a_1, u8 a_2, u8 a_3, u8 *a_4, u32 a_5, u32 a_6, u8 *a_7);
 static void capnp_refusals_refusals_search_search_elements_5ccc1be374b2e488(u8 *a_1, u8 a_2, u8 a_3, u8 *a_4, u32 a_5, u32 a_6, u32 a_7, u8 *a_8);
 static NEVER void capnp_refusals_refusals_search_search_pointers_5ccc1be374b2e488(u8 *a_1, u8 a_2, u8 a_3, u8 *a_4, u32 a_5, u32 a_6, u32 a_7, u8 *a_8);
@@ -571,7 +571,7 @@ static void capnp_streams_streams_answers_answer_daa93de48be9c1fe(u8 *a_1, u8 *a
 static u8 capnp_streams_streams_writing_write_canonical_words_8f_05990e18(u8 *a_1, u8 *a_2, u64 a_3, u8 a_4, u8 a_5);
 static u8 capnp_framing_devices_writing_write_all_8f96f6ec7b627d06(u8 *a_1, u8 *a_2, u64 a_3);
 static u8 capnp_messages_text_write_number_8f96f6ec7b627d06(u8 *a_1, u64 a_2);
-static u8 capnp_packing_packing_packing_output_PackingOutput_flu_eecb851b(u8 *a_1);
+static u8 capnp_packing_packing_packing_output_PackingOutput_wri_d9211852(u8 *a_1);
 static void stream_runs_run_told(u8 *a_1, u8 *a_2, u8 *a_3, u64 a_4);
 static u8 core_fmt_formatter_Formatter_write_piece_4f578d6f74133897(u8 *a_1, u8 *a_2);
 static NEVER COLD u8 std_alloc_vec_Vec_grow_amortized_c5f2a4b38a10dd8f(u8 *a_1, u64 a_2);
@@ -1770,9 +1770,9 @@ static void test_support_lines_respond_c2e21d39fa0b5a16(u8 *a_1, u8 *a_2)
     u64 r_in_1;
     u64 r_ea_1;
     u64 spec_0q_3;
-    u64 r_80;
-    u8 r_nt;
-    u64 r_1l;
+    u64 r_no_5;
+    u8 r_l2;
+    u64 r_mh;
     u8 r_fq_7;
     u64 r_52_19;
     u64 r_fd_3;
@@ -1798,7 +1798,7 @@ static void test_support_lines_respond_c2e21d39fa0b5a16(u8 *a_1, u8 *a_2)
     u8 *r_xw_62;
     u64 r_uy_2;
     u64 r_7z_2;
-    u64 r_zw_2;
+    u64 r_zw_1;
     u64 r_vc_1;
     u32 r_0d_1;
     u32 r_eh_3;
@@ -3097,7 +3097,7 @@ l_arm_uw:;
     memcpy(r_a8_2, slot_4, 136);
     mv48(r_6x, slot_5);
     r_ps = away(r_kl, 8ull);
-    capnp_streams_streams_arguments_ParsedArguments_with_argument(slot_6, slot_7, ldp(r_kl), ld64(r_ps));
+    capnp_streams_streams_arguments_ParsedArguments_parse_argument(slot_6, slot_7, ldp(r_kl), ld64(r_ps));
     if (!(ld8(slot_6) == 0u)) goto l_after_n1;
     switch (ld8(r_x5_14)) {
     case 0u: goto l_arm_lv;
@@ -3229,7 +3229,7 @@ l_arm_wz:;
 l_arm_3l:;
     r_3q_3 = away(r_ki, 24ull);
     r_zn_5 = (r_83 + 0xffffffffffffffffull);
-    capnp_streams_streams_arguments_ParsedArguments_with_argument(slot_3, slot_2, ldp(r_ki), ld64(away(r_ki, 8ull)));
+    capnp_streams_streams_arguments_ParsedArguments_parse_argument(slot_3, slot_2, ldp(r_ki), ld64(away(r_ki, 8ull)));
     if (!(ld8(slot_3) == 0u)) goto l_capnp_in;
     switch (ld8(r_x5_16)) {
     case 0u: goto l_arm_vc;
@@ -4127,7 +4127,7 @@ l_capnp_pm:;
     st64(r_zd_32, ld64(r_lk_16));
     st64(r_lk_17, (u64)ld8(r_89_15));
     mv32(r_89_16, r_a8_12);
-    capnp_streams_streams_answers_located_a3cb57cd4b1504b3(slot_5, slot_2, slot_6, slot_7);
+    capnp_streams_streams_answers_locate_refusal_a3cb57cd4b1504b3(slot_5, slot_2, slot_6, slot_7);
     u8 r_r5_26 = ld8(slot_5);
     u8 r_r5_27 = ld8(r_x5_36);
     u32 r_uq_3 = ld32(r_k0_4);
@@ -4389,7 +4389,7 @@ l_capnp_pm_1:;
     st64(r_zd_25, ld64(r_lk_10));
     st64(r_lk_11, (u64)ld8(r_89_10));
     mv32(r_89_11, r_a8_9);
-    capnp_streams_streams_answers_located_a3cb57cd4b1504b3(slot_5, slot_2, slot_6, slot_7);
+    capnp_streams_streams_answers_locate_refusal_a3cb57cd4b1504b3(slot_5, slot_2, slot_6, slot_7);
     u8 r_r5_36 = ld8(slot_5);
     u8 r_r5_37 = ld8(r_x5_29);
     u32 r_uq_4 = ld32(r_k0_2);
@@ -4597,8 +4597,8 @@ l_join_fe:;
     r_ep_3 = 0ull;
 l_join_zr:;
     if ((ld64(r_fk_1) - ld64(r_9t_1)) > 9ull) goto l_join_xs_2;
-    u8 r_zw_1 = capnp_packing_packing_packing_output_PackingOutput_flu_eecb851b(slot_19);
-    if (!(u8)(r_zw_1 & 1)) goto l_join_xs_2;
+    u8 r_gf = capnp_packing_packing_packing_output_PackingOutput_wri_d9211852(slot_19);
+    if (!(u8)(r_gf & 1)) goto l_join_xs_2;
     memset(slot_9, 0u, 32);
     r_b7 = 0ull;
     r_ak = 0ull;
@@ -4643,7 +4643,7 @@ l_capnp_pm_2:;
     st64(r_zd_50, ld64(r_lk_31));
     st64(r_lk_32, (u64)ld8(r_89_27));
     mv32(r_89_28, r_a8_19);
-    capnp_streams_streams_answers_located_a3cb57cd4b1504b3(slot_5, slot_2, slot_6, slot_7);
+    capnp_streams_streams_answers_locate_refusal_a3cb57cd4b1504b3(slot_5, slot_2, slot_6, slot_7);
     u8 r_r5_46 = ld8(slot_5);
     u8 r_r5_47 = ld8(r_x5_53);
     u32 r_uq_5 = ld32(r_k0_8);
@@ -4809,7 +4809,7 @@ l_capnp_vk_2:;
     mv32(slot_15, slot_13);
     r_uy_2 = r_d6_1;
     r_7z_2 = r_f1_1;
-    r_zw_2 = r_j6_2;
+    r_zw_1 = r_j6_2;
     r_vc_1 = r_f9_1;
     r_0d_1 = r_qs_1;
     r_eh_3 = r_co_1;
@@ -4869,12 +4869,12 @@ l_else_dr_1:;
     stp(r_x5_42, slot_1);
     st64(slot_8, 1ull);
     spec_0q_3 = (((r_l1_6 & 255ull) == 1ull) ? r_c0_1 : 0xffffffffffffffffull);
-    r_80 = 0ull;
-    r_nt = 1u;
-    r_1l = 0ull;
-l_join_9x:;
-    u8 r_zw_3 = capnp_packing_packing_packing_output_PackingOutput_flu_eecb851b(slot_19);
-    if (!(u8)(r_zw_3 & 1)) goto l_join_xs_3;
+    r_no_5 = 0ull;
+    r_l2 = 1u;
+    r_mh = 0ull;
+l_join_ac:;
+    u8 r_gf_1 = capnp_packing_packing_packing_output_PackingOutput_wri_d9211852(slot_19);
+    if (!(u8)(r_gf_1 & 1)) goto l_join_xs_3;
     memset(slot_9, 0u, 32);
     r_b7_1 = 0ull;
     r_ak_1 = 0ull;
@@ -4919,7 +4919,7 @@ l_capnp_pm_3:;
     st64(r_zd_43, ld64(r_lk_25));
     st64(r_lk_26, (u64)ld8(r_89_22));
     mv32(r_89_23, r_a8_16);
-    capnp_streams_streams_answers_located_a3cb57cd4b1504b3(slot_5, slot_2, slot_6, slot_7);
+    capnp_streams_streams_answers_locate_refusal_a3cb57cd4b1504b3(slot_5, slot_2, slot_6, slot_7);
     u8 r_r5_56 = ld8(slot_5);
     u8 r_r5_57 = ld8(r_x5_46);
     u32 r_uq_6 = ld32(r_k0_6);
@@ -4948,9 +4948,9 @@ l_std_i7_19:;
 l_std_vq_1:;
     memset(slot_10, 0u, 32);
     r_so_3 = 0ull;
-    r_dz_3 = r_80;
-    r_2e_9 = r_1l;
-    r_p0_3 = (u64)r_nt;
+    r_dz_3 = r_no_5;
+    r_2e_9 = r_mh;
+    r_p0_3 = (u64)r_l2;
     r_my_3 = 0u;
     r_s1_3 = 0u;
     r_8t_4 = 0ull;
@@ -4959,16 +4959,16 @@ l_std_vq_1:;
 l_arm_78_3:;
     u64 r_js_3 = (u64)(r_52_19 << 2ull);
     memset(slot_9, 0u, 32);
-    r_6p_3 = uadd_sat64((((r_js_3 + 4ull) + ((r_js_3 & 4ull) ^ 4ull)) + r_fd_3), r_1l);
-    u64 r_36_13 = (r_80 + 1ull);
+    r_6p_3 = uadd_sat64((((r_js_3 + 4ull) + ((r_js_3 & 4ull) ^ 4ull)) + r_fd_3), r_mh);
+    u64 r_36_13 = (r_no_5 + 1ull);
     if (r_36_13 == 0xffffffffffffffffull) goto l_after_v3_3;
     u64 r_22 = r_36_13;
-    u8 r_23 = (u8)((u8)r_nt & (u8)(u8)(r_fq_7 & 1));
+    u8 r_23 = (u8)((u8)r_l2 & (u8)(u8)(r_fq_7 & 1));
     u64 r_25 = r_6p_3;
-    r_80 = r_22;
-    r_nt = r_23;
-    r_1l = r_25;
-    goto l_join_9x;
+    r_no_5 = r_22;
+    r_l2 = r_23;
+    r_mh = r_25;
+    goto l_join_ac;
 l_arm_2g_1:;
     r_b7_1 = r_0t_2;
     r_ak_1 = r_pz_1;
@@ -4991,8 +4991,8 @@ l_std_i7_21:;
 l_std_zn_1:;
     mv32(slot_10, slot_9);
     r_so_3 = 1ull;
-    r_dz_3 = r_80;
-    r_2e_9 = r_1l;
+    r_dz_3 = r_no_5;
+    r_2e_9 = r_mh;
     r_p0_3 = r_9a_1;
     r_my_3 = r_uw_2;
     r_s1_3 = r_9q_1;
@@ -5030,7 +5030,7 @@ l_capnp_vk_3:;
     mv32(slot_15, slot_10);
     r_uy_2 = r_so_3;
     r_7z_2 = r_dz_3;
-    r_zw_2 = r_2e_9;
+    r_zw_1 = r_2e_9;
     r_vc_1 = r_p0_3;
     r_0d_1 = r_my_3;
     r_eh_3 = r_s1_3;
@@ -5039,18 +5039,18 @@ l_capnp_vk_3:;
 l_stream_3h_1:;
     st64(slot_20, r_uy_2);
     st64(r_x5_54, r_7z_2);
-    st64(r_zd_52, r_zw_2);
+    st64(r_zd_52, r_zw_1);
     st64(r_lk_36, r_vc_1);
     st32(r_89_30, r_0d_1);
     st32(r_gs_7, r_eh_3);
     st64(r_a8_20, r_qg_1);
     st64(r_c4_14, r_x2_2);
     mv32(r_6c_13, slot_15);
-    u8 r_lz_11 = capnp_packing_packing_packing_output_PackingOutput_flu_eecb851b(slot_19);
+    u8 r_r4 = capnp_packing_packing_packing_output_PackingOutput_wri_d9211852(slot_19);
     r_xw_63 = ldp(slot_19);
     r_38_143 = ld64(r_x5_55);
     r_38_144 = ld64(r_zd_53);
-    if (!(r_lz_11 == 0u)) goto l_else_42;
+    if (!(r_r4 == 0u)) goto l_else_42;
     stream_runs_run_told(slot_22, slot_20, r_xw_63, r_38_143);
     t_r5_1 = ld8(slot_22);
     if (r_38_144 == 0ull) goto l_std_5e;
@@ -5199,9 +5199,9 @@ l_arm_c8:;
     r_52_23 = ld64(r_zd_5);
     if (!(r_j3_3 < (r_52_22 - r_52_23))) goto l_std_7c;
     r_5q_22 = (r_52_23 + r_j3_3);
-    u8 *r_lz_12 = ldp(r_x5_5);
+    u8 *r_lz_11 = ldp(r_x5_5);
     memset(r_zd_5, 0u, 16);
-    r_2b_10 = away(r_lz_12, r_52_23);
+    r_2b_10 = away(r_lz_11, r_52_23);
     if (((u64)(uptr)r_2b_10 - (u64)(uptr)r_7u) < r_j3_3) { r_il_4 = 0ull; goto l_join_fh_4; }
     memmove_or_none(r_2b_10, r_7u, r_j3_3);
     goto l_std_lt;
@@ -6095,8 +6095,8 @@ l_arm_m7:;
     goto l_common_57;
 }
 
-/* capnp_streams::streams::arguments::ParsedArguments::with_argument */
-static void capnp_streams_streams_arguments_ParsedArguments_with_argument(u8 *a_1, u8 *a_2, u8 *a_3, u64 a_4)
+/* capnp_streams::streams::arguments::ParsedArguments::parse_argument */
+static void capnp_streams_streams_arguments_ParsedArguments_parse_argument(u8 *a_1, u8 *a_2, u8 *a_3, u64 a_4)
 {
     A(8) u8 slot_1[240];
     A(8) u8 slot_2[224];
@@ -6208,7 +6208,7 @@ static void capnp_streams_streams_arguments_ParsedArguments_with_argument(u8 *a_
     u8 r_dd = ld8((slot_19 + 217));
     st8(slot_21, 4u);
     st8((slot_21 + 1), r_dd);
-    capnp_streams_streams_arguments_ParsedArguments_with_value_or(slot_20, slot_19, r_dd, a_3, a_4, slot_21);
+    capnp_streams_streams_arguments_ParsedArguments_parse_value_or(slot_20, slot_19, r_dd, a_3, a_4, slot_21);
     r_92 = ld8((slot_20 + 8));
     t_9y = ld8((slot_20 + 3));
     t_cr = ld8((slot_20 + 2));
@@ -6253,8 +6253,8 @@ l_capnp_4s:;
 l_loop_7z:;
     if (r_2l == 0ull) goto l_arm_6d;
     r_dd_6 = ld8(r_5a);
-    u64 switch_xq = ld64((((u8 *)switch_table_capnp_streams_streams_arguments_ParsedArg_eef0b6c5) + (i64)(8 * (u64)r_dd_6)));
-    stp(slot_2, ldp((((u8 *)switch_table_capnp_streams_streams_arguments_ParsedArg_36011ec0) + (i64)(8 * (u64)r_dd_6))));
+    u64 switch_xq = ld64((((u8 *)switch_table_capnp_streams_streams_arguments_ParsedArg_b1d3f072) + (i64)(8 * (u64)r_dd_6)));
+    stp(slot_2, ldp((((u8 *)switch_table_capnp_streams_streams_arguments_ParsedArg_b8a47850) + (i64)(8 * (u64)r_dd_6))));
     st64(r_x5_3, switch_xq);
     u8 r_sg = core_cmp_text_RefStrPartialEq_eq(slot_2, slot_1);
     if (!r_sg) { u8 *r_1 = away(r_5a, 1ull); u64 r_2 = (r_2l + 0xffffffffffffffffull); r_5a = r_1; r_2l = r_2; goto l_loop_7z; }
@@ -6362,7 +6362,7 @@ l_arm_x3:;
     st8((slot_3 + 216), r_uz);
     st8((slot_3 + 217), r_dd_5);
     st8((slot_3 + 218), 0u);
-    capnp_streams_streams_arguments_ParsedArguments_if_allowed(slot_1, slot_3);
+    capnp_streams_streams_arguments_ParsedArguments_check__18972e76(slot_1, slot_3);
     goto l_capnp_ur;
 l_arm_x3_1:;
     st16(slot_4, r_xv);
@@ -6388,7 +6388,7 @@ l_arm_x3_1:;
     st8((slot_4 + 216), r_uz);
     st8((slot_4 + 217), r_dd_5);
     st8((slot_4 + 218), 0u);
-    capnp_streams_streams_arguments_ParsedArguments_if_allowed(slot_1, slot_4);
+    capnp_streams_streams_arguments_ParsedArguments_check__18972e76(slot_1, slot_4);
     goto l_capnp_ur;
 l_arm_x3_2:;
     st16(slot_5, r_xv);
@@ -6413,7 +6413,7 @@ l_arm_x3_2:;
     st64((slot_5 + 208), r_38_1);
     st8((slot_5 + 216), r_uz);
     st8((slot_5 + 217), r_dd_5);
-    capnp_streams_streams_arguments_ParsedArguments_if_allowed(slot_1, slot_5);
+    capnp_streams_streams_arguments_ParsedArguments_check__18972e76(slot_1, slot_5);
     goto l_capnp_ur;
 l_arm_x3_3:;
     st16(slot_6, r_xv);
@@ -6438,7 +6438,7 @@ l_arm_x3_3:;
     st64((slot_6 + 208), r_38_1);
     st8((slot_6 + 216), r_uz);
     st8((slot_6 + 217), r_dd_5);
-    capnp_streams_streams_arguments_ParsedArguments_if_allowed(slot_1, slot_6);
+    capnp_streams_streams_arguments_ParsedArguments_check__18972e76(slot_1, slot_6);
     goto l_capnp_ur;
 l_arm_x3_4:;
     st16(slot_7, r_xv);
@@ -6463,7 +6463,7 @@ l_arm_x3_4:;
     st64((slot_7 + 208), r_38_1);
     st8((slot_7 + 216), r_uz);
     st8((slot_7 + 217), r_dd_5);
-    capnp_streams_streams_arguments_ParsedArguments_if_allowed(slot_1, slot_7);
+    capnp_streams_streams_arguments_ParsedArguments_check__18972e76(slot_1, slot_7);
     goto l_capnp_ur;
 l_arm_x3_5:;
     st16(slot_8, r_xv);
@@ -6488,7 +6488,7 @@ l_arm_x3_5:;
     st64((slot_8 + 208), r_38_1);
     st8((slot_8 + 216), r_uz);
     st8((slot_8 + 217), r_dd_5);
-    capnp_streams_streams_arguments_ParsedArguments_if_allowed(slot_1, slot_8);
+    capnp_streams_streams_arguments_ParsedArguments_check__18972e76(slot_1, slot_8);
     goto l_capnp_ur;
 l_arm_x3_6:;
     st16(slot_9, r_xv);
@@ -6513,7 +6513,7 @@ l_arm_x3_6:;
     st64((slot_9 + 208), r_38_1);
     st8((slot_9 + 216), r_uz);
     st8((slot_9 + 217), r_dd_5);
-    capnp_streams_streams_arguments_ParsedArguments_if_allowed(slot_1, slot_9);
+    capnp_streams_streams_arguments_ParsedArguments_check__18972e76(slot_1, slot_9);
     goto l_capnp_ur;
 l_arm_x3_7:;
     st16(slot_10, r_xv);
@@ -6538,7 +6538,7 @@ l_arm_x3_7:;
     st64((slot_10 + 208), r_38_1);
     st8((slot_10 + 216), r_uz);
     st8((slot_10 + 217), r_dd_5);
-    capnp_streams_streams_arguments_ParsedArguments_if_allowed(slot_1, slot_10);
+    capnp_streams_streams_arguments_ParsedArguments_check__18972e76(slot_1, slot_10);
     goto l_capnp_ur;
 l_arm_x3_8:;
     st16(slot_11, r_xv);
@@ -6563,7 +6563,7 @@ l_arm_x3_8:;
     st64((slot_11 + 208), r_38_1);
     st8((slot_11 + 216), r_uz);
     st8((slot_11 + 217), r_dd_5);
-    capnp_streams_streams_arguments_ParsedArguments_if_allowed(slot_1, slot_11);
+    capnp_streams_streams_arguments_ParsedArguments_check__18972e76(slot_1, slot_11);
     goto l_capnp_ur;
 l_arm_x3_9:;
     st16(slot_12, r_xv);
@@ -6588,7 +6588,7 @@ l_arm_x3_9:;
     st64((slot_12 + 208), r_38_1);
     st8((slot_12 + 216), r_uz);
     st8((slot_12 + 217), r_dd_5);
-    capnp_streams_streams_arguments_ParsedArguments_if_allowed(slot_1, slot_12);
+    capnp_streams_streams_arguments_ParsedArguments_check__18972e76(slot_1, slot_12);
     goto l_capnp_ur;
 l_arm_89_1:;
     memcpy((slot_13 + 1), (a_2 + 40), 136);
@@ -6800,8 +6800,8 @@ l_loop_jj:;
     r_ts_1 = (r_tr == 0ull);
     if (r_ts_1) { r_6i = 0u; goto l_capnp_6d; }
     u8 r_dd_7 = ld8(r_c8);
-    u64 switch_xq_1 = ld64((((u8 *)switch_table_capnp_streams_streams_arguments_ParsedArg_eef0b6c5) + (i64)(8 * (u64)r_dd_7)));
-    stp(slot_2, ldp((((u8 *)switch_table_capnp_streams_streams_arguments_ParsedArg_36011ec0) + (i64)(8 * (u64)r_dd_7))));
+    u64 switch_xq_1 = ld64((((u8 *)switch_table_capnp_streams_streams_arguments_ParsedArg_b1d3f072) + (i64)(8 * (u64)r_dd_7)));
+    stp(slot_2, ldp((((u8 *)switch_table_capnp_streams_streams_arguments_ParsedArg_b8a47850) + (i64)(8 * (u64)r_dd_7))));
     st64(r_x5_20, switch_xq_1);
     u8 r_sg_1 = core_cmp_text_RefStrPartialEq_eq(slot_2, slot_1);
     if (r_sg_1) { r_6i = r_dd_7; goto l_capnp_6d; }
@@ -6823,11 +6823,11 @@ l_capnp_6d:;
     goto l_capnp_ur_1;
 l_arm_kc:;
     switch (r_6i) {
-    case 11u: goto l_arm_2z;
-    case 12u: goto l_arm_du;
-    case 15u: goto l_arm_8v;
-    case 18u: goto l_arm_bp;
-    case 20u: goto l_arm_3e;
+    case 11u: goto l_arm_hb;
+    case 12u: goto l_arm_v4;
+    case 15u: goto l_arm_4n;
+    case 18u: goto l_arm_oh;
+    case 20u: goto l_arm_9u;
     case 0u: goto l_arm_31;
     case 1u: goto l_arm_31;
     case 2u: goto l_arm_31;
@@ -6846,30 +6846,30 @@ l_arm_kc:;
     case 19u: goto l_arm_31;
     default: goto l_noarm_e1_1;
     }
-l_arm_2z:;
+l_arm_hb:;
     st8(slot_2, 5u);
     st8((slot_2 + 1), 0u);
-    capnp_streams_streams_arguments_ParsedArguments_with_value_or(slot_1, slot_7, 0u, r_8z, r_0j, slot_2);
+    capnp_streams_streams_arguments_ParsedArguments_parse_value_or(slot_1, slot_7, 0u, r_8z, r_0j, slot_2);
     goto l_capnp_ur_1;
-l_arm_du:;
+l_arm_v4:;
     st8(slot_3, 5u);
     st8((slot_3 + 1), 1u);
-    capnp_streams_streams_arguments_ParsedArguments_with_value_or(slot_1, slot_7, 1u, r_8z, r_0j, slot_3);
+    capnp_streams_streams_arguments_ParsedArguments_parse_value_or(slot_1, slot_7, 1u, r_8z, r_0j, slot_3);
     goto l_capnp_ur_1;
-l_arm_8v:;
+l_arm_4n:;
     st8(slot_4, 5u);
     st8((slot_4 + 1), 2u);
-    capnp_streams_streams_arguments_ParsedArguments_with_value_or(slot_1, slot_7, 2u, r_8z, r_0j, slot_4);
+    capnp_streams_streams_arguments_ParsedArguments_parse_value_or(slot_1, slot_7, 2u, r_8z, r_0j, slot_4);
     goto l_capnp_ur_1;
-l_arm_bp:;
+l_arm_oh:;
     st8(slot_5, 5u);
     st8((slot_5 + 1), 3u);
-    capnp_streams_streams_arguments_ParsedArguments_with_value_or(slot_1, slot_7, 3u, r_8z, r_0j, slot_5);
+    capnp_streams_streams_arguments_ParsedArguments_parse_value_or(slot_1, slot_7, 3u, r_8z, r_0j, slot_5);
     goto l_capnp_ur_1;
-l_arm_3e:;
+l_arm_9u:;
     st8(slot_6, 5u);
     st8((slot_6 + 1), 4u);
-    capnp_streams_streams_arguments_ParsedArguments_with_value_or(slot_1, slot_7, 4u, r_8z, r_0j, slot_6);
+    capnp_streams_streams_arguments_ParsedArguments_parse_value_or(slot_1, slot_7, 4u, r_8z, r_0j, slot_6);
     goto l_capnp_ur_1;
 l_arm_31:;
     st8(slot_1, 1u);
@@ -7011,7 +7011,7 @@ l_arm_x3_10:;
     st8((slot_2 + 216), r_uz);
     st8((slot_2 + 217), r_dd_12);
     st8((slot_2 + 218), (u8)(r_gm & 1u));
-    capnp_streams_streams_arguments_ParsedArguments_if_allowed(slot_1, slot_2);
+    capnp_streams_streams_arguments_ParsedArguments_check__18972e76(slot_1, slot_2);
     r_9w = ld8((slot_1 + 8));
     t_1a = ld8((slot_1 + 3));
     t_au = ld8((slot_1 + 2));
@@ -7041,8 +7041,8 @@ l_join_8z:;
     return;
 }
 
-/* capnp_streams::streams::arguments::ParsedArguments::with_value_or */
-static void capnp_streams_streams_arguments_ParsedArguments_with_value_or(u8 *a_1, u8 *a_2, u8 a_3, u8 *a_4, u64 a_5, u8 *a_6)
+/* capnp_streams::streams::arguments::ParsedArguments::parse_value_or */
+static void capnp_streams_streams_arguments_ParsedArguments_parse_value_or(u8 *a_1, u8 *a_2, u8 a_3, u8 *a_4, u64 a_5, u8 *a_6)
 {
     A(4) u8 slot_1[4];
     A(8) u8 slot_2[24];
@@ -7103,16 +7103,16 @@ static void capnp_streams_streams_arguments_ParsedArguments_with_value_or(u8 *a_
     u8 t_dh;
     u8 t_dd;
     u8 t_dd_1;
-    struct s_i8_i32 r_4w;
+    struct s_i8_i32 r_mh;
     u8 *r_x5_1;
     u8 *r_zd_1;
     u8 *r_x5_2;
     u64 r_s7;
     u8 *r_tk;
     u64 r_38_1;
-    u8 *r_p4;
-    u64 r_t9;
-    struct s_i8_i32 r_4w_1;
+    u8 *r_er;
+    u64 r_xm;
+    struct s_i8_i32 r_mh_1;
     u8 *r_23;
     u8 *r_0b;
     u8 *r_tp;
@@ -7197,16 +7197,16 @@ static void capnp_streams_streams_arguments_ParsedArguments_with_value_or(u8 *a_
     memset(slot_30, 0u, 5);
     memset(slot_31, 0u, 137);
     switch (a_3) {
-    case 0u: goto l_arm_nh;
-    case 1u: goto l_arm_eq;
+    case 0u: goto l_arm_w9;
+    case 1u: goto l_arm_jo;
     case 2u: goto l_arm_e3;
-    case 3u: goto l_arm_nh_1;
-    case 4u: goto l_arm_eq_1;
+    case 3u: goto l_arm_w9_1;
+    case 4u: goto l_arm_jo_1;
     default: goto l_noarm_e1;
     }
-l_arm_nh:;
-    r_4w = capnp_streams_streams_arguments_nesting(a_4, a_5);
-    if (!(r_4w.f0 == 1u)) { r_23 = slot_7; r_0b = slot_8; r_tp = slot_9; r_5q = 0u; r_09 = 0u; r_zx = 0u; r_ff = 0u; r_9b = 0u; r_2j = 0ull; r_ra = 0u; r_5p = 0u; r_y6 = 0u; r_h9 = 0u; r_j0 = 0u; r_2w = 0u; r_4x = 0u; r_ng_1 = 0u; r_61 = 0u; r_ob = 0u; r_jl = 0u; r_by = 0ull; r_n9 = 0u; r_m3 = 0u; r_4f = 0u; goto l_capnp_0w; }
+l_arm_w9:;
+    r_mh = capnp_streams_streams_arguments_parse_levels(a_4, a_5);
+    if (!(r_mh.f0 == 1u)) { r_23 = slot_7; r_0b = slot_8; r_tp = slot_9; r_5q = 0u; r_09 = 0u; r_zx = 0u; r_ff = 0u; r_9b = 0u; r_2j = 0ull; r_ra = 0u; r_5p = 0u; r_y6 = 0u; r_h9 = 0u; r_j0 = 0u; r_2w = 0u; r_4x = 0u; r_ng_1 = 0u; r_61 = 0u; r_ob = 0u; r_jl = 0u; r_by = 0ull; r_n9 = 0u; r_m3 = 0u; r_4f = 0u; goto l_capnp_0w; }
     memcpy((slot_10 + 1), (a_2 + 40), 136);
     memcpy(slot_7, slot_10, 137);
     memset(slot_8, 0u, 3);
@@ -7230,14 +7230,14 @@ l_arm_nh:;
     r_ng_1 = (u8)(r_dd_3 & 1u);
     r_61 = (u8)(r_dd_2 & 1u);
     r_ob = (u8)(r_dd_1 & 1u);
-    r_jl = r_4w.f1;
+    r_jl = r_mh.f1;
     r_by = r_qw;
     r_n9 = r_dd;
     r_m3 = r_qc;
     r_4f = 1u;
     goto l_capnp_0w;
-l_arm_eq:;
-    capnp_streams_streams_arguments_budget(slot_11, a_4, a_5);
+l_arm_jo:;
+    capnp_streams_streams_arguments_parse_number_or_none(slot_11, a_4, a_5);
     if (!(ld8(slot_11) == 1u)) { r_23 = slot_12; r_0b = slot_13; r_tp = slot_14; r_5q = 0u; r_09 = 0u; r_zx = 0u; r_ff = 0u; r_9b = 0u; r_2j = 0ull; r_ra = 0u; r_5p = 0u; r_y6 = 0u; r_h9 = 0u; r_j0 = 0u; r_2w = 0u; r_4x = 0u; r_ng_1 = 0u; r_61 = 0u; r_ob = 0u; r_jl = 0u; r_by = 0ull; r_n9 = 0u; r_m3 = 0u; r_4f = 0u; goto l_capnp_0w; }
     u8 r_r5 = ld8((slot_11 + 8));
     u64 r_38 = ld64((slot_11 + 16));
@@ -7277,7 +7277,7 @@ l_arm_e3:;
     memset(slot_2, 0u, 24);
     st32(slot_1, 46u);
     core_iter_pattern_CharPattern_first_in(slot_2, slot_1, a_4, a_5);
-    if (!(ld8(slot_2) == 1u)) { r_p4 = a_4; r_t9 = a_5; goto l_capnp_3g; }
+    if (!(ld8(slot_2) == 1u)) { r_er = a_4; r_xm = a_5; goto l_capnp_vv; }
     r_x5_1 = (slot_2 + 8);
     r_zd_1 = (slot_2 + 16);
     r_x5_2 = (slot_5 + 8);
@@ -7285,18 +7285,18 @@ l_arm_e3:;
     r_tk = a_4;
 l_arm_pu:;
     r_38_1 = ld64(r_zd_1);
-    capnp_streams_streams_path_Path_with_text(slot_5, slot_4, r_tk, ld64(r_x5_1));
+    capnp_streams_streams_path_Path_with_parsed_index(slot_5, slot_4, r_tk, ld64(r_x5_1));
     if (!(ld8(slot_5) == 1u)) goto l_capnp_uw;
-    u64 r_t9_1 = (r_s7 - r_38_1);
+    u64 r_t9 = (r_s7 - r_38_1);
     u8 *r_2b = away(r_tk, r_38_1);
     memcpy(slot_4, r_x5_2, 136);
     memset(slot_2, 0u, 24);
     st32(slot_1, 46u);
-    core_iter_pattern_CharPattern_first_in(slot_2, slot_1, r_2b, r_t9_1);
-    if (ld8(slot_2) == 1u) { r_s7 = r_t9_1; r_tk = r_2b; goto l_arm_pu; }
-    r_p4 = r_2b;
-    r_t9 = r_t9_1;
-    goto l_capnp_3g;
+    core_iter_pattern_CharPattern_first_in(slot_2, slot_1, r_2b, r_t9);
+    if (ld8(slot_2) == 1u) { r_s7 = r_t9; r_tk = r_2b; goto l_arm_pu; }
+    r_er = r_2b;
+    r_xm = r_t9;
+    goto l_capnp_vv;
 l_capnp_uw:;
     r_23 = slot_17;
     r_0b = slot_18;
@@ -7323,8 +7323,8 @@ l_capnp_uw:;
     r_m3 = 0u;
     r_4f = 0u;
     goto l_capnp_0w;
-l_capnp_3g:;
-    capnp_streams_streams_path_Path_with_text(slot_3, slot_4, r_p4, r_t9);
+l_capnp_vv:;
+    capnp_streams_streams_path_Path_with_parsed_index(slot_3, slot_4, r_er, r_xm);
     u8 r_r5_3 = ld8(slot_3);
     memcpy(slot_16, (slot_3 + 8), 136);
     if (!(r_r5_3 == 1u)) { r_23 = slot_17; r_0b = slot_18; r_tp = slot_19; r_5q = 0u; r_09 = 0u; r_zx = 0u; r_ff = 0u; r_9b = 0u; r_2j = 0ull; r_ra = 0u; r_5p = 0u; r_y6 = 0u; r_h9 = 0u; r_j0 = 0u; r_2w = 0u; r_4x = 0u; r_ng_1 = 0u; r_61 = 0u; r_ob = 0u; r_jl = 0u; r_by = 0ull; r_n9 = 0u; r_m3 = 0u; r_4f = 0u; goto l_capnp_0w; }
@@ -7357,16 +7357,16 @@ l_capnp_3g:;
     r_m3 = r_qc;
     r_4f = 1u;
     goto l_capnp_0w;
-l_arm_nh_1:;
-    r_4w_1 = capnp_streams_streams_arguments_nesting(a_4, a_5);
-    if (!(r_4w_1.f0 == 1u)) { r_23 = slot_23; r_0b = slot_24; r_tp = slot_25; r_5q = 0u; r_09 = 0u; r_zx = 0u; r_ff = 0u; r_9b = 0u; r_2j = 0ull; r_ra = 0u; r_5p = 0u; r_y6 = 0u; r_h9 = 0u; r_j0 = 0u; r_2w = 0u; r_4x = 0u; r_ng_1 = 0u; r_61 = 0u; r_ob = 0u; r_jl = 0u; r_by = 0ull; r_n9 = 0u; r_m3 = 0u; r_4f = 0u; goto l_capnp_0w; }
+l_arm_w9_1:;
+    r_mh_1 = capnp_streams_streams_arguments_parse_levels(a_4, a_5);
+    if (!(r_mh_1.f0 == 1u)) { r_23 = slot_23; r_0b = slot_24; r_tp = slot_25; r_5q = 0u; r_09 = 0u; r_zx = 0u; r_ff = 0u; r_9b = 0u; r_2j = 0ull; r_ra = 0u; r_5p = 0u; r_y6 = 0u; r_h9 = 0u; r_j0 = 0u; r_2w = 0u; r_4x = 0u; r_ng_1 = 0u; r_61 = 0u; r_ob = 0u; r_jl = 0u; r_by = 0ull; r_n9 = 0u; r_m3 = 0u; r_4f = 0u; goto l_capnp_0w; }
     memcpy((slot_26 + 1), (a_2 + 40), 136);
     memcpy(slot_23, slot_26, 137);
     r_23 = slot_23;
     r_0b = slot_24;
     r_tp = slot_25;
     r_5q = 1u;
-    r_09 = r_4w_1.f1;
+    r_09 = r_mh_1.f1;
     r_zx = (u8)(r_dd_11 & 1u);
     r_ff = r_dd_12;
     r_9b = r_dd_13;
@@ -7387,8 +7387,8 @@ l_arm_nh_1:;
     r_m3 = r_qc;
     r_4f = 1u;
     goto l_capnp_0w;
-l_arm_eq_1:;
-    capnp_streams_streams_arguments_budget(slot_27, a_4, a_5);
+l_arm_jo_1:;
+    capnp_streams_streams_arguments_parse_number_or_none(slot_27, a_4, a_5);
     if (!(ld8(slot_27) == 1u)) { r_23 = slot_28; r_0b = slot_29; r_tp = slot_30; r_5q = 0u; r_09 = 0u; r_zx = 0u; r_ff = 0u; r_9b = 0u; r_2j = 0ull; r_ra = 0u; r_5p = 0u; r_y6 = 0u; r_h9 = 0u; r_j0 = 0u; r_2w = 0u; r_4x = 0u; r_ng_1 = 0u; r_61 = 0u; r_ob = 0u; r_jl = 0u; r_by = 0ull; r_n9 = 0u; r_m3 = 0u; r_4f = 0u; goto l_capnp_0w; }
     u8 r_r5_4 = ld8((slot_27 + 8));
     u64 r_38_3 = ld64((slot_27 + 16));
@@ -7455,7 +7455,7 @@ l_capnp_0w:;
     st8((slot_32 + 217), 0u);
     st8((slot_32 + 218), r_ra);
     mv5((slot_32 + 219), slot_35);
-    capnp_streams_streams_arguments_ParsedArguments_if_allowed(slot_36, slot_32);
+    capnp_streams_streams_arguments_ParsedArguments_check__18972e76(slot_36, slot_32);
     r_oc = (u64)ld8((slot_36 + 8));
     t_l3 = ld8((slot_36 + 3));
     t_u6 = ld8((slot_36 + 2));
@@ -7471,8 +7471,8 @@ l_join_rf:;
     return;
 }
 
-/* capnp_streams::streams::path::Path::with_text */
-static void capnp_streams_streams_path_Path_with_text(u8 *a_1, u8 *a_2, u8 *a_3, u64 a_4)
+/* capnp_streams::streams::path::Path::with_parsed_index */
+static void capnp_streams_streams_path_Path_with_parsed_index(u8 *a_1, u8 *a_2, u8 *a_3, u64 a_4)
 {
     A(4) u8 slot_1[128];
     A(8) u8 slot_2[128];
@@ -7636,8 +7636,8 @@ l_join_71:;
     return;
 }
 
-/* capnp_streams::streams::arguments::nesting */
-static struct s_i8_i32 capnp_streams_streams_arguments_nesting(u8 *a_1, u64 a_2)
+/* capnp_streams::streams::arguments::parse_levels */
+static struct s_i8_i32 capnp_streams_streams_arguments_parse_levels(u8 *a_1, u64 a_2)
 {
     u8 r_pe;
     u32 r_cf;
@@ -7754,8 +7754,8 @@ l_capnp_pr:;
     return r_i6;
 }
 
-/* capnp_streams::streams::arguments::budget */
-static void capnp_streams_streams_arguments_budget(u8 *a_1, u8 *a_2, u64 a_3)
+/* capnp_streams::streams::arguments::parse_number_or_none */
+static void capnp_streams_streams_arguments_parse_number_or_none(u8 *a_1, u8 *a_2, u64 a_3)
 {
     A(8) u8 slot_1[16];
     A(8) u8 slot_2[16];
@@ -7897,8 +7897,8 @@ l_core_57:;
     return common_p7;
 }
 
-/* capnp_streams::streams::arguments::ParsedArguments::if_allowed */
-static void capnp_streams_streams_arguments_ParsedArguments_if_allowed(u8 *a_1, u8 *a_2)
+/* capnp_streams::streams::arguments::ParsedArguments::check_exclusions */
+static void capnp_streams_streams_arguments_ParsedArguments_check__18972e76(u8 *a_1, u8 *a_2)
 {
     A(2) u8 slot_1[30];
     A(1) u8 slot_2[129];
@@ -8384,7 +8384,7 @@ l_join_8s:;
     u64 r_52_1 = ld64(r_xz);
     if (!(r_5p > (r_52_1 - r_52))) { r_ph = r_52_1; r_az = r_52; goto l_join_kx; }
     u8 r_qy = std_alloc_vec_Vec_grow_amortized_ffd95af9aab10bcd(r_rq_1, r_5p);
-    if (!r_qy) goto l_capnp_0t;
+    if (!r_qy) goto l_capnp_iz;
     r_ph = ld64(r_xz);
     r_az = ld64(r_08_1);
 l_join_kx:;
@@ -8398,8 +8398,8 @@ l_std_5b:;
     st64(r_xz, r_ph);
     r_xz_1 = r_5q_1;
     goto l_arm_gi;
-l_capnp_0t:;
-    capnp_framing_framing_reading_make_some_room_3691078bae5dd839(slot_1, a_2, r_rq_1);
+l_capnp_iz:;
+    capnp_framing_framing_reading_grow_3691078bae5dd839(slot_1, a_2, r_rq_1);
     r_r5_1 = ld8(r_x5);
     r_38_2 = ld64(r_zd);
     if (!(ld8(slot_1) == 0u)) goto l_arm_of;
@@ -8514,7 +8514,7 @@ l_join_q6:;
     u64 r_52_6 = ld64(r_2g);
     if (!(r_e9_2 > (r_52_6 - r_52_5))) { r_ph_1 = r_52_6; r_az_1 = r_52_5; goto l_join_kx_1; }
     u8 r_qy_1 = std_alloc_vec_Vec_grow_amortized_ffd95af9aab10bcd(r_r2, r_e9_2);
-    if (!r_qy_1) goto l_capnp_0t_1;
+    if (!r_qy_1) goto l_capnp_iz_1;
     r_ph_1 = ld64(r_2g);
     r_az_1 = ld64(r_h6);
 l_join_kx_1:;
@@ -8530,8 +8530,8 @@ l_std_re:;
 l_capnp_5s:;
     r_dv = r_r4;
     goto l_arm_df;
-l_capnp_0t_1:;
-    capnp_framing_framing_reading_make_some_room_3691078bae5dd839(slot_1, a_2, r_r2);
+l_capnp_iz_1:;
+    capnp_framing_framing_reading_grow_3691078bae5dd839(slot_1, a_2, r_r2);
     r_r5_3 = ld8(r_x5_1);
     r_38_7 = ld64(r_zd_1);
     if (!(ld8(slot_1) == 0u)) goto l_arm_of_1;
@@ -9135,8 +9135,8 @@ l_arm_m7:;
     goto l_common_57;
 }
 
-/* capnp_framing::framing::reading::make_some_room::<#3691078bae5dd839> */
-static NEVER COLD void capnp_framing_framing_reading_make_some_room_3691078bae5dd839(u8 *a_1, u8 *a_2, u8 *a_3)
+/* capnp_framing::framing::reading::grow::<#3691078bae5dd839> */
+static NEVER COLD void capnp_framing_framing_reading_grow_3691078bae5dd839(u8 *a_1, u8 *a_2, u8 *a_3)
 {
     u8 *r_xz;
     u8 *r_08;
@@ -9506,7 +9506,7 @@ static void capnp_streams_streams_answers_answer_67476a7da5902587(u8 *a_1, u8 *a
     switch (ld8(slot_12)) {
     case 0u: goto l_arm_h5;
     case 1u: goto l_arm_9w;
-    case 2u: goto l_arm_np;
+    case 2u: goto l_arm_42;
     case 3u: goto l_arm_xs;
     case 4u: goto l_arm_91;
     default: goto l_noarm_e1;
@@ -9581,7 +9581,7 @@ l_after_xs:;
     mv32(slot_4, r_rq);
     memset(a_2, 0u, 40);
     if (!(r_dh == 1u)) goto l_arm_vf;
-    capnp_streams_streams_parts_copy_asked_ad42fe8b34616de5(slot_5, slot_4, slot_11, slot_3);
+    capnp_streams_streams_parts_canonicalize_for_task_ad42_fb60ad1a(slot_5, slot_4, slot_11, slot_3);
     r_x5_5 = (slot_5 + 8);
     if (ld8(slot_5) == 0u) goto l_arm_xt;
     goto l_arm_cc;
@@ -9633,7 +9633,7 @@ l_capnp_4o:;
     stp(slot_1, r_xw_4);
     st64((slot_1 + 8), r_38_7);
     st64((slot_1 + 16), r_38_8);
-    capnp_arena_arena_builder_arena_impl_give_back_others__e4469f8f(slot_2, slot_1);
+    capnp_arena_arena_builder_arena_impl_deallocate_others_74e7ad04(slot_2, slot_1);
     goto l_capnp_f6;
 l_else_r8:;
     if (r_38_6 == 0ull) goto l_core_at;
@@ -10033,8 +10033,8 @@ l_join_s7:;
     r_uc = r_yx;
     r_6n_2 = r_1v;
     goto l_join_7h;
-l_arm_np:;
-    capnp_streams_streams_parts_size_asked_a3cb57cd4b1504b3(slot_15, a_4, slot_12);
+l_arm_42:;
+    capnp_streams_streams_parts_size_for_task_a3cb57cd4b1504b3(slot_15, a_4, slot_12);
     r_x5_12 = (slot_15 + 8);
     if (!(ld8(slot_15) == 0u)) goto l_arm_cc_1;
     r_38_30 = ld64(r_x5_12);
@@ -10162,7 +10162,7 @@ l_arm_xs:;
     mv32(slot_3, r_rq_4);
     memset(a_2, 0u, 40);
     if (!(r_dh_3 == 1u)) goto l_arm_1w;
-    capnp_streams_streams_parts_digest_asked_37ce5737081a64d7(slot_4, slot_3, a_4, slot_1);
+    capnp_streams_streams_parts_digest_for_task_37ce5737081a64d7(slot_4, slot_3, a_4, slot_1);
     r_r5_8 = ld8(slot_4);
     r_p9_1 = (slot_4 + 1);
     r_r5_9 = ld8((slot_4 + 8));
@@ -11578,9 +11578,9 @@ l_arm_bb:;
     goto l_return_pr;
 l_join_1x:;
     if (r_68_1 == 0u) { r_us = r_ll; r_1x = 0u; goto l_return_pr; }
-    struct s_i8_i32 r_6c = capnp_objects_pointers_canonical_test_rows_5ccc1be374b2e488(a_1, r_ll, t_xg, r_py, t_c8, r_y0_1, a_6);
-    r_us = r_6c.f1;
-    r_1x = r_6c.f0;
+    struct s_i8_i32 r_u9 = capnp_objects_pointers_canonical_test_elements_5ccc1be374b2e488(a_1, r_ll, t_xg, r_py, t_c8, r_y0_1, a_6);
+    r_us = r_u9.f1;
+    r_1x = r_u9.f0;
     goto l_return_pr;
 l_arm_um:;
     u64 r_qw_5 = ld64(r_xz);
@@ -11599,8 +11599,8 @@ l_return_pr:;
     return r_i6;
 }
 
-/* capnp_objects::pointers::canonical::test_rows::<#5ccc1be374b2e488> */
-static struct s_i8_i32 capnp_objects_pointers_canonical_test_rows_5ccc1be374b2e488(u8 *a_1, u32 a_2, u16 a_3, u16 a_4, u32 a_5, u32 a_6, u8 *a_7)
+/* capnp_objects::pointers::canonical::test_elements::<#5ccc1be374b2e488> */
+static struct s_i8_i32 capnp_objects_pointers_canonical_test_elements_5ccc1be374b2e488(u8 *a_1, u32 a_2, u16 a_3, u16 a_4, u32 a_5, u32 a_6, u8 *a_7)
 {
     u32 r_m2;
     u32 r_m2_1;
@@ -12071,8 +12071,8 @@ l_return_ri:;
     return r_fk;
 }
 
-/* capnp_streams::streams::parts::copy_asked::<#ad42fe8b34616de5> */
-static void capnp_streams_streams_parts_copy_asked_ad42fe8b34616de5(u8 *a_1, u8 *a_2, u8 *a_3, u8 *a_4)
+/* capnp_streams::streams::parts::canonicalize_for_task::<#ad42fe8b34616de5> */
+static void capnp_streams_streams_parts_canonicalize_for_task_ad42_fb60ad1a(u8 *a_1, u8 *a_2, u8 *a_3, u8 *a_4)
 {
     A(8) u8 slot_1[32];
     A(8) u8 slot_2[24];
@@ -12110,7 +12110,7 @@ l_else_fi:;
     if (!(ld8(slot_3) == 0u)) goto l_arm_e5;
     st64(slot_5, (u64)r_r5_2);
     memcpy((slot_5 + 8), (slot_3 + 16), 72);
-    capnp_messages_messages_canonical_copy_copy_reached_wi_8d1bfcda(slot_4, slot_1, slot_5, slot_2);
+    capnp_messages_messages_canonical_copy_canonicalize_re_3491092d(slot_4, slot_1, slot_5, slot_2);
     r_re = ld8(slot_4);
     goto l_capnp_sd;
 l_arm_e5:;
@@ -12175,7 +12175,7 @@ l_arm_zz:;
     st32((slot_3 + 60), 0u);
     memset(slot_3, 0u, 16);
     st32(t_5q, r_yf);
-    capnp_messages_messages_canonical_copy_copy_reached_wi_8d1bfcda(slot_1, slot_2, slot_3, slot_4);
+    capnp_messages_messages_canonical_copy_canonicalize_re_3491092d(slot_1, slot_2, slot_3, slot_4);
     u8 r_r5 = ld8(slot_1);
     u32 r_z4 = ld32((slot_1 + 8));
     u32 r_uq = ld32((slot_1 + 12));
@@ -12203,8 +12203,8 @@ l_join_6f:;
     return;
 }
 
-/* capnp_messages::messages::canonical_copy::copy_reached_with::<#df27f4c8b9722fca> */
-static void capnp_messages_messages_canonical_copy_copy_reached_wi_8d1bfcda(u8 *a_1, u8 *a_2, u8 *a_3, u8 *a_4)
+/* capnp_messages::messages::canonical_copy::canonicalize_reached::<#df27f4c8b9722fca> */
+static void capnp_messages_messages_canonical_copy_canonicalize_re_3491092d(u8 *a_1, u8 *a_2, u8 *a_3, u8 *a_4)
 {
     A(8) u8 slot_1[1];
     A(8) u8 slot_2[40];
@@ -12657,7 +12657,7 @@ l_join_vy:;
     capnp_making_landing_follow_4072c0e2a627e5d6(slot_2, slot_7, 0u, 0u);
     st64(r_lz, 0ull);
     if (!(ld8(slot_2) == 1u)) goto l_capnp_8g;
-    capnp_making_zeroing_zero_landed_4072c0e2a627e5d6(slot_7, r_x5_9);
+    capnp_making_zeroing_zero_target_4072c0e2a627e5d6(slot_7, r_x5_9);
     if (!((r_qw_6 & 3ull) == 2ull)) goto l_capnp_8g;
     capnp_making_zeroing_zero_far_pads_4072c0e2a627e5d6(slot_7, r_qw_6);
 l_capnp_8g:;
@@ -12681,7 +12681,7 @@ l_loop_jc:;
     goto l_capnp_5d;
 l_else_08:;
     if (!(ld64(r_l7) == 0ull)) { r_wx = r_u7; goto l_capnp_5d; }
-    u64 r_ot = capnp_words_lanes_end_of_blocks(r_2b, r_z6);
+    u64 r_ot = capnp_words_lanes_used_words_bound(r_2b, r_z6);
     r_nm_1 = r_ot;
 l_loop_jc_1:;
     if (r_nm_1 == 0ull) { r_wx = 0ull; goto l_capnp_5d; }
@@ -12699,7 +12699,7 @@ l_loop_jc_2:;
     goto l_capnp_dw;
 l_else_08_1:;
     if (!(ld64(r_l7_1) == 0ull)) { r_6o = r_u7_1; goto l_capnp_dw; }
-    u64 r_ot_1 = capnp_words_lanes_end_of_blocks(r_2b_1, r_z6_2);
+    u64 r_ot_1 = capnp_words_lanes_used_words_bound(r_2b_1, r_z6_2);
     r_nm_3 = r_ot_1;
 l_loop_jc_3:;
     if (r_nm_3 == 0ull) { r_6o = 0ull; goto l_capnp_dw; }
@@ -12799,7 +12799,7 @@ l_capnp_5c:;
     st32(r_c4, r_w0);
     st32(r_bk, 0u);
     st32(t_6c, r_5k_2);
-    capnp_copies_copy_children_copy_row_f91b20a4a575fbcb(slot_2, slot_7, r_wt_1, (r_29 + r_4r), slot_3, r_az, slot_5, 1u);
+    capnp_copies_copy_children_copy_children_out_of_line_f_b6070b37(slot_2, slot_7, r_wt_1, (r_29 + r_4r), slot_3, r_az, slot_5, 1u);
     r_2b_4 = ld8(slot_2);
     r_qh_1 = ld8(r_x5_6);
     r_ip_1 = ld32(r_k0_1);
@@ -12942,13 +12942,13 @@ l_arm_2q:;
     stp(slot_3, r_xw_3);
     st64(r_x5_10, r_38_16);
     st64(r_zd_9, r_38_17);
-    if (r_38_22 == 0ull) goto l_capnp_li;
+    if (r_38_22 == 0ull) goto l_capnp_sa;
     rattle_dealloc(r_xw_5);
-l_capnp_li:;
+l_capnp_sa:;
     stp(slot_2, r_xw_4);
     st64(r_x5_11, r_38_20);
     st64(r_zd_10, r_38_21);
-    capnp_arena_arena_builder_arena_impl_give_back_others__e4469f8f(slot_3, slot_2);
+    capnp_arena_arena_builder_arena_impl_deallocate_others_74e7ad04(slot_3, slot_2);
     goto l_capnp_f6;
 l_else_r8:;
     if (r_38_17 == 0ull) goto l_core_at;
@@ -13137,9 +13137,9 @@ static NEVER COLD struct s_i8_i32 capnp_arena_arena_rows_allocate_in_4426f83c3c9
     u32 r_1x;
     u8 *r_8z = away(a_1, (a_2 * 40ull));
     if (((u64)ld32(away(r_8z, 32ull)) + (u64)a_3) > (u64)((ld64(away(r_8z, 24ull)) + ld64(away(r_8z, 8ull))) >> 3ull)) { r_us = 0u; r_1x = 0u; goto l_join_pr; }
-    u32 r_r2 = capnp_arena_arena_rows_take_in_4426f83c3c99ca57(a_1, a_2, a_3);
+    u32 r_g9 = capnp_arena_arena_rows_allocate_fitting_in_4426f83c3c99ca57(a_1, a_2, a_3);
     r_us = 1u;
-    r_1x = r_r2;
+    r_1x = r_g9;
 l_join_pr:;
     struct s_i8_i32 r_9l = (struct s_i8_i32){ 0 };
     r_9l.f0 = r_us;
@@ -13148,8 +13148,8 @@ l_join_pr:;
     return r_i6;
 }
 
-/* capnp_arena::arena::rows::take_in::<#4426f83c3c99ca57> */
-static NEVER COLD u32 capnp_arena_arena_rows_take_in_4426f83c3c99ca57(u8 *a_1, u64 a_2, u32 a_3)
+/* capnp_arena::arena::rows::allocate_fitting_in::<#4426f83c3c99ca57> */
+static NEVER COLD u32 capnp_arena_arena_rows_allocate_fitting_in_4426f83c3c99ca57(u8 *a_1, u64 a_2, u32 a_3)
 {
     u8 *r_8z;
     u8 *r_9j;
@@ -13969,8 +13969,8 @@ l_loop_jc:;
     goto l_capnp_fc;
 l_else_wj:;
     if (!(ld64(away(away(r_c0_1, r_z6_3), 0xfffffffffffffff8ull)) == 0ull)) { r_ev = r_q7_1; goto l_capnp_fc; }
-    u64 r_86 = capnp_words_lanes_end_of_blocks(r_c0_1, r_z6_3);
-    r_nm_1 = r_86;
+    u64 r_g1 = capnp_words_lanes_used_words_bound(r_c0_1, r_z6_3);
+    r_nm_1 = r_g1;
 l_loop_jc_1:;
     if (r_nm_1 == 0ull) { r_ev = 0ull; goto l_capnp_fc; }
     u64 r_0f_1 = (r_nm_1 + 0xffffffffffffffffull);
@@ -13989,8 +13989,8 @@ l_loop_jc_2:;
     goto l_capnp_dt;
 l_else_wj_1:;
     if (!(ld64(away(away(r_c0_2, r_z6_6), 0xfffffffffffffff8ull)) == 0ull)) { r_e9_6 = r_y6; goto l_capnp_dt; }
-    u64 r_86_1 = capnp_words_lanes_end_of_blocks(r_c0_2, r_z6_6);
-    r_nm_3 = r_86_1;
+    u64 r_g1_1 = capnp_words_lanes_used_words_bound(r_c0_2, r_z6_6);
+    r_nm_3 = r_g1_1;
 l_loop_jc_3:;
     if (r_nm_3 == 0ull) { r_e9_6 = 0ull; goto l_capnp_dt; }
     u64 r_0f_3 = (r_nm_3 + 0xffffffffffffffffull);
@@ -14140,7 +14140,7 @@ l_capnp_am:;
     st32((slot_2 + 48), (r_az + r_gx));
     st32((slot_2 + 52), 0u);
     st32((slot_2 + 56), r_4w);
-    capnp_copies_copy_children_copy_row_f91b20a4a575fbcb(slot_1, a_2, r_ne, (r_29 + r_4r_4), slot_2, r_ib, a_6, a_7);
+    capnp_copies_copy_children_copy_children_out_of_line_f_b6070b37(slot_1, a_2, r_ne, (r_29 + r_4r_4), slot_2, r_ib, a_6, a_7);
     r_t8 = ld8(slot_1);
     r_hg = ld8((slot_1 + 8));
     r_lc_8 = ld32((slot_1 + 12));
@@ -14703,7 +14703,7 @@ l_arm_n3:;
     st32(r_c4_7, (r_5b + ((u32)r_ep_4 & 65535u)));
     st32(r_bk_2, 0u);
     st32(r_6c_3, r_s1);
-    capnp_copies_copy_children_copy_row_f91b20a4a575fbcb(slot_1, a_2, sink_il, (r_az_2 + r_fj), slot_2, r_az_3, a_6, a_7);
+    capnp_copies_copy_children_copy_children_out_of_line_f_b6070b37(slot_1, a_2, sink_il, (r_az_2 + r_fj), slot_2, r_az_3, a_6, a_7);
     r_2b_2 = ld8(slot_1);
     r_qh = ld8(r_x5_21);
     r_ip = ld32(r_k0_5);
@@ -15152,8 +15152,8 @@ l_loop_jc_4:;
     goto l_capnp_fc_1;
 l_else_wj_2:;
     if (!(ld64(away(away(r_c0_13, r_z6_67), 0xfffffffffffffff8ull)) == 0ull)) { r_ev_1 = r_q7_3; goto l_capnp_fc_1; }
-    u64 r_86_2 = capnp_words_lanes_end_of_blocks(r_c0_13, r_z6_67);
-    r_nm_7 = r_86_2;
+    u64 r_g1_2 = capnp_words_lanes_used_words_bound(r_c0_13, r_z6_67);
+    r_nm_7 = r_g1_2;
 l_loop_jc_5:;
     if (r_nm_7 == 0ull) { r_ev_1 = 0ull; goto l_capnp_fc_1; }
     u64 r_0f_13 = (r_nm_7 + 0xffffffffffffffffull);
@@ -15173,8 +15173,8 @@ l_loop_jc_6:;
     goto l_capnp_fl;
 l_else_wj_3:;
     if (!(ld64(away(away(r_c0_14, r_z6_70), 0xfffffffffffffff8ull)) == 0ull)) { r_mz_7 = r_ev_1; r_3h = r_y6_3; goto l_capnp_fl; }
-    u64 r_86_3 = capnp_words_lanes_end_of_blocks(r_c0_14, r_z6_70);
-    r_nm_9 = r_86_3;
+    u64 r_g1_3 = capnp_words_lanes_used_words_bound(r_c0_14, r_z6_70);
+    r_nm_9 = r_g1_3;
 l_loop_jc_7:;
     if (r_nm_9 == 0ull) { r_mz_7 = r_ev_1; r_3h = 0ull; goto l_capnp_fl; }
     u64 r_0f_15 = (r_nm_9 + 0xffffffffffffffffull);
@@ -15315,7 +15315,7 @@ l_capnp_5c:;
     st32(r_c4_11, (r_5b_1 + ((u32)r_ep_5 & 65535u)));
     st32(r_bk_3, 0u);
     st32(r_6c_5, r_s1_1);
-    capnp_copies_copy_children_copy_row_f91b20a4a575fbcb(slot_1, a_2, sink_54, (r_29_2 + r_4r_7), slot_2, r_az_4, a_6, a_7);
+    capnp_copies_copy_children_copy_children_out_of_line_f_b6070b37(slot_1, a_2, sink_54, (r_29_2 + r_4r_7), slot_2, r_az_4, a_6, a_7);
     r_2b_8 = ld8(slot_1);
     r_qh_2 = ld8(r_x5_39);
     r_ip_2 = ld32(r_k0_10);
@@ -15457,10 +15457,10 @@ static void capnp_arena_arena_builder_arena_impl_BuilderArenaImplB_7b1ceaa0(u8 *
     u64 r_52 = ld64(r_su);
     if (!(((u64)r_yf + (u64)a_3) > (u64)((ld64(away(a_2, 56ull)) + r_52) >> 3ull))) { r_q9 = r_52; r_zh = r_yf; goto l_then_ma; }
     r_yf_1 = away(a_2, 80ull);
-    struct s_i8_i32 r_5h = capnp_arena_arena_bounds_first_by_bounds_4426f83c3c99ca57(ldp(r_yf_1), ld64(away(a_2, 88ull)), a_3);
-    r_ll = (r_5h.f1 + 1u);
-    if (!(r_5h.f0 == 1u)) goto l_arm_90;
-    if (!(r_ll == 0u)) goto l_else_m0;
+    struct s_i8_i32 r_of = capnp_arena_arena_bounds_first_fit_by_bounds_4426f83c3c99ca57(ldp(r_yf_1), ld64(away(a_2, 88ull)), a_3);
+    r_ll = (r_of.f1 + 1u);
+    if (!(r_of.f0 == 1u)) goto l_arm_90;
+    if (!(r_ll == 0u)) goto l_else_6v;
     r_q9 = ld64(r_su);
     r_zh = ld32(r_h6);
 l_then_ma:;
@@ -15473,10 +15473,10 @@ l_capnp_9l:;
     r_oh = 0ull;
     r_yv = r_zh;
     goto l_join_iz;
-l_else_m0:;
-    u32 r_d2 = capnp_arena_arena_rows_take_in_4426f83c3c99ca57(ldp(r_yf_1), ((u64)r_ll + 0xffffffffffffffffull), a_3);
+l_else_6v:;
+    u32 r_97 = capnp_arena_arena_rows_allocate_fitting_in_4426f83c3c99ca57(ldp(r_yf_1), ((u64)r_ll + 0xffffffffffffffffull), a_3);
     r_oh = (u64)r_ll;
-    r_yv = r_d2;
+    r_yv = r_97;
     goto l_join_iz;
 l_arm_90:;
     if (!(u8)(ld8(r_2g) & 1)) goto l_join_el;
@@ -15507,8 +15507,8 @@ l_join_iz:;
     goto l_common_8p;
 }
 
-/* capnp_arena::arena::bounds::first_by_bounds::<#4426f83c3c99ca57> */
-static NEVER struct s_i8_i32 capnp_arena_arena_bounds_first_by_bounds_4426f83c3c99ca57(u8 *a_1, u64 a_2, u32 a_3)
+/* capnp_arena::arena::bounds::first_fit_by_bounds::<#4426f83c3c99ca57> */
+static NEVER struct s_i8_i32 capnp_arena_arena_bounds_first_fit_by_bounds_4426f83c3c99ca57(u8 *a_1, u64 a_2, u32 a_3)
 {
     u8 r_0f;
     u64 r_7l;
@@ -15698,8 +15698,8 @@ l_loop_jc:;
     goto l_capnp_k4;
 l_else_wj:;
     if (!(ld64(away(away(r_2b, r_z6), 0xfffffffffffffff8ull)) == 0ull)) { r_xk = r_u7_1; goto l_capnp_k4; }
-    u64 r_86 = capnp_words_lanes_end_of_blocks(r_2b, r_z6);
-    r_nm_1 = r_86;
+    u64 r_g1 = capnp_words_lanes_used_words_bound(r_2b, r_z6);
+    r_nm_1 = r_g1;
 l_loop_jc_1:;
     if (r_nm_1 == 0ull) { r_xk = 0ull; goto l_capnp_k4; }
     u64 r_0f_1 = (r_nm_1 + 0xffffffffffffffffull);
@@ -15722,8 +15722,8 @@ l_loop_jc_2:;
     goto l_capnp_6t;
 l_else_wj_1:;
     if (!(ld64(away(away(r_2b_1, r_z6_2), 0xfffffffffffffff8ull)) == 0ull)) { r_ie = r_u7_3; goto l_capnp_6t; }
-    u64 r_86_1 = capnp_words_lanes_end_of_blocks(r_2b_1, r_z6_2);
-    r_nm_3 = r_86_1;
+    u64 r_g1_1 = capnp_words_lanes_used_words_bound(r_2b_1, r_z6_2);
+    r_nm_3 = r_g1_1;
 l_loop_jc_3:;
     if (r_nm_3 == 0ull) { r_ie = 0ull; goto l_capnp_6t; }
     u64 r_0f_3 = (r_nm_3 + 0xffffffffffffffffull);
@@ -15766,8 +15766,8 @@ l_loop_jc:;
     goto l_capnp_91;
 l_else_wj:;
     if (!(ld64(away(away(r_8z, r_v8), 0xfffffffffffffff8ull)) == 0ull)) { r_z1 = a_3; goto l_capnp_91; }
-    u64 r_86 = capnp_words_lanes_end_of_blocks(r_8z, r_v8);
-    r_nm_1 = r_86;
+    u64 r_g1 = capnp_words_lanes_used_words_bound(r_8z, r_v8);
+    r_nm_1 = r_g1;
 l_loop_jc_1:;
     if (r_nm_1 == 0ull) { r_z1 = 0ull; goto l_capnp_91; }
     u64 r_0f_1 = (r_nm_1 + 0xffffffffffffffffull);
@@ -15777,8 +15777,8 @@ l_capnp_91:;
     return r_z1;
 }
 
-/* capnp_words::lanes::end_of_blocks */
-static NEVER u64 capnp_words_lanes_end_of_blocks(u8 *a_1, u64 a_2)
+/* capnp_words::lanes::used_words_bound */
+static NEVER u64 capnp_words_lanes_used_words_bound(u8 *a_1, u64 a_2)
 {
     u64 t_rn;
     u64 r_ur;
@@ -16077,8 +16077,8 @@ l_join_s8:;
     return;
 }
 
-/* capnp_making::zeroing::zero_landed::<#4072c0e2a627e5d6> */
-static NEVER COLD void capnp_making_zeroing_zero_landed_4072c0e2a627e5d6(u8 *a_1, u8 *a_2)
+/* capnp_making::zeroing::zero_target::<#4072c0e2a627e5d6> */
+static NEVER COLD void capnp_making_zeroing_zero_target_4072c0e2a627e5d6(u8 *a_1, u8 *a_2)
 {
     u64 r_tp;
     u32 r_5k;
@@ -16248,7 +16248,7 @@ l_join_v8:;
     r_8r = away(a_1, 64ull);
 l_arm_w5:;
     if (r_lc_3 > (u64)ld32(r_8r)) goto l_join_68;
-    if (!((r_y6_1 != 0ull) ? (t_c8 != 0u) : 0u)) goto l_capnp_b2;
+    if (!((r_y6_1 != 0ull) ? (t_c8 != 0u) : 0u)) goto l_capnp_jh;
     r_bw = (r_5k_1 + 1u);
     r_jm = 0u;
 l_join_v9:;
@@ -16256,8 +16256,8 @@ l_join_v9:;
     capnp_making_zeroing_zero_pointers_4072c0e2a627e5d6(a_1, r_5k, r_w0, t_12);
     u32 r_ff = (r_jm + 1u);
     if (!(r_ff == t_c8)) { r_bw = (r_w0 + t_12); r_jm = r_ff; goto l_join_v9; }
-l_capnp_b2:;
-    capnp_making_zeroing_zero_part_4072c0e2a627e5d6(a_1, r_5k, r_5k_1, r_c4);
+l_capnp_jh:;
+    capnp_making_zeroing_zero_if_inside_4072c0e2a627e5d6(a_1, r_5k, r_5k_1, r_c4);
     goto l_join_68;
 l_arm_o2:;
     capnp_making_zeroing_zero_pointers_4072c0e2a627e5d6(a_1, r_5k, r_5k_1, (u32)r_ij);
@@ -16396,7 +16396,7 @@ l_else_l5:;
 l_capnp_66:;
     st64((r_y4 + (i64)(r_9i)), 0ull);
     if (!(ld8(slot_1) == 1u)) goto l_capnp_o8;
-    capnp_making_zeroing_zero_landed_4072c0e2a627e5d6(a_1, r_x5);
+    capnp_making_zeroing_zero_target_4072c0e2a627e5d6(a_1, r_x5);
     if (!((r_4x & 3ull) == 2ull)) goto l_capnp_o8;
     capnp_making_zeroing_zero_far_pads_4072c0e2a627e5d6(a_1, r_4x);
 l_capnp_o8:;
@@ -16406,8 +16406,8 @@ l_join_68:;
     return;
 }
 
-/* capnp_making::zeroing::zero_part::<#4072c0e2a627e5d6> */
-static void capnp_making_zeroing_zero_part_4072c0e2a627e5d6(u8 *a_1, u32 a_2, u32 a_3, u64 a_4)
+/* capnp_making::zeroing::zero_if_inside::<#4072c0e2a627e5d6> */
+static void capnp_making_zeroing_zero_if_inside_4072c0e2a627e5d6(u8 *a_1, u32 a_2, u32 a_3, u64 a_4)
 {
     u64 r_7l;
     u64 r_o7;
@@ -16517,8 +16517,8 @@ l_capnp_68:;
     return;
 }
 
-/* capnp_copies::copy::children::copy_row::<#f91b20a4a575fbcb> */
-static NEVER void capnp_copies_copy_children_copy_row_f91b20a4a575fbcb(u8 *a_1, u8 *a_2, u32 a_3, u32 a_4, u8 *a_5, u32 a_6, u8 *a_7, u8 a_8)
+/* capnp_copies::copy::children::copy_children_out_of_line::<#f91b20a4a575fbcb> */
+static NEVER void capnp_copies_copy_children_copy_children_out_of_line_f_b6070b37(u8 *a_1, u8 *a_2, u32 a_3, u32 a_4, u8 *a_5, u32 a_6, u8 *a_7, u8 a_8)
 {
     A(8) u8 slot_1[24];
     A(8) u8 slot_2[64];
@@ -16955,8 +16955,8 @@ l_loop_jc:;
     goto l_capnp_bk;
 l_else_wj:;
     if (!(ld64(away(away(r_2b_1, r_z6_8), 0xfffffffffffffff8ull)) == 0ull)) { r_p3 = r_q7; goto l_capnp_bk; }
-    u64 r_86 = capnp_words_lanes_end_of_blocks(r_2b_1, r_z6_8);
-    r_nm_2 = r_86;
+    u64 r_g1 = capnp_words_lanes_used_words_bound(r_2b_1, r_z6_8);
+    r_nm_2 = r_g1;
 l_loop_jc_1:;
     if (r_nm_2 == 0ull) { r_p3 = 0ull; goto l_capnp_bk; }
     u64 r_0f_3 = (r_nm_2 + 0xffffffffffffffffull);
@@ -16976,8 +16976,8 @@ l_loop_jc_2:;
     goto l_capnp_fl;
 l_else_wj_1:;
     if (!(ld64(away(away(r_2b_2, r_z6_11), 0xfffffffffffffff8ull)) == 0ull)) { r_mz_1 = r_p3; r_3h = r_y6; goto l_capnp_fl; }
-    u64 r_86_1 = capnp_words_lanes_end_of_blocks(r_2b_2, r_z6_11);
-    r_nm_4 = r_86_1;
+    u64 r_g1_1 = capnp_words_lanes_used_words_bound(r_2b_2, r_z6_11);
+    r_nm_4 = r_g1_1;
 l_loop_jc_3:;
     if (r_nm_4 == 0ull) { r_mz_1 = r_p3; r_3h = 0ull; goto l_capnp_fl; }
     u64 r_0f_5 = (r_nm_4 + 0xffffffffffffffffull);
@@ -17118,7 +17118,7 @@ l_capnp_5c:;
     st32(r_c4_1, (r_5b + ((u32)r_ep & 65535u)));
     st32(r_bk, 0u);
     st32(r_6c_1, r_53);
-    capnp_copies_copy_children_copy_row_f91b20a4a575fbcb(slot_1, a_2, sink_54, (r_29 + r_4r_1), slot_2, r_az, a_7, a_8);
+    capnp_copies_copy_children_copy_children_out_of_line_f_b6070b37(slot_1, a_2, sink_54, (r_29 + r_4r_1), slot_2, r_az, a_7, a_8);
     r_2b_5 = ld8(slot_1);
     r_qh = ld8(r_x5_4);
     r_ip = ld32(r_k0_2);
@@ -17946,8 +17946,8 @@ l_core_2k:;
     return (u8)((u8)common_76 ^ (u8)1u);
 }
 
-/* capnp_arena::arena::builder_arena_impl::give_back_others::<#3691078bae5dd839> */
-static NEVER void capnp_arena_arena_builder_arena_impl_give_back_others__e4469f8f(u8 *a_1, u8 *a_2)
+/* capnp_arena::arena::builder_arena_impl::deallocate_others::<#3691078bae5dd839> */
+static NEVER void capnp_arena_arena_builder_arena_impl_deallocate_others_74e7ad04(u8 *a_1, u8 *a_2)
 {
     A(8) u8 slot_1[40];
     u8 *r_mb;
@@ -18078,8 +18078,8 @@ l_return_ri:;
     return r_fk;
 }
 
-/* capnp_streams::streams::parts::size_asked::<#a3cb57cd4b1504b3> */
-static void capnp_streams_streams_parts_size_asked_a3cb57cd4b1504b3(u8 *a_1, u8 *a_2, u8 *a_3)
+/* capnp_streams::streams::parts::size_for_task::<#a3cb57cd4b1504b3> */
+static void capnp_streams_streams_parts_size_for_task_a3cb57cd4b1504b3(u8 *a_1, u8 *a_2, u8 *a_3)
 {
     A(8) u8 slot_1[56];
     A(8) u8 slot_2[64];
@@ -19177,8 +19177,8 @@ l_capnp_ri:;
     return r_fk;
 }
 
-/* capnp_streams::streams::parts::digest_asked::<#37ce5737081a64d7> */
-static void capnp_streams_streams_parts_digest_asked_37ce5737081a64d7(u8 *a_1, u8 *a_2, u8 *a_3, u8 *a_4)
+/* capnp_streams::streams::parts::digest_for_task::<#37ce5737081a64d7> */
+static void capnp_streams_streams_parts_digest_for_task_37ce5737081a64d7(u8 *a_1, u8 *a_2, u8 *a_3, u8 *a_4)
 {
     A(8) u8 slot_1[1];
     A(8) u8 slot_2[24];
@@ -19341,7 +19341,7 @@ l_capnp_eu:;
     st32((slot_3 + 56), 0u);
     st32((slot_3 + 60), 0u);
     st32(t_5q, t_z4);
-    capnp_messages_messages_canonical_copy_copy_in_room_8e_45be7280(slot_2, slot_6, slot_3, r_r5, r_sv);
+    capnp_messages_messages_canonical_copy_canonicalize_re_6a62b637(slot_2, slot_6, slot_3, r_r5, r_sv);
     t_dd = ld8((slot_2 + 1));
     if (!(ld8(slot_2) == 0u)) { r_pp = ld64((slot_2 + 16)); r_2g = ld32((slot_2 + 12)); r_qb = ld8((slot_2 + 8)); goto l_arm_xm; }
     if (!(u8)(t_dd & 1)) goto l_else_bj;
@@ -19473,7 +19473,7 @@ l_capnp_9v:;
     st64(slot_5, (u64)r_r5_4);
     st64((slot_5 + 8), r_38_4);
     mv64((slot_5 + 16), (slot_4 + 24));
-    capnp_messages_messages_canonical_copy_copy_in_room_8e_45be7280(slot_2, slot_8, slot_5, ld8(slot_3), ld64(r_x5_10));
+    capnp_messages_messages_canonical_copy_canonicalize_re_6a62b637(slot_2, slot_8, slot_5, ld8(slot_3), ld64(r_x5_10));
     t_dd_1 = ld8((slot_2 + 1));
     if (!(ld8(slot_2) == 0u)) { r_pp_1 = ld8((slot_2 + 8)); r_2g_1 = ld64((slot_2 + 16)); r_qb_1 = ld32((slot_2 + 12)); goto l_arm_xm_1; }
     if (!(u8)(t_dd_1 & 1)) goto l_else_kl;
@@ -19530,8 +19530,8 @@ l_capnp_9i_1:;
     goto l_common_zd;
 }
 
-/* capnp_messages::messages::canonical_copy::copy_in_room::<#8e4daba4ac267b6f> */
-static void capnp_messages_messages_canonical_copy_copy_in_room_8e_45be7280(u8 *a_1, u8 *a_2, u8 *a_3, u8 a_4, u64 a_5)
+/* capnp_messages::messages::canonical_copy::canonicalize_reached_into::<#8e4daba4ac267b6f> */
+static void capnp_messages_messages_canonical_copy_canonicalize_re_6a62b637(u8 *a_1, u8 *a_2, u8 *a_3, u8 a_4, u64 a_5)
 {
     A(8) u8 slot_1[32];
     A(8) u8 slot_2[64];
@@ -19722,7 +19722,7 @@ l_join_zk:;
     capnp_making_landing_follow_22521b95e02b6c38(slot_1, a_2, 0u, 0u);
     st64(r_lz_1, 0ull);
     if (!(ld8(slot_1) == 1u)) goto l_capnp_8g;
-    capnp_making_zeroing_zero_landed_22521b95e02b6c38(a_2, (slot_1 + 8));
+    capnp_making_zeroing_zero_target_22521b95e02b6c38(a_2, (slot_1 + 8));
     if (!((r_qw_2 & 3ull) == 2ull)) goto l_capnp_8g;
     capnp_making_zeroing_zero_far_pads_22521b95e02b6c38(a_2, r_qw_2);
 l_capnp_8g:;
@@ -19752,8 +19752,8 @@ l_loop_jc:;
     goto l_capnp_ev;
 l_else_wj:;
     if (!(ld64(away(away(r_2b_1, r_z6), 0xfffffffffffffff8ull)) == 0ull)) { r_hk = r_u7; goto l_capnp_ev; }
-    u64 r_86 = capnp_words_lanes_end_of_blocks(r_2b_1, r_z6);
-    r_nm_1 = r_86;
+    u64 r_g1 = capnp_words_lanes_used_words_bound(r_2b_1, r_z6);
+    r_nm_1 = r_g1;
 l_loop_jc_1:;
     if (r_nm_1 == 0ull) { r_hk = 0ull; goto l_capnp_ev; }
     u64 r_0f_1 = (r_nm_1 + 0xffffffffffffffffull);
@@ -19773,8 +19773,8 @@ l_loop_jc_2:;
     goto l_capnp_dw;
 l_else_wj_1:;
     if (!(ld64(away(away(r_2b_2, r_z6_3), 0xfffffffffffffff8ull)) == 0ull)) { r_6o = r_u7_1; goto l_capnp_dw; }
-    u64 r_86_1 = capnp_words_lanes_end_of_blocks(r_2b_2, r_z6_3);
-    r_nm_3 = r_86_1;
+    u64 r_g1_1 = capnp_words_lanes_used_words_bound(r_2b_2, r_z6_3);
+    r_nm_3 = r_g1_1;
 l_loop_jc_3:;
     if (r_nm_3 == 0ull) { r_6o = 0ull; goto l_capnp_dw; }
     u64 r_0f_3 = (r_nm_3 + 0xffffffffffffffffull);
@@ -19868,7 +19868,7 @@ l_capnp_am:;
     st32((slot_2 + 48), (r_5k + (u32)r_br));
     st32((slot_2 + 52), 0u);
     st32(t_6c_1, r_5k_2);
-    capnp_copies_copy_children_copy_row_f743e1513b93edc7(slot_1, a_2, r_wt_1, (r_29 + r_4r), slot_2, r_az, slot_4, 1u);
+    capnp_copies_copy_children_copy_children_out_of_line_f_f51e9aad(slot_1, a_2, r_wt_1, (r_29 + r_4r), slot_2, r_az, slot_4, 1u);
     r_2b_4 = ld8(slot_1);
     r_qh_1 = ld8((slot_1 + 8));
     r_ip_1 = ld32((slot_1 + 12));
@@ -20025,9 +20025,9 @@ static NEVER COLD struct s_i8_i32 capnp_arena_arena_rows_allocate_in_96bc33dd2da
     u32 r_1x;
     u8 *r_8z = away(a_1, (a_2 * 24ull));
     if (((u64)ld32(away(r_8z, 16ull)) + (u64)a_3) > (u64)(ld64(away(r_8z, 8ull)) >> 3ull)) { r_us = 0u; r_1x = 0u; goto l_join_pr; }
-    u32 r_ni = capnp_arena_arena_rows_take_in_96bc33dd2dacd45a(a_1, a_2, a_3);
+    u32 r_zk = capnp_arena_arena_rows_allocate_fitting_in_96bc33dd2dacd45a(a_1, a_2, a_3);
     r_us = 1u;
-    r_1x = r_ni;
+    r_1x = r_zk;
 l_join_pr:;
     struct s_i8_i32 r_9l = (struct s_i8_i32){ 0 };
     r_9l.f0 = r_us;
@@ -20036,8 +20036,8 @@ l_join_pr:;
     return r_i6;
 }
 
-/* capnp_arena::arena::rows::take_in::<#96bc33dd2dacd45a> */
-static NEVER COLD u32 capnp_arena_arena_rows_take_in_96bc33dd2dacd45a(u8 *a_1, u64 a_2, u32 a_3)
+/* capnp_arena::arena::rows::allocate_fitting_in::<#96bc33dd2dacd45a> */
+static NEVER COLD u32 capnp_arena_arena_rows_allocate_fitting_in_96bc33dd2dacd45a(u8 *a_1, u64 a_2, u32 a_3)
 {
     u8 *r_zn = away(away(a_1, (a_2 * 24ull)), 16ull);
     u32 r_yf = ld32(r_zn);
@@ -20830,8 +20830,8 @@ l_loop_jc:;
     goto l_capnp_fc;
 l_else_wj:;
     if (!(ld64(away(away(r_c0_1, r_z6_3), 0xfffffffffffffff8ull)) == 0ull)) { r_ev = r_q7_1; goto l_capnp_fc; }
-    u64 r_86 = capnp_words_lanes_end_of_blocks(r_c0_1, r_z6_3);
-    r_nm_1 = r_86;
+    u64 r_g1 = capnp_words_lanes_used_words_bound(r_c0_1, r_z6_3);
+    r_nm_1 = r_g1;
 l_loop_jc_1:;
     if (r_nm_1 == 0ull) { r_ev = 0ull; goto l_capnp_fc; }
     u64 r_0f_1 = (r_nm_1 + 0xffffffffffffffffull);
@@ -20850,8 +20850,8 @@ l_loop_jc_2:;
     goto l_capnp_dt;
 l_else_wj_1:;
     if (!(ld64(away(away(r_c0_2, r_z6_6), 0xfffffffffffffff8ull)) == 0ull)) { r_e9_6 = r_y6; goto l_capnp_dt; }
-    u64 r_86_1 = capnp_words_lanes_end_of_blocks(r_c0_2, r_z6_6);
-    r_nm_3 = r_86_1;
+    u64 r_g1_1 = capnp_words_lanes_used_words_bound(r_c0_2, r_z6_6);
+    r_nm_3 = r_g1_1;
 l_loop_jc_3:;
     if (r_nm_3 == 0ull) { r_e9_6 = 0ull; goto l_capnp_dt; }
     u64 r_0f_3 = (r_nm_3 + 0xffffffffffffffffull);
@@ -20997,7 +20997,7 @@ l_capnp_am:;
     st32((slot_2 + 48), (r_az + r_gx));
     st32((slot_2 + 52), 0u);
     st32((slot_2 + 56), r_4w);
-    capnp_copies_copy_children_copy_row_f743e1513b93edc7(slot_1, a_2, r_ne, (r_29 + r_4r_4), slot_2, r_ib, a_6, a_7);
+    capnp_copies_copy_children_copy_children_out_of_line_f_f51e9aad(slot_1, a_2, r_ne, (r_29 + r_4r_4), slot_2, r_ib, a_6, a_7);
     r_t8 = ld8(slot_1);
     r_hg = ld8((slot_1 + 8));
     r_lc_8 = ld32((slot_1 + 12));
@@ -21548,7 +21548,7 @@ l_arm_n3:;
     st32(r_c4_7, (r_5b + ((u32)r_ep_4 & 65535u)));
     st32(r_bk_2, 0u);
     st32(r_6c_3, r_s1);
-    capnp_copies_copy_children_copy_row_f743e1513b93edc7(slot_1, a_2, sink_il, (r_az_2 + r_fj), slot_2, r_az_3, a_6, a_7);
+    capnp_copies_copy_children_copy_children_out_of_line_f_f51e9aad(slot_1, a_2, sink_il, (r_az_2 + r_fj), slot_2, r_az_3, a_6, a_7);
     r_2b_2 = ld8(slot_1);
     r_qh = ld8(r_x5_15);
     r_ip = ld32(r_k0_5);
@@ -21988,8 +21988,8 @@ l_loop_jc_4:;
     goto l_capnp_fc_1;
 l_else_wj_2:;
     if (!(ld64(away(away(r_c0_13, r_z6_61), 0xfffffffffffffff8ull)) == 0ull)) { r_ev_1 = r_q7_3; goto l_capnp_fc_1; }
-    u64 r_86_2 = capnp_words_lanes_end_of_blocks(r_c0_13, r_z6_61);
-    r_nm_7 = r_86_2;
+    u64 r_g1_2 = capnp_words_lanes_used_words_bound(r_c0_13, r_z6_61);
+    r_nm_7 = r_g1_2;
 l_loop_jc_5:;
     if (r_nm_7 == 0ull) { r_ev_1 = 0ull; goto l_capnp_fc_1; }
     u64 r_0f_13 = (r_nm_7 + 0xffffffffffffffffull);
@@ -22009,8 +22009,8 @@ l_loop_jc_6:;
     goto l_capnp_fl;
 l_else_wj_3:;
     if (!(ld64(away(away(r_c0_14, r_z6_64), 0xfffffffffffffff8ull)) == 0ull)) { r_mz_7 = r_ev_1; r_3h = r_y6_3; goto l_capnp_fl; }
-    u64 r_86_3 = capnp_words_lanes_end_of_blocks(r_c0_14, r_z6_64);
-    r_nm_9 = r_86_3;
+    u64 r_g1_3 = capnp_words_lanes_used_words_bound(r_c0_14, r_z6_64);
+    r_nm_9 = r_g1_3;
 l_loop_jc_7:;
     if (r_nm_9 == 0ull) { r_mz_7 = r_ev_1; r_3h = 0ull; goto l_capnp_fl; }
     u64 r_0f_15 = (r_nm_9 + 0xffffffffffffffffull);
@@ -22145,7 +22145,7 @@ l_capnp_5c:;
     st32(r_c4_11, (r_5b_1 + ((u32)r_ep_5 & 65535u)));
     st32(r_bk_3, 0u);
     st32(r_6c_5, r_s1_1);
-    capnp_copies_copy_children_copy_row_f743e1513b93edc7(slot_1, a_2, sink_54, (r_29_2 + r_4r_7), slot_2, r_az_4, a_6, a_7);
+    capnp_copies_copy_children_copy_children_out_of_line_f_f51e9aad(slot_1, a_2, sink_54, (r_29_2 + r_4r_7), slot_2, r_az_4, a_6, a_7);
     r_2b_8 = ld8(slot_1);
     r_qh_2 = ld8(r_x5_23);
     r_ip_2 = ld32(r_k0_10);
@@ -22251,20 +22251,20 @@ static void capnp_arena_arena_builder_arena_impl_BuilderArenaImplB_a1412319(u8 *
     u32 r_yf_1 = ld32(r_2g);
     if (!(((u64)r_yf_1 + (u64)a_3) > (u64)(ld64(away(a_2, 64ull)) >> 3ull))) { r_zv = r_yf_1; goto l_then_pp; }
     r_o8 = away(a_2, 88ull);
-    struct s_i8_i32 r_vy = capnp_arena_arena_bounds_first_by_bounds_96bc33dd2dacd45a(ldp(r_o8), ld64(away(a_2, 96ull)), a_3);
-    r_ll = (r_vy.f1 + 1u);
-    if (!(r_vy.f0 == 1u)) goto l_arm_90;
-    if (!(r_ll == 0u)) goto l_else_ls;
+    struct s_i8_i32 r_wr = capnp_arena_arena_bounds_first_fit_by_bounds_96bc33dd2dacd45a(ldp(r_o8), ld64(away(a_2, 96ull)), a_3);
+    r_ll = (r_wr.f1 + 1u);
+    if (!(r_wr.f0 == 1u)) goto l_arm_90;
+    if (!(r_ll == 0u)) goto l_else_35;
     r_zv = ld32(r_2g);
 l_then_pp:;
     st32(r_2g, (r_zv + a_3));
     r_oh = 0u;
     r_yv = r_zv;
     goto l_join_iz;
-l_else_ls:;
-    u32 r_vq = capnp_arena_arena_rows_take_in_96bc33dd2dacd45a(ldp(r_o8), ((u64)r_ll + 0xffffffffffffffffull), a_3);
+l_else_35:;
+    u32 r_sd = capnp_arena_arena_rows_allocate_fitting_in_96bc33dd2dacd45a(ldp(r_o8), ((u64)r_ll + 0xffffffffffffffffull), a_3);
     r_oh = r_ll;
-    r_yv = r_vq;
+    r_yv = r_sd;
     goto l_join_iz;
 l_arm_90:;
     if (!(u8)(ld8(r_yf) & 1)) { r_zm = 0u; r_fq_1 = 0ull; goto l_join_el; }
@@ -22329,7 +22329,7 @@ l_arm_7m:;
     r_yv = 0u;
     goto l_join_iz;
 l_else_91:;
-    capnp_arena_arena_rows_take_in_96bc33dd2dacd45a(ldp(away(a_2, 88ull)), ((r_fq_1 & 0xffffffffull) + 0xffffffffffffffffull), a_3);
+    capnp_arena_arena_rows_allocate_fitting_in_96bc33dd2dacd45a(ldp(away(a_2, 88ull)), ((r_fq_1 & 0xffffffffull) + 0xffffffffffffffffull), a_3);
     r_oh = r_wt;
     r_yv = 0u;
     goto l_join_iz;
@@ -22349,8 +22349,8 @@ l_join_iz:;
     goto l_common_8p;
 }
 
-/* capnp_arena::arena::bounds::first_by_bounds::<#96bc33dd2dacd45a> */
-static NEVER struct s_i8_i32 capnp_arena_arena_bounds_first_by_bounds_96bc33dd2dacd45a(u8 *a_1, u64 a_2, u32 a_3)
+/* capnp_arena::arena::bounds::first_fit_by_bounds::<#96bc33dd2dacd45a> */
+static NEVER struct s_i8_i32 capnp_arena_arena_bounds_first_fit_by_bounds_96bc33dd2dacd45a(u8 *a_1, u64 a_2, u32 a_3)
 {
     u8 r_0f;
     u64 r_7l;
@@ -22772,8 +22772,8 @@ l_join_s8:;
     return;
 }
 
-/* capnp_making::zeroing::zero_landed::<#22521b95e02b6c38> */
-static NEVER COLD void capnp_making_zeroing_zero_landed_22521b95e02b6c38(u8 *a_1, u8 *a_2)
+/* capnp_making::zeroing::zero_target::<#22521b95e02b6c38> */
+static NEVER COLD void capnp_making_zeroing_zero_target_22521b95e02b6c38(u8 *a_1, u8 *a_2)
 {
     u64 r_tp;
     u32 r_5k;
@@ -22943,7 +22943,7 @@ l_join_if:;
     r_8r = away(a_1, 72ull);
 l_arm_w5:;
     if (r_lc_3 > (u64)ld32(r_8r)) goto l_join_68;
-    if (!((r_y6_1 != 0ull) ? (t_c8 != 0u) : 0u)) goto l_capnp_oj;
+    if (!((r_y6_1 != 0ull) ? (t_c8 != 0u) : 0u)) goto l_capnp_de;
     r_zz = (r_5k_1 + 1u);
     r_2f = 0u;
 l_join_mh:;
@@ -22951,8 +22951,8 @@ l_join_mh:;
     capnp_making_zeroing_zero_pointers_22521b95e02b6c38(a_1, r_5k, r_w0, t_12);
     u32 r_ff = (r_2f + 1u);
     if (!(r_ff == t_c8)) { r_zz = (r_w0 + t_12); r_2f = r_ff; goto l_join_mh; }
-l_capnp_oj:;
-    capnp_making_zeroing_zero_part_22521b95e02b6c38(a_1, r_5k, r_5k_1, r_c4);
+l_capnp_de:;
+    capnp_making_zeroing_zero_if_inside_22521b95e02b6c38(a_1, r_5k, r_5k_1, r_c4);
     goto l_join_68;
 l_arm_dt:;
     capnp_making_zeroing_zero_pointers_22521b95e02b6c38(a_1, r_5k, r_5k_1, (u32)r_ij);
@@ -23091,7 +23091,7 @@ l_else_lz:;
 l_capnp_66:;
     st64((r_y4 + (i64)(r_9i)), 0ull);
     if (!(ld8(slot_1) == 1u)) goto l_capnp_o8;
-    capnp_making_zeroing_zero_landed_22521b95e02b6c38(a_1, r_x5);
+    capnp_making_zeroing_zero_target_22521b95e02b6c38(a_1, r_x5);
     if (!((r_4x & 3ull) == 2ull)) goto l_capnp_o8;
     capnp_making_zeroing_zero_far_pads_22521b95e02b6c38(a_1, r_4x);
 l_capnp_o8:;
@@ -23101,8 +23101,8 @@ l_join_68:;
     return;
 }
 
-/* capnp_making::zeroing::zero_part::<#22521b95e02b6c38> */
-static void capnp_making_zeroing_zero_part_22521b95e02b6c38(u8 *a_1, u32 a_2, u32 a_3, u64 a_4)
+/* capnp_making::zeroing::zero_if_inside::<#22521b95e02b6c38> */
+static void capnp_making_zeroing_zero_if_inside_22521b95e02b6c38(u8 *a_1, u32 a_2, u32 a_3, u64 a_4)
 {
     u64 r_7l;
     u64 r_o7;
@@ -23212,8 +23212,8 @@ l_capnp_68:;
     return;
 }
 
-/* capnp_copies::copy::children::copy_row::<#f743e1513b93edc7> */
-static NEVER void capnp_copies_copy_children_copy_row_f743e1513b93edc7(u8 *a_1, u8 *a_2, u32 a_3, u32 a_4, u8 *a_5, u32 a_6, u8 *a_7, u8 a_8)
+/* capnp_copies::copy::children::copy_children_out_of_line::<#f743e1513b93edc7> */
+static NEVER void capnp_copies_copy_children_copy_children_out_of_line_f_f51e9aad(u8 *a_1, u8 *a_2, u32 a_3, u32 a_4, u8 *a_5, u32 a_6, u8 *a_7, u8 a_8)
 {
     A(8) u8 slot_1[24];
     A(8) u8 slot_2[64];
@@ -23637,8 +23637,8 @@ l_loop_jc:;
     goto l_capnp_bk;
 l_else_wj:;
     if (!(ld64(away(away(r_2b_1, r_z6_7), 0xfffffffffffffff8ull)) == 0ull)) { r_p3 = r_q7; goto l_capnp_bk; }
-    u64 r_86 = capnp_words_lanes_end_of_blocks(r_2b_1, r_z6_7);
-    r_nm_2 = r_86;
+    u64 r_g1 = capnp_words_lanes_used_words_bound(r_2b_1, r_z6_7);
+    r_nm_2 = r_g1;
 l_loop_jc_1:;
     if (r_nm_2 == 0ull) { r_p3 = 0ull; goto l_capnp_bk; }
     u64 r_0f_3 = (r_nm_2 + 0xffffffffffffffffull);
@@ -23658,8 +23658,8 @@ l_loop_jc_2:;
     goto l_capnp_fl;
 l_else_wj_1:;
     if (!(ld64(away(away(r_2b_2, r_z6_10), 0xfffffffffffffff8ull)) == 0ull)) { r_mz_1 = r_p3; r_3h = r_y6; goto l_capnp_fl; }
-    u64 r_86_1 = capnp_words_lanes_end_of_blocks(r_2b_2, r_z6_10);
-    r_nm_4 = r_86_1;
+    u64 r_g1_1 = capnp_words_lanes_used_words_bound(r_2b_2, r_z6_10);
+    r_nm_4 = r_g1_1;
 l_loop_jc_3:;
     if (r_nm_4 == 0ull) { r_mz_1 = r_p3; r_3h = 0ull; goto l_capnp_fl; }
     u64 r_0f_5 = (r_nm_4 + 0xffffffffffffffffull);
@@ -23794,7 +23794,7 @@ l_capnp_5c:;
     st32(r_c4_1, (r_5b + ((u32)r_ep & 65535u)));
     st32(r_bk, 0u);
     st32(r_6c_1, r_53);
-    capnp_copies_copy_children_copy_row_f743e1513b93edc7(slot_1, a_2, sink_54, (r_29 + r_4r_1), slot_2, r_az, a_7, a_8);
+    capnp_copies_copy_children_copy_children_out_of_line_f_f51e9aad(slot_1, a_2, sink_54, (r_29 + r_4r_1), slot_2, r_az, a_7, a_8);
     r_2b_5 = ld8(slot_1);
     r_qh = ld8(r_x5_4);
     r_ip = ld32(r_k0_2);
@@ -24606,7 +24606,7 @@ l_capnp_4o:;
     stp(slot_1, r_xw_2);
     st64((slot_1 + 8), r_38_4);
     st64((slot_1 + 16), r_38_5);
-    capnp_arena_arena_builder_arena_impl_give_back_others__e4469f8f(slot_2, slot_1);
+    capnp_arena_arena_builder_arena_impl_deallocate_others_74e7ad04(slot_2, slot_1);
     goto l_capnp_f6;
 l_else_r8:;
     if (r_38_3 == 0ull) goto l_core_at;
@@ -24715,7 +24715,7 @@ static void capnp_arena_arena_builder_arena_impl_BuilderArenaImpl__1592d6b0(u8 *
     stp(slot_1, r_rv_1);
     st64((slot_1 + 8), r_qw_2);
     st64((slot_1 + 16), r_qw_3);
-    capnp_arena_arena_builder_arena_impl_give_back_others__f61dbe69(slot_1);
+    capnp_arena_arena_builder_arena_impl_deallocate_others_a537bde4(slot_1);
     goto l_capnp_f6;
 l_else_at:;
     if (r_qw_3 == 0ull) goto l_capnp_f6;
@@ -24756,8 +24756,8 @@ l_std_68:;
     return;
 }
 
-/* capnp_arena::arena::builder_arena_impl::give_back_others::<#bd7e3d3a11634cb6> */
-static NEVER void capnp_arena_arena_builder_arena_impl_give_back_others__f61dbe69(u8 *a_1)
+/* capnp_arena::arena::builder_arena_impl::deallocate_others::<#bd7e3d3a11634cb6> */
+static NEVER void capnp_arena_arena_builder_arena_impl_deallocate_others_a537bde4(u8 *a_1)
 {
     A(8) u8 slot_1[24];
     u8 *r_mb;
@@ -24902,7 +24902,7 @@ static NEVER void capnp_messages_messages_part_digest_digest_of_part_cop_bd8dbb1
     if (!(ld8(slot_3) == 0u)) goto l_arm_e5;
     st64(slot_5, (u64)r_r5);
     memcpy((slot_5 + 8), (slot_3 + 16), 72);
-    capnp_messages_messages_canonical_copy_copy_reached_wi_8d1bfcda(slot_4, slot_1, slot_5, slot_2);
+    capnp_messages_messages_canonical_copy_canonicalize_re_3491092d(slot_4, slot_1, slot_5, slot_2);
     r_n8 = ld64((slot_4 + 16));
     r_ov = ld32((slot_4 + 12));
     r_qo = ld8((slot_4 + 8));
@@ -24960,7 +24960,7 @@ l_capnp_4o:;
     stp(slot_1, r_xw_2);
     st64((slot_1 + 8), r_38_6);
     st64((slot_1 + 16), r_38_7);
-    capnp_arena_arena_builder_arena_impl_give_back_others__e4469f8f(slot_2, slot_1);
+    capnp_arena_arena_builder_arena_impl_deallocate_others_74e7ad04(slot_2, slot_1);
     goto l_capnp_f6;
 l_else_r8:;
     if (r_38_5 == 0ull) goto l_core_at;
@@ -25733,8 +25733,8 @@ l_return_ri:;
     return r_fk;
 }
 
-/* capnp_streams::streams::answers::located::<#a3cb57cd4b1504b3> */
-static void capnp_streams_streams_answers_located_a3cb57cd4b1504b3(u8 *a_1, u8 *a_2, u8 *a_3, u8 *a_4)
+/* capnp_streams::streams::answers::locate_refusal::<#a3cb57cd4b1504b3> */
+static void capnp_streams_streams_answers_locate_refusal_a3cb57cd4b1504b3(u8 *a_1, u8 *a_2, u8 *a_3, u8 *a_4)
 {
     A(8) u8 slot_1[40];
     A(8) u8 slot_2[24];
@@ -26599,7 +26599,7 @@ l_join_8s:;
     u64 r_52_3 = ld64(r_xz_1);
     if (!(r_5p > (r_52_3 - r_52_2))) { r_ph = r_52_3; r_az = r_52_2; goto l_join_kx; }
     u8 r_hi = std_alloc_vec_Vec_grow_amortized_ffd95af9aab10bcd(r_rq_2, r_5p);
-    if (!r_hi) goto l_capnp_0t;
+    if (!r_hi) goto l_capnp_iz;
     r_ph = ld64(r_xz_1);
     r_az = ld64(r_08_2);
 l_join_kx:;
@@ -26613,8 +26613,8 @@ l_std_5b:;
     st64(r_xz_1, r_ph);
     r_xq = r_5q;
     goto l_arm_9v;
-l_capnp_0t:;
-    capnp_framing_framing_reading_make_some_room_3691078bae5dd839(slot_1, a_2, r_rq_2);
+l_capnp_iz:;
+    capnp_framing_framing_reading_grow_3691078bae5dd839(slot_1, a_2, r_rq_2);
     r_r5_1 = ld8(r_x5);
     r_38_3 = ld64(r_zd);
     if (!(ld8(slot_1) == 0u)) goto l_arm_of;
@@ -26751,7 +26751,7 @@ l_join_q6:;
     u64 r_52_11 = ld64(r_2g);
     if (!(r_e9_2 > (r_52_11 - r_52_10))) { r_ph_1 = r_52_11; r_az_1 = r_52_10; goto l_join_kx_1; }
     u8 r_hi_1 = std_alloc_vec_Vec_grow_amortized_ffd95af9aab10bcd(r_r2, r_e9_2);
-    if (!r_hi_1) goto l_capnp_0t_1;
+    if (!r_hi_1) goto l_capnp_iz_1;
     r_ph_1 = ld64(r_2g);
     r_az_1 = ld64(r_h6);
 l_join_kx_1:;
@@ -26767,8 +26767,8 @@ l_std_re:;
 l_capnp_5s:;
     r_iu = r_r4;
     goto l_arm_op;
-l_capnp_0t_1:;
-    capnp_framing_framing_reading_make_some_room_3691078bae5dd839(slot_1, a_2, r_r2);
+l_capnp_iz_1:;
+    capnp_framing_framing_reading_grow_3691078bae5dd839(slot_1, a_2, r_r2);
     r_r5_3 = ld8(r_x5_1);
     r_38_8 = ld64(r_zd_1);
     if (!(ld8(slot_1) == 0u)) goto l_arm_of_1;
@@ -27003,7 +27003,7 @@ static void capnp_streams_streams_answers_answer_daa93de48be9c1fe(u8 *a_1, u8 *a
     switch (ld8(slot_12)) {
     case 0u: goto l_arm_h5;
     case 1u: goto l_arm_9w;
-    case 2u: goto l_arm_np;
+    case 2u: goto l_arm_42;
     case 3u: goto l_arm_xs;
     case 4u: goto l_arm_91;
     default: goto l_noarm_e1;
@@ -27078,7 +27078,7 @@ l_after_xs:;
     mv32(slot_4, r_rq);
     memset(a_2, 0u, 40);
     if (!(r_dh == 1u)) goto l_arm_vf;
-    capnp_streams_streams_parts_copy_asked_ad42fe8b34616de5(slot_5, slot_4, slot_11, slot_3);
+    capnp_streams_streams_parts_canonicalize_for_task_ad42_fb60ad1a(slot_5, slot_4, slot_11, slot_3);
     r_x5_5 = (slot_5 + 8);
     if (ld8(slot_5) == 0u) goto l_arm_xt;
     goto l_arm_cc;
@@ -27130,7 +27130,7 @@ l_capnp_4o:;
     stp(slot_1, r_xw_4);
     st64((slot_1 + 8), r_38_7);
     st64((slot_1 + 16), r_38_8);
-    capnp_arena_arena_builder_arena_impl_give_back_others__e4469f8f(slot_2, slot_1);
+    capnp_arena_arena_builder_arena_impl_deallocate_others_74e7ad04(slot_2, slot_1);
     goto l_capnp_f6;
 l_else_r8:;
     if (r_38_6 == 0ull) goto l_core_at;
@@ -27333,8 +27333,8 @@ l_join_s7:;
     r_uc = r_yx;
     r_6n_2 = r_1v;
     goto l_join_7h;
-l_arm_np:;
-    capnp_streams_streams_parts_size_asked_a3cb57cd4b1504b3(slot_15, a_4, slot_12);
+l_arm_42:;
+    capnp_streams_streams_parts_size_for_task_a3cb57cd4b1504b3(slot_15, a_4, slot_12);
     r_x5_12 = (slot_15 + 8);
     if (!(ld8(slot_15) == 0u)) goto l_arm_cc_1;
     r_38_14 = ld64(r_x5_12);
@@ -27395,7 +27395,7 @@ l_arm_xs:;
     mv32(slot_4, r_rq_1);
     memset(a_2, 0u, 40);
     if (!(r_dh_3 == 1u)) goto l_arm_1w;
-    capnp_streams_streams_parts_digest_asked_37ce5737081a64d7(slot_5, slot_4, a_4, slot_2);
+    capnp_streams_streams_parts_digest_for_task_37ce5737081a64d7(slot_5, slot_4, a_4, slot_2);
     r_r5_8 = ld8(slot_5);
     r_p9_1 = (slot_5 + 1);
     r_r5_9 = ld8((slot_5 + 8));
@@ -27658,12 +27658,12 @@ l_join_pl:;
     r_fk = 1u;
     goto l_return_ri;
 l_join_iw:;
-    if (!(ld64(r_vg) == 0ull)) goto l_capnp_zl;
+    if (!(ld64(r_vg) == 0ull)) goto l_capnp_tv;
     u64 r_52_1 = ld64(r_e2);
     if ((r_52_1 + 0xffffffffffffdfffull) < 0xfffffffffffff7feull) { r_mp = r_52_1; goto l_arm_2g; }
-l_capnp_zl:;
-    u8 r_ag = capnp_packing_packing_packing_output_PackingOutput_flu_eecb851b(a_1);
-    if ((u8)(r_ag & 1)) { r_fk = 1u; goto l_return_ri; }
+l_capnp_tv:;
+    u8 r_ea = capnp_packing_packing_packing_output_PackingOutput_wri_d9211852(a_1);
+    if ((u8)(r_ea & 1)) { r_fk = 1u; goto l_return_ri; }
     r_mp = ld64(r_e2);
 l_arm_2g:;
     r_2b = away(r_t9, r_mp);
@@ -27810,8 +27810,8 @@ l_return_ri:;
     return r_fk;
 }
 
-/* capnp_packing::packing::packing_output::PackingOutput::flush::<#9bce7ff2fa667035> */
-static u8 capnp_packing_packing_packing_output_PackingOutput_flu_eecb851b(u8 *a_1)
+/* capnp_packing::packing::packing_output::PackingOutput::write_pending::<#9bce7ff2fa667035> */
+static u8 capnp_packing_packing_packing_output_PackingOutput_wri_d9211852(u8 *a_1)
 {
     u8 *r_vg;
     u8 *r_e2;
