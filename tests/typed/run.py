@@ -289,7 +289,7 @@ class Generated:
         with tempfile.TemporaryDirectory() as cases:
             for i in range(0, len(frames), some):
                 (pathlib.Path(cases) / f'{i:08}').write_bytes(b''.join(frames[i:i + some]))
-            run = subprocess.run(['rt', 'try', '--cases', cases], cwd=self.crates / f'{self.stem}_{program}', stdin=subprocess.DEVNULL, stdout=subprocess.PIPE, stderr=subprocess.PIPE)
+            run = subprocess.run(['rt', 'try', '--seconds', '600', '--cases', cases], cwd=self.crates / f'{self.stem}_{program}', stdin=subprocess.DEVNULL, stdout=subprocess.PIPE, stderr=subprocess.PIPE)
         lines = [line for line in run.stdout.decode(errors='replace').splitlines() if not line.startswith('== ')]
         if len(lines) != len(frames):
             print(run.stderr.decode(errors='replace')[-3000:])
