@@ -41,8 +41,8 @@ CYCLE = re.compile(r' *#\[cycle\((\w+)\)\]')
 # The first line of an impl of a plain type, with the trait that it is of.
 IMPL = re.compile(r' *impl(?:<[^<>]*(?:<[^<>]*>[^<>]*)*>)? (?:(?:\w+::)*(\w+) for )?(?:\w+::)*\w+(?:<[^<>]*>)?(?: where| \{|$)')
 TYPE = re.compile(r' *(?:pub(?:\([a-z]+\))? )?(?:struct|enum) (\w+)')
-# A proof with a hole: with `--allow-holes`, a check goes by the contract of the function that it is for.
-HOLE = '''use Rattle.{crate}.proofs.{path}.Statement.{{statement}}
+# A proof with a hole: with `--allow-holes`, a check goes by the contract of the function, or those of the cycle, that it is for.
+HOLE = '''use Rattle.{crate}.proofs.{statement}.{{statement}}
 
 pub {name}_spec : {{M : Type 1}} → statement M
 {name}_spec = ?
@@ -197,15 +197,20 @@ def homes_in(folder):
 def take_as_proved(folder, crate, functions):
     """Replaces the proofs of all functions of the crate in a folder by holes, except for these functions, their cycles, and those
     whose proofs the source doesn't tell the place of."""
-    homes, paths, cycles = homes_in(folder), {it.path for it in functions}, {f'+{it.cycle}' for it in functions}
+    homes, paths, cycles = homes_in(folder), {it.path for it in functions}, {f'+{it.cycle or it.path.rpartition("::")[2]}' for it in functions}
     places = [it.folder(homes) for it in functions_in(folder) if it.path not in paths]
     places += [it.relative_to(folder / 'proofs').parts for it in (folder / 'proofs').rglob('+*') if it.name not in cycles]
     for names in filter(None, places):
         place = folder / 'proofs' / pathlib.Path(*names)
+        # a function that calls itself has its proof there, like a cycle
+        if (place.parent / f'+{place.name}').is_dir():
+            continue
         place.mkdir(parents=True, exist_ok=True)
         for name in ('Answers.antt', 'Invariants.antt'):
             (place / name).unlink(missing_ok=True)
-        (place / 'Proof.antt').write_text(HOLE.format(crate=crate, path='.'.join(names), name=names[-1]), encoding='utf-8')
+        path = '.'.join(names)
+        statement = path if names[-1].startswith('+') else f'{path}.Statement'
+        (place / 'Proof.antt').write_text(HOLE.format(crate=crate, statement=statement, name=names[-1]), encoding='utf-8')
 
 
 def read(path):
