@@ -25,7 +25,7 @@ fn check_asked(rt: &impl Abort, arena: BuilderArenaImpl<NotingAllocator>) {
 
 /// Clears the root pointer, then makes it a capability, then makes it lead to a struct without
 /// words.
-fn check_pointer<A: BuilderArena>(rt: &impl Abort, arena: &mut A) {
+fn write_pointer<A: BuilderArena>(rt: &impl Abort, arena: &mut A) {
     let size = StructSize {
         data_words: 0,
         pointers: 0,
@@ -93,7 +93,7 @@ fn check_elements<A: BuilderArena>(rt: &impl Abort, arena: &mut A) {
 #[test]
 fn objects(rt: HostRuntime) {
     let mut arena = message(&rt, rt.alloc());
-    check_pointer(&rt, &mut arena);
+    write_pointer(&rt, &mut arena);
     check_fields(&rt, &mut arena);
     check_elements(&rt, &mut arena);
     check_asked(&rt, arena);

@@ -86,7 +86,7 @@ fn check_set<A: ReaderArena>(
 /// Sets structs with a data section that is one byte, or ends inside a word or inside a byte. The
 /// bits after the data section aren't copied.
 #[test]
-fn narrow_structs(rt: HostRuntime) {
+fn sections_of_part_words(rt: HostRuntime) {
     let message = "ffffffffffffffff 00000000000000ff 0100020000000000";
     let source = arena_of(rt.alloc(), message, ReaderOptions::default()).expect(&rt, "words");
     let mut lim = ReadLimiter::new(Some(0));

@@ -171,7 +171,7 @@ pub fn canonical_copy_in_bytes<W: Output, A: Allocator, S: ReaderSegments + Drop
         ⊎ ((e.0 ≡ CanonicalError.Frame WriteFailed) × (W.has_failed output.new ≡ true))) }
 {
     match canonical_copy(alloc, allocator, segments, limits) {
-        Ok(made) => match write_bytes(output, &made, form) {
+        Ok(made) => match write_in_form(output, &made, form) {
             Ok(()) => Ok(()),
             Err(error) => Err((error, made.into_allocator())),
         },
@@ -181,7 +181,7 @@ pub fn canonical_copy_in_bytes<W: Output, A: Allocator, S: ReaderSegments + Drop
 
 /// Writes the only segment of the message `made`: as a frame, or as the segment's bytes, depending
 /// on `form`.
-fn write_bytes<W: Output, A: Allocator>(
+fn write_in_form<W: Output, A: Allocator>(
     output: &mut W,
     made: &BuilderArenaImpl<A>,
     form: Form,

@@ -11,8 +11,8 @@ mod texts;
 
 use capnp_packing::buffered::{BufWriterOutput, BufferedOutput};
 use capnp_packing::packing::PackingOutput;
+use capnp_streams::device_log::{DeviceLog, Logged};
 use capnp_streams::devices::{BoundedOutput, NoOutput};
-use capnp_streams::seen::{DeviceLog, Logged};
 use capnp_streams::streams::{
     self, ArgumentFault, DiffTask, Request, ShowTask, Task, WrongArgument,
 };

@@ -127,7 +127,7 @@ impl<'n, 'w, W: Output> NamedLines<'n, 'w, W> {
     /// Writes `name` and `: ` to `output` if a line begins, and then bytes of `from`, at most up to
     /// the end of the line. Returns the number of bytes of `from` that it wrote. Precondition:
     /// `from` isn't empty.
-    fn write_line(&mut self, from: &[u8]) -> Result<usize, DeviceFault>
+    fn write_within_line(&mut self, from: &[u8]) -> Result<usize, DeviceFault>
         requires { 0 < length from.now }
         ensures some { IfOk result (λ n. 0 < n) }
         ensures bound { IfOk result (λ n. n ≤ length from.now) }
@@ -168,7 +168,7 @@ impl<W: Output> Output for NamedLines<'_, '_, W> {
         if from.is_empty() {
             return Ok(0);
         }
-        match self.write_line(from) {
+        match self.write_within_line(from) {
             Ok(n) => Ok(n),
             Err(DeviceFault) => {
                 self.failed = true;
@@ -241,7 +241,7 @@ impl<'n, 'w, W: Output> NumberedLines<'n, 'w, W> {
     /// Writes bytes of `from`, at most up to the end of the line, and what comes before or at the
     /// end of the line. Returns the number of bytes of `from` that it wrote. Precondition: `from`
     /// isn't empty.
-    fn write_line(&mut self, from: &[u8]) -> Result<usize, DeviceFault>
+    fn write_within_line(&mut self, from: &[u8]) -> Result<usize, DeviceFault>
         requires { 0 < length from.now }
         ensures some { IfOk result (λ n. 0 < n) }
         ensures bound { IfOk result (λ n. n ≤ length from.now) }
@@ -323,7 +323,7 @@ impl<W: Output> Output for NumberedLines<'_, '_, W> {
         if from.is_empty() {
             return Ok(0);
         }
-        match self.write_line(from) {
+        match self.write_within_line(from) {
             Ok(n) => Ok(n),
             Err(DeviceFault) => {
                 self.failed = true;

@@ -3,7 +3,7 @@
 //! words, and writes the answers in order. This is the engine of the program `capnp_canon`.
 #![tactic(auto)]
 
+pub mod device_log;
 pub mod devices;
 pub mod looks;
-pub mod seen;
 pub mod streams;

@@ -9,13 +9,13 @@ use capnp_layout::wire_pointer::ElementSize;
 use std::alloc::{AllocError, Global};
 
 /// Returns the line of output for a line of input: how many pointers of a list were set, how many
-/// requests for memory were refused, what `output_of` returned, and the words of the message.
+/// requests for memory were refused, what `output_outcome` returned, and the words of the message.
 /// `held` bytes stay allocated until `get_segments_for_output` has returned.
 pub fn answer(alloc: Global, count: u32, held: usize) -> Result<String, AllocError> {
     let held = Vec::from_elem(alloc, 0u8, held)?;
     let mut arena = BuilderArenaImpl::new(alloc, HeapAllocator::new(alloc, 1));
     let set = build(&mut arena, count, &mut [0; 8]);
-    let answered = output_of(&arena);
+    let answered = output_outcome(&arena);
     drop(held);
     let refused = arena.refused();
     let mut text = format!(in alloc; "{set} {refused} {answered} ")?;
@@ -58,7 +58,7 @@ fn edit(arena: &mut BuilderArenaImpl<HeapAllocator>, path: &[Step], op: Op<'_>) 
 
 /// Calls `get_segments_for_output`. Returns `ok` if the call returns the segments of the message,
 /// `AllocationFailed` if it refuses with that name, and otherwise `other`.
-fn output_of(arena: &BuilderArenaImpl<HeapAllocator>) -> &'static str {
+fn output_outcome(arena: &BuilderArenaImpl<HeapAllocator>) -> &'static str {
     match arena.get_segments_for_output() {
         Ok(output) => {
             if are_all(&output, arena) {

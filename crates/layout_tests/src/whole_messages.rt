@@ -29,7 +29,7 @@ fn has_only<A: Allocator>(made: &BuilderArenaImpl<A>, words: &[u8]) -> bool {
 
 /// Making a canonical copy charges the words of the source's struct once.
 #[test]
-fn copies(rt: HostRuntime) {
+fn pointer_copies_are_charged_once(rt: HostRuntime) {
     let source = arena_of(rt.alloc(), LONG, ReaderOptions::default()).expect(&rt, "a message");
     let words = bytes_of(rt.alloc(), CANONICAL).expect(&rt, "digits");
     let mut lim = ReadLimiter::new(Some(8));
@@ -45,7 +45,7 @@ fn copies(rt: HostRuntime) {
 
 /// To copy a whole message costs one word for the root, and the words of the struct.
 #[test]
-fn whole_copies(rt: HostRuntime) {
+fn whole_copies_are_charged_once(rt: HostRuntime) {
     let source = arena_of(rt.alloc(), LONG, ReaderOptions::default()).expect(&rt, "a message");
     let words = bytes_of(rt.alloc(), CANONICAL).expect(&rt, "digits");
     let heap = HeapAllocator::new(rt.alloc(), 0);

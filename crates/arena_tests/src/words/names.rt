@@ -80,7 +80,7 @@ fn bytes_of_numbers(rt: HostRuntime) {
 }
 
 #[test]
-fn limiter(rt: HostRuntime) {
+fn limiter_counts_and_refuses(rt: HostRuntime) {
     let mut limiter = ReadLimiter::new(Some(10));
     let granted: error::Result<()> = limiter.can_read(3);
     assert!(rt; granted == Ok(()) && limiter.left() == Some(7));
