@@ -7,8 +7,7 @@ use crate::inputs::{Unanswered, flush, report_refusal, report_unopened};
 use crate::texts::NO_MEMORY;
 use capnp_packing::buffered::{BufReaderInput, BufferedInput, BufferedOutput};
 use capnp_streams::device_log::{DeviceLog, Logged};
-use capnp_streams::looks::InputForm;
-use capnp_streams::streams::{self, DiffFault, DiffTask, Side};
+use capnp_streams::streams::{self, DiffFault, DiffTask, InputForm, Side};
 use std::fs::File;
 use std::io::{BufReader, Read};
 

@@ -12,8 +12,10 @@ use capnp_packing::buffered::{BufReaderInput, BufferedInput, BufferedOutput};
 use capnp_refusals::refusals::RefusedPointer;
 use capnp_streams::device_log::{DeviceLog, Logged};
 use capnp_streams::devices::{NamedLines, NumberedLines};
-use capnp_streams::looks::{InputForm, guess_of};
-use capnp_streams::streams::{self, Command, ShowTask, Stop, StreamError, Summary, Task};
+use capnp_streams::looks::guess_of;
+use capnp_streams::streams::{
+    self, Command, InputForm, ShowTask, Stop, StreamError, Summary, Task,
+};
 use std::alloc::{AllocError, Global};
 use std::fs::File;
 use std::io::{self, BufReader, Read};

@@ -19,8 +19,8 @@ use Rattle.capnp_streams.specs.Streams.{AnswerIs, Answers, AreDone, AreFrames, C
 use Rattle.capnp_streams.specs.Streams.{Question, Stage, StopsAt}
 use Rattle.capnp_framing.specs.declared.framing.frame_error.FrameError.{FrameError}
 use Rattle.capnp_framing.specs.declared.framing.frame_error.FrameError.TheVariants.{WriteFailed}
-use Rattle.capnp_streams.specs.declared.streams.fault.StreamError.{StreamError}
-use Rattle.capnp_streams.specs.declared.streams.fault.StreamError.TheVariants.{Frame, Layout, TooManyMessages}
+use Rattle.capnp_streams.specs.declared.streams.stream_error.StreamError.{StreamError}
+use Rattle.capnp_streams.specs.declared.streams.stream_error.StreamError.TheVariants.{Frame, Layout, TooManyMessages}
 use Rattle.capnp_streams.specs.declared.streams.runs.Stop.{Stop}
 use Rattle.capnp_streams.specs.declared.streams.runs.Summary.{Summary}
 use Rattle.capnp_streams.specs.declared.streams.task.Task.{Task}

@@ -17,8 +17,8 @@ use Rattle.capnp_messages.specs.Roots.RefusesRoot.{no_root, no_budget}
 use Rattle.capnp_streams.specs.Asked.{RefusesCopyAt}
 use Rattle.capnp_streams.specs.Streams.{CountsRefusals, refusals_behind}
 use Rattle.capnp_streams.proofs.PartLemmas.{never_part, not_misplaced}
-use Rattle.capnp_streams.specs.declared.streams.fault.StreamError.{StreamError}
-use Rattle.capnp_streams.specs.declared.streams.fault.StreamError.TheVariants.{Frame}
+use Rattle.capnp_streams.specs.declared.streams.stream_error.StreamError.{StreamError}
+use Rattle.capnp_streams.specs.declared.streams.stream_error.StreamError.TheVariants.{Frame}
 
 -- a message isn't refused with AllocationFailed for what it holds
 never_canon : (S : Segments) (limits : ReaderOptions) → RefusesCanon S limits AllocationFailed → ⊥

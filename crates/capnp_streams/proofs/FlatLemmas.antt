@@ -10,8 +10,8 @@ use Rattle.capnp_streams.proofs.AskedLemmas.{asked_refused}
 use Rattle.capnp_streams.specs.Asked.{RefusesAsked, pointer_asked}
 use Rattle.capnp_streams.specs.Flat.{CanFlatBeAnswered, IsFlatDone, StopsFlat}
 use Rattle.capnp_streams.specs.Streams.{AnswerIs, IsOfDevices, RefusesBy, with_pointer}
-use Rattle.capnp_streams.specs.declared.streams.fault.StreamError.{StreamError}
-use Rattle.capnp_streams.specs.declared.streams.fault.StreamError.TheVariants.{Frame, Layout, TooManyMessages}
+use Rattle.capnp_streams.specs.declared.streams.stream_error.StreamError.{StreamError}
+use Rattle.capnp_streams.specs.declared.streams.stream_error.StreamError.TheVariants.{Frame, Layout, TooManyMessages}
 use Rattle.capnp_streams.specs.declared.streams.task.Task.{Task}
 
 -- the message is answered

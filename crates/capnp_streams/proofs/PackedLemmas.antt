@@ -12,8 +12,8 @@ use Rattle.capnp_framing.specs.declared.framing.frame_error.FrameError.TheVarian
 use Rattle.capnp_streams.proofs.StreamLemmas.{keeps_same}
 use Rattle.capnp_streams.specs.Packed.{IsCutAfter}
 use Rattle.capnp_streams.specs.Streams.{AreDone, EndsAfter, Stage, StopsAt, WereAnswered}
-use Rattle.capnp_streams.specs.declared.streams.fault.StreamError.{StreamError}
-use Rattle.capnp_streams.specs.declared.streams.fault.StreamError.TheVariants.{Frame, Layout, TooManyMessages}
+use Rattle.capnp_streams.specs.declared.streams.stream_error.StreamError.{StreamError}
+use Rattle.capnp_streams.specs.declared.streams.stream_error.StreamError.TheVariants.{Frame, Layout, TooManyMessages}
 use Rattle.capnp_streams.specs.declared.streams.runs.Stop.{Stop}
 use Rattle.capnp_streams.specs.declared.streams.runs.Summary.{Summary}
 use Rattle.capnp_streams.specs.declared.streams.task.Task.{Task}

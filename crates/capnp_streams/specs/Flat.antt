@@ -10,8 +10,8 @@ use Rattle.capnp_framing.specs.declared.framing.frame_error.FrameError.TheVarian
 use Rattle.capnp_framing.specs.declared.framing.frame_error.FrameError.TheVariants.{ReadFailed}
 use Rattle.capnp_streams.specs.Asked.{HasAskedAnswer, RefusesAsked, pointer_asked}
 use Rattle.capnp_streams.specs.Streams.{AnswerIs, Stage}
-use Rattle.capnp_streams.specs.declared.streams.fault.StreamError.{StreamError}
-use Rattle.capnp_streams.specs.declared.streams.fault.StreamError.TheVariants.{Frame, Layout, TooManyMessages}
+use Rattle.capnp_streams.specs.declared.streams.stream_error.StreamError.{StreamError}
+use Rattle.capnp_streams.specs.declared.streams.stream_error.StreamError.TheVariants.{Frame, Layout, TooManyMessages}
 use Rattle.capnp_streams.specs.declared.streams.task.Task.{Task}
 
 -- From old to new everything in the input was read: raw words, at most as many as the traversal

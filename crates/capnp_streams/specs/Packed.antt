@@ -6,8 +6,8 @@ use Rattle.capnp_framing.specs.declared.framing.frame_error.FrameError.TheVarian
 use Rattle.capnp_packing.specs.Packing.{IsWhole, unpacked_bytes}
 use Rattle.capnp_packing.specs.declared.packing.place.Place.TheVariants.{Tag}
 use Rattle.capnp_streams.specs.Streams.{Stage}
-use Rattle.capnp_streams.specs.declared.streams.fault.StreamError.{StreamError}
-use Rattle.capnp_streams.specs.declared.streams.fault.StreamError.TheVariants.{Frame}
+use Rattle.capnp_streams.specs.declared.streams.stream_error.StreamError.{StreamError}
+use Rattle.capnp_streams.specs.declared.streams.stream_error.StreamError.TheVariants.{Frame}
 
 -- The stage of a packed input, with the bytes that it unpacks to, even if it is cut short.
 abbrev pub unpacked_stage : Stage → Stage

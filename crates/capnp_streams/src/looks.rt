@@ -2,7 +2,7 @@
 //! answered, the user is told the guess.
 ghost use Rattle.std.specs.Prelude.{◌<◌, ◌≤◌, ◌^◌, IfSome};
 
-use crate::streams::{DiffTask, ShowTask, StreamError, Task};
+use crate::streams::{InputForm, StreamError};
 use capnp_framing::devices::{Input, MemoryInput};
 use capnp_framing::framing::FrameError;
 use capnp_packing::packing::UnpackingInput;
@@ -46,51 +46,6 @@ impl Guess {
             Guess::PackedFrames => "packed messages, which --packed reads",
             Guess::RawWords => "raw words, which --from-flat reads",
         }
-    }
-}
-
-/// How a task reads its input.
-#[derive(Clone, Copy, Debug, PartialEq, Eq)]
-pub enum InputForm {
-    /// As a stream of frames.
-    Frames,
-    /// As a packed stream of frames (encoding specification, "Packing").
-    PackedFrames,
-    /// As the raw words of one message.
-    RawWords,
-}
-
-impl InputForm {
-    /// The form for these two options.
-    fn of(unpack: bool, from_flat: bool) -> Self {
-        if unpack {
-            InputForm::PackedFrames
-        } else if from_flat {
-            InputForm::RawWords
-        } else {
-            InputForm::Frames
-        }
-    }
-}
-
-impl Task {
-    /// How this task reads its input.
-    pub fn input_form(&self) -> InputForm {
-        InputForm::of(self.unpack, self.from_flat)
-    }
-}
-
-impl DiffTask {
-    /// How this task reads both inputs.
-    pub fn input_form(&self) -> InputForm {
-        InputForm::of(self.unpack, self.from_flat)
-    }
-}
-
-impl ShowTask {
-    /// How this task reads its input.
-    pub fn input_form(&self) -> InputForm {
-        InputForm::of(self.unpack, self.from_flat)
     }
 }
 

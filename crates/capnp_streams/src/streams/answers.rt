@@ -5,8 +5,8 @@ ghost use Rattle.capnp_framing.specs.declared.framing.frame_error.FrameError.The
 ghost use Rattle.capnp_format.specs.Bytes.{message};
 ghost use Rattle.capnp_streams.specs.Streams.{Answers, CountsRefusals, question_on, with_pointer};
 
-use super::fault::StreamError;
 use super::parts::{canonicalize_for_task, check, digest_for_task, size_for_task, validate};
+use super::stream_error::StreamError;
 use super::task::Task;
 use super::writing::{write_canonical, write_canonical_words, write_fault, write_hex_line};
 use capnp_arena::arena::{Allocator, ReaderArena, ReaderArenaImpl, ReaderSegments};

@@ -6,9 +6,9 @@ ghost use Rattle.capnp_format.specs.Bytes.{message};
 ghost use Rattle.capnp_framing.specs.Writing.{IsUnwritten};
 ghost use Rattle.capnp_messages.specs.Messages.{IsReadable};
 
-use super::fault::StreamError;
 use super::parts::validate;
 use super::runs::Stop;
+use super::stream_error::StreamError;
 use super::task::DiffTask;
 use capnp_arena::arena::{ReaderOptions, ReaderSegments};
 use capnp_framing::devices::{DeviceFault, Input, Output, write_all};

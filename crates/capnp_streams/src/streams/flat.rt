@@ -6,7 +6,7 @@ ghost use Rattle.capnp_streams.specs.Flat.{CanFlatBeAnswered, HasTakenFlat, IsFl
 ghost use Rattle.capnp_streams.specs.Streams.{AreWorking, IsOfDevices, IsWriteFault, RunsToEnd, refusals_behind, stage_of};
 
 use super::answers::{Memory, answer, locate_refusal};
-use super::fault::StreamError;
+use super::stream_error::StreamError;
 use super::task::Task;
 use capnp_arena::arena::Allocator;
 use capnp_framing::devices::{Input, Output};

@@ -6,8 +6,8 @@ ghost use Rattle.capnp_framing.specs.declared.framing.frame_error.FrameError.The
 ghost use Rattle.capnp_streams.specs.Packed.{IsCutAfter, unpacked_stage};
 ghost use Rattle.capnp_streams.specs.Streams.{AreDone, AreWorking, CanBeAnswered, EndsAfter, IsOfDevices, IsWriteFault, Stage, WereAnswered, refusals_behind, stage_of};
 
-use super::fault::StreamError;
 use super::runs::{Stop, Summary, run_with};
+use super::stream_error::StreamError;
 use super::task::Task;
 use capnp_arena::arena::Allocator;
 use capnp_framing::devices::{DeviceFault, Input};

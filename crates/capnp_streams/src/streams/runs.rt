@@ -6,7 +6,7 @@ ghost use Rattle.capnp_framing.specs.Wholeness.{KeepsWhole};
 ghost use Rattle.capnp_streams.specs.Streams.{AreDone, AreWorking, CanBeAnswered, CountsRefusals, EndsAfter, IsOfDevices, IsWriteFault, RunsToEnd, Stage, StopsAt, WereAnswered, refusals_behind, stage_of};
 
 use super::answers::{Memory, answer, locate_refusal};
-use super::fault::StreamError;
+use super::stream_error::StreamError;
 use super::task::Task;
 use capnp_arena::arena::Allocator;
 use capnp_framing::devices::{Input, Output};

@@ -4,8 +4,8 @@ ghost use Rattle.capnp_arena_traits.specs.Limits.{IsSmall};
 ghost use Rattle.capnp_show.specs.Show.{PrintsAtMost};
 ghost use Rattle.capnp_streams.specs.Streams.{AreWorking};
 
-use super::fault::StreamError;
 use super::runs::{Stop, Summary};
+use super::stream_error::StreamError;
 use super::task::ShowTask;
 use capnp_arena::arena::ReaderSegments;
 use capnp_framing::devices::{DeviceFault, Input, Output};

@@ -1,7 +1,7 @@
 use Rattle.std.proofs.Common.{inr, true}
 use Rattle.std.specs.Prelude.{⊤}
 use Rattle.capnp_streams.proofs.FlatLemmas.{flat_answerable, flat_done, flat_refused}
-use Rattle.capnp_streams.specs.declared.streams.fault.StreamError.TheVariants.{Frame}
+use Rattle.capnp_streams.specs.declared.streams.stream_error.StreamError.TheVariants.{Frame}
 use Rattle.capnp_streams.proofs.streams.flat.run_flat_with.Goals as goal
 
 pub returns-in-Ok-answer-clause-done : goal.returns-in-Ok-answer-clause-done
