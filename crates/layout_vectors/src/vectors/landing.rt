@@ -26,7 +26,7 @@ pub(crate) struct PointerTarget {
 }
 
 /// The bytes of segment `id`; none if there is no such segment.
-fn bytes_of<A: ReaderArena>(arena: &A, id: u32) -> &[u8]
+fn segment_bytes<A: ReaderArena>(arena: &A, id: u32) -> &[u8]
     ensures words { words_of result.now ≡ segment (message (A.segments arena.now)) id }
     ensures short { length result.now / 8 < 2 ^ 32 }
 {
@@ -38,7 +38,7 @@ fn bytes_of<A: ReaderArena>(arena: &A, id: u32) -> &[u8]
 pub(crate) fn segment_length<A: ReaderArena>(arena: &A, id: u32) -> u32
     ensures { result ≡ length (segment (message (A.segments arena.now)) id) }
 {
-    (bytes_of(arena, id).len() / 8) as u32
+    (segment_bytes(arena, id).len() / 8) as u32
 }
 
 /// The word at `at` of segment `id`; zero if there is no such word.
@@ -46,7 +46,7 @@ pub(crate) fn segment_length<A: ReaderArena>(arena: &A, id: u32) -> u32
 pub(crate) fn pointer_word<A: ReaderArena>(arena: &A, id: u32, at: u32) -> WirePointer
     ensures { result.0 ≡ word_at (message (A.segments arena.now)) id at }
 {
-    let bytes = bytes_of(arena, id);
+    let bytes = segment_bytes(arena, id);
     if at as usize >= bytes.len() / 8 {
         return WirePointer::null();
     }
@@ -54,7 +54,7 @@ pub(crate) fn pointer_word<A: ReaderArena>(arena: &A, id: u32, at: u32) -> WireP
 }
 
 /// Whether there is a segment `id`.
-fn exists<A: ReaderArena>(arena: &A, id: u32) -> bool
+fn has_segment<A: ReaderArena>(arena: &A, id: u32) -> bool
     ensures { IsTrue result ↔ (id < length (message (A.segments arena.now))) }
 {
     arena.get_segment(id).is_ok()
@@ -104,14 +104,14 @@ fn follow_far<A: ReaderArena>(arena: &A, word: WirePointer) -> Option<PointerTar
         ≡ far (message (A.segments arena.now)) word.0 (is_double word.0) }
 {
     if word.is_double_far() {
-        follow_double(arena, word)
+        follow_double_far(arena, word)
     } else {
-        follow_single(arena, word)
+        follow_single_far(arena, word)
     }
 }
 
 /// Where the far pointer `word`, to a landing pad of one word, leads, like `follow_far`.
-fn follow_single<A: ReaderArena>(arena: &A, word: WirePointer) -> Option<PointerTarget>
+fn follow_single_far<A: ReaderArena>(arena: &A, word: WirePointer) -> Option<PointerTarget>
     ensures { option_map target_at result ≡ far (message (A.segments arena.now)) word.0 0 }
 {
     let id = word.far_segment_id();
@@ -127,7 +127,7 @@ fn follow_single<A: ReaderArena>(arena: &A, word: WirePointer) -> Option<Pointer
 }
 
 /// Where the far pointer `word`, to a landing pad of two words, leads, like `follow_far`.
-fn follow_double<A: ReaderArena>(arena: &A, word: WirePointer) -> Option<PointerTarget>
+fn follow_double_far<A: ReaderArena>(arena: &A, word: WirePointer) -> Option<PointerTarget>
     ensures { option_map target_at result ≡ far (message (A.segments arena.now)) word.0 1 }
 {
     let id = word.far_segment_id();
@@ -137,7 +137,7 @@ fn follow_double<A: ReaderArena>(arena: &A, word: WirePointer) -> Option<Pointer
     }
     let pad = pointer_word(arena, id, at);
     let tag = pointer_word(arena, id, at + 1);
-    if tag.kind() == WirePointerKind::Far || !exists(arena, pad.far_segment_id()) {
+    if tag.kind() == WirePointerKind::Far || !has_segment(arena, pad.far_segment_id()) {
         return None;
     }
     Some(PointerTarget {

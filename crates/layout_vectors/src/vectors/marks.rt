@@ -73,12 +73,12 @@ impl Marks {
         if n == 0 {
             return true;
         }
-        self.try_mark_some(id, start as usize, n as usize)
+        self.try_mark_nonempty(id, start as usize, n as usize)
     }
 
     /// Marks the `n` words of segment `id` from `start` on and returns `true`. If one of them is
     /// marked already, marks none and returns `false`. Preconditions: the words exist; `n` isn't 0.
-    fn try_mark_some(&mut self, id: u32, start: usize, n: usize) -> bool
+    fn try_mark_nonempty(&mut self, id: u32, start: usize, n: usize) -> bool
         requires some { 0 < n }
         requires inside { start + n ≤ length (segment (rows_of self.old) id) }
         ensures taken { IsTrue result → TakesRow (rows_of self.old) (rows_of self.new) id start n }

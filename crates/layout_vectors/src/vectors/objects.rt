@@ -13,7 +13,7 @@ ghost use Rattle.layout_vectors.specs.Walks.{walk, TakesObject, FitsRows};
 
 use crate::vectors::landing::{PointerTarget, pointer_word};
 use crate::vectors::marks::Marks;
-use crate::vectors::pending::{push_elements, push_pointers};
+use crate::vectors::pending::{push_element_pointers, push_pointers};
 use capnp_arena::arena::ReaderArena;
 use capnp_arena_traits::arena::WordPlace;
 use capnp_words::wire_pointer::{
@@ -107,12 +107,12 @@ fn mark_primitive_list<A: ReaderArena>(
     let count = landing.word.list_element_count();
     let words = words_for_elements(size, count);
     marks.try_mark(landing.segment, landing.start, words)
-        && has_padding(arena, landing, size, count)
+        && has_zero_padding(arena, landing, size, count)
 }
 
 /// Whether the bits after the elements of the list of numbers at `landing`, up to the end of the
 /// list's last word, are zero. Precondition: the list's words are inside their segment.
-fn has_padding<A: ReaderArena>(
+fn has_zero_padding<A: ReaderArena>(
     arena: &A,
     landing: PointerTarget,
     size: ElementSize,
@@ -128,7 +128,7 @@ fn has_padding<A: ReaderArena>(
     ensures small { HasSmallWords (message (A.segments arena.now)) landing.segment }
 {
     match arena.get_segment(landing.segment) {
-        Ok(bytes) => is_padded(bytes, landing.start, size, count),
+        Ok(bytes) => is_zero_padded(bytes, landing.start, size, count),
         Err(_) => true,
     }
 }
@@ -136,7 +136,7 @@ fn has_padding<A: ReaderArena>(
 /// Whether the bits after the elements of the list of numbers that starts at word `start` of
 /// `bytes`, up to the end of the list's last word, are zero. Precondition: the list is inside
 /// `bytes`.
-fn is_padded(bytes: &[u8], start: u32, size: ElementSize, count: u32) -> bool
+fn is_zero_padded(bytes: &[u8], start: u32, size: ElementSize, count: u32) -> bool
     requires inside { start + words_for (size_number size) count ≤ length (words_of bytes.now) }
     requires small { length (words_of bytes.now) < 2 ^ 32 }
     requires is_flat { size_number size ≤ 5 }
@@ -180,6 +180,6 @@ fn mark_struct_list<A: ReaderArena>(
     if tag.kind() != WirePointerKind::Struct || taken != u64::from(words) {
         return Ok(false);
     }
-    push_elements(pending, landing.segment, landing.start + 1, size, count)?;
+    push_element_pointers(pending, landing.segment, landing.start + 1, size, count)?;
     Ok(true)
 }

@@ -39,7 +39,7 @@ pub(crate) fn push_pointers(
 /// Appends the places of the pointers in the `count` consecutive structs of `size` from word
 /// `start` on to `pending`.
 #[tactic(auto, using(crate::proofs::SpotsMore::element_spots_more, crate::proofs::SpotsMore::element_spots_none))]
-pub(crate) fn push_elements(
+pub(crate) fn push_element_pointers(
     pending: &mut Vec<WordPlace>,
     segment: u32,
     start: u32,

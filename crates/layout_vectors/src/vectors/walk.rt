@@ -128,7 +128,7 @@ fn rest_is_zero<A: ReaderArena>(arena: &A, marks: &Marks) -> bool
 {
     for (id, row) in marks.rows.iter().enumerate() {
         let is_zero = match arena.get_segment(id as u32) {
-            Ok(bytes) => is_unmarked_zero(bytes, row.as_slice()),
+            Ok(bytes) => are_unmarked_words_zero(bytes, row.as_slice()),
             Err(_) => true,
         };
         if !is_zero {
@@ -140,7 +140,7 @@ fn rest_is_zero<A: ReaderArena>(arena: &A, marks: &Marks) -> bool
 
 /// Whether each unmarked word of a segment is zero. `bytes` are the bytes of the segment, and `row`
 /// the marks of its words.
-fn is_unmarked_zero(bytes: &[u8], row: &[u8]) -> bool
+fn are_unmarked_words_zero(bytes: &[u8], row: &[u8]) -> bool
     requires { length row.now ≡ length (words_of bytes.now) }
     ensures { IsTrue result
         ↔ ((q : ℕ) → slice_index row.now q ≡ 0 → slice_index (words_of bytes.now) q ≡ 0) }

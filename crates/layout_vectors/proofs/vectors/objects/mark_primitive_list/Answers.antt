@@ -14,11 +14,11 @@ returns-then-try_mark g c =
     let w : Walk = walk c.args.marks.now c.args.pending.now in
     let inside = c.try_mark.ensures.inside c.if-try_mark.true in
     let taken = c.try_mark.ensures.taken c.if-try_mark.true in
-    takes_by c.has_padding.result
+    takes_by c.has_zero_padding.result
     (λ yes. flat_taken S a w (walk c.try_mark.new.self c.args.pending.now) (size_number c.args.size) c.list_element_count-count.result c.requires.fits c.requires.is_list c.requires.is_size c.list_element_count-count.ensures.value c.requires.is_flat
-    (rw c.words_for_elements-words.ensures at inside) c.has_padding.ensures.small (c.has_padding.ensures.exactly.0 yes) (rw c.words_for_elements-words.ensures at taken) refl)
+    (rw c.words_for_elements-words.ensures at inside) c.has_zero_padding.ensures.small (c.has_zero_padding.ensures.exactly.0 yes) (rw c.words_for_elements-words.ensures at taken) refl)
     (λ no F h once. not_padded S a (word_at w.marks) w.pending (size_number c.args.size) c.list_element_count-count.result c.requires.is_size c.list_element_count-count.ensures.value c.requires.is_list c.requires.is_flat
-    (λ padded. let e : true ≡ false = sym (c.has_padding.ensures.exactly.1 padded) ∙ no in cc) F h)
+    (λ padded. let e : true ≡ false = sym (c.has_zero_padding.ensures.exactly.1 padded) ∙ no in cc) F h)
 
 pub returns-else-try_mark : goal.returns-else-try_mark
 returns-else-try_mark g c =

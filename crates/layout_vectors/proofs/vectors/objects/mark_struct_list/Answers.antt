@@ -33,5 +33,5 @@ returns g c =
     let exact : n * (d + q) ≡ list_count c.args.landing.word.0 = ap₂ (λ x y. x * y) (sym c.from.ensures) (sym (c.from-2.ensures ∙ c.total.ensures)) ∙ c.if-taken-from.false ∙ c.from-else-ne.ensures ∙ many in
     let inside = c.try_mark.ensures.inside c.if-not-try_mark.false in
     let taken = c.try_mark.ensures.taken c.if-not-try_mark.false in
-    structs_taken S a w (walk c.try_mark.new.self c.push_elements.new.pending) n d q c.requires.fits c.requires.of_structs.0 c.requires.of_structs.1 (subst (λ x. IsTag x n d q) c.pointer_word-tag.ensures tag) exact
-    (rw many at inside) (rw many at taken) c.in_ok-push_elements.ensures
+    structs_taken S a w (walk c.try_mark.new.self c.push_element_pointers.new.pending) n d q c.requires.fits c.requires.of_structs.0 c.requires.of_structs.1 (subst (λ x. IsTag x n d q) c.pointer_word-tag.ensures tag) exact
+    (rw many at inside) (rw many at taken) c.in_ok-push_element_pointers.ensures

@@ -1,6 +1,6 @@
 use Rattle.std.proofs.Common.{◌≡◌, ◌+◌, ◌*◌, ◌++◌}
 use Rattle.layout_vectors.specs.Spots.{element_spots}
-use Rattle.layout_vectors.proofs.vectors.pending.push_elements.Given as goal
+use Rattle.layout_vectors.proofs.vectors.pending.push_element_pointers.Given as goal
 
 abbrev pub invariant-loop-i : goal.invariant-loop-i
 invariant-loop-i l = record {

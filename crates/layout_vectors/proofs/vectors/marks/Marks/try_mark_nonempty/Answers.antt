@@ -1,7 +1,7 @@
 use Rattle.std.proofs.Common.{◌≡◌, replicate, sym, ap, ◌∙◌, arith}
 use borrow.Rule.Slice.PartMut.{put_mid}
 use Rattle.layout_vectors.proofs.Taken.{row_taken}
-use Rattle.layout_vectors.proofs.vectors.marks.Marks.try_mark_some.Goals as goal
+use Rattle.layout_vectors.proofs.vectors.marks.Marks.try_mark_nonempty.Goals as goal
 
 pub returns-clause-taken : goal.returns-clause-taken
 returns-clause-taken c =

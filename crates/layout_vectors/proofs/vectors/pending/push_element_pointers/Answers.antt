@@ -2,7 +2,7 @@ use Rattle.std.proofs.Common.{◌≡◌, ◌+◌, ◌*◌, ◌++◌, ℕ, sym, a
 use Rattle.layout_vectors.specs.Spots.{spots, element_spots}
 use Rattle.std.proofs.Common.{append-nil, append_assoc}
 use Rattle.layout_vectors.proofs.SpotsMore.{element_spots_more, element_spots_none}
-use Rattle.layout_vectors.proofs.vectors.pending.push_elements.Goals as goal
+use Rattle.layout_vectors.proofs.vectors.pending.push_element_pointers.Goals as goal
 
 pub returns-then-size-eq0 : goal.returns-then-size-eq0
 returns-then-size-eq0 c =

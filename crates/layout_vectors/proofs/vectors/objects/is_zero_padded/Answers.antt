@@ -5,7 +5,7 @@ use Rattle.capnp_format.specs.Numbers.{element_bits}
 use Rattle.capnp_words.specs.Sizes.{size_number}
 use Rattle.capnp_format.proofs.WordsOf.{words, small_word}
 use Rattle.capnp_format.proofs.Padding.{no_rest, some_rest}
-use Rattle.layout_vectors.proofs.vectors.objects.is_padded.Goals as goal
+use Rattle.layout_vectors.proofs.vectors.objects.is_zero_padded.Goals as goal
 
 pub word_at-requires : goal.word_at-requires
 word_at-requires c =

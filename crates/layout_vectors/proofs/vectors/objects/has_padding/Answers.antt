@@ -1,5 +1,0 @@
-use Rattle.std.proofs.Common.{◌^◌, ◌<◌, ℕ, List, get_or, subst}
-use Rattle.layout_vectors.proofs.vectors.objects.has_padding.Goals as goal
-
-pub returns-in-Ok-clause-small : goal.returns-in-Ok-clause-small
-returns-in-Ok-clause-small g c = λ p. subst (λ (ws : List ℕ). get_or ws p 0 < 2 ^ 64) c.in-Ok.ensures.words (c.is_padded.ensures.small p)
