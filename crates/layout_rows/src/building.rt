@@ -23,29 +23,29 @@ pub fn answer(alloc: Global, task: Task, line: &str) -> Result<String, Fault> {
     let [size, segments, calls @ ..] = words.as_slice() else {
         return Err(Fault::Malformed);
     };
-    let memory = Memory::new(size, segments)?;
-    match memory.scratch(alloc)? {
+    let memory = Memory::parse(size, segments)?;
+    match memory.allocate_scratch(alloc)? {
         Some(mut scratch) => {
-            let allocator = memory.over(alloc, &mut scratch);
-            built_with(alloc, allocator, task, calls)
+            let allocator = memory.scratch_allocator(alloc, &mut scratch);
+            build_with(alloc, allocator, task, calls)
         }
-        None => built_with(alloc, memory.limited(alloc), task, calls),
+        None => build_with(alloc, memory.heap_allocator(alloc), task, calls),
     }
 }
 
 /// Builds a message in the memory of `allocator`. Returns the outcome of each edit or call, and
 /// then the message's words.
-fn built_with<A: Allocator>(
+fn build_with<A: Allocator>(
     alloc: Global,
     allocator: A,
     task: Task,
     calls: &[&str],
 ) -> Result<String, Fault> {
-    let mut arena = memory::built(alloc, allocator)?;
+    let mut arena = memory::arena_with_root(alloc, allocator)?;
     let mut out = Output::new(alloc);
     match task {
-        Task::Edits => edits::push_outcomes(alloc, &mut arena, calls, &mut out)?,
-        Task::Calls => builds::push_answers(alloc, &mut arena, calls, &mut out)?,
+        Task::Edits => edits::apply_edits(alloc, &mut arena, calls, &mut out)?,
+        Task::Calls => builds::make_calls(alloc, &mut arena, calls, &mut out)?,
     }
     memory::push_words(&arena, &mut out);
     Ok(out.into_text()?)

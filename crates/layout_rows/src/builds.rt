@@ -26,7 +26,7 @@ const ROOT: PointerPlace = PointerPlace {
 };
 
 /// Makes `calls` in order. Adds to `out` the answer of each call, followed by `;`.
-pub fn push_answers<A: Allocator>(
+pub fn make_calls<A: Allocator>(
     alloc: Global,
     arena: &mut BuilderArenaImpl<A>,
     calls: &[&str],
@@ -35,7 +35,7 @@ pub fn push_answers<A: Allocator>(
     let mut kept = Vec::new(alloc);
     kept.push(Place::Pointer(ROOT))?;
     for text in calls {
-        let made = call_once(alloc, arena, kept.as_slice(), text, out);
+        let made = make_call(alloc, arena, kept.as_slice(), text, out);
         if let Some(place) = push_answer(made, out)? {
             kept.push(place)?;
         }
@@ -65,7 +65,7 @@ fn push_answer(
 
 /// Makes a call and adds its answer to `out`. Returns the place that the call found or made, if
 /// there is one; later calls can be made on it.
-fn call_once<A: Allocator>(
+fn make_call<A: Allocator>(
     alloc: Global,
     arena: &mut BuilderArenaImpl<A>,
     kept: &[Place],
@@ -73,7 +73,7 @@ fn call_once<A: Allocator>(
     out: &mut Output,
 ) -> Result<Option<Place>, Fault> {
     let (place, text) = split_place(kept, text);
-    let (call, values) = calls::read(&FORMS, text)?;
+    let (call, values) = calls::parse_one_of(&FORMS, text)?;
     if values.is_unfit {
         return Err(Fault::Unfit);
     }
@@ -100,7 +100,7 @@ fn call_on_place<A: Allocator>(
         Place::Pointer(place) => call_on_pointer(alloc, arena, place, (call, values), out),
         Place::Struct(place) => call_on_struct(alloc, arena, place, (call, values), out),
         Place::List(place) => match call {
-            Call::List(call) => lists::call(arena, place, (call, values), out),
+            Call::List(call) => lists::make_call(arena, place, (call, values), out),
             _ => Err(Fault::Unfit),
         },
     }
@@ -115,7 +115,7 @@ fn call_on_struct<A: Allocator>(
     out: &mut Output,
 ) -> Result<Option<Place>, Fault> {
     match call {
-        Call::Struct(call) => return structs::call(arena, place, (call, values), out),
+        Call::Struct(call) => return structs::make_call(arena, place, (call, values), out),
         Call::Content => {
             let copying = (Copying::Struct, values);
             copies::copy(alloc, arena, Place::Struct(place), copying, out)?;
@@ -134,8 +134,14 @@ fn call_on_pointer<A: Allocator>(
     out: &mut Output,
 ) -> Result<Option<Place>, Fault> {
     match call {
-        Call::Pointer(call) => return pointers::call(alloc, arena, place, (call, values), out),
-        Call::Bytes(blob, call) => bytes::call(alloc, arena, place, (blob, call, values), out)?,
+        Call::Pointer(call) => return pointers::make_call(alloc, arena, place, (call, values), out),
+        Call::Bytes(blob, call) => bytes::make_call(
+            alloc,
+            arena,
+            place,
+            (blob, call, values),
+            out,
+        )?,
         Call::Copy(copying) => {
             copies::copy(alloc, arena, Place::Pointer(place), (copying, values), out)?;
         }

@@ -6,8 +6,9 @@ use crate::types::{ElementType, element_type};
 use capnp_arena::arena::ReaderOptions;
 use capnp_words::wire_pointer::{ElementSize, StructSize};
 
-/// A call that lines may have: its name, a letter for each of its arguments (see `Values::put`),
-/// the least number of arguments, and the value that stands for the call.
+/// A call that lines may have: its name, a letter for each of its arguments (see
+/// `Values::parse_argument`), the least number of arguments, and the value that stands for the
+/// call.
 pub type Form<T> = (&'static str, &'static str, usize, T);
 
 /// The arguments of a call, by kind. Arguments that the call doesn't have are zero or missing.
@@ -36,7 +37,7 @@ pub struct Values<'l> {
 }
 
 impl<'l> Values<'l> {
-    fn none() -> Self {
+    fn empty() -> Self {
         Values {
             sections: StructSize {
                 data_words: 0,
@@ -79,20 +80,20 @@ impl<'l> Values<'l> {
     /// Parses `word` as the argument with this letter.
     fn parse_argument(&mut self, letter: u8, word: &'l str) -> Result<(), Fault> {
         match letter {
-            b'd' => parse::parse_into(word, &mut self.sections.data_words),
-            b'p' => parse::parse_into(word, &mut self.sections.pointers),
-            b'i' => parse::parse_into(word, &mut self.index),
-            b'c' => parse::parse_into(word, &mut self.count),
-            b'w' => parse::parse_into(word, &mut self.word),
-            b'n' => parse::parse_into(word, &mut self.number),
-            b'b' => parse::parse_into(word, &mut self.byte),
-            b'l' => parse::parse_into(word, &mut self.source.options.nesting_limit),
-            _ => self.parse_named(letter, word),
+            b'd' => parse::number_into(word, &mut self.sections.data_words),
+            b'p' => parse::number_into(word, &mut self.sections.pointers),
+            b'i' => parse::number_into(word, &mut self.index),
+            b'c' => parse::number_into(word, &mut self.count),
+            b'w' => parse::number_into(word, &mut self.word),
+            b'n' => parse::number_into(word, &mut self.number),
+            b'b' => parse::number_into(word, &mut self.byte),
+            b'l' => parse::number_into(word, &mut self.source.options.nesting_limit),
+            _ => self.parse_non_number(letter, word),
         }
     }
 
     /// Parses `word` as the argument with this letter, if the argument isn't just a number.
-    fn parse_named(&mut self, letter: u8, word: &'l str) -> Result<(), Fault> {
+    fn parse_non_number(&mut self, letter: u8, word: &'l str) -> Result<(), Fault> {
         match letter {
             b's' => self.size = parse::element_size(word)?,
             b't' => self.element = element_type(word)?,
@@ -127,7 +128,10 @@ impl<'l> Values<'l> {
 }
 
 /// Parses a call, if it is one of `forms`.
-pub fn read<'l, T: Copy>(forms: &[Form<T>], text: &'l str) -> Result<(T, Values<'l>), Fault> {
+pub fn parse_one_of<'l, T: Copy>(
+    forms: &[Form<T>],
+    text: &'l str,
+) -> Result<(T, Values<'l>), Fault> {
     let (name, arguments) = match text.split_once(',') {
         Some((name, arguments)) => (name, Some(arguments)),
         None => (text, None),
@@ -136,7 +140,7 @@ pub fn read<'l, T: Copy>(forms: &[Form<T>], text: &'l str) -> Result<(T, Values<
         Some(arguments) => arguments.split(',').count(),
         None => 0,
     };
-    let Some((letters, call)) = find(forms, name, count) else {
+    let Some((letters, call)) = find_form(forms, name, count) else {
         return Err(Fault::Malformed);
     };
     Ok((call, parse_values(letters, arguments)?))
@@ -144,7 +148,11 @@ pub fn read<'l, T: Copy>(forms: &[Form<T>], text: &'l str) -> Result<(T, Values<
 
 /// Finds the form with this name that allows `count` arguments. Returns the letters of its
 /// arguments, and the call.
-pub fn find<T: Copy>(forms: &[Form<T>], name: &str, count: usize) -> Option<(&'static str, T)> {
+pub fn find_form<T: Copy>(
+    forms: &[Form<T>],
+    name: &str,
+    count: usize,
+) -> Option<(&'static str, T)> {
     for (known, letters, least, call) in forms {
         if *known == name && *least <= count && count <= letters.len() {
             return Some((*letters, *call));
@@ -156,7 +164,7 @@ pub fn find<T: Copy>(forms: &[Form<T>], name: &str, count: usize) -> Option<(&'s
 /// Parses arguments, each by its letter. If one argument has the wrong form, and another is out of
 /// its type's range, reports the wrong form.
 fn parse_values<'l>(letters: &str, arguments: Option<&'l str>) -> Result<Values<'l>, Fault> {
-    let mut values = Values::none();
+    let mut values = Values::empty();
     let Some(arguments) = arguments else {
         return Ok(values);
     };

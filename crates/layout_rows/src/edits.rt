@@ -94,7 +94,7 @@ static FORMS: [Form<Name>; 23] = [
 
 /// Applies the edits in the only word of `words`, and adds their outcomes to `out`, separated by
 /// `;`.
-pub fn push_outcomes<A: BuilderArena>(
+pub fn apply_edits<A: BuilderArena>(
     alloc: Global,
     arena: &mut A,
     words: &[&str],
@@ -122,12 +122,12 @@ fn apply_edit<A: BuilderArena>(alloc: Global, arena: &mut A, text: &str) -> Resu
     let Some((path, call)) = text.split_once(':') else {
         return Err(Fault::Malformed);
     };
-    let (name, values) = calls::read(&FORMS, call)?;
+    let (name, values) = calls::parse_one_of(&FORMS, call)?;
     if values.is_unfit {
         return Err(Fault::Unfit);
     }
     let path = parse_path(alloc, path)?;
-    read_bytes(alloc, arena, path.as_slice(), (name, &values))
+    parse_bytes_and_apply(alloc, arena, path.as_slice(), (name, &values))
 }
 
 /// Parses a path: `-` for no steps; otherwise steps, such as `c3` for child 3 and `e12` for element
@@ -155,7 +155,7 @@ fn parse_step(text: &str) -> Result<Step, Fault> {
 }
 
 /// Parses the bytes among an operation's arguments, and applies the operation at the end of `path`.
-fn read_bytes<A: BuilderArena>(
+fn parse_bytes_and_apply<A: BuilderArena>(
     alloc: Global,
     arena: &mut A,
     path: &[Step],
@@ -167,18 +167,18 @@ fn read_bytes<A: BuilderArena>(
     } else {
         None
     };
-    read_source(alloc, arena, path, (name, values, given))
+    parse_source_and_apply(alloc, arena, path, (name, values, given))
 }
 
 /// Parses the message that an operation copies from, and applies the operation at the end of
 /// `path`. `call` has the operation's bytes.
-fn read_source<A: BuilderArena>(
+fn parse_source_and_apply<A: BuilderArena>(
     alloc: Global,
     arena: &mut A,
     path: &[Step],
     call: (Name, &Values<'_>, Option<&[u8]>),
 ) -> Result<(), Fault> {
-    let segments = call.1.source.segments(alloc)?;
+    let segments = call.1.source.parse_segments(alloc)?;
     let slices = parse::slices(alloc, segments.as_slice())?;
     let Some(array) = SegmentArray::new(slices.as_slice()) else {
         return Err(Fault::Unfit);

@@ -42,7 +42,7 @@ pub fn struct_at<'a, A: ReaderArena>(
 }
 
 /// Like `struct_at`, but the struct has the list's own nesting limit.
-pub fn own_struct_at<'a, A: ReaderArena>(
+pub fn struct_at_with_list_limit<'a, A: ReaderArena>(
     list: &ListReader<'a, A>,
     index: u32,
 ) -> Result<StructReader<'a, A>, Fault> {

@@ -27,7 +27,7 @@ impl Memory {
     /// `segments` the number of segments that are granted, or `none` for any number. After a `/`,
     /// `words` may have the number of words of a scratch space, and `segments` the number of rows
     /// that are granted. A row is what an arena knows of a segment.
-    pub fn new(words: &str, segments: &str) -> Result<Self, Fault> {
+    pub fn parse(words: &str, segments: &str) -> Result<Self, Fault> {
         let (words, scratch_words) = match words.split_once('/') {
             Some((words, scratch)) => (words, Some(parse::number(scratch)?)),
             None => (words, None),
@@ -46,7 +46,7 @@ impl Memory {
     }
 
     /// Makes the bytes of the scratch space, if there is one. None of them is zero.
-    pub fn scratch(&self, alloc: Global) -> Result<Option<Vec<u8>>, Fault> {
+    pub fn allocate_scratch(&self, alloc: Global) -> Result<Option<Vec<u8>>, Fault> {
         match self.scratch_words {
             Some(words) => Ok(Some(Vec::from_elem(alloc, 0xff, 8 * words as usize)?)),
             None => Ok(None),
@@ -54,13 +54,17 @@ impl Memory {
     }
 
     /// Makes the allocator of a message without a scratch space.
-    pub fn limited(&self, alloc: Global) -> LimitedAllocator<HeapAllocator> {
+    pub fn heap_allocator(&self, alloc: Global) -> LimitedAllocator<HeapAllocator> {
         let heap = HeapAllocator::new(alloc, self.words);
         LimitedAllocator::new(heap, self.segments, self.rows)
     }
 
     /// Makes the allocator of a message with the scratch space `scratch`.
-    pub fn over<'a>(&self, alloc: Global, scratch: &'a mut [u8]) -> LimitedScratch<'a> {
+    pub fn scratch_allocator<'a>(
+        &self,
+        alloc: Global,
+        scratch: &'a mut [u8],
+    ) -> LimitedScratch<'a> {
         let scratch = ScratchSpaceHeapAllocator::new(alloc, scratch, self.words);
         LimitedScratch {
             inner: LimitedAllocator::new(scratch, self.segments, self.rows),
@@ -122,7 +126,10 @@ impl<'a> Allocator for LimitedScratch<'a> {
 }
 
 /// Makes a message with one segment, in which one word is allocated, for the root pointer.
-pub fn built<A: Allocator>(alloc: Global, allocator: A) -> Result<BuilderArenaImpl<A>, ErrorKind> {
+pub fn arena_with_root<A: Allocator>(
+    alloc: Global,
+    allocator: A,
+) -> Result<BuilderArenaImpl<A>, ErrorKind> {
     let mut arena = BuilderArenaImpl::new(alloc, allocator);
     arena.allocate_segment(1)?;
     let _root = arena.allocate(0, 1);

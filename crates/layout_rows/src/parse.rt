@@ -83,7 +83,7 @@ where
 }
 
 /// Parses a number in decimal digits, and stores it in `to`.
-pub fn parse_into<T: FromStr + Copy>(text: &str, to: &mut T) -> Result<(), Fault>
+pub fn number_into<T: FromStr + Copy>(text: &str, to: &mut T) -> Result<(), Fault>
 where
     T::Err: Drop,
 {
@@ -97,6 +97,25 @@ pub fn flag(text: &str) -> Result<bool, Fault> {
         0u8 => Ok(false),
         1 => Ok(true),
         _ => Err(Fault::Unfit),
+    }
+}
+
+/// Parses the mask of a number, in decimal digits, if the call has one.
+pub fn number_mask<M: FromStr>(digits: Option<&str>) -> Result<Option<M>, Fault>
+where
+    M::Err: Drop,
+{
+    match digits {
+        Some(digits) => Ok(Some(number(digits)?)),
+        None => Ok(None),
+    }
+}
+
+/// Parses the mask of a bit, 1 or 0, if the call has one.
+pub fn bool_mask(digits: Option<&str>) -> Result<Option<bool>, Fault> {
+    match digits {
+        Some(digits) => Ok(Some(flag(digits)?)),
+        None => Ok(None),
     }
 }
 

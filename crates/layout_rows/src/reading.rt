@@ -27,11 +27,11 @@ pub fn answer(alloc: Global, task: Task, line: &str) -> Result<String, Fault> {
     };
     let segments = parse::segments(alloc, segments, ',', "")?;
     let slices = parse::slices(alloc, segments.as_slice())?;
-    answer_of(alloc, task, slices.as_slice(), options, calls)
+    answer_message(alloc, task, slices.as_slice(), options, calls)
 }
 
 /// Returns the answer for a message of these segments.
-fn answer_of(
+fn answer_message(
     alloc: Global,
     task: Task,
     segments: &[&[u8]],

@@ -3,13 +3,15 @@ ghost use Rattle.std.specs.Prelude.{◌<◌, ◌/◌, ◌^◌, length, IfOk, IfS
 
 mod calls;
 
-use self::calls::{Call, Op, read_calls};
+use self::calls::{Call, Op, parse_calls};
 use crate::calls::Values;
-use crate::elements::{Reader, low_data_at, number_at, own_struct_at, pointer_at, struct_at};
+use crate::elements::{
+    Reader, low_data_at, number_at, pointer_at, struct_at, struct_at_with_list_limit,
+};
 use crate::output::Output;
-use crate::parse::Fault;
+use crate::parse::{self, Fault};
 use crate::readers;
-use crate::types::{ElementType, NumberType, flag_of, mask_of};
+use crate::types::{ElementType, NumberType};
 use capnp_arena::arena::ReaderArena;
 use capnp_readers::readers::{
     ListReader, MessageSize, PointerPlace, PointerReader, PrimitiveElement, StructReader, Target,
@@ -31,7 +33,7 @@ pub fn answer<A: ReaderArena>(
     limiter: ReadLimiter,
     words: &[&str],
 ) -> Result<String, Fault> {
-    let calls = read_calls(alloc, words)?;
+    let calls = parse_calls(alloc, words)?;
     let reading = Reading {
         limiter,
         out: Output::new(alloc),
@@ -85,7 +87,7 @@ impl Reading {
         if let Some(reader) = reader {
             self.push_reader(reader);
         }
-        self.push_limits();
+        self.push_limiter_state();
         Ok(reader)
     }
 
@@ -101,7 +103,7 @@ impl Reading {
 
     /// Adds the number of words that the limiter has left, and the number of pointers that were
     /// followed.
-    fn push_limits(&mut self) {
+    fn push_limiter_state(&mut self) {
         self.out.push_text(" ");
         self.out.push_words_left(self.limiter.left());
         self.out.push_text(" ");
@@ -126,7 +128,7 @@ impl Reading {
                 Reader::Pointer(root)
             }
             Op::At => Reader::Pointer(reader_at(arena, &call.values)?),
-            Op::FromDefault => Reader::Pointer(from_default(call)?),
+            Op::FromDefault => Reader::Pointer(reader_of_default(call)?),
             Op::NewPointer => Reader::Pointer(PointerReader::new_default()),
             Op::NewStruct => Reader::Struct(StructReader::new_default()),
             Op::NewList => Reader::List(ListReader::new_default()),
@@ -295,7 +297,7 @@ impl Reading {
         from: StructReader<'_, A>,
         values: &Values<'_>,
     ) -> Result<(), Fault> {
-        let value = match flag_of(values.mask)? {
+        let value = match parse::bool_mask(values.mask)? {
             Some(mask) => readers::get_bool_field_mask(from, values.index, mask),
             None => readers::get_bool_field(from, values.index),
         };
@@ -306,7 +308,7 @@ impl Reading {
     fn push_is_canonical<A: ReaderArena>(&mut self, from: PointerReader<'_, A>, head: u32) {
         let mut head = head;
         let tested = from.is_canonical(&mut self.limiter, &mut head);
-        self.push_test(tested, head);
+        self.push_test_answer(tested, head);
     }
 
     fn push_struct_is_canonical<A: ReaderArena>(
@@ -323,9 +325,9 @@ impl Reading {
             &mut data,
             &mut pointers,
         );
-        self.push_test(tested, read);
+        self.push_test_answer(tested, read);
         self.out.push_slashed(behind);
-        self.push_used(data, pointers);
+        self.push_last_words_used(data, pointers);
     }
 
     fn push_is_canonical_shared<A: ReaderArena>(
@@ -341,13 +343,13 @@ impl Reading {
             &mut data,
             &mut pointers,
         );
-        self.push_test(tested, head);
-        self.push_used(data, pointers);
+        self.push_test_answer(tested, head);
+        self.push_last_words_used(data, pointers);
     }
 
     /// Adds the answer of a test for canonical form, and the head after the test, a position in
     /// words.
-    fn push_test(&mut self, tested: Result<bool, ErrorKind>, head: u32) {
+    fn push_test_answer(&mut self, tested: Result<bool, ErrorKind>, head: u32) {
         match tested {
             Ok(yes) => self.out.push_flag(yes),
             Err(kind) => self.out.push(kind),
@@ -356,7 +358,7 @@ impl Reading {
     }
 
     /// Adds, for each of the two sections of a struct, whether its last word is used.
-    fn push_used(&mut self, data: bool, pointers: bool) {
+    fn push_last_words_used(&mut self, data: bool, pointers: bool) {
         self.out.push_text("/");
         self.out.push_flag(data);
         self.out.push_text("/");
@@ -371,7 +373,7 @@ impl Reading {
         let index = call.values.count;
         match call.op {
             Op::Element => Ok(Some(Reader::Struct(struct_at(&from, index)?))),
-            Op::OwnElement => Ok(Some(Reader::Struct(own_struct_at(&from, index)?))),
+            Op::OwnElement => Ok(Some(Reader::Struct(struct_at_with_list_limit(&from, index)?))),
             Op::PointerElement => Ok(Some(Reader::Pointer(pointer_at(&from, index)?))),
             op => {
                 self.query_list(from, op, &call.values)?;
@@ -506,7 +508,7 @@ fn get_number_field<T: Primitive + Zero + Mask<T = T> + FromStr + Drop, A: Reade
 where
     T::Err: Drop,
 {
-    Ok(match mask_of::<T>(values.mask)? {
+    Ok(match parse::number_mask::<T>(values.mask)? {
         Some(mask) => readers::get_data_field_mask::<T, A>(from, values.index, mask),
         None => readers::get_data_field::<T, A>(from, values.index),
     })
@@ -532,7 +534,7 @@ fn reader_at<'a, A: ReaderArena>(
 }
 
 /// Returns a reader of the root pointer of a call's default; `Unfit` if the call has none.
-fn from_default<'a, A: ReaderArena>(call: &'a Call) -> Result<PointerReader<'a, A>, Fault> {
+fn reader_of_default<'a, A: ReaderArena>(call: &'a Call) -> Result<PointerReader<'a, A>, Fault> {
     match default_bytes(call)? {
         Some(bytes) => Ok(PointerReader::from_default(bytes)?),
         None => Err(Fault::Unfit),

@@ -15,7 +15,7 @@ pub struct SourceText<'a> {
 
 impl SourceText<'_> {
     /// Parses the segments, and returns the bytes of each.
-    pub fn segments(&self, alloc: Global) -> Result<Vec<Vec<u8>>, Fault> {
+    pub fn parse_segments(&self, alloc: Global) -> Result<Vec<Vec<u8>>, Fault> {
         parse::segments(alloc, self.segments, '/', ".")
     }
 }

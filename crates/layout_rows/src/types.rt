@@ -1,8 +1,7 @@
 //! The types of numbers and of elements that a line names.
 
-use crate::calls::{Form, find};
-use crate::parse::{self, Fault};
-use std::str::FromStr;
+use crate::calls::{Form, find_form};
+use crate::parse::Fault;
 
 /// The type of a number.
 #[derive(Clone, Copy)]
@@ -25,7 +24,7 @@ pub enum ElementType {
     Number(NumberType),
 }
 
-/// The names of element types. For `find`, they are calls without arguments.
+/// The names of element types. For `find_form`, they are calls without arguments.
 static ELEMENT_TYPES: [Form<ElementType>; 10] = [
     ("void", "", 0, ElementType::Void),
     ("bool", "", 0, ElementType::Bool),
@@ -41,27 +40,8 @@ static ELEMENT_TYPES: [Form<ElementType>; 10] = [
 
 /// Returns the element type with this name.
 pub fn element_type(name: &str) -> Result<ElementType, Fault> {
-    match find(&ELEMENT_TYPES, name, 0) {
+    match find_form(&ELEMENT_TYPES, name, 0) {
         Some((_, found)) => Ok(found),
         None => Err(Fault::Malformed),
-    }
-}
-
-/// Parses a mask in decimal digits, if the call has one.
-pub fn mask_of<M: FromStr>(digits: Option<&str>) -> Result<Option<M>, Fault>
-where
-    M::Err: Drop,
-{
-    match digits {
-        Some(digits) => Ok(Some(parse::number(digits)?)),
-        None => Ok(None),
-    }
-}
-
-/// Parses a flag, 1 or 0, if the call has one.
-pub fn flag_of(digits: Option<&str>) -> Result<Option<bool>, Fault> {
-    match digits {
-        Some(digits) => Ok(Some(parse::flag(digits)?)),
-        None => Ok(None),
     }
 }

@@ -92,7 +92,7 @@ impl Walk {
     /// Makes all calls on a pointer, and reads what it leads to, down to `below` levels below it.
     #[cycle(levels)]
     fn walk_pointer<A: ReaderArena>(&mut self, from: PointerReader<'_, A>, below: u32) {
-        self.call_without_levels(from);
+        self.make_leaf_calls(from);
         for size in SIZES {
             self.walk_list(from, size, below);
         }
@@ -101,13 +101,13 @@ impl Walk {
     }
 
     /// Makes the calls on a pointer whose answers have no further pointers.
-    fn call_without_levels<A: ReaderArena>(&mut self, from: PointerReader<'_, A>) {
+    fn make_leaf_calls<A: ReaderArena>(&mut self, from: PointerReader<'_, A>) {
         self.out.push_text("[");
         self.out.push_flag(from.is_null());
         if from.is_null() {
             self.call_with_defaults(from);
         }
-        self.push_plain_calls(from);
+        self.push_plain_answers(from);
     }
 
     /// Reads the list that a pointer leads to, expecting elements of `size`, and the pointers of
@@ -138,7 +138,7 @@ impl Walk {
         below: u32,
     ) {
         for index in 0..list.len().min(FEW) {
-            if let Some(child) = walked_pointer_of(list, size, index) {
+            if let Some(child) = pointer_to_walk(list, size, index) {
                 self.walk_pointer(child, below);
             }
         }
@@ -210,7 +210,7 @@ impl Walk {
     }
 
     /// Makes the calls that return no reader, on a pointer, and adds their answers.
-    fn push_plain_calls<A: ReaderArena>(&mut self, from: PointerReader<'_, A>) {
+    fn push_plain_answers<A: ReaderArena>(&mut self, from: PointerReader<'_, A>) {
         let found = readers::get_pointer_type(from, &mut self.limiter);
         self.push_pointer_type(found);
         self.push_capability(readers::get_capability(from));
@@ -286,7 +286,7 @@ impl Walk {
 
     /// Adds the list that was read from a default: its number of elements, and the last struct.
     fn push_default_list<A: ReaderArena>(&mut self, list: &ListReader<'_, A>, size: ElementSize) {
-        self.push_length(list);
+        self.push_length_and_size(list);
         if size == ElementSize::InlineComposite && !list.is_empty() {
             if let Ok(last) = struct_at(list, list.len() - 1) {
                 self.out.push_hex(last.data_bytes());
@@ -296,7 +296,7 @@ impl Walk {
     }
 
     /// Adds the number of elements of a list, and their size.
-    fn push_length<A: ReaderArena>(&mut self, list: &ListReader<'_, A>) {
+    fn push_length_and_size<A: ReaderArena>(&mut self, list: &ListReader<'_, A>) {
         self.out.push(list.len());
         self.out.push_text(" ");
         self.out.push_element_size(list.get_element_size());
@@ -304,7 +304,7 @@ impl Walk {
 
     /// Adds a list and its first elements.
     fn push_elements<A: ReaderArena>(&mut self, list: &ListReader<'_, A>, size: ElementSize) {
-        self.push_length(list);
+        self.push_length_and_size(list);
         for index in 0..list.len().min(FEW) {
             self.out.push_text(" ");
             self.push_element(list, size, index);
@@ -407,7 +407,7 @@ fn push_flags<A: ReaderArena>(found: StructReader<'_, A>, step: u8, out: &mut Ou
 /// Returns the pointer from which the walk goes on after element `index`: the element itself if
 /// `size` is `Pointer`, or the first pointer of the element as a struct if `size` is
 /// `InlineComposite`. Otherwise, or if there is no such element, returns `None`.
-fn walked_pointer_of<'a, A: ReaderArena>(
+fn pointer_to_walk<'a, A: ReaderArena>(
     list: &ListReader<'a, A>,
     size: ElementSize,
     index: u32,

@@ -13,7 +13,7 @@ use std::alloc::Global;
 
 /// Makes a call on a text or on data, and adds its answer. The bytes among the call's arguments may
 /// be a default.
-pub fn call<A: BuilderArena>(
+pub fn make_call<A: BuilderArena>(
     alloc: Global,
     arena: &mut A,
     place: PointerPlace,
@@ -46,7 +46,7 @@ fn init_blob<A: BuilderArena>(
         return Err(Fault::Unfit);
     }
     let bytes = init_bytes(arena, place, blob, count)?;
-    write_first(bytes, first);
+    overwrite_prefix(bytes, first);
     out.push(bytes.len());
     Ok(())
 }
@@ -66,8 +66,8 @@ fn init_bytes<'a, A: BuilderArena>(
     }
 }
 
-// Writes bytes over the first of others.
-fn write_first(bytes: &mut [u8], first: &[u8]) {
+// Overwrites the first of `bytes` with those of `first`.
+fn overwrite_prefix(bytes: &mut [u8], first: &[u8]) {
     for (to, from) in bytes.iter_mut().zip(first) {
         *to = *from;
     }

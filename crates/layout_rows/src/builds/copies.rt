@@ -22,7 +22,7 @@ pub fn copy<A: BuilderArena>(
     out: &mut Output,
 ) -> Result<(), Fault> {
     let source = call.1.source;
-    let segments = source.segments(alloc)?;
+    let segments = source.parse_segments(alloc)?;
     let slices = parse::slices(alloc, segments.as_slice())?;
     let Some(array) = SegmentArray::new(slices.as_slice()) else {
         return Err(Fault::Unfit);
@@ -83,7 +83,7 @@ fn read_original<'a, B: ReaderArena>(
         Copying::Value => Ok(Reader::Pointer(root)),
         Copying::Struct => Ok(Reader::Struct(readers::get_struct(root, lim, None)?)),
         Copying::List => Ok(Reader::List(readers::get_list(root, lim, values.size, None)?)),
-        Copying::Element => struct_element(root, values.count, lim),
+        Copying::Element => read_struct_element(root, values.count, lim),
         Copying::Section => {
             let found = readers::get_struct(root, lim, None)?;
             Ok(Reader::List(found.get_pointer_section_as_list()))
@@ -92,7 +92,7 @@ fn read_original<'a, B: ReaderArena>(
 }
 
 // An element of the list that a pointer leads to, as a struct.
-fn struct_element<'a, B: ReaderArena>(
+fn read_struct_element<'a, B: ReaderArena>(
     root: PointerReader<'a, B>,
     index: u32,
     lim: &mut ReadLimiter,

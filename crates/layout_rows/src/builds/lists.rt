@@ -12,7 +12,7 @@ use capnp_readers::readers::{ListPlace, PointerPlace};
 use capnp_words::wire_pointer::ElementSize;
 
 /// Makes a call on a list and adds its answer.
-pub fn call<A: BuilderArena>(
+pub fn make_call<A: BuilderArena>(
     arena: &mut A,
     place: ListPlace,
     (call, values): (ListCall, &Values<'_>),

@@ -9,7 +9,7 @@ use super::place::{Place, list_builder, struct_builder};
 use crate::calls::Values;
 use crate::output::Output;
 use crate::parse::{self, Fault};
-use crate::types::{NumberType, mask_of};
+use crate::types::NumberType;
 use capnp_arena::arena::BuilderArena;
 use capnp_builders::builders::PrimitiveElement;
 use capnp_readers::readers::{ListPlace, StructPlace};
@@ -57,11 +57,11 @@ where
 {
     match access {
         Access::Get => {
-            let value: T = get::<A, T>(arena, place, values)?;
+            let value: T = get_number::<A, T>(arena, place, values)?;
             out.push(value);
         }
         Access::Set => {
-            set::<A, T>(arena, place, values)?;
+            set_number::<A, T>(arena, place, values)?;
             out.push_text("ok");
         }
     }
@@ -69,11 +69,10 @@ where
 }
 
 // A number of a struct or a list.
-fn get<A: BuilderArena, T: Primitive + Zero + Mask<T = T> + PrimitiveElement + FromStr + Drop>(
-    arena: &mut A,
-    place: Place,
-    values: &Values<'_>,
-) -> Result<T, Fault>
+fn get_number<
+    A: BuilderArena,
+    T: Primitive + Zero + Mask<T = T> + PrimitiveElement + FromStr + Drop,
+>(arena: &mut A, place: Place, values: &Values<'_>) -> Result<T, Fault>
 where
     T::Err: Drop,
 {
@@ -85,11 +84,10 @@ where
 }
 
 // Writes a number of a struct or a list.
-fn set<A: BuilderArena, T: Primitive + Zero + Mask<T = T> + PrimitiveElement + FromStr + Drop>(
-    arena: &mut A,
-    place: Place,
-    values: &Values<'_>,
-) -> Result<(), Fault>
+fn set_number<
+    A: BuilderArena,
+    T: Primitive + Zero + Mask<T = T> + PrimitiveElement + FromStr + Drop,
+>(arena: &mut A, place: Place, values: &Values<'_>) -> Result<(), Fault>
 where
     T::Err: Drop,
 {
@@ -116,7 +114,7 @@ fn set_field<A: BuilderArena, T: Primitive + Zero + Mask<T = T> + FromStr + Drop
 where
     T::Err: Drop,
 {
-    let mask: Option<T> = mask_of(values.mask)?;
+    let mask: Option<T> = parse::number_mask(values.mask)?;
     let mut builder = struct_builder(arena, place)?;
     let index = values.index;
     if !has_field(place.bits, 8 * T::BYTES, index) {
@@ -138,7 +136,7 @@ fn get_field<A: BuilderArena, T: Primitive + Zero + Mask<T = T> + FromStr + Drop
 where
     T::Err: Drop,
 {
-    let mask: Option<T> = mask_of(values.mask)?;
+    let mask: Option<T> = parse::number_mask(values.mask)?;
     let builder = struct_builder(arena, place)?;
     let index = values.index;
     if !has_field(place.bits, 8 * T::BYTES, index) {

@@ -108,7 +108,7 @@ fn push_list<A: BuilderArena>(
 }
 
 // The number of words of a segment, if it exists.
-fn segment_words<A: BuilderArena>(arena: &A, id: u32) -> Option<u64>
+fn segment_length<A: BuilderArena>(arena: &A, id: u32) -> Option<u64>
     ensures there { IfSome result (λ n. (id < length (A.view arena.now).words)
         × (n ≡ length (segment (A.view arena.now).words id))) }
     ensures small { IfSome result (λ n. n < 2 ^ 32) }
@@ -123,7 +123,7 @@ fn segment_words<A: BuilderArena>(arena: &A, id: u32) -> Option<u64>
 pub fn has_pointer<A: BuilderArena>(arena: &A, place: PointerPlace) -> bool
     ensures { IsTrue result → IsPlace (A.view arena.now).words place.segment place.word }
 {
-    match segment_words(arena, place.segment) {
+    match segment_length(arena, place.segment) {
         Some(words) => u64::from(place.word) < words,
         None => false,
     }
@@ -134,7 +134,7 @@ fn has_struct<A: BuilderArena>(arena: &A, place: StructPlace) -> bool
     ensures { IsTrue result → IsStructPlace (A.view arena.now).words place }
 {
     match (
-        segment_words(arena, place.segment),
+        segment_length(arena, place.segment),
         place.byte.checked_add(bytes_for(place.bits)),
     ) {
         (Some(words), Some(end)) => {
@@ -165,7 +165,7 @@ fn has_list<A: BuilderArena>(arena: &A, place: ListPlace) -> bool
 {
     let elements = words_of_elements(place.size, place.struct_size.total(), place.count);
     match (
-        segment_words(arena, place.segment),
+        segment_length(arena, place.segment),
         (place.byte / 8).checked_add(elements),
     ) {
         (Some(words), Some(end)) => place.byte % 8 == 0 && end <= words,

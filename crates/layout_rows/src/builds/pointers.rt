@@ -20,7 +20,7 @@ use std::alloc::Global;
 pub const LIST_LIMIT: u32 = 0x2000_0000;
 
 /// Makes a call on a pointer and adds its answer.
-pub fn call<A: BuilderArena>(
+pub fn make_call<A: BuilderArena>(
     alloc: Global,
     arena: &mut A,
     place: PointerPlace,
@@ -37,13 +37,13 @@ pub fn call<A: BuilderArena>(
             out.push_text("ok");
         }
         PointerCall::Struct(verb) => {
-            return struct_place(pointer, verb, values.sections, default);
+            return init_or_find_struct(pointer, verb, values.sections, default);
         }
         PointerCall::List(verb) => {
-            return list_place(pointer, verb, values.size, values.count, default);
+            return init_or_find_list(pointer, verb, values.size, values.count, default);
         }
         PointerCall::StructList(verb) => {
-            return struct_list_place(pointer, verb, values.count, values.sections, default);
+            return init_or_find_struct_list(pointer, verb, values.count, values.sections, default);
         }
     }
     Ok(None)
@@ -89,7 +89,7 @@ fn call_on_word<A: BuilderArena>(
 }
 
 /// Makes a pointer lead to a new struct, or finds the struct that it leads to.
-fn struct_place<A: BuilderArena>(
+fn init_or_find_struct<A: BuilderArena>(
     mut pointer: PointerBuilder<'_, A>,
     verb: Verb,
     size: StructSize,
@@ -124,7 +124,7 @@ fn find_struct<A: BuilderArena>(
 
 /// Makes a pointer lead to a new list whose elements aren't structs, or finds the list that it
 /// leads to.
-fn list_place<A: BuilderArena>(
+fn init_or_find_list<A: BuilderArena>(
     mut pointer: PointerBuilder<'_, A>,
     verb: Verb,
     size: ElementSize,
@@ -163,7 +163,7 @@ fn find_list<A: BuilderArena>(
 }
 
 /// Makes a pointer lead to a new list of structs, or finds the list that it leads to.
-fn struct_list_place<A: BuilderArena>(
+fn init_or_find_struct_list<A: BuilderArena>(
     mut pointer: PointerBuilder<'_, A>,
     verb: Verb,
     count: u32,

@@ -6,20 +6,19 @@ use super::numbers::access_number;
 use super::place::{Place, struct_builder};
 use crate::calls::Values;
 use crate::output::Output;
-use crate::parse::Fault;
-use crate::types::flag_of;
+use crate::parse::{self, Fault};
 use capnp_arena::arena::BuilderArena;
 use capnp_readers::readers::{PointerPlace, StructPlace};
 
 /// Makes a call on a struct and adds its answer.
-pub fn call<A: BuilderArena>(
+pub fn make_call<A: BuilderArena>(
     arena: &mut A,
     place: StructPlace,
     (call, values): (StructCall, &Values<'_>),
     out: &mut Output,
 ) -> Result<Option<Place>, Fault> {
     match call {
-        StructCall::Field => return get_field(arena, place, values.index),
+        StructCall::Field => return get_pointer_field(arena, place, values.index),
         StructCall::IsFieldNull => push_is_pointer_null(arena, place, values.index, out)?,
         StructCall::Bool(access) => access_bit(arena, place, access, values, out)?,
         StructCall::Number(of, access) => {
@@ -30,7 +29,7 @@ pub fn call<A: BuilderArena>(
 }
 
 // Returns a pointer.
-fn get_field<A: BuilderArena>(
+fn get_pointer_field<A: BuilderArena>(
     arena: &mut A,
     place: StructPlace,
     index: usize,
@@ -70,7 +69,7 @@ fn access_bit<A: BuilderArena>(
     values: &Values<'_>,
     out: &mut Output,
 ) -> Result<(), Fault> {
-    let mask = flag_of(values.mask)?;
+    let mask = parse::bool_mask(values.mask)?;
     let index = values.index;
     if index >= place.bits as usize {
         return Err(Fault::Unfit);

@@ -97,21 +97,21 @@ pub struct Call<'l> {
 }
 
 /// Parses calls; each of `words` is one.
-pub fn read_calls<'l>(alloc: Global, words: &[&'l str]) -> Result<Vec<Call<'l>>, Fault> {
+pub fn parse_calls<'l>(alloc: Global, words: &[&'l str]) -> Result<Vec<Call<'l>>, Fault> {
     let mut list = Vec::new(alloc);
     for word in words {
-        list.push(read_call(alloc, *word)?)?;
+        list.push(parse_call(alloc, *word)?)?;
     }
     Ok(list)
 }
 
 /// Parses a call.
-fn read_call<'l>(alloc: Global, word: &'l str) -> Result<Call<'l>, Fault> {
+fn parse_call<'l>(alloc: Global, word: &'l str) -> Result<Call<'l>, Fault> {
     let (of, text) = match word.split_once('.') {
         Some((number, text)) => (Some(parse_reader_number(number)?), text),
         None => (None, word),
     };
-    let (op, values) = calls::read(&FORMS, text)?;
+    let (op, values) = calls::parse_one_of(&FORMS, text)?;
     let default = match values.hex {
         Some(digits) => Some(parse::bytes(alloc, digits)?),
         None => None,
