@@ -6,7 +6,7 @@ use capnp_layout::tool::{self, Args, Outcome};
 use std::alloc::{AllocError, Global};
 use std::cell::Cell;
 use test_support::{
-    Granted, Strain, StrainedInput, StrainedOutput, TestAllocator, arguments, limit,
+    Granted, Strain, StrainedInput, StrainedOutput, TestAllocator, parse_limit, split_arguments,
 };
 
 /// What a line of input asks for.
@@ -87,20 +87,26 @@ fn read_run<'l>(
     (reads, writes, requests): (&str, &str, &str),
     input: &'l str,
 ) -> Result<Option<Run<'l>>, AllocError> {
-    let words = arguments(alloc, args)?;
+    let words = split_arguments(alloc, args)?;
     let Some(args) = tool::parse_args(words.as_slice()) else {
         return Ok(None);
     };
-    Ok(match (limit(reads), limit(writes), limit(requests)) {
-        (Some(reads), Some(writes), Some(requests)) => Some(Run {
-            args,
-            reads: by_bytes(reads),
-            writes: by_bytes(writes),
-            requests,
-            input,
-        }),
-        _ => None,
-    })
+    Ok(
+        match (
+            parse_limit(reads),
+            parse_limit(writes),
+            parse_limit(requests),
+        ) {
+            (Some(reads), Some(writes), Some(requests)) => Some(Run {
+                args,
+                reads: by_bytes(reads),
+                writes: by_bytes(writes),
+                requests,
+                input,
+            }),
+            _ => None,
+        },
+    )
 }
 
 /// Returns the `Strain` of a device whose first `calls` calls succeed, and move one byte each.

@@ -8,7 +8,7 @@ use capnp_packing::buffered::BufferedOutput;
 use capnp_packing::packing::PackingOutput;
 use capnp_streams::streams::{self, Request, Stop, Summary, Task};
 use std::alloc::{AllocError, Global};
-use test_support::{Strain, StrainedInput, StrainedOutput, arguments, limit};
+use test_support::{Strain, StrainedInput, StrainedOutput, parse_limit, split_arguments};
 
 /// What a line of input asks for.
 #[derive(Drop)]
@@ -56,7 +56,7 @@ fn read_line(alloc: Global, line: &str) -> Result<Option<Run>, AllocError> {
 /// Parses the arguments of `capnp_canon`, separated by commas. Returns `None` unless they ask for a
 /// task, name no file, and don't ask to read raw words instead of frames.
 fn read_task(alloc: Global, text: &str) -> Result<Option<Task>, AllocError> {
-    let args = arguments(alloc, text)?;
+    let args = split_arguments(alloc, text)?;
     let args = args.as_slice();
     let files = streams::named_files(alloc, args)?;
     Ok(match streams::parse_args(args) {
@@ -71,8 +71,8 @@ fn read_task(alloc: Global, text: &str) -> Result<Option<Task>, AllocError> {
 fn read_strain(text: &str) -> Option<Strain> {
     let (calls, most) = text.split_once(',')?;
     Some(Strain {
-        calls: limit(calls)?,
-        most: limit(most)? as usize,
+        calls: parse_limit(calls)?,
+        most: parse_limit(most)? as usize,
     })
 }
 

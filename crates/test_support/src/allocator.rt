@@ -43,8 +43,8 @@ impl<'a> TestAllocator<'a> {
         }
     }
 
-    // Whether a segment is granted.
-    fn grants_segment(&mut self) -> bool
+    // Uses up one grant of a segment; returns `false` if none is left.
+    fn try_grant_segment(&mut self) -> bool
         ensures heap { self.new.heap ≡ self.old.heap }
         ensures refused { self.new.refused ≡ self.old.refused }
     {
@@ -58,8 +58,8 @@ impl<'a> TestAllocator<'a> {
         }
     }
 
-    // Whether a row is granted.
-    fn grants_row(&mut self) -> bool
+    // Uses up one grant of a row; returns `false` if none is left.
+    fn try_grant_row(&mut self) -> bool
         ensures heap { self.new.heap ≡ self.old.heap }
         ensures refused { self.new.refused ≡ self.old.refused }
     {
@@ -94,7 +94,7 @@ impl Allocator for TestAllocator<'_> {
         if min_words > MAX_SEGMENT_WORDS {
             return Err(ErrorKind::MessageTooLarge(min_words as usize));
         }
-        if self.grants_segment() {
+        if self.try_grant_segment() {
             if let Ok(segment) = self.heap.allocate_segment(min_words) {
                 return Ok(segment);
             }
@@ -114,7 +114,7 @@ impl Allocator for TestAllocator<'_> {
     }
 
     fn keep<T>(&mut self, list: &mut Vec<T>, row: T) -> Option<T> {
-        if !self.grants_row() {
+        if !self.try_grant_row() {
             self.refused = self.refused.saturating_add(1);
             return Some(row);
         }

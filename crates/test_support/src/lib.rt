@@ -16,6 +16,6 @@ pub use allocator::{Granted, TestAllocator};
 pub use capnp_framing::framing::OwnedSegments;
 pub use devices::{Strain, StrainedInput, StrainedOutput};
 pub use first::FirstInArena;
-pub use lines::{answer_lines, arguments, limit};
-pub use message::{arena_of, arena_of_root, bytes_of, has_words};
+pub use lines::{answer_lines, parse_limit, split_arguments};
+pub use message::{arena_from_hex, arena_with_root, decode_hex, has_words};
 pub use noting::{NotingAllocator, Request};

@@ -13,14 +13,14 @@ pub fn answer_lines<F: Fn(Global, &str) -> Result<String, AllocError>>(
 ) -> ExitCode
     requires { F.IsAlwaysCallable answer }
 {
-    match respond(rt, answer) {
+    match try_answer_lines(rt, answer) {
         Ok(()) => ExitCode::SUCCESS,
         Err(_) => ExitCode::from(1),
     }
 }
 
 // Answers each line. Fails if reading or writing does, or memory runs out.
-fn respond<F: Fn(Global, &str) -> Result<String, AllocError>>(
+fn try_answer_lines<F: Fn(Global, &str) -> Result<String, AllocError>>(
     rt: &HostRuntime,
     answer: F,
 ) -> io::Result<()>
@@ -39,7 +39,7 @@ fn respond<F: Fn(Global, &str) -> Result<String, AllocError>>(
 }
 
 /// Splits `text`, one word, into the arguments of a program, which are separated by commas.
-pub fn arguments(alloc: Global, text: &str) -> Result<Vec<String>, AllocError> {
+pub fn split_arguments(alloc: Global, text: &str) -> Result<Vec<String>, AllocError> {
     let mut words = Vec::new(alloc);
     for word in text.split(',') {
         words.push(String::from_str(alloc, word)?)?;
@@ -49,7 +49,7 @@ pub fn arguments(alloc: Global, text: &str) -> Result<Vec<String>, AllocError> {
 
 /// Parses a limit: decimal digits, or `none` for no limit, which is `u64::MAX`. Returns `None` if
 /// `text` is neither.
-pub fn limit(text: &str) -> Option<u64> {
+pub fn parse_limit(text: &str) -> Option<u64> {
     if text == "none" {
         Some(u64::MAX)
     } else {

@@ -10,7 +10,7 @@ use std::alloc::Global;
 
 /// Returns the bytes that `text` has as pairs of hex digits. Spaces between the pairs are ignored.
 /// Returns `None` if the text has anything else, or memory runs out.
-pub fn bytes_of(alloc: Global, text: &str) -> Option<Vec<u8>> {
+pub fn decode_hex(alloc: Global, text: &str) -> Option<Vec<u8>> {
     let mut bytes = Vec::new(alloc);
     for word in text.split(' ') {
         let part = hex::decode(alloc, word).ok()?;
@@ -20,16 +20,16 @@ pub fn bytes_of(alloc: Global, text: &str) -> Option<Vec<u8>> {
 }
 
 /// Makes the arena of a message. `text` has the bytes of its segments in hex digits, as in
-/// `bytes_of`, with commas between segments; only whole words count. Returns `None` if the text has
-/// anything else, there are more than 512 segments, or memory runs out.
-pub fn arena_of(
+/// `decode_hex`, with commas between segments; only whole words count. Returns `None` if the text
+/// has anything else, there are more than 512 segments, or memory runs out.
+pub fn arena_from_hex(
     alloc: Global,
     text: &str,
     options: ReaderOptions,
 ) -> Option<ReaderArenaImpl<OwnedSegments>> {
     let mut segments = Vec::new(alloc);
     for segment in text.split(',') {
-        segments.push(bytes_of(alloc, segment)?).ok()?;
+        segments.push(decode_hex(alloc, segment)?).ok()?;
     }
     let frame = frame_of(alloc, segments.as_slice())?;
     match read(alloc, &mut MemoryInput::new(frame.bytes()), u64::MAX) {
@@ -52,19 +52,19 @@ fn frame_of(alloc: Global, segments: &[Vec<u8>]) -> Option<MemoryOutput> {
 
 /// Makes an arena with one segment, in which one word is allocated, for the root pointer. Returns
 /// `None` if memory runs out.
-pub fn arena_of_root<A: Allocator>(alloc: Global, allocator: A) -> Option<BuilderArenaImpl<A>> {
+pub fn arena_with_root<A: Allocator>(alloc: Global, allocator: A) -> Option<BuilderArenaImpl<A>> {
     let mut arena = BuilderArenaImpl::new(alloc, allocator);
     arena.allocate_segment(1).ok()?;
     let _root = arena.allocate(0, 1)?;
     Some(arena)
 }
 
-/// Whether the segments of `arena` are exactly those in `want`: hex digits, as in `bytes_of`, with
-/// `, ` between segments. Returns `false` if `want` has anything else, or memory runs out.
+/// Whether the segments of `arena` are exactly those in `want`: hex digits, as in `decode_hex`,
+/// with `, ` between segments. Returns `false` if `want` has anything else, or memory runs out.
 pub fn has_words(alloc: Global, arena: &impl ReaderArena, want: &str) -> bool {
     let mut id: u32 = 0;
     for text in want.split(", ") {
-        let Some(words) = bytes_of(alloc, text) else {
+        let Some(words) = decode_hex(alloc, text) else {
             return false;
         };
         if arena.get_segment(id) != Ok(words.as_slice()) {

@@ -41,7 +41,7 @@ impl NotingAllocator {
     }
 
     // Notes a request; returns `false` if there is no memory for that.
-    fn note(&mut self, request: Request) -> bool
+    fn try_note(&mut self, request: Request) -> bool
         ensures heap { self.new.heap ≡ self.old.heap }
         ensures refused { self.new.refused ≡ self.old.refused }
     {
@@ -61,7 +61,7 @@ impl Allocator for NotingAllocator {
     ghost offers = { λ a. ⟦<HeapAllocator as Allocator>⟧.offers a.heap };
 
     fn allocate_segment(&mut self, min_words: u32) -> Result<HeapSegment, ErrorKind> {
-        let noted = self.note(Request::Segment(min_words));
+        let noted = self.try_note(Request::Segment(min_words));
         if min_words > MAX_SEGMENT_WORDS {
             return Err(ErrorKind::MessageTooLarge(min_words as usize));
         }
@@ -79,7 +79,7 @@ impl Allocator for NotingAllocator {
     }
 
     fn keep<T>(&mut self, list: &mut Vec<T>, row: T) -> Option<T> {
-        if !self.note(Request::Row) {
+        if !self.try_note(Request::Row) {
             self.refused = self.refused.saturating_add(1);
             return Some(row);
         }
