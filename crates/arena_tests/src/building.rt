@@ -9,7 +9,7 @@ use test_support::has_words;
 
 /// Whether the arena's output is the segments `want`, as a `SingleSegment` exactly if there is one
 /// segment.
-fn gives(rt: &impl Abort, arena: &BuilderArenaImpl<HeapAllocator>, want: &[&[u8]]) -> bool {
+fn has_output(rt: &impl Abort, arena: &BuilderArenaImpl<HeapAllocator>, want: &[&[u8]]) -> bool {
     let output = arena.get_segments_for_output().expect(rt, "memory");
     let is_single = matches!(output, OutputSegments::SingleSegment(_));
     let mut id = 0u32;
@@ -49,14 +49,14 @@ fn write_words<A: BuilderArena>(rt: &impl Abort, arena: &mut A) {
 
 /// Checks the output of an arena without segments, with one, and with two.
 #[test]
-fn words_given_out(rt: HostRuntime) {
+fn output_has_each_segment(rt: HostRuntime) {
     let mut arena = BuilderArenaImpl::new(rt.alloc(), HeapAllocator::new(rt.alloc(), 2));
-    assert!(rt; gives(&rt, &arena, &[]));
+    assert!(rt; has_output(&rt, &arena, &[]));
     arena.allocate_segment(1).expect(&rt, "memory");
     write_word(&rt, rt.alloc(), &mut arena);
     let word = b"\0\0\0\0\0\0\0\0\x01\x02\x03\x04\x05\x06\x07\x08";
-    assert!(rt; gives(&rt, &arena, &[word]));
+    assert!(rt; has_output(&rt, &arena, &[word]));
     write_words(&rt, &mut arena);
     arena.allocate_segment(0).expect(&rt, "memory");
-    assert!(rt; gives(&rt, &arena, &[b"99999999\0\0\0\0\0\0\0\0", b""]));
+    assert!(rt; has_output(&rt, &arena, &[b"99999999\0\0\0\0\0\0\0\0", b""]));
 }

@@ -10,7 +10,7 @@ mod asking;
 #[cfg(test)]
 mod building;
 #[cfg(test)]
-mod framing;
+mod devices;
 #[cfg(test)]
 mod messages;
 #[cfg(test)]

@@ -19,7 +19,7 @@ const FRAME: &[u8] = b"\0\0\0\0\x01\0\0\0\0\0\0\0\0\0\0\0";
 const PACKED: &[u8] = b"\x10\x01\0\0";
 
 /// Whether the message has a null root pointer and no other word.
-fn is_null<A: ReaderArena>(arena: &A) -> bool {
+fn is_null_message<A: ReaderArena>(arena: &A) -> bool {
     arena.size_in_words() == 1 && arena.get_segment(0) == Ok(&[0; 8][..])
 }
 
@@ -31,9 +31,9 @@ fn a_frame_is_written_and_read(rt: HostRuntime) -> Result<(), Fail> {
     assert!(rt; output.bytes() == FRAME);
     let options = ReaderOptions::default();
     let read = read_message(rt.alloc(), &mut MemoryInput::new(FRAME), options)?;
-    assert!(rt; is_null(&read.arena));
+    assert!(rt; is_null_message(&read.arena));
     let in_place = read_message_from_flat_slice(FRAME, options)?;
-    assert!(rt; is_null(&in_place.arena));
+    assert!(rt; is_null_message(&in_place.arena));
     assert!(rt; in_place.into_segments().size_in_bytes() == 16);
     Ok(())
 }
@@ -45,7 +45,7 @@ fn a_packed_frame_is_written_and_read(rt: HostRuntime) -> Result<(), Fail> {
     assert!(rt; output.bytes() == PACKED);
     let input = MemoryInput::new(PACKED);
     let read = serialize_packed::read_message(rt.alloc(), input, ReaderOptions::default())?;
-    assert!(rt; is_null(&read.arena));
+    assert!(rt; is_null_message(&read.arena));
     Ok(())
 }
 
@@ -59,7 +59,7 @@ fn a_stream_ends_with_its_first_error(rt: HostRuntime) -> Result<(), Fail> {
     let mut messages = Messages::new(rt.alloc(), input, ReaderOptions::default());
     for _ in 0..2 {
         let MessageReader { arena, limiter } = messages.next().ok_or("too few")??;
-        assert!(rt; is_null(&arena) && limiter.left() == Some(8_388_608));
+        assert!(rt; is_null_message(&arena) && limiter.left() == Some(8_388_608));
     }
     let refused = messages.next().and_then(|message| message.err());
     assert!(rt; refused == Some(FrameError::Truncated));

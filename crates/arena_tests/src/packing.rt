@@ -16,7 +16,7 @@ const PACKED_WHOLE: &[u8] =
     b"\xff\x8a\x8a\x8a\x8a\x8a\x8a\x8a\x8a\x03\x8a\x8a\x8a\x8a\x8a\x8a\x8a\x8a\x8a\x8a\x8a\x8a\x8a\x8a\x8a\x8a\x8a\x8a\x8a\x8a\x8a\x8a\x8a\x8a";
 
 /// Whether `words` packs to `packed`, and `packed` unpacks to `words`.
-fn are_packed(alloc: Global, words: &[u8], packed: &[u8]) -> Result<bool, PackingError> {
+fn packs_and_unpacks(alloc: Global, words: &[u8], packed: &[u8]) -> Result<bool, PackingError> {
     let there = pack(alloc, words)?.as_slice() == packed;
     Ok(there && unpack(alloc, packed, words.len())?.as_slice() == words)
 }
@@ -24,7 +24,7 @@ fn are_packed(alloc: Global, words: &[u8], packed: &[u8]) -> Result<bool, Packin
 /// After the tag of a zero word, one byte states how many more zero words follow, at most 255. So
 /// the last of 257 zero words has a tag of its own.
 #[test]
-fn in_memory(rt: HostRuntime) {
+fn words_are_packed_and_unpacked(rt: HostRuntime) {
     for (words, packed) in [
         (WORDS, PACKED),
         (&[0; 32][..], &[0, 3][..]),
@@ -33,12 +33,12 @@ fn in_memory(rt: HostRuntime) {
         (&[0; 2048], &[0, 255]),
         (&[0; 2056], &[0, 255, 0, 0]),
     ] {
-        assert!(rt; are_packed(rt.alloc(), words, packed) == Ok(true));
+        assert!(rt; packs_and_unpacks(rt.alloc(), words, packed) == Ok(true));
     }
 }
 
 #[test]
-fn refusals(rt: HostRuntime) {
+fn cut_or_long_input_is_refused(rt: HostRuntime) {
     assert!(rt; pack(rt.alloc(), &WORDS[..15]).err() == Some(PackingError::CutWord));
     assert!(rt; unpack(rt.alloc(), PACKED, 15).err() == Some(PackingError::TooLong));
     for cut in [1, 2, 3, 5, 6, 7] {

@@ -25,7 +25,7 @@ const FIRST_USED: u64 = 5_00_07_00_11_00_03_03;
 
 /// Allocates words in up to four segments, in as many as the allocator grants rows for. Returns the
 /// arena and the number of segments.
-fn filled_of<A: Allocator>(
+fn fill_arena<A: Allocator>(
     rt: &impl Abort,
     alloc: Global,
     allocator: A,
@@ -41,15 +41,15 @@ fn filled_of<A: Allocator>(
     (arena, made)
 }
 
-/// Does `filled_of` with an allocator that grants all segments, and at most `rows` rows.
-fn filled<'a>(
+/// Does `fill_arena` with an allocator that grants all segments, and at most `rows` rows.
+fn fill_arena_granting_rows<'a>(
     rt: &impl Abort,
     alloc: Global,
     rows: u64,
     returned: &'a Cell<u64>,
 ) -> (BuilderArenaImpl<TestAllocator<'a>>, u64) {
     let heap = HeapAllocator::new(alloc, 0);
-    filled_of(
+    fill_arena(
         rt,
         alloc,
         TestAllocator::new(heap, Granted::Rows(rows), returned),
@@ -85,7 +85,7 @@ fn dropped_or_taken_apart(rt: HostRuntime) {
     for (rows, made, want) in [(4, 4, ALL_USED), (3, 3, LAST_AT_ONCE), (0, 0, NONE_USED)] {
         for is_apart in [false, true] {
             let returned = Cell::new(0);
-            let arena = filled(&rt, rt.alloc(), rows, &returned);
+            let arena = fill_arena_granting_rows(&rt, rt.alloc(), rows, &returned);
             check_returned(&rt, arena, (made, want), &returned, is_apart);
         }
     }
@@ -94,12 +94,12 @@ fn dropped_or_taken_apart(rt: HostRuntime) {
 /// The first segment requests no row if the arena holds that row itself. A later segment whose row
 /// is refused isn't dropped, but returned at once.
 #[test]
-fn first_in_the_arena(rt: HostRuntime) {
+fn first_segment_needs_no_row(rt: HostRuntime) {
     for (rows, made, want) in [(3, 4, ALL_USED), (2, 3, LAST_AT_ONCE), (0, 1, FIRST_USED)] {
         let returned = Cell::new(0);
         let heap = HeapAllocator::new(rt.alloc(), 0);
         let allocator = TestAllocator::new(heap, Granted::Rows(rows), &returned);
-        let arena = filled_of(&rt, rt.alloc(), FirstInArena::new(allocator));
+        let arena = fill_arena(&rt, rt.alloc(), FirstInArena::new(allocator));
         check_returned(&rt, arena, (made, want), &returned, false);
     }
 }
@@ -108,9 +108,9 @@ fn first_in_the_arena(rt: HostRuntime) {
 /// and the arena is then dropped, the allocator gets back all segments, also one that it granted
 /// after it was put back.
 #[test]
-fn allocator_taken_out(rt: HostRuntime) {
+fn allocator_put_back_gets_all_segments(rt: HostRuntime) {
     let returned = Cell::new(0);
-    let (arena, _segments) = filled(&rt, rt.alloc(), 5, &returned);
+    let (arena, _segments) = fill_arena_granting_rows(&rt, rt.alloc(), 5, &returned);
     let (mut arena, allocator) = arena.without_allocator();
     assert!(rt; arena.len() == 4);
     assert!(rt; arena.allocate_anywhere(1) == Err(ErrorKind::AllocationFailed));
@@ -125,9 +125,9 @@ fn allocator_taken_out(rt: HostRuntime) {
 }
 
 #[test]
-fn dropped_without_allocator(rt: HostRuntime) {
+fn dropped_without_allocator_returns_nothing(rt: HostRuntime) {
     let returned = Cell::new(0);
-    let (arena, _segments) = filled(&rt, rt.alloc(), 4, &returned);
+    let (arena, _segments) = fill_arena_granting_rows(&rt, rt.alloc(), 4, &returned);
     let (arena, allocator) = arena.without_allocator();
     drop(arena);
     drop(allocator);

@@ -1,5 +1,5 @@
 //! Tests of arenas whose first segment is in the scratch space: memory lent by the caller.
-use crate::steps::{take, try_allocate};
+use crate::steps::{try_allocate, try_allocate_anywhere};
 use capnp_arena::arena::{
     Allocator, BuilderArena, BuilderArenaImpl, ScratchSegment, ScratchSpaceHeapAllocator, Segment,
 };
@@ -17,14 +17,14 @@ fn outgrow<A: BuilderArena>(rt: &impl Abort, alloc: Global, arena: &mut A) {
         Some(words) => words.fill(7),
         None => assert!(rt; false),
     }
-    assert!(rt; take(arena, 5) == Ok((1, 0)));
+    assert!(rt; try_allocate_anywhere(arena, 5) == Ok((1, 0)));
     assert!(rt; try_allocate(rt, arena, 1, 1) == None);
     assert!(rt; arena.refused() == 0);
 }
 
 /// Checks that an arena uses the lent memory for its first segment, and ignores what that memory
 /// held. Returns the allocator.
-fn use_once<'a>(
+fn check_first_segment_in_scratch<'a>(
     rt: &impl Abort,
     alloc: Global,
     allocator: ScratchSpaceHeapAllocator<'a>,
@@ -37,11 +37,11 @@ fn use_once<'a>(
 
 /// The scratch space is used again after it was returned.
 #[test]
-fn handed_out_again(rt: HostRuntime) {
+fn returned_scratch_is_used_again(rt: HostRuntime) {
     let mut scratch = [0xff; 35];
     let allocator = ScratchSpaceHeapAllocator::new(rt.alloc(), &mut scratch, 0);
-    let allocator = use_once(&rt, rt.alloc(), allocator);
-    drop(use_once(&rt, rt.alloc(), allocator));
+    let allocator = check_first_segment_in_scratch(&rt, rt.alloc(), allocator);
+    drop(check_first_segment_in_scratch(&rt, rt.alloc(), allocator));
 }
 
 /// Requests a segment of `words` words. Checks that it is in the scratch space exactly if
@@ -60,7 +60,7 @@ fn check_segment(
 /// The scratch space is used for the first request that it is large enough for, and not again
 /// before it is returned. It is never used if it has no whole word.
 #[test]
-fn borrowed_or_owned(rt: HostRuntime) {
+fn scratch_is_lent_to_first_fitting_request(rt: HostRuntime) {
     let mut scratch = [0xff; 16];
     let mut allocator = ScratchSpaceHeapAllocator::new(rt.alloc(), &mut scratch, 3);
     check_segment(&rt, &mut allocator, 4, (false, 32));
@@ -73,7 +73,7 @@ fn borrowed_or_owned(rt: HostRuntime) {
 
 /// All bytes of the scratch space are zeroed, also those after the last whole word.
 #[test]
-fn zeros_over_all_bytes(rt: HostRuntime) {
+fn all_scratch_bytes_are_zeroed(rt: HostRuntime) {
     let mut scratch = [0xff; 35];
     drop(ScratchSpaceHeapAllocator::new(rt.alloc(), &mut scratch, 0));
     assert!(rt; scratch == [0; 35]);

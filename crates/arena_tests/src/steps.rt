@@ -5,7 +5,10 @@ use capnp_words::error::ErrorKind;
 use std::process::Abort;
 
 /// Allocates `amount` words in any segment. Returns the segment, and where in it they start.
-pub fn take<A: BuilderArena>(arena: &mut A, amount: u32) -> Result<(u32, u32), ErrorKind> {
+pub fn try_allocate_anywhere<A: BuilderArena>(
+    arena: &mut A,
+    amount: u32,
+) -> Result<(u32, u32), ErrorKind> {
     arena.allocate_anywhere(amount)
 }
 

@@ -6,7 +6,7 @@ use std::process::Abort;
 const LENGTH: usize = 200;
 
 /// Returns bytes that all differ from zero.
-fn numbers() -> [u8; LENGTH] {
+fn nonzero_bytes() -> [u8; LENGTH] {
     let mut bytes = [0; LENGTH];
     for i in 0..LENGTH {
         bytes[i] = 1 + (i % 251) as u8;
@@ -34,7 +34,7 @@ fn check_one_bit(rt: &impl Abort, bytes: &mut [u8]) {
 }
 
 #[test]
-fn one_bit(rt: HostRuntime) {
+fn single_bits_are_found(rt: HostRuntime) {
     let mut bytes = [0u8; 336];
     for length in 0..LENGTH + 1 {
         check_one_bit(&rt, &mut bytes[..length]);
@@ -45,9 +45,9 @@ fn one_bit(rt: HostRuntime) {
 }
 
 #[test]
-fn zeroed(rt: HostRuntime) {
+fn zero_clears_only_its_range(rt: HostRuntime) {
     for length in 0..LENGTH + 1 {
-        let mut bytes = numbers();
+        let mut bytes = nonzero_bytes();
         zero(&mut bytes[..length]);
         for i in 0..LENGTH {
             assert!(rt; (bytes[i] == 0) == (i < length));
@@ -56,8 +56,8 @@ fn zeroed(rt: HostRuntime) {
 }
 
 #[test]
-fn copied(rt: HostRuntime) {
-    let from = numbers();
+fn copy_writes_only_its_range(rt: HostRuntime) {
+    let from = nonzero_bytes();
     for length in 0..LENGTH + 1 {
         let mut to = [0u8; LENGTH];
         copy(&from[..length], &mut to[..length]);

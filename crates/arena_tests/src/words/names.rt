@@ -42,7 +42,7 @@ fn units(rt: HostRuntime) {
 }
 
 #[test]
-fn sizes(rt: HostRuntime) {
+fn element_and_struct_sizes(rt: HostRuntime) {
     let sizes = [TwoBytes, FourBytes, EightBytes];
     assert!(rt;
         sizes
@@ -91,7 +91,7 @@ fn limiter_counts_and_refuses(rt: HostRuntime) {
 }
 
 #[test]
-fn laws() {
+fn laws_can_be_called() {
     one_meaning();
     levels_from_depth();
     decode_agrees();

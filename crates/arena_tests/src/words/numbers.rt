@@ -31,7 +31,7 @@ fn load_and_store<T: Primitive>(bytes: &mut [u8])
 }
 
 #[test]
-fn in_bytes(rt: HostRuntime) {
+fn numbers_are_stored_in_bytes(rt: HostRuntime) {
     let mut two = [0u8; 2];
     assert!(rt; set_and_get::<i16>(&mut two, -300, 77) == -300 && two == [0x99, 0xfe]);
     let mut bytes = [0u8; 4];

@@ -5,9 +5,9 @@ use capnp_words::wire_pointer::{
     Bit, StructSize, Void, WirePointer, WirePointerKind, offset_between,
 };
 
-// Makes the word again from its fields. A word of no known kind has none.
+// Rebuilds the word from its fields. A word of no known kind has none.
 #[tactic(auto, using(capnp_format::proofs::Fields::fields))]
-fn made_again(pointer: WirePointer) -> WirePointer
+fn rebuild_from_fields(pointer: WirePointer) -> WirePointer
     ensures { result.0 ≡ pointer.0 }
 {
     let position = pointer.far_position_in_segment();
@@ -36,7 +36,7 @@ fn pointer(digits: u64) -> WirePointer {
 }
 
 #[test]
-fn words(rt: HostRuntime) {
+fn pointer_words_have_their_bytes(rt: HostRuntime) {
     let size = StructSize {
         data_words: 1,
         pointers: 2,
@@ -69,16 +69,16 @@ fn words(rt: HostRuntime) {
         (WirePointer::new_capability(5), 0x0300_0000_0500_0000),
     ] {
         assert!(rt;
-            made == pointer(digits) && made_again(made) == made,
+            made == pointer(digits) && rebuild_from_fields(made) == made,
             "{digits:016x}"
         );
     }
     let unknown = pointer(0x0700_0000_0500_0000);
-    assert!(rt; made_again(unknown) == unknown);
+    assert!(rt; rebuild_from_fields(unknown) == unknown);
 }
 
 #[test]
-fn parts(rt: HostRuntime) {
+fn parts_of_pointers_are_read(rt: HostRuntime) {
     let pair = pointer(0x0400_0000_0100_0200);
     let list = pointer(0x0100_0000_1f00_0000);
     assert!(rt; pair.is_positional() && !pair.is_null());

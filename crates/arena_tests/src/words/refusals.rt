@@ -41,7 +41,7 @@ const KINDS: [ErrorKind; 35] = [
 ];
 
 // Whether the text is the variant as Rust writes it.
-fn is_variant(alloc: Global, kind: ErrorKind) -> Result<bool, AllocError> {
+fn text_is_variant(alloc: Global, kind: ErrorKind) -> Result<bool, AllocError> {
     let both = format!(in alloc; "{kind} {kind:?}")?;
     Ok(
         both.as_str()
@@ -53,7 +53,7 @@ fn is_variant(alloc: Global, kind: ErrorKind) -> Result<bool, AllocError> {
 #[test]
 fn texts_are_variants(rt: HostRuntime) -> Result<(), AllocError> {
     for kind in KINDS {
-        assert!(rt; is_variant(rt.alloc(), kind)?);
+        assert!(rt; text_is_variant(rt.alloc(), kind)?);
     }
     Ok(())
 }
