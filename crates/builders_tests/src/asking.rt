@@ -1,6 +1,6 @@
 //! Tests what calls of builders request from the allocator: nothing, if the words that they need
 //! fit in the segment. Also makes each call that no test case (`tests/cases`) makes.
-use crate::messages::{ONE_EACH, arena_of_root, check_struct, root};
+use crate::messages::{ONE_EACH, arena_with_root, check_struct, root};
 use capnp_arena::arena::{BuilderArena, BuilderArenaImpl, HeapAllocator, ReaderArena};
 use capnp_builders::builders::{PrimitiveElement, StructBuilder};
 use capnp_readers::readers::StructReader;
@@ -11,14 +11,14 @@ use std::process::Abort;
 use test_support::{NotingAllocator, Request, has_words};
 
 /// Makes a message of one segment, with a word for the root and room for 63 more words.
-fn message(rt: &impl Abort, alloc: Global) -> BuilderArenaImpl<NotingAllocator> {
+fn noting_arena(rt: &impl Abort, alloc: Global) -> BuilderArenaImpl<NotingAllocator> {
     let heap = HeapAllocator::new(alloc, 64);
-    arena_of_root(rt, alloc, NotingAllocator::new(alloc, heap))
+    arena_with_root(rt, alloc, NotingAllocator::new(alloc, heap))
 }
 
 /// Checks that nothing was requested except the segment and its row, which is its entry in the
 /// arena's list of segments.
-fn check_asked(rt: &impl Abort, arena: BuilderArenaImpl<NotingAllocator>) {
+fn check_only_segment_requested(rt: &impl Abort, arena: BuilderArenaImpl<NotingAllocator>) {
     let asked = [Request::Segment(1), Request::Row];
     assert!(rt; arena.into_allocator().requests() == &asked[..]);
 }
@@ -38,7 +38,10 @@ fn write_pointer<A: BuilderArena>(rt: &impl Abort, arena: &mut A) {
     assert!(rt; !pointer.is_null());
 }
 
-fn put_struct<'a, A: BuilderArena>(rt: &impl Abort, arena: &'a mut A) -> StructBuilder<'a, A> {
+fn init_root_struct<'a, A: BuilderArena>(
+    rt: &impl Abort,
+    arena: &'a mut A,
+) -> StructBuilder<'a, A> {
     let mut pointer = root(rt, arena);
     let place = pointer.init_struct_place(ONE_EACH).expect(rt, "room");
     pointer.into_struct(place)
@@ -69,7 +72,7 @@ fn read_fields<A: ReaderArena>(rt: &impl Abort, reader: StructReader<'_, A>) {
 
 /// Makes a struct, and writes and reads its fields.
 fn check_fields<A: BuilderArena>(rt: &impl Abort, arena: &mut A) {
-    let mut builder = put_struct(rt, arena);
+    let mut builder = init_root_struct(rt, arena);
     write_data(rt, &mut builder);
     write_text(rt, &mut builder);
     check_struct(rt, &builder);
@@ -91,12 +94,12 @@ fn check_elements<A: BuilderArena>(rt: &impl Abort, arena: &mut A) {
 }
 
 #[test]
-fn objects(rt: HostRuntime) {
-    let mut arena = message(&rt, rt.alloc());
+fn objects_in_room_request_nothing(rt: HostRuntime) {
+    let mut arena = noting_arena(&rt, rt.alloc());
     write_pointer(&rt, &mut arena);
     check_fields(&rt, &mut arena);
     check_elements(&rt, &mut arena);
-    check_asked(&rt, arena);
+    check_only_segment_requested(&rt, arena);
 }
 
 fn write_bytes<A: BuilderArena>(rt: &impl Abort, arena: &mut A) {
@@ -111,10 +114,10 @@ fn write_bytes<A: BuilderArena>(rt: &impl Abort, arena: &mut A) {
 /// `bytes_mut` lends the bytes of the data that `get_data_place` finds, and what is written there
 /// is written in the message.
 #[test]
-fn bytes(rt: HostRuntime) {
-    let mut arena = message(&rt, rt.alloc());
+fn bytes_mut_lends_the_data(rt: HostRuntime) {
+    let mut arena = noting_arena(&rt, rt.alloc());
     write_bytes(&rt, &mut arena);
     let want = "010000002a000000 7962630078000000";
     assert!(rt; has_words(rt.alloc(), &arena, want));
-    check_asked(&rt, arena);
+    check_only_segment_requested(&rt, arena);
 }

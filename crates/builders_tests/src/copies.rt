@@ -1,7 +1,7 @@
 //! Tests of copies that no test case makes: of a null reader, of a message being built, of data
 //! sections that aren't whole words, and of a list that is too long.
-use crate::edits::messages::{check_outcomes, edit};
-use crate::messages::{ONE_EACH, STRUCT, STRUCT_APART, arena_of_root, root, struct_at};
+use crate::edits::messages::{apply_and_check_outcomes, edit};
+use crate::messages::{ONE_EACH, STRUCT, STRUCT_APART, arena_with_root, root, struct_at};
 use capnp_arena::arena::{BuilderArena, HeapAllocator, NullArena, ReaderArena, ReaderOptions};
 use capnp_edits::edit::Op::{InitStruct, SetField, SetText};
 use capnp_edits::edit::Step::Child;
@@ -11,10 +11,10 @@ use capnp_words::read_limiter::ReadLimiter;
 use capnp_words::wire_pointer::{ElementSize, StructSize};
 use std::alloc::Global;
 use std::process::Abort;
-use test_support::{arena_of, has_words};
+use test_support::{arena_from_hex, has_words};
 
 /// Copies a null reader to the root, and checks that the root is then null.
-fn check_nothing<A: BuilderArena>(rt: &impl Abort, arena: &mut A, canonicalize: bool) {
+fn check_null_copy<A: BuilderArena>(rt: &impl Abort, arena: &mut A, canonicalize: bool) {
     let mut lim = ReadLimiter::new(Some(1));
     let null: PointerReader<'_, NullArena> = PointerReader::new_default();
     let mut pointer = root(rt, arena);
@@ -26,25 +26,29 @@ fn check_nothing<A: BuilderArena>(rt: &impl Abort, arena: &mut A, canonicalize: 
 
 /// A copy of a null reader is null, whether the root was null or a capability.
 #[test]
-fn nothing(rt: HostRuntime) {
+fn copy_of_null_reader_is_null(rt: HostRuntime) {
     for canonicalize in [true, false] {
-        let mut arena = arena_of_root(&rt, rt.alloc(), HeapAllocator::new(rt.alloc(), 8));
-        check_nothing(&rt, &mut arena, canonicalize);
+        let mut arena = arena_with_root(&rt, rt.alloc(), HeapAllocator::new(rt.alloc(), 8));
+        check_null_copy(&rt, &mut arena, canonicalize);
         root(&rt, &mut arena).set_capability(5);
-        check_nothing(&rt, &mut arena, canonicalize);
+        check_null_copy(&rt, &mut arena, canonicalize);
         assert!(rt; has_words(rt.alloc(), &arena, "0000000000000000"));
     }
 }
 
 /// Reads `source`, a struct with the number 7 and the text `a`, and copies it. Neither needs any
 /// traversal limit, because reading a message that is being built isn't charged.
-fn check_source<A: ReaderArena>(rt: &impl Abort, alloc: Global, source: PointerReader<'_, A>) {
+fn check_reading_and_copying<A: ReaderArena>(
+    rt: &impl Abort,
+    alloc: Global,
+    source: PointerReader<'_, A>,
+) {
     let mut lim = ReadLimiter::new(Some(0));
     let reader = source.get_struct(&mut lim, None).expect(rt, "a struct");
     assert!(rt; reader.get_data_field::<u64>(0) == 7);
     let text = reader.get_pointer_field(0).get_text(&mut lim, None);
     assert!(rt; text == Ok(&b"a"[..]));
-    let mut copy = arena_of_root(rt, alloc, HeapAllocator::new(alloc, 1024));
+    let mut copy = arena_with_root(rt, alloc, HeapAllocator::new(alloc, 1024));
     let result = root(rt, &mut copy).copy_from(source, &mut lim, true);
     assert!(rt; result == Ok(()) && has_words(alloc, &copy, STRUCT));
 }
@@ -52,29 +56,29 @@ fn check_source<A: ReaderArena>(rt: &impl Abort, alloc: Global, source: PointerR
 /// Reading and copying from a message being built has the same results whether the message has one
 /// segment or several, and isn't charged.
 #[test]
-fn built_messages(rt: HostRuntime) {
+fn reading_built_messages_is_free(rt: HostRuntime) {
     let edits = &[
         edit(&[], InitStruct(ONE_EACH)),
         edit(&[], SetField(ElementSize::EightBytes, 0, 7)),
         edit(&[Child(0)], SetText(b"a")),
     ];
     for (room, want) in [(1024, STRUCT), (2, STRUCT_APART)] {
-        let mut arena = arena_of_root(&rt, rt.alloc(), HeapAllocator::new(rt.alloc(), room));
-        check_outcomes(&rt, &mut arena, edits, &[None; 3]);
+        let mut arena = arena_with_root(&rt, rt.alloc(), HeapAllocator::new(rt.alloc(), room));
+        apply_and_check_outcomes(&rt, &mut arena, edits, &[None; 3]);
         assert!(rt; has_words(rt.alloc(), &arena, want), "{room}");
-        check_source(&rt, rt.alloc(), root(&rt, &mut arena).into_reader());
+        check_reading_and_copying(&rt, rt.alloc(), root(&rt, &mut arena).into_reader());
     }
 }
 
 /// Sets a struct without pointers at the root of an empty message, and checks the message's words.
-fn check_set<A: ReaderArena>(
+fn check_set_struct<A: ReaderArena>(
     rt: &impl Abort,
     alloc: Global,
     value: &StructReader<'_, A>,
     canonicalize: bool,
     want: &str,
 ) {
-    let mut arena = arena_of_root(rt, alloc, HeapAllocator::new(alloc, 1024));
+    let mut arena = arena_with_root(rt, alloc, HeapAllocator::new(alloc, 1024));
     let mut lim = ReadLimiter::new(Some(1));
     let result = root(rt, &mut arena).set_struct(value, &mut lim, canonicalize);
     assert!(rt;
@@ -88,7 +92,7 @@ fn check_set<A: ReaderArena>(
 #[test]
 fn sections_of_part_words(rt: HostRuntime) {
     let message = "ffffffffffffffff 00000000000000ff 0100020000000000";
-    let source = arena_of(rt.alloc(), message, ReaderOptions::default()).expect(&rt, "words");
+    let source = arena_from_hex(rt.alloc(), message, ReaderOptions::default()).expect(&rt, "words");
     let mut lim = ReadLimiter::new(Some(0));
     let byte = struct_at(&rt, &source, 16, 8);
     assert!(rt; byte.get_data_field::<u8>(0) == 1 && byte.get_data_field::<u16>(0) == 0);
@@ -124,7 +128,7 @@ fn sections_of_part_words(rt: HostRuntime) {
         (0, 0, false, empty),
     ] {
         let value = struct_at(&rt, &source, byte, bits);
-        check_set(&rt, rt.alloc(), &value, canonicalize, want);
+        check_set_struct(&rt, rt.alloc(), &value, canonicalize, want);
     }
 }
 
@@ -135,7 +139,7 @@ fn check_set_list<A: ReaderArena>(
     list: &ListReader<'_, A>,
     (outcome, want): (Result<(), ErrorKind>, &str),
 ) {
-    let mut arena = arena_of_root(rt, alloc, HeapAllocator::new(alloc, 1024));
+    let mut arena = arena_with_root(rt, alloc, HeapAllocator::new(alloc, 1024));
     let mut lim = ReadLimiter::new(Some(0));
     let result = root(rt, &mut arena).set_list(list, &mut lim, false);
     assert!(rt;
@@ -146,8 +150,8 @@ fn check_set_list<A: ReaderArena>(
 
 /// A list of as many elements as a list pointer can state is copied; a list of one more is refused.
 #[test]
-fn long_lists(rt: HostRuntime) {
-    let source = arena_of(rt.alloc(), "0000000000000000", ReaderOptions::default());
+fn longest_list_is_copied(rt: HostRuntime) {
+    let source = arena_from_hex(rt.alloc(), "0000000000000000", ReaderOptions::default());
     let source = source.expect(&rt, "a message");
     let Ok(_bytes) = source.get_segment(0) else {
         panic!(rt; "a segment was expected");

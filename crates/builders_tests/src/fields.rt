@@ -3,7 +3,7 @@
 ghost use Rattle.std.specs.Prelude.{IfOk};
 ghost use Rattle.capnp_builders.specs.Places.{IsAligned};
 
-use crate::messages::{arena_of_root, check_place};
+use crate::messages::{arena_with_root, check_place};
 use capnp_arena::arena::{BuilderArena, HeapAllocator, ReaderArena};
 use capnp_builders::fields;
 use capnp_readers::readers::StructPlace;
@@ -94,7 +94,7 @@ fn fill_bytes<A: BuilderArena>(rt: &impl Abort, arena: &mut A) -> Result<(), Err
 
 #[test]
 fn numbers_at_their_places(rt: HostRuntime) {
-    let mut arena = arena_of_root(&rt, rt.alloc(), HeapAllocator::new(rt.alloc(), 1024));
+    let mut arena = arena_with_root(&rt, rt.alloc(), HeapAllocator::new(rt.alloc(), 1024));
     assert!(rt; fill_numbers(&rt, &mut arena) == Ok(()));
     let want =
         "0000000001000200 0700000001000000 0500000013000000 0400000001000000 0000050000000000 0900000000000000";
@@ -103,7 +103,7 @@ fn numbers_at_their_places(rt: HostRuntime) {
 
 #[test]
 fn bytes_at_their_places(rt: HostRuntime) {
-    let mut arena = arena_of_root(&rt, rt.alloc(), HeapAllocator::new(rt.alloc(), 1024));
+    let mut arena = arena_with_root(&rt, rt.alloc(), HeapAllocator::new(rt.alloc(), 1024));
     assert!(rt; fill_bytes(&rt, &mut arena) == Ok(()));
     let want =
         "0000000000000200 0500000012000000 050000000a000000 6100000000000000 6200000000000000";

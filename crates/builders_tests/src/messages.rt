@@ -24,12 +24,12 @@ pub const STRUCT_APART: &str =
     "0200000001000000, 0000000001000100 0700000000000000 0200000002000000, 0100000012000000 6100000000000000";
 
 /// Makes an arena with one segment, in which one word is allocated: the root pointer.
-pub fn arena_of_root<A: Allocator>(
+pub fn arena_with_root<A: Allocator>(
     rt: &impl Abort,
     alloc: Global,
     allocator: A,
 ) -> BuilderArenaImpl<A> {
-    test_support::arena_of_root(alloc, allocator).expect(rt, "memory")
+    test_support::arena_with_root(alloc, allocator).expect(rt, "memory")
 }
 
 /// Returns a builder at the root pointer. Fails if the first segment has no word.

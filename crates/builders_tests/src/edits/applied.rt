@@ -1,5 +1,5 @@
 //! Tests of edits in an arena without a root, and of an edited message that is read in place.
-use super::messages::{check_outcomes, edit, size};
+use super::messages::{apply_and_check_outcomes, edit, size};
 use crate::readers::messages::root;
 use capnp_arena::arena::{BuilderArena, BuilderArenaImpl, HeapAllocator, ReaderArena};
 use capnp_edits::edit::Op::{Clear, InitStruct, InitStructList, SetElement, SetField, SetText};
@@ -10,11 +10,11 @@ use capnp_words::error::ErrorKind::NoSuchPlace;
 use capnp_words::read_limiter::ReadLimiter;
 use capnp_words::wire_pointer::ElementSize::EightBytes;
 use std::process::Abort;
-use test_support::arena_of_root;
+use test_support::arena_with_root;
 
 /// If the arena has no word for the root, an edit is refused with `NoSuchPlace`.
 #[test]
-fn no_root(rt: HostRuntime) {
+fn edit_without_root_is_refused(rt: HostRuntime) {
     let alloc = rt.alloc();
     let clear = edit(&[], Clear);
     let mut arena = BuilderArenaImpl::new(alloc, HeapAllocator::new(alloc, 8));
@@ -41,9 +41,9 @@ fn check_six_words<A: ReaderArena>(rt: &impl Abort, arena: &A) {
 
 /// A list of two structs, made by edits and read in place, is canonical and has the expected size.
 #[test]
-fn read_in_place(rt: HostRuntime) {
+fn edited_message_is_canonical(rt: HostRuntime) {
     let alloc = rt.alloc();
-    let mut arena = arena_of_root(alloc, HeapAllocator::new(alloc, 1024)).expect(&rt, "memory");
+    let mut arena = arena_with_root(alloc, HeapAllocator::new(alloc, 1024)).expect(&rt, "memory");
     let edits = &[
         edit(&[], InitStructList(2, size(1, 1))),
         edit(&[Element(0)], SetField(EightBytes, 0, 7)),
@@ -51,6 +51,6 @@ fn read_in_place(rt: HostRuntime) {
         edit(&[], SetElement(EightBytes, 1, 9)),
         edit(&[Element(0), Child(0)], InitStruct(size(0, 0))),
     ];
-    check_outcomes(&rt, &mut arena, edits, &[None; 5]);
+    apply_and_check_outcomes(&rt, &mut arena, edits, &[None; 5]);
     check_six_words(&rt, &arena);
 }

@@ -19,7 +19,7 @@ pub fn size(data_words: u16, pointers: u16) -> StructSize {
 }
 
 /// Applies `edits` in order, and checks that their outcomes are `want`.
-pub fn check_outcomes<A: Allocator>(
+pub fn apply_and_check_outcomes<A: Allocator>(
     rt: &impl Abort,
     arena: &mut BuilderArenaImpl<A>,
     edits: &[Edit<'_>],

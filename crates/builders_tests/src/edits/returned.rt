@@ -13,7 +13,7 @@ use capnp_words::wire_pointer::ElementSize::EightBytes;
 use std::alloc::Global;
 use std::cell::Cell;
 use std::process::Abort;
-use test_support::{Granted, TestAllocator, arena_of_root};
+use test_support::{Granted, TestAllocator, arena_with_root};
 
 /// A message whose root is a struct with one data word, 7, and one pointer, which leads to the text
 /// `a`.
@@ -31,11 +31,17 @@ const LIST: &[u8] =
 ///
 /// Then drops the arena, and checks that `segments` is what was returned, as a decimal number: for
 /// each segment in turn, two digits for its number of words, and two for its number of used words.
-fn check(rt: &impl Abort, alloc: Global, edits: &[Edit<'_>], requests: u64, segments: u64) {
+fn check_returned_segments(
+    rt: &impl Abort,
+    alloc: Global,
+    edits: &[Edit<'_>],
+    requests: u64,
+    segments: u64,
+) {
     let returned = Cell::new(0);
     let heap = HeapAllocator::new(alloc, 1);
     let allocator = TestAllocator::new(heap, Granted::Requests(requests), &returned);
-    let mut arena = arena_of_root(alloc, allocator).expect(rt, "memory");
+    let mut arena = arena_with_root(alloc, allocator).expect(rt, "memory");
     let mut all = [None; 3];
     let outcomes = all.get_mut(..edits.len()).expect(rt, "few edits");
     assert!(rt; outcomes.len() == edits.len());
@@ -53,13 +59,13 @@ fn check_cleared<A: BuilderArena>(rt: &impl Abort, arena: &mut A, returned: &Cel
     assert!(rt; arena.size_in_words() == size && returned.get() == early);
 }
 
-/// Does `check` five times, and refuses first the memory of the first object's segment, then the
-/// row of this segment, then the memory of the text's segment, then its row, and at last nothing. A
-/// segment whose row is refused is returned at once. `segments` states, for each of the five, what
-/// has to be returned.
-fn check_each(rt: &impl Abort, alloc: Global, edits: &[Edit<'_>], segments: [u64; 5]) {
+/// Does `check_returned_segments` five times, and refuses first the memory of the first object's
+/// segment, then the row of this segment, then the memory of the text's segment, then its row, and
+/// at last nothing. A segment whose row is refused is returned at once. `segments` states, for each
+/// of the five, what has to be returned.
+fn check_each_refusal(rt: &impl Abort, alloc: Global, edits: &[Edit<'_>], segments: [u64; 5]) {
     for (requests, want) in (2..7).zip(segments) {
-        check(rt, alloc, edits, requests, want);
+        check_returned_segments(rt, alloc, edits, requests, want);
     }
 }
 
@@ -81,18 +87,18 @@ const OF_LIST: [u64; 5] = [
 
 /// Makes a struct with a number and a text.
 #[test]
-fn made(rt: HostRuntime) {
+fn making_returns_each_segment(rt: HostRuntime) {
     let edits = &[
         edit(&[], InitStruct(size(1, 1))),
         edit(&[], SetField(EightBytes, 0, 7)),
         edit(&[Child(0)], SetText(b"a")),
     ];
-    check_each(&rt, rt.alloc(), edits, OF_STRUCT);
+    check_each_refusal(&rt, rt.alloc(), edits, OF_STRUCT);
 }
 
 /// Copies a struct with its text, and a list of structs with its text, from another message.
 #[test]
-fn copied(rt: HostRuntime) {
+fn copying_returns_each_segment(rt: HostRuntime) {
     for (message, is_list, segments) in [(STRUCT, false, OF_STRUCT), (LIST, true, OF_LIST)] {
         let bytes: &[&[u8]] = &[message];
         let array = SegmentArray::new(bytes).expect(&rt, "small");
@@ -116,18 +122,18 @@ fn check_copied(
     segments: [u64; 5],
 ) {
     let value = edit(&[], CopyFrom(source, canonicalize));
-    check_each(rt, alloc, &[value], segments);
+    check_each_refusal(rt, alloc, &[value], segments);
     let op = if is_list {
         SetList(source, canonicalize)
     } else {
         SetStruct(source, canonicalize)
     };
-    check_each(rt, alloc, &[edit(&[], op)], segments);
+    check_each_refusal(rt, alloc, &[edit(&[], op)], segments);
 }
 
 /// Copies the content of a struct of another message over a struct that an edit has made.
 #[test]
-fn content(rt: HostRuntime) {
+fn copying_content_returns_each_segment(rt: HostRuntime) {
     let bytes: &[&[u8]] = &[STRUCT];
     let array = SegmentArray::new(bytes).expect(&rt, "small");
     let arena = &ReaderArenaImpl::new(array, ReaderOptions::default());
@@ -139,5 +145,5 @@ fn content(rt: HostRuntime) {
         edit(&[], InitStruct(size(1, 1))),
         edit(&[], CopyContent(source)),
     ];
-    check_each(&rt, rt.alloc(), edits, OF_STRUCT);
+    check_each_refusal(&rt, rt.alloc(), edits, OF_STRUCT);
 }

@@ -4,7 +4,7 @@ use capnp_readers::readers::{ListReader, PointerReader, StructReader, Target};
 use capnp_words::read_limiter::ReadLimiter;
 use std::alloc::Global;
 use std::process::Abort;
-use test_support::{OwnedSegments, arena_of};
+use test_support::{OwnedSegments, arena_from_hex};
 
 pub const NULL_ROOT: &str = "0000000000000000";
 
@@ -35,8 +35,8 @@ pub const POINTERS: &str =
 
 /// Makes an arena of the message that the hex digits `text` state, with the default options for
 /// reading.
-pub fn arena(rt: &impl Abort, alloc: Global, text: &str) -> ReaderArenaImpl<OwnedSegments> {
-    arena_of(alloc, text, ReaderOptions::default()).expect(rt, "a message")
+pub fn message_arena(rt: &impl Abort, alloc: Global, text: &str) -> ReaderArenaImpl<OwnedSegments> {
+    arena_from_hex(alloc, text, ReaderOptions::default()).expect(rt, "a message")
 }
 
 pub fn root<'a, A: ReaderArena>(

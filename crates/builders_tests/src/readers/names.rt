@@ -12,8 +12,8 @@ use capnp_words::read_limiter::ReadLimiter;
 use capnp_words::wire_pointer::ElementSize;
 
 #[test]
-fn fields_of_a_pointer(rt: HostRuntime) {
-    let arena = arena(&rt, rt.alloc(), NUMBERS);
+fn fields_of_pointer_reader(rt: HostRuntime) {
+    let arena = message_arena(&rt, rt.alloc(), NUMBERS);
     let pointer = root(&rt, &arena, &mut ReadLimiter::new(None));
     assert!(rt; matches!(pointer.source, Source::Arena(_)));
     assert!(rt; pointer.place.segment == 0);
@@ -22,8 +22,8 @@ fn fields_of_a_pointer(rt: HostRuntime) {
 }
 
 #[test]
-fn fields_of_a_struct(rt: HostRuntime) {
-    let arena = arena(&rt, rt.alloc(), TWO_CHILDREN);
+fn fields_of_struct_reader(rt: HostRuntime) {
+    let arena = message_arena(&rt, rt.alloc(), TWO_CHILDREN);
     let found = root_struct(&rt, &arena, &mut ReadLimiter::new(None));
     let StructReader {
         source,
@@ -40,8 +40,8 @@ fn fields_of_a_struct(rt: HostRuntime) {
 }
 
 #[test]
-fn fields_of_a_list(rt: HostRuntime) {
-    let arena = arena(&rt, rt.alloc(), STRUCTS);
+fn fields_of_list_reader(rt: HostRuntime) {
+    let arena = message_arena(&rt, rt.alloc(), STRUCTS);
     let found = root_list(&rt, &arena, &mut ReadLimiter::new(None));
     let ListReader {
         source,
@@ -60,7 +60,7 @@ fn fields_of_a_list(rt: HostRuntime) {
 /// Readers of every arena can be copied, also those of `NullArena`.
 #[test]
 fn readers_are_copied(rt: HostRuntime) {
-    let arena = arena(&rt, rt.alloc(), STRUCTS);
+    let arena = message_arena(&rt, rt.alloc(), STRUCTS);
     let mut lim = ReadLimiter::new(None);
     let pointer = root(&rt, &arena, &mut lim);
     let want = MessageSize {
@@ -87,7 +87,7 @@ fn refusal<T: Copy, E>(read: Result<T, E>) -> Option<E> {
 }
 
 #[test]
-fn of_the_null_arena(rt: HostRuntime) {
+fn null_arena_has_no_root(rt: HostRuntime) {
     let mut lim = ReadLimiter::new(Some(9));
     let refused = refusal(PointerReader::get_root_from_arena(&NullArena, &mut lim));
     assert!(rt; refused == Some(ErrorKind::TriedToReadFromNullArena));
@@ -95,7 +95,7 @@ fn of_the_null_arena(rt: HostRuntime) {
 }
 
 #[test]
-fn a_default_without_an_arena(rt: HostRuntime) {
+fn default_needs_no_arena(rt: HostRuntime) {
     let words = [0u8; 16];
     let pointer: PointerReader<'_, NullArena> = PointerReader::from_default(&words).expect(
         &rt,
@@ -136,7 +136,7 @@ fn element_sizes(rt: HostRuntime) {
 }
 
 #[test]
-fn laws() {
+fn laws_can_be_called() {
     canonical_is_answered();
     found_is_meant();
     same_words();

@@ -11,7 +11,7 @@ use capnp_words::wire_pointer::{ElementSize, PointerType};
 
 /// Reads the object that a pointer leads to, within the nesting limit of the pointer's reader, and
 /// charges the limiter for it. Returns `Object::Null` for a null pointer.
-fn object<'a, A: ReaderArena>(
+fn read_object<'a, A: ReaderArena>(
     pointer: PointerReader<'a, A>,
     lim: &mut ReadLimiter,
 ) -> Result<Object<'a>, ErrorKind> {
@@ -22,7 +22,7 @@ fn object<'a, A: ReaderArena>(
 
 /// Returns a letter for the kind of an object, the word where it starts, and its number of words,
 /// pointers or elements. For a capability, the last is its index.
-fn shown(object: Object<'_>) -> (char, u32, u32) {
+fn kind_start_and_count(object: Object<'_>) -> (char, u32, u32) {
     match object {
         Object::Null => ('n', 0, 0),
         Object::Capability(index) => ('c', 0, index),
@@ -42,7 +42,7 @@ fn shown(object: Object<'_>) -> (char, u32, u32) {
 }
 
 #[test]
-fn of_each_kind(rt: HostRuntime) {
+fn each_kind_is_read(rt: HostRuntime) {
     for (message, want) in [
         (NULL_ROOT, ('n', 0, 0)),
         (CAPABILITY, ('c', 0, 5)),
@@ -52,16 +52,16 @@ fn of_each_kind(rt: HostRuntime) {
         (POINTERS, ('p', 1, 3)),
         (STRUCTS, ('l', 2, 1)),
     ] {
-        let arena = arena(&rt, rt.alloc(), message);
+        let arena = message_arena(&rt, rt.alloc(), message);
         let mut lim = ReadLimiter::new(None);
         let pointer = root(&rt, &arena, &mut lim);
-        let found = object(pointer, &mut lim).expect(&rt, "an object");
-        assert!(rt; shown(found) == want, "{message}");
+        let found = read_object(pointer, &mut lim).expect(&rt, "an object");
+        assert!(rt; kind_start_and_count(found) == want, "{message}");
     }
 }
 
 #[test]
-fn of_an_expected_kind(rt: HostRuntime) {
+fn expected_kinds_are_read(rt: HostRuntime) {
     for (message, expected, want) in [
         (NULL_ROOT, Expected::Struct, ('n', 0, 0)),
         (FAR, Expected::Struct, ('s', 1, 1)),
@@ -69,20 +69,20 @@ fn of_an_expected_kind(rt: HostRuntime) {
         (TEXT, Expected::Text, ('f', 1, 8)),
         (TEXT, Expected::Data, ('f', 1, 8)),
     ] {
-        let arena = arena(&rt, rt.alloc(), message);
+        let arena = message_arena(&rt, rt.alloc(), message);
         let mut lim = ReadLimiter::new(None);
         let pointer = root(&rt, &arena, &mut lim);
         let found = pointer
             .source
             .read_expected(expected, pointer.place, 1, &mut lim)
             .expect(&rt, "an object");
-        assert!(rt; shown(found) == want, "{message}");
+        assert!(rt; kind_start_and_count(found) == want, "{message}");
     }
 }
 
 #[test]
-fn their_kinds(rt: HostRuntime) {
-    let arena = arena(&rt, rt.alloc(), FAR_NUMBERS);
+fn read_type_follows_far_pointer(rt: HostRuntime) {
+    let arena = message_arena(&rt, rt.alloc(), FAR_NUMBERS);
     let mut lim = ReadLimiter::new(Some(2));
     let pointer = root(&rt, &arena, &mut lim);
     let found = pointer.source.read_type(pointer.place, 0, &mut lim);

@@ -45,8 +45,8 @@ fn two_structs<'a, A: ReaderArena>(rt: &impl Abort, arena: &'a A) -> ListReader<
 }
 
 #[test]
-fn a_struct_of_bits(rt: HostRuntime) {
-    let arena = arena(&rt, rt.alloc(), SHORTS);
+fn struct_at_place_is_read(rt: HostRuntime) {
+    let arena = message_arena(&rt, rt.alloc(), SHORTS);
     let found = struct_of_bits(&rt, &arena);
     assert!(rt; found.data_bytes().len() == 2);
     assert!(rt; found.get_data_field::<u8>(0) == 0xaa);
@@ -57,8 +57,8 @@ fn a_struct_of_bits(rt: HostRuntime) {
 }
 
 #[test]
-fn a_list_of_two_structs(rt: HostRuntime) {
-    let arena = arena(&rt, rt.alloc(), SHORTS);
+fn list_at_place_is_read(rt: HostRuntime) {
+    let arena = message_arena(&rt, rt.alloc(), SHORTS);
     let found = two_structs(&rt, &arena);
     assert!(rt; found.len() == 2);
     assert!(rt; found.data_bytes().len() == 32);
