@@ -6,7 +6,7 @@ use capnp_layout::framing::{CanonicalError, write_canonical};
 use capnp_layout::read_limiter::ReadLimiter;
 use capnp_layout::readers::PointerReader;
 use std::process::Abort;
-use test_support::arena_of;
+use test_support::arena_from_hex;
 
 /// A message of eight words, whose canonical copy has 23: three structs of two pointers each. Both
 /// pointers of a struct lead to the next struct, and both of the last one to a struct with the
@@ -18,7 +18,7 @@ const DOUBLED: &str =
 /// as one frame, and `lim` is charged for one copy and counts each pointer once. If `lim` doesn't
 /// cover the copy, nothing is written, charged or counted.
 #[test]
-fn frames(rt: HostRuntime) {
+fn frames_are_charged_once(rt: HostRuntime) {
     let two = "0000000002000000 1111111111111111 0000000000000080";
     let refused = Err(CanonicalError::Layout(ErrorKind::ReadLimitExceeded));
     for (text, budget, want, words, left, pointers) in [
@@ -26,7 +26,10 @@ fn frames(rt: HostRuntime) {
         (DOUBLED, 23, Ok(()), 23, 0, 15),
         (DOUBLED, 22, refused, 0, 21, 0),
     ] {
-        let source = arena_of(rt.alloc(), text, ReaderOptions::default()).expect(&rt, "a message");
+        let source = arena_from_hex(rt.alloc(), text, ReaderOptions::default()).expect(
+            &rt,
+            "a message",
+        );
         let mut lim = ReadLimiter::new(Some(budget));
         let from = PointerReader::get_root_from_arena(&source, &mut lim).expect(&rt, "a root");
         let mut to = MemoryOutput::new(rt.alloc());

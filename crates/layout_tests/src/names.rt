@@ -9,7 +9,7 @@ use capnp_layout::{
 };
 
 #[test]
-fn inputs(rt: HostRuntime) {
+fn inputs_read_bytes(rt: HostRuntime) {
     let bytes = [1u8, 2, 3];
     let mut to = [0u8; 2];
     let mut memory = MemoryInput::new(&bytes);
@@ -21,7 +21,7 @@ fn inputs(rt: HostRuntime) {
 }
 
 #[test]
-fn outputs(rt: HostRuntime) {
+fn outputs_take_bytes(rt: HostRuntime) {
     let mut memory = MemoryOutput::new(rt.alloc());
     assert!(rt; memory.write(b"ab") == Ok(2));
     assert!(rt; write_all(&mut memory, b"c") == Ok(()));
@@ -33,7 +33,7 @@ fn outputs(rt: HostRuntime) {
 }
 
 #[test]
-fn of_builders(rt: HostRuntime) {
+fn builder_modules_are_reexported(rt: HostRuntime) {
     let allocator = arena::HeapAllocator::new(rt.alloc(), 1);
     let mut built = arena::BuilderArenaImpl::new(rt.alloc(), allocator);
     let root = builders::PointerBuilder {
@@ -45,7 +45,7 @@ fn of_builders(rt: HostRuntime) {
 }
 
 #[test]
-fn of_messages(rt: HostRuntime) {
+fn reader_modules_are_reexported(rt: HostRuntime) {
     let nothing: readers::PointerReader<'_, arena::NullArena> =
         readers::PointerReader::new_default();
     assert!(rt; matches!(nothing.source, source::Source::Nothing));
@@ -59,7 +59,7 @@ fn of_messages(rt: HostRuntime) {
 }
 
 #[test]
-fn of_words(rt: HostRuntime) {
+fn word_modules_are_reexported(rt: HostRuntime) {
     assert!(rt; words::count(&[0; 16]) == 2);
     assert!(rt; wire_pointer::WirePointer::null().is_null());
     assert!(rt; error::ErrorKind::NoSuchPlace.name() == "NoSuchPlace");

@@ -21,7 +21,7 @@ const BEYOND: &[u8] = b"0000000001000000\n";
 
 /// Returns the requests that an allocator gets for the tries, after those for the rows of the
 /// input. `rooms` has the number of words that each try requests for its segment.
-fn asked(alloc: Global, rooms: &[u32]) -> Result<Vec<Request>, AllocError> {
+fn expected_requests(alloc: Global, rooms: &[u32]) -> Result<Vec<Request>, AllocError> {
     let mut requests = Vec::new(alloc);
     for room in rooms {
         requests.push(Request::Segment(*room))?;
@@ -34,7 +34,7 @@ fn asked(alloc: Global, rooms: &[u32]) -> Result<Vec<Request>, AllocError> {
 /// segment twice as large as that of the try before. No other segment is requested; so `Check`,
 /// `Size` and `Frame` request none. If the message can't be read, there is only the first try.
 #[test]
-fn rooms(rt: HostRuntime) -> Result<(), AllocError> {
+fn each_try_doubles_the_room(rt: HostRuntime) -> Result<(), AllocError> {
     let options = ReaderOptions::default();
     for (args, message, end, rooms) in [
         (Args::Canon(options), NULL, Outcome::Done, &[2u32][..]),
@@ -67,7 +67,7 @@ fn rooms(rt: HostRuntime) -> Result<(), AllocError> {
         let mut to = MemoryOutput::new(rt.alloc());
         let (outcome, allocator) = run_with(rt.alloc(), allocator, &args, &mut from, &mut to);
         assert!(rt; outcome == end);
-        let want = asked(rt.alloc(), rooms)?;
+        let want = expected_requests(rt.alloc(), rooms)?;
         let requests = allocator.requests();
         let (rows, tries) = requests.split_at(requests.len().saturating_sub(want.len()));
         assert!(rt; rows.iter().all(|request| *request == Request::Row));

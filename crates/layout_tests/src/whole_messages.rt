@@ -11,7 +11,7 @@ use capnp_layout::framing::{
 };
 use capnp_layout::read_limiter::ReadLimiter;
 use std::process::Abort;
-use test_support::{arena_of, bytes_of};
+use test_support::{arena_from_hex, decode_hex};
 
 /// A message whose root leads to a struct of three data words; the last of these words is zero.
 const LONG: &str = "0000000003000000 1111111111111111 0000000000000080 0000000000000000";
@@ -20,7 +20,7 @@ const LONG: &str = "0000000003000000 1111111111111111 0000000000000080 000000000
 const CANONICAL: &str = "0000000002000000 1111111111111111 0000000000000080";
 
 /// Whether the message `made` has one segment, and the bytes of this segment are `words`.
-fn has_only<A: Allocator>(made: &BuilderArenaImpl<A>, words: &[u8]) -> bool {
+fn has_single_segment<A: Allocator>(made: &BuilderArenaImpl<A>, words: &[u8]) -> bool {
     match made.get_segments_for_output() {
         Ok(OutputSegments::SingleSegment(segment)) => segment == words,
         _ => false,
@@ -30,14 +30,19 @@ fn has_only<A: Allocator>(made: &BuilderArenaImpl<A>, words: &[u8]) -> bool {
 /// Making a canonical copy charges the words of the source's struct once.
 #[test]
 fn pointer_copies_are_charged_once(rt: HostRuntime) {
-    let source = arena_of(rt.alloc(), LONG, ReaderOptions::default()).expect(&rt, "a message");
-    let words = bytes_of(rt.alloc(), CANONICAL).expect(&rt, "digits");
+    let source = arena_from_hex(rt.alloc(), LONG, ReaderOptions::default()).expect(
+        &rt,
+        "a message",
+    );
+    let words = decode_hex(rt.alloc(), CANONICAL).expect(&rt, "digits");
     let mut lim = ReadLimiter::new(Some(8));
     let root = read_root(&source, &mut lim).expect(&rt, "a root");
     for left in [4, 1] {
         let heap = HeapAllocator::new(rt.alloc(), 0);
         match canonicalize_pointer(rt.alloc(), heap, root, &mut lim) {
-            Ok(made) => assert!(rt; has_only(&made, words.as_slice()) && lim.left() == Some(left)),
+            Ok(made) => assert!(rt;
+                has_single_segment(&made, words.as_slice()) && lim.left() == Some(left)
+            ),
             Err(_) => assert!(rt; false, "a copy"),
         }
     }
@@ -46,11 +51,14 @@ fn pointer_copies_are_charged_once(rt: HostRuntime) {
 /// To copy a whole message costs one word for the root, and the words of the struct.
 #[test]
 fn whole_copies_are_charged_once(rt: HostRuntime) {
-    let source = arena_of(rt.alloc(), LONG, ReaderOptions::default()).expect(&rt, "a message");
-    let words = bytes_of(rt.alloc(), CANONICAL).expect(&rt, "digits");
+    let source = arena_from_hex(rt.alloc(), LONG, ReaderOptions::default()).expect(
+        &rt,
+        "a message",
+    );
+    let words = decode_hex(rt.alloc(), CANONICAL).expect(&rt, "digits");
     let heap = HeapAllocator::new(rt.alloc(), 0);
     match canonicalize(rt.alloc(), heap, &source, Some(4)) {
-        Ok(made) => assert!(rt; has_only(&made, words.as_slice())),
+        Ok(made) => assert!(rt; has_single_segment(&made, words.as_slice())),
         Err(_) => assert!(rt; false, "a copy"),
     }
     let heap = HeapAllocator::new(rt.alloc(), 0);
@@ -63,7 +71,7 @@ fn whole_copies_are_charged_once(rt: HostRuntime) {
 /// The test for canonical form charges one word for the root, and the words of the struct. For a
 /// message of several segments it returns `false`, and charges nothing.
 #[test]
-fn canonical_messages(rt: HostRuntime) {
+fn canonical_test_is_charged_once(rt: HostRuntime) {
     let unread = "0000000000000000,0000000000000000";
     for (text, budget, want) in [
         (CANONICAL, 3, Ok(true)),
@@ -71,7 +79,10 @@ fn canonical_messages(rt: HostRuntime) {
         (LONG, 8, Ok(false)),
         (unread, 0, Ok(false)),
     ] {
-        let arena = arena_of(rt.alloc(), text, ReaderOptions::default()).expect(&rt, "a message");
+        let arena = arena_from_hex(rt.alloc(), text, ReaderOptions::default()).expect(
+            &rt,
+            "a message",
+        );
         let mut lim = ReadLimiter::new(Some(budget));
         assert!(rt; is_canonical_message(&arena, &mut lim) == want, "{text}");
         let found = match check(&arena, Some(budget)) {
@@ -85,7 +96,7 @@ fn canonical_messages(rt: HostRuntime) {
 /// Two words are read as the only segment of a message. They are refused if the limit is one word.
 /// Two words and a half are refused as cut short, and leave no segment.
 #[test]
-fn words_without_a_frame(rt: HostRuntime) {
+fn raw_words_are_read_as_one_segment(rt: HostRuntime) {
     let bytes = [7u8; 20];
     let mut into = OwnedSegments::new(rt.alloc());
     let mut input = MemoryInput::new(&bytes[..16]);
@@ -112,7 +123,7 @@ const VOIDS: &str = "0100000018000000";
 /// are the depth, the words and the capabilities of its value, and the words left, all counted by
 /// hand.
 #[test]
-fn validated_messages(rt: HostRuntime) {
+fn messages_are_validated_within_limits(rt: HostRuntime) {
     let outside = ErrorKind::MessageContainsOutOfBoundsPointer;
     let too_deep = ErrorKind::MessageIsTooDeeplyNestedOrContainsCycles;
     let null = "0000000000000000";
@@ -136,7 +147,7 @@ fn validated_messages(rt: HostRuntime) {
             nesting_limit,
             ..ReaderOptions::default()
         };
-        let arena = arena_of(rt.alloc(), text, options).expect(&rt, "a message");
+        let arena = arena_from_hex(rt.alloc(), text, options).expect(&rt, "a message");
         let mut lim = ReadLimiter::new(Some(budget));
         let got = match validate_root(&arena, &mut lim) {
             Ok(extent) => Ok((extent.depth, extent.words, extent.capabilities)),
