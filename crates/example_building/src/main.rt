@@ -52,7 +52,7 @@ fn empty_message(alloc: Global, words: u32) -> Result<Built, ErrorKind>
 
 /// Builds a message: a struct with a number and a text. A segment has room for two words unless an
 /// object needs more, so each object is in a segment of its own, after a landing pad.
-fn build(alloc: Global) -> Result<Built, ErrorKind> {
+fn build_message(alloc: Global) -> Result<Built, ErrorKind> {
     let mut built = empty_message(alloc, 2)?;
     let mut root = PointerBuilder::get_root(&mut built).init_struct(SIZE)?;
     root.set_data_field(0, 7u64);
@@ -61,7 +61,7 @@ fn build(alloc: Global) -> Result<Built, ErrorKind> {
 }
 
 /// Makes a canonical copy, in one segment, of a message that was built.
-fn canonical(alloc: Global, from: &Built) -> Result<Built, ErrorKind> {
+fn canonicalize(alloc: Global, from: &Built) -> Result<Built, ErrorKind> {
     let mut built = empty_message(alloc, 1024)?;
     // Reading a message being built is free, so the limiter is never charged.
     let mut limiter = ReadLimiter::new(None);
@@ -96,15 +96,15 @@ fn print_value(rt: &impl Print, built: &Built) -> Result<(), Failure> {
 }
 
 /// Builds the message, and prints its segments, its value, and its canonical copy.
-fn show(rt: &(impl Print + AllocGlobal)) -> Result<(), Failure> {
-    let built = build(rt.alloc())?;
+fn build_and_print(rt: &(impl Print + AllocGlobal)) -> Result<(), Failure> {
+    let built = build_message(rt.alloc())?;
     print_segments(rt, &built)?;
     print_value(rt, &built)?;
     println!(rt; "canonical")?;
-    print_segments(rt, &canonical(rt.alloc(), &built)?)
+    print_segments(rt, &canonicalize(rt.alloc(), &built)?)
 }
 
 fn main(rt: HostRuntime) -> Result<ExitCode, Failure> {
-    show(&rt)?;
+    build_and_print(&rt)?;
     Ok(ExitCode::SUCCESS)
 }
