@@ -107,7 +107,7 @@ fn fill_people<A: BuilderArena>(arena: &mut A, people: person::Builders) -> Resu
 }
 
 /// Builds an address book of two people.
-fn build<A: BuilderArena>(arena: &mut A) -> Result<(), ErrorKind>
+fn build_address_book<A: BuilderArena>(arena: &mut A) -> Result<(), ErrorKind>
     requires { IsPlace (A.view arena.old).words 0 0 }
 {
     let book = address_book::Builder::init_root(arena)?;
@@ -117,7 +117,7 @@ fn build<A: BuilderArena>(arena: &mut A) -> Result<(), ErrorKind>
 
 fn main(rt: HostRuntime) -> anyhow::Result<()> {
     let mut message = MessageBuilder::new(rt.alloc(), 1024)?;
-    build(&mut message.arena)?;
+    build_address_book(&mut message.arena)?;
     let mut output = WriterOutput::new(io::writer(&rt));
     write_message(&mut output, &message)?;
     Ok(())
