@@ -44,7 +44,7 @@ type Built = BuilderArenaImpl<HeapAllocator>;
 /// The `ensures` clause is proved for all bytes that the segments can hold: after `Ok`, the only
 /// segment of the result has exactly the canonical words of the root's value. The root is word 0 of
 /// segment 0, and is read with a nesting limit of 64.
-fn canonical(alloc: Global, segments: &[&[u8]]) -> Result<Built, ErrorKind>
+fn canonicalize(alloc: Global, segments: &[&[u8]]) -> Result<Built, ErrorKind>
     ensures { let from = message (map (λ s. s.now) segments.now) in
         IfOk result (λ b. (t : Tree) × (c : ℕ) × Means from 64 0 0 t c
         × ((⟦<Built as BuilderArena>⟧.view b).words ≡ encoding (trim t) ∷ [])) }
@@ -80,7 +80,7 @@ fn print_words(rt: &(impl Print + AllocGlobal), built: &Built) -> io::Result<()>
 }
 
 fn main(rt: HostRuntime) -> io::Result<ExitCode> {
-    match canonical(rt.alloc(), &[&FIRST, &SECOND]) {
+    match canonicalize(rt.alloc(), &[&FIRST, &SECOND]) {
         Ok(built) => {
             print_words(&rt, &built)?;
             Ok(ExitCode::SUCCESS)

@@ -1,6 +1,6 @@
 use Rattle.std.proofs.Common.{rules}
 use Rattle.std.proofs.lemmas.List.{length-map}
-use Rattle.example_canonical.proofs.canonical.Goals as goal
+use Rattle.example_canonical.proofs.canonicalize.Goals as goal
 
 -- The copy is the whole message, which had one word and still has one segment.
 pub returns : goal.returns
