@@ -27,7 +27,7 @@ use std::process::ExitCode;
 /// The `ensures` clause is proved: after `Ok`, what was written is a frame of one segment, which
 /// has exactly the canonical words of the root's value. The root is word 0 of segment 0, and is
 /// read with a nesting limit of 64.
-fn write_message<W: Output>(
+fn write_canonical_message<W: Output>(
     alloc: Global,
     segments: OwnedSegments,
     output: &mut W,
@@ -48,20 +48,20 @@ fn write_message<W: Output>(
     }
 }
 
-/// Reads a message of at most 8,388,608 words, and writes it by `write_message`. Writes nothing if
-/// the input is empty.
-fn copy_message(rt: &(impl Input + Print + AllocGlobal)) -> Result<(), CanonicalError> {
+/// Reads a message of at most 8,388,608 words, and writes it by `write_canonical_message`. Writes
+/// nothing if the input is empty.
+fn canonicalize_input(rt: &(impl Input + Print + AllocGlobal)) -> Result<(), CanonicalError> {
     let mut input = ReaderInput::new(rt.reader());
     let mut output = WriterOutput::new(io::writer(rt));
     match read(rt.alloc(), &mut input, 8_388_608) {
-        Ok(Some(segments)) => write_message(rt.alloc(), segments, &mut output),
+        Ok(Some(segments)) => write_canonical_message(rt.alloc(), segments, &mut output),
         Ok(None) => Ok(()),
         Err(error) => Err(CanonicalError::Frame(error)),
     }
 }
 
 fn main(rt: HostRuntime) -> io::Result<ExitCode> {
-    match copy_message(&rt) {
+    match canonicalize_input(&rt) {
         Ok(()) => Ok(ExitCode::SUCCESS),
         Err(error) => {
             eprintln!(rt; "refused {}", error.name())?;
