@@ -10,7 +10,7 @@ ghost use Rattle.capnp_layout.specs.Answers.{RefusesMessage};
 ghost use Rattle.capnp_layout.specs.Messages.{segments_in};
 
 use super::args::Args;
-use super::limits::check_limits;
+use super::limits::ensure_small;
 use super::lines::Message;
 use capnp_arena::arena::{
     Allocator, BuilderArena, BuilderArenaImpl, ReaderArenaImpl, ReaderOptions,
@@ -39,7 +39,7 @@ pub(crate) fn canonicalize_root<A: Allocator>(
         (λ e. LacksMemoryOr (A.refusals allocator) (A.refusals e.1) e.0
         (RefusesMessage (segments_in source) (Args.Canon options) e.0)) }
 {
-    match check_limits(&source) {
+    match ensure_small(&source) {
         Ok(()) => {
             let arena = ReaderArenaImpl::new(source, options);
             canonicalize(alloc, allocator, &arena, options.traversal_limit_in_words)

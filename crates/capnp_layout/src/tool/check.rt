@@ -6,7 +6,7 @@ ghost use Rattle.capnp_layout.specs.Answers.{CheckOf, RefusesMessage};
 ghost use Rattle.capnp_layout.specs.Messages.{segments_in};
 
 use super::args::Args;
-use super::limits::check_limits;
+use super::limits::ensure_small;
 use super::lines::Message;
 use crate::framing::read_root;
 use capnp_arena::arena::{ReaderArenaImpl, ReaderOptions};
@@ -22,7 +22,7 @@ pub(crate) fn is_canonical(source: Message, options: ReaderOptions) -> Result<bo
         → CheckOf (message (segments_in source)) options true → IsOk result }
     ensures refused { IfErr result (RefusesMessage (segments_in source) (Args.Check options)) }
 {
-    check_limits(&source)?;
+    ensure_small(&source)?;
     let arena = ReaderArenaImpl::new(source, options);
     let mut lim = ReadLimiter::new(options.traversal_limit_in_words);
     let root = read_root(&arena, &mut lim)?;

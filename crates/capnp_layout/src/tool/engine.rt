@@ -15,12 +15,12 @@ ghost use Rattle.capnp_layout.specs.Runs.{AreLinesOf, TextHasAnswer, IsBadInput,
 use super::args::Args;
 use super::canon::canonicalize_root;
 use super::check::is_canonical;
-use super::framed::{frame, framed_check, unframe};
+use super::framed::{answer_frame, answer_framed_check, answer_unframe};
 use super::frames::write_words_in_form;
-use super::lines::{InputFault, Message, read_lines};
-use super::reading::read_text;
+use super::lines::{InputFault, Message, decode_lines};
+use super::reading::read_to_end;
 use super::refusal::Refusal;
-use super::size::size_of;
+use super::size::measure_message;
 use super::writing::{write_check, write_refusal};
 use crate::devices::{DeviceFault, Input, Output};
 use capnp_arena::arena::{Allocator, ReaderOptions, ReaderSegments};
@@ -57,8 +57,8 @@ fn read_message<A: Allocator, R: Input>(
     ensures counted { CountsRead (A.refusals allocator.old) (A.refusals allocator.new) result }
     ensures works { WorksUnlessBad (R.has_failed input.new) result }
 {
-    let text = read_text(alloc, allocator, input)?;
-    read_lines(alloc, allocator, text.as_slice())
+    let text = read_to_end(alloc, allocator, input)?;
+    decode_lines(alloc, allocator, text.as_slice())
 }
 
 /// Returns `outcome` if the text was written, and `WriteFailed` if the output failed.
@@ -87,7 +87,7 @@ pub(super) fn answer_refusal<W: Output>(output: &mut W, refusal: Refusal) -> Out
 
 /// Writes the line of the canonical words of `source`, in a frame or without one, depending on
 /// `form`; or the line of the refusal.
-fn canon<A: Allocator, W: Output>(
+fn answer_canon<A: Allocator, W: Output>(
     alloc: Global,
     allocator: A,
     source: Message,
@@ -114,7 +114,7 @@ fn canon<A: Allocator, W: Output>(
 }
 
 /// Writes the line that says whether a message is canonical, or the line of the refusal.
-fn check<W: Output>(source: Message, options: ReaderOptions, output: &mut W) -> Outcome
+fn answer_check<W: Output>(source: Message, options: ReaderOptions, output: &mut W) -> Outcome
     requires { W.has_failed output.old ≡ false }
     ensures { Responds W.Output output.old output.new
         (uncounted (segments_in source) (Args.Check options) result) }
@@ -126,12 +126,12 @@ fn check<W: Output>(source: Message, options: ReaderOptions, output: &mut W) -> 
 }
 
 /// Writes the line of a message's size, or the line of the refusal.
-fn size<W: Output>(source: Message, options: ReaderOptions, output: &mut W) -> Outcome
+fn answer_size<W: Output>(source: Message, options: ReaderOptions, output: &mut W) -> Outcome
     requires { W.has_failed output.old ≡ false }
     ensures { Responds W.Output output.old output.new
         (uncounted (segments_in source) (Args.Size options) result) }
 {
-    match size_of(source, options) {
+    match measure_message(source, options) {
         Ok(size) => outcome_of(write_size(output, size), Outcome::Done),
         Err(kind) => answer_refusal(output, Refusal::Layout(kind)),
     }
@@ -156,15 +156,15 @@ fn run_command<A: Allocator, W: Output>(
     }) }
 {
     match *args {
-        Args::Canon(options) => canon(alloc, allocator, lines, options, Form::Flat, output),
-        Args::Check(options) => (check(lines, options, output), allocator),
-        Args::Size(options) => (size(lines, options, output), allocator),
-        Args::Frame => (frame(lines, output), allocator),
-        Args::Unframe => (unframe(lines, output), allocator),
+        Args::Canon(options) => answer_canon(alloc, allocator, lines, options, Form::Flat, output),
+        Args::Check(options) => (answer_check(lines, options, output), allocator),
+        Args::Size(options) => (answer_size(lines, options, output), allocator),
+        Args::Frame => (answer_frame(lines, output), allocator),
+        Args::Unframe => (answer_unframe(lines, output), allocator),
         Args::FramedCanon(options) => {
-            canon(alloc, allocator, lines, options, Form::Framed, output)
+            answer_canon(alloc, allocator, lines, options, Form::Framed, output)
         }
-        Args::FramedCheck(options) => (framed_check(lines, options, output), allocator),
+        Args::FramedCheck(options) => (answer_framed_check(lines, options, output), allocator),
     }
 }
 

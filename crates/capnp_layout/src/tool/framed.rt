@@ -9,7 +9,7 @@ ghost use Rattle.capnp_layout.specs.Runs.{Responds, uncounted};
 
 use super::args::Args;
 use super::engine::{Outcome, answer_refusal, outcome_of};
-use super::frames::{write_frame, write_segments};
+use super::frames::{write_frame, write_segment_lines};
 use super::lines::Message;
 use super::refusal::Refusal;
 use super::writing::write_message_check;
@@ -59,7 +59,7 @@ fn is_canonical_frame(lines: &Message, options: ReaderOptions) -> Result<bool, R
 }
 
 /// Returns the number of segments of `source`, or a refusal if `source` can't be framed.
-fn segment_count(source: &Message) -> Result<usize, Refusal>
+fn checked_segment_count(source: &Message) -> Result<usize, Refusal>
     ensures small { OnOk result (IsSmall (segments_in source.now)) }
     ensures answered { OnOk result (HasAnswer (segments_in source.now) Args.Frame) }
     ensures refused { IfErr result (WhyRefused (segments_in source.now) Args.Frame) }
@@ -78,12 +78,12 @@ fn segment_count(source: &Message) -> Result<usize, Refusal>
 }
 
 /// Writes the frame of `source` as a line of hex digits, or the line of the refusal.
-pub(crate) fn frame<W: Output>(source: Message, output: &mut W) -> Outcome
+pub(crate) fn answer_frame<W: Output>(source: Message, output: &mut W) -> Outcome
     requires { W.has_failed output.old ≡ false }
     ensures { Responds W.Output output.old output.new
         (uncounted (segments_in source) Args.Frame result) }
 {
-    match segment_count(&source) {
+    match checked_segment_count(&source) {
         Ok(_) => outcome_of(write_frame(output, &source), Outcome::Done),
         Err(refusal) => answer_refusal(output, refusal),
     }
@@ -92,7 +92,7 @@ pub(crate) fn frame<W: Output>(source: Message, output: &mut W) -> Outcome
 /// Reads the frame at the start of the only line, and writes a line for each segment of its
 /// message, or the line of the refusal. If there is more than one line, writes nothing and returns
 /// `BadInput`.
-pub(crate) fn unframe<W: Output>(lines: Message, output: &mut W) -> Outcome
+pub(crate) fn answer_unframe<W: Output>(lines: Message, output: &mut W) -> Outcome
     requires { W.has_failed output.old ≡ false }
     ensures { Responds W.Output output.old output.new
         (uncounted (segments_in lines) Args.Unframe result) }
@@ -101,7 +101,7 @@ pub(crate) fn unframe<W: Output>(lines: Message, output: &mut W) -> Outcome
         return Outcome::BadInput;
     }
     match read_frame(&lines) {
-        Ok(segments) => outcome_of(write_segments(output, &segments), Outcome::Done),
+        Ok(segments) => outcome_of(write_segment_lines(output, &segments), Outcome::Done),
         Err(refusal) => answer_refusal(output, refusal),
     }
 }
@@ -109,7 +109,7 @@ pub(crate) fn unframe<W: Output>(lines: Message, output: &mut W) -> Outcome
 /// Reads the frame at the start of the only line, and writes the line that says whether its message
 /// is canonical as a whole, or the line of the refusal. If there is more than one line, writes
 /// nothing and returns `BadInput`.
-pub(crate) fn framed_check<W: Output>(
+pub(crate) fn answer_framed_check<W: Output>(
     lines: Message,
     options: ReaderOptions,
     output: &mut W,

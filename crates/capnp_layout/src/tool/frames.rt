@@ -10,7 +10,7 @@ ghost use Rattle.capnp_framing.specs.Frames.{contents, lengths, max_frame_segmen
 ghost use Rattle.capnp_framing.specs.Writing.{Writes};
 ghost use Rattle.capnp_layout.specs.Commands.{AreWritable, form_line, frame_line, segment_lines};
 
-use super::writing::{write_digits, write_words};
+use super::writing::{write_hex_digits, write_hex_line};
 use crate::devices::{DeviceFault, Output, write_all};
 use capnp_arena::arena::{OutputSegments, ReaderSegments};
 use capnp_messages::messages::Form;
@@ -29,7 +29,7 @@ fn segment_at<S: ReaderSegments>(segments: &S, id: u32) -> &[u8]
 }
 
 /// Writes a number in eight hex digits, the lowest byte first.
-fn write_number<W: Output>(output: &mut W, number: u32) -> Result<(), DeviceFault>
+fn write_hex_u32<W: Output>(output: &mut W, number: u32) -> Result<(), DeviceFault>
     requires { W.has_failed output.old ≡ false }
     ensures { Writes W.Output result output.old output.new
         (encode_lower (to_le_bytes w32 number)) }
@@ -50,7 +50,7 @@ fn write_lengths<W: Output, S: ReaderSegments>(
 {
     for i in 0..segments.len() as u32 {
         let words = segment_at(segments, i).len() / 8;
-        write_number(output, words as u32)?;
+        write_hex_u32(output, words as u32)?;
     }
     Ok(())
 }
@@ -64,7 +64,7 @@ fn write_padding<W: Output>(output: &mut W, count: u32) -> Result<(), DeviceFaul
         (encode_lower (replicate (padding_size count) 0)) }
 {
     if count % 2 == 0 {
-        write_number(output, 0)
+        write_hex_u32(output, 0)
     } else {
         Ok(())
     }
@@ -80,7 +80,7 @@ fn write_all_segments<W: Output, S: ReaderSegments>(
         (encode_lower (contents (message (S.segments segments.now)))) }
 {
     for i in 0..segments.len() as u32 {
-        write_digits(output, segment_at(segments, i))?;
+        write_hex_digits(output, segment_at(segments, i))?;
     }
     Ok(())
 }
@@ -97,7 +97,7 @@ pub(crate) fn write_frame<W: Output, S: ReaderSegments>(
         (frame_line (message (S.segments segments.now))) }
 {
     let count = segments.len() as u32;
-    write_number(output, count - 1)?;
+    write_hex_u32(output, count - 1)?;
     write_lengths(output, segments)?;
     write_padding(output, count)?;
     write_all_segments(output, segments)?;
@@ -116,13 +116,13 @@ pub(crate) fn write_words_in_form<W: Output>(
     ensures { Writes W.Output result output.old output.new (form_line form (words_of words.now)) }
 {
     match form {
-        Form::Flat => write_words(output, words),
+        Form::Flat => write_hex_line(output, words),
         Form::Framed => write_frame(output, &OutputSegments::SingleSegment(words)),
     }
 }
 
 /// Writes a line of hex digits for each segment of a message.
-pub(crate) fn write_segments<W: Output, S: ReaderSegments>(
+pub(crate) fn write_segment_lines<W: Output, S: ReaderSegments>(
     output: &mut W,
     segments: &S,
 ) -> Result<(), DeviceFault>
@@ -131,7 +131,7 @@ pub(crate) fn write_segments<W: Output, S: ReaderSegments>(
         (segment_lines (message (S.segments segments.now))) }
 {
     for i in 0..segments.len() as u32 {
-        write_words(output, segment_at(segments, i))?;
+        write_hex_line(output, segment_at(segments, i))?;
     }
     Ok(())
 }

@@ -9,7 +9,7 @@ use capnp_words::error::ErrorKind;
 
 /// Tests whether a message is small enough for readers: it has fewer than 2^32 segments, each of
 /// fewer than 2^32 words. Refuses a larger one with `MessageTooLarge`.
-pub(crate) fn check_limits(source: &Message) -> Result<(), ErrorKind>
+pub(crate) fn ensure_small(source: &Message) -> Result<(), ErrorKind>
     ensures small { IsOk result ↔ IsSmall (segments_in source.now) }
     ensures named { IfErr result (λ k. k ≡ MessageTooLarge (2 ^ 64 - 1)) }
 {

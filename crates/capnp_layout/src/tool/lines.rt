@@ -121,7 +121,7 @@ fn split_first_line(text: &[u8]) -> (&[u8], &[u8])
 
 /// Returns the bytes that a line of hex digits encodes. Refusals: `BadInput` if the line isn't
 /// pairs of hex digits; `NoMemory` if `allocator` refuses memory for a byte.
-fn read_line<A: Allocator>(
+fn decode_line<A: Allocator>(
     alloc: Global,
     allocator: &mut A,
     line: &[u8],
@@ -144,7 +144,7 @@ fn read_line<A: Allocator>(
 
 /// Returns the segments that `text` encodes, one for each line. Refuses with `BadInput` if a line
 /// isn't pairs of hex digits, or with `NoMemory` if `allocator` refuses memory.
-pub fn read_lines<A: Allocator>(
+pub fn decode_lines<A: Allocator>(
     alloc: Global,
     allocator: &mut A,
     text: &[u8],
@@ -158,7 +158,7 @@ pub fn read_lines<A: Allocator>(
     let mut rest = text;
     while !rest.is_empty() {
         let (line, behind) = split_first_line(rest);
-        let segment = read_line(alloc, allocator, line)?;
+        let segment = decode_line(alloc, allocator, line)?;
         if allocator.keep(&mut segments, segment).is_some() {
             return Err(InputFault::NoMemory);
         }

@@ -11,7 +11,7 @@ use std::alloc::Global;
 /// if a read failed; `NoMemory` if `allocator` refused a byte, and counted the refusal. The list of
 /// bytes has its memory from `alloc`. Each byte is appended by `Allocator::keep`, so `allocator`
 /// may refuse any of them.
-pub(crate) fn read_text<A: Allocator, R: Input>(
+pub(crate) fn read_to_end<A: Allocator, R: Input>(
     alloc: Global,
     allocator: &mut A,
     input: &mut R,

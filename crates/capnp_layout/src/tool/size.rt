@@ -7,7 +7,7 @@ ghost use Rattle.capnp_layout.specs.Answers.{RefusesMessage};
 ghost use Rattle.capnp_layout.specs.Messages.{segments_in};
 
 use super::args::Args;
-use super::limits::check_limits;
+use super::limits::ensure_small;
 use super::lines::Message;
 use capnp_arena::arena::{ReaderArenaImpl, ReaderOptions};
 use capnp_messages::messages;
@@ -15,14 +15,17 @@ use capnp_readers::readers::MessageSize;
 use capnp_words::error::ErrorKind;
 
 /// Counts the words and capabilities that the root of a message leads to, without landing pads.
-pub(crate) fn size_of(source: Message, options: ReaderOptions) -> Result<MessageSize, ErrorKind>
+pub(crate) fn measure_message(
+    source: Message,
+    options: ReaderOptions,
+) -> Result<MessageSize, ErrorKind>
     ensures exactly { IsOk result ↔ IsSmall (segments_in source)
         × HasSizeWithin (message (segments_in source)) options }
     ensures size { IfOk result (λ z.
         HasSizeOf (message (segments_in source)) options z.word_count z.cap_count) }
     ensures refused { IfErr result (RefusesMessage (segments_in source) (Args.Size options)) }
 {
-    check_limits(&source)?;
+    ensure_small(&source)?;
     let arena = ReaderArenaImpl::new(source, options);
     messages::size(&arena, options.traversal_limit_in_words)
 }

@@ -22,7 +22,7 @@ fn write_word_digits<W: Output>(output: &mut W, word: u64) -> Result<(), DeviceF
 }
 
 /// Writes all whole words of a segment as hex digits.
-pub(crate) fn write_digits<W: Output>(output: &mut W, segment: &[u8]) -> Result<(), DeviceFault>
+pub(crate) fn write_hex_digits<W: Output>(output: &mut W, segment: &[u8]) -> Result<(), DeviceFault>
     requires { W.has_failed output.old ≡ false }
     ensures { Writes W.Output result output.old output.new
         (digits_of (words_of segment.now)) }
@@ -34,12 +34,12 @@ pub(crate) fn write_digits<W: Output>(output: &mut W, segment: &[u8]) -> Result<
 }
 
 /// Writes all whole words of a segment as one line of hex digits.
-pub(crate) fn write_words<W: Output>(output: &mut W, segment: &[u8]) -> Result<(), DeviceFault>
+pub(crate) fn write_hex_line<W: Output>(output: &mut W, segment: &[u8]) -> Result<(), DeviceFault>
     requires { W.has_failed output.old ≡ false }
     ensures { Writes W.Output result output.old output.new
         (digits_of (words_of segment.now) ++ 10 ∷ []) }
 {
-    write_digits(output, segment)?;
+    write_hex_digits(output, segment)?;
     write_all(output, b"\n")
 }
 

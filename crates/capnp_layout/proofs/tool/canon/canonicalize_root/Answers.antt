@@ -7,7 +7,7 @@ use Rattle.capnp_layout.proofs.tool.canon.canonicalize_root.Goals as goal
 
 pub returns-in-Err-clause-refused : goal.returns-in-Err-clause-refused
 returns-in-Err-clause-refused g c =
-    inr (inl (c.in-Err.ensures.named, λ small. (let within : IsOk c.check_limits.result = c.check_limits.ensures.small.1 small in absurd (search rules))), refl)
+    inr (inl (c.in-Err.ensures.named, λ small. (let within : IsOk c.ensure_small.result = c.ensure_small.ensures.small.1 small in absurd (search rules))), refl)
 
 pub returns-in-Ok-clause-refused : goal.returns-in-Ok-clause-refused
 returns-in-Ok-clause-refused g c =

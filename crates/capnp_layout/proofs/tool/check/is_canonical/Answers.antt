@@ -6,10 +6,10 @@ use Rattle.capnp_layout.specs.Messages.{segments_in}
 use Rattle.capnp_layout.proofs.CheckLemmas.{check_answered, check_answers, check_refused}
 use Rattle.capnp_layout.proofs.tool.check.is_canonical.Goals as goal
 
-pub returns-in_err-check_limits-clause-refused : goal.returns-in_err-check_limits-clause-refused
-returns-in_err-check_limits-clause-refused c =
+pub returns-in_err-ensure_small-clause-refused : goal.returns-in_err-ensure_small-clause-refused
+returns-in_err-ensure_small-clause-refused c =
     let p = err_from_is_err_and c.from_residual.result c.from_residual.ensures.1 in
-    rw (p.1, p.2) (inl (c.in_err-check_limits.ensures.named, λ small. (let within : IsOk c.check_limits.result = c.check_limits.ensures.small.1 small in absurd (search rules))))
+    rw (p.1, p.2) (inl (c.in_err-ensure_small.ensures.named, λ small. (let within : IsOk c.ensure_small.result = c.ensure_small.ensures.small.1 small in absurd (search rules))))
 
 pub returns : goal.returns
 returns c =

@@ -16,7 +16,7 @@ loop-i-preserved g c =
     let inside : c.loop-i.i < length S = omega (arith, length-message bytes, c.loop-i-test.true) in
     let same : words_of c.segment_at.result.now ≡ segment S c.loop-i.i = c.segment_at.ensures.words (omega (arith, c.loop-i-test.true)) in
     record {
-      left_over = left_over_less (encode_lower (contents (drop (c.loop-i.i + 1) S))) (record { left_over = c.loop-i.invariant.left_over; appended = c.in_ok-write_digits.ensures.written })
+      left_over = left_over_less (encode_lower (contents (drop (c.loop-i.i + 1) S))) (record { left_over = c.loop-i.invariant.left_over; appended = c.in_ok-write_hex_digits.ensures.written })
           (contents-drop S c.loop-i.i inside ∙ ap (λ (ws : List ℕ). digits_of ws ++ encode_lower (contents (drop (c.loop-i.i + 1) S))) (sym same));
       works = search rules;
     }

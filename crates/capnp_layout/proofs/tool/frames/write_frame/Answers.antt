@@ -13,7 +13,7 @@ returns g c =
           on_ok_weaker c.write_all.result
           (λ feed. frame_written (message bytes) (record {
             counts = omega (arith, length-message bytes, c.len-count.ensures);
-            number = c.in_ok-write_number.ensures.written;
+            number = c.in_ok-write_hex_u32.ensures.written;
             table = c.in_ok-write_lengths.ensures.written;
             padding = c.in_ok-write_padding.ensures.written;
             words = c.in_ok-write_all_segments.ensures.written;

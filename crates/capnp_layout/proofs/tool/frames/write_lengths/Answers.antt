@@ -17,7 +17,7 @@ loop-i-preserved g c =
     let inside : c.loop-i.i < length S = omega (arith, length-message bytes, c.loop-i-test.true) in
     let same : words_of c.segment_at.result.now ≡ segment S c.loop-i.i = c.segment_at.ensures.words (omega (arith, c.loop-i-test.true)) in
     record {
-      left_over = left_over_less (encode_lower (lengths (drop (c.loop-i.i + 1) S))) (record { left_over = c.loop-i.invariant.left_over; appended = c.in_ok-write_number.ensures.written })
+      left_over = left_over_less (encode_lower (lengths (drop (c.loop-i.i + 1) S))) (record { left_over = c.loop-i.invariant.left_over; appended = c.in_ok-write_hex_u32.ensures.written })
           (lengths-drop S c.loop-i.i inside ∙ ap (λ n. encode_lower (to_le_bytes w32 n) ++ encode_lower (lengths (drop (c.loop-i.i + 1) S))) (sym (sym (words c.segment_at.result.now) ∙ ap length same)));
       works = search rules;
     }

@@ -4,7 +4,7 @@ use Rattle.capnp_format.specs.Canonical.{encoding, trim}
 use Rattle.capnp_layout.specs.Messages.{segments_in}
 use Rattle.capnp_layout.specs.declared.tool.refusal.Refusal.TheVariants.{Layout}
 use Rattle.capnp_layout.proofs.RunLemmas.{answered_run, canonical_answer, canonical_memory, canonical_refusal, canonical_within, refused_run}
-use Rattle.capnp_layout.proofs.tool.engine.canon.Goals as goal
+use Rattle.capnp_layout.proofs.tool.engine.answer_canon.Goals as goal
 
 pub returns-in-Err : goal.returns-in-Err
 returns-in-Err g c =

@@ -1,7 +1,7 @@
 use Rattle.std.proofs.Common.{ap, refl, inl, inr, arith, rules}
 use Rattle.capnp_framing.specs.declared.framing.frame_error.FrameError.TheVariants.{NoSegments, TooManySegments}
 use Rattle.capnp_layout.specs.Commands.{beyond_limits, wrong_number}
-use Rattle.capnp_layout.proofs.tool.framed.segment_count.Goals as goal
+use Rattle.capnp_layout.proofs.tool.framed.checked_segment_count.Goals as goal
 
 pub returns-then-not-is_small-clause-refused : goal.returns-then-not-is_small-clause-refused
 returns-then-not-is_small-clause-refused c = beyond_limits refl (search rules)

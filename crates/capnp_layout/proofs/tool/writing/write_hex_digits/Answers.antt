@@ -4,7 +4,7 @@ use Rattle.capnp_format.proofs.WordsOf.{words}
 use Rattle.capnp_layout.specs.Answers.{word_digits, digits_of}
 use Rattle.capnp_framing.proofs.WritingLemmas.{left_over_less, left_over_end}
 use Rattle.capnp_layout.proofs.WritingLemmas.{digits-drop, digits-end}
-use Rattle.capnp_layout.proofs.tool.writing.write_digits.Goals as goal
+use Rattle.capnp_layout.proofs.tool.writing.write_hex_digits.Goals as goal
 
 pub loop-at-preserved : goal.loop-at-preserved
 loop-at-preserved g c =

@@ -2,12 +2,12 @@ use Rattle.std.proofs.Common.{rules, inl, inr, IsOk}
 use Rattle.std.proofs.lemmas.Result.{err_from_is_err_and, IfErr-weaker}
 use Rattle.capnp_arena_traits.specs.Limits.{IsSmall}
 use Rattle.capnp_layout.specs.Messages.{segments_in}
-use Rattle.capnp_layout.proofs.tool.size.size_of.Goals as goal
+use Rattle.capnp_layout.proofs.tool.size.measure_message.Goals as goal
 
-pub returns-in_err-check_limits-clause-refused : goal.returns-in_err-check_limits-clause-refused
-returns-in_err-check_limits-clause-refused c =
+pub returns-in_err-ensure_small-clause-refused : goal.returns-in_err-ensure_small-clause-refused
+returns-in_err-ensure_small-clause-refused c =
     let p = err_from_is_err_and c.from_residual.result c.from_residual.ensures.1 in
-    rw (p.1, p.2) (inl (c.in_err-check_limits.ensures.named, λ small. (let within : IsOk c.check_limits.result = c.check_limits.ensures.small.1 small in absurd (search rules))))
+    rw (p.1, p.2) (inl (c.in_err-ensure_small.ensures.named, λ small. (let within : IsOk c.ensure_small.result = c.ensure_small.ensures.small.1 small in absurd (search rules))))
 
 pub returns-clause-refused : goal.returns-clause-refused
 returns-clause-refused c = IfErr-weaker c.size.result _ _ (λ k. inr) (rw (c.new-arena.ensures.words, c.new-arena.ensures.nesting) at c.size.ensures.refused)

@@ -1,6 +1,6 @@
 use Rattle.std.proofs.Common.{◌≡◌, ◌-◌, ◌^◌, vec_len, false}
 use Rattle.std.specs.Io.KnownBytes.{Consumes}
-use Rattle.capnp_layout.proofs.tool.reading.read_text.Given as goal
+use Rattle.capnp_layout.proofs.tool.reading.read_to_end.Given as goal
 
 abbrev pub invariant-loop-text : goal.invariant-loop-text
 invariant-loop-text g l = record {

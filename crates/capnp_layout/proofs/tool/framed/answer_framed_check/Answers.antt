@@ -1,6 +1,6 @@
 use Rattle.std.proofs.Common.{inr, refl, rules, IsOk}
 use Rattle.capnp_layout.proofs.RunLemmas.{refused_run}
-use Rattle.capnp_layout.proofs.tool.framed.framed_check.Goals as goal
+use Rattle.capnp_layout.proofs.tool.framed.answer_framed_check.Goals as goal
 
 pub returns : goal.returns
 returns g c =

@@ -1,10 +1,10 @@
 use Rattle.std.proofs.Common.{inr, refl, rules, IsOk}
 use Rattle.capnp_layout.specs.declared.tool.refusal.Refusal.TheVariants.{Layout}
 use Rattle.capnp_layout.proofs.RunLemmas.{refused_run}
-use Rattle.capnp_layout.proofs.tool.engine.size.Goals as goal
+use Rattle.capnp_layout.proofs.tool.engine.answer_size.Goals as goal
 
 pub returns-in-Err : goal.returns-in-Err
 returns-in-Err g c =
     refused_run _ _ _ (Layout c.in-Err.kind) c.answer_refusal.ensures.either c.answer_refusal.ensures.written c.answer_refusal.ensures.works c.answer_refusal.ensures.failed
     (inr ((c.in-Err.kind, refl, c.in-Err.ensures.refused), refl))
-    (λ small has. (let answered : IsOk c.size_of.result = c.size_of.ensures.exactly.1 (small, has) in absurd (search rules)))
+    (λ small has. (let answered : IsOk c.measure_message.result = c.measure_message.ensures.exactly.1 (small, has) in absurd (search rules)))

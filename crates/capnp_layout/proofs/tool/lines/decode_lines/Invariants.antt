@@ -1,7 +1,7 @@
 use Rattle.std.proofs.Common.{◌≡◌, length, map, vec_items}
 use Rattle.capnp_layout.specs.Lines.{segments_of}
 use Rattle.capnp_layout.proofs.LineLemmas.{in_front}
-use Rattle.capnp_layout.proofs.tool.lines.read_lines.Given as goal
+use Rattle.capnp_layout.proofs.tool.lines.decode_lines.Given as goal
 
 abbrev pub invariant-loop-rest : goal.invariant-loop-rest
 invariant-loop-rest g l = record {

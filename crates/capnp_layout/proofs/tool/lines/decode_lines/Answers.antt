@@ -1,7 +1,7 @@
 use Rattle.std.proofs.Common.{rules, ◌≡◌, IsNone, vec_items, length, ◌∙◌}
 use Rattle.std.proofs.lemmas.Result.{err_from_is_err_and}
 use Rattle.capnp_layout.proofs.LineLemmas.{kept_line, all_lines, bad_line}
-use Rattle.capnp_layout.proofs.tool.lines.read_lines.Goals as goal
+use Rattle.capnp_layout.proofs.tool.lines.decode_lines.Goals as goal
 
 pub loop-rest-preserved : goal.loop-rest-preserved
 loop-rest-preserved g c =

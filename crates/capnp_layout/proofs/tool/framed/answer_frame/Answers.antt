@@ -1,7 +1,7 @@
 use Rattle.std.proofs.Common.{inr, refl}
 use Rattle.capnp_layout.proofs.FrameCommands.{count_not_refused}
 use Rattle.capnp_layout.proofs.RunLemmas.{refused_run}
-use Rattle.capnp_layout.proofs.tool.framed.frame.Goals as goal
+use Rattle.capnp_layout.proofs.tool.framed.answer_frame.Goals as goal
 
 pub returns : goal.returns
 returns g c =

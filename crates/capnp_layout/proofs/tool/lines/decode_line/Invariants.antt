@@ -1,5 +1,5 @@
 use Rattle.std.proofs.Common.{◌≡◌, length}
-use Rattle.capnp_layout.proofs.tool.lines.read_line.Given as goal
+use Rattle.capnp_layout.proofs.tool.lines.decode_line.Given as goal
 
 abbrev pub invariant-loop : goal.invariant-loop
 invariant-loop g l = record {

@@ -1,7 +1,7 @@
 use Rattle.std.proofs.Common.{inr, refl, rules, IsOk}
 use Rattle.capnp_layout.specs.declared.tool.refusal.Refusal.TheVariants.{Layout}
 use Rattle.capnp_layout.proofs.RunLemmas.{refused_run}
-use Rattle.capnp_layout.proofs.tool.engine.check.Goals as goal
+use Rattle.capnp_layout.proofs.tool.engine.answer_check.Goals as goal
 
 pub returns-in-Err : goal.returns-in-Err
 returns-in-Err g c =

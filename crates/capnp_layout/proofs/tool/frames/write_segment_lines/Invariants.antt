@@ -2,7 +2,7 @@ use Rattle.std.proofs.Common.{◌≡◌, drop, false}
 use Rattle.capnp_format.specs.Bytes.{message}
 use Rattle.capnp_framing.proofs.WritingLemmas.{IsLeftOver}
 use Rattle.capnp_layout.specs.Commands.{segment_lines}
-use Rattle.capnp_layout.proofs.tool.frames.write_segments.Given as goal
+use Rattle.capnp_layout.proofs.tool.frames.write_segment_lines.Given as goal
 
 abbrev pub invariant-loop-i : goal.invariant-loop-i
 invariant-loop-i g l = record {

@@ -2,7 +2,7 @@ use Rattle.std.proofs.Common.{◌≡◌, drop, false}
 use Rattle.capnp_format.specs.Bytes.{words_of}
 use Rattle.capnp_framing.proofs.WritingLemmas.{IsLeftOver}
 use Rattle.capnp_layout.specs.Answers.{digits_of}
-use Rattle.capnp_layout.proofs.tool.writing.write_digits.Given as goal
+use Rattle.capnp_layout.proofs.tool.writing.write_hex_digits.Given as goal
 
 abbrev pub invariant-loop-at : goal.invariant-loop-at
 invariant-loop-at g l = record {
