@@ -156,45 +156,45 @@ parsed_reads_flat line = verb_reads_flat line.subcommand line.flat line.from_fla
 -- An option of the line that its command doesn't have. Only `canon` has options for what it writes,
 -- and only `digest` one for its lists, which `--quiet` needs there; `check`, `validate` and `diff`
 -- take no path; `--flat` is for all of them.
-abbrev pub subcommand_exclusion : Option Subcommand → ParsedArguments → Option ArgumentFault
-subcommand_exclusion None line = None
-subcommand_exclusion (Some ToCanon) line =
+abbrev pub unsupported_option_fault : Option Subcommand → ParsedArguments → Option ArgumentFault
+unsupported_option_fault None line = None
+unsupported_option_fault (Some ToCanon) line =
     if line.quiet then Some (NotOfCommand ToCanon Quiet) else
     if line.lists then Some (NotOfCommand ToCanon CheckName) else None
-subcommand_exclusion (Some ToCheck) line =
+unsupported_option_fault (Some ToCheck) line =
     if line.pack then Some (NotOfCommand ToCheck Pack) else
     if line.hex then Some (NotOfCommand ToCheck Hex) else
     if line.lists then Some (NotOfCommand ToCheck CheckName) else
     if not (is_whole_path line.path) then Some (NotOfCommand ToCheck At) else None
-subcommand_exclusion (Some ToSize) line =
+unsupported_option_fault (Some ToSize) line =
     if line.pack then Some (NotOfCommand ToSize Pack) else
     if line.hex then Some (NotOfCommand ToSize Hex) else
     if line.quiet then Some (NotOfCommand ToSize Quiet) else
     if line.lists then Some (NotOfCommand ToSize CheckName) else None
-subcommand_exclusion (Some ToDigest) line =
+unsupported_option_fault (Some ToDigest) line =
     if line.pack then Some (NotOfCommand ToDigest Pack) else
     if line.hex then Some (NotOfCommand ToDigest Hex) else None
-subcommand_exclusion (Some ToValidate) line =
+unsupported_option_fault (Some ToValidate) line =
     if line.pack then Some (NotOfCommand ToValidate Pack) else
     if line.hex then Some (NotOfCommand ToValidate Hex) else
     if line.lists then Some (NotOfCommand ToValidate CheckName) else
     if not (is_whole_path line.path) then Some (NotOfCommand ToValidate At) else None
-subcommand_exclusion (Some ToShow) line =
+unsupported_option_fault (Some ToShow) line =
     if line.pack then Some (NotOfCommand ToShow Pack) else
     if line.hex then Some (NotOfCommand ToShow Hex) else
     if line.quiet then Some (NotOfCommand ToShow Quiet) else
     if line.lists then Some (NotOfCommand ToShow CheckName) else None
-subcommand_exclusion (Some ToDiff) line =
+unsupported_option_fault (Some ToDiff) line =
     if line.pack then Some (NotOfCommand ToDiff Pack) else
     if line.hex then Some (NotOfCommand ToDiff Hex) else
     if line.lists then Some (NotOfCommand ToDiff CheckName) else
     if not (is_whole_path line.path) then Some (NotOfCommand ToDiff At) else None
 
 -- An option of the line that only `show` has, if it has another command.
-abbrev pub show_exclusion : Option Subcommand → ParsedArguments → Option ArgumentFault
-show_exclusion None line = None
-show_exclusion (Some ToShow) line = None
-show_exclusion (Some subcommand) line =
+abbrev pub show_option_fault : Option Subcommand → ParsedArguments → Option ArgumentFault
+show_option_fault None line = None
+show_option_fault (Some ToShow) line = None
+show_option_fault (Some subcommand) line =
     if line.json then Some (NotOfCommand subcommand Json) else
     if line.values then Some (NotOfCommand subcommand Values) else
     if is_some line.depth then Some (NotOfCommand subcommand Depth) else
@@ -203,8 +203,8 @@ show_exclusion (Some subcommand) line =
 
 -- Two options of the line that exclude each other: hex digits are written neither as raw words nor
 -- packed, JSON has no colors, and raw words aren't unpacked.
-abbrev pub form_exclusion : ParsedArguments → Option ArgumentFault
-form_exclusion line =
+abbrev pub conflicting_options_fault : ParsedArguments → Option ArgumentFault
+conflicting_options_fault line =
     if line.hex && line.flat then Some (Excluded Hex FlatName) else
     if line.hex && line.pack then Some (Excluded Hex Pack) else
     if line.json && line.colors then Some (Excluded Json Color) else
@@ -212,10 +212,10 @@ form_exclusion line =
     if line.unpack && parsed_reads_flat line then Some (Excluded Packed FlatName) else None
 
 -- Why the arguments of the line don't go together; `None` if they do.
-abbrev pub exclusion_of : ParsedArguments → Option ArgumentFault
-exclusion_of line =
-    option_or (subcommand_exclusion line.subcommand line)
-    (option_or (show_exclusion line.subcommand line) (form_exclusion line))
+abbrev pub option_fault_of : ParsedArguments → Option ArgumentFault
+option_fault_of line =
+    option_or (unsupported_option_fault line.subcommand line)
+    (option_or (show_option_fault line.subcommand line) (conflicting_options_fault line))
 
 abbrev pub step_unless : Option ArgumentFault → ParsedArguments → Result ArgumentStep ArgumentFault
 step_unless None line = Ok (Goes line)
@@ -223,7 +223,7 @@ step_unless (Some fault) line = Err fault
 
 -- The step to a line, if its arguments go together.
 abbrev pub step_if_allowed : ParsedArguments → Result ArgumentStep ArgumentFault
-step_if_allowed line = step_unless (exclusion_of line) line
+step_if_allowed line = step_unless (option_fault_of line) line
 
 -- The line with the value of an option added, if the text writes one.
 abbrev pub parsed_with_value : ValueOption → List ℕ → ParsedArguments → Option ParsedArguments

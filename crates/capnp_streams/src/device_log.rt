@@ -25,7 +25,7 @@ impl FirstBytes {
     }
 
     /// The number of bytes kept.
-    fn kept(&self) -> usize
+    fn kept_len(&self) -> usize
         ensures { result ≤ 32 }
     {
         self.given.min(KEPT as u64) as usize
@@ -33,7 +33,7 @@ impl FirstBytes {
 
     /// The first bytes, at most 32.
     pub fn first(&self) -> &[u8] {
-        let kept = self.kept();
+        let kept = self.kept_len();
         &self.first[..kept]
     }
 
@@ -44,7 +44,7 @@ impl FirstBytes {
 
     /// Returns the `FirstBytes` after `more` has been read, too.
     fn with_bytes(self, more: &[u8]) -> Self {
-        let kept = self.kept();
+        let kept = self.kept_len();
         let count = more.len().min(KEPT - kept);
         let mut first = self.first;
         first[kept..kept + count].copy_from_slice(&more[..count]);
@@ -83,12 +83,12 @@ impl DeviceLog {
     }
 
     /// Adds bytes that were read to what is known.
-    fn read(&self, bytes: &[u8]) {
+    fn log_read(&self, bytes: &[u8]) {
         self.front.set(self.front.get().with_bytes(bytes));
     }
 
     /// Notes why the device failed.
-    fn failed(&self, error: io::Error) {
+    fn log_fault(&self, error: io::Error) {
         self.fault.set(Some(error));
     }
 }
@@ -116,11 +116,11 @@ impl<D: Read> Read for Logged<'_, D> {
     fn read(&mut self, buf: &mut [u8]) -> io::Result<usize> {
         match self.device.read(buf) {
             Ok(n) => {
-                self.seen.read(&buf[..n]);
+                self.seen.log_read(&buf[..n]);
                 Ok(n)
             }
             Err(error) => {
-                self.seen.failed(error);
+                self.seen.log_fault(error);
                 Err(error)
             }
         }
@@ -134,7 +134,7 @@ impl<D: Write> Write for Logged<'_, D> {
         match self.device.write(buf) {
             Ok(n) => Ok(n),
             Err(error) => {
-                self.seen.failed(error);
+                self.seen.log_fault(error);
                 Err(error)
             }
         }
@@ -144,7 +144,7 @@ impl<D: Write> Write for Logged<'_, D> {
         match self.device.flush() {
             Ok(()) => Ok(()),
             Err(error) => {
-                self.seen.failed(error);
+                self.seen.log_fault(error);
                 Err(error)
             }
         }

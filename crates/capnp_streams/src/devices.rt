@@ -224,14 +224,14 @@ impl<'n, 'w, W: Output> NumberedLines<'n, 'w, W> {
     }
 
     /// Writes the name and the number of the line, and ends the line.
-    fn write_end(&mut self) -> Result<(), DeviceFault>
+    fn write_line_end(&mut self) -> Result<(), DeviceFault>
         ensures failed { self.new.failed ≡ self.old.failed }
     {
         if self.output.failed() {
             return Err(DeviceFault);
         }
         write_all(self.output, b"  ")?;
-        write_place(self.output, self.name, self.number)?;
+        write_name_and_number(self.output, self.name, self.number)?;
         write_all(self.output, b"\n")?;
         self.number = self.number.saturating_add(1);
         self.begins = true;
@@ -248,14 +248,14 @@ impl<'n, 'w, W: Output> NumberedLines<'n, 'w, W> {
         ensures failed { self.new.failed ≡ self.old.failed }
     {
         if from[0] == b'\n' {
-            self.write_end()?;
+            self.write_line_end()?;
             return Ok(1);
         }
         if self.output.failed() {
             return Err(DeviceFault);
         }
         if self.begins {
-            write_mark(self.output, self.name)?;
+            write_escape_mark(self.output, self.name)?;
             self.begins = false;
         }
         self.output.write(&from[..text_end(from)])
@@ -269,7 +269,7 @@ fn is_escaped(byte: u8) -> bool {
 }
 
 /// Writes the backslash with which `sha256sum` begins a line if `name` has a byte that it escapes.
-pub fn write_mark<W: Output>(output: &mut W, name: &str) -> Result<(), DeviceFault>
+pub fn write_escape_mark<W: Output>(output: &mut W, name: &str) -> Result<(), DeviceFault>
     requires { W.has_failed output.old ≡ false }
     ensures { OnOk result (W.has_failed output.new ≡ false) }
 {
@@ -280,7 +280,11 @@ pub fn write_mark<W: Output>(output: &mut W, name: &str) -> Result<(), DeviceFau
 }
 
 /// Writes `name` with the escapes of `sha256sum`, a `:`, and `number`.
-pub fn write_place<W: Output>(output: &mut W, name: &str, number: u64) -> Result<(), DeviceFault>
+pub fn write_name_and_number<W: Output>(
+    output: &mut W,
+    name: &str,
+    number: u64,
+) -> Result<(), DeviceFault>
     requires { W.has_failed output.old ≡ false }
     ensures { OnOk result (W.has_failed output.new ≡ false) }
 {

@@ -53,8 +53,8 @@ impl Guess {
 /// with `fault`. Returns `None` if `fault` says nothing about the input, or if the input looks like
 /// what it is read as, or like nothing known. `first` has the first bytes of the input; the input
 /// has at least `given` bytes.
-pub fn guess_of(form: InputForm, fault: StreamError, first: &[u8], given: u64) -> Option<Guess> {
-    if is_device_fault(fault) {
+pub fn guess_input(form: InputForm, fault: StreamError, first: &[u8], given: u64) -> Option<Guess> {
+    if says_nothing_about_input(fault) {
         return None;
     }
     let known = guess_by_signature(first);
@@ -73,7 +73,7 @@ pub fn guess_of(form: InputForm, fault: StreamError, first: &[u8], given: u64) -
 
 /// Whether `fault` says nothing about the input: memory ran out, a device failed, or there are too
 /// many messages.
-fn is_device_fault(fault: StreamError) -> bool {
+fn says_nothing_about_input(fault: StreamError) -> bool {
     match fault {
         StreamError::Frame(error) => matches!(
             error,
@@ -93,13 +93,13 @@ fn guess_by_signature(first: &[u8]) -> Option<Guess> {
         [b'B', b'Z', b'h', ..] => Some(Guess::Bzip2),
         [0xfd, b'7', b'z', b'X', ..] => Some(Guess::Xz),
         [b'P', b'K', 3, 4, ..] => Some(Guess::Zip),
-        [_, _, _, _, ..] if first.iter().all(|byte| is_text(*byte)) => Some(Guess::Text),
+        [_, _, _, _, ..] if first.iter().all(|byte| is_text_byte(*byte)) => Some(Guess::Text),
         _ => None,
     }
 }
 
 /// Whether the byte is a printable ASCII character, a tab, a carriage return or a line feed.
-fn is_text(byte: u8) -> bool {
+fn is_text_byte(byte: u8) -> bool {
     matches!(byte, b'\t' | b'\n' | b'\r' | b' '..=b'~')
 }
 
@@ -113,7 +113,7 @@ fn guess_instead_of_frames(first: &[u8], given: u64) -> Option<Guess> {
     if begins_with_packed_frame(first) {
         return Some(Guess::PackedFrames);
     }
-    if leads_within(word(first, 0)?, given / 8) {
+    if leads_within(checked_word_at(first, 0)?, given / 8) {
         return Some(Guess::RawWords);
     }
     None
@@ -217,7 +217,7 @@ fn may_begin_frame(bytes: &[u8]) -> bool {
 fn read_frame_table(bytes: &[u8]) -> Option<(u64, u64)>
     ensures { IfSome result (λ table. table.0 < 2 ^ 33) }
 {
-    let numbers = word(bytes, 0)?;
+    let numbers = checked_word_at(bytes, 0)?;
     Some(((numbers & 0xffff_ffff) + 1, numbers >> 32))
 }
 
@@ -226,11 +226,11 @@ fn read_frame_table(bytes: &[u8]) -> Option<(u64, u64)>
 fn root_word(bytes: &[u8], segments: u64) -> Option<u64>
     requires { segments < 2 ^ 33 }
 {
-    word(bytes, segments / 2 + 1)
+    checked_word_at(bytes, segments / 2 + 1)
 }
 
 /// Returns word `at` of `bytes`; `None` if `bytes` don't have this whole word.
-fn word(bytes: &[u8], at: u64) -> Option<u64> {
+fn checked_word_at(bytes: &[u8], at: u64) -> Option<u64> {
     if at < bytes.len() as u64 / 8 {
         Some(word_at(bytes, at as usize))
     } else {

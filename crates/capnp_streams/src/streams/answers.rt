@@ -8,7 +8,7 @@ ghost use Rattle.capnp_streams.specs.Streams.{Answers, CountsRefusals, question_
 use super::parts::{canonicalize_for_task, check, digest_for_task, size_for_task, validate};
 use super::stream_error::StreamError;
 use super::task::Task;
-use super::writing::{write_canonical, write_canonical_words, write_fault, write_hex_line};
+use super::writing::{write_canonical_line, write_canonical_words, write_fault, write_hex_line};
 use capnp_arena::arena::{Allocator, ReaderArena, ReaderArenaImpl, ReaderSegments};
 use capnp_framing::devices::{DeviceFault, Output};
 use capnp_framing::framing::FrameError;
@@ -81,7 +81,7 @@ fn result_if_written(written: Result<(), DeviceFault>, holds: bool) -> Result<bo
 /// Makes the canonical copy that `task` asks for of the message in `source`, writes the copy, and
 /// notes in `memory` whether the message was canonical already. Returns `true` if the copy is
 /// written.
-fn canon_copy<A: Allocator, S: ReaderSegments, W: Output>(
+fn write_canonical_copy<A: Allocator, S: ReaderSegments, W: Output>(
     memory: &mut Memory<A>,
     form: Form,
     task: Task,
@@ -117,7 +117,7 @@ fn canon_copy<A: Allocator, S: ReaderSegments, W: Output>(
 /// Writes the canonical words of the message, or of its part. If the whole message is asked for,
 /// these are the words of its own segment if the message is canonical already and the previous one
 /// was, too; otherwise makes a canonical copy. Returns `true` if the words are written.
-fn canon<A: Allocator, S: ReaderSegments + Drop, W: Output>(
+fn answer_canon<A: Allocator, S: ReaderSegments + Drop, W: Output>(
     memory: &mut Memory<A>,
     form: Form,
     task: Task,
@@ -138,12 +138,12 @@ fn canon<A: Allocator, S: ReaderSegments + Drop, W: Output>(
             return result_if_written(write_canonical_words(output, words, task.hex, form), true);
         }
     }
-    canon_copy(memory, form, task, &source, output)
+    write_canonical_copy(memory, form, task, &source, output)
 }
 
 /// Writes the SHA-256 of the canonical words of the message, or of its part, as a line of hex
 /// digits. Returns `true` if the line is written.
-fn digest<A: Allocator, S: ReaderSegments + Drop, W: Output>(
+fn answer_digest<A: Allocator, S: ReaderSegments + Drop, W: Output>(
     memory: &mut Memory<A>,
     task: Task,
     segments: S,
@@ -185,9 +185,9 @@ pub(super) fn answer<A: Allocator, S: ReaderSegments + Drop, W: Output>(
         task.command result }
 {
     match task.command {
-        Command::Canon(form) => canon(memory, form, task, segments, output),
+        Command::Canon(form) => answer_canon(memory, form, task, segments, output),
         Command::Check => match check(segments, task.limits) {
-            Ok(None) => result_if_written(write_canonical(output), true),
+            Ok(None) => result_if_written(write_canonical_line(output), true),
             Ok(Some(fault)) => result_if_written(write_fault(output, fault), false),
             Err(kind) => Err(StreamError::Layout(kind, None)),
         },
@@ -195,7 +195,7 @@ pub(super) fn answer<A: Allocator, S: ReaderSegments + Drop, W: Output>(
             Ok(size) => result_if_written(write_size(output, size), true),
             Err(kind) => Err(StreamError::Layout(kind, None)),
         },
-        Command::Digest => digest(memory, task, segments, output),
+        Command::Digest => answer_digest(memory, task, segments, output),
         Command::Validate => match validate(segments, task.limits) {
             Ok(extent) => result_if_written(write_extent(output, extent.value), true),
             Err(kind) => Err(StreamError::Layout(kind, None)),

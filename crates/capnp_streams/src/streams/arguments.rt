@@ -1,6 +1,6 @@
 //! Parses the arguments, one by one.
 ghost use Rattle.std.specs.Prelude.{◌≡◌};
-ghost use Rattle.capnp_streams.specs.Arguments.{assigned_step, budget_of, command_step, end_of, exclusion_of, form_exclusion, lacks_check, parsed_diff, parsed_form, parsed_reads_flat, parsed_request, parsed_show, parsed_with_value, named_step, nesting_of, operand_step, option_named, option_step, parted_step, no_arguments, show_exclusion, step_if_allowed, argument_step, step_or, parsed_task, subcommand_exclusion};
+ghost use Rattle.capnp_streams.specs.Arguments.{assigned_step, budget_of, command_step, end_of, option_fault_of, conflicting_options_fault, lacks_check, parsed_diff, parsed_form, parsed_reads_flat, parsed_request, parsed_show, parsed_with_value, named_step, nesting_of, operand_step, option_named, option_step, parted_step, no_arguments, show_option_fault, step_if_allowed, argument_step, step_or, parsed_task, unsupported_option_fault};
 
 use super::options::{
     OptionName, Subcommand, ValueOption, looks_like_option, option_of, split_at_equals,
@@ -119,8 +119,8 @@ impl ParsedArguments {
 
     /// Returns the fault if the line's command doesn't have one of the line's options. Returns
     /// `None` if the command has all of them, or if there is no command yet.
-    fn subcommand_exclusion(&self) -> Option<ArgumentFault>
-        ensures { result ≡ subcommand_exclusion self.now.subcommand self.now }
+    fn unsupported_option_fault(&self) -> Option<ArgumentFault>
+        ensures { result ≡ unsupported_option_fault self.now.subcommand self.now }
     {
         let (subcommand, option) = match self.subcommand {
             None => return None,
@@ -164,8 +164,8 @@ impl ParsedArguments {
 
     /// Returns the fault if the line has an option of `show`, and another command. Returns `None`
     /// if it has no such option, or no command yet.
-    fn show_exclusion(&self) -> Option<ArgumentFault>
-        ensures { result ≡ show_exclusion self.now.subcommand self.now }
+    fn show_option_fault(&self) -> Option<ArgumentFault>
+        ensures { result ≡ show_option_fault self.now.subcommand self.now }
     {
         match self.subcommand {
             None | Some(Subcommand::Show) => None,
@@ -193,8 +193,8 @@ impl ParsedArguments {
     /// Returns the fault if two of the line's options can't be used together; otherwise `None`. Hex
     /// digits are written neither as raw words nor packed, JSON has no colors, and raw words are
     /// never read packed.
-    fn form_exclusion(&self) -> Option<ArgumentFault>
-        ensures { result ≡ form_exclusion self.now }
+    fn conflicting_options_fault(&self) -> Option<ArgumentFault>
+        ensures { result ≡ conflicting_options_fault self.now }
     {
         if self.hex && self.flat {
             Some(ArgumentFault::Excluded(OptionName::Hex, OptionName::Flat))
@@ -212,24 +212,24 @@ impl ParsedArguments {
     }
 
     /// Returns why the command and options of the line can't be used together; `None` if they can.
-    fn exclusion(&self) -> Option<ArgumentFault>
-        ensures { result ≡ exclusion_of self.now }
+    fn option_fault(&self) -> Option<ArgumentFault>
+        ensures { result ≡ option_fault_of self.now }
     {
-        match self.subcommand_exclusion() {
+        match self.unsupported_option_fault() {
             Some(fault) => Some(fault),
-            None => match self.show_exclusion() {
+            None => match self.show_option_fault() {
                 Some(fault) => Some(fault),
-                None => self.form_exclusion(),
+                None => self.conflicting_options_fault(),
             },
         }
     }
 
     /// Returns the step that replaces the line before by this one; an error if the command and
     /// options of this line can't be used together.
-    fn check_exclusions(self) -> Result<ArgumentStep, ArgumentFault>
+    fn into_checked_step(self) -> Result<ArgumentStep, ArgumentFault>
         ensures { result ≡ step_if_allowed self }
     {
-        match self.exclusion() {
+        match self.option_fault() {
             Some(fault) => Err(fault),
             None => Ok(ArgumentStep::Goes(self)),
         }
@@ -252,36 +252,36 @@ impl ParsedArguments {
                 unpack: true,
                 ..self
             }
-            .check_exclusions(),
-            OptionName::Pack => ParsedArguments { pack: true, ..self }.check_exclusions(),
-            OptionName::Flat => ParsedArguments { flat: true, ..self }.check_exclusions(),
+            .into_checked_step(),
+            OptionName::Pack => ParsedArguments { pack: true, ..self }.into_checked_step(),
+            OptionName::Flat => ParsedArguments { flat: true, ..self }.into_checked_step(),
             OptionName::FromFlat => ParsedArguments {
                 from_flat: true,
                 ..self
             }
-            .check_exclusions(),
-            OptionName::Hex => ParsedArguments { hex: true, ..self }.check_exclusions(),
+            .into_checked_step(),
+            OptionName::Hex => ParsedArguments { hex: true, ..self }.into_checked_step(),
             OptionName::Quiet => ParsedArguments {
                 quiet: true,
                 ..self
             }
-            .check_exclusions(),
+            .into_checked_step(),
             OptionName::Check | OptionName::CheckLetter => ParsedArguments {
                 lists: true,
                 ..self
             }
-            .check_exclusions(),
-            OptionName::Json => ParsedArguments { json: true, ..self }.check_exclusions(),
+            .into_checked_step(),
+            OptionName::Json => ParsedArguments { json: true, ..self }.into_checked_step(),
             OptionName::Values => ParsedArguments {
                 values: true,
                 ..self
             }
-            .check_exclusions(),
+            .into_checked_step(),
             OptionName::Color => ParsedArguments {
                 colors: true,
                 ..self
             }
-            .check_exclusions(),
+            .into_checked_step(),
             OptionName::Depth => Ok(ArgumentStep::Goes(ParsedArguments {
                 expects: Some(ValueOption::Depth),
                 ..self
@@ -307,11 +307,11 @@ impl ParsedArguments {
 
     /// Returns the line with `text` as the value of `value_option`; `None` if `text` isn't a valid
     /// value of `value_option`.
-    fn parse_value(self, value_option: ValueOption, text: &str) -> Option<Self>
+    fn with_parsed_value(self, value_option: ValueOption, text: &str) -> Option<Self>
         ensures { result ≡ parsed_with_value value_option text.now self }
     {
         match value_option {
-            ValueOption::Nesting => match parse_levels(text) {
+            ValueOption::Nesting => match parse_i32(text) {
                 Some(nesting_limit) => Some(ParsedArguments {
                     limits: ReaderOptions {
                         nesting_limit,
@@ -341,7 +341,7 @@ impl ParsedArguments {
                 }),
                 None => None,
             },
-            ValueOption::Depth => match parse_levels(text) {
+            ValueOption::Depth => match parse_i32(text) {
                 Some(depth) => Some(ParsedArguments {
                     depth: Some(depth),
                     expects: None,
@@ -363,7 +363,7 @@ impl ParsedArguments {
     /// Returns what `text`, as the value of `value_option`, does to the line; the error `fault` if
     /// `text` isn't a valid value of `value_option`; an error if the command doesn't have
     /// `value_option`.
-    fn parse_value_or(
+    fn apply_value(
         self,
         value_option: ValueOption,
         text: &str,
@@ -371,8 +371,8 @@ impl ParsedArguments {
     ) -> Result<ArgumentStep, ArgumentFault>
         ensures { result ≡ step_or fault (parsed_with_value value_option text.now self) }
     {
-        match self.parse_value(value_option, text) {
-            Some(line) => line.check_exclusions(),
+        match self.with_parsed_value(value_option, text) {
+            Some(line) => line.into_checked_step(),
             None => Err(fault),
         }
     }
@@ -390,7 +390,7 @@ impl ParsedArguments {
             None => Err(ArgumentFault::UnknownOption),
             Some(OptionName::Nesting) => {
                 let value_option = ValueOption::Nesting;
-                self.parse_value_or(
+                self.apply_value(
                     value_option,
                     value,
                     ArgumentFault::InvalidAssignment(value_option),
@@ -398,7 +398,7 @@ impl ParsedArguments {
             }
             Some(OptionName::Words) => {
                 let value_option = ValueOption::Words;
-                self.parse_value_or(
+                self.apply_value(
                     value_option,
                     value,
                     ArgumentFault::InvalidAssignment(value_option),
@@ -406,7 +406,7 @@ impl ParsedArguments {
             }
             Some(OptionName::At) => {
                 let value_option = ValueOption::At;
-                self.parse_value_or(
+                self.apply_value(
                     value_option,
                     value,
                     ArgumentFault::InvalidAssignment(value_option),
@@ -414,7 +414,7 @@ impl ParsedArguments {
             }
             Some(OptionName::Depth) => {
                 let value_option = ValueOption::Depth;
-                self.parse_value_or(
+                self.apply_value(
                     value_option,
                     value,
                     ArgumentFault::InvalidAssignment(value_option),
@@ -422,7 +422,7 @@ impl ParsedArguments {
             }
             Some(OptionName::Bytes) => {
                 let value_option = ValueOption::Bytes;
-                self.parse_value_or(
+                self.apply_value(
                     value_option,
                     value,
                     ArgumentFault::InvalidAssignment(value_option),
@@ -477,7 +477,7 @@ impl ParsedArguments {
                 subcommand: Some(subcommand),
                 ..self
             }
-            .check_exclusions(),
+            .into_checked_step(),
             None => Err(ArgumentFault::UnknownCommand),
         }
     }
@@ -489,7 +489,7 @@ impl ParsedArguments {
     {
         match self.expects {
             Some(value_option) => {
-                self.parse_value_or(
+                self.apply_value(
                     value_option,
                     text,
                     ArgumentFault::InvalidValue(value_option),
@@ -605,7 +605,7 @@ impl ParsedArguments {
 }
 
 /// Returns the nesting limit that `text` states; `None` if `text` doesn't state one.
-fn parse_levels(text: &str) -> Option<i32>
+fn parse_i32(text: &str) -> Option<i32>
     ensures { result ≡ nesting_of text.now }
 {
     parse_nesting_limit(text)

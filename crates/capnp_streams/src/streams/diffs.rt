@@ -79,7 +79,7 @@ impl Reading {
     }
 
     /// The fault if the message is refused.
-    fn refused(&self, fault: StreamError) -> DiffFault {
+    fn refusal_for(&self, fault: StreamError) -> DiffFault {
         DiffFault::Refused(
             self.side,
             Stop {
@@ -92,7 +92,11 @@ impl Reading {
 
     /// Reads the next message, and tests whether it is sound. Returns `false` at the end of the
     /// input.
-    fn read<R: Input>(&mut self, limits: ReaderOptions, input: &mut R) -> Result<bool, DiffFault>
+    fn read_next<R: Input>(
+        &mut self,
+        limits: ReaderOptions,
+        input: &mut R,
+    ) -> Result<bool, DiffFault>
         requires { R.has_failed input.old ≡ false }
         ensures sound { result ≡ Ok true → IsReadable
             (message (⟦<OwnedSegments as ReaderSegments>⟧.segments self.new.segments)) limits }
@@ -103,10 +107,10 @@ impl Reading {
         match read_into(input, most_words(limits), &mut self.segments) {
             Ok(true) => match validation_fault(&self.segments, limits) {
                 None => Ok(true),
-                Some(fault) => Err(self.refused(fault)),
+                Some(fault) => Err(self.refusal_for(fault)),
             },
             Ok(false) => Ok(false),
-            Err(error) => Err(self.refused(StreamError::Frame(error))),
+            Err(error) => Err(self.refusal_for(StreamError::Frame(error))),
         }
     }
 
@@ -121,14 +125,14 @@ impl Reading {
         match read_segment_into(input, most_words(limits), &mut self.segments) {
             Ok(()) => match validation_fault(&self.segments, limits) {
                 None => Ok(()),
-                Some(fault) => Err(self.refused(fault)),
+                Some(fault) => Err(self.refusal_for(fault)),
             },
-            Err(error) => Err(self.refused(StreamError::Frame(error))),
+            Err(error) => Err(self.refusal_for(StreamError::Frame(error))),
         }
     }
 
     /// Notes that the message was compared.
-    fn pass(&mut self) {
+    fn count_message(&mut self) {
         self.answered = self.answered.saturating_add(1);
         self.byte = self
             .byte
@@ -182,17 +186,25 @@ fn compare<W: Output>(
 }
 
 /// Writes that only one input has message `number`.
-fn write_longer<W: Output>(output: &mut W, number: u64, side: Side) -> Result<(), DiffFault>
+fn write_unmatched_message<W: Output>(
+    output: &mut W,
+    number: u64,
+    side: Side,
+) -> Result<(), DiffFault>
     requires { W.has_failed output.old ≡ false }
     ensures { OnOk result (W.has_failed output.new ≡ false) }
 {
-    match push_longer(output, number, side) {
+    match write_unmatched_line(output, number, side) {
         Ok(()) => Ok(()),
         Err(DeviceFault) => Err(DiffFault::WriteFailed),
     }
 }
 
-fn push_longer<W: Output>(output: &mut W, number: u64, side: Side) -> Result<(), DeviceFault>
+fn write_unmatched_line<W: Output>(
+    output: &mut W,
+    number: u64,
+    side: Side,
+) -> Result<(), DeviceFault>
     requires { W.has_failed output.old ≡ false }
     ensures { OnOk result (W.has_failed output.new ≡ false) }
 {
@@ -244,15 +256,15 @@ pub fn run_diff<L: BufferedInput, R: BufferedInput, W: BufferedOutput>(
             return Err(DiffFault::WriteFailed);
         }
         let longer = match (
-            first.read(task.limits, left)?,
-            second.read(task.limits, right)?,
+            first.read_next(task.limits, left)?,
+            second.read_next(task.limits, right)?,
         ) {
             (true, true) => {
                 if !compare(alloc, task.limits, &first, &second, output)? {
                     is_same = false;
                 }
-                first.pass();
-                second.pass();
+                first.count_message();
+                second.count_message();
                 continue;
             }
             (false, false) => None,
@@ -260,7 +272,7 @@ pub fn run_diff<L: BufferedInput, R: BufferedInput, W: BufferedOutput>(
             (false, true) => Some(Side::Right),
         };
         if let Some(side) = longer {
-            write_longer(output, number, side)?;
+            write_unmatched_message(output, number, side)?;
         }
         return Ok(Compared {
             is_same: is_same && longer.is_none(),

@@ -6,7 +6,7 @@ ghost use Rattle.capnp_framing.specs.declared.framing.frame_error.FrameError.The
 ghost use Rattle.capnp_streams.specs.Packed.{IsCutAfter, unpacked_stage};
 ghost use Rattle.capnp_streams.specs.Streams.{AreDone, AreWorking, CanBeAnswered, EndsAfter, IsOfDevices, IsWriteFault, Stage, WereAnswered, refusals_behind, stage_of};
 
-use super::runs::{Stop, Summary, run_with};
+use super::runs::{Stop, Summary, run_with, stop_after};
 use super::stream_error::StreamError;
 use super::task::Task;
 use capnp_arena::arena::Allocator;
@@ -91,17 +91,4 @@ pub fn run_packed<R: Input + Drop, W: BufferedOutput>(
 {
     let (answered, _) = run_packed_with(alloc, CopyMemory::new(alloc), task, packed, output);
     answered
-}
-
-/// Returns the `Stop` whose fault is `error`, after the messages that `summary` counts.
-fn stop_after(summary: Summary, error: FrameError) -> Stop
-    ensures answered { result.answered ≡ summary.messages }
-    ensures byte { result.byte ≡ summary.bytes }
-    ensures fault { result.fault ≡ StreamError.Frame error }
-{
-    Stop {
-        answered: summary.messages,
-        byte: summary.bytes,
-        fault: StreamError::Frame(error),
-    }
 }

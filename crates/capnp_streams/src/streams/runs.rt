@@ -48,6 +48,19 @@ struct Answered {
     bytes: u64,
 }
 
+/// Returns the `Stop` whose fault is `error`, after the messages that `summary` counts.
+pub(super) fn stop_after(summary: Summary, error: FrameError) -> Stop
+    ensures answered { result.answered ≡ summary.messages }
+    ensures byte { result.byte ≡ summary.bytes }
+    ensures fault { result.fault ≡ StreamError.Frame error }
+{
+    Stop {
+        answered: summary.messages,
+        byte: summary.bytes,
+        fault: StreamError::Frame(error),
+    }
+}
+
 /// Reads the next message and answers it. Returns `None` at the end of the input.
 ///
 /// Precondition: the whole frame of the message is in the input's buffer, or the output has flushed

@@ -4,7 +4,7 @@ ghost use Rattle.capnp_arena_traits.specs.Limits.{IsSmall};
 ghost use Rattle.capnp_show.specs.Show.{PrintsAtMost};
 ghost use Rattle.capnp_streams.specs.Streams.{AreWorking};
 
-use super::runs::{Stop, Summary};
+use super::runs::{Stop, Summary, stop_after};
 use super::stream_error::StreamError;
 use super::task::ShowTask;
 use capnp_arena::arena::ReaderSegments;
@@ -137,11 +137,7 @@ pub fn run_show_packed<R: Input + Drop, W: BufferedOutput>(
         Ok(false) => FrameError::Truncated,
         Err(DeviceFault) => FrameError::ReadFailed,
     };
-    Err(Stop {
-        answered: summary.messages,
-        byte: summary.bytes,
-        fault: StreamError::Frame(error),
-    })
+    Err(stop_after(summary, error))
 }
 
 /// Shows the one message that the input holds as raw words, without a frame, like `run_flat` reads

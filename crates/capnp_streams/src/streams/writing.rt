@@ -19,7 +19,7 @@ const PIECE: usize = 512;
 const DIGITS: usize = 2 * PIECE;
 
 /// Writes the line for a canonical message.
-pub(super) fn write_canonical<W: Output>(output: &mut W) -> Result<(), DeviceFault>
+pub(super) fn write_canonical_line<W: Output>(output: &mut W) -> Result<(), DeviceFault>
     requires { W.has_failed output.old ≡ false }
     ensures { Writes W.Output result output.old output.new (check_line true) }
 {
@@ -37,7 +37,7 @@ fn write_not_canonical<W: Output>(output: &mut W) -> Result<(), DeviceFault>
 
 /// Writes the segment of the fault.
 #[tactic(auto, unfolding(crate::specs::Streams::segment_text))]
-fn write_segment<W: Output>(output: &mut W, segment: u64) -> Result<(), DeviceFault>
+fn write_segment_number<W: Output>(output: &mut W, segment: u64) -> Result<(), DeviceFault>
     requires { W.has_failed output.old ≡ false }
     ensures { Writes W.Output result output.old output.new (segment_text segment) }
 {
@@ -66,12 +66,12 @@ pub(super) fn write_fault<W: Output>(
 {
     write_not_canonical(output)?;
     write_all(output, fault.reason.text().as_bytes())?;
-    write_segment(output, fault.segment)?;
+    write_segment_number(output, fault.segment)?;
     write_word_number(output, u64::from(fault.word))
 }
 
 /// Writes at most 512 bytes as lower case hex digits, two a byte.
-fn write_digits<W: Output>(output: &mut W, bytes: &[u8]) -> Result<(), DeviceFault>
+fn write_hex_digits<W: Output>(output: &mut W, bytes: &[u8]) -> Result<(), DeviceFault>
     requires works { W.has_failed output.old ≡ false }
     requires few { length bytes.now ≤ 512 }
     ensures { Writes W.Output result output.old output.new (encode_lower bytes.now) }
@@ -90,7 +90,7 @@ pub(super) fn write_hex_line<W: Output>(output: &mut W, bytes: &[u8]) -> Result<
     let mut rest = bytes;
     while !rest.is_empty() {
         let n = rest.len().min(PIECE);
-        write_digits(output, &rest[..n])?;
+        write_hex_digits(output, &rest[..n])?;
         rest = &rest[n..];
     }
     write_all(output, b"\n")

@@ -10,7 +10,7 @@ use Rattle.capnp_streams.proofs.streams.answers.answer.Goals as goal
 pub returns-in-Ok-None-clause-answer : goal.returns-in-Ok-None-clause-answer
 returns-in-Ok-None-clause-answer g c =
     let canonical = rw c.in-Ok-None.field-0-is at c.in-Ok-None.ensures.within in
-    rw c.in-Check.is (answer_written _ _ _ _ _ _ (check_line true) c.write_canonical.ensures c.result_if_written.ensures.written c.result_if_written.ensures.failed (canonical, refl))
+    rw c.in-Check.is (answer_written _ _ _ _ _ _ (check_line true) c.write_canonical_line.ensures c.result_if_written.ensures.written c.result_if_written.ensures.failed (canonical, refl))
 
 pub returns-in-Ok-None-clause-memory : goal.returns-in-Ok-None-clause-memory
 returns-in-Ok-None-clause-memory g c = rw c.in-Check.is (memory_counted _ _ _ Check _ c.requires.there refl (written_uncounted Check _ _ _ c.result_if_written.ensures.written c.result_if_written.ensures.failed))

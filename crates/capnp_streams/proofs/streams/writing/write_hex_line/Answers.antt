@@ -14,7 +14,7 @@ loop-rest-init g c = record {
 pub loop-rest-preserved : goal.loop-rest-preserved
 loop-rest-preserved g c = record {
   left_over = left_over_less (encode_lower _)
-      (record { left_over = c.loop-rest.invariant.left_over; appended = c.in_ok-write_digits.ensures.written })
+      (record { left_over = c.loop-rest.invariant.left_over; appended = c.in_ok-write_hex_digits.ensures.written })
       (digits_parted c.min-n.result c.loop-rest.rest.now);
   works = search rules;
 }

@@ -10,7 +10,7 @@ use Rattle.capnp_arena_traits.specs.Allocations.{max_segment_words}
 use Rattle.capnp_streams.proofs.AskedLemmas.{of_whole}
 use Rattle.capnp_streams.proofs.AnsweredLemmas.{answer_written}
 use Rattle.capnp_streams.proofs.CountingLemmas.{memory_counted, written_uncounted}
-use Rattle.capnp_streams.proofs.streams.answers.canon.Goals as goal
+use Rattle.capnp_streams.proofs.streams.answers.answer_canon.Goals as goal
 
 pub returns-in-Some-clause-answer : goal.returns-in-Some-clause-answer
 returns-in-Some-clause-answer g c =
@@ -27,7 +27,7 @@ returns-in-Some-clause-memory g c =
     memory_counted _ _ _ (Canon c.args.form) _ c.requires.there refl (written_uncounted (Canon c.args.form) _ _ _ c.result_if_written.ensures.written c.result_if_written.ensures.failed)
 
 pub returns-clause-answer : goal.returns-clause-answer
-returns-clause-answer g c = rw c.new-source.ensures.words at c.canon_copy.ensures.answer
+returns-clause-answer g c = rw c.new-source.ensures.words at c.write_canonical_copy.ensures.answer
 
 pub returns-clause-memory : goal.returns-clause-memory
-returns-clause-memory g c = c.canon_copy.ensures.memory
+returns-clause-memory g c = c.write_canonical_copy.ensures.memory

@@ -9,7 +9,7 @@ use Rattle.capnp_streams.specs.Streams.{written_words}
 use Rattle.capnp_streams.proofs.AnsweredLemmas.{answer_refuses, answer_written}
 use Rattle.capnp_messages.proofs.CanonLemmas.{or_memory}
 use Rattle.capnp_streams.proofs.CountingLemmas.{copy_counted, memory_counted, written_uncounted}
-use Rattle.capnp_streams.proofs.streams.answers.canon_copy.Goals as goal
+use Rattle.capnp_streams.proofs.streams.answers.write_canonical_copy.Goals as goal
 
 pub returns-in-Ok-clause-answer : goal.returns-in-Ok-clause-answer
 returns-in-Ok-clause-answer g c =
