@@ -81,6 +81,6 @@ pub fn canonical_is_own_copy()
 /// A message is a forest if its value uses no word twice, and all words that the value doesn't use
 /// are zero. The message whose only word is a null root is a forest with the value Null. Building
 /// starts with this message.
-pub fn fresh_forest()
+pub fn fresh_message_is_forest()
     ensures { IsForest ((0 ∷ []) ∷ []) Null }
 {}

@@ -50,7 +50,7 @@ pub fn append_both<A: BuilderArena>(arena: &mut A, id: u32, first: u64, second: 
 }
 
 /// Writes `first` and `second` over the first two words of segment `id`.
-pub fn put_two<A: BuilderArena>(arena: &mut A, id: u32, first: u64, second: u64)
+pub fn set_first_two_words<A: BuilderArena>(arena: &mut A, id: u32, first: u64, second: u64)
     requires { 2 ≤ length (segment (A.view arena.old).words id) }
     ensures { A.view arena.new
         ≡ record (A.view arena.old)
@@ -62,7 +62,7 @@ pub fn put_two<A: BuilderArena>(arena: &mut A, id: u32, first: u64, second: u64)
 
 /// If `word` is 7, writes nothing and returns 0; otherwise writes `word` over the second word of
 /// segment `id` and returns 1.
-pub fn put_either<A: BuilderArena>(arena: &mut A, id: u32, word: u64) -> u32
+pub fn set_word_unless_seven<A: BuilderArena>(arena: &mut A, id: u32, word: u64) -> u32
     requires { 2 ≤ length (segment (A.view arena.old).words id) }
     ensures kept { word ≡ 7 → (result ≡ 0) × (A.view arena.new ≡ A.view arena.old) }
     ensures written { word ≢ 7 → (result ≡ 1)
@@ -106,7 +106,7 @@ pub fn zero_segment<A: BuilderArena>(arena: &mut A, id: u32)
 /// Requests to read the first `words` words of segment 0, as a reader does before it reads them.
 /// The contract states exactly when the request is granted, what `lim` then has left, and each
 /// refusal.
-pub fn granted<A: ReaderArena>(
+pub fn request_words<A: ReaderArena>(
     arena: &A,
     words: u32,
     lim: &mut ReadLimiter,

@@ -29,7 +29,7 @@ use capnp_words::error::ErrorKind;
 use capnp_words::wire_pointer::StructSize;
 use std::alloc::Global;
 
-/// How far `two_structs` got.
+/// How far `init_two_structs` got.
 #[derive(Clone, Copy, Debug, PartialEq, Eq)]
 pub enum Built {
     /// No struct was made: the root is null.
@@ -43,7 +43,11 @@ pub enum Built {
 /// Makes the root lead to a struct of size `outer`, and the first pointer of this struct to a
 /// struct of size `inner`. Returns which of the two structs it has made. The caller passes an
 /// `outer` with at least one pointer.
-pub fn two_structs<A: BuilderArena>(arena: &mut A, outer: StructSize, inner: StructSize) -> Built
+pub fn init_two_structs<A: BuilderArena>(
+    arena: &mut A,
+    outer: StructSize,
+    inner: StructSize,
+) -> Built
     requires place { IsPlace (A.view arena.old).words 0 0 }
     requires forest { (t : Tree) × IsForest (A.view arena.old).words t }
     requires some { 0 < outer.pointers }
@@ -56,18 +60,21 @@ pub fn two_structs<A: BuilderArena>(arena: &mut A, outer: StructSize, inner: Str
         (Struct (words_of_zero outer.data_words) (put_tree (nulls outer.pointers) 0 Null)) }
     ensures nothing { result ≡ Built.Nothing → IsForest (A.view arena.new).words Null }
 {
-    let place = match root_struct(arena, outer) {
+    let place = match init_root_struct(arena, outer) {
         Ok(place) => place,
         Err(_) => return Built::Nothing,
     };
-    match field_struct(arena, place, inner) {
+    match init_field_struct(arena, place, inner) {
         Ok(_) => Built::Both,
         Err(_) => Built::Root,
     }
 }
 
 /// Makes the root lead to a struct of `size`.
-fn root_struct<A: BuilderArena>(arena: &mut A, size: StructSize) -> Result<StructPlace, ErrorKind>
+fn init_root_struct<A: BuilderArena>(
+    arena: &mut A,
+    size: StructSize,
+) -> Result<StructPlace, ErrorKind>
     requires { IsPlace (A.view arena.old).words 0 0 }
     ensures made { OnOk result (Puts (A.view arena.old).words (A.view arena.new).words 0 0
         (zero_struct size)) }
@@ -81,7 +88,7 @@ fn root_struct<A: BuilderArena>(arena: &mut A, size: StructSize) -> Result<Struc
 }
 
 /// Makes the first pointer of the struct at `place` lead to a struct of `size`.
-fn field_struct<A: BuilderArena>(
+fn init_field_struct<A: BuilderArena>(
     arena: &mut A,
     place: StructPlace,
     size: StructSize,
@@ -125,7 +132,7 @@ pub fn read_back<'a, L: Allocator>(
 /// Applies `edits`, and returns a reader of the message's output segments. If the message had a
 /// value before, the reader's root leads to the value that the edits make of it, given which of
 /// them `outcomes` shows as refused.
-pub fn edited<'a, L: Allocator>(
+pub fn edit_and_read_back<'a, L: Allocator>(
     built: &'a mut BuilderArenaImpl<L>,
     edits: &[Edit<'_>],
     outcomes: &mut [Option<ErrorKind>],
@@ -143,7 +150,7 @@ pub fn edited<'a, L: Allocator>(
 }
 
 /// Makes the root lead to a struct of `size`. Precondition: `size` has at least one word.
-fn root_with_room<A: BuilderArena>(
+fn init_root_with_room<A: BuilderArena>(
     arena: &mut A,
     size: StructSize,
 ) -> Result<StructPlace, ErrorKind>
@@ -163,7 +170,7 @@ fn root_with_room<A: BuilderArena>(
 }
 
 /// Makes the first pointer of the struct at `place` lead to `text`.
-fn text_with_room<A: BuilderArena>(
+fn set_text_with_room<A: BuilderArena>(
     arena: &mut A,
     place: StructPlace,
     text: &[u8],
@@ -186,7 +193,7 @@ fn text_with_room<A: BuilderArena>(
 
 /// Makes the root lead to a struct with a text and a number. Never refuses if segment 0 has room
 /// for the words of the struct and of the text.
-pub fn text_and_number<A: BuilderArena>(
+pub fn init_root_with_text_and_number<A: BuilderArena>(
     arena: &mut A,
     text: &[u8],
     number: u64,
@@ -200,8 +207,8 @@ pub fn text_and_number<A: BuilderArena>(
         data_words: 1,
         pointers: 1,
     };
-    let place = root_with_room(arena, size)?;
-    text_with_room(arena, place, text)?;
+    let place = init_root_with_room(arena, size)?;
+    set_text_with_room(arena, place, text)?;
     let mut builder = StructBuilder { arena, place };
     builder.set_data_field::<u64>(0, number);
     Ok(())
@@ -209,7 +216,7 @@ pub fn text_and_number<A: BuilderArena>(
 
 /// Allocates the word of the root pointer. Precondition: the message is one segment without words,
 /// which has room for a word.
-pub(crate) fn root_word<A: BuilderArena>(arena: &mut A)
+pub(crate) fn allocate_root_word<A: BuilderArena>(arena: &mut A)
     requires empty { (A.view arena.old).words ≡ [] ∷ [] }
     requires room { 1 ≤ (A.view arena.old).room 0 }
     ensures words { (A.view arena.new).words ≡ (0 ∷ []) ∷ [] }
@@ -218,15 +225,16 @@ pub(crate) fn root_word<A: BuilderArena>(arena: &mut A)
     let _root = arena.allocate(0, 1);
 }
 
-/// Calls `text_and_number` for a message whose first segment is an array of four words on the
-/// stack. The words of the message all fit this array, so no call is refused for lack of memory.
-pub fn built_on_the_stack(alloc: Global, number: u64) -> Result<(), ErrorKind>
+/// Calls `init_root_with_text_and_number` for a message whose first segment is an array of four
+/// words on the stack. The words of the message all fit this array, so no call is refused for lack
+/// of memory.
+pub fn build_on_the_stack(alloc: Global, number: u64) -> Result<(), ErrorKind>
     ensures { IsOk result }
 {
     let mut scratch = [0u8; 32];
     let allocator = ScratchSpaceHeapAllocator::new(alloc, &mut scratch, 0);
     let mut arena = BuilderArenaImpl::new(alloc, allocator);
     arena.allocate_segment(4)?;
-    root_word(&mut arena);
-    text_and_number(&mut arena, b"Hello", number)
+    allocate_root_word(&mut arena);
+    init_root_with_text_and_number(&mut arena, b"Hello", number)
 }

@@ -33,7 +33,7 @@ use std::alloc::Global;
 /// cost, and counts each non-null pointer of the value in `lim`; a refusal leaves `lim` unchanged.
 /// The copy's segment has room for at most one word more than the source message has, or for less
 /// than twice as many words as the copy has.
-pub fn heap_copy_at<S: ReaderSegments>(
+pub fn make_heap_copy_at<S: ReaderSegments>(
     alloc: Global,
     arena: &ReaderArenaImpl<S>,
     place: PointerPlace,

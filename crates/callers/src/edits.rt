@@ -9,7 +9,7 @@ ghost use Rattle.capnp_edits.specs.Edits.{is_of_path};
 ghost use Rattle.capnp_edits.specs.Fitting.{AreInFirst, AsksNoMore, IsNoneOfMemory, words_asked};
 ghost use Rattle.capnp_edits.specs.Tasks.{task_of};
 
-use crate::builders::root_word;
+use crate::builders::allocate_root_word;
 use capnp_arena::arena::{BuilderArena, BuilderArenaImpl, ScratchSpaceHeapAllocator};
 use capnp_edits::edit::{Edit, Op, Step, apply_all};
 use capnp_words::error::ErrorKind;
@@ -22,7 +22,7 @@ use std::alloc::Global;
 /// twice, and all other words of the message are zero; all words of the message are in its first
 /// segment; `edits` only make objects, or write pointers, fields, elements and bytes; and the first
 /// segment has room for the words of all objects that they make.
-pub fn edits_in_room<A: BuilderArena>(
+pub fn apply_fitting_edits<A: BuilderArena>(
     arena: &mut A,
     edits: &[Edit<'_>],
     outcomes: &mut [Option<ErrorKind>],
@@ -40,7 +40,7 @@ pub fn edits_in_room<A: BuilderArena>(
 
 /// Returns `kind` as an error if it is `AllocationFailed` or `MessageTooLarge`; otherwise returns
 /// `Ok`.
-fn refused_memory(kind: ErrorKind) -> Result<(), ErrorKind>
+fn err_if_memory_refusal(kind: ErrorKind) -> Result<(), ErrorKind>
     ensures { is_of_path kind ≡ true → IsOk result }
 {
     match kind {
@@ -51,11 +51,11 @@ fn refused_memory(kind: ErrorKind) -> Result<(), ErrorKind>
 
 /// Returns the refusal of an edit as an error if it is `AllocationFailed` or `MessageTooLarge`;
 /// otherwise returns `Ok`.
-fn pass_memory(outcome: Option<ErrorKind>) -> Result<(), ErrorKind>
+fn forward_memory_refusal(outcome: Option<ErrorKind>) -> Result<(), ErrorKind>
     ensures { IsNoneOfMemory outcome → IsOk result }
 {
     match outcome {
-        Some(kind) => refused_memory(kind),
+        Some(kind) => err_if_memory_refusal(kind),
         None => Ok(()),
     }
 }
@@ -65,7 +65,7 @@ fn pass_memory(outcome: Option<ErrorKind>) -> Result<(), ErrorKind>
 /// words. An error would be the refusal of an edit for lack of memory, but the segment has room for
 /// all words.
 #[tactic(auto, using(crate::proofs::Fitting::root_forest, crate::proofs::Fitting::root_first, crate::proofs::Fitting::three_ask, crate::proofs::Fitting::none_at))]
-pub fn three_edits<A: BuilderArena>(arena: &mut A) -> Result<(), ErrorKind>
+pub fn apply_three_edits<A: BuilderArena>(arena: &mut A) -> Result<(), ErrorKind>
     requires root { (A.view arena.old).words ≡ (0 ∷ []) ∷ [] }
     requires room { 4 ≤ (A.view arena.old).room 0 }
     ensures { IsOk result }
@@ -90,21 +90,21 @@ pub fn three_edits<A: BuilderArena>(arena: &mut A) -> Result<(), ErrorKind>
         },
     ];
     let mut outcomes = [None; 3];
-    edits_in_room(arena, &edits, &mut outcomes);
-    pass_memory(outcomes[0])?;
-    pass_memory(outcomes[1])?;
-    pass_memory(outcomes[2])
+    apply_fitting_edits(arena, &edits, &mut outcomes);
+    forward_memory_refusal(outcomes[0])?;
+    forward_memory_refusal(outcomes[1])?;
+    forward_memory_refusal(outcomes[2])
 }
 
-/// Calls `three_edits` for a message whose first segment is an array of four words on the stack.
-/// Its words all fit this array, so no edit is refused for lack of memory.
-pub fn edited_on_the_stack(alloc: Global) -> Result<(), ErrorKind>
+/// Calls `apply_three_edits` for a message whose first segment is an array of four words on the
+/// stack. Its words all fit this array, so no edit is refused for lack of memory.
+pub fn edit_on_the_stack(alloc: Global) -> Result<(), ErrorKind>
     ensures { IsOk result }
 {
     let mut scratch = [0u8; 32];
     let allocator = ScratchSpaceHeapAllocator::new(alloc, &mut scratch, 0);
     let mut arena = BuilderArenaImpl::new(alloc, allocator);
     arena.allocate_segment(4)?;
-    root_word(&mut arena);
-    three_edits(&mut arena)
+    allocate_root_word(&mut arena);
+    apply_three_edits(&mut arena)
 }

@@ -48,7 +48,7 @@ fn write_frame<L: Allocator>(
 /// pointer leads to the same value in the message read as in `built`. Refuses only if memory runs
 /// out, or if `built` has no segment or more than 512; never refuses to read the frame that it has
 /// written. Precondition: `to` is empty, and hasn't failed.
-pub fn framed<'a, L: Allocator>(
+pub fn write_and_read_frame<'a, L: Allocator>(
     built: &BuilderArenaImpl<L>,
     to: &'a mut MemoryOutput,
 ) -> Result<FrameSegments<'a>, FrameError>

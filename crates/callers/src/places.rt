@@ -19,7 +19,7 @@ use capnp_words::wire_pointer::{ElementSize, StructSize};
 /// Sets three fields of a struct, a text, and an element of a new list of numbers. After a success
 /// the struct has these fields and these two children, and is otherwise as before. This holds for
 /// each struct, and for each pointer that may lead to it.
-pub fn fill<A: BuilderArena>(
+pub fn fill_struct<A: BuilderArena>(
     arena: &mut A,
     place: StructPlace,
     id: u32,
@@ -53,7 +53,7 @@ pub fn fill<A: BuilderArena>(
 
 /// Makes two children of a struct, and then writes a number into each. Each call leaves every place
 /// of the message there, so that the places of both children can be used in turn.
-pub fn two_children<A: BuilderArena>(
+pub fn init_two_children<A: BuilderArena>(
     arena: &mut A,
     place: StructPlace,
     first: u64,

@@ -61,7 +61,7 @@ use std::alloc::Global;
 /// this value's canonical words fit a segment. Any other message is refused. A message with a
 /// canonical copy is refused only if the allocator refuses memory, which adds one to the
 /// allocator's `refusals`. The copy is one segment with exactly the canonical words.
-pub fn canonical_copy<A: Allocator, S: ReaderSegments + Drop>(
+pub fn make_canonical_copy<A: Allocator, S: ReaderSegments + Drop>(
     alloc: Global,
     allocator: A,
     segments: S,
@@ -91,7 +91,7 @@ pub fn canonical_copy<A: Allocator, S: ReaderSegments + Drop>(
     let source = ReaderArenaImpl::new(segments, limits);
     match canonicalize(alloc, allocator, &source, limits.traversal_limit_in_words) {
         Ok(made) => {
-            is_short(&made);
+            first_segment_is_short(&made);
             Ok(made)
         }
         Err(refused) => Err(refused),
@@ -100,7 +100,7 @@ pub fn canonical_copy<A: Allocator, S: ReaderSegments + Drop>(
 
 /// Does nothing. The contract states that the first segment of a message being built has no more
 /// words than a segment can have.
-fn is_short<A: BuilderArena>(made: &A)
+fn first_segment_is_short<A: BuilderArena>(made: &A)
     ensures { length (segment (A.view made.now).words 0) ≤ max_segment_words }
 {}
 
@@ -113,7 +113,7 @@ fn is_short<A: BuilderArena>(made: &A)
 /// copy that succeeds has further segments, and has the trimmed value: the same value without the
 /// zero words and null pointers that the canonical form cuts from the ends of sections. After a
 /// refusal all words in `arena` are zero.
-pub fn canonical_copy_in_room<A: BuilderArena, S: ReaderSegments + Drop>(
+pub fn make_canonical_copy_in_room<A: BuilderArena, S: ReaderSegments + Drop>(
     arena: &mut A,
     segments: S,
     limits: ReaderOptions,
@@ -145,10 +145,10 @@ pub fn canonical_copy_in_room<A: BuilderArena, S: ReaderSegments + Drop>(
 /// Writes the canonical copy of the message in `segments` as bytes: either as a frame of one
 /// segment, or as that segment's bytes, depending on `form`.
 ///
-/// Refuses a message without a canonical copy (see `canonical_copy`). Refuses any other message
-/// only if the allocator refuses memory, or `output` fails. A refusal writes nothing, unless
-/// `output` fails.
-pub fn canonical_copy_in_bytes<W: Output, A: Allocator, S: ReaderSegments + Drop>(
+/// Refuses a message without a canonical copy (see `make_canonical_copy`). Refuses any other
+/// message only if the allocator refuses memory, or `output` fails. A refusal writes nothing,
+/// unless `output` fails.
+pub fn write_canonical_copy<W: Output, A: Allocator, S: ReaderSegments + Drop>(
     alloc: Global,
     allocator: A,
     output: &mut W,
@@ -170,7 +170,7 @@ pub fn canonical_copy_in_bytes<W: Output, A: Allocator, S: ReaderSegments + Drop
         (RefusesCanon (message (S.segments segments)) limits k) × (output.new ≡ output.old))
         ⊎ ((e.0 ≡ CanonicalError.Frame WriteFailed) × (W.has_failed output.new ≡ true))) }
 {
-    match canonical_copy(alloc, allocator, segments, limits) {
+    match make_canonical_copy(alloc, allocator, segments, limits) {
         Ok(made) => match write_in_form(output, &made, form) {
             Ok(()) => Ok(()),
             Err(error) => Err((error, made.into_allocator())),
@@ -209,7 +209,7 @@ fn write_in_form<W: Output, A: Allocator>(
 /// pointers that the canonical form cuts from the ends of sections.
 ///
 /// Refuses only if one of the messages has no canonical copy, or an allocator refuses memory.
-pub fn two_copies<A: Allocator, S: ReaderSegments + Drop, R: ReaderSegments + Drop>(
+pub fn have_same_canonical_copy<A: Allocator, S: ReaderSegments + Drop, R: ReaderSegments + Drop>(
     alloc: Global,
     one: A,
     other: A,
@@ -236,19 +236,19 @@ pub fn two_copies<A: Allocator, S: ReaderSegments + Drop, R: ReaderSegments + Dr
         ⊎ LacksMemoryOr (A.refusals other) (A.refusals e.1) e.0
         (RefusesCanon (message (R.segments second)) limits e.0)) }
 {
-    let left = match canonical_copy(alloc, one, first, limits) {
+    let left = match make_canonical_copy(alloc, one, first, limits) {
         Ok(made) => made,
         Err(refusal) => return Err(refusal),
     };
-    match canonical_copy(alloc, other, second, limits) {
-        Ok(right) => Ok(same_bytes(&left, &right)),
+    match make_canonical_copy(alloc, other, second, limits) {
+        Ok(right) => Ok(have_same_bytes(&left, &right)),
         Err(refusal) => Err(refusal),
     }
 }
 
 /// Returns whether the messages `left` and `right` are the same bytes. Precondition: each has one
 /// segment.
-fn same_bytes<A: Allocator>(left: &BuilderArenaImpl<A>, right: &BuilderArenaImpl<A>) -> bool
+fn have_same_bytes<A: Allocator>(left: &BuilderArenaImpl<A>, right: &BuilderArenaImpl<A>) -> bool
     requires left { length (⟦<BuilderArenaImpl<A> as ReaderArena>⟧.segments left.now) ≡ 1 }
     requires right { length (⟦<BuilderArenaImpl<A> as ReaderArena>⟧.segments right.now) ≡ 1 }
     ensures { IsTrue result ↔ ((⟦<BuilderArenaImpl<A> as BuilderArena>⟧.view left.now).words
@@ -263,7 +263,7 @@ fn same_bytes<A: Allocator>(left: &BuilderArenaImpl<A>, right: &BuilderArenaImpl
 /// of a value, and no other words. This value is then within both limits. Never refuses a message
 /// that has a value within both limits, or that has no segment or several. What it returns is a
 /// function of the segments and the limits.
-pub fn canonical_test<S: ReaderSegments + Drop>(
+pub fn is_canonical<S: ReaderSegments + Drop>(
     segments: S,
     limits: ReaderOptions,
 ) -> Result<bool, ErrorKind>
@@ -294,7 +294,7 @@ pub fn canonical_test<S: ReaderSegments + Drop>(
 /// charged `lim` what reading the value costs, and counted each non-null pointer of the value in
 /// `lim`. Never refuses canonical words inside the segment, if the value is within the nesting
 /// limit and `lim` covers what reading it costs.
-pub fn canonical_test_at<S: ReaderSegments>(
+pub fn is_canonical_at<S: ReaderSegments>(
     arena: &ReaderArenaImpl<S>,
     place: PointerPlace,
     lim: &mut ReadLimiter,
@@ -333,7 +333,7 @@ pub fn canonical_test_at<S: ReaderSegments>(
 /// segment. If all of this is true, refuses only if the allocator refuses memory, which adds one to
 /// the allocator's `refusals`. A success charges `lim` that cost, and counts each non-null pointer
 /// of the value in `lim`; a refusal leaves `lim` unchanged.
-pub fn canonical_copy_at<A: Allocator, S: ReaderSegments>(
+pub fn make_canonical_copy_at<A: Allocator, S: ReaderSegments>(
     alloc: Global,
     allocator: A,
     arena: &ReaderArenaImpl<S>,
@@ -387,7 +387,7 @@ pub fn canonical_copy_at<A: Allocator, S: ReaderSegments>(
 /// pointers that the canonical form cuts from the ends of sections. A success charges `lim` that
 /// cost, and counts each non-null pointer of the value in `lim`. After a refusal all words in
 /// `arena` are zero.
-pub fn canonical_copy_at_in_room<A: BuilderArena, S: ReaderSegments>(
+pub fn make_canonical_copy_at_in_room<A: BuilderArena, S: ReaderSegments>(
     arena: &mut A,
     source: &ReaderArenaImpl<S>,
     place: PointerPlace,
@@ -437,7 +437,7 @@ pub(crate) fn pointer_at<S: ReaderSegments>(
 /// the message's tree. Afterwards the message has the same tree of values, except that the new
 /// struct is at the pointer's place; after a refusal, null is there instead. Returns where the
 /// struct's sections are.
-pub fn struct_made<A: BuilderArena>(
+pub fn make_struct<A: BuilderArena>(
     builder: &mut PointerBuilder<'_, A>,
     size: StructSize,
 ) -> Result<StructPlace, ErrorKind>
@@ -473,7 +473,7 @@ pub fn struct_made<A: BuilderArena>(
 /// If the message has a value before the call, it has a value afterwards: the one that the edits
 /// make of the former value, given which of them `outcomes` shows as refused. The outcome of an
 /// edit is `AllocationFailed` exactly if the arena's allocator has refused memory for this edit.
-pub fn edited_tree<A: BuilderArena>(
+pub fn apply_edits<A: BuilderArena>(
     arena: &mut A,
     edits: &[Edit<'_>],
     outcomes: &mut [Option<ErrorKind>],

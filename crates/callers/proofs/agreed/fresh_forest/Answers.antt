@@ -1,5 +1,0 @@
-use Rattle.callers.proofs.AgreedLemmas.{fresh_forest as law}
-use Rattle.callers.proofs.agreed.fresh_forest.Goals as goal
-
-pub returns : goal.returns
-returns c = law
