@@ -3,7 +3,7 @@
 ghost use Rattle.std.specs.Prelude.{◌≡◌, false};
 ghost use Rattle.capnp_arena_traits.specs.Limits.{IsSmall};
 
-use crate::segments::{are_all, build};
+use crate::segments::{build_pointer_list, have_same_segments};
 use capnp_layout::arena::{
     BuilderArena, BuilderArenaImpl, HeapAllocator, ReaderArenaImpl, ReaderOptions, ReaderSegments,
 };
@@ -27,12 +27,12 @@ pub fn answer(alloc: Global, count: u32, size: usize, held: usize) -> Result<Str
     let held = Vec::from_elem(alloc, 0u8, held)?;
     let mut data = Vec::from_elem(alloc, 0u8, size)?;
     let mut arena = BuilderArenaImpl::new(alloc, HeapAllocator::new(alloc, 1));
-    let set = build(&mut arena, count, data.as_mut_slice());
+    let set = build_pointer_list(&mut arena, count, data.as_mut_slice());
     let refused = arena.refused();
     let mut frame = MemoryOutput::new(alloc);
     let mut copy = MemoryOutput::new(alloc);
     let mut lim = ReadLimiter::new(Some(BUDGET));
-    let [written, flat, read, copied] = steps(alloc, &arena, &mut lim, &mut frame, &mut copy);
+    let [written, flat, read, copied] = run_steps(alloc, &arena, &mut lim, &mut frame, &mut copy);
     drop(arena);
     drop(held);
     let left = lim.left().unwrap_or(0);
@@ -46,7 +46,7 @@ pub fn answer(alloc: Global, count: u32, size: usize, held: usize) -> Result<Str
 /// Writes the message in `arena` as a frame, reads that frame in place, reads it from an input, and
 /// makes a canonical copy of what the input held. Returns the outcome of each of these four steps;
 /// `-` for a step that wasn't tried.
-fn steps(
+fn run_steps(
     alloc: Global,
     arena: &BuilderArenaImpl<HeapAllocator>,
     lim: &mut ReadLimiter,
@@ -56,17 +56,17 @@ fn steps(
     requires frame { ⟦<MemoryOutput as Output>⟧.has_failed frame.old ≡ false }
     requires copy { ⟦<MemoryOutput as Output>⟧.has_failed copy.old ≡ false }
 {
-    let written = written(arena, frame);
+    let written = write_frame(arena, frame);
     if written != "ok" {
         return [written, "-", "-", "-"];
     }
     let flat = read_in_place(arena, frame.bytes());
-    let (read, copied) = read_and_copied(alloc, arena, frame.bytes(), lim, copy);
+    let (read, copied) = read_and_copy(alloc, arena, frame.bytes(), lim, copy);
     [written, flat, read, copied]
 }
 
 /// Writes the message in `arena` as a frame. Returns `ok`, or the name of the refusal.
-fn written(arena: &BuilderArenaImpl<HeapAllocator>, to: &mut MemoryOutput) -> &'static str
+fn write_frame(arena: &BuilderArenaImpl<HeapAllocator>, to: &mut MemoryOutput) -> &'static str
     requires { ⟦<MemoryOutput as Output>⟧.has_failed to.old ≡ false }
 {
     match arena.get_segments_for_output() {
@@ -82,15 +82,16 @@ fn written(arena: &BuilderArenaImpl<HeapAllocator>, to: &mut MemoryOutput) -> &'
 /// `arena`; `none` if `frame` is empty; or the name of the refusal.
 fn read_in_place(arena: &BuilderArenaImpl<HeapAllocator>, frame: &[u8]) -> &'static str {
     match read_from_flat_slice(frame, BUDGET as u64) {
-        Ok(Some(found)) => compared(&found, arena),
+        Ok(Some(found)) => compare_segments(&found, arena),
         Ok(None) => "none",
         Err(error) => error.name(),
     }
 }
 
 /// Reads `frame` from an input, and makes a canonical copy of what was read. Returns the outcome of
-/// both: of reading like `read_in_place`, and of copying like `copied`, or `-` if nothing was read.
-fn read_and_copied(
+/// both: of reading like `read_in_place`, and of copying like `write_canonical_copy`, or `-` if
+/// nothing was read.
+fn read_and_copy(
     alloc: Global,
     arena: &BuilderArenaImpl<HeapAllocator>,
     frame: &[u8],
@@ -102,8 +103,8 @@ fn read_and_copied(
     let mut input = MemoryInput::new(frame);
     match read(alloc, &mut input, BUDGET as u64) {
         Ok(Some(found)) => {
-            let same = compared(&found, arena);
-            (same, copied(alloc, found, lim, copy))
+            let same = compare_segments(&found, arena);
+            (same, write_canonical_copy(alloc, found, lim, copy))
         }
         Ok(None) => ("none", "-"),
         Err(error) => (error.name(), "-"),
@@ -111,13 +112,20 @@ fn read_and_copied(
 }
 
 /// Returns `ok` if `found` has the segments of the message in `arena`, otherwise `other`.
-fn compared<S: ReaderSegments>(found: &S, arena: &BuilderArenaImpl<HeapAllocator>) -> &'static str {
-    if are_all(found, arena) { "ok" } else { "other" }
+fn compare_segments<S: ReaderSegments>(
+    found: &S,
+    arena: &BuilderArenaImpl<HeapAllocator>,
+) -> &'static str {
+    if have_same_segments(found, arena) {
+        "ok"
+    } else {
+        "other"
+    }
 }
 
 /// Writes a canonical copy of the message in `segments` as a frame. Returns `ok`, or the name of
 /// the refusal.
-fn copied(
+fn write_canonical_copy(
     alloc: Global,
     segments: OwnedSegments,
     lim: &mut ReadLimiter,

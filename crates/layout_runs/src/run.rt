@@ -38,7 +38,7 @@ struct Run<'l> {
 
 /// Returns the line of output for a line of input: `malformed` if that doesn't have the right form.
 pub fn answer(alloc: Global, line: &str) -> Result<String, AllocError> {
-    match read_line(alloc, line)? {
+    match parse_line(alloc, line)? {
         Some(Asked::Run(run)) => run_once(alloc, &run),
         Some(Asked::Segments(count, held)) => segments::answer(alloc, count, held),
         Some(Asked::Framed(count, size, held)) => frames::answer(alloc, count, size, held),
@@ -47,16 +47,16 @@ pub fn answer(alloc: Global, line: &str) -> Result<String, AllocError> {
 }
 
 /// Parses a line of input; `None` if it doesn't have the right form.
-fn read_line(alloc: Global, line: &str) -> Result<Option<Asked<'_>>, AllocError> {
+fn parse_line(alloc: Global, line: &str) -> Result<Option<Asked<'_>>, AllocError> {
     let mut words = Vec::new(alloc);
     for word in line.split(' ') {
         words.push(word)?;
     }
     match words.as_slice() {
-        ["segments", count, held] => Ok(read_segments(*count, *held)),
-        ["framed", count, size, held] => Ok(read_framed(*count, *size, *held)),
+        ["segments", count, held] => Ok(parse_segments(*count, *held)),
+        ["framed", count, size, held] => Ok(parse_framed(*count, *size, *held)),
         [args, reads, writes, requests, input] => {
-            let run = read_run(alloc, *args, (*reads, *writes, *requests), *input)?;
+            let run = parse_run(alloc, *args, (*reads, *writes, *requests), *input)?;
             Ok(run.map(Asked::Run))
         }
         _ => Ok(None),
@@ -64,7 +64,7 @@ fn read_line(alloc: Global, line: &str) -> Result<Option<Asked<'_>>, AllocError>
 }
 
 /// Parses the two numbers of a message of many segments.
-fn read_segments<'l>(count: &str, held: &str) -> Option<Asked<'l>> {
+fn parse_segments<'l>(count: &str, held: &str) -> Option<Asked<'l>> {
     match (count.parse(), held.parse()) {
         (Ok(count), Ok(held)) => Some(Asked::Segments(count, held)),
         _ => None,
@@ -72,7 +72,7 @@ fn read_segments<'l>(count: &str, held: &str) -> Option<Asked<'l>> {
 }
 
 /// Parses the three numbers of a message that is written as a frame.
-fn read_framed<'l>(count: &str, size: &str, held: &str) -> Option<Asked<'l>> {
+fn parse_framed<'l>(count: &str, size: &str, held: &str) -> Option<Asked<'l>> {
     match (count.parse(), size.parse(), held.parse()) {
         (Ok(count), Ok(size), Ok(held)) => Some(Asked::Framed(count, size, held)),
         _ => None,
@@ -81,7 +81,7 @@ fn read_framed<'l>(count: &str, size: &str, held: &str) -> Option<Asked<'l>> {
 
 /// Parses the words of a line that asks for a run of the tool; `None` if they don't have the right
 /// form.
-fn read_run<'l>(
+fn parse_run<'l>(
     alloc: Global,
     args: &str,
     (reads, writes, requests): (&str, &str, &str),
@@ -99,8 +99,8 @@ fn read_run<'l>(
         ) {
             (Some(reads), Some(writes), Some(requests)) => Some(Run {
                 args,
-                reads: by_bytes(reads),
-                writes: by_bytes(writes),
+                reads: one_byte_strain(reads),
+                writes: one_byte_strain(writes),
                 requests,
                 input,
             }),
@@ -110,13 +110,13 @@ fn read_run<'l>(
 }
 
 /// Returns the `Strain` of a device whose first `calls` calls succeed, and move one byte each.
-fn by_bytes(calls: u64) -> Strain {
+fn one_byte_strain(calls: u64) -> Strain {
     Strain { calls, most: 1 }
 }
 
 /// Returns the bytes of the input that `text` describes: the lines between its commas, each
 /// followed by a line feed. If `text` is `-`, there are no lines.
-fn input_of(alloc: Global, text: &str) -> Result<String, AllocError> {
+fn make_input(alloc: Global, text: &str) -> Result<String, AllocError> {
     let mut lines = String::new(alloc);
     if text != "-" {
         for line in text.split(',') {
@@ -130,7 +130,7 @@ fn input_of(alloc: Global, text: &str) -> Result<String, AllocError> {
 /// Makes a run. Returns how it ended, how many requests for memory were refused, and what was
 /// written.
 fn run_once(alloc: Global, run: &Run<'_>) -> Result<String, AllocError> {
-    let lines = input_of(alloc, run.input)?;
+    let lines = make_input(alloc, run.input)?;
     let returned = Cell::new(0);
     let heap = HeapAllocator::new(alloc, 0);
     let allocator = TestAllocator::new(heap, Granted::Requests(run.requests), &returned);

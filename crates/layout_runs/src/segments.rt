@@ -14,7 +14,7 @@ use std::alloc::{AllocError, Global};
 pub fn answer(alloc: Global, count: u32, held: usize) -> Result<String, AllocError> {
     let held = Vec::from_elem(alloc, 0u8, held)?;
     let mut arena = BuilderArenaImpl::new(alloc, HeapAllocator::new(alloc, 1));
-    let set = build(&mut arena, count, &mut [0; 8]);
+    let set = build_pointer_list(&mut arena, count, &mut [0; 8]);
     let answered = output_outcome(&arena);
     drop(held);
     let refused = arena.refused();
@@ -26,7 +26,11 @@ pub fn answer(alloc: Global, count: u32, held: usize) -> Result<String, AllocErr
 /// Makes a list of `count` pointers, and sets one after the other, until one is refused. Each
 /// pointer leads to a copy of `data` with the pointer's index in the first eight bytes. Returns how
 /// many pointers were set. Each object has a segment of its own.
-pub fn build(arena: &mut BuilderArenaImpl<HeapAllocator>, count: u32, data: &mut [u8]) -> u32 {
+pub fn build_pointer_list(
+    arena: &mut BuilderArenaImpl<HeapAllocator>,
+    count: u32,
+    data: &mut [u8],
+) -> u32 {
     if arena.allocate_segment(1).is_err() {
         return 0;
     }
@@ -61,7 +65,7 @@ fn edit(arena: &mut BuilderArenaImpl<HeapAllocator>, path: &[Step], op: Op<'_>) 
 fn output_outcome(arena: &BuilderArenaImpl<HeapAllocator>) -> &'static str {
     match arena.get_segments_for_output() {
         Ok(output) => {
-            if are_all(&output, arena) {
+            if have_same_segments(&output, arena) {
                 "ok"
             } else {
                 "other"
@@ -73,7 +77,10 @@ fn output_outcome(arena: &BuilderArenaImpl<HeapAllocator>) -> &'static str {
 }
 
 /// Whether `found` has exactly the segments of `arena`.
-pub fn are_all<S: ReaderSegments>(found: &S, arena: &BuilderArenaImpl<HeapAllocator>) -> bool {
+pub fn have_same_segments<S: ReaderSegments>(
+    found: &S,
+    arena: &BuilderArenaImpl<HeapAllocator>,
+) -> bool {
     for id in 0..u32::MAX {
         match (found.get_segment(id), arena.get_segment(id)) {
             (Some(one), Ok(other)) => {

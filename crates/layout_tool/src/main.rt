@@ -30,7 +30,7 @@ framed-check, one line with a frame. NESTING is the nesting limit, and WORDS the
 words; none is no limit.";
 
 fn main(rt: HostRuntime) -> ExitCode {
-    match answer(&rt) {
+    match run_program(&rt) {
         Ok(code) => code,
         Err(AllocError) => report_refusal(&rt, ErrorKind::AllocationFailed),
     }
@@ -38,8 +38,8 @@ fn main(rt: HostRuntime) -> ExitCode {
 
 /// Runs the tool. Fails only if there is no memory for the arguments or the output's buffer, and
 /// then writes nothing.
-fn answer(rt: &HostRuntime) -> Result<ExitCode, AllocError> {
-    let Some(given) = arguments(rt)? else {
+fn run_program(rt: &HostRuntime) -> Result<ExitCode, AllocError> {
+    let Some(given) = collect_arguments(rt)? else {
         return Ok(print_error(rt, "bad arguments"));
     };
     if given.len() == 1 && given[0].as_str() == "--help" {
@@ -57,7 +57,7 @@ fn answer(rt: &HostRuntime) -> Result<ExitCode, AllocError> {
 }
 
 /// The arguments without the program's name; `None` if an argument isn't text.
-fn arguments(rt: &HostRuntime) -> Result<Option<Vec<String>>, AllocError> {
+fn collect_arguments(rt: &HostRuntime) -> Result<Option<Vec<String>>, AllocError> {
     let given = match env::args(rt) {
         Ok(given) => given,
         Err(error) if error.kind() == io::ErrorKind::OutOfMemory => return Err(AllocError),
