@@ -32,16 +32,16 @@ pub fn compare_files<W: BufferedOutput>(
 {
     let names = Names { left, right };
     if left == "-" {
-        return compare_with(rt, task, names, rt.reader(), output);
+        return open_second_and_compare(rt, task, names, rt.reader(), output);
     }
     match File::open(rt, left) {
-        Ok(file) => compare_with(rt, task, names, file, output),
+        Ok(file) => open_second_and_compare(rt, task, names, file, output),
         Err(error) => report_unopened(rt, left, &error, output),
     }
 }
 
 /// Opens the second input, and compares its messages with those of `left`.
-fn compare_with<L: Read + Drop, W: BufferedOutput>(
+fn open_second_and_compare<L: Read + Drop, W: BufferedOutput>(
     rt: &HostRuntime,
     task: DiffTask,
     names: Names,
@@ -78,7 +78,7 @@ fn compare_readers<L: Read + Drop, R: Read + Drop, W: BufferedOutput>(
         return Err(Unanswered::Said);
     };
     let (left, right) = (BufReaderInput::new(left), BufReaderInput::new(right));
-    let fault = match run(rt, task, left, right, output) {
+    let fault = match compare_inputs(rt, task, left, right, output) {
         Ok(is_same) => return Ok(is_same),
         Err(DiffFault::WriteFailed) => return Err(Unanswered::WriteFailed),
         Err(fault) => fault,
@@ -103,7 +103,7 @@ fn compare_readers<L: Read + Drop, R: Read + Drop, W: BufferedOutput>(
 }
 
 /// Compares the messages of two inputs. Precondition: neither they nor the output have failed.
-fn run<L: BufferedInput + Drop, R: BufferedInput + Drop, W: BufferedOutput>(
+fn compare_inputs<L: BufferedInput + Drop, R: BufferedInput + Drop, W: BufferedOutput>(
     rt: &HostRuntime,
     task: DiffTask,
     mut left: L,

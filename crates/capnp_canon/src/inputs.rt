@@ -5,18 +5,18 @@ ghost use Rattle.std.specs.Prelude.{◌≡◌, false};
 
 use crate::BUFFER;
 use crate::lists::verify_all;
-use crate::texts::NO_MEMORY;
+use crate::texts::{NO_MEMORY, error_text};
 use capnp_framing::devices::Output;
 use capnp_framing::framing::FrameError;
 use capnp_packing::buffered::{BufReaderInput, BufferedInput, BufferedOutput};
 use capnp_refusals::refusals::RefusedPointer;
 use capnp_streams::device_log::{DeviceLog, Logged};
 use capnp_streams::devices::{NamedLines, NumberedLines};
-use capnp_streams::looks::guess_of;
+use capnp_streams::looks::guess_input;
 use capnp_streams::streams::{
     self, Command, InputForm, ShowTask, Stop, StreamError, Summary, Task,
 };
-use std::alloc::{AllocError, Global};
+use std::alloc::AllocError;
 use std::fs::File;
 use std::io::{self, BufReader, Read};
 
@@ -95,7 +95,7 @@ fn for_each_file<W: BufferedOutput>(
     output: &mut W,
 ) -> Result<bool, Unanswered> {
     if files.is_empty() {
-        return answer(rt, job, None, rt.reader(), output);
+        return answer_reader(rt, job, None, rt.reader(), output);
     }
     let mut holds = true;
     for file in files {
@@ -118,7 +118,7 @@ fn digest_all<W: BufferedOutput>(
     output: &mut W,
 ) -> Result<bool, Unanswered> {
     if files.is_empty() {
-        return answer(
+        return answer_reader(
             rt,
             Job::Answer(task),
             None,
@@ -147,10 +147,10 @@ pub fn answer_file<W: BufferedOutput>(
     output: &mut W,
 ) -> Result<bool, Unanswered> {
     if name == "-" {
-        return answer(rt, job, Some(name), rt.reader(), output);
+        return answer_reader(rt, job, Some(name), rt.reader(), output);
     }
     match File::open(rt, name) {
-        Ok(file) => answer(rt, job, Some(name), file, output),
+        Ok(file) => answer_reader(rt, job, Some(name), file, output),
         Err(error) => report_unopened(rt, name, &error, output),
     }
 }
@@ -180,7 +180,7 @@ pub fn flush<W: BufferedOutput>(output: &mut W) -> Result<(), Unanswered> {
 
 /// Does `job` with the bytes of `reader`. Reports a fault with `name`, the name of the input, if
 /// there is one. Returns what `answer_all` returns.
-fn answer<R: Read + Drop, W: BufferedOutput>(
+fn answer_reader<R: Read + Drop, W: BufferedOutput>(
     rt: &HostRuntime,
     job: Job,
     name: Option<&str>,
@@ -201,7 +201,7 @@ fn answer<R: Read + Drop, W: BufferedOutput>(
         let _ = rt.eprintln(NO_MEMORY);
         return Err(Unanswered::Said);
     };
-    match run(rt, job, BufReaderInput::new(reader), output) {
+    match run_job(rt, job, BufReaderInput::new(reader), output) {
         Ok(summary) => Ok(summary.holds),
         Err(stop) => {
             if matches!(stop.fault, StreamError::Frame(FrameError::WriteFailed)) {
@@ -216,7 +216,7 @@ fn answer<R: Read + Drop, W: BufferedOutput>(
 
 /// Does `job` with the messages of `input`, and writes the answers to `output`. Precondition:
 /// neither `input` nor `output` has failed.
-fn run<R: BufferedInput + Drop, W: BufferedOutput>(
+fn run_job<R: BufferedInput + Drop, W: BufferedOutput>(
     rt: &HostRuntime,
     job: Job,
     mut input: R,
@@ -301,20 +301,11 @@ pub fn report_refusal(
     };
     let front = seen.first_bytes();
     if stop.answered == 0 {
-        if let Some(looks) = guess_of(form, stop.fault, front.first(), front.total()) {
+        if let Some(looks) = guess_input(form, stop.fault, front.first(), front.total()) {
             let _ = eprintln!(rt;
                 "capnp_canon: {name}{colon}the input looks like {}",
                 looks.text()
             );
         }
-    }
-}
-
-/// Returns the system's text for `error`, without the error's number.
-pub fn error_text(alloc: Global, error: &io::Error) -> Result<String, AllocError> {
-    let text = format!(in alloc; "{error}")?;
-    match text.as_str().split_once(" (os error ") {
-        Some((front, _)) => String::from_str(alloc, front),
-        None => Ok(text),
     }
 }

@@ -1,11 +1,11 @@
 //! Verifies lists that `digest` has written: whether the messages that they name still have the
 //! digests that they state.
 
-use crate::inputs::{Job, Unanswered, answer_file, error_text, flush};
-use crate::texts::{NO_MEMORY, NO_UTF8};
+use crate::inputs::{Job, Unanswered, answer_file, flush};
+use crate::texts::{NO_MEMORY, NO_UTF8, error_text};
 use capnp_framing::devices::{DeviceFault, MemoryOutput, Output, write_all};
 use capnp_packing::buffered::BufferedOutput;
-use capnp_streams::devices::{write_mark, write_place};
+use capnp_streams::devices::{write_escape_mark, write_name_and_number};
 use capnp_streams::streams::Task;
 use std::alloc::{AllocError, Global};
 use std::fs::File;
@@ -53,10 +53,10 @@ pub fn verify_all<W: BufferedOutput>(
         is_unread: false,
     };
     if lists.is_empty() {
-        verify(rt, task, "-", output, &mut found)?;
+        verify_list(rt, task, "-", output, &mut found)?;
     }
     for list in lists {
-        verify(rt, task, list.as_str(), output, &mut found)?;
+        verify_list(rt, task, list.as_str(), output, &mut found)?;
     }
     if 0 < found.failed {
         flush(output)?;
@@ -72,7 +72,7 @@ pub fn verify_all<W: BufferedOutput>(
 }
 
 /// Verifies the list in the file `name`, or in standard input if `name` is `-`.
-fn verify<W: BufferedOutput>(
+fn verify_list<W: BufferedOutput>(
     rt: &HostRuntime,
     task: Task,
     name: &str,
@@ -146,7 +146,7 @@ fn verify_lines<W: BufferedOutput>(
         let is_known = digests.is_some() && file.as_str() == entry.name.as_str();
         if !is_known {
             file = String::from_str(rt.alloc(), entry.name.as_str())?;
-            match digests_of(rt, task, file.as_str(), output, found) {
+            match compute_digests(rt, task, file.as_str(), output, found) {
                 Ok(read) => digests = Some(read),
                 Err(unanswered) => return Ok(Err(unanswered)),
             }
@@ -155,7 +155,7 @@ fn verify_lines<W: BufferedOutput>(
             Some(read) => has_digest(read.bytes(), &entry),
             None => false,
         };
-        if report_verified(task, output, &entry, holds, found).is_err() {
+        if count_and_report_entry(task, output, &entry, holds, found).is_err() {
             return Ok(Err(Unanswered::WriteFailed));
         }
     }
@@ -163,7 +163,7 @@ fn verify_lines<W: BufferedOutput>(
         if let Err(unanswered) = flush(output) {
             return Ok(Err(unanswered));
         }
-        report_other_lines(rt, list, first, others);
+        report_unparsed_lines(rt, list, first, others);
         found.is_unread |= 0 < others;
         found.is_empty |= others == 0;
     }
@@ -171,7 +171,7 @@ fn verify_lines<W: BufferedOutput>(
 }
 
 /// Reports that lines of a list aren't those of `digest`, or that none is.
-fn report_other_lines(rt: &HostRuntime, list: &str, first: u64, others: u64) {
+fn report_unparsed_lines(rt: &HostRuntime, list: &str, first: u64, others: u64) {
     let _ = match others {
         0 => eprintln!(rt; "capnp_canon: {list}: no line names a message"),
         1 => eprintln!(rt; "capnp_canon: {list}: line {first} is not as `digest` writes it"),
@@ -186,7 +186,7 @@ fn report_other_lines(rt: &HostRuntime, list: &str, first: u64, others: u64) {
 
 /// Returns the digests of the messages of a file, up to the first refused one: `LINE` bytes for
 /// each.
-fn digests_of<W: BufferedOutput>(
+fn compute_digests<W: BufferedOutput>(
     rt: &HostRuntime,
     task: Task,
     name: &str,
@@ -223,7 +223,7 @@ fn has_digest(digests: &[u8], entry: &Entry<'_>) -> bool {
 
 /// Counts an entry whose message hasn't the digest, and writes the line about the entry; if the
 /// task is quiet, only if its message hasn't the digest.
-fn report_verified<W: BufferedOutput>(
+fn count_and_report_entry<W: BufferedOutput>(
     task: Task,
     output: &mut W,
     entry: &Entry<'_>,
@@ -236,11 +236,11 @@ fn report_verified<W: BufferedOutput>(
     if holds && task.quiet {
         return Ok(());
     }
-    write_verified(output, entry, holds)
+    write_entry_result(output, entry, holds)
 }
 
 /// Writes the line about an entry: whether its message has the digest.
-fn write_verified<W: BufferedOutput>(
+fn write_entry_result<W: BufferedOutput>(
     output: &mut W,
     entry: &Entry<'_>,
     holds: bool,
@@ -249,8 +249,8 @@ fn write_verified<W: BufferedOutput>(
         return Err(DeviceFault);
     }
     let name = entry.name.as_str();
-    write_mark(output, name)?;
-    write_place(output, name, entry.number)?;
+    write_escape_mark(output, name)?;
+    write_name_and_number(output, name, entry.number)?;
     if holds {
         write_all(output, b": OK\n")
     } else {

@@ -17,18 +17,18 @@ use capnp_streams::streams::{
     self, ArgumentFault, DiffTask, Request, ShowTask, Task, WrongArgument,
 };
 use diffs::compare_files;
-use inputs::{Unanswered, answer_all, error_text, show_all};
+use inputs::{Unanswered, answer_all, show_all};
 use std::alloc::AllocError;
 use std::env;
 use std::io::{self, BufWriter};
 use std::process::ExitCode;
-use texts::{HELP, HINT, NO_MEMORY, NO_TEXT, TWO_FILES, VERSION, WRITE_ERROR};
+use texts::{HELP, HINT, NO_MEMORY, NO_TEXT, TWO_FILES, VERSION, WRITE_ERROR, error_text};
 
 /// The size in bytes of the input buffer, and of the output buffer.
 const BUFFER: usize = 1 << 16;
 
 fn main(rt: HostRuntime) -> ExitCode {
-    match answer(&rt) {
+    match run_program(&rt) {
         Ok(code) => code,
         Err(AllocError) => print_error(&rt, NO_MEMORY),
     }
@@ -36,14 +36,14 @@ fn main(rt: HostRuntime) -> ExitCode {
 
 /// Runs the command that the program's arguments ask for, and returns the exit status. Fails only
 /// if there is no memory for the arguments, and then reads and writes nothing.
-fn answer(rt: &HostRuntime) -> Result<ExitCode, AllocError> {
-    let Some(args) = arguments(rt)? else {
+fn run_program(rt: &HostRuntime) -> Result<ExitCode, AllocError> {
+    let Some(args) = collect_arguments(rt)? else {
         let _ = rt.eprintln(NO_TEXT);
         return Ok(print_error(rt, HINT));
     };
     let args = args.as_slice();
     match streams::parse_args(args) {
-        Err(wrong) => Ok(usage_error(rt, args, wrong)),
+        Err(wrong) => Ok(report_usage_error(rt, args, wrong)),
         Ok(Request::Help) => Ok(print_text(rt, HELP)),
         Ok(Request::Version) => Ok(print_text(rt, VERSION)),
         Ok(Request::Run(task)) => {
@@ -62,7 +62,7 @@ fn answer(rt: &HostRuntime) -> Result<ExitCode, AllocError> {
 }
 
 /// Returns the arguments without the program's name; `None` if one of them isn't UTF-8.
-fn arguments(rt: &HostRuntime) -> Result<Option<Vec<String>>, AllocError> {
+fn collect_arguments(rt: &HostRuntime) -> Result<Option<Vec<String>>, AllocError> {
     let given = match env::args(rt) {
         Ok(given) => given,
         Err(error) if error.kind() == io::ErrorKind::OutOfMemory => return Err(AllocError),
@@ -76,7 +76,7 @@ fn arguments(rt: &HostRuntime) -> Result<Option<Vec<String>>, AllocError> {
 }
 
 /// Reports which argument is wrong or missing, and how to get help, and returns status 2.
-fn usage_error(rt: &HostRuntime, args: &[String], wrong: WrongArgument) -> ExitCode {
+fn report_usage_error(rt: &HostRuntime, args: &[String], wrong: WrongArgument) -> ExitCode {
     let text = match args.get(wrong.at) {
         Some(arg) => arg.as_str(),
         None => "",
@@ -162,7 +162,7 @@ fn run_to<W: BufferedOutput>(
     seen: &DeviceLog,
 ) -> ExitCode {
     let ended = answer_all(rt, task, files, output);
-    flush_and_exit(rt, ended, output, seen)
+    flush_and_choose_exit_code(rt, ended, output, seen)
 }
 
 /// Shows the messages of `files`, or of standard input if there are no files, on standard output,
@@ -183,7 +183,7 @@ fn show(rt: &HostRuntime, task: ShowTask, files: &[String]) -> ExitCode {
         let _ = eprintln!(rt; "capnp_canon: the output is cut at {most} bytes");
         return ExitCode::from(2);
     }
-    flush_and_exit(rt, ended, &mut output, &seen)
+    flush_and_choose_exit_code(rt, ended, &mut output, &seen)
 }
 
 /// Compares the messages of two files, and writes to standard output in what they differ. Returns
@@ -201,35 +201,35 @@ fn diff(rt: &HostRuntime, task: DiffTask, files: &[String]) -> ExitCode {
     };
     if task.quiet {
         let ended = compare_files(rt, task, left, right, &mut NoOutput);
-        return flush_and_exit(rt, ended, &mut NoOutput, &seen);
+        return flush_and_choose_exit_code(rt, ended, &mut NoOutput, &seen);
     }
     let mut output = BufWriterOutput::new(writer);
     let ended = compare_files(rt, task, left, right, &mut output);
-    flush_and_exit(rt, ended, &mut output, &seen)
+    flush_and_choose_exit_code(rt, ended, &mut output, &seen)
 }
 
 /// Flushes `output`, and returns the exit status of a program that has `ended` so. If `output`
 /// fails, reports this failure.
-fn flush_and_exit<W: BufferedOutput>(
+fn flush_and_choose_exit_code<W: BufferedOutput>(
     rt: &HostRuntime,
     ended: Result<bool, Unanswered>,
     output: &mut W,
     seen: &DeviceLog,
 ) -> ExitCode {
     if output.flush().is_err() {
-        return write_failed(rt, seen.fault());
+        return report_write_failure(rt, seen.fault());
     }
     match ended {
         Ok(true) => ExitCode::SUCCESS,
         Ok(false) => ExitCode::from(1),
         Err(Unanswered::Said) => ExitCode::from(2),
-        Err(Unanswered::WriteFailed) => write_failed(rt, seen.fault()),
+        Err(Unanswered::WriteFailed) => report_write_failure(rt, seen.fault()),
     }
 }
 
 /// Reports that the output failed, and why, and returns status 2. Reports nothing if the output is
 /// a pipe that nobody reads any more.
-fn write_failed(rt: &HostRuntime, fault: Option<io::Error>) -> ExitCode {
+fn report_write_failure(rt: &HostRuntime, fault: Option<io::Error>) -> ExitCode {
     let Some(error) = fault else {
         return print_error(rt, WRITE_ERROR);
     };
@@ -246,7 +246,7 @@ fn write_failed(rt: &HostRuntime, fault: Option<io::Error>) -> ExitCode {
 fn print_text(rt: &HostRuntime, text: &str) -> ExitCode {
     match rt.println(text) {
         Ok(()) => ExitCode::SUCCESS,
-        Err(error) => write_failed(rt, Some(error)),
+        Err(error) => report_write_failure(rt, Some(error)),
     }
 }
 

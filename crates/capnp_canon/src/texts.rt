@@ -1,4 +1,7 @@
-//! The texts that the program prints about itself.
+//! The texts that the program prints about itself, and the text of a system error.
+
+use std::alloc::{AllocError, Global};
+use std::io;
 
 /// The program's name and version.
 pub const VERSION: &str = "capnp_canon 1.0.0";
@@ -86,3 +89,12 @@ Exit status: 0 if every message is answered and, with check, canonical; 1 if che
 isn't, digest --check one that failed or a list without lines, show a pointer that is wrong, or diff
 two messages that differ; 2 if a message is refused, a file can't be opened, the arguments are
 wrong, show would write more than --bytes allows, or reading or writing failed.";
+
+/// Returns the system's text for `error`, without the error's number.
+pub fn error_text(alloc: Global, error: &io::Error) -> Result<String, AllocError> {
+    let text = format!(in alloc; "{error}")?;
+    match text.as_str().split_once(" (os error ") {
+        Some((front, _)) => String::from_str(alloc, front),
+        None => Ok(text),
+    }
+}
