@@ -21,14 +21,14 @@ struct Run {
 
 /// Returns the line of output for a line of input: `malformed` if that doesn't have the right form.
 pub fn answer(alloc: Global, line: &str) -> Result<String, AllocError> {
-    match read_line(alloc, line)? {
+    match parse_line(alloc, line)? {
         Some(run) => run_once(alloc, &run),
         None => String::from_str(alloc, "malformed"),
     }
 }
 
 /// Parses a line of input; `None` if it doesn't have the right form.
-fn read_line(alloc: Global, line: &str) -> Result<Option<Run>, AllocError> {
+fn parse_line(alloc: Global, line: &str) -> Result<Option<Run>, AllocError> {
     let mut words = Vec::new(alloc);
     for word in line.split(' ') {
         words.push(word)?;
@@ -36,13 +36,13 @@ fn read_line(alloc: Global, line: &str) -> Result<Option<Run>, AllocError> {
     let [args, reads, writes, input] = words.as_slice() else {
         return Ok(None);
     };
-    let Some(task) = read_task(alloc, *args)? else {
+    let Some(task) = parse_task(alloc, *args)? else {
         return Ok(None);
     };
-    let Some(input) = read_input(alloc, *input)? else {
+    let Some(input) = decode_input(alloc, *input)? else {
         return Ok(None);
     };
-    Ok(match (read_strain(*reads), read_strain(*writes)) {
+    Ok(match (parse_strain(*reads), parse_strain(*writes)) {
         (Some(reads), Some(writes)) => Some(Run {
             task,
             reads,
@@ -55,7 +55,7 @@ fn read_line(alloc: Global, line: &str) -> Result<Option<Run>, AllocError> {
 
 /// Parses the arguments of `capnp_canon`, separated by commas. Returns `None` unless they ask for a
 /// task, name no file, and don't ask to read raw words instead of frames.
-fn read_task(alloc: Global, text: &str) -> Result<Option<Task>, AllocError> {
+fn parse_task(alloc: Global, text: &str) -> Result<Option<Task>, AllocError> {
     let args = split_arguments(alloc, text)?;
     let args = args.as_slice();
     let files = streams::named_files(alloc, args)?;
@@ -68,7 +68,7 @@ fn read_task(alloc: Global, text: &str) -> Result<Option<Task>, AllocError> {
 /// Parses how a device works: how many of its calls succeed, a comma, and how many bytes each call
 /// moves at most. Either number is in decimal digits with an optional `+`, or is `none` for no
 /// limit. Returns `None` if the text doesn't have this form.
-fn read_strain(text: &str) -> Option<Strain> {
+fn parse_strain(text: &str) -> Option<Strain> {
     let (calls, most) = text.split_once(',')?;
     Some(Strain {
         calls: parse_limit(calls)?,
@@ -77,7 +77,7 @@ fn read_strain(text: &str) -> Option<Strain> {
 }
 
 /// Decodes hex digits to bytes; `-` means no bytes. Returns `None` if the text is neither.
-fn read_input(alloc: Global, text: &str) -> Result<Option<Vec<u8>>, AllocError> {
+fn decode_input(alloc: Global, text: &str) -> Result<Option<Vec<u8>>, AllocError> {
     if text == "-" {
         return Ok(Some(Vec::new(alloc)));
     }
@@ -92,14 +92,14 @@ fn run_once(alloc: Global, run: &Run) -> Result<String, AllocError> {
     let mut output = StrainedOutput::new(alloc, run.writes);
     if !run.task.pack {
         let ended = run_to(alloc, run, &mut output);
-        return told(alloc, ended, output.bytes.as_slice());
+        return format_outcome(alloc, ended, output.bytes.as_slice());
     }
     let mut packing = PackingOutput::new(output);
     let ended = run_to(alloc, run, &mut packing);
     let is_flushed = packing.write_pending().is_ok();
     let output = packing.into_packed();
     if is_flushed {
-        told(alloc, ended, output.bytes.as_slice())
+        format_outcome(alloc, ended, output.bytes.as_slice())
     } else {
         let digits = hex::encode(alloc, output.bytes.as_slice())?;
         format!(in alloc; "unflushed -{digits}")
@@ -122,7 +122,11 @@ fn run_to<W: BufferedOutput>(alloc: Global, run: &Run, output: &mut W) -> Result
 /// `false` if the task tests for canonical form and some message isn't canonical, otherwise by
 /// `true`. `stopped` is followed by the number of messages that were answered, and the reason why
 /// the next one wasn't. At the end, after a `-`, are the bytes that were written, in hex digits.
-fn told(alloc: Global, ended: Result<Summary, Stop>, written: &[u8]) -> Result<String, AllocError> {
+fn format_outcome(
+    alloc: Global,
+    ended: Result<Summary, Stop>,
+    written: &[u8],
+) -> Result<String, AllocError> {
     let digits = hex::encode(alloc, written)?;
     match ended {
         Ok(summary) => format!(in alloc; "done {} {} -{digits}", summary.messages, summary.holds),
