@@ -23,6 +23,7 @@ use Rattle.capnp_builders.specs.Kept.{LeavesCleared}
 use Rattle.capnp_messages.proofs.CanonLemmas.{covers_rest, kept_room, made_copy, refused_copy, root_null, root_there, spread_copy}
 use Rattle.capnp_messages.specs.Copies.{RefusesCopyAnywhere}
 use Rattle.capnp_messages.specs.Messages.{IsValueOf, RefusesAt, left_of, root_within}
+use Rattle.capnp_messages.specs.Parts.{to_pointer}
 use Rattle.capnp_messages.specs.Roots.{CoversRoot}
 use Rattle.capnp_messages.proofs.MessageLemmas.{AtRoot, value_of}
 use Rattle.capnp_making.specs.Makes.{call_at}
@@ -125,13 +126,13 @@ zeros_there {v} new root puts =
 -- and its refusal is true of the message that was read
 pub refused_there : {S : Segments} {limits : ReaderOptions} {r : Reading} {m after : Meter} {v w : View} {s p : ℕ} (new : View) (k : ErrorKind) → AtRoot S limits r m →
     IsFreshRoot v w s p → LeavesCleared (value_original r) (copy_call canonical (call_at s p w new) m after) k →
-    RefusesAt S limits k (RefusesCopyAnywhere (root_within S limits) (left_of limits) (v.room 0) k)
+    RefusesAt S limits k (RefusesCopyAnywhere (to_pointer (root_within S limits)) (left_of limits) (v.room 0) k)
 refused_there {S} {limits} {r} {m} {after} {v} new k at root leaves =
     let here : LeavesCleared (value_original r) (copy_call canonical (call_at 0 0 v new) m after) k =
     at_first (λ x s p. LeavesCleared (value_original r) (copy_call canonical (call_at s p x new) m after) k) root leaves in
     let null = null_stored v.words 0 0 (root_there v.words root.fresh) (root_null v.words root.fresh) in
     let why = refused_copy r (left_of limits) v new m after k root.fresh at.left (record { why = here.why; left = here.cleared Null null; memory = here.memory }) in
-    inr (at.covers, subst (λ (x : Reading). RefusesCopyAnywhere x (left_of limits) (v.room 0) k) at.place why)
+    inr (at.covers, subst (λ (x : Reading). RefusesCopyAnywhere (to_pointer x) (left_of limits) (v.room 0) k) at.place why)
 
 -- a message whose root the limit doesn't cover has no value
 pub never_unread : {S T : Segments} {limits : ReaderOptions} {before : Meter} {t : Tree} → T ≡ S → before ≡ unused limits.traversal_limit_in_words →

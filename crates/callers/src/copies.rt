@@ -1,6 +1,6 @@
 //! Functions that make canonical copies, and are proved only from the contracts of the calls that
 //! make them.
-ghost use Rattle.std.specs.Prelude.{◌≡◌, ◌⊎◌, ◌∷◌, ◌+◌, ◌*◌, ◌<◌, ◌≤◌, [], ℕ, true, length, map, sum, IfOk, IfErr, OnErr};
+ghost use Rattle.std.specs.Prelude.{◌≡◌, ◌⊎◌, ◌∷◌, ◌+◌, ◌*◌, ◌<◌, ◌≤◌, [], ℕ, Ok, true, length, map, sum, IfOk, IfErr, OnErr};
 ghost use Rattle.capnp_words.specs.declared.error.ErrorKind.TheVariants.{AllocationFailed};
 ghost use Rattle.capnp_words.specs.Meter.{FitsIn};
 ghost use Rattle.capnp_format.specs.Bytes.{message};
@@ -12,6 +12,7 @@ ghost use Rattle.capnp_arena_traits.specs.Allocations.{max_segment_words};
 ghost use Rattle.capnp_objects.specs.Source.{levels};
 ghost use Rattle.capnp_objects.specs.Spending.{Paid, pointers_in};
 ghost use Rattle.capnp_messages.specs.Copies.{RefusesCopy};
+ghost use Rattle.capnp_messages.specs.Parts.{to_pointer};
 ghost use Rattle.callers.specs.Truly.{read_at};
 
 use crate::theorem::pointer_at;
@@ -62,9 +63,10 @@ pub fn make_heap_copy_at<S: ReaderSegments>(
         < 2 * (1 + word_count (trim t)))) }
     ensures unread { OnErr result (lim.new ≡ lim.old) }
     ensures refused { IfErr result (λ k. (k ≡ AllocationFailed) ⊎ RefusesCopy
+        (Ok (to_pointer
         (read_at (message (⟦<ReaderArenaImpl<S> as ReaderArena>⟧.segments arena.now))
-        (levels arena.now.nesting_limit) place.segment place.word)
-        lim.old.left max_segment_words k) }
+        (levels arena.now.nesting_limit) place.segment place.word)), lim.old)
+        max_segment_words k) }
 {
     let heap = HeapAllocator::new(alloc, 0);
     match canonicalize_pointer(alloc, heap, pointer_at(arena, place), lim) {

@@ -31,6 +31,7 @@ ghost use Rattle.capnp_messages.specs.Check.{check, whole_result};
 ghost use Rattle.capnp_messages.specs.Commands.{form_bytes};
 ghost use Rattle.capnp_messages.specs.Copies.{LacksMemoryOr, RefusesCopy, RefusesCopyAnywhere};
 ghost use Rattle.capnp_messages.specs.Messages.{HasCanonicalCopy, IsReadable, IsValueOf, RefusesAt, RefusesCanon, RefusesCheck, left_of, root_within};
+ghost use Rattle.capnp_messages.specs.Parts.{to_pointer};
 ghost use Rattle.capnp_format.specs.Path.{node, PathLeads, Step, update};
 ghost use Rattle.capnp_format.specs.Forest.{IsForest, target};
 ghost use Rattle.callers.specs.Truly.{AreRefusedTruly, read_at};
@@ -132,7 +133,7 @@ pub fn make_canonical_copy_in_room<A: BuilderArena, S: ReaderSegments + Drop>(
     ensures unasked { OnOk result ((A.view arena.new).refusals ≡ (A.view arena.old).refusals) }
     ensures cleared { OnErr result ((s p : ℕ) → word_at (A.view arena.new).words s p ≡ 0) }
     ensures refused { IfErr result (λ k. RefusesAt (message (S.segments segments)) limits k
-        (RefusesCopyAnywhere (root_within (message (S.segments segments)) limits)
+        (RefusesCopyAnywhere (to_pointer (root_within (message (S.segments segments)) limits))
         (left_of limits) ((A.view arena.old).room 0) k)) }
 {
     let source = ReaderArenaImpl::new(segments, limits);
@@ -369,9 +370,10 @@ pub fn make_canonical_copy_at<A: Allocator, S: ReaderSegments>(
     ensures unread { OnErr result (lim.new ≡ lim.old) }
     ensures refused { IfErr result (λ e. LacksMemoryOr (A.refusals allocator) (A.refusals e.1)
         e.0 (RefusesCopy
+        (Ok (to_pointer
         (read_at (message (⟦<ReaderArenaImpl<S> as ReaderArena>⟧.segments arena.now))
-        (levels arena.now.nesting_limit) place.segment place.word)
-        lim.old.left max_segment_words e.0)) }
+        (levels arena.now.nesting_limit) place.segment place.word)), lim.old)
+        max_segment_words e.0)) }
 {
     canonicalize_pointer(alloc, allocator, pointer_at(arena, place), lim)
 }

@@ -1,52 +1,31 @@
 -- A message that has an answer is refused only for lack of memory.
-use Rattle.std.proofs.Common.{◌≡◌, inl, inr, ℕ, ◌+◌, ◌≤◌, Option, Some, Result, Err, IsOk, length, ap, subst, arith}
+use Rattle.std.proofs.Common.{◌≡◌, inl, inr, ℕ, Result, Err, IsOk, length, ap, subst}
 use Rattle.std.proofs.lemmas.Bool.{false≢true}
-use Rattle.capnp_words.specs.Meter.{FitsIn, Meter, unused}
+use Rattle.capnp_words.specs.Meter.{Meter, unused}
 use Rattle.capnp_objects.specs.Source.{levels}
 use Rattle.capnp_words.specs.declared.error.ErrorKind.{ErrorKind}
 use Rattle.capnp_words.specs.declared.error.ErrorKind.TheVariants.{AllocationFailed}
 use Rattle.capnp_format.specs.Segments.{Segments}
-use Rattle.capnp_format.specs.Canonical.{trim, word_count}
-use Rattle.capnp_format.specs.Tree.{Tree}
-use Rattle.capnp_arena_traits.specs.Allocations.{max_segment_words, one_more}
+use Rattle.capnp_arena_traits.specs.Allocations.{one_more}
 use Rattle.capnp_arena.specs.declared.arena.reader_arena_impl.ReaderOptions.{ReaderOptions}
-use Rattle.capnp_objects.proofs.Refusals.{unreadable}
 use Rattle.capnp_objects.specs.declared.pointers.sizes.MessageSize.{MessageSize}
-use Rattle.capnp_messages.specs.Roots.{CoversRoot, RefusesRoot}
-use Rattle.capnp_messages.specs.Roots.RefusesRoot.{no_root, no_budget}
 use Rattle.capnp_messages.specs.Commands.{HasAnswerWithin, RefusesAnswer}
 use Rattle.capnp_messages.specs.Copies.{LacksMemoryOr}
 use Rattle.capnp_messages.specs.Extents.{validate}
-use Rattle.capnp_messages.specs.Messages.{HasCanonicalCopy, HasSizeWithin, IsReadable, IsValueOf, RefusesCanon}
+use Rattle.capnp_messages.specs.Messages.{HasCanonicalCopy, HasSizeWithin, IsReadable, RefusesCanon}
 use Rattle.capnp_messages.specs.Messages.{RefusesCheck, RefusesSize}
 use Rattle.capnp_messages.specs.declared.messages.command.Command.{Command}
 use Rattle.capnp_messages.specs.declared.messages.command.Command.TheVariants.{Canon, Check, Size, Digest, Validate}
-use Rattle.capnp_messages.proofs.CanonLemmas.{covers_rest}
+use Rattle.capnp_messages.proofs.CanonicalizeLemmas.{canon_refused}
 use Rattle.capnp_messages.proofs.ExtentLemmas.{readable_if}
 use Rattle.capnp_messages.proofs.CheckedLemmas.{readable_answered, refused_alone}
 use Rattle.capnp_messages.specs.Check.{message_tested}
-
--- a root pointer that the limit covers isn't refused
-root_refused : {S : Segments} {limit : Option ℕ} {k : ErrorKind} → CoversRoot S limit → RefusesRoot S limit k → ⊥
-root_refused covers (no_root named none) = none covers.root
-root_refused covers (no_budget named root none) =
-    let covered : FitsIn (Some 0) 1 = subst (λ (b : Option ℕ). FitsIn b 1) none covers.covered in omega arith
-
--- the copy of a value isn't refused if its canonical words fit a segment
-pub canon_refused : (S : Segments) (limits : ReaderOptions) (t : Tree) {k : ErrorKind} →
-    IsValueOf S limits t → 1 + word_count (trim t) ≤ max_segment_words → RefusesCanon S limits k → ⊥
-canon_refused S limits t value fits (inl root) = root_refused value.root root
-canon_refused S limits t value fits (inr (covers, inl (named, large, out))) =
-    absurd (let more = large t value.cost value.means in omega arith)
-canon_refused S limits t value fits (inr (covers, inr (m, refused))) =
-    (unreadable refused).only t value.cost value.means (λ _. value.free)
-    (covers_rest limits.traversal_limit_in_words value.cost value.covered)
 
 -- if there is a canonical copy, a refusal is for lack of memory, which was counted
 pub copy_lacks_memory : (S : Segments) (limits : ReaderOptions) {old new : ℕ} {k : ErrorKind} →
     HasCanonicalCopy S limits → LacksMemoryOr old new k (RefusesCanon S limits k) → (k ≡ AllocationFailed) × (new ≡ one_more old)
 copy_lacks_memory S limits has (inl memory) = memory
-copy_lacks_memory S limits (t, value, fits) (inr (refused, same)) = absurd (canon_refused S limits t value fits refused)
+copy_lacks_memory S limits {k = k} (t, value, fits) (inr (refused, same)) = absurd (canon_refused S limits t k value fits refused)
 
 -- a refusal of the test, with what the limiter has left
 pub refusal : (S : Segments) (limits : ReaderOptions) {k : ErrorKind} → RefusesCheck S limits k → (m : Meter) × (message_tested S (levels limits.nesting_limit) (unused limits.traversal_limit_in_words) ≡ (Err k, m))
@@ -78,11 +57,11 @@ validate_refused S limits {k} read refused = false≢true ((readable_if S limits
 pub answer_refused : (command : Command) (limits : ReaderOptions) (S : Segments) {k : ErrorKind} →
     HasAnswerWithin command limits S → RefusesAnswer command limits S k → k ≡ AllocationFailed
 answer_refused (Canon form) limits S (t, value, fits) (inl memory) = memory
-answer_refused (Canon form) limits S (t, value, fits) (inr refused) =
-    absurd (canon_refused S limits t value fits refused)
+answer_refused (Canon form) limits S {k} (t, value, fits) (inr refused) =
+    absurd (canon_refused S limits t k value fits refused)
 answer_refused Check limits S can refused = absurd (check_refused S limits (can (check_alone S limits refused)) refused)
 answer_refused Size limits S has refused = absurd (size_refused S limits has refused)
 answer_refused Validate limits S read refused = absurd (validate_refused S limits read refused)
 answer_refused Digest limits S (t, value, fits) (inl memory) = memory
-answer_refused Digest limits S (t, value, fits) (inr refused) =
-    absurd (canon_refused S limits t value fits refused)
+answer_refused Digest limits S {k} (t, value, fits) (inr refused) =
+    absurd (canon_refused S limits t k value fits refused)

@@ -2,13 +2,12 @@
 -- message that was read.
 use Rattle.std.proofs.Common.{◌≡◌, ◌⊎◌, inl, inr, Some, None, ℕ, ◌+◌, ◌<◌, ◌≤◌, [], ◌∷◌, length, drop, Bool, true, false, IsTrue, Option, IfSome, IsNone, refl, ap, ap₂, sym, ◌∙◌, subst, arith, length-set, length-take}
 use Rattle.capnp_words.specs.declared.error.ErrorKind.{ErrorKind}
-use Rattle.capnp_words.specs.declared.error.ErrorKind.TheVariants.{AllocationFailed, MessageTooLarge}
+use Rattle.capnp_words.specs.declared.error.ErrorKind.TheVariants.{AllocationFailed}
 use Rattle.capnp_format.specs.Segments.{Segments, IsPlace, segment, word_at}
 use Rattle.capnp_words.specs.Meter.{Meter, unused, less, FitsIn}
 use Rattle.capnp_objects.specs.Refusals.{Refused}
 use Rattle.capnp_objects.specs.Reading.{Reading, place_past, segment_read, words_from}
 use Rattle.capnp_objects.specs.Wanted.{canonical}
-use Rattle.capnp_objects.proofs.Limits.{not_for_memory, not_for_size}
 use Rattle.capnp_format.specs.Canonical.{encoding, trim, word_count}
 use Rattle.capnp_format.specs.Tree.{Tree, Null, Struct}
 use Rattle.capnp_format.proofs.Trimming.{used_words-le}
@@ -20,13 +19,13 @@ use Rattle.capnp_copies.specs.Originals.{value_original}
 use Rattle.capnp_copies.proofs.Copying.{fresh_made}
 use Rattle.capnp_copies.proofs.ElementsLaid.{one_row}
 use Rattle.capnp_copies.proofs.Originals.{ExceedsRoom, sections_beyond, value_beyond}
-use Rattle.capnp_messages.specs.Copies.{HoldsCanonicalWords, LacksMemoryOr, RefusesCopyAnywhere, is_message_too_large}
-use Rattle.capnp_messages.specs.EndValues.{EndMeans, EndNeedsMoreRoom, EndOutgrowsRoom, EndReads, EndStops, IsElementPlace, IsEndThere, RefusesEndCopy, RefusesEndCopyAnywhere, end_original}
+use Rattle.capnp_messages.specs.Copies.{HoldsCanonicalWords, LacksMemoryOr, RefusesCopyAnywhere}
+use Rattle.capnp_messages.specs.EndValues.{EndMeans, EndReads, IsElementPlace, IsEndThere, end_original}
 use Rattle.capnp_messages.specs.Parts.{PathEnd, to_element, to_pointer}
-use Rattle.capnp_words.specs.Names.{is_allocation_name}
-use Rattle.capnp_messages.specs.Tries.{NeedsMoreRoom}
+use Rattle.capnp_messages.proofs.EndRefusals.{MeansMore, StopsAnywhere, stops_anywhere}
+use Rattle.capnp_messages.proofs.EndValueLemmas.{EndStopsAs}
 use Rattle.capnp_objects.specs.Outcomes.{Reads}
-use Rattle.capnp_arena_traits.specs.Allocations.{max_segment_words, one_more}
+use Rattle.capnp_arena_traits.specs.Allocations.{one_more}
 use Rattle.capnp_arena_traits.specs.View.{View}
 use Rattle.capnp_making.specs.Makes.{call_at}
 use Rattle.capnp_format.proofs.Slices.{only_segment}
@@ -68,7 +67,7 @@ one_end_value (to_element r d q) l m t u c (there, (ts, is, counts, reads)) (ws,
 
 -- if it has more, not all words fit in the first
 pub end_spread : (e : PathEnd) (old new : View) (l m : Meter) → IsEndThere e → old.words ≡ (0 ∷ []) ∷ [] →
-    MakesCopy (end_original e) (copy_call canonical (call_at 0 0 old new) l m) → (length new.words ≡ 1) ⊎ EndNeedsMoreRoom e (old.room 0)
+    MakesCopy (end_original e) (copy_call canonical (call_at 0 0 old new) l m) → (length new.words ≡ 1) ⊎ MeansMore e (old.room 0)
 end_spread e old new l m there fresh copied =
     let t = copied.value in
     let reads : EndReads e l m t = end_reads e l m t there copied.is_read in
@@ -88,7 +87,7 @@ kept_room old new fresh kept =
 
 -- why a copy to the root of a fresh message is refused
 refused_pointer : (r : Reading) (left : Option ℕ) (old new : View) (l m : Meter) (t : Tree) (k : ErrorKind) → old.words ≡ (0 ∷ []) ∷ [] → l ≡ unused left →
-    StopsCopy (value_original r) (copy_call canonical (call_at 0 0 old new) l m) t k → RefusesCopyAnywhere r left (old.room 0) k
+    StopsCopy (value_original r) (copy_call canonical (call_at 0 0 old new) l m) t k → StopsAnywhere (to_pointer r) left (old.room 0) k
 refused_pointer r left old new l m t k fresh begun stop =
     let used : length (segment old.words 0) ≡ 1 = ap length (root_alone old.words fresh) in
     elim stop.why [
@@ -98,7 +97,7 @@ refused_pointer r left old new l m t k fresh begun stop =
           inl (
             words_named old new n k refused,
             λ t c means. (let beyond = value_beyond canonical r (length (segment old.words 0)) (old.room 0) large t c means in omega (arith, beyond, used)),
-            (m, subst (λ (x : Meter). ComesToObject (value_original r) canonical x m (λ i all. old.room 0 < 1 + all)) begun out),
+            inr (m, subst (λ (x : Meter). ComesToObject (value_original r) canonical x m (λ i all. old.room 0 < 1 + all)) begun out),
           )
       | inr y ↦ elim y [ inl refused ↦ inr (m, subst (λ (x : Meter). Refused canonical r x m k) begun refused) | inr none ↦ absurd none ]
     ]
@@ -109,15 +108,15 @@ pub made_copy : (r : Reading) (left : Option ℕ) (old made : View) (l m : Meter
 made_copy r left old made l m fresh begun copied = end_copied (to_pointer r) left old made l m tt fresh begun copied
 
 pub spread_copy : (r : Reading) (old new : View) (l m : Meter) → old.words ≡ (0 ∷ []) ∷ [] →
-    MakesCopy (value_original r) (copy_call canonical (call_at 0 0 old new) l m) → (length new.words ≡ 1) ⊎ NeedsMoreRoom r (old.room 0)
+    MakesCopy (value_original r) (copy_call canonical (call_at 0 0 old new) l m) → (length new.words ≡ 1) ⊎ MeansMore (to_pointer r) (old.room 0)
 spread_copy r old new l m fresh copied = end_spread (to_pointer r) old new l m tt fresh copied
 
 pub refused_copy : (r : Reading) (left : Option ℕ) (old new : View) (l m : Meter) (k : ErrorKind) → old.words ≡ (0 ∷ []) ∷ [] → l ≡ unused left →
-    StopsCopy (value_original r) (copy_call canonical (call_at 0 0 old new) l m) Null k → RefusesCopyAnywhere r left (old.room 0) k
-refused_copy r left old new l m k fresh begun stop = refused_pointer r left old new l m Null k fresh begun stop
+    StopsCopy (value_original r) (copy_call canonical (call_at 0 0 old new) l m) Null k → RefusesCopyAnywhere (to_pointer r) left (old.room 0) k
+refused_copy r left old new l m k fresh begun stop = stops_anywhere (to_pointer r) left (old.room 0) k tt (refused_pointer r left old new l m Null k fresh begun stop)
 
 -- an element's words are too many for a room, if what is copied of it is too large
-element_needs : (r : Reading) (d q : ℕ) (used room : ℕ) → used ≡ 1 → ExceedsRoom canonical (end_original (to_element r d q)) used room → EndNeedsMoreRoom (to_element r d q) room
+element_needs : (r : Reading) (d q : ℕ) (used room : ℕ) → used ≡ 1 → ExceedsRoom canonical (end_original (to_element r d q)) used room → MeansMore (to_element r d q) room
 element_needs r d q used room one large t c (ws, ts, is, long, many, here, means) =
     let beyond = sections_beyond canonical (words_from r d) (place_past r d) q used room large ts c many means in
     let words : ws ≡ words_from r d = sym here ∙ ap (λ n. words_from r n) long in
@@ -125,7 +124,7 @@ element_needs r d q used room one large t c (ws, ts, is, long, many, here, means
     omega (arith, beyond, same, one)
 
 refused_element : (r : Reading) (d q : ℕ) (left : Option ℕ) (old new : View) (l m : Meter) (t : Tree) (k : ErrorKind) → IsElementPlace r d q → old.words ≡ (0 ∷ []) ∷ [] → l ≡ unused left →
-    StopsCopy (end_original (to_element r d q)) (copy_call canonical (call_at 0 0 old new) l m) t k → RefusesEndCopyAnywhere (to_element r d q) left (old.room 0) k
+    StopsCopy (end_original (to_element r d q)) (copy_call canonical (call_at 0 0 old new) l m) t k → StopsAnywhere (to_element r d q) left (old.room 0) k
 refused_element r d q left old new l m t k there fresh begun stop =
     let used : length (segment old.words 0) ≡ 1 = ap length (root_alone old.words fresh) in
     elim stop.why [
@@ -139,13 +138,13 @@ refused_element r d q left old new l m t k there fresh begun stop =
             inr (m, subst (λ (x : Meter). ComesToObject (end_original (to_element r d q)) canonical x m (λ i all. old.room 0 < 1 + all)) begun out),
           )
       | inr y ↦ elim y [
-        | inl refused ↦ inr (m, subst (λ (x : Meter). EndStops (to_element r d q) x m k) begun refused)
+        | inl refused ↦ inr (m, subst (λ (x : Meter). EndStopsAs canonical (to_element r d q) x m k) begun refused)
         | inr (wide, named) ↦ absurd (let few : length (words_from r d) ≤ d = omega (arith, length-take d (drop r.at (segment_read r))) in omega (arith, wide, used_words-le (words_from r d), few, there.few_words))
       ]
     ]
 
 pub end_refused : (e : PathEnd) (left : Option ℕ) (old new : View) (l m : Meter) (t : Tree) (k : ErrorKind) → IsEndThere e → old.words ≡ (0 ∷ []) ∷ [] → l ≡ unused left →
-    StopsCopy (end_original e) (copy_call canonical (call_at 0 0 old new) l m) t k → RefusesEndCopyAnywhere e left (old.room 0) k
+    StopsCopy (end_original e) (copy_call canonical (call_at 0 0 old new) l m) t k → StopsAnywhere e left (old.room 0) k
 end_refused (to_pointer r) left old new l m t k there fresh begun stop = refused_pointer r left old new l m t k fresh begun stop
 end_refused (to_element r d q) left old new l m t k there fresh begun stop = refused_element r d q left old new l m t k there fresh begun stop
 
@@ -163,45 +162,6 @@ offers_kept None P words some none = ap (λ (v : View). v.offers) (none refl)
 pub moved_offer : {old new : ℕ → ℕ → Bool} (asked : ℕ) {room there : ℕ} → old ≡ new → room ≡ there → IsTrue (old asked there) → IsTrue (new asked room)
 moved_offer {new = new} asked {there = there} same kept offered =
     subst (λ n. IsTrue (new asked n)) (sym kept) (subst (λ (offers : ℕ → ℕ → Bool). IsTrue (offers asked there)) same offered)
-
--- a reading isn't refused for lack of room
-never_read : {r : Reading} {l m : Meter} (k : ErrorKind) → is_allocation_name k ≡ true → Refused canonical r l m k → ⊥
-never_read AllocationFailed want refused = not_for_memory refused
-never_read (MessageTooLarge w) want refused = not_for_size w refused
-never_read _ want refused = absurd (cc)
-
-pub never_stops : (e : PathEnd) (l m : Meter) (k : ErrorKind) → is_allocation_name k ≡ true → EndStops e l m k → ⊥
-never_stops (to_pointer r) l m k want refused = never_read k want refused
-never_stops (to_element r d q) l m k want refused = never_read k want refused.stops
-
--- an error that something is too large is for lack of room
-pub large_wants : (k : ErrorKind) → is_message_too_large k ≡ true → is_allocation_name k ≡ true
-large_wants (MessageTooLarge w) large = refl
-large_wants _ large = absurd (cc)
-
--- what outgrows a room outgrows a smaller one
-less_outgrown : (e : PathEnd) (left : Option ℕ) (more room : ℕ) → room ≤ more → EndOutgrowsRoom e left more → EndOutgrowsRoom e left room
-less_outgrown (to_pointer r) left more room least (m, (n, stops, full)) = (m, (n, stops, omega (arith, full, least)))
-less_outgrown (to_element r d q) left more room least (inl (n, makes, full)) = inl (n, makes, omega (arith, full, least))
-less_outgrown (to_element r d q) left more room least (inr (m, (n, stops, full))) = inr (m, (n, stops, omega (arith, full, least)))
-
--- a copy that is refused for room, with `more` words in its segment, has too little with `room`
--- words, if these aren't more
-pub refused_try : (e : PathEnd) (left : Option ℕ) (k : ErrorKind) (more room : ℕ) → room ≤ more → is_allocation_name k ≡ true → RefusesEndCopyAnywhere e left more k → RefusesEndCopy e left room (MessageTooLarge room)
-refused_try e left k more room least want (inl (named, large, out)) = inl (refl, λ t c means. (let beyond = large t c means in omega arith), inr (less_outgrown e left more room least out))
-refused_try e left k more room least want (inr (m, refused)) = absurd (never_stops e (unused left) m k want refused)
-
--- so has one that is made in several segments
-pub refused_spread : (e : PathEnd) (left : Option ℕ) {n : ℕ} (m : Meter) (t : Tree) (more room : ℕ) → room ≤ more → (n ≡ 1) ⊎ EndNeedsMoreRoom e more → (n ≡ 1 → ⊥) → EndReads e (unused left) m t → RefusesEndCopy e left room (MessageTooLarge room)
-refused_spread e left m t more room least (inl one) other reads = absurd (other one)
-refused_spread e left m t more room least (inr needs) other reads = inl (refl, λ u c means. (let beyond = needs u c means in omega arith), inl (t, m, reads))
-
--- the refusal of the last try holds for the largest possible room
-pub last_try : (e : PathEnd) (left : Option ℕ) {room old new : ℕ} {k : ErrorKind} → (room ≡ max_segment_words) ⊎ (is_message_too_large k ≡ false) → LacksMemoryOr old new k (RefusesEndCopy e left room k) → LacksMemoryOr old new k (RefusesEndCopy e left max_segment_words k)
-last_try e left last (inl memory) = inl memory
-last_try e left last (inr (inr refused, same)) = inr (inr refused, same)
-last_try e left {k = k} (inl most) (inr (refused, same)) = inr (subst (λ n. RefusesEndCopy e left n k) most refused, same)
-last_try e left (inr other) (inr (inl (named, large, out), same)) = absurd (let wrong : true ≡ false = sym (ap is_message_too_large named) ∙ other in cc)
 
 pub moved_try : {old new old' new' : ℕ} {k : ErrorKind} {P : Type 0} → old ≡ old' → new' ≡ new → LacksMemoryOr old new k P → LacksMemoryOr old' new' k P
 moved_try before after (inl (named, risen)) = inl (named, after ∙ risen ∙ ap one_more before)

@@ -9,8 +9,8 @@ use Rattle.capnp_words.specs.declared.error.ErrorKind.{ErrorKind}
 use Rattle.capnp_framing.specs.Frames.{frame}
 use Rattle.capnp_framing.specs.declared.framing.frame_error.FrameError.{FrameError}
 use Rattle.capnp_framing.specs.declared.framing.frame_error.FrameError.TheVariants.{WriteFailed}
-use Rattle.capnp_objects.specs.Outcomes.{Reads, ReadsAll}
-use Rattle.capnp_objects.specs.Reading.{Reading, place_past}
+use Rattle.capnp_objects.specs.Outcomes.{ReadsAll}
+use Rattle.capnp_objects.specs.Reading.{place_past}
 use Rattle.capnp_objects.specs.Spending.{after_charge, pointers_in, pointers_in_all}
 use Rattle.capnp_objects.specs.Wanted.{canonical}
 use Rattle.capnp_messages.specs.CanonicalErrors.{IsLeftOf}
@@ -20,10 +20,10 @@ use Rattle.capnp_messages.specs.declared.messages.canonical_error.CanonicalError
 use Rattle.capnp_messages.specs.declared.messages.canonical_error.CanonicalError.TheVariants.{Frame, Layout}
 
 -- the frame of the words that were made is that of the canonical words
-pub frame_written : {X E : Type 0} (r : Reading) (words : Segments) (old new : Meter) (o : Result X E) (P : List ℕ → Type 0) → (t : Tree) × Reads canonical r old new t × (words ≡ encoding (trim t) ∷ []) → OnOk o (P (frame words)) →
-    OnOk o ((t : Tree) × Reads canonical r old new t × P (frame (encoding (trim t) ∷ [])))
-frame_written r words old new (Ok x) P (t, read, is_made) printed = (t, read, subst (λ (S : Segments). P (frame S)) is_made printed)
-frame_written r words old new (Err k) P copied printed = tt
+pub frame_written : {X E : Type 0} (Q : Tree → Type 0) (words : Segments) (o : Result X E) (P : List ℕ → Type 0) → (t : Tree) × Q t × (words ≡ encoding (trim t) ∷ []) → OnOk o (P (frame words)) →
+    OnOk o ((t : Tree) × Q t × P (frame (encoding (trim t) ∷ [])))
+frame_written Q words (Ok x) P (t, read, is_made) printed = (t, read, subst (λ (S : Segments). P (frame S)) is_made printed)
+frame_written Q words (Err k) P copied printed = tt
 
 -- a frame that isn't written is refused with WriteFailed, and not with the error of a copy
 pub no_layout : {A : Type 0} (P : Type 0) (Q : ErrorKind → Type 0) (o : Result A CanonicalError) → IfErr o (λ e. (e ≡ Frame WriteFailed) × P) →

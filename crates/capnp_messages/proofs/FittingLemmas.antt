@@ -35,15 +35,19 @@ use Rattle.capnp_objects.proofs.Refusals.{stops_struct, stops_pointers, stops_st
 use Rattle.capnp_objects.proofs.Valued.{permits, stopped_form}
 use Rattle.capnp_copies.specs.Changes.{IsMadeOf, as_struct, as_numbers, as_pointers, as_structs}
 use Rattle.capnp_copies.specs.Costs.{spent_until}
-use Rattle.capnp_messages.specs.Fitting.{fit, fit_object, fit_within, made_words}
+use Rattle.capnp_messages.specs.Fitting.{fit_object, fit_within, made_words}
 use Rattle.capnp_copies.proofs.NoRoom.{WantsWords}
+
+-- Within the levels of r.
+abbrev pub fit : ℕ → Reading → ℕ → Metered ℕ
+fit room r = fit_within room r.levels r
 
 abbrev pub Outcome : Type 0
 Outcome = Result ℕ ErrorKind × Meter
 
 -- A reading stops at an object that satisfies P, and C holds for the words charged before it: the
 -- reading of a value, of consecutive pointers, of elements.
-abbrev Stop : Type 1
+abbrev pub Stop : Type 1
 Stop = Reading → Meter → Meter → Type 0
 
 pub record StopsAt (P : Stop) (C : ℕ → Type 0) (r : Reading) (m m' : Meter) : Type 0 where
@@ -71,7 +75,7 @@ all_weaker : {P : Stop} {C D : ℕ → Type 0} {r : Reading} {i : ℕ} {m m' : M
 all_weaker h x = record { first = x.first; fewer = x.fewer; mid = x.mid; are_read = x.are_read; child = weaker (λ s y. h (x.are_read.cost + s) y) x.child }
 
 -- Such a reading is refused with k at an object, or comes to one that doesn't fit, and k says so.
-abbrev Halts : ((P : Stop) → (ℕ → Type 0) → Type 0) → ℕ → ℕ → ErrorKind → Type 0
+abbrev pub Halts : ((P : Stop) → (ℕ → Type 0) → Type 0) → ℕ → ℕ → ErrorKind → Type 0
 Halts S room z k = S (λ s i j. Stopped Value canonical s i j k) (λ s. ⊤) ⊎ ((k ≡ MessageTooLarge room) × ((n : ℕ) × S (WantsWords canonical n) (λ s. room < z + (s + n))))
 
 halts_so : {S T : (P : Stop) → (ℕ → Type 0) → Type 0} {k : ErrorKind} (room z y c : ℕ) → y ≡ z + c →
@@ -84,7 +88,7 @@ abbrev pub Fits : ℕ → ℕ → Reading → Meter → Outcome → Type 0
 Fits room z r m (Ok y, m') = (t : Tree) × (x : Reads canonical r m m' t) × (y ≡ z + x.cost)
 Fits room z r m (Err k, m') = Halts (λ P C. StopsAt P C r m m') room z k
 
-abbrev AllFit : ℕ → ℕ → Reading → ℕ → Meter → Outcome → Type 0
+abbrev pub AllFit : ℕ → ℕ → Reading → ℕ → Meter → Outcome → Type 0
 AllFit room z r i m (Ok y, m') = (ts : Trees) × (count ts ≡ i) × (x : ReadsAll canonical r m m' ts) × (y ≡ z + x.cost)
 AllFit room z r i m (Err k, m') = Halts (λ P C. AllStopAt P C r i m m') room z k
 
@@ -120,10 +124,10 @@ later_stops {P} {C} {D} {r} {m' = m'} {t} one h x = record {
 }
 
 -- f returns what is stated, for each pointer of r's segment
-abbrev EachFits : ℕ → (Reading → ℕ → Metered ℕ) → Reading → Type 0
+abbrev pub EachFits : ℕ → (Reading → ℕ → Metered ℕ) → Reading → Type 0
 EachFits room f r = (p z : ℕ) (m : Meter) → Fits room z (record r { at = p }) m (f (record r { at = p }) z m)
 
-trees_fit : (room : ℕ) (f : Reading → ℕ → Metered ℕ) (r : Reading) → EachFits room f r → (i p z : ℕ) (m : Meter) → AllFit room z (record r { at = p }) i m (fold_pointers f i (record r { at = p }) z m)
+pub trees_fit : (room : ℕ) (f : Reading → ℕ → Metered ℕ) (r : Reading) → EachFits room f r → (i p z : ℕ) (m : Meter) → AllFit room z (record r { at = p }) i m (fold_pointers f i (record r { at = p }) z m)
 unfolding read_none
 trees_fit room f r h zero p z m = (no_trees, refl, read_none canonical (record r { at = p }) m, sym (add-zero z))
 trees_fit room f r h (suc i) p z m = go (f (record r { at = p }) z m) (h p z m) (λ y m1. trees_fit room f r h i (p + 1) y m1)

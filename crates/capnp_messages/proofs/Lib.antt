@@ -18,3 +18,6 @@ pub mod PartLemmas
 pub mod MessagePartLemmas
 pub mod FittingLemmas
 pub mod OutgrownLemmas
+pub mod EndValueLemmas
+pub mod EndRefusals
+pub mod OutgrownEnds

@@ -1,23 +1,18 @@
 -- What reading the root of a message states about the message.
-use Rattle.std.proofs.Common.{◌≡◌, ◌⊎◌, inl, inr, ℕ, ℤ, [], ◌∷◌, Option}
+use Rattle.std.proofs.Common.{◌≡◌, ℕ, ℤ, [], ◌∷◌, Option}
 use Rattle.std.proofs.Common.{sym, ap, ◌∙◌, subst}
-use Rattle.capnp_words.specs.declared.error.ErrorKind.{ErrorKind}
 use Rattle.capnp_words.specs.Meter.{Meter, spent, unused}
 use Rattle.capnp_format.specs.Canonical.{encoding, trim}
 use Rattle.capnp_format.specs.Segments.{Segments}
 use Rattle.capnp_format.specs.Tree.{Tree}
-use Rattle.capnp_arena_traits.specs.Allocations.{max_segment_words}
 use Rattle.capnp_arena.specs.declared.arena.reader_arena_impl.ReaderOptions.{ReaderOptions}
 use Rattle.capnp_objects.specs.Outcomes.{Reads}
 use Rattle.capnp_objects.specs.Reading.{Reading}
-use Rattle.capnp_objects.specs.Refusals.{Refused}
 use Rattle.capnp_objects.specs.Source.{levels}
 use Rattle.capnp_objects.specs.Wanted.{canonical}
 use Rattle.capnp_messages.specs.Roots.{CoversRoot, message_root}
-use Rattle.capnp_messages.specs.Copies.{LacksMemoryOr, RefusesCopy}
-use Rattle.capnp_messages.specs.Tries.{NeedsMoreRoom}
 use Rattle.capnp_messages.proofs.CanonLemmas.{covers_root}
-use Rattle.capnp_messages.specs.Messages.{IsValueOf, RefusesCanon, left_of, root_within}
+use Rattle.capnp_messages.specs.Messages.{IsValueOf, left_of, root_within}
 
 -- The root of a message is read, and m is what the limit has left.
 pub record AtRoot (S : Segments) (limits : ReaderOptions) (r : Reading) (m : Meter) : Type 0 where
@@ -52,17 +47,6 @@ value_of {S} {limits} {r} {m} {after} {t} root read =
       covered = covers_root limits.traversal_limit_in_words there.cost root.covers.covered there.covers;
     }
 
--- if the copy of what the root leads to is refused, so is the message
-pub copy_refused : {S : Segments} {limits : ReaderOptions} {r : Reading} {m : Meter} {old new : ℕ} {k : ErrorKind} →
-    AtRoot S limits r m → LacksMemoryOr old new k (RefusesCopy r m.left max_segment_words k) →
-    LacksMemoryOr old new k (RefusesCanon S limits k)
-copy_refused root (inl memory) = inl memory
-copy_refused {S} {limits} {r} {m} {k = k} root (inr (refused, kept)) =
-    let there = subst (λ (x : Reading). RefusesCopy x m.left max_segment_words k) root.place refused in
-    let left = ap (λ (x : Meter). x.left) root.left in
-    let here = subst (λ (l : Option ℕ). RefusesCopy (root_within S limits) l max_segment_words k) left there in
-    inr (inr (root.covers, here), kept)
-
 -- a copy with its own limiter, which gets what the limit has left
 pub own_copy_of : {S : Segments} {limits : ReaderOptions} {r : Reading} {m : Meter} {left : Option ℕ} {words : Segments} →
     AtRoot S limits r m → left ≡ m.left →
@@ -71,15 +55,3 @@ pub own_copy_of : {S : Segments} {limits : ReaderOptions} {r : Reading} {m : Met
 own_copy_of {r = r} root same (t, after, read, is_made) =
     let begun = ap unused same ∙ ap (λ (x : Meter). unused x.left) root.left ∙ sym root.left in
     (t, value_of root (subst (λ (x : Meter). Reads canonical r x after t) begun read), is_made)
-
-pub own_copy_refused : {S : Segments} {limits : ReaderOptions} {r : Reading} {m : Meter} {left : Option ℕ} {k : ErrorKind} →
-    AtRoot S limits r m → left ≡ m.left → (after : Meter) × Refused canonical r (unused left) after k → RefusesCanon S limits k
-own_copy_refused {S} {limits} {left = left} {k = k} root same (after, refused) =
-    let there = subst (λ (x : Reading). Refused canonical x (unused left) after k) root.place refused in
-    let all = same ∙ ap (λ (x : Meter). x.left) root.left in
-    inr (root.covers, inr (after, subst (λ (l : Option ℕ). Refused canonical (root_within S limits) (unused l) after k) all there))
-
-pub own_copy_needs : {S : Segments} {limits : ReaderOptions} {r : Reading} {m : Meter} {room : ℕ} {P : Type 0} →
-    AtRoot S limits r m → NeedsMoreRoom r room ⊎ P → NeedsMoreRoom (root_within S limits) room ⊎ P
-own_copy_needs {room = room} root (inl more) = inl (subst (λ (x : Reading). NeedsMoreRoom x room) root.place more)
-own_copy_needs root (inr other) = inr other

@@ -1,5 +1,5 @@
 -- What following a path states about the part of the message.
-use Rattle.std.proofs.Common.{◌≡◌, ◌⊎◌, inl, inr, ℕ, ◌+◌, ◌≤◌, List, [], ◌∷◌, length, drop, Bool, true, false, Option, Result, Ok, sym, ap, ◌∙◌, subst, arith, length-drop, length-take}
+use Rattle.std.proofs.Common.{◌≡◌, ◌⊎◌, inl, inr, ℕ, ◌+◌, ◌≤◌, List, [], ◌∷◌, length, drop, Bool, true, false, Option, Result, Ok, Err, refl, sym, ap, subst, arith, length-drop, length-take}
 use Rattle.capnp_words.specs.declared.error.ErrorKind.{ErrorKind}
 use Rattle.capnp_words.specs.Meter.{Affords, Meter, unused}
 use Rattle.capnp_format.specs.Canonical.{HasNoCapabilities, encoding, trim, word_count}
@@ -9,13 +9,13 @@ use Rattle.capnp_arena_traits.specs.Allocations.{max_segment_words}
 use Rattle.capnp_arena.specs.declared.arena.reader_arena_impl.ReaderOptions.{ReaderOptions}
 use Rattle.capnp_objects.specs.Reading.{segment_read, words_from}
 use Rattle.capnp_objects.specs.Source.{levels}
-use Rattle.capnp_objects.proofs.Copies.{read_stop}
-use Rattle.capnp_objects.proofs.Inverted.{not_both}
-use Rattle.capnp_objects.proofs.Refusals.{unreadable}
-use Rattle.capnp_messages.specs.Copies.{LacksMemoryOr}
-use Rattle.capnp_messages.specs.EndValues.{EndMeans, EndNeedsMoreRoom, EndReads, EndStops, IsEndThere, RefusesEndCopy, end_place}
-use Rattle.capnp_messages.specs.MessageParts.{IsPartOf, RefusesPart, part_refused, part_within, path_refused}
+use Rattle.capnp_objects.specs.Wanted.{canonical}
+use Rattle.capnp_messages.specs.Canonicalize.{end_value}
+use Rattle.capnp_messages.specs.Copies.{LacksMemoryOr, NeedsMoreRoom, RefusesCopy}
+use Rattle.capnp_messages.specs.EndValues.{EndMeans, EndReads, IsEndThere, end_place}
+use Rattle.capnp_messages.specs.MessageParts.{IsPartOf, RefusesPart, part_within}
 use Rattle.capnp_messages.specs.Parts.{PathEnd, part, to_element, to_pointer}
+use Rattle.capnp_messages.proofs.EndRefusals.{meant_long, meant_read, never_refused, words_unread}
 
 -- The path is followed within the limits.
 pub part_here : (S : Segments) (limits : ReaderOptions) (path : List ℕ) (m : Meter) (o : Result PathEnd ErrorKind × Meter) →
@@ -65,20 +65,26 @@ part_of_own_copy {e = e} {m = m} {left = left} leads same (t, after, read, is_ma
     (t, record { path_end = e; left = m; leads = leads; there = x.there; cost = x.cost; means = x.means; free = x.free; covered = covered }, is_made)
 
 -- Why no copy is made.
-pub part_copy_refused : {S : Segments} {limits : ReaderOptions} {path : List ℕ} {e : PathEnd} {m : Meter} {old new : ℕ} {k : ErrorKind} →
-    part_within S limits path ≡ (Ok e, m) → LacksMemoryOr old new k (RefusesEndCopy e m.left max_segment_words k) →
-    LacksMemoryOr old new k (RefusesPart S limits path k)
-part_copy_refused leads (inl memory) = inl memory
-part_copy_refused {e = e} {m = m} leads (inr (refused, kept)) = inr (part_refused e m leads refused, kept)
+pub path_refused : (S : Segments) (limits : ReaderOptions) (path : List ℕ) {m : Meter} {k : ErrorKind} → part_within S limits path ≡ (Err k, m) → RefusesPart S limits path k
+path_refused S limits path {k = k} stops = subst (λ (x : Result PathEnd ErrorKind × Meter). RefusesCopy x max_segment_words k) (sym stops) refl
 
-pub own_part_copy_refused : {S : Segments} {limits : ReaderOptions} {path : List ℕ} {e : PathEnd} {m : Meter} {left : Option ℕ} {k : ErrorKind} →
-    part_within S limits path ≡ (Ok e, m) → left ≡ m.left → (after : Meter) × EndStops e (unused left) after k → RefusesPart S limits path k
-own_part_copy_refused {e = e} {m = m} {k = k} leads same (after, refused) =
-    part_refused e m leads (inr (after, subst (λ (l : Option ℕ). EndStops e (unused l) after k) same refused))
+part_refused : (S : Segments) (limits : ReaderOptions) (path : List ℕ) {e : PathEnd} {m : Meter} {k : ErrorKind} → part_within S limits path ≡ (Ok e, m) → RefusesCopy (Ok e, m) max_segment_words k → RefusesPart S limits path k
+part_refused S limits path {k = k} leads refused = subst (λ (x : Result PathEnd ErrorKind × Meter). RefusesCopy x max_segment_words k) (sym leads) refused
+
+pub part_copy_refused : (S : Segments) (limits : ReaderOptions) (path : List ℕ) {e : PathEnd} {m : Meter} {old new : ℕ} {k : ErrorKind} →
+    part_within S limits path ≡ (Ok e, m) → LacksMemoryOr old new k (RefusesCopy (Ok e, m) max_segment_words k) →
+    LacksMemoryOr old new k (RefusesPart S limits path k)
+part_copy_refused S limits path leads (inl memory) = inl memory
+part_copy_refused S limits path leads (inr (refused, kept)) = inr (part_refused S limits path leads refused, kept)
+
+pub own_part_copy_refused : (S : Segments) (limits : ReaderOptions) (path : List ℕ) {e : PathEnd} {m : Meter} {left : Option ℕ} {k : ErrorKind} →
+    part_within S limits path ≡ (Ok e, m) → left ≡ m.left → (end_value canonical e (unused left)).0 ≡ Err k → RefusesPart S limits path k
+own_part_copy_refused S limits path {e = e} {m = m} {k = k} leads same refused =
+    part_refused S limits path leads (inl (words_unread max_segment_words e (unused m.left) k (subst (λ (l : Option ℕ). (end_value canonical e (unused l)).0 ≡ Err k) same refused)))
 
 pub own_part_needs : (S : Segments) (limits : ReaderOptions) (path : List ℕ) {e : PathEnd} {m : Meter} {room : ℕ} {P : Type 0} →
-    part_within S limits path ≡ (Ok e, m) → EndNeedsMoreRoom e room ⊎ P →
-    ((x : PathEnd) × (n : Meter) × (part_within S limits path ≡ (Ok x, n)) × EndNeedsMoreRoom x room) ⊎ P
+    part_within S limits path ≡ (Ok e, m) → NeedsMoreRoom e room ⊎ P →
+    ((x : PathEnd) × (n : Meter) × (part_within S limits path ≡ (Ok x, n)) × NeedsMoreRoom x room) ⊎ P
 own_part_needs S limits path {e = e} {m = m} leads (inl more) = inl (e, m, leads, more)
 own_part_needs S limits path leads (inr other) = inr other
 
@@ -86,24 +92,11 @@ affords_left : (charging : Bool) (m : Meter) (n : ℕ) → Affords charging m n 
 affords_left true m n h = h
 affords_left false m n h = h
 
--- What means a value that can be read isn't refused.
-never_stopped : (e : PathEnd) (m after : Meter) (t : Tree) (k : ErrorKind) (c : ℕ) → EndMeans e t c → HasNoCapabilities t → Affords (end_place e).charging m c → EndStops e m after k → ⊥
-never_stopped (to_pointer r) m after t k c means free covered stopped = (unreadable stopped).only t c means (λ _. free) covered
-never_stopped (to_element r d q) m after t k c (ws, ts, is, long, counts, here, means) free covered stopped =
-    (read_stop _ stopped.are_read stopped.fewer (unreadable stopped.stops)).only ts c counts means (λ _. subst HasNoCapabilities is free) covered
-
 -- The copy of a part isn't refused if its canonical words fit a segment.
-pub part_granted : (S : Segments) (limits : ReaderOptions) (path : List ℕ) (t : Tree) {k : ErrorKind} →
+pub part_granted : (S : Segments) (limits : ReaderOptions) (path : List ℕ) (t : Tree) (k : ErrorKind) →
     IsPartOf S limits path t → 1 + word_count (trim t) ≤ max_segment_words → RefusesPart S limits path k → ⊥
-part_granted S limits path t {k} value fits (path_refused m e) = not_both value.leads e
-part_granted S limits path t {k} value fits (part_refused f m e refused) =
-    let both = sym value.leads ∙ e in
-    let there : f ≡ value.path_end = (let x = ap (λ o. o.0) both in cc x) in
-    let left : m ≡ value.left = sym (ap (λ o. o.1) both) in
-    let here = subst (λ (x : PathEnd). RefusesEndCopy x m.left max_segment_words k) there refused in
-    not_refused (subst (λ (x : Meter). RefusesEndCopy value.path_end x.left max_segment_words k) left here)
-  where
-    not_refused : RefusesEndCopy value.path_end value.left.left max_segment_words k → ⊥
-    not_refused (inl (named, large, out)) = absurd (let more = large t value.cost value.means in omega arith)
-    not_refused (inr (m, stopped)) =
-        never_stopped value.path_end (unused value.left.left) m t k value.cost value.means value.free (affords_left (end_place value.path_end).charging value.left value.cost value.covered) stopped
+part_granted S limits path t k v fits refused =
+    let e : PathEnd = v.path_end in
+    let read = meant_read canonical e (unused v.left.left) t v.cost v.means (λ _. v.free) (affords_left (end_place e).charging v.left v.cost v.covered) in
+    never_refused e v.left max_segment_words k t read (omega (arith, fits, meant_long e t v.cost v.means))
+    (subst (λ (x : Result PathEnd ErrorKind × Meter). RefusesCopy x max_segment_words k) v.leads refused)

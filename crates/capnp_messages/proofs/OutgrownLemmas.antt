@@ -24,8 +24,8 @@ use Rattle.capnp_objects.proofs.Budgets.{after_after, after_none, affords_rest, 
 use Rattle.capnp_objects.proofs.Limits.{not_for_size}
 use Rattle.capnp_objects.proofs.Refusals.{unreadable, affords_less}
 use Rattle.capnp_copies.specs.Costs.{spent_before, spent_until}
-use Rattle.capnp_messages.specs.Fitting.{fit, fit_within, made_words}
-use Rattle.capnp_messages.proofs.FittingLemmas.{Fits, Outcome, entered_fits, entered_outgrows, fits, made_is, one_number}
+use Rattle.capnp_messages.specs.Fitting.{fit_within, made_words}
+use Rattle.capnp_messages.proofs.FittingLemmas.{Fits, Outcome, fit, entered_fits, entered_outgrows, fits, made_is, one_number}
 use Rattle.capnp_copies.proofs.NoRoom.{WantsWords}
 
 abbrev pub IsOut : ℕ → Outcome → Type 0
@@ -39,7 +39,7 @@ out_next : {room : ℕ} {x : Outcome} {y : ℕ} {m : Meter} (g : ℕ → Metered
 out_next g e (m, f) = (m, ap (onward g) e ∙ f)
 
 -- A value that is read fits, or it doesn't.
-passes : (room : ℕ) (r : Reading) (z : ℕ) (m m' : Meter) (t : Tree) (x : Reads canonical r m m' t) → (fit room r z m ≡ (Ok (z + x.cost), m')) ⊎ IsOut room (fit room r z m)
+pub passes : (room : ℕ) (r : Reading) (z : ℕ) (m m' : Meter) (t : Tree) (x : Reads canonical r m m' t) → (fit room r z m ≡ (Ok (z + x.cost), m')) ⊎ IsOut room (fit room r z m)
 passes room r z m m' t x = go (fit room r z m) (fits room r z m)
   where
     go : (o : Outcome) → Fits room z r m o → (o ≡ (Ok (z + x.cost), m')) ⊎ IsOut room o
@@ -49,7 +49,7 @@ passes room r z m m' t x = go (fit room r z m) (fits room r z m)
     go (Err k, m1) (inl h) = absurd ((unreadable h.stops).only t x.cost x.means x.takes x.covers)
     go (Err k, m1) (inr (named, h)) = inr (m1, ap (λ l. (Err l, m1)) named)
 
-abbrev EachPasses : ℕ → (Reading → ℕ → Metered ℕ) → Reading → Type 0
+abbrev pub EachPasses : ℕ → (Reading → ℕ → Metered ℕ) → Reading → Type 0
 EachPasses room f r = (q z : ℕ) (m m' : Meter) (t : Tree) (x : Reads canonical (record r { at = q }) m m' t) → (f (record r { at = q }) z m ≡ (Ok (z + x.cost), m')) ⊎ IsOut room (f (record r { at = q }) z m)
 
 -- The first child that is read, and those after it.
@@ -90,7 +90,7 @@ trees_pass room f r h (tree t ts) p z m m' x =
       ]
     ]
 
-trees_out : (room : ℕ) (f : Reading → ℕ → Metered ℕ) (r : Reading) → EachPasses room f r → (ts : Trees) (i p z : ℕ) (m mid : Meter) (x : ReadsAll canonical (record r { at = p }) m mid ts) → count ts < i →
+pub trees_out : (room : ℕ) (f : Reading → ℕ → Metered ℕ) (r : Reading) → EachPasses room f r → (ts : Trees) (i p z : ℕ) (m mid : Meter) (x : ReadsAll canonical (record r { at = p }) m mid ts) → count ts < i →
     ((y : ℕ) → y ≡ z + x.cost → IsOut room (f (record r { at = p + count ts }) y mid)) → IsOut room (fold_pointers f i (record r { at = p }) z m)
 trees_out room f r h ts zero p z m mid x lt out = absurd (omega arith)
 trees_out room f r h no_trees (suc i) p z m mid x lt out =

@@ -1,55 +1,52 @@
 -- What a canonical copy leaves in a fresh message, and why it is refused.
-use Rattle.std.specs.Prelude.{◌≡◌, ◌⊎◌, ℕ, ◌+◌, ◌<◌, [], ◌∷◌, Bool, true, false, Option}
+use Rattle.std.specs.Prelude.{◌≡◌, ◌⊎◌, ℕ, ◌<◌, [], ◌∷◌, Bool, true, false, None, Ok, Err, Option, Result, length}
 use Rattle.capnp_words.specs.declared.error.ErrorKind.{ErrorKind}
 use Rattle.capnp_words.specs.declared.error.ErrorKind.TheVariants.{AllocationFailed}
 use Rattle.capnp_words.specs.declared.error.ErrorKind.TheVariants.{MessageTooLarge}
 use Rattle.capnp_words.specs.Meter.{Meter, unused}
+use Rattle.capnp_words.specs.Names.{is_allocation_name}
 use Rattle.capnp_format.specs.Canonical.{trim, encoding}
-use Rattle.capnp_format.specs.Segments.{Target}
 use Rattle.capnp_format.specs.Tree.{Tree}
 use Rattle.capnp_arena_traits.specs.Allocations.{one_more}
 use Rattle.capnp_arena_traits.specs.View.{View}
-use Rattle.capnp_objects.specs.declared.object.Purpose.TheVariants.{Value}
-use Rattle.capnp_objects.specs.Outcomes.{Entered, Reads}
-use Rattle.capnp_objects.specs.Reading.{Reading}
-use Rattle.capnp_objects.specs.Refusals.{Refused, StopsWithin}
-use Rattle.capnp_objects.specs.Wanted.{canonical}
-use Rattle.capnp_copies.specs.Changes.{IsMadeOf}
-use Rattle.capnp_copies.specs.Costs.{spent_until}
-use Rattle.capnp_messages.specs.Tries.{NeedsMoreRoom}
-use Rattle.capnp_words.specs.Names.{is_allocation_name}
+use Rattle.capnp_objects.specs.Wanted.{canonical, plain}
+use Rattle.capnp_messages.specs.Canonicalize.{canonical_words, end_value}
+use Rattle.capnp_messages.specs.Fitting.{fit_end}
+use Rattle.capnp_messages.specs.Parts.{PathEnd}
 
 -- Whether a refusal says that something would be too large.
 abbrev pub is_message_too_large : ErrorKind → Bool
 is_message_too_large (MessageTooLarge w) = true
 is_message_too_large _ = false
 
--- Copying what r means comes to an object that doesn't fit: the object's n words, the root's word
--- and the words charged before it are together more than `room`. This is `ComesToObject` of a value.
-abbrev pub OutgrowsRoom : Reading → Option ℕ → ℕ → Type 0
-OutgrowsRoom r left room =
-    (m : Meter) × ((n : ℕ) × (stops : StopsWithin canonical
-    (λ s i j. (a : Target) × Entered Value s i j a × IsMadeOf canonical s a n) r (unused left) m) ×
-    (room < 1 + ((spent_until stops).words + n)))
+-- If the end of a path has a value, without a traversal limit, its canonical words are more than
+-- `room`.
+abbrev pub NeedsMoreRoom : PathEnd → ℕ → Type 0
+NeedsMoreRoom e room =
+    (t : Tree) → (end_value plain e (unused None)).0 ≡ Ok t → room < length (encoding (trim t))
 
--- A copy of what r means, into a fresh segment of `room` words, is refused with k. Either k is
--- `MessageTooLarge(room)`, and the copy needs more than `room` words; the limit `left` allows
--- reading the value, or reading comes to an object that doesn't fit. Or reading it is refused with
--- k.
-abbrev pub RefusesCopy : Reading → Option ℕ → ℕ → ErrorKind → Type 0
-RefusesCopy r left room k =
-    ((k ≡ MessageTooLarge room) × NeedsMoreRoom r room ×
-    (((t : Tree) × (m : Meter) × Reads canonical r (unused left) m t) ⊎ OutgrowsRoom r left room)) ⊎
-    ((m : Meter) × Refused canonical r (unused left) m k)
+-- The canonical copy of the end of a path outgrows `room` words: reading it within the limit comes
+-- to an object that doesn't fit, maybe before it would be refused; and its value needs more.
+pub record OutgrowsRoom (e : PathEnd) (limit : Option ℕ) (room : ℕ) : Type 0 where
+  pub outgrown : (fit_end room e 1 (unused limit)).0 ≡ Err (MessageTooLarge room)
+  pub large : NeedsMoreRoom e room
 
--- A copy of what r means, into a fresh segment of `room` words and then into further ones if they
--- are granted, is refused with k. Either k says that there is no room or no memory, the copy needs
--- more than `room` words, and reading comes to an object that doesn't fit in them. Or reading it is
--- refused with k.
-abbrev pub RefusesCopyAnywhere : Reading → Option ℕ → ℕ → ErrorKind → Type 0
-RefusesCopyAnywhere r left room k =
-    ((is_allocation_name k ≡ true) × NeedsMoreRoom r room × OutgrowsRoom r left room) ⊎
-    ((m : Meter) × Refused canonical r (unused left) m k)
+-- The canonical copy of the end of a path, as it was found and within what the limit has left, into
+-- one segment of `room` words, is refused with k: the path is; or the canonical words are; or the
+-- copy outgrows the room.
+abbrev pub RefusesCopy : Result PathEnd ErrorKind × Meter → ℕ → ErrorKind → Type 0
+RefusesCopy (Err l, m) room k = l ≡ k
+RefusesCopy (Ok e, m) room k =
+    ((canonical_words room e (unused m.left)).0 ≡ Err k)
+    ⊎ ((k ≡ MessageTooLarge room) × OutgrowsRoom e m.left room)
+
+-- The same, into a segment of `room` words and then into further ones if they are granted: reading
+-- the value is refused; or k says that there is no room or no memory, and the copy outgrows the
+-- first segment.
+abbrev pub RefusesCopyAnywhere : PathEnd → Option ℕ → ℕ → ErrorKind → Type 0
+RefusesCopyAnywhere e limit room k =
+    ((end_value canonical e (unused limit)).0 ≡ Err k)
+    ⊎ ((is_allocation_name k ≡ true) × OutgrowsRoom e limit room)
 
 -- Either k is `AllocationFailed`, and new counts one more refused request than old; or P holds, and
 -- new is old.

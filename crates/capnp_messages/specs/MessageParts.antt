@@ -12,7 +12,8 @@ use Rattle.capnp_framing.specs.Frames.{bytes_of_words}
 use Rattle.capnp_objects.specs.Metered.{◌>>>◌}
 use Rattle.capnp_objects.specs.Source.{levels}
 use Rattle.capnp_objects.specs.declared.pointers.sizes.MessageSize.{MessageSize}
-use Rattle.capnp_messages.specs.EndValues.{EndMeans, IsEndThere, RefusesEndCopy, end_place, measure_end}
+use Rattle.capnp_messages.specs.Copies.{RefusesCopy}
+use Rattle.capnp_messages.specs.EndValues.{EndMeans, IsEndThere, end_place, measure_end}
 use Rattle.capnp_messages.specs.Parts.{PathEnd, part}
 
 -- Where a path leads from the root pointer of S, within the limits; or the refusal.
@@ -33,23 +34,9 @@ pub record IsPartOf (S : Segments) (limits : ReaderOptions) (path : List ℕ) (t
   pub free : HasNoCapabilities t
   pub covered : Affords (end_place path_end).charging left cost
 
--- The path is refused with k, or P holds for its end with what is left there.
-pub data RefusesPartAt (S : Segments) (limits : ReaderOptions) (path : List ℕ) (k : ErrorKind)
-    (P : PathEnd → Meter → Type 0) : Type 0 where
-  path_refused :
-      (m : Meter) →
-      part_within S limits path ≡ (Err k, m) →
-      RefusesPartAt S limits path k P
-  part_refused :
-      (e : PathEnd) (m : Meter) →
-      part_within S limits path ≡ (Ok e, m) →
-      P e m →
-      RefusesPartAt S limits path k P
-
 -- The canonical copy of a part is refused with k.
 abbrev pub RefusesPart : Segments → ReaderOptions → List ℕ → ErrorKind → Type 0
-RefusesPart S limits path k =
-    RefusesPartAt S limits path k (λ e m. RefusesEndCopy e m.left max_segment_words k)
+RefusesPart S limits path k = RefusesCopy (part_within S limits path) max_segment_words k
 
 -- The size of a part, or its refusal: the path is followed, and what is at its end is measured.
 abbrev pub part_size : Segments → ReaderOptions → List ℕ → Result MessageSize ErrorKind

@@ -15,6 +15,7 @@ use Rattle.capnp_objects.specs.declared.pointers.canonical_fault.CanonicalFault.
 use Rattle.capnp_objects.specs.declared.pointers.sizes.MessageSize.{MessageSize}
 use Rattle.capnp_objects.specs.Measure.{measure, only_words}
 use Rattle.capnp_messages.specs.Roots.{CoversRoot, RefusesRoot, message_root, read_message_root}
+use Rattle.capnp_messages.specs.Canonicalize.{root_end}
 use Rattle.capnp_messages.specs.Copies.{RefusesCopy}
 use Rattle.capnp_messages.specs.CanonicalMessages.{CanBeTested}
 use Rattle.capnp_messages.specs.Check.{check}
@@ -95,8 +96,7 @@ RefusesAt S limits k P =
 
 -- The canonical copy of S is refused with k.
 abbrev pub RefusesCanon : Segments → ReaderOptions → ErrorKind → Type 0
-RefusesCanon S limits k =
-    RefusesAt S limits k (RefusesCopy (root_within S limits) (left_of limits) max_segment_words k)
+RefusesCanon S limits k = RefusesCopy (root_end S limits) max_segment_words k
 
 -- The test of S is refused with k.
 abbrev pub RefusesCheck : Segments → ReaderOptions → ErrorKind → Type 0

@@ -1,16 +1,16 @@
 -- A command that is refused stops at a pointer, and its refusal is that pointer's.
 use Rattle.std.proofs.Common.{◌≡◌, inl, inr, ℕ, Bool, true, false, cond, nat_eq, length, min, Option, Some, Result, Ok, Err, refl, sym, ap, ◌∙◌, subst}
 use Rattle.capnp_words.specs.declared.error.ErrorKind.{ErrorKind}
-use Rattle.capnp_words.specs.declared.error.ErrorKind.TheVariants.{MessageIsTooDeeplyNestedOrContainsCycles}
+use Rattle.capnp_words.specs.declared.error.ErrorKind.TheVariants.{MessageIsTooDeeplyNestedOrContainsCycles, MessageTooLarge}
 use Rattle.capnp_words.specs.Meter.{Meter, unused}
 use Rattle.capnp_format.specs.Segments.{Segments}
 use Rattle.capnp_format.specs.Tree.{Tree}
+use Rattle.capnp_arena_traits.specs.Allocations.{max_segment_words}
 use Rattle.capnp_arena.specs.declared.arena.reader_arena_impl.ReaderOptions.{ReaderOptions}
 use Rattle.capnp_objects.specs.Metered.{answer, onward, ◌>>>◌}
 use Rattle.capnp_objects.specs.Source.{levels}
 use Rattle.capnp_objects.specs.Values.{value}
 use Rattle.capnp_objects.specs.Wanted.{canonical, plain}
-use Rattle.capnp_objects.proofs.OneName.{refused_is}
 use Rattle.capnp_objects.specs.Extents.{read_extent, value_extent}
 use Rattle.capnp_objects.specs.Measure.{measure, only_words}
 use Rattle.capnp_objects.specs.Testing.{IsTestName, Verdict, test_value}
@@ -22,9 +22,12 @@ use Rattle.capnp_messages.specs.Check.{check, whole_fault}
 use Rattle.capnp_messages.specs.Commands.{RefusesAnswer}
 use Rattle.capnp_messages.specs.Extents.{validate, with_cost}
 use Rattle.capnp_messages.specs.Messages.{RefusesCanon, left_of, message_size, root_within}
+use Rattle.capnp_messages.specs.Parts.{to_pointer}
 use Rattle.capnp_messages.specs.Roots.{CoversRoot, RefusesRoot, read_message_root}
 use Rattle.capnp_messages.specs.declared.messages.command.Command.{Command}
 use Rattle.capnp_messages.specs.declared.messages.command.Command.TheVariants.{Canon, Check, Digest, Size, Validate}
+use Rattle.capnp_messages.proofs.CanonicalizeLemmas.{of_no_root, of_root}
+use Rattle.capnp_messages.proofs.EndRefusals.{exceed, unmade, unread}
 use Rattle.capnp_messages.proofs.SizeLemmas.{root_is, root_or_not, root_stops}
 use Rattle.capnp_refusals.specs.RefusedPointers.{IsNameFor, demands_of, finding, has_pointer, message_searched, refused_pointer}
 use Rattle.capnp_refusals.specs.Search.{Finding, form_for, of_values, refused_at, search_on, search_place}
@@ -57,9 +60,21 @@ value_finds c S limits k m covers e =
 
 -- Each command.
 canon_finds : (S : Segments) (limits : ReaderOptions) (k : ErrorKind) → has_pointer k ≡ true → RefusesCanon S limits k → Finds (of_values false) S limits k
-canon_finds S limits k of_one (inl refused) = at_pointer (of_values false) S limits k refused
-canon_finds S limits k of_one (inr (covers, inl (named, large, out))) = absurd (let wrong = subst (λ (l : ErrorKind). has_pointer l ≡ true) named of_one in cc wrong)
-canon_finds S limits k of_one (inr (covers, inr (m, refused))) = value_finds false S limits k m covers (refused_is canonical k (root_within S limits) (unused (left_of limits)) m refused)
+canon_finds S limits k of_one why = elim (root_or_not S limits.traversal_limit_in_words) [
+  | inr (l, refused) ↦ subst (Finds (of_values false) S limits) (of_no_root limits refused why) (at_pointer (of_values false) S limits l refused)
+  | inl covers ↦ elim (of_root limits covers why) [
+    | inr (named, out) ↦ absurd (too_large named)
+    | inl refused ↦ elim (unmade max_segment_words (to_pointer (root_within S limits)) (unused (left_of limits)) k refused) [
+      | unread is ↦
+          let m : Meter = (value canonical (root_within S limits) (unused (left_of limits))).1 in
+          value_finds false S limits k m covers (ap (λ x. (x, m)) is)
+      | exceed t is more named ↦ absurd (too_large named)
+    ]
+  ]
+]
+  where
+    too_large : k ≡ MessageTooLarge max_segment_words → ⊥
+    too_large named = (let wrong = subst (λ (l : ErrorKind). has_pointer l ≡ true) named of_one in cc wrong)
 
 validate_finds : (S : Segments) (limits : ReaderOptions) (k : ErrorKind) → validate S limits ≡ Err k → Finds (of_values true) S limits k
 validate_finds S limits k e = elim (root_or_not S limits.traversal_limit_in_words) [

@@ -12,7 +12,8 @@ use Rattle.capnp_messages.specs.MessageParts.{RefusesPart, part_size}
 use Rattle.capnp_messages.specs.Messages.{IsValueOf, RefusesCanon}
 use Rattle.capnp_messages.specs.declared.messages.command.Command.{Command}
 use Rattle.capnp_messages.specs.declared.messages.command.Command.TheVariants.{Canon, Check, Size, Digest, Validate}
-use Rattle.capnp_messages.proofs.AnsweredLemmas.{answer_refused, canon_refused, size_refused}
+use Rattle.capnp_messages.proofs.AnsweredLemmas.{answer_refused, size_refused}
+use Rattle.capnp_messages.proofs.CanonicalizeLemmas.{canon_refused}
 use Rattle.capnp_messages.proofs.MessagePartLemmas.{part_granted}
 use Rattle.capnp_streams.specs.Asked.{HasAskedAnswer, HasCopyAt, HasSizeAt, HasSomeSizeAt, IsValueAt, RefusesAsked, RefusesCopyAt, RefusesSizeAt}
 use Rattle.capnp_streams.specs.Paths.{path_indexes}
@@ -59,8 +60,8 @@ refused_size_of_part S limits (i ∷ path) (Err k) some is = is
 
 -- a copy that is asked for isn't refused if there is one
 copy_answered : (S : Segments) (limits : ReaderOptions) (path : List ℕ) (k : ErrorKind) → HasCopyAt S limits path → RefusesCopyAt S limits path k → ⊥
-copy_answered S limits [] k (t, value, fits) refused = canon_refused S limits t value fits refused
-copy_answered S limits (i ∷ path) k (t, value, fits) refused = part_granted S limits (i ∷ path) t value fits refused
+copy_answered S limits [] k (t, value, fits) refused = canon_refused S limits t k value fits refused
+copy_answered S limits (i ∷ path) k (t, value, fits) refused = part_granted S limits (i ∷ path) t k value fits refused
 
 -- nor is a size
 size_answered : (S : Segments) (limits : ReaderOptions) (path : List ℕ) (k : ErrorKind) → HasSomeSizeAt S limits path → RefusesSizeAt S limits path k → ⊥

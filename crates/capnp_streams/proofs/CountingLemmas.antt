@@ -1,5 +1,5 @@
 -- A copy that isn't made is counted if memory ran out, and otherwise not.
-use Rattle.std.proofs.Common.{◌≡◌, ◌∙◌, inl, inr, ℕ, List, [], ◌∷◌, Bool, length, nat_lt, ap, refl, sym, subst}
+use Rattle.std.proofs.Common.{◌≡◌, ◌∙◌, inl, inr, ℕ, List, [], ◌∷◌, Bool, ap, refl, sym, subst}
 use Rattle.std.proofs.Common.{Option, IsSome, Result, Ok, Err, OnOk, OnErr, IfErr}
 use Rattle.std.specs.Option.{option_map_or}
 use Rattle.capnp_words.specs.declared.error.ErrorKind.{ErrorKind}
@@ -8,24 +8,19 @@ use Rattle.capnp_format.specs.Segments.{Segments}
 use Rattle.capnp_arena.specs.declared.arena.reader_arena_impl.ReaderOptions.{ReaderOptions}
 use Rattle.capnp_making.specs.Memory.{refusals_for}
 use Rattle.capnp_making.proofs.Memory.{not_the_allocator}
-use Rattle.capnp_objects.proofs.Limits.{not_for_memory}
 use Rattle.capnp_framing.specs.declared.framing.frame_error.FrameError.TheVariants.{WriteFailed}
 use Rattle.capnp_messages.specs.Copies.{LacksMemoryOr}
 use Rattle.capnp_messages.specs.declared.messages.command.Command.{Command}
 use Rattle.capnp_messages.specs.Messages.{RefusesCanon}
-use Rattle.capnp_messages.specs.Roots.RefusesRoot.{no_root, no_budget}
 use Rattle.capnp_streams.specs.Asked.{RefusesCopyAt}
 use Rattle.capnp_streams.specs.Streams.{CountsRefusals, refusals_behind}
-use Rattle.capnp_streams.proofs.PartLemmas.{never_part, not_misplaced}
+use Rattle.capnp_streams.proofs.PartLemmas.{never_part}
 use Rattle.capnp_streams.specs.declared.streams.stream_error.StreamError.{StreamError}
 use Rattle.capnp_streams.specs.declared.streams.stream_error.StreamError.TheVariants.{Frame}
 
 -- a message isn't refused with AllocationFailed for what it holds
 never_canon : (S : Segments) (limits : ReaderOptions) → RefusesCanon S limits AllocationFailed → ⊥
-never_canon S limits (inl (no_root named none)) = not_misplaced (nat_lt 0 (length S)) 0 named
-never_canon S limits (inl (no_budget named root none)) = cc
-never_canon S limits (inr (covers, inl (named, large, out))) = cc
-never_canon S limits (inr (covers, inr (m, refused))) = not_for_memory refused
+never_canon S limits refused = never_part S limits [] refused
 
 never_asked : (S : Segments) (limits : ReaderOptions) (path : List ℕ) → RefusesCopyAt S limits path AllocationFailed → ⊥
 never_asked S limits [] refused = never_canon S limits refused

@@ -5,6 +5,7 @@ use Rattle.capnp_words.specs.declared.error.ErrorKind.TheVariants.{AllocationFai
 use Rattle.capnp_words.specs.Meter.{Meter, charged, unused}
 use Rattle.capnp_format.specs.Segments.{Segments, segment}
 use Rattle.capnp_arena.specs.declared.arena.reader_arena_impl.ReaderOptions.{ReaderOptions}
+use Rattle.capnp_arena_traits.specs.Allocations.{max_segment_words}
 use Rattle.capnp_arena_traits.specs.Checks.{misplaced}
 use Rattle.capnp_objects.specs.declared.object.Purpose.TheVariants.{Value}
 use Rattle.capnp_objects.specs.Enter.{Shape, capability, flat, nothing, pointers, read, struct, structs}
@@ -15,13 +16,14 @@ use Rattle.capnp_objects.specs.Source.{levels}
 use Rattle.capnp_objects.specs.Wanted.{plain}
 use Rattle.capnp_objects.proofs.Inverted.{not_read_if}
 use Rattle.capnp_objects.proofs.Limits.{not_for_memory}
-use Rattle.capnp_messages.specs.MessageParts.{RefusesPart, part_refused, path_refused}
+use Rattle.capnp_messages.specs.Copies.{RefusesCopy}
+use Rattle.capnp_messages.specs.MessageParts.{RefusesPart, part_within}
 use Rattle.capnp_messages.specs.Parts.{PathEnd, end_at, end_in, follow_path, inside, pointer_in, step, to_element, to_pointer}
 use Rattle.capnp_messages.specs.Roots.{message_root, read_message_root}
-use Rattle.capnp_messages.proofs.CanonLemmas.{never_stops}
+use Rattle.capnp_messages.proofs.EndRefusals.{exceed, never_unread, unmade, unread}
 
 -- AllocationFailed isn't the error of a place that isn't there
-pub not_misplaced : (b : Bool) (id : ℕ) →
+not_misplaced : (b : Bool) (id : ℕ) →
     AllocationFailed ≡ (if b then MessageContainsOutOfBoundsPointer else InvalidSegmentId id) → ⊥
 not_misplaced true id same = cc
 not_misplaced false id same = cc
@@ -101,8 +103,14 @@ never_follow e [] = never_answer e
 never_follow e (i ∷ path) = never_both (step e i) _ (never_step e i) (λ f. never_follow f path)
 
 pub never_part : (S : Segments) (limits : ReaderOptions) (path : List ℕ) → RefusesPart S limits path AllocationFailed → ⊥
-never_part S limits path (path_refused m stops) =
-    never_both (read_message_root S (levels limits.nesting_limit)) (λ r. follow_path (to_pointer r) path) (never_root S (levels limits.nesting_limit))
-    (λ r. never_follow (to_pointer r) path) (unused limits.traversal_limit_in_words) m stops
-never_part S limits path (part_refused e m leads (inl (named, large, out))) = cc
-never_part S limits path (part_refused e m leads (inr (after, refused))) = never_stops e (unused m.left) after AllocationFailed refl refused
+never_part S limits path why = go (part_within S limits path) refl why
+  where
+    go : (found : Result PathEnd ErrorKind × Meter) → part_within S limits path ≡ found → RefusesCopy found max_segment_words AllocationFailed → ⊥
+    go (Err l, m) is named =
+        never_both (read_message_root S (levels limits.nesting_limit)) (λ r. follow_path (to_pointer r) path) (never_root S (levels limits.nesting_limit))
+        (λ r. never_follow (to_pointer r) path) (unused limits.traversal_limit_in_words) m (is ∙ ap (λ k. (Err k, m)) named)
+    go (Ok e, m) is (inr (named, out)) = cc
+    go (Ok e, m) is (inl refused) = elim (unmade max_segment_words e (unused m.left) AllocationFailed refused) [
+      | unread stops ↦ never_unread e (unused m.left) AllocationFailed refl stops
+      | exceed t read more named ↦ absurd (cc named)
+    ]

@@ -1,6 +1,6 @@
 //! Reads the root of a message, and makes canonical copies of a pointer's value: calls of
 //! `capnp_messages` on a `Pointer`, here on a `PointerReader`.
-ghost use Rattle.std.specs.Prelude.{◌≡◌, ◌⊎◌, ◌∷◌, [], ◌↔◌, false, true, IsOk, OnOk, IfOk, OnErr, IfErr};
+ghost use Rattle.std.specs.Prelude.{◌≡◌, ◌⊎◌, ◌∷◌, [], ◌↔◌, false, true, Ok, IsOk, OnOk, IfOk, OnErr, IfErr};
 ghost use Rattle.capnp_words.specs.Meter.{spent};
 ghost use Rattle.capnp_words.specs.declared.error.ErrorKind.{ErrorKind};
 ghost use Rattle.capnp_words.specs.declared.error.ErrorKind.TheVariants.{AllocationFailed};
@@ -12,13 +12,14 @@ ghost use Rattle.capnp_framing.specs.Frames.{frame};
 ghost use Rattle.capnp_framing.specs.Writing.{IsUnwritten, Prints};
 ghost use Rattle.capnp_framing.specs.declared.framing.frame_error.FrameError.{FrameError};
 ghost use Rattle.capnp_framing.specs.declared.framing.frame_error.FrameError.TheVariants.{WriteFailed};
-ghost use Rattle.capnp_objects.specs.Outcomes.{Reads};
 ghost use Rattle.capnp_objects.specs.Source.{levels};
+ghost use Rattle.capnp_objects.specs.Values.{value};
 ghost use Rattle.capnp_objects.specs.Wanted.{canonical};
 ghost use Rattle.capnp_readers.specs.Readers.{read_by};
 ghost use Rattle.capnp_messages.specs.Copies.{HoldsCanonicalWords, LacksMemoryOr, RefusesCopy};
+ghost use Rattle.capnp_messages.specs.Parts.{to_pointer};
 ghost use Rattle.capnp_messages.specs.Roots.{CoversRoot, RefusesRoot, message_root};
-ghost use Rattle.capnp_messages.specs.Tries.{IsMadeByFirstTry};
+ghost use Rattle.capnp_messages.specs.Tries.{IsFirstTry, words_read};
 
 use capnp_arena::arena::{
     Allocator, BuilderArena, BuilderArenaImpl, ReaderArena, ReaderArenaImpl, ReaderSegments,
@@ -74,14 +75,15 @@ pub fn canonicalize_pointer<A: Allocator, B: ReaderArena>(
     lim: &mut ReadLimiter,
 ) -> Result<BuilderArenaImpl<A>, (ErrorKind, A)>
     ensures copied { IfOk result (λ made. (t : Tree)
-        × Reads canonical (read_by B.ReaderArena from.entry) lim.old lim.new t
+        × (value canonical (read_by B.ReaderArena from.entry) lim.old ≡ (Ok t, lim.new))
         × HoldsCanonicalWords (⟦<BuilderArenaImpl<A> as BuilderArena>⟧.view made) t) }
-    ensures tries { IfOk result (λ made. IsMadeByFirstTry (read_by B.ReaderArena from.entry)
+    ensures tries { IfOk result (λ made. IsFirstTry (words_read (read_by B.ReaderArena from.entry))
         (A.offers allocator) (A.refusals allocator)
         (⟦<BuilderArenaImpl<A> as BuilderArena>⟧.view made)) }
     ensures refused { IfErr result
         (λ e. LacksMemoryOr (A.refusals allocator) (A.refusals e.1) e.0
-        (RefusesCopy (read_by B.ReaderArena from.entry) lim.old.left max_segment_words e.0)) }
+        (RefusesCopy (Ok (to_pointer (read_by B.ReaderArena from.entry)), lim.old)
+        max_segment_words e.0)) }
     ensures unread { OnErr result (lim.new ≡ lim.old) }
 {
     messages::canonicalize_pointer(alloc, allocator, from.pointer(), lim)
@@ -105,19 +107,21 @@ pub fn write_canonical<W: Output, B: ReaderArena>(
 ) -> Result<(), CanonicalError>
     requires { W.has_failed output.old ≡ false }
     ensures written { OnOk result ((t : Tree)
-        × Reads canonical (read_by B.ReaderArena from.entry) lim.old lim.new t
+        × (value canonical (read_by B.ReaderArena from.entry) lim.old ≡ (Ok t, lim.new))
         × Prints W.Output output.old output.new (frame (encoding (trim t) ∷ []))) }
     ensures works { OnOk result (W.has_failed output.new ≡ false) }
     ensures layout { IfErr result (λ e. (k : ErrorKind) → e ≡ CanonicalError.Layout k →
         ((k ≡ AllocationFailed)
-        ⊎ RefusesCopy (read_by B.ReaderArena from.entry) lim.old.left max_segment_words k)
+        ⊎ RefusesCopy (Ok (to_pointer (read_by B.ReaderArena from.entry)), lim.old)
+        max_segment_words k)
         × IsUnwritten W.Output output.old output.new) }
     ensures unread { IfErr result (λ e. (k : ErrorKind) → e ≡ CanonicalError.Layout k
         → lim.new ≡ lim.old) }
     ensures frame { IfErr result (λ e. (f : FrameError) → e ≡ CanonicalError.Frame f →
         (f ≡ WriteFailed) × (W.has_failed output.new ≡ true)) }
     ensures charged { IfErr result (λ e. (f : FrameError) → e ≡ CanonicalError.Frame f →
-        (t : Tree) × Reads canonical (read_by B.ReaderArena from.entry) lim.old lim.new t) }
+        (t : Tree) × (value canonical (read_by B.ReaderArena from.entry) lim.old
+        ≡ (Ok t, lim.new))) }
 {
     messages::write_canonical(alloc, output, from.pointer(), lim)
 }

@@ -3,9 +3,10 @@ ghost use Rattle.std.specs.Prelude.{OnOk, IfOk, IfErr};
 ghost use Rattle.capnp_format.specs.Bytes.{message};
 ghost use Rattle.capnp_format.specs.Tree.{Tree};
 ghost use Rattle.capnp_arena_traits.specs.Limits.{IsSmall};
+ghost use Rattle.capnp_framing.specs.Reading.{total};
 ghost use Rattle.capnp_messages.specs.Copies.{HoldsCanonicalWords, LacksMemoryOr};
-ghost use Rattle.capnp_messages.specs.Messages.{IsValueOf, root_within};
-ghost use Rattle.capnp_messages.specs.Tries.{IsMadeByFirstTry};
+ghost use Rattle.capnp_messages.specs.Messages.{IsValueOf};
+ghost use Rattle.capnp_messages.specs.Tries.{IsFirstTry};
 ghost use Rattle.capnp_layout.specs.Answers.{RefusesMessage};
 ghost use Rattle.capnp_layout.specs.Messages.{segments_in};
 
@@ -32,7 +33,7 @@ pub(crate) fn canonicalize_root<A: Allocator>(
         × IsValueOf (message (segments_in source)) options t
         × HoldsCanonicalWords (⟦<BuilderArenaImpl<A> as BuilderArena>⟧.view made) t) }
     ensures tries { IfOk result (λ made.
-        IsMadeByFirstTry (root_within (message (segments_in source)) options)
+        IsFirstTry (total (message (segments_in source)))
         (A.offers allocator) (A.refusals allocator)
         (⟦<BuilderArenaImpl<A> as BuilderArena>⟧.view made)) }
     ensures refused { IfErr result

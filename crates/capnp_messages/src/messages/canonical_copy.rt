@@ -3,24 +3,26 @@
 //! has; each further try requests twice as many words as the try before; no try requests more than
 //! 536,870,911 words. Below this limit, all tries together take no longer than twice the last try.
 //! During a try the message has no allocator, so the copy can't get a second segment.
-ghost use Rattle.std.specs.Prelude.{◌≡◌, ◌⊎◌, ◌<◌, ◌≤◌, ◌+◌, ◌*◌, ◌∷◌, [], false, length, min, IsTrue, OnOk, IfOk, OnErr, IfErr};
+ghost use Rattle.std.specs.Prelude.{◌≡◌, ◌⊎◌, ◌<◌, ◌≤◌, ◌+◌, ◌*◌, ◌∷◌, [], false, length, min, Ok, Err, IsTrue, OnOk, IfOk, OnErr, IfErr};
 ghost use Rattle.std.specs.Bool.{OnFalse, OnTrue};
 ghost use Rattle.capnp_format.specs.Canonical.{encoding};
 ghost use Rattle.capnp_format.specs.Tree.{Tree};
 ghost use Rattle.capnp_words.specs.Meter.{Meter, raised, unused};
 ghost use Rattle.capnp_words.specs.declared.error.ErrorKind.TheVariants.{AllocationFailed};
 ghost use Rattle.capnp_arena_traits.specs.Allocations.{max_segment_words, one_more};
-ghost use Rattle.capnp_objects.specs.Outcomes.{Reads};
+ghost use Rattle.capnp_objects.specs.Values.{value};
 ghost use Rattle.capnp_objects.specs.Wanted.{canonical};
 ghost use Rattle.capnp_objects.specs.Pointers.{reading};
 ghost use Rattle.capnp_copies.specs.Changes.{IsNullPlace, MakesCopy, StopsCopy, copy_call};
 ghost use Rattle.capnp_making.specs.Makes.{call_at};
-ghost use Rattle.capnp_messages.specs.Copies.{HoldsCanonicalWords, LacksMemoryOr, RefusesCopy, is_message_too_large};
-ghost use Rattle.capnp_messages.specs.EndValues.{EndIsMadeByFirstTry, EndNeedsMoreRoom, EndReads, EndStops, IsEndThere, RefusesEndCopy, RefusesEndCopyAnywhere, end_original, end_place};
+ghost use Rattle.capnp_messages.specs.Canonicalize.{end_value};
+ghost use Rattle.capnp_messages.specs.Copies.{HoldsCanonicalWords, LacksMemoryOr, NeedsMoreRoom, RefusesCopy, is_message_too_large};
+ghost use Rattle.capnp_messages.specs.EndValues.{EndReads, IsEndThere, end_original, end_place};
+ghost use Rattle.capnp_messages.specs.Parts.{to_pointer};
 ghost use Rattle.capnp_messages.specs.PathEnds.{end_read};
 ghost use Rattle.capnp_words.specs.Names.{is_allocation_name};
 ghost use Rattle.capnp_messages.specs.CanonicalErrors.{IsLeftOf};
-ghost use Rattle.capnp_messages.specs.Tries.{IsMadeByFirstTry, IsSegmentRoom, room_of_try, words_read};
+ghost use Rattle.capnp_messages.specs.Tries.{IsFirstTry, IsSegmentRoom, room_of_try, words_read};
 
 use super::path::Reached;
 use capnp_arena::arena::{
@@ -82,15 +84,13 @@ fn canonicalize_to_root<A: BuilderArena, B: ReaderArena>(
     left: Option<usize>,
 ) -> Result<ReadLimiter, ErrorKind>
     requires root { (A.view arena.old).words ≡ (0 ∷ []) ∷ [] }
-    ensures copied { IfOk result (λ after. (t : Tree)
-        × EndReads (end_read B.ReaderArena from.entry) (unused left) after t
-        × (length (A.view arena.new).words ≡ 1 → HoldsCanonicalWords (A.view arena.new) t)) }
-    ensures room { OnOk result ((A.view arena.new).room 0 ≡ (A.view arena.old).room 0) }
-    ensures alone { OnOk result ((length (A.view arena.new).words ≡ 1)
-        ⊎ EndNeedsMoreRoom (end_read B.ReaderArena from.entry) ((A.view arena.old).room 0)) }
-    ensures refused { IfErr result
-        (RefusesEndCopyAnywhere (end_read B.ReaderArena from.entry) left
-        ((A.view arena.old).room 0)) }
+    ensures there { IsEndThere (end_read B.ReaderArena from.entry) }
+    ensures copied { IfOk result (λ after.
+        MakesCopy (end_original (end_read B.ReaderArena from.entry)) (copy_call canonical
+        (call_at 0 0 (A.view arena.old) (A.view arena.new)) (unused left) after)) }
+    ensures refused { IfErr result (λ k. (after : Meter) × (t : Tree)
+        × StopsCopy (end_original (end_read B.ReaderArena from.entry)) (copy_call canonical
+        (call_at 0 0 (A.view arena.old) (A.view arena.new)) (unused left) after) t k) }
 {
     let mut lim = ReadLimiter::new(left);
     let root = WordPlace { segment: 0, at: 0 };
@@ -113,7 +113,8 @@ fn canonicalize_to_segment<A: Allocator, B: ReaderArena>(
         × HoldsCanonicalWords (⟦<BuilderArenaImpl<A> as BuilderArena>⟧.view arena.new) t) }
     ensures room { OnOk result ((⟦<BuilderArenaImpl<A> as BuilderArena>⟧.view arena.new).room 0
         ≡ (⟦<BuilderArenaImpl<A> as BuilderArena>⟧.view arena.old).room 0) }
-    ensures refused { IfErr result (RefusesEndCopy (end_read B.ReaderArena from.entry) left room) }
+    ensures refused { IfErr result
+        (RefusesCopy (Ok (end_read B.ReaderArena from.entry), unused left) room) }
 {
     let too_large = ErrorKind::MessageTooLarge(room as usize);
     match canonicalize_to_root(arena, from, left) {
@@ -210,7 +211,7 @@ fn canonicalize_to_message<A: Allocator, B: ReaderArena>(
     ensures given_back { IfErr result (λ e. A.offers e.1 ≡ A.offers allocator) }
     ensures refused { IfErr result
         (λ e. LacksMemoryOr (A.refusals allocator) (A.refusals e.1) e.0
-        (RefusesEndCopy (end_read B.ReaderArena from.entry) lim.old.left room e.0)) }
+        (RefusesCopy (Ok (end_read B.ReaderArena from.entry), lim.old) room e.0)) }
     ensures unread { OnErr result (lim.new ≡ lim.old) }
 {
     let mut made = BuilderArenaImpl::new(alloc, allocator);
@@ -297,11 +298,11 @@ pub(super) fn canonicalize_reached_into<A: Allocator, B: ReaderArena>(
         ((⟦<BuilderArenaImpl<A> as BuilderArena>⟧.view made.old).offers room
         ((⟦<BuilderArenaImpl<A> as BuilderArena>⟧.view made.new).room 0)))) }
     ensures small { IfOk result (λ fits. OnFalse fits
-        (EndNeedsMoreRoom (end_read B.ReaderArena from.entry) room
+        (NeedsMoreRoom (end_read B.ReaderArena from.entry) room
         ⊎ ((⟦<BuilderArenaImpl<A> as BuilderArena>⟧.view made.new).refusals
         ≡ one_more (⟦<BuilderArenaImpl<A> as BuilderArena>⟧.view made.old).refusals))) }
-    ensures refused { IfErr result (λ k. (m : Meter)
-        × EndStops (end_read B.ReaderArena from.entry) (unused left) m k) }
+    ensures refused { IfErr result (λ k.
+        (end_value canonical (end_read B.ReaderArena from.entry) (unused left)).0 ≡ Err k) }
 {
     if allocate_root(made, room).is_err() {
         return Ok(false);
@@ -328,12 +329,13 @@ pub(super) fn canonicalize_reached<A: Allocator, B: ReaderArena>(
     ensures copied { IfOk result (λ made. (t : Tree)
         × EndReads (end_read B.ReaderArena from.entry) lim.old lim.new t
         × HoldsCanonicalWords (⟦<BuilderArenaImpl<A> as BuilderArena>⟧.view made) t) }
-    ensures tries { IfOk result (λ made. EndIsMadeByFirstTry (end_read B.ReaderArena from.entry)
+    ensures tries { IfOk result (λ made.
+        IsFirstTry (words_read (end_place (end_read B.ReaderArena from.entry)))
         (A.offers allocator) (A.refusals allocator)
         (⟦<BuilderArenaImpl<A> as BuilderArena>⟧.view made)) }
     ensures refused { IfErr result
         (λ e. LacksMemoryOr (A.refusals allocator) (A.refusals e.1) e.0
-        (RefusesEndCopy (end_read B.ReaderArena from.entry) lim.old.left max_segment_words e.0)) }
+        (RefusesCopy (Ok (end_read B.ReaderArena from.entry), lim.old) max_segment_words e.0)) }
     ensures unread { OnErr result (lim.new ≡ lim.old) }
 {
     let mut room = first_room(arena_words_of_reached(&from));
@@ -370,14 +372,15 @@ pub fn canonicalize_pointer<A: Allocator, B: ReaderArena>(
     lim: &mut ReadLimiter,
 ) -> Result<BuilderArenaImpl<A>, (ErrorKind, A)>
     ensures copied { IfOk result (λ made. (t : Tree)
-        × Reads canonical (reading B.ReaderArena from.entry) lim.old lim.new t
+        × (value canonical (reading B.ReaderArena from.entry) lim.old ≡ (Ok t, lim.new))
         × HoldsCanonicalWords (⟦<BuilderArenaImpl<A> as BuilderArena>⟧.view made) t) }
-    ensures tries { IfOk result (λ made. IsMadeByFirstTry (reading B.ReaderArena from.entry)
+    ensures tries { IfOk result (λ made. IsFirstTry (words_read (reading B.ReaderArena from.entry))
         (A.offers allocator) (A.refusals allocator)
         (⟦<BuilderArenaImpl<A> as BuilderArena>⟧.view made)) }
     ensures refused { IfErr result
         (λ e. LacksMemoryOr (A.refusals allocator) (A.refusals e.1) e.0
-        (RefusesCopy (reading B.ReaderArena from.entry) lim.old.left max_segment_words e.0)) }
+        (RefusesCopy (Ok (to_pointer (reading B.ReaderArena from.entry)), lim.old)
+        max_segment_words e.0)) }
     ensures unread { OnErr result (lim.new ≡ lim.old) }
 {
     canonicalize_reached(alloc, allocator, Reached::Pointer(from), lim)

@@ -3,9 +3,10 @@
 
 mod parts;
 
-ghost use Rattle.std.specs.Prelude.{◌≡◌, ◌↔◌, ◌⊎◌, ◌≤◌, ◌+◌, ℕ, List, None, Some, Ok, Err, IsOk, length};
+ghost use Rattle.std.specs.Prelude.{◌≡◌, ◌↔◌, ◌⊎◌, ◌<◌, ◌≤◌, ◌+◌, ℕ, List, true, None, Some, Ok, Err, IsOk, length};
 ghost use Rattle.capnp_words.specs.declared.error.ErrorKind.{ErrorKind};
 ghost use Rattle.capnp_words.specs.declared.error.ErrorKind.TheVariants.{MessageTooLarge};
+ghost use Rattle.capnp_words.specs.Meter.{Meter, unused};
 ghost use Rattle.capnp_format.specs.Segments.{HasSmallWords, Segments};
 ghost use Rattle.capnp_format.specs.Tree.{Tree, depth};
 ghost use Rattle.capnp_format.specs.Means.{Means};
@@ -19,8 +20,12 @@ ghost use Rattle.capnp_objects.specs.declared.pointers.canonical_fault.Canonical
 ghost use Rattle.capnp_objects.specs.declared.pointers.sizes.MessageSize.{MessageSize};
 ghost use Rattle.capnp_messages.specs.CanonicalMessages.{IsCanonicalMessage, IsCanonicalOf};
 ghost use Rattle.capnp_messages.specs.Check.{check, plain_value};
-ghost use Rattle.capnp_messages.specs.Canonicalize.{OutgrowsSegment, canonical_value, canonicalize};
-ghost use Rattle.capnp_messages.specs.Messages.{IsReadable, IsValueOf, RefusesCanon, message_size};
+ghost use Rattle.capnp_messages.specs.Canonicalize.{canonical_value, canonical_words, canonicalize};
+ghost use Rattle.capnp_messages.specs.Copies.{OutgrowsRoom, RefusesCopy};
+ghost use Rattle.capnp_messages.specs.EndValues.{end_place, end_words};
+ghost use Rattle.capnp_messages.specs.Messages.{IsReadable, IsValueOf, RefusesCanon, left_of, message_size, root_within};
+ghost use Rattle.capnp_messages.specs.Parts.{PathEnd, to_pointer};
+ghost use Rattle.capnp_messages.specs.Roots.{CoversRoot};
 
 pub use parts::parts_found;
 
@@ -51,17 +56,23 @@ pub fn copies_computed()
         × (1 + word_count (trim t) ≤ max_segment_words) × (words ≡ encoding (trim t))) }
 {}
 
-/// Apart from lack of memory, a canonical copy is refused with the error of `canonicalize`, or with
-/// `MessageTooLarge` if it outgrows a segment (`exactly`). If the traversal limit is at most the
-/// number of words that a segment can have, no copy outgrows one, so a refusal has one name
-/// (`within`).
+/// Apart from lack of memory, a canonical copy of a whole message is refused with the error of
+/// `canonicalize`, or with `MessageTooLarge` if it outgrows a segment (`exactly`). If the traversal
+/// limit is at most the number of words that a segment can have, no copy outgrows one, so a refusal
+/// has one name (`within`). So has the refusal of a copy of what is at the end of a path, if what
+/// the limit has left there, with the words of an element, is less than this number (`at_end`).
 pub fn copies_refused()
     ensures exactly { (S : Segments) (limits : ReaderOptions) (k : ErrorKind)
         → RefusesCanon S limits k ↔ ((canonicalize S limits ≡ Err k)
-        ⊎ ((k ≡ MessageTooLarge max_segment_words) × OutgrowsSegment S limits)) }
+        ⊎ ((k ≡ MessageTooLarge max_segment_words) × CoversRoot S limits.traversal_limit_in_words
+        × OutgrowsRoom (to_pointer (root_within S limits)) (left_of limits) max_segment_words)) }
     ensures within { (S : Segments) (limits : ReaderOptions) (n : ℕ) (k : ErrorKind)
         → limits.traversal_limit_in_words ≡ Some n → n ≤ max_segment_words
         → RefusesCanon S limits k ↔ (canonicalize S limits ≡ Err k) }
+    ensures at_end { (e : PathEnd) (m : Meter) (n : ℕ) (k : ErrorKind)
+        → (end_place e).charging ≡ true → m.left ≡ Some n → n + end_words e < max_segment_words
+        → RefusesCopy (Ok e, m) max_segment_words k
+        ↔ ((canonical_words max_segment_words e (unused m.left)).0 ≡ Err k) }
 {}
 
 /// The test of a whole message is a function of its segments and the limits, `check`. If the words

@@ -6,12 +6,12 @@ ghost use Rattle.capnp_words.specs.Meter.{Meter};
 ghost use Rattle.capnp_format.specs.Bytes.{message};
 ghost use Rattle.capnp_format.specs.Tree.{Tree};
 ghost use Rattle.capnp_arena_traits.specs.Allocations.{one_more};
-ghost use Rattle.capnp_messages.specs.Copies.{HoldsCanonicalWords, LacksMemoryOr};
-ghost use Rattle.capnp_messages.specs.EndValues.{EndIsMadeByFirstTry, EndNeedsMoreRoom};
+ghost use Rattle.capnp_messages.specs.Copies.{HoldsCanonicalWords, LacksMemoryOr, NeedsMoreRoom};
+ghost use Rattle.capnp_messages.specs.EndValues.{end_place};
 ghost use Rattle.capnp_messages.specs.MessageParts.{IsPartOf, RefusesPart, part_size, part_within};
 ghost use Rattle.capnp_messages.specs.Messages.{arena_limits};
 ghost use Rattle.capnp_messages.specs.Parts.{PathEnd};
-ghost use Rattle.capnp_messages.specs.Tries.{IsSegmentRoom};
+ghost use Rattle.capnp_messages.specs.Tries.{IsFirstTry, IsSegmentRoom, words_read};
 
 use super::canonical_copy::{canonicalize_reached, canonicalize_reached_into};
 use super::path::read_part;
@@ -47,7 +47,7 @@ pub fn canonicalize_part<A: Allocator, S: ReaderSegments>(
     ensures tries { IfOk result (λ made. (e : PathEnd) × (m : Meter) × (part_within
         (message (⟦<ReaderArenaImpl<S> as ReaderArena>⟧.segments source.now))
         (arena_limits source.now.nesting_limit traversal_limit_in_words) path.now ≡ (Ok e, m))
-        × EndIsMadeByFirstTry e (A.offers allocator) (A.refusals allocator)
+        × IsFirstTry (words_read (end_place e)) (A.offers allocator) (A.refusals allocator)
         (⟦<BuilderArenaImpl<A> as BuilderArena>⟧.view made)) }
     ensures refused { IfErr result
         (λ e. LacksMemoryOr (A.refusals allocator) (A.refusals e.1) e.0 (RefusesPart
@@ -87,7 +87,7 @@ pub fn canonicalize_part_into<A: Allocator, S: ReaderSegments>(
     ensures small { IfOk result (λ fits. OnFalse fits (((e : PathEnd) × (m : Meter) × (part_within
         (message (⟦<ReaderArenaImpl<S> as ReaderArena>⟧.segments source.now))
         (arena_limits source.now.nesting_limit traversal_limit_in_words) path.now ≡ (Ok e, m))
-        × EndNeedsMoreRoom e room)
+        × NeedsMoreRoom e room)
         ⊎ ((⟦<BuilderArenaImpl<A> as BuilderArena>⟧.view made.new).refusals
         ≡ one_more (⟦<BuilderArenaImpl<A> as BuilderArena>⟧.view made.old).refusals))) }
     ensures refused { IfErr result (RefusesPart

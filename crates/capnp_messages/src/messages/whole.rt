@@ -5,12 +5,13 @@ ghost use Rattle.std.specs.Bool.{OnFalse, OnTrue};
 ghost use Rattle.capnp_format.specs.Bytes.{message};
 ghost use Rattle.capnp_format.specs.Tree.{Tree};
 ghost use Rattle.capnp_arena_traits.specs.Allocations.{one_more};
-ghost use Rattle.capnp_messages.specs.Copies.{HoldsCanonicalWords, LacksMemoryOr};
+ghost use Rattle.capnp_messages.specs.Copies.{HoldsCanonicalWords, LacksMemoryOr, NeedsMoreRoom};
 ghost use Rattle.capnp_framing.specs.Reading.{total};
 ghost use Rattle.capnp_messages.specs.CanonicalMessages.{IsCanonicalMessage};
-ghost use Rattle.capnp_messages.specs.Canonicalize.{IsRefusalOf, canonical_value};
+ghost use Rattle.capnp_messages.specs.Canonicalize.{canonical_value};
 ghost use Rattle.capnp_messages.specs.Check.{check};
-ghost use Rattle.capnp_messages.specs.Tries.{IsFirstTry, IsSegmentRoom, NeedsMoreRoom};
+ghost use Rattle.capnp_messages.specs.Parts.{to_pointer};
+ghost use Rattle.capnp_messages.specs.Tries.{IsFirstTry, IsSegmentRoom};
 ghost use Rattle.capnp_messages.specs.Messages.{HasSizeOf, HasSizeWithin, IsCanonicalWithin, IsFaultOf, IsValueOf, RefusesCanon, RefusesCheck, RefusesSize, arena_limits, message_size, root_within};
 
 use super::canonical_copy::{canonicalize_pointer, canonicalize_reached_into};
@@ -48,7 +49,7 @@ pub fn canonicalize<A: Allocator, S: ReaderSegments>(
         (A.offers allocator) (A.refusals allocator)
         (⟦<BuilderArenaImpl<A> as BuilderArena>⟧.view made)) }
     ensures refused { IfErr result
-        (λ e. LacksMemoryOr (A.refusals allocator) (A.refusals e.1) e.0 (IsRefusalOf
+        (λ e. LacksMemoryOr (A.refusals allocator) (A.refusals e.1) e.0 (RefusesCanon
         (message (⟦<ReaderArenaImpl<S> as ReaderArena>⟧.segments source.now))
         (arena_limits source.now.nesting_limit traversal_limit_in_words) e.0)) }
 {
@@ -81,9 +82,9 @@ pub fn canonicalize_into<A: Allocator, S: ReaderSegments>(
     ensures asked { IfOk result (λ fits. OnTrue fits (IsTrue
         ((⟦<BuilderArenaImpl<A> as BuilderArena>⟧.view made.old).offers room
         ((⟦<BuilderArenaImpl<A> as BuilderArena>⟧.view made.new).room 0)))) }
-    ensures small { IfOk result (λ fits. OnFalse fits (NeedsMoreRoom (root_within
+    ensures small { IfOk result (λ fits. OnFalse fits (NeedsMoreRoom (to_pointer (root_within
         (message (⟦<ReaderArenaImpl<S> as ReaderArena>⟧.segments source.now))
-        (arena_limits source.now.nesting_limit traversal_limit_in_words)) room
+        (arena_limits source.now.nesting_limit traversal_limit_in_words))) room
         ⊎ ((⟦<BuilderArenaImpl<A> as BuilderArena>⟧.view made.new).refusals
         ≡ one_more (⟦<BuilderArenaImpl<A> as BuilderArena>⟧.view made.old).refusals))) }
     ensures refused { IfErr result (RefusesCanon

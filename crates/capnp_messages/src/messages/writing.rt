@@ -1,6 +1,6 @@
 //! Writes a message in canonical form as a frame (encoding specification, "Canonicalization" and
 //! "Serialization Over a Stream").
-ghost use Rattle.std.specs.Prelude.{◌≡◌, ◌⊎◌, ◌∷◌, ◌<◌, ◌≤◌, ◌*◌, ◌/◌, ◌^◌, [], ℕ, List, false, true, length, OnOk, IfErr};
+ghost use Rattle.std.specs.Prelude.{◌≡◌, ◌⊎◌, ◌∷◌, ◌<◌, ◌≤◌, ◌*◌, ◌/◌, ◌^◌, [], ℕ, List, false, true, length, Ok, OnOk, IfErr};
 ghost use Rattle.capnp_words.specs.declared.error.ErrorKind.{ErrorKind};
 ghost use Rattle.capnp_words.specs.declared.error.ErrorKind.TheVariants.{AllocationFailed};
 ghost use Rattle.capnp_format.specs.Bytes.{message, words_of};
@@ -11,11 +11,12 @@ ghost use Rattle.capnp_framing.specs.Frames.{bytes_of_words, frame};
 ghost use Rattle.capnp_framing.specs.Writing.{IsUnwritten, Prints, Writes};
 ghost use Rattle.capnp_framing.specs.declared.framing.frame_error.FrameError.{FrameError};
 ghost use Rattle.capnp_framing.specs.declared.framing.frame_error.FrameError.TheVariants.{WriteFailed};
-ghost use Rattle.capnp_objects.specs.Outcomes.{Reads};
+ghost use Rattle.capnp_objects.specs.Values.{value};
 ghost use Rattle.capnp_objects.specs.Wanted.{canonical};
 ghost use Rattle.capnp_objects.specs.Pointers.{reading};
 ghost use Rattle.capnp_messages.specs.Commands.{form_bytes};
 ghost use Rattle.capnp_messages.specs.Copies.{RefusesCopy};
+ghost use Rattle.capnp_messages.specs.Parts.{to_pointer};
 
 use super::canonical_copy::canonicalize_pointer;
 use super::canonical_error::CanonicalError;
@@ -117,19 +118,21 @@ pub fn write_canonical<W: Output, B: ReaderArena>(
 ) -> Result<(), CanonicalError>
     requires { W.has_failed output.old ≡ false }
     ensures written { OnOk result ((t : Tree)
-        × Reads canonical (reading B.ReaderArena from.entry) lim.old lim.new t
+        × (value canonical (reading B.ReaderArena from.entry) lim.old ≡ (Ok t, lim.new))
         × Prints W.Output output.old output.new (frame (encoding (trim t) ∷ []))) }
     ensures works { OnOk result (W.has_failed output.new ≡ false) }
     ensures layout { IfErr result (λ e. (k : ErrorKind) → e ≡ CanonicalError.Layout k →
         ((k ≡ AllocationFailed)
-        ⊎ RefusesCopy (reading B.ReaderArena from.entry) lim.old.left max_segment_words k)
+        ⊎ RefusesCopy (Ok (to_pointer (reading B.ReaderArena from.entry)), lim.old)
+        max_segment_words k)
         × IsUnwritten W.Output output.old output.new) }
     ensures unread { IfErr result (λ e. (k : ErrorKind) → e ≡ CanonicalError.Layout k
         → lim.new ≡ lim.old) }
     ensures frame { IfErr result (λ e. (f : FrameError) → e ≡ CanonicalError.Frame f →
         (f ≡ WriteFailed) × (W.has_failed output.new ≡ true)) }
     ensures charged { IfErr result (λ e. (f : FrameError) → e ≡ CanonicalError.Frame f →
-        (t : Tree) × Reads canonical (reading B.ReaderArena from.entry) lim.old lim.new t) }
+        (t : Tree) × (value canonical (reading B.ReaderArena from.entry) lim.old
+        ≡ (Ok t, lim.new))) }
 {
     match canonicalize_pointer(alloc, CopyMemory::new(alloc), from, lim) {
         Ok(made) => write_copy(output, &made),

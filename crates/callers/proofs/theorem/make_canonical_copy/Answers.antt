@@ -1,9 +1,11 @@
-use Rattle.std.proofs.Common.{ap, arith, length}
+use Rattle.std.proofs.Common.{ℕ, ap, arith, length}
 use Rattle.capnp_format.specs.Bytes.{message}
+use Rattle.capnp_format.specs.Canonical.{trim, word_count}
 use Rattle.capnp_format.specs.Segments.{Segments, segment}
+use Rattle.capnp_format.proofs.Levels.{one_value}
 use Rattle.capnp_objects.specs.Source.{levels}
 use Rattle.capnp_messages.proofs.AnsweredLemmas.{copy_lacks_memory}
-use Rattle.capnp_messages.proofs.CanonicalizeLemmas.{by_first_try, or_relation, value_if}
+use Rattle.capnp_messages.proofs.CanonicalizeLemmas.{value_if}
 use Rattle.capnp_framing.specs.Reading.{total}
 use Rattle.capnp_messages.specs.Tries.{room_of_try}
 use Rattle.callers.proofs.Copied.{asked_no_more}
@@ -23,16 +25,19 @@ returns-in-Ok-clause-asked g c =
     let S = message (g.S.ReaderSegments.segments c.args.segments) in
     let (u, is, made) = rw (c.new-source.ensures.words, c.new-source.ensures.nesting) at c.in-Ok.ensures.copied in
     let first = rw c.new-source.ensures.words at c.in-Ok.ensures.tries in
-    let tries = by_first_try {limits = c.args.limits} u (value_if is) made first in (
-      room_of_try (total S) tries.try,
-      tries.asked,
+    let other = value_if is in
+    let long = ap (λ (M : Segments). length (segment M 0)) made in
+    let n : ℕ = levels c.args.limits.nesting_limit in (
+      room_of_try (total S) first.try,
+      first.asked,
       λ t value.
-          asked_no_more S tries.try (λ j less. tries.before j less t value.cost value.means),
+          let one = ap (λ v. word_count (trim v)) (one_value S n n 0 0 u t other.cost value.cost other.means value.means).0 in
+          asked_no_more S first.try (λ j less. omega (arith, first.before j less, long, canonical_long S n 0 0 u other.cost other.means, one)),
     )
 
 pub returns-clause-exactly_where : goal.returns-clause-exactly_where
 returns-clause-exactly_where g c = λ has.
-    copy_lacks_memory (message (g.S.ReaderSegments.segments c.args.segments)) c.args.limits has (or_relation (rw (c.new-source.ensures.words, c.new-source.ensures.nesting) at c.in-Err.ensures.refused))
+    copy_lacks_memory (message (g.S.ReaderSegments.segments c.args.segments)) c.args.limits has (rw (c.new-source.ensures.words, c.new-source.ensures.nesting) at c.in-Err.ensures.refused)
 
 pub returns-clause-refused : goal.returns-clause-refused
-returns-clause-refused g c = or_relation (rw (c.new-source.ensures.words, c.new-source.ensures.nesting) at c.in-Err.ensures.refused)
+returns-clause-refused g c = rw (c.new-source.ensures.words, c.new-source.ensures.nesting) at c.in-Err.ensures.refused

@@ -1,6 +1,6 @@
 use Rattle.std.proofs.Common.{rules, inl, inr, refl, IsOk}
 use Rattle.std.proofs.lemmas.Result.{IfErr-weaker, IfOk-weaker}
-use Rattle.capnp_messages.proofs.CanonicalizeLemmas.{both_ok, by_first_try, or_relation, value_if}
+use Rattle.capnp_messages.proofs.CanonicalizeLemmas.{value_if}
 use Rattle.capnp_layout.specs.Messages.{segments_in}
 use Rattle.capnp_layout.proofs.RunLemmas.{refuses_segments}
 use Rattle.capnp_layout.proofs.tool.canon.canonicalize_root.Goals as goal
@@ -11,7 +11,7 @@ returns-in-Err-clause-refused g c =
 
 pub returns-in-Ok-clause-refused : goal.returns-in-Ok-clause-refused
 returns-in-Ok-clause-refused g c =
-    IfErr-weaker c.canonicalize.result _ _ (λ e no. refuses_segments c.args.options (segments_in c.args.source) (or_relation no)) (rw (c.new-arena.ensures.words, c.new-arena.ensures.nesting) at c.canonicalize.ensures.refused)
+    IfErr-weaker c.canonicalize.result _ _ (λ e no. refuses_segments c.args.options (segments_in c.args.source) no) (rw (c.new-arena.ensures.words, c.new-arena.ensures.nesting) at c.canonicalize.ensures.refused)
 
 pub returns-in-Ok-clause-value : goal.returns-in-Ok-clause-value
 returns-in-Ok-clause-value g c =
@@ -19,5 +19,4 @@ returns-in-Ok-clause-value g c =
 
 pub returns-in-Ok-clause-tries : goal.returns-in-Ok-clause-tries
 returns-in-Ok-clause-tries g c =
-    both_ok c.canonicalize.result (rw (c.new-arena.ensures.words, c.new-arena.ensures.nesting) at c.canonicalize.ensures.copied) (rw c.new-arena.ensures.words at c.canonicalize.ensures.tries)
-    (λ made (t, is, words) tries. by_first_try {limits = c.args.options} t (value_if is) words tries)
+    rw c.new-arena.ensures.words at c.canonicalize.ensures.tries

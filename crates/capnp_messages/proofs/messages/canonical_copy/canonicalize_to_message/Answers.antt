@@ -1,6 +1,7 @@
-use Rattle.std.proofs.Common.{◌∙◌, ◌≤◌, ℕ, Option, inr, ap, sym, subst}
+use Rattle.std.proofs.Common.{◌∙◌, ◌≤◌, ℕ, Ok, Option, inr, ap, sym, subst}
+use Rattle.capnp_words.specs.Meter.{unused}
 use Rattle.capnp_format.specs.Bytes.{message}
-use Rattle.capnp_messages.specs.EndValues.{RefusesEndCopy}
+use Rattle.capnp_messages.specs.Copies.{RefusesCopy}
 use Rattle.capnp_messages.specs.PathEnds.{end_read}
 use Rattle.capnp_messages.specs.CanonicalErrors.{IsLeftOf}
 use Rattle.capnp_messages.proofs.CanonLemmas.{moved_offer}
@@ -26,6 +27,6 @@ returns-in-Ok-clause-asked g c =
 
 pub returns-in-Err-copied-clause-refused : goal.returns-in-Err-copied-clause-refused
 returns-in-Err-copied-clause-refused g c =
-    let refused = subst (λ (l : Option ℕ). RefusesEndCopy (end_read g.B.ReaderArena c.args.from) l c.args.room c.in-Err-copied.kind) c.left.ensures c.in-Err-copied.ensures.refused in
+    let refused = subst (λ (l : Option ℕ). RefusesCopy (Ok (end_read g.B.ReaderArena c.args.from), unused l) c.args.room c.in-Err-copied.kind) c.left.ensures c.in-Err-copied.ensures.refused in
     let same = c.into_allocator-in-Err-copied.ensures.refusals ∙ c.with_allocator-made.ensures.refusals ∙ ap g.A.Allocator.refusals c.without_allocator-segments.ensures.allocator ∙ c.in_default.ensures.granted ∙ c.new-made.ensures.refusals in
     inr (refused, same)

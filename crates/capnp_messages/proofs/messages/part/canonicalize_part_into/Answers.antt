@@ -4,9 +4,8 @@ use Rattle.std.proofs.lemmas.Result.{IfErr-weaker, IfOk-weaker, err_from_is_err_
 use Rattle.capnp_format.specs.Bytes.{message}
 use Rattle.capnp_format.specs.Segments.{Segments}
 use Rattle.capnp_arena_traits.specs.Limits.{whole}
-use Rattle.capnp_messages.specs.MessageParts.{path_refused}
 use Rattle.capnp_messages.specs.Messages.{arena_limits}
-use Rattle.capnp_messages.proofs.MessagePartLemmas.{own_part_copy_refused, own_part_needs, part_here, part_of_own_copy}
+use Rattle.capnp_messages.proofs.MessagePartLemmas.{own_part_copy_refused, own_part_needs, part_here, part_of_own_copy, path_refused}
 use Rattle.capnp_messages.proofs.messages.part.canonicalize_part_into.Goals as goal
 
 pub returns-in_err-part-clause-refused : goal.returns-in_err-part-clause-refused
@@ -14,7 +13,7 @@ returns-in_err-part-clause-refused g c =
     let S : Segments = message (map whole (g.S.ReaderSegments.segments c.args.source.now.segments)) in
     let stops = part_here S (arena_limits c.args.source.now.nesting_limit c.args.traversal_limit_in_words) c.args.path.now _ _ c.new-lim.ensures c.in_err-part.ensures in
     let p = err_from_is_err_and c.from_residual.result c.from_residual.ensures.1 in
-    rw (p.1, p.2) (path_refused c.read_part.new.lim stops)
+    rw (p.1, p.2) (path_refused S (arena_limits c.args.source.now.nesting_limit c.args.traversal_limit_in_words) c.args.path.now stops)
 
 pub returns-clause-copied : goal.returns-clause-copied
 returns-clause-copied g c =
@@ -32,4 +31,4 @@ pub returns-clause-refused : goal.returns-clause-refused
 returns-clause-refused g c =
     let S : Segments = message (map whole (g.S.ReaderSegments.segments c.args.source.now.segments)) in
     let leads = part_here S (arena_limits c.args.source.now.nesting_limit c.args.traversal_limit_in_words) c.args.path.now _ _ c.new-lim.ensures c.in_ok-part.ensures in
-    IfErr-weaker c.canonicalize_reached_into.result _ _ (λ k h. own_part_copy_refused leads c.left.ensures h) c.canonicalize_reached_into.ensures.refused
+    IfErr-weaker c.canonicalize_reached_into.result _ _ (λ k h. own_part_copy_refused S (arena_limits c.args.source.now.nesting_limit c.args.traversal_limit_in_words) c.args.path.now leads c.left.ensures h) c.canonicalize_reached_into.ensures.refused

@@ -1,8 +1,8 @@
-use Rattle.std.proofs.Common.{inl, inr, rules, IsOk, refl}
+use Rattle.std.proofs.Common.{inr, rules, IsOk, refl}
 use Rattle.std.proofs.lemmas.Result.{IfErr-weaker, IfOk-weaker}
 use Rattle.capnp_messages.specs.Messages.{arena_limits}
-use Rattle.capnp_messages.proofs.CanonicalizeLemmas.{both_ok, first_try, or_refusal, read_of, without_root}
-use Rattle.capnp_messages.proofs.MessageLemmas.{AtRoot, at_root, copy_refused}
+use Rattle.capnp_messages.proofs.CanonicalizeLemmas.{copy_refused, first_try, read_of, without_root}
+use Rattle.capnp_messages.proofs.MessageLemmas.{AtRoot, at_root}
 use Rattle.capnp_messages.proofs.messages.whole.canonicalize.Goals as goal
 
 pub returns-in-Ok-clause-copied : goal.returns-in-Ok-clause-copied
@@ -19,7 +19,7 @@ returns-in-Ok-clause-tries g c =
     let at : AtRoot _ (arena_limits c.args.source.now.nesting_limit c.args.traversal_limit_in_words) _ c.read_root.new.lim =
     at_root refl refl c.new-lim.ensures c.in-Ok.ensures.place
     c.in-Ok.ensures.charged (c.read_root.ensures.exactly.0 read) in
-    both_ok c.canonicalize_pointer.result c.canonicalize_pointer.ensures.copied c.canonicalize_pointer.ensures.tries (λ made. first_try at)
+    IfOk-weaker c.canonicalize_pointer.result _ _ (λ made. first_try at) c.canonicalize_pointer.ensures.tries
 
 pub returns-in-Ok-clause-refused : goal.returns-in-Ok-clause-refused
 returns-in-Ok-clause-refused g c =
@@ -27,8 +27,8 @@ returns-in-Ok-clause-refused g c =
     let at : AtRoot _ (arena_limits c.args.source.now.nesting_limit c.args.traversal_limit_in_words) _ c.read_root.new.lim =
     at_root refl refl c.new-lim.ensures c.in-Ok.ensures.place
     c.in-Ok.ensures.charged (c.read_root.ensures.exactly.0 read) in
-    IfErr-weaker c.canonicalize_pointer.result _ _ (λ e no. or_refusal (copy_refused at no)) c.canonicalize_pointer.ensures.refused
+    IfErr-weaker c.canonicalize_pointer.result _ _ (λ e. copy_refused at) c.canonicalize_pointer.ensures.refused
 
 pub returns-in-Err-clause-refused : goal.returns-in-Err-clause-refused
 returns-in-Err-clause-refused g c =
-    inr (inl (without_root (arena_limits c.args.source.now.nesting_limit c.args.traversal_limit_in_words) (rw c.new-lim.ensures at c.in-Err.ensures.refused)), refl)
+    inr (without_root (arena_limits c.args.source.now.nesting_limit c.args.traversal_limit_in_words) (rw c.new-lim.ensures at c.in-Err.ensures.refused), refl)

@@ -1,9 +1,15 @@
 use Rattle.std.proofs.Common.{rules, IsOk, refl}
 use Rattle.std.proofs.lemmas.Bool.{OnFalse_at, OnFalse_from, OnTrue_at, OnTrue_from}
-use Rattle.std.proofs.lemmas.Result.{IfErr-weaker, IfOk-weaker}
+use Rattle.std.proofs.lemmas.Result.{IfErr-weaker, IfOk-weaker, err_from_is_err_and}
 use Rattle.capnp_messages.specs.Messages.{arena_limits}
-use Rattle.capnp_messages.proofs.MessageLemmas.{AtRoot, at_root, own_copy_needs, own_copy_of, own_copy_refused}
+use Rattle.capnp_messages.proofs.CanonicalizeLemmas.{own_copy_needs, own_copy_refused, without_root}
+use Rattle.capnp_messages.proofs.MessageLemmas.{AtRoot, at_root, own_copy_of}
 use Rattle.capnp_messages.proofs.messages.whole.canonicalize_into.Goals as goal
+
+pub returns-in_err-root-clause-refused : goal.returns-in_err-root-clause-refused
+returns-in_err-root-clause-refused g c =
+    let p = err_from_is_err_and c.from_residual.result c.from_residual.ensures.1 in
+    rw (p.1, p.2) (without_root (arena_limits c.args.source.now.nesting_limit c.args.traversal_limit_in_words) (rw c.new-lim.ensures at c.in_err-root.ensures.refused))
 
 pub returns-clause-copied : goal.returns-clause-copied
 returns-clause-copied g c =

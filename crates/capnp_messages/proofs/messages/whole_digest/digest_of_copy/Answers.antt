@@ -1,6 +1,6 @@
 use Rattle.std.proofs.Common.{◌∙◌}
 use Rattle.capnp_format.specs.Canonical.{encoding, trim}
-use Rattle.capnp_messages.proofs.CanonicalizeLemmas.{or_relation, value_if}
+use Rattle.capnp_messages.proofs.CanonicalizeLemmas.{value_if}
 use Rattle.capnp_messages.proofs.DigestLemmas.{digest_is}
 use Rattle.capnp_messages.proofs.messages.whole_digest.digest_of_copy.Goals as goal
 
@@ -13,4 +13,4 @@ pub returns-in-Ok-clause-kept : goal.returns-in-Ok-clause-kept
 returns-in-Ok-clause-kept g c = c.into_allocator.ensures.refusals ∙ c.in-Ok.ensures.tries.granted
 
 pub returns-in-Err-clause-refused : goal.returns-in-Err-clause-refused
-returns-in-Err-clause-refused g c = or_relation c.in-Err.ensures.refused
+returns-in-Err-clause-refused g c = c.in-Err.ensures.refused

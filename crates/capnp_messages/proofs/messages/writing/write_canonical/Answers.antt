@@ -1,18 +1,21 @@
-use Rattle.std.proofs.Common.{◌≡◌, ◌⊎◌, refl, subst}
+use Rattle.std.proofs.Common.{◌≡◌, ◌⊎◌, Ok, refl, subst}
 use Rattle.std.proofs.lemmas.Result.{IfErr-weaker}
 use Rattle.capnp_words.specs.declared.error.ErrorKind.{ErrorKind}
 use Rattle.capnp_words.specs.declared.error.ErrorKind.TheVariants.{AllocationFailed}
 use Rattle.capnp_arena_traits.specs.Allocations.{max_segment_words}
 use Rattle.capnp_framing.specs.Writing.{Prints}
 use Rattle.capnp_objects.specs.Pointers.{reading}
+use Rattle.capnp_objects.specs.Values.{value}
+use Rattle.capnp_objects.specs.Wanted.{canonical}
 use Rattle.capnp_messages.specs.Copies.{RefusesCopy}
+use Rattle.capnp_messages.specs.Parts.{to_pointer}
 use Rattle.capnp_messages.proofs.CanonLemmas.{or_memory}
 use Rattle.capnp_messages.proofs.CanonicalFrameLemmas.{frame_failed, frame_written, no_layout}
 use Rattle.capnp_messages.proofs.messages.writing.write_canonical.Goals as goal
 
 pub returns-in-Ok-clause-written : goal.returns-in-Ok-clause-written
 returns-in-Ok-clause-written g c =
-    frame_written (reading g.B.ReaderArena c.args.from) _ c.args.lim.now c.canonicalize_pointer.new.lim c.write_copy.result (Prints g.W.Output c.args.output.now c.write_copy.new.output) c.in-Ok.ensures.copied c.write_copy.ensures.written
+    frame_written (λ t. value canonical (reading g.B.ReaderArena c.args.from) c.args.lim.now ≡ (Ok t, c.canonicalize_pointer.new.lim)) _ c.write_copy.result (Prints g.W.Output c.args.output.now c.write_copy.new.output) c.in-Ok.ensures.copied c.write_copy.ensures.written
 
 pub returns-in-Ok-clause-charged : goal.returns-in-Ok-clause-charged
 returns-in-Ok-clause-charged g c =
@@ -21,7 +24,7 @@ returns-in-Ok-clause-charged g c =
 pub returns-clause-layout : goal.returns-clause-layout
 returns-clause-layout g c = λ k same.
     let named : c.in-Err.kind ≡ k = cc in
-    let why = subst (λ (x : ErrorKind). (x ≡ AllocationFailed) ⊎ RefusesCopy (reading g.B.ReaderArena c.args.from) c.args.lim.now.left max_segment_words x) named (or_memory c.in-Err.ensures.refused) in
+    let why = subst (λ (x : ErrorKind). (x ≡ AllocationFailed) ⊎ RefusesCopy (Ok (to_pointer (reading g.B.ReaderArena c.args.from)), c.args.lim.now) max_segment_words x) named (or_memory c.in-Err.ensures.refused) in
     (why, (refl, refl))
 
 pub returns-in-Ok-clause-works : goal.returns-in-Ok-clause-works

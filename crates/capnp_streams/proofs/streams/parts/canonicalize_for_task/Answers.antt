@@ -1,6 +1,6 @@
 use Rattle.std.proofs.Common.{◌≡◌, ◌<◌, length, rules}
 use Rattle.std.proofs.lemmas.Result.{IfErr-weaker, IfOk-weaker}
-use Rattle.capnp_messages.proofs.CanonicalizeLemmas.{or_relation, value_if}
+use Rattle.capnp_messages.proofs.CanonicalizeLemmas.{value_if}
 use Rattle.capnp_messages.specs.Messages.{arena_limits}
 use Rattle.capnp_streams.specs.Paths.{path_indexes}
 use Rattle.capnp_streams.proofs.AskedLemmas.{refused_part, refused_whole, value_whole}
@@ -22,4 +22,4 @@ returns-then-is_empty-clause-copied g c =
 pub returns-then-is_empty-clause-refused : goal.returns-then-is_empty-clause-refused
 returns-then-is_empty-clause-refused g c =
     let none : length (path_indexes c.args.task.path) ≡ 0 = search rules in
-    IfErr-weaker c.canonicalize.result _ _ (λ e no. refused_whole _ (arena_limits c.args.source.now.nesting_limit c.args.task.limits.traversal_limit_in_words) (path_indexes c.args.task.path) _ _ _ none (or_relation no)) c.canonicalize.ensures.refused
+    IfErr-weaker c.canonicalize.result _ _ (λ e no. refused_whole _ (arena_limits c.args.source.now.nesting_limit c.args.task.limits.traversal_limit_in_words) (path_indexes c.args.task.path) _ _ _ none no) c.canonicalize.ensures.refused
