@@ -59,7 +59,7 @@ pub asked_at : {r : Reading} {S : Segments} {n s p : ℕ} (m after : Meter) (off
     (t : Tree) × (value canonical r m ≡ (Ok t, after)) × (made.words ≡ encoding (trim t) ∷ []) → IsFirstTry (words_read r) offers refusals made →
     (k : ℕ) × IsTrue (offers k (made.room 0)) × ((t : Tree) (c : ℕ) → Means S n s p t c → (k ≤ sum (map length S) + 1) ⊎ (k < 2 * (1 + word_count (trim t))))
 asked_at {r} {S} {n} {s} {p} m after offers refusals made same copied tries =
-    let (u, d, means, free, paid, words) = copied_at same copied in
+    let (u, d, means, free, paid, words) = copied_at {m = m} {after = after} same copied in
     let long = ap (λ (M : Segments). length (segment M 0)) words in
     let size : words_read r ≡ total S = ap words_read same in (
       room_of_try (total S) tries.try,

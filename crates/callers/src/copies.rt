@@ -62,11 +62,11 @@ pub fn make_heap_copy_at<S: ReaderSegments>(
         ⊎ ((⟦<BuilderArenaImpl<HeapAllocator> as BuilderArena>⟧.view made).room 0
         < 2 * (1 + word_count (trim t)))) }
     ensures unread { OnErr result (lim.new ≡ lim.old) }
-    ensures refused { IfErr result (λ k. (k ≡ AllocationFailed) ⊎ RefusesCopy
-        (Ok (to_pointer
-        (read_at (message (⟦<ReaderArenaImpl<S> as ReaderArena>⟧.segments arena.now))
-        (levels arena.now.nesting_limit) place.segment place.word)), lim.old)
-        max_segment_words k) }
+    ensures refused { let from = read_at
+        (message (⟦<ReaderArenaImpl<S> as ReaderArena>⟧.segments arena.now))
+        (levels arena.now.nesting_limit) place.segment place.word in
+        IfErr result (λ k. (k ≡ AllocationFailed)
+        ⊎ RefusesCopy (Ok (to_pointer from), lim.old) max_segment_words k) }
 {
     let heap = HeapAllocator::new(alloc, 0);
     match canonicalize_pointer(alloc, heap, pointer_at(arena, place), lim) {

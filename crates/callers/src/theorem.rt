@@ -368,12 +368,11 @@ pub fn make_canonical_copy_at<A: Allocator, S: ReaderSegments>(
     ensures granted { IfOk result (λ made.
         (⟦<BuilderArenaImpl<A> as BuilderArena>⟧.view made).refusals ≡ A.refusals allocator) }
     ensures unread { OnErr result (lim.new ≡ lim.old) }
-    ensures refused { IfErr result (λ e. LacksMemoryOr (A.refusals allocator) (A.refusals e.1)
-        e.0 (RefusesCopy
-        (Ok (to_pointer
-        (read_at (message (⟦<ReaderArenaImpl<S> as ReaderArena>⟧.segments arena.now))
-        (levels arena.now.nesting_limit) place.segment place.word)), lim.old)
-        max_segment_words e.0)) }
+    ensures refused { let from = read_at
+        (message (⟦<ReaderArenaImpl<S> as ReaderArena>⟧.segments arena.now))
+        (levels arena.now.nesting_limit) place.segment place.word in
+        IfErr result (λ e. LacksMemoryOr (A.refusals allocator) (A.refusals e.1) e.0
+        (RefusesCopy (Ok (to_pointer from), lim.old) max_segment_words e.0)) }
 {
     canonicalize_pointer(alloc, allocator, pointer_at(arena, place), lim)
 }

@@ -1,6 +1,6 @@
 -- What a copy to the root of a fresh message leaves, and what a refused one states about the
 -- message that was read.
-use Rattle.std.proofs.Common.{◌≡◌, ◌⊎◌, inl, inr, Some, None, ℕ, ◌+◌, ◌<◌, ◌≤◌, [], ◌∷◌, length, drop, Bool, true, false, IsTrue, Option, IfSome, IsNone, refl, ap, ap₂, sym, ◌∙◌, subst, arith, length-set, length-take}
+use Rattle.std.proofs.Common.{◌≡◌, ◌⊎◌, inl, inr, Some, None, ℕ, ◌+◌, ◌<◌, ◌≤◌, [], ◌∷◌, length, drop, Bool, IsTrue, Option, IfSome, IsNone, refl, ap, ap₂, sym, ◌∙◌, subst, arith, length-set, length-take}
 use Rattle.capnp_words.specs.declared.error.ErrorKind.{ErrorKind}
 use Rattle.capnp_words.specs.declared.error.ErrorKind.TheVariants.{AllocationFailed}
 use Rattle.capnp_format.specs.Segments.{Segments, IsPlace, segment, word_at}

@@ -24,12 +24,13 @@ use Rattle.capnp_messages.specs.EndValues.{end_original}
 use Rattle.capnp_messages.specs.Parts.{PathEnd, to_element, to_pointer}
 
 -- The first child that is read, and those after it.
-record Split (form : Form) (r : Reading) (m m' : Meter) (t : Tree) (ts : Trees) : Type 0 where
-  mid : Meter
-  first : Reads form r m mid t
-  rest : ReadsAll form (place_past r 1) mid m' ts
+pub record Split (form : Form) (r : Reading) (m m' : Meter) (t : Tree) (ts : Trees) (c : ℕ) : Type 0 where
+  pub mid : Meter
+  pub first : Reads form r m mid t
+  pub rest : ReadsAll form (place_past r 1) mid m' ts
+  pub whole : c ≡ first.cost + rest.cost
 
-split : (form : Form) (r : Reading) (m m' : Meter) (t : Tree) (ts : Trees) → ReadsAll form r m m' (tree t ts) → Split form r m m' t ts
+pub split : (form : Form) (r : Reading) (m m' : Meter) (t : Tree) (ts : Trees) (x : ReadsAll form r m m' (tree t ts)) → Split form r m m' t ts x.cost
 split form r m m' t ts x =
     let k : ℕ = x.means.0 in
     let l : ℕ = x.means.1 in
@@ -40,12 +41,13 @@ split form r m m' t ts x =
       mid = mid;
       first = first;
       rest = record { cost = l; means = x.means.3; takes = λ e. let none = x.takes e in omega (arith, none); covers = affords_rest l x.cost (paid_one first) (omega (arith, whole)) x.covers; spent = x.spent ∙ ap (λ c. after_charge r.charging m c (pointers_in t + pointers_in_all ts)) whole ∙ sym (after_after r.charging m k (pointers_in t) l (pointers_in_all ts)) };
+      whole = whole;
     }
 
-nothing_read : {form : Form} {r : Reading} {m m' : Meter} → ReadsAll form r m m' no_trees → m' ≡ m
+pub nothing_read : {form : Form} {r : Reading} {m m' : Meter} → ReadsAll form r m m' no_trees → m' ≡ m
 nothing_read {form} {r} {m} x = x.spent ∙ ap (λ c. after_charge r.charging m c 0) x.means ∙ after_none r.charging m
 
-read_first : {form : Form} {r : Reading} {m m' m'' : Meter} {t : Tree} {ts : Trees} → Reads form r m m' t → ReadsAll form (place_past r 1) m' m'' ts → ReadsAll form r m m'' (tree t ts)
+abbrev pub read_first : {form : Form} {r : Reading} {m m' m'' : Meter} {t : Tree} {ts : Trees} → Reads form r m m' t → ReadsAll form (place_past r 1) m' m'' ts → ReadsAll form r m m'' (tree t ts)
 read_first one all =
     let paid = paid_both (paid_one one) (paid_all all) in
     record { cost = one.cost + all.cost; means = (one.cost, all.cost, one.means, all.means, refl); takes = λ e. omega (arith, one.takes e, all.takes e); covers = paid.covers; spent = paid.spent }

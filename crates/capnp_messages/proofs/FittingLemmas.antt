@@ -24,7 +24,7 @@ use Rattle.capnp_objects.specs.Refusals.{Stopped, broken, StopsWithin, here}
 use Rattle.capnp_objects.specs.Spending.{after_charge}
 use Rattle.capnp_objects.specs.Values.{permit}
 use Rattle.capnp_objects.specs.Wanted.{canonical, FollowsTo}
-use Rattle.capnp_objects.proofs.Budgets.{paid_both, paid_one, paid_all, paid_elements, affords_none, after_none}
+use Rattle.capnp_objects.proofs.Budgets.{paid_both, paid_all, paid_elements, affords_none, after_none}
 use Rattle.capnp_objects.proofs.Computed.{capability_is, entering_is, stopped_is}
 use Rattle.capnp_objects.proofs.Copies.{read_none}
 use Rattle.capnp_objects.proofs.Decided.{same_or_not, within_or_not}
@@ -35,6 +35,7 @@ use Rattle.capnp_objects.proofs.Refusals.{stops_struct, stops_pointers, stops_st
 use Rattle.capnp_objects.proofs.Valued.{permits, stopped_form}
 use Rattle.capnp_copies.specs.Changes.{IsMadeOf, as_struct, as_numbers, as_pointers, as_structs}
 use Rattle.capnp_copies.specs.Costs.{spent_until}
+use Rattle.capnp_messages.proofs.EndValueLemmas.{read_first}
 use Rattle.capnp_messages.specs.Fitting.{fit_object, fit_within, made_words}
 use Rattle.capnp_copies.proofs.NoRoom.{WantsWords}
 
@@ -95,12 +96,6 @@ AllFit room z r i m (Err k, m') = Halts (λ P C. AllStopAt P C r i m m') room z 
 abbrev ElementsFit : ℕ → ℕ → Reading → StructSize → ℕ → Meter → Outcome → Type 0
 ElementsFit room z r size n m (Ok y, m') = (es : Elements) × (element_count es ≡ n) × (x : ReadsElements canonical r size m m' es) × (y ≡ z + x.cost)
 ElementsFit room z r size n m (Err k, m') = Halts (λ P C. ElementsStopAt P C r size n m m') room z k
-
--- The first child, and those after it.
-abbrev read_first : {r : Reading} {m m' m'' : Meter} {t : Tree} {ts : Trees} → Reads canonical r m m' t → ReadsAll canonical (place_past r 1) m' m'' ts → ReadsAll canonical r m m'' (tree t ts)
-read_first one all =
-    let paid = paid_both (paid_one one) (paid_all all) in
-    record { cost = one.cost + all.cost; means = (one.cost, all.cost, one.means, all.means, refl); takes = λ e. omega (arith, one.takes e, all.takes e); covers = paid.covers; spent = paid.spent }
 
 first_stops : {P : Stop} {C D : ℕ → Type 0} {r : Reading} {i : ℕ} {m m' : Meter} → ((s : ℕ) → C s → D (0 + s)) → StopsAt P C r m m' → AllStopAt P D r (suc i) m m'
 unfolding read_none

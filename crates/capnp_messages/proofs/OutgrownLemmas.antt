@@ -20,11 +20,12 @@ use Rattle.capnp_objects.specs.Reading.{Reading, place_past, tag_size}
 use Rattle.capnp_objects.specs.Refusals.{GoesBefore, in_struct, in_pointers, in_element, StopsWithin, here, below}
 use Rattle.capnp_objects.specs.Spending.{after_charge, pointers_in, pointers_in_all, pointers_in_elements}
 use Rattle.capnp_objects.specs.Wanted.{canonical}
-use Rattle.capnp_objects.proofs.Budgets.{after_after, after_none, affords_rest, paid_one, paid_all}
+use Rattle.capnp_objects.proofs.Budgets.{after_after, after_none, affords_rest, paid_all}
 use Rattle.capnp_objects.proofs.Limits.{not_for_size}
 use Rattle.capnp_objects.proofs.Refusals.{unreadable, affords_less}
 use Rattle.capnp_copies.specs.Costs.{spent_before, spent_until}
 use Rattle.capnp_messages.specs.Fitting.{fit_within, made_words}
+use Rattle.capnp_messages.proofs.EndValueLemmas.{nothing_read, split}
 use Rattle.capnp_messages.proofs.FittingLemmas.{Fits, Outcome, fit, entered_fits, entered_outgrows, fits, made_is, one_number}
 use Rattle.capnp_copies.proofs.NoRoom.{WantsWords}
 
@@ -52,35 +53,11 @@ passes room r z m m' t x = go (fit room r z m) (fits room r z m)
 abbrev pub EachPasses : ℕ → (Reading → ℕ → Metered ℕ) → Reading → Type 0
 EachPasses room f r = (q z : ℕ) (m m' : Meter) (t : Tree) (x : Reads canonical (record r { at = q }) m m' t) → (f (record r { at = q }) z m ≡ (Ok (z + x.cost), m')) ⊎ IsOut room (f (record r { at = q }) z m)
 
--- The first child that is read, and those after it.
-record Split (r : Reading) (m m' : Meter) (t : Tree) (ts : Trees) (c : ℕ) : Type 0 where
-  mid : Meter
-  first : Reads canonical r m mid t
-  rest : ReadsAll canonical (place_past r 1) mid m' ts
-  whole : c ≡ first.cost + rest.cost
-
-split : (r : Reading) (m m' : Meter) (t : Tree) (ts : Trees) (x : ReadsAll canonical r m m' (tree t ts)) → Split r m m' t ts x.cost
-split r m m' t ts x =
-    let k : ℕ = x.means.0 in
-    let l : ℕ = x.means.1 in
-    let whole : x.cost ≡ k + l = x.means.4 in
-    let mid : Meter = after_charge r.charging m k (pointers_in t) in
-    let first : Reads canonical r m mid t = record { cost = k; means = x.means.2; takes = λ e. let none = x.takes e in omega (arith, none); covers = affords_less r.charging m k x.cost (omega (arith, whole)) x.covers; spent = refl } in
-    record {
-      mid = mid;
-      first = first;
-      rest = record { cost = l; means = x.means.3; takes = λ e. let none = x.takes e in omega (arith, none); covers = affords_rest l x.cost (paid_one first) (omega (arith, whole)) x.covers; spent = x.spent ∙ ap (λ c. after_charge r.charging m c (pointers_in t + pointers_in_all ts)) whole ∙ sym (after_after r.charging m k (pointers_in t) l (pointers_in_all ts)) };
-      whole = whole;
-    }
-
-nothing_read : {r : Reading} {m m' : Meter} → ReadsAll canonical r m m' no_trees → m' ≡ m
-nothing_read {r} {m} x = x.spent ∙ ap (λ c. after_charge r.charging m c 0) x.means ∙ after_none r.charging m
-
 trees_pass : (room : ℕ) (f : Reading → ℕ → Metered ℕ) (r : Reading) → EachPasses room f r → (ts : Trees) (p z : ℕ) (m m' : Meter) (x : ReadsAll canonical (record r { at = p }) m m' ts) →
     (fold_pointers f (count ts) (record r { at = p }) z m ≡ (Ok (z + x.cost), m')) ⊎ IsOut room (fold_pointers f (count ts) (record r { at = p }) z m)
 trees_pass room f r h no_trees p z m m' x = inl (ap₂ (λ i j. (Ok i, j)) (let none = x.means in omega (arith, none)) (sym (nothing_read x)))
 trees_pass room f r h (tree t ts) p z m m' x =
-    let s = split (record r { at = p }) m m' t ts x in
+    let s = split canonical (record r { at = p }) m m' t ts x in
     let g : ℕ → Metered ℕ = fold_pointers f (count ts) (record r { at = p + 1 }) in
     elim (h p z m s.mid t s.first) [
       | inr out ↦ inr (out_now g out)
@@ -98,7 +75,7 @@ trees_out room f r h no_trees (suc i) p z m mid x lt out =
     let there : f (record r { at = p }) z m ≡ f (record r { at = p + 0 }) z mid = ap₂ (λ q y. f (record r { at = q }) z y) (sym (add-zero p)) (sym (nothing_read x)) in
     out_now (fold_pointers f i (record r { at = p + 1 })) (o.0, there ∙ o.1)
 trees_out room f r h (tree t ts) (suc i) p z m mid x lt out =
-    let s = split (record r { at = p }) m mid t ts x in
+    let s = split canonical (record r { at = p }) m mid t ts x in
     let g : ℕ → Metered ℕ = fold_pointers f i (record r { at = p + 1 }) in
     elim (h p z m s.mid t s.first) [
       | inr now ↦ out_now g now

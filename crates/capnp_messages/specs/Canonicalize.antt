@@ -1,6 +1,6 @@
 -- A canonical copy as a function: of what is at the end of a path, and of a whole message
 -- ("Canonicalization").
-use Rattle.std.specs.Prelude.{ℕ, List, Result, Ok, Err, nat_le, length}
+use Rattle.std.specs.Prelude.{ℕ, List, Result, nat_le, length}
 use Rattle.capnp_words.specs.declared.error.ErrorKind.{ErrorKind}
 use Rattle.capnp_words.specs.declared.error.ErrorKind.TheVariants.{MessageTooLarge}
 use Rattle.capnp_words.specs.Meter.{Meter, unused}

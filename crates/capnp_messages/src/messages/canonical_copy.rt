@@ -3,7 +3,7 @@
 //! has; each further try requests twice as many words as the try before; no try requests more than
 //! 536,870,911 words. Below this limit, all tries together take no longer than twice the last try.
 //! During a try the message has no allocator, so the copy can't get a second segment.
-ghost use Rattle.std.specs.Prelude.{◌≡◌, ◌⊎◌, ◌<◌, ◌≤◌, ◌+◌, ◌*◌, ◌∷◌, [], false, length, min, Ok, Err, IsTrue, OnOk, IfOk, OnErr, IfErr};
+ghost use Rattle.std.specs.Prelude.{◌≡◌, ◌⊎◌, ◌<◌, ◌≤◌, ◌+◌, ◌*◌, ◌∷◌, [], false, min, Ok, Err, IsTrue, OnOk, IfOk, OnErr, IfErr};
 ghost use Rattle.std.specs.Bool.{OnFalse, OnTrue};
 ghost use Rattle.capnp_format.specs.Canonical.{encoding};
 ghost use Rattle.capnp_format.specs.Tree.{Tree};
