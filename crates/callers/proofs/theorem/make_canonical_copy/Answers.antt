@@ -25,7 +25,7 @@ returns-in-Ok-clause-asked g c =
     let S = message (g.S.ReaderSegments.segments c.args.segments) in
     let (u, is, made) = rw (c.new-source.ensures.words, c.new-source.ensures.nesting) at c.in-Ok.ensures.copied in
     let first = rw c.new-source.ensures.words at c.in-Ok.ensures.tries in
-    let other = value_if is in
+    let other = value_if {limits = c.args.limits} is in
     let long = ap (λ (M : Segments). length (segment M 0)) made in
     let n : ℕ = levels c.args.limits.nesting_limit in (
       room_of_try (total S) first.try,
