@@ -7,11 +7,11 @@ use Rattle.capnp_canonical.specs.declared.refusal.Refusal.TheVariants.{NoRoom}
 use Rattle.capnp_canonical.proofs.CallLemmas.{copy_bytes, fills_weaker, fit_segment}
 use Rattle.capnp_framing.proofs.ReadingLemmas.{bytes-length}
 use Rattle.capnp_messages.proofs.CanonLemmas.{or_memory}
-use Rattle.capnp_messages.proofs.CanonicalizeLemmas.{or_relation, value_if}
+use Rattle.capnp_messages.proofs.CanonicalizeLemmas.{value_if}
 use Rattle.capnp_canonical.proofs.calls.copy_on_heap.Goals as goal
 
 pub returns-in-Err-clause-refused : goal.returns-in-Err-clause-refused
-returns-in-Err-clause-refused g c = inl (c.in-Err.kind, refl, or_memory (or_relation c.in-Err.ensures.refused))
+returns-in-Err-clause-refused g c = inl (c.in-Err.kind, refl, or_memory c.in-Err.ensures.refused)
 
 pub returns-in-Ok-clause-copied : goal.returns-in-Ok-clause-copied
 returns-in-Ok-clause-copied g c =
